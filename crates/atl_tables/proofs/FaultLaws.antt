@@ -1,0 +1,46 @@
+-- The first broken condition, as a reader meets it.
+use Rattle.std.proofs.Common.{◌≡◌, [], ◌∷◌, ◌++◌, Option, Some, None, Result, Ok, Err, refl, sym, subst, ◌∙◌}
+use Rattle.atl_tables.specs.declared.fault.WorldFault.{WorldFault}
+use Rattle.atl_tables.specs.declared.fault.WorldFault.TheVariants.{Memory}
+use Rattle.atl_tables.specs.Faults.{Conditions, fault_of, first_fault, unless, Reads, Stops, Gives}
+
+-- a reader that failed stops all that comes after it
+pub stops_first : {X Y : Type 0} (view : X → Y) (e : WorldFault) (r : Result Y WorldFault) (fs : Conditions) → Reads view (Err e) r → Stops e (first_fault (fault_of r ∷ fs))
+stops_first view Memory r fs h = tt
+stops_first view e r fs h = rw h refl
+
+pub passes : (fs gs : Conditions) → first_fault fs ≡ None → first_fault (fs ++ gs) ≡ first_fault gs
+passes [] gs h = refl
+passes (None ∷ fs) gs h = passes fs gs h
+passes (Some f ∷ fs) gs h = absurd (cc)
+
+kept : (f : WorldFault) (fs gs : Conditions) → first_fault fs ≡ Some f → first_fault (fs ++ gs) ≡ Some f
+kept f [] gs h = absurd (cc)
+kept f (None ∷ fs) gs h = kept f fs gs h
+kept f (Some x ∷ fs) gs h = h
+
+pub stops_on : (e : WorldFault) (fs gs : Conditions) → Stops e (first_fault fs) → Stops e (first_fault (fs ++ gs))
+stops_on Memory fs gs h = tt
+stops_on e fs gs h = kept e fs gs h
+
+pub stops_after : (e : WorldFault) (fs gs : Conditions) → first_fault fs ≡ None → Stops e (first_fault gs) → Stops e (first_fault (fs ++ gs))
+stops_after e fs gs h s = subst (Stops e) (sym (passes fs gs h)) s
+
+pub passes_both : (fs gs : Conditions) → first_fault fs ≡ None → first_fault gs ≡ None → first_fault (fs ++ gs) ≡ None
+passes_both fs gs h s = passes fs gs h ∙ s
+
+-- a call that reads the rest, after conditions that hold
+pub gives_after : {X Y : Type 0} (view : X → Y) (r : Result X WorldFault) (fs gs : Conditions) (v : Y) → first_fault fs ≡ None → Gives view r (first_fault gs) v → Gives view r (first_fault (fs ++ gs)) v
+gives_after view (Ok x) fs gs v h g = (passes fs gs h ∙ g.0, g.1)
+gives_after view (Err e) fs gs v h g = stops_after e fs gs h g
+
+-- what is given is read
+pub reads : {X Y : Type 0} (view : X → Y) (r : Result X WorldFault) (fault : Option WorldFault) (v : Y) → Gives view r fault v → Reads view r (unless fault v)
+reads view (Ok x) fault v h = rw (h.0, h.1) refl
+reads view (Err Memory) fault v h = tt
+reads view (Err e) fault v h = rw h refl
+
+-- a condition that is broken stops all that come after it
+pub stops_here : (e : WorldFault) (fault : Option WorldFault) (fs : Conditions) → Stops e fault → Stops e (first_fault (fault ∷ fs))
+stops_here Memory fault fs h = tt
+stops_here e fault fs h = rw h refl

@@ -1,0 +1,13 @@
+pub mod Maps
+pub mod Lent
+pub mod LookupLaws
+pub mod SumLaws
+pub mod NameLaws
+pub mod MadeLaws
+pub mod TrackLaws
+pub mod FaultLaws
+pub mod ElementLaws
+pub mod EachLaws
+pub mod OutputLaws
+pub mod RegionLaws
+pub mod WorldLaws

@@ -1,0 +1,59 @@
+-- Numbered maps that are made in order.
+use Rattle.std.proofs.Common.{◌≡◌, ℕ, ◌+◌, Bool, true, false, ◌&&◌, T, List, [], ◌∷◌, ◌++◌, map, sum_by, refl, sym, ap, subst, ◌∙◌}
+use Rattle.std.specs.declared.cmp.Ordering.{Ordering}
+use Rattle.std.specs.declared.cmp.Ordering.TheVariants.{Less, Equal, Greater}
+use Rattle.std.specs.Ordering.{nat_cmp, is_lt, ordering_reverse}
+use Rattle.std.specs.Cmp.{nat_cmp_total}
+use Rattle.std.specs.FinMap.{FinMap, entries, entries_sorted, entries-from_sorted, entries-insert, insert, put, is_sorted}
+use Rattle.std.specs.FinMap.Entries.{by_order, below_all}
+use Rattle.std.proofs.lemmas.Bool.{and_parts, false≢true}
+use Rattle.std.proofs.lemmas.List.Sums.{sum_by-cons}
+use Rattle.atl_tables.specs.Sums.{mapped, sum_over}
+
+module _ {V W : Type 0} (f : V → W) where
+  abbrev at_each : List (ℕ × V) → List (ℕ × W)
+  at_each es = map (λ e. (e.0, f e.1)) es
+
+  below_all-map : (k : ℕ) (es : List (ℕ × V)) → below_all nat_cmp k (at_each es) ≡ below_all nat_cmp k es
+  below_all-map k [] = refl
+  below_all-map k (e ∷ es) = ap (λ b. is_lt (nat_cmp k e.0) && b) (below_all-map k es)
+
+  is_sorted-map : (es : List (ℕ × V)) → is_sorted nat_cmp (at_each es) ≡ is_sorted nat_cmp es
+  is_sorted-map [] = refl
+  is_sorted-map (e ∷ es) = ap (λ b. b && is_sorted nat_cmp (at_each es)) (below_all-map e.0 es) ∙ ap (λ b. below_all nat_cmp e.0 es && b) (is_sorted-map es)
+
+  pub entries-mapped : (m : FinMap nat_cmp V) → entries (mapped f m) ≡ at_each (entries m)
+  entries-mapped m = entries-from_sorted nat_cmp (at_each (entries m)) (subst T (sym (is_sorted-map (entries m))) (entries_sorted m))
+
+  weighed : (g : W → ℕ) (es : List (ℕ × V)) → sum_by (λ e. g e.1) (at_each es) ≡ sum_by (λ e. g (f e.1)) es
+  weighed g [] = refl
+  weighed g (e ∷ es) = sum_by-cons (λ (e : ℕ × W). g e.1) (e.0, f e.1) (at_each es) ∙ ap (λ n. g (f e.1) + n) (weighed g es) ∙ sym (sum_by-cons (λ (e : ℕ × V). g (f e.1)) e es)
+
+  pub sum_over-mapped : (g : W → ℕ) (m : FinMap nat_cmp V) → sum_over g (mapped f m) ≡ sum_over (λ v. g (f v)) m
+  sum_over-mapped g m = ap (sum_by (λ e. g e.1)) (entries-mapped m) ∙ weighed g (entries m)
+
+is_less : (o : Ordering) → is_lt o ≡ true → o ≡ Less
+is_less Less h = refl
+is_less Equal h = absurd (false≢true h)
+is_less Greater h = absurd (false≢true h)
+
+above : (k q : ℕ) → is_lt (nat_cmp k q) ≡ true → nat_cmp q k ≡ Greater
+above k q h = nat_cmp_total.antisymm q k ∙ ap ordering_reverse (is_less (nat_cmp k q) h)
+
+is_true : (b : Bool) → T b → b ≡ true
+is_true true h = refl
+is_true false h = absurd h
+
+module _ {W : Type 0} where
+  below_last : (q : ℕ) (es fs : List (ℕ × W)) (k : ℕ) (w : W) → below_all nat_cmp q (es ++ (k, w) ∷ fs) ≡ true → nat_cmp k q ≡ Greater
+  below_last q [] fs k w h = above q k (and_parts _ _ h).0
+  below_last q (e ∷ es) fs k w h = below_last q es fs k w (and_parts _ _ h).1
+
+  put_last : (es fs : List (ℕ × W)) (k : ℕ) (w : W) → is_sorted nat_cmp (es ++ (k, w) ∷ fs) ≡ true → put nat_cmp k w es ≡ es ++ (k, w) ∷ []
+  put_last [] fs k w h = refl
+  put_last (e ∷ es) fs k w h =
+      ap (λ o. by_order o ((k, w) ∷ e ∷ es) ((e.0, w) ∷ es) (e ∷ put nat_cmp k w es)) (below_last e.0 es fs k w (and_parts _ _ h).0) ∙ ap (λ xs. e ∷ xs) (put_last es fs k w (and_parts _ _ h).1)
+
+  -- one entry more, in the order of a map
+  pub insert_last : (m n : FinMap nat_cmp W) (k : ℕ) (w : W) (fs : List (ℕ × W)) → entries m ++ (k, w) ∷ fs ≡ entries n → entries (insert m k w) ≡ entries m ++ (k, w) ∷ []
+  insert_last m n k w fs h = entries-insert nat_cmp_total m k w ∙ put_last (entries m) fs k w (is_true _ (subst (λ es. T (is_sorted nat_cmp es)) (sym h) (entries_sorted n)))

@@ -1,0 +1,33 @@
+-- Numbers of regions that were met, in a map.
+use Rattle.std.proofs.Common.{◌≡◌, ℕ, ◌+◌, ◌<◌, ◌==◌, ◌||◌, Bool, true, false, cond, List, take, length, get_or, codes, Option, Some, None, refl, sym, ap, ◌∙◌}
+use Rattle.std.specs.Cmp.{nat_cmp_total, unsigned_tied}
+use Rattle.std.specs.FinMap.{FinMap, get, insert, get-insert}
+use Rattle.std.specs.Option.{is_some}
+use Rattle.std.specs.Ordering.{nat_cmp, eq_by_cmp}
+use Rattle.std.proofs.lemmas.List.Folds.{list_any_more}
+use Rattle.atl_tables.specs.declared.region_table.RegionDraft.{RegionDraft}
+use Rattle.atl_tables.specs.declared.fault.WorldFault.TheVariants.{TwoNames}
+use Rattle.atl_tables.specs.Faults.{first_fault}
+use Rattle.atl_tables.specs.Keys.{path, indexed}
+use Rattle.atl_tables.specs.Regions.{has_number, twin_number_at}
+
+is_some-put : {V : Type 0} (v : V) (b : Bool) (o : Option V) → is_some (cond b (Some v) o) ≡ (is_some o || b)
+is_some-put v true None = refl
+is_some-put v true (Some w) = refl
+is_some-put v false None = refl
+is_some-put v false (Some w) = refl
+
+pub seen_more : {V : Type 0} (m : FinMap nat_cmp V) (v : V) (ds : List RegionDraft) (i : ℕ) (d : RegionDraft) → i < length ds → d ≡ get_or ds i d → ((n : ℕ) → is_some (get m n) ≡ has_number n (take i ds))
+    → (n : ℕ) → is_some (get (insert m d.number v) n) ≡ has_number n (take (i + 1) ds)
+seen_more m v ds i d below here seen n =
+    ap is_some (get-insert nat_cmp_total m d.number v n)
+    ∙ is_some-put v (eq_by_cmp nat_cmp n d.number) (get m n)
+    ∙ ap (λ b. b || eq_by_cmp nat_cmp n d.number) (seen n)
+    ∙ ap (λ b. has_number n (take i ds) || b) (unsigned_tied n d.number ∙ ap (λ (e : RegionDraft). n == e.number) here)
+    ∙ sym (list_any_more (λ e. n == e.number) ds i d below)
+
+-- what the map says of an element
+pub by_map : (all : List RegionDraft) (i : ℕ) (d : RegionDraft) (b : Bool) → has_number d.number (take i all) ≡ b → first_fault (twin_number_at all i d) ≡ cond b (Some (TwoNames (path (indexed (codes "region") i) (codes "number")))) None
+unfolding twin_number_at
+by_map all i d true h = rw h
+by_map all i d false h = rw h

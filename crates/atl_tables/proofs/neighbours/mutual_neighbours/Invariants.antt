@@ -1,0 +1,13 @@
+use Rattle.std.proofs.Common.{◌≡◌, drop, take}
+use Rattle.std.specs.List.{All}
+use Rattle.atl_tables.specs.Each.{each}
+use Rattle.atl_tables.specs.Faults.{first_fault}
+use Rattle.atl_tables.specs.Neighbours.{neighbours_at}
+use Rattle.atl_tables.specs.Planet.{HasNeighbours}
+use Rattle.atl_tables.proofs.neighbours.mutual_neighbours.Given as goal
+
+abbrev pub invariant-loop-i : goal.invariant-loop-i
+invariant-loop-i l = record {
+  faults : first_fault (each (neighbours_at l.regions) l.i (drop l.i l.drafts)) ≡ first_fault (each (neighbours_at l.regions) 0 l.drafts);
+  back : All (λ d. HasNeighbours l.regions d.number d.north d.south d.east d.west) (take l.i l.drafts);
+}

@@ -1,0 +1,18 @@
+use Rattle.std.proofs.lemmas.Result.{err_from_is_err_and}
+use Rattle.toml.specs.View.{table_view}
+use Rattle.atl_tables.specs.World.{conditions, keys_are_good, table_conditions, tables_of, planet_of}
+use Rattle.atl_tables.proofs.FaultLaws.{stops_on, gives_after}
+use Rattle.atl_tables.proofs.reading.from_document.Goals as goal
+
+pub returns-in_err-all : goal.returns-in_err-all
+unfolding conditions
+returns-in_err-all c =
+    let p = err_from_is_err_and c.from_residual.result c.from_residual.ensures.1 in
+    let doc = table_view c.args.document.now in
+    rw (p.1, p.2) (stops_on c.in_err-all.field-0.0 (keys_are_good doc) (table_conditions (tables_of doc)) c.in_err-all.ensures.value)
+
+pub returns : goal.returns
+unfolding conditions
+returns c =
+    let doc = table_view c.args.document.now in
+    gives_after (λ w. w) c.from_tables.result (keys_are_good doc) (table_conditions (tables_of doc)) (planet_of (tables_of doc)) c.in_ok-all.ensures.value.0 (rw c.in_ok-all.ensures.value.1 c.from_tables.ensures)

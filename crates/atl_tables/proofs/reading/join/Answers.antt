@@ -1,0 +1,54 @@
+use Rattle.std.proofs.Common.{◌≡◌, ◌<◌, List, length, subst, sym, ap, ◌∙◌}
+use Rattle.std.proofs.lemmas.Result.{err_from_is_err_and}
+use Rattle.std.specs.FinMap.{FinMap}
+use Rattle.std.specs.Ordering.{nat_cmp}
+use Rattle.atl_tables.specs.Faults.{Conditions, first_fault, Gives}
+use Rattle.atl_tables.specs.Parts.{parts_of, ArePartsOf}
+use Rattle.atl_tables.specs.Planet.{Planet, IsWorld, land_of}
+use Rattle.atl_tables.specs.Regions.{by_number}
+use Rattle.atl_tables.specs.World.{neighbours_are_mutual, is_some_land, planet_of, regions_of}
+use Rattle.atl_tables.specs.declared.reading.Parts.{Parts}
+use Rattle.atl_tables.specs.declared.tables.Tables.{Tables}
+use Rattle.atl_tables.specs.declared.world.RegionPlan.{RegionPlan}
+use Rattle.atl_tables.proofs.FaultLaws.{stops_on, gives_after}
+use Rattle.atl_tables.proofs.WorldLaws.{is_world}
+use Rattle.atl_tables.proofs.reading.join.Goals as goal
+
+abbrev land : Tables → Conditions
+land all = is_some_land (land_of (planet_of all))
+
+regions_are : (all : Tables) (p : Parts) (plans : List RegionPlan) → p ≡ parts_of all → plans ≡ p.regions → by_number plans ≡ regions_of all
+unfolding regions_of
+regions_are all p plans e q = ap by_number (q ∙ ap (λ (x : Parts). x.regions) e)
+
+abbrev made_of : Tables → Parts → FinMap nat_cmp RegionPlan → Planet
+made_of all p regions = record { rules = p.rules; terrains = p.terrains; items = p.items; skills = all.skills; kinds = p.kinds; regions = regions }
+
+planet_is : (all : Tables) (p : Parts) (regions : FinMap nat_cmp RegionPlan) → p ≡ parts_of all → regions ≡ regions_of all → made_of all p regions ≡ planet_of all
+unfolding planet_of
+planet_is all p regions e q = ap (made_of all p) q ∙ ap (λ (x : Parts). made_of all x (regions_of all)) e
+
+pub returns-in_err-mutual_neighbours : goal.returns-in_err-mutual_neighbours
+unfolding neighbours_are_mutual
+returns-in_err-mutual_neighbours c =
+    let p = err_from_is_err_and c.from_residual-in_err-mutual_neighbours.result c.from_residual-in_err-mutual_neighbours.ensures.1 in
+    let all = c.args.all in
+    let made = c.in_ok-regions.ensures.value ∙ regions_are all c.args.parts c.into_vec.result.items c.requires.parts c.into_vec.ensures in
+    rw (p.1, p.2) (stops_on c.in_err-mutual_neighbours.field-0.0 (neighbours_are_mutual all) (land all) (rw (c.as_slice.ensures, made) at c.in_err-mutual_neighbours.ensures.value))
+
+pub with_land-requires : goal.with_land-requires
+with_land-requires c =
+    let all = c.args.all in
+    let made = c.in_ok-regions.ensures.value ∙ regions_are all c.args.parts c.into_vec.result.items c.requires.parts c.into_vec.ensures in
+    let e = planet_is all c.args.parts c.in_ok-regions.regions c.requires.parts made in
+    let back = rw (c.as_slice.ensures, made) at c.in_ok-mutual_neighbours.ensures.back in
+    record { world = subst (λ (w : Planet). 0 < length (land_of w) → IsWorld w) (sym e) (is_world all c.requires.all (subst (ArePartsOf all) c.requires.parts c.requires.sound) back) }
+
+pub returns : goal.returns
+unfolding neighbours_are_mutual
+returns c =
+    let all = c.args.all in
+    let made = c.in_ok-regions.ensures.value ∙ regions_are all c.args.parts c.into_vec.result.items c.requires.parts c.into_vec.ensures in
+    let e = planet_is all c.args.parts c.in_ok-regions.regions c.requires.parts made in
+    gives_after (λ w. w) c.with_land.result (neighbours_are_mutual all) (land all) (planet_of all) (rw (c.as_slice.ensures, made) at c.in_ok-mutual_neighbours.ensures.value.0)
+    (subst (λ (w : Planet). Gives (λ x. x) c.with_land.result (first_fault (is_some_land (land_of w))) w) e c.with_land.ensures)

@@ -1,0 +1,7 @@
+use Rattle.std.proofs.Common.{◌≡◌, ◌++◌}
+use Rattle.atl_tables.specs.Planet.{is_land}
+use Rattle.atl_tables.specs.Sums.{numbers_among, numbers_where}
+use Rattle.atl_tables.proofs.reading.land.Given as goal
+
+abbrev pub invariant-loop-number : goal.invariant-loop-number
+invariant-loop-number l = l.numbers ++ numbers_among (is_land l.terrains) l.number-iterator ≡ numbers_where (is_land l.terrains) l.regions

@@ -1,0 +1,75 @@
+use Rattle.std.proofs.Common.{◌++◌, codes}
+use Rattle.std.proofs.lemmas.Result.{err_from_is_err_and}
+use Rattle.atl_tables.specs.Each.{each}
+use Rattle.atl_tables.specs.Faults.{Conditions}
+use Rattle.atl_tables.specs.Regions.{twin_numbers}
+use Rattle.atl_tables.specs.TerrainTable.{terrain_twins}
+use Rattle.atl_tables.specs.Titles.{twins}
+use Rattle.atl_tables.specs.World.{names_differ}
+use Rattle.atl_tables.specs.declared.tables.Tables.{Tables}
+use Rattle.atl_tables.proofs.FaultLaws.{stops_on, stops_after, gives_after}
+use Rattle.atl_tables.proofs.reading.names_differ.Goals as goal
+
+abbrev terrains : Tables → Conditions
+terrains all = twins (λ d. d.name) (codes "terrain") all.terrains
+
+abbrev items : Tables → Conditions
+items all = twins (λ d. d.name) (codes "item") all.items
+
+abbrev skills : Tables → Conditions
+skills all = twins (λ s. s.name) (codes "skill") all.skills
+
+abbrev kinds : Tables → Conditions
+kinds all = twins (λ d. d.name) (codes "kind") all.kinds
+
+abbrev numbers : Tables → Conditions
+numbers all = twin_numbers all.regions
+
+abbrev outputs : Tables → Conditions
+outputs all = each terrain_twins 0 all.terrains
+
+pub returns-in_err-no_twins : goal.returns-in_err-no_twins
+unfolding names_differ
+returns-in_err-no_twins c =
+    let p = err_from_is_err_and c.from_residual.result c.from_residual.ensures.1 in
+    let t = c.args.all.now in
+    let e = c.in_err-no_twins.field-0.0 in
+    rw (p.1, p.2) (stops_on e (terrains t) (items t ++ (skills t ++ (kinds t ++ (numbers t ++ outputs t)))) (rw c.as_slice.ensures at c.in_err-no_twins.ensures))
+
+pub returns-in_err-no_twins-2 : goal.returns-in_err-no_twins-2
+unfolding names_differ
+returns-in_err-no_twins-2 c =
+    let p = err_from_is_err_and c.from_residual-in_err-no_twins-2.result c.from_residual-in_err-no_twins-2.ensures.1 in
+    let t = c.args.all.now in
+    let e = c.in_err-no_twins-2.field-0.0 in
+    rw (p.1, p.2) (stops_after e (terrains t) (items t ++ (skills t ++ (kinds t ++ (numbers t ++ outputs t)))) (rw c.as_slice.ensures at c.in_ok-no_twins.ensures.0) (stops_on e (items t) (skills t ++ (kinds t ++ (numbers t ++ outputs t))) (rw c.as_slice-2.ensures at c.in_err-no_twins-2.ensures)))
+
+pub returns-in_err-no_twins-3 : goal.returns-in_err-no_twins-3
+unfolding names_differ
+returns-in_err-no_twins-3 c =
+    let p = err_from_is_err_and c.from_residual-in_err-no_twins-3.result c.from_residual-in_err-no_twins-3.ensures.1 in
+    let t = c.args.all.now in
+    let e = c.in_err-no_twins-3.field-0.0 in
+    rw (p.1, p.2) (stops_after e (terrains t) (items t ++ (skills t ++ (kinds t ++ (numbers t ++ outputs t)))) (rw c.as_slice.ensures at c.in_ok-no_twins.ensures.0) (stops_after e (items t) (skills t ++ (kinds t ++ (numbers t ++ outputs t))) (rw c.as_slice-2.ensures at c.in_ok-no_twins-2.ensures.0) (stops_on e (skills t) (kinds t ++ (numbers t ++ outputs t)) (rw c.as_slice-3.ensures at c.in_err-no_twins-3.ensures))))
+
+pub returns-in_err-no_twins-4 : goal.returns-in_err-no_twins-4
+unfolding names_differ
+returns-in_err-no_twins-4 c =
+    let p = err_from_is_err_and c.from_residual-in_err-no_twins-4.result c.from_residual-in_err-no_twins-4.ensures.1 in
+    let t = c.args.all.now in
+    let e = c.in_err-no_twins-4.field-0.0 in
+    rw (p.1, p.2) (stops_after e (terrains t) (items t ++ (skills t ++ (kinds t ++ (numbers t ++ outputs t)))) (rw c.as_slice.ensures at c.in_ok-no_twins.ensures.0) (stops_after e (items t) (skills t ++ (kinds t ++ (numbers t ++ outputs t))) (rw c.as_slice-2.ensures at c.in_ok-no_twins-2.ensures.0) (stops_after e (skills t) (kinds t ++ (numbers t ++ outputs t)) (rw c.as_slice-3.ensures at c.in_ok-no_twins-3.ensures.0) (stops_on e (kinds t) (numbers t ++ outputs t) (rw c.as_slice-4.ensures at c.in_err-no_twins-4.ensures)))))
+
+pub returns-in_err-no_twin_numbers : goal.returns-in_err-no_twin_numbers
+unfolding names_differ
+returns-in_err-no_twin_numbers c =
+    let p = err_from_is_err_and c.from_residual-in_err-no_twin_numbers.result c.from_residual-in_err-no_twin_numbers.ensures.1 in
+    let t = c.args.all.now in
+    let e = c.in_err-no_twin_numbers.field-0.0 in
+    rw (p.1, p.2) (stops_after e (terrains t) (items t ++ (skills t ++ (kinds t ++ (numbers t ++ outputs t)))) (rw c.as_slice.ensures at c.in_ok-no_twins.ensures.0) (stops_after e (items t) (skills t ++ (kinds t ++ (numbers t ++ outputs t))) (rw c.as_slice-2.ensures at c.in_ok-no_twins-2.ensures.0) (stops_after e (skills t) (kinds t ++ (numbers t ++ outputs t)) (rw c.as_slice-3.ensures at c.in_ok-no_twins-3.ensures.0) (stops_after e (kinds t) (numbers t ++ outputs t) (rw c.as_slice-4.ensures at c.in_ok-no_twins-4.ensures.0) (stops_on e (numbers t) (outputs t) (rw c.as_slice-5.ensures at c.in_err-no_twin_numbers.ensures))))))
+
+pub returns : goal.returns
+unfolding names_differ
+returns c =
+    let t = c.args.all.now in
+    (gives_after (λ u. u) c.no_twins_in_outputs.result (terrains t) (items t ++ (skills t ++ (kinds t ++ (numbers t ++ outputs t)))) (tt {0}) (rw c.as_slice.ensures at c.in_ok-no_twins.ensures.0) (gives_after (λ u. u) c.no_twins_in_outputs.result (items t) (skills t ++ (kinds t ++ (numbers t ++ outputs t))) (tt {0}) (rw c.as_slice-2.ensures at c.in_ok-no_twins-2.ensures.0) (gives_after (λ u. u) c.no_twins_in_outputs.result (skills t) (kinds t ++ (numbers t ++ outputs t)) (tt {0}) (rw c.as_slice-3.ensures at c.in_ok-no_twins-3.ensures.0) (gives_after (λ u. u) c.no_twins_in_outputs.result (kinds t) (numbers t ++ outputs t) (tt {0}) (rw c.as_slice-4.ensures at c.in_ok-no_twins-4.ensures.0) (gives_after (λ u. u) c.no_twins_in_outputs.result (numbers t) (outputs t) (tt {0}) (rw c.as_slice-5.ensures at c.in_ok-no_twin_numbers.ensures.0) (rw c.as_slice-6.ensures at c.no_twins_in_outputs.ensures))))))

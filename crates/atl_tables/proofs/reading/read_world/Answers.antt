@@ -1,0 +1,11 @@
+use Rattle.toml.specs.View.{table_view}
+use Rattle.atl_tables.specs.Faults.{first_fault}
+use Rattle.atl_tables.specs.World.{world_of, conditions, tables_of, planet_of}
+use Rattle.atl_tables.proofs.FaultLaws.{reads}
+use Rattle.atl_tables.proofs.reading.read_world.Goals as goal
+
+pub returns-in-Ok : goal.returns-in-Ok
+unfolding world_of
+returns-in-Ok c =
+    let doc = table_view c.in-Ok.document in
+    record { definition = rw c.in-Ok.ensures.ok (reads (λ w. w) c.from_document.result (first_fault (conditions doc)) (planet_of (tables_of doc)) c.from_document.ensures) }

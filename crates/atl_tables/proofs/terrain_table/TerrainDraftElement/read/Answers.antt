@@ -1,0 +1,27 @@
+use Rattle.std.proofs.Common.{refl}
+use Rattle.std.proofs.lemmas.Result.{err_from_is_err_and}
+use Rattle.atl_tables.specs.TerrainTable.{terrain_keys, terrain_from}
+use Rattle.atl_tables.proofs.FaultLaws.{stops_first}
+use Rattle.atl_tables.proofs.terrain_table.TerrainDraftElement.read.Goals as goal
+
+pub returns-in_err-money_limit-clause-value : goal.returns-in_err-money_limit-clause-value
+unfolding terrain_keys terrain_from
+returns-in_err-money_limit-clause-value c =
+    let p = err_from_is_err_and c.from_residual-in_err-money_limit.result c.from_residual-in_err-money_limit.ensures.1 in
+    rw (p.1, p.2, c.in_ok-name.ensures.value, c.in_ok-land.ensures, c.in_ok-wage.ensures.value, c.in_ok-places.ensures.value) (stops_first (λ x. x) c.in_err-money_limit.field-0.0 _ _ c.in_err-money_limit.ensures.value)
+
+pub returns-in_err-peasant_limit-clause-value : goal.returns-in_err-peasant_limit-clause-value
+unfolding terrain_keys terrain_from
+returns-in_err-peasant_limit-clause-value c =
+    let p = err_from_is_err_and c.from_residual-in_err-peasant_limit.result c.from_residual-in_err-peasant_limit.ensures.1 in
+    rw (p.1, p.2, c.in_ok-name.ensures.value, c.in_ok-land.ensures, c.in_ok-wage.ensures.value, c.in_ok-places.ensures.value, c.in_ok-money_limit.ensures.value) (stops_first (λ x. x) c.in_err-peasant_limit.field-0.0 _ _ c.in_err-peasant_limit.ensures.value)
+
+pub returns-in_err-output-clause-value : goal.returns-in_err-output-clause-value
+unfolding terrain_keys terrain_from
+returns-in_err-output-clause-value c =
+    let p = err_from_is_err_and c.from_residual-in_err-output.result c.from_residual-in_err-output.ensures.1 in
+    rw (p.1, p.2, c.in_ok-name.ensures.value, c.in_ok-land.ensures, c.in_ok-wage.ensures.value, c.in_ok-places.ensures.value, c.in_ok-money_limit.ensures.value, c.in_ok-peasant_limit.ensures.value) c.in_err-output.ensures.value
+
+pub returns-clause-value : goal.returns-clause-value
+unfolding terrain_keys terrain_from
+returns-clause-value c = rw (c.in_ok-name.ensures.value, c.in_ok-land.ensures, c.in_ok-wage.ensures.value, c.in_ok-places.ensures.value, c.in_ok-money_limit.ensures.value, c.in_ok-peasant_limit.ensures.value) (c.in_ok-output.ensures.value.0, rw c.in_ok-output.ensures.value.1 refl)

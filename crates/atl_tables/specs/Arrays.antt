@@ -1,0 +1,29 @@
+-- Tables in an array, one after the other.
+use Rattle.std.specs.Prelude.{ℕ, ◌+◌, List, [], ◌∷◌, ◌++◌, Result}
+use Rattle.toml.specs.Data.{Data, Items, no_items, item, Members, no_members, as_table}
+use Rattle.atl_tables.specs.Faults.{Conditions, fault_of, value_or}
+use Rattle.atl_tables.specs.Keys.{typed, indexed}
+use Rattle.atl_tables.specs.declared.fault.WorldFault.{WorldFault}
+
+-- the table of an element, or an empty one
+abbrev pub element_table : List ℕ → Data → Members
+element_table at d = value_or no_members (typed at (as_table d))
+
+abbrev pub element_conditions : (List ℕ → Members → Conditions) → List ℕ → Data → Conditions
+element_conditions conditions at d = fault_of (typed at (as_table d)) ∷ conditions at (element_table at d)
+
+-- the conditions on all elements from the i-th on, and what these elements are
+abbrev pub elements_conditions : (List ℕ → Members → Conditions) → List ℕ → ℕ → Items → Conditions
+elements_conditions conditions key i no_items = []
+elements_conditions conditions key i (item d ds) = element_conditions conditions (indexed key i) d ++ elements_conditions conditions key (i + 1) ds
+
+abbrev pub elements_of : {A : Type 0} → (List ℕ → Members → A) → List ℕ → ℕ → Items → List A
+elements_of record_of key i no_items = []
+elements_of record_of key i (item d ds) = record_of (indexed key i) (element_table (indexed key i) d) ∷ elements_of record_of key (i + 1) ds
+
+-- an array, by what stands under its key
+unfoldable pub list_conditions : (List ℕ → Members → Conditions) → List ℕ → Result Items WorldFault → Conditions
+list_conditions conditions key items = fault_of items ∷ elements_conditions conditions key 0 (value_or no_items items)
+
+unfoldable pub list_of : {A : Type 0} → (List ℕ → Members → A) → List ℕ → Result Items WorldFault → List A
+list_of record_of key items = elements_of record_of key 0 (value_or no_items items)

@@ -1,0 +1,36 @@
+-- Neighbours are mutual: a region's neighbour is there, and has the region as its neighbour on the opposite side.
+use Rattle.std.specs.Prelude.{ℕ, Bool, false, ◌==◌, List, [], ◌∷◌, codes, Option, Some, None, option_and_then, if◌then◌else◌}
+use Rattle.std.specs.Ordering.{nat_cmp}
+use Rattle.std.specs.FinMap.{FinMap, get}
+use Rattle.atl_tables.specs.Faults.{Conditions}
+use Rattle.atl_tables.specs.Keys.{path, indexed}
+use Rattle.atl_tables.specs.declared.fault.WorldFault.{WorldFault}
+use Rattle.atl_tables.specs.declared.fault.WorldFault.TheVariants.{BadNeighbour}
+use Rattle.atl_tables.specs.declared.neighbours.Side.{Side}
+use Rattle.atl_tables.specs.declared.neighbours.Side.TheVariants.{North, South, East, West}
+use Rattle.atl_tables.specs.declared.region_table.RegionDraft.{RegionDraft}
+use Rattle.atl_tables.specs.declared.world.RegionPlan.{RegionPlan}
+
+-- the neighbour on a side
+abbrev pub on_side : Side → RegionPlan → Option ℕ
+on_side North p = p.north
+on_side South p = p.south
+on_side East p = p.east
+on_side West p = p.west
+
+abbrev pub is_number : ℕ → Option ℕ → Bool
+is_number n None = false
+is_number n (Some m) = m == n
+
+-- a neighbour of the region with this number, which has that region on the side named
+abbrev pub neighbour : List ℕ → FinMap nat_cmp RegionPlan → Side → ℕ → Option ℕ → Option WorldFault
+neighbour p regions opposite number None = None
+neighbour p regions opposite number (Some m) = if is_number number (option_and_then (on_side opposite) (get regions m)) then None else Some (BadNeighbour p)
+
+unfoldable pub neighbours_at : FinMap nat_cmp RegionPlan → ℕ → RegionDraft → Conditions
+neighbours_at regions i d =
+    neighbour (path (indexed (codes "region") i) (codes "north")) regions South d.number d.north
+    ∷ neighbour (path (indexed (codes "region") i) (codes "south")) regions North d.number d.south
+    ∷ neighbour (path (indexed (codes "region") i) (codes "east")) regions West d.number d.east
+    ∷ neighbour (path (indexed (codes "region") i) (codes "west")) regions East d.number d.west
+    ∷ []

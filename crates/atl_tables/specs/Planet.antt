@@ -1,0 +1,138 @@
+-- What a contract sees of a world.
+use Rattle.std.specs.Prelude.{◌≡◌, ◌≢◌, ◌≤◌, ◌<◌, ℕ, Bool, true, false, List, length, refl, Option, Some, IfSome, option_and_then}
+use Rattle.std.specs.List.{All, slice_get}
+use Rattle.std.specs.Option.{option_map_or}
+use Rattle.std.specs.Ordering.{nat_cmp}
+use Rattle.std.specs.Coded.{Coded, code_by, coded×, coded_ℕ, coded_list}
+use Rattle.std.specs.FinMap.{FinMap, code, get, len}
+use Rattle.atl_tables.specs.declared.world.Rules.{Rules}
+use Rattle.atl_tables.specs.declared.world.Terrain.{Terrain}
+use Rattle.atl_tables.specs.declared.world.Item.{Item}
+use Rattle.atl_tables.specs.declared.world.Skill.{Skill}
+use Rattle.atl_tables.specs.declared.world.Kind.{Kind}
+use Rattle.atl_tables.specs.declared.world.RegionPlan.{RegionPlan}
+use Rattle.atl_tables.specs.contracts.world.Rules as rules
+use Rattle.atl_tables.specs.contracts.world.Terrain as terrain
+use Rattle.atl_tables.specs.contracts.world.Item as item
+use Rattle.atl_tables.specs.contracts.world.Skill as skill
+use Rattle.atl_tables.specs.contracts.world.Kind as kind
+use Rattle.atl_tables.specs.contracts.world.RegionPlan as plan
+use Rattle.atl_tables.specs.Names.{name_ok}
+use Rattle.atl_tables.specs.Sums.{numbers_where}
+
+pub record Planet : Type 0 where
+  pub rules : Rules
+  pub terrains : List Terrain
+  pub items : List Item
+  pub skills : List Skill
+  pub kinds : List Kind
+  pub regions : FinMap nat_cmp RegionPlan
+
+abbrev pub planet_code : Coded Planet
+planet_code =
+    code_by (Rules × (List Terrain × (List Item × (List Skill × (List Kind × FinMap nat_cmp RegionPlan)))))
+    (coded× rules.the_row.coded (coded× (coded_list terrain.the_row.coded) (coded× (coded_list item.the_row.coded) (coded× (coded_list skill.the_row.coded) (coded× (coded_list kind.the_row.coded) (code coded_ℕ plan.the_row.coded))))))
+    (λ p. (p.rules, (p.terrains, (p.items, (p.skills, (p.kinds, p.regions))))))
+    (λ q. record { rules = q.0; terrains = q.1.0; items = q.1.1.0; skills = q.1.1.1.0; kinds = q.1.1.1.1.0; regions = q.1.1.1.1.1 })
+    (λ _. refl)
+
+-- a region plan with land
+abbrev pub is_land : List Terrain → RegionPlan → Bool
+is_land terrains plan = option_map_or (λ t. t.land) (slice_get terrains plan.terrain) false
+
+-- the regions with land, by number
+abbrev pub land_of : Planet → List ℕ
+land_of w = numbers_where (is_land w.terrains) w.regions
+
+-- ---- what is true of every world: each number in its range, and each number of another thing below their count
+pub record AreRules (skills : ℕ) (r : Rules) : Type 0 where
+  pub maintenance_least : 1 ≤ r.maintenance
+  pub maintenance : r.maintenance ≤ 1000
+  pub tax_per_man : r.tax_per_man ≤ 1000
+  pub recruit_price_least : 1 ≤ r.recruit_price
+  pub recruit_price : r.recruit_price ≤ 1000000
+  pub recruit_fraction_least : 1 ≤ r.recruit_fraction
+  pub recruit_fraction : r.recruit_fraction ≤ 1000
+  pub growth : r.growth ≤ 100
+  pub income : r.income ≤ 1000
+  pub start_money : r.start_money ≤ 999999999
+  pub man_weight : r.man_weight ≤ 10000
+  pub man_carry : r.man_carry ≤ 10000
+  pub observation : IfSome r.observation (λ s. s < skills)
+  pub stealth : IfSome r.stealth (λ s. s < skills)
+  pub sailing : IfSome r.sailing (λ s. s < skills)
+
+-- its output has an amount for each item
+pub record IsTerrain (items : ℕ) (t : Terrain) : Type 0 where
+  pub name : name_ok t.name ≡ true
+  pub wage_least : 1 ≤ t.wage
+  pub wage : t.wage ≤ 1000000
+  pub places : t.places ≤ 999999999
+  pub money_limit : t.money_limit ≤ 999999999
+  pub peasant_limit : t.peasant_limit ≤ 999999999
+  pub outputs : length t.output ≡ items
+  pub output : All (λ amount. amount ≤ 999999999) t.output
+
+-- the i-th item, which is made of another one
+pub record IsItem (items skills i : ℕ) (x : Item) : Type 0 where
+  pub name : name_ok x.name ≡ true
+  pub weight : x.weight ≤ 10000
+  pub carry : x.carry ≤ 10000
+  pub skill : IfSome x.skill (λ s. s < skills)
+  pub level_least : 1 ≤ x.level
+  pub level : x.level ≤ 5
+  pub raw : IfSome x.raw (λ r. r < items)
+  pub raw_is_other : IfSome x.raw (λ r. r ≢ i)
+  pub raw_count_least : 1 ≤ x.raw_count
+  pub raw_count : x.raw_count ≤ 1000
+
+pub record IsSkill (s : Skill) : Type 0 where
+  pub name : name_ok s.name ≡ true
+  pub fee : s.fee ≤ 1000000
+
+pub record IsKind (items skills : ℕ) (k : Kind) : Type 0 where
+  pub name : name_ok k.name ≡ true
+  pub material : k.material < items
+  pub size_least : 1 ≤ k.size
+  pub size : k.size ≤ 999999
+  pub skill : k.skill < skills
+  pub level_least : 1 ≤ k.level
+  pub level : k.level ≤ 5
+  pub capacity : k.capacity ≤ 999999999
+  pub crew : k.crew ≤ 999999
+  pub helps : IfSome k.helps (λ s. s < skills)
+
+pub record IsRegionPlan (terrains number : ℕ) (p : RegionPlan) : Type 0 where
+  pub number_is : p.number ≡ number
+  pub number_least : 1 ≤ number
+  pub number_most : number ≤ 9999
+  pub name : name_ok p.name ≡ true
+  pub terrain : p.terrain < terrains
+  pub peasants : p.peasants ≤ 999999999
+  pub money : p.money ≤ 999999999
+
+-- a neighbour's neighbour on the opposite side is the region of this number
+abbrev pub LeadsBack : FinMap nat_cmp RegionPlan → (RegionPlan → Option ℕ) → ℕ → Option ℕ → Type 0
+LeadsBack regions opposite number neighbour = IfSome neighbour (λ m. option_and_then opposite (get regions m) ≡ Some number)
+
+-- of the region with this number, and its neighbours in the north, south, east and west
+pub record HasNeighbours (regions : FinMap nat_cmp RegionPlan) (number : ℕ) (n s e w : Option ℕ) : Type 0 where
+  pub north : LeadsBack regions (λ q. q.south) number n
+  pub south : LeadsBack regions (λ q. q.north) number s
+  pub east : LeadsBack regions (λ q. q.west) number e
+  pub west : LeadsBack regions (λ q. q.east) number w
+
+pub record IsWorld (w : Planet) : Type 0 where
+  pub rules : AreRules (length w.skills) w.rules
+  pub terrains : (i : ℕ) (t : Terrain) → slice_get w.terrains i ≡ Some t → IsTerrain (length w.items) t
+  pub items : (i : ℕ) (x : Item) → slice_get w.items i ≡ Some x → IsItem (length w.items) (length w.skills) i x
+  pub skills : (i : ℕ) (s : Skill) → slice_get w.skills i ≡ Some s → IsSkill s
+  pub kinds : (i : ℕ) (k : Kind) → slice_get w.kinds i ≡ Some k → IsKind (length w.items) (length w.skills) k
+  pub regions : (n : ℕ) (p : RegionPlan) → get w.regions n ≡ Some p → IsRegionPlan (length w.terrains) n p
+  pub neighbours : (n : ℕ) (p : RegionPlan) → get w.regions n ≡ Some p → HasNeighbours w.regions n p.north p.south p.east p.west
+  pub few_terrains : length w.terrains ≤ 20
+  pub few_items : length w.items ≤ 200
+  pub few_skills : length w.skills ≤ 100
+  pub few_kinds : length w.kinds ≤ 100
+  pub few_regions : len w.regions ≤ 2500
+  pub some_land : 0 < length (land_of w)

@@ -1,0 +1,50 @@
+-- A table `[[terrain]]`: its keys in order, with their ranges, and the terrain that they give.
+use Rattle.std.specs.Prelude.{ℕ, List, [], ◌∷◌, codes, false, map}
+use Rattle.toml.specs.Data.{Members}
+use Rattle.atl_tables.specs.Each.{each}
+use Rattle.atl_tables.specs.Faults.{Conditions, fault_of, value_or}
+use Rattle.atl_tables.specs.Keys.{indexed, number_at, name_at, flag_at}
+use Rattle.atl_tables.specs.OutputTable.{output_path, output_keys, output_from, twin_key_at, known_key_at, amount_of}
+use Rattle.atl_tables.specs.declared.tables.Tables.{Tables}
+use Rattle.atl_tables.specs.declared.terrain_table.TerrainDraft.{TerrainDraft}
+use Rattle.atl_tables.specs.declared.world.Terrain.{Terrain}
+
+unfoldable pub terrain_keys : List ℕ → Members → Conditions
+terrain_keys at t =
+    fault_of (name_at (codes "name") at t)
+    ∷ fault_of (flag_at (codes "land") at t)
+    ∷ fault_of (number_at 1 1000000 (codes "wage") at t)
+    ∷ fault_of (number_at 0 999999999 (codes "places") at t)
+    ∷ fault_of (number_at 0 999999999 (codes "money_limit") at t)
+    ∷ fault_of (number_at 0 999999999 (codes "peasant_limit") at t)
+    ∷ output_keys at t
+
+unfoldable pub terrain_from : List ℕ → Members → TerrainDraft
+terrain_from at t = record {
+  name = value_or [] (name_at (codes "name") at t);
+  land = value_or false (flag_at (codes "land") at t);
+  wage = value_or 0 (number_at 1 1000000 (codes "wage") at t);
+  places = value_or 0 (number_at 0 999999999 (codes "places") at t);
+  money_limit = value_or 0 (number_at 0 999999999 (codes "money_limit") at t);
+  peasant_limit = value_or 0 (number_at 0 999999999 (codes "peasant_limit") at t);
+  output = output_from at t;
+}
+
+-- no two keys of its output are equal, and each stands for an item
+unfoldable pub terrain_twins : ℕ → TerrainDraft → Conditions
+terrain_twins i d = each (twin_key_at (output_path (indexed (codes "terrain") i)) d.output) 0 d.output
+
+unfoldable pub terrain_known : Tables → ℕ → TerrainDraft → Conditions
+terrain_known all i d = each (known_key_at all (output_path (indexed (codes "terrain") i))) 0 d.output
+
+-- its output has an amount for each item
+unfoldable pub terrain_of : Tables → TerrainDraft → Terrain
+terrain_of all d = record {
+  name = d.name;
+  land = d.land;
+  wage = d.wage;
+  places = d.places;
+  money_limit = d.money_limit;
+  peasant_limit = d.peasant_limit;
+  output = map (λ item. amount_of d.output item.name) all.items;
+}

@@ -1,0 +1,46 @@
+-- Names that may stand once only, and the numbers that names stand for.
+use Rattle.std.specs.Prelude.{ℕ, Bool, List, [], ◌∷◌, map, take, codes, Option, Some, None, if◌then◌else◌}
+use Rattle.std.specs.List.{list_any, position_from}
+use Rattle.std.specs.Str.{bytes_eq}
+use Rattle.std.specs.Char.{to_ascii_lowercase}
+use Rattle.atl_tables.specs.declared.fault.WorldFault.{WorldFault}
+use Rattle.atl_tables.specs.declared.fault.WorldFault.TheVariants.{TwoNames, UnknownName}
+use Rattle.atl_tables.specs.declared.tables.Tables.{Tables}
+use Rattle.atl_tables.specs.Each.{each}
+use Rattle.atl_tables.specs.Faults.{Conditions}
+use Rattle.atl_tables.specs.Keys.{path, indexed}
+
+-- equal, ignoring ASCII case
+unfoldable pub same_name : List ℕ → List ℕ → Bool
+same_name a b = bytes_eq (map to_ascii_lowercase a) (map to_ascii_lowercase b)
+
+module _ {A : Type 0} (title : A → List ℕ) where
+  -- no element before this one has its name
+  unfoldable pub twin_at : List ℕ → List A → ℕ → A → Conditions
+  twin_at key all i x = (if list_any (λ y. same_name (title y) (title x)) (take i all) then Some (TwoNames (path (indexed key i) (codes "name"))) else None) ∷ []
+
+  abbrev pub twins : List ℕ → List A → Conditions
+  twins key all = each (twin_at key all) 0 all
+
+  -- the number of the first element with this name
+  unfoldable pub number_of : List A → List ℕ → Option ℕ
+  number_of all name = position_from (λ x. same_name (title x) name) 0 all
+
+-- the numbers of the names of a document
+abbrev pub terrain_number : Tables → List ℕ → Option ℕ
+terrain_number all name = number_of (λ d. d.name) all.terrains name
+
+abbrev pub item_number : Tables → List ℕ → Option ℕ
+item_number all name = number_of (λ d. d.name) all.items name
+
+abbrev pub skill_number : Tables → List ℕ → Option ℕ
+skill_number all name = number_of (λ s. s.name) all.skills name
+
+-- a text that refers to a name has a number
+abbrev pub known : List ℕ → Option ℕ → Option WorldFault
+known p None = Some (UnknownName p)
+known p (Some n) = None
+
+abbrev pub known_or_absent : List ℕ → (List ℕ → Option ℕ) → Option (List ℕ) → Option WorldFault
+known_or_absent p number None = None
+known_or_absent p number (Some name) = known p (number name)

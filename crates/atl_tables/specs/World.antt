@@ -1,0 +1,107 @@
+-- What a document has to fulfil, condition by condition in the order in which faults count, and the world that it then gives.
+use Rattle.std.specs.Prelude.{ℕ, List, [], ◌∷◌, ◌++◌, map, codes, Option, Some, None, Result, Err}
+use Rattle.std.specs.FinMap.{FinMap}
+use Rattle.std.specs.Ordering.{nat_cmp}
+use Rattle.toml.specs.Data.{Members}
+use Rattle.toml.specs.Parse.{parse_document}
+use Rattle.atl_tables.specs.Arrays.{list_conditions, list_of}
+use Rattle.atl_tables.specs.Each.{each}
+use Rattle.atl_tables.specs.Faults.{Conditions, first_fault, unless}
+use Rattle.atl_tables.specs.ItemTable.{item_keys, item_from, item_known, item_of}
+use Rattle.atl_tables.specs.Keys.{array_at, optional_array_at}
+use Rattle.atl_tables.specs.KindTable.{kind_keys, kind_from, kind_known, kind_of}
+use Rattle.atl_tables.specs.Neighbours.{neighbours_at}
+use Rattle.atl_tables.specs.Planet.{Planet, land_of}
+use Rattle.atl_tables.specs.RegionTable.{region_keys, region_from, region_known, region_of}
+use Rattle.atl_tables.specs.Regions.{twin_numbers, by_number}
+use Rattle.atl_tables.specs.RulesTable.{rules_conditions, rules_in, rules_known, rules_of}
+use Rattle.atl_tables.specs.SkillTable.{skill_keys, skill_from}
+use Rattle.atl_tables.specs.TerrainTable.{terrain_keys, terrain_from, terrain_twins, terrain_known, terrain_of}
+use Rattle.atl_tables.specs.Titles.{twins}
+use Rattle.atl_tables.specs.declared.fault.WorldFault.{WorldFault}
+use Rattle.atl_tables.specs.declared.fault.WorldFault.TheVariants.{NotToml, NoLand}
+use Rattle.atl_tables.specs.declared.tables.Tables.{Tables}
+use Rattle.atl_tables.specs.declared.world.RegionPlan.{RegionPlan}
+
+-- what the tables say, where each key keeps its rule
+unfoldable pub tables_of : Members → Tables
+tables_of doc = record {
+  rules = rules_in doc;
+  terrains = list_of terrain_from (codes "terrain") (array_at 20 (codes "terrain") doc);
+  items = list_of item_from (codes "item") (optional_array_at 200 (codes "item") doc);
+  skills = list_of skill_from (codes "skill") (optional_array_at 100 (codes "skill") doc);
+  kinds = list_of kind_from (codes "kind") (optional_array_at 100 (codes "kind") doc);
+  regions = list_of region_from (codes "region") (array_at 2500 (codes "region") doc);
+}
+
+-- the world, where each name stands for something
+unfoldable pub regions_of : Tables → FinMap nat_cmp RegionPlan
+regions_of all = by_number (map (region_of all) all.regions)
+
+unfoldable pub planet_of : Tables → Planet
+planet_of all = record {
+  rules = rules_of all;
+  terrains = map (terrain_of all) all.terrains;
+  items = map (item_of all) all.items;
+  skills = all.skills;
+  kinds = map (kind_of all) all.kinds;
+  regions = regions_of all;
+}
+
+-- ---- the conditions, rank by rank
+-- every key is there, has its type and is in its range
+unfoldable pub keys_are_good : Members → Conditions
+keys_are_good doc =
+    rules_conditions doc
+    ++ (list_conditions terrain_keys (codes "terrain") (array_at 20 (codes "terrain") doc)
+    ++ (list_conditions item_keys (codes "item") (optional_array_at 200 (codes "item") doc)
+    ++ (list_conditions skill_keys (codes "skill") (optional_array_at 100 (codes "skill") doc)
+    ++ (list_conditions kind_keys (codes "kind") (optional_array_at 100 (codes "kind") doc)
+    ++ list_conditions region_keys (codes "region") (array_at 2500 (codes "region") doc)))))
+
+-- no name and no number stands twice
+unfoldable pub names_differ : Tables → Conditions
+names_differ all =
+    twins (λ d. d.name) (codes "terrain") all.terrains
+    ++ (twins (λ d. d.name) (codes "item") all.items
+    ++ (twins (λ s. s.name) (codes "skill") all.skills
+    ++ (twins (λ d. d.name) (codes "kind") all.kinds
+    ++ (twin_numbers all.regions
+    ++ each terrain_twins 0 all.terrains))))
+
+-- no name stands for nothing
+unfoldable pub names_are_known : Tables → Conditions
+names_are_known all =
+    rules_known all
+    ++ (each (terrain_known all) 0 all.terrains
+    ++ (each (item_known all) 0 all.items
+    ++ (each (kind_known all) 0 all.kinds
+    ++ each (region_known all) 0 all.regions)))
+
+-- neighbours are mutual
+unfoldable pub neighbours_are_mutual : Tables → Conditions
+neighbours_are_mutual all = each (neighbours_at (regions_of all)) 0 all.regions
+
+-- some region has land
+abbrev pub is_some_land : List ℕ → Conditions
+is_some_land [] = Some NoLand ∷ []
+is_some_land (n ∷ ns) = None ∷ []
+
+abbrev pub table_conditions : Tables → Conditions
+table_conditions all =
+    names_differ all
+    ++ (names_are_known all
+    ++ (neighbours_are_mutual all
+    ++ is_some_land (land_of (planet_of all))))
+
+-- all of them
+unfoldable pub conditions : Members → Conditions
+conditions doc = keys_are_good doc ++ table_conditions (tables_of doc)
+
+-- ---- the world of a text, or its first fault
+abbrev pub world_in : Option Members → Result Planet WorldFault
+world_in None = Err NotToml
+world_in (Some doc) = unless (first_fault (conditions doc)) (planet_of (tables_of doc))
+
+unfoldable pub world_of : List ℕ → Result Planet WorldFault
+world_of text = world_in (parse_document text)

@@ -1,0 +1,102 @@
+//! Arrays of tables.
+ghost use Rattle.std.specs.Prelude.{◌≡◌, ◌≤◌, ◌∷◌, ℕ, List, IfOk, Result, length};
+ghost use Rattle.std.specs.List.{All};
+ghost use Rattle.toml.specs.Data.{Members};
+ghost use Rattle.toml.specs.View.{view, table_view, array_view};
+ghost use Rattle.atl_tables.specs.Faults.{Conditions, first_fault, Gives};
+ghost use Rattle.atl_tables.specs.Keys.{indexed, array_at, optional_array_at};
+ghost use Rattle.atl_tables.specs.Arrays.{element_table, element_conditions, elements_conditions, elements_of, list_conditions, list_of};
+
+use crate::fault::WorldFault;
+use crate::keys::{indexed, member, sized};
+use crate::sequence::Sequence;
+use crate::text::Text;
+use std::alloc::Global;
+use toml::value::Array;
+use toml::{Table, Value};
+
+/// What stands in an array of tables.
+pub(crate) trait Element: Drop {
+    // What its table has to fulfil, and what it then is.
+    ghost conditions: { List ℕ → Members → Conditions };
+
+    ghost record_of: { List ℕ → Members → Self };
+    // What is true of each that was read.
+    ghost is_sound: { Self → Type 0 };
+
+    fn read(alloc: Global, at: &str, table: &Table) -> Result<Self, WorldFault>
+        ensures value { Gives (λ x. x) result (first_fault (conditions at.now (table_view table.now))) (record_of at.now (table_view table.now)) }
+        ensures sound { IfOk result is_sound };
+}
+
+fn one_element<E: Element>(
+    alloc: Global,
+    key: &str,
+    i: usize,
+    value: &Value,
+) -> Result<E, WorldFault>
+    ensures value { Gives (λ x. x) result (first_fault (element_conditions E.conditions (indexed key.now i) (view value.now))) (E.record_of (indexed key.now i) (element_table (indexed key.now i) (view value.now))) }
+    ensures sound { IfOk result E.is_sound }
+{
+    let place = indexed(alloc, key, i)?;
+    let at = place.as_str();
+    match value.as_table() {
+        None => Err(WorldFault::WrongType(place)),
+        Some(table) => E::read(alloc, at, table),
+    }
+}
+
+fn elements<E: Element>(alloc: Global, key: &str, values: &Array) -> Result<Vec<E>, WorldFault>
+    ensures value { Gives (λ v. v.items) result (first_fault (elements_conditions E.conditions key.now 0 (array_view values.now))) (elements_of E.record_of key.now 0 (array_view values.now)) }
+    ensures sound { IfOk result (λ v. All E.is_sound v.items) }
+    ensures count { IfOk result (λ v. length v.items ≡ length values.now.items) }
+{
+    let mut read = Vec::new(alloc);
+    for i in 0..values.len() {
+        let one = one_element::<E>(alloc, key, i, &values[i])?;
+        read.push(one)?;
+    }
+    Ok(read)
+}
+
+/// The elements of the array under a key of the document, at least one and at most so many.
+#[tactic(auto, unfolding(crate::specs::Arrays::list_conditions, crate::specs::Arrays::list_of, crate::specs::Keys::array_at))]
+pub(crate) fn list<E: Element>(
+    alloc: Global,
+    most: usize,
+    key: &str,
+    document: &Table,
+) -> Result<Sequence<E>, WorldFault>
+    ensures value { Gives (λ v. v) result (first_fault (list_conditions E.conditions key.now (array_at most key.now (table_view document.now)))) (list_of E.record_of key.now (array_at most key.now (table_view document.now))) }
+    ensures sound { IfOk result (λ v. All E.is_sound v) }
+    ensures most { IfOk result (λ v. length v ≤ most) }
+{
+    match member(document, key) {
+        None => Err(WorldFault::Missing(Text::from_str(alloc, key)?)),
+        Some(value) => {
+            let values = sized(alloc, 1, most, key, value)?;
+            Ok(Sequence::from_vec(elements(alloc, key, values)?))
+        }
+    }
+}
+
+/// The elements of the array under a key of the document, at most so many, or none where there is no such array.
+#[tactic(auto, unfolding(crate::specs::Arrays::list_conditions, crate::specs::Arrays::list_of, crate::specs::Keys::optional_array_at))]
+pub(crate) fn optional_list<E: Element>(
+    alloc: Global,
+    most: usize,
+    key: &str,
+    document: &Table,
+) -> Result<Sequence<E>, WorldFault>
+    ensures value { Gives (λ v. v) result (first_fault (list_conditions E.conditions key.now (optional_array_at most key.now (table_view document.now)))) (list_of E.record_of key.now (optional_array_at most key.now (table_view document.now))) }
+    ensures sound { IfOk result (λ v. All E.is_sound v) }
+    ensures most { IfOk result (λ v. length v ≤ most) }
+{
+    match member(document, key) {
+        None => Ok(Sequence::new(alloc)),
+        Some(value) => {
+            let values = sized(alloc, 0, most, key, value)?;
+            Ok(Sequence::from_vec(elements(alloc, key, values)?))
+        }
+    }
+}

@@ -1,0 +1,139 @@
+//! The tables `[[item]]`.
+ghost use Rattle.std.specs.Prelude.{◌≡◌, ◌≢◌, ◌≤◌, ◌<◌, codes, length, IfOk, IfSome, Some, option_and_then};
+ghost use Rattle.atl_tables.specs.Drafts.{IsItemDraft};
+ghost use Rattle.atl_tables.specs.Faults.{Gives};
+ghost use Rattle.atl_tables.specs.ItemTable.{item_keys, item_from, other_than, item_known, item_of};
+ghost use Rattle.atl_tables.specs.Keys.{path};
+ghost use Rattle.atl_tables.specs.Planet.{IsItem};
+ghost use Rattle.atl_tables.specs.Titles.{number_of, known_or_absent};
+
+use crate::elements::Element;
+use crate::fault::WorldFault;
+use crate::keys::{self, indexed, path};
+use crate::tables::{Draft, Tables};
+use crate::text::Text;
+use crate::titled::{Titled, known_or_absent, number_of};
+use crate::world::Item;
+use std::alloc::Global;
+use toml::Table;
+
+/// An item, with its skill and its raw item by name.
+#[derive(Drop, Debug)]
+pub struct ItemDraft {
+    pub name: Text,
+    pub weight: u32,
+    pub carry: u32,
+    pub skill: Option<Text>,
+    pub level: u32,
+    pub raw: Option<Text>,
+    pub raw_count: u32,
+}
+
+impl Element for ItemDraft {
+    ghost conditions = { item_keys };
+
+    ghost record_of = { item_from };
+
+    ghost is_sound = { IsItemDraft };
+
+    #[tactic(auto, unfolding(crate::specs::ItemTable::item_keys, crate::specs::ItemTable::item_from))]
+    fn read(alloc: Global, at: &str, t: &Table) -> Result<ItemDraft, WorldFault> {
+        let name = keys::name(alloc, "name", at, t)?;
+        let weight = keys::number(alloc, 0, 10_000, "weight", at, t)?;
+        let carry = keys::number(alloc, 0, 10_000, "carry", at, t)?;
+        let skill = keys::optional_text(alloc, "skill", at, t)?;
+        let level = keys::number_or(alloc, 1, 1, 5, "level", at, t)?;
+        let raw = keys::optional_text(alloc, "raw", at, t)?;
+        let raw_count = keys::number_or(alloc, 1, 1, 1_000, "raw_count", at, t)?;
+        Ok(ItemDraft {
+            name,
+            weight,
+            carry,
+            skill,
+            level,
+            raw,
+            raw_count,
+        })
+    }
+}
+
+impl Titled for ItemDraft {
+    ghost title_of = { λ x. x.name };
+
+    fn title(&self) -> &Text {
+        &self.name
+    }
+}
+
+/// The number of an item of this name other than the i-th.
+#[tactic(auto, unfolding(crate::specs::Titles::number_of))]
+fn other_item(items: &[ItemDraft], i: usize, name: &Text) -> Option<u16>
+    requires { length items.now ≤ 65536 }
+    ensures value { result ≡ other_than i (number_of (λ d. d.name) items.now name.now) }
+    ensures same { IfSome result (λ n. number_of (λ d. d.name) items.now name.now ≡ Some n) }
+    ensures below { IfSome result (λ n. n < length items.now) }
+    ensures other { IfSome result (λ n. n ≢ i) }
+{
+    match number_of(items, name) {
+        None => None,
+        Some(number) => {
+            if usize::from(number) == i {
+                None
+            } else {
+                Some(number)
+            }
+        }
+    }
+}
+
+/// The number of the item that the i-th is made of.
+fn raw_item(
+    alloc: Global,
+    items: &[ItemDraft],
+    i: usize,
+    at: &str,
+    name: &Option<Text>,
+) -> Result<Option<u16>, WorldFault>
+    requires { length items.now ≤ 65536 }
+    ensures value { Gives (λ n. n) result (known_or_absent (path at.now (codes "raw")) (λ name. other_than i (number_of (λ d. d.name) items.now name)) name.now) (option_and_then (number_of (λ d. d.name) items.now) name.now) }
+    ensures below { IfOk result (λ o. IfSome o (λ n. n < length items.now)) }
+    ensures other { IfOk result (λ o. IfSome o (λ n. n ≢ i)) }
+{
+    match name {
+        None => Ok(None),
+        Some(name) => match other_item(items, i, name) {
+            None => Err(WorldFault::UnknownName(path(alloc, at, "raw")?)),
+            Some(number) => Ok(Some(number)),
+        },
+    }
+}
+
+impl Draft for ItemDraft {
+    type Record = Item;
+
+    ghost is_draft = { IsItemDraft };
+
+    ghost unknown = { item_known };
+
+    ghost record_of = { item_of };
+
+    ghost is_sound = { λ all i x. IsItem (length all.items) (length all.skills) i x };
+
+    #[tactic(auto, unfolding(crate::specs::ItemTable::item_known, crate::specs::ItemTable::item_of))]
+    fn resolve(&self, alloc: Global, all: &Tables, i: usize) -> Result<Item, WorldFault> {
+        let place = indexed(alloc, "item", i)?;
+        let at = place.as_str();
+        let skill = known_or_absent(alloc, all.skills.as_slice(), "skill", at, &self.skill)?;
+        let raw = raw_item(alloc, all.items.as_slice(), i, at, &self.raw)?;
+        let name = self.name.copy(alloc)?;
+        Ok(Item {
+            name,
+            weight: self.weight,
+            carry: self.carry,
+            skill,
+            level: self.level,
+            raw,
+            raw_count: self.raw_count,
+        })
+    }
+}

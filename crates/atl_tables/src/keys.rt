@@ -1,0 +1,262 @@
+//! What stands under a key of a table.
+ghost use Rattle.std.specs.Prelude.{◌≡◌, ◌≤◌, ℤ, List, option_map, IfOk, IfSome, true, length, string_bytes};
+ghost use Rattle.toml.specs.Data.{get_member, as_integer, as_str, as_array};
+ghost use Rattle.toml.specs.View.{view, table_view, array_view};
+ghost use Rattle.atl_tables.specs.Faults.{Reads};
+ghost use Rattle.atl_tables.specs.Names.{name_ok};
+ghost use Rattle.atl_tables.specs.Keys.{path, indexed, within, ranged, typed, number_at, name_at, text_at, flag_at, number_or_at, optional_number_at, optional_text_at, table_at, count_of, sized};
+
+use crate::fault::WorldFault;
+use crate::names::name_ok;
+use crate::text::Text;
+use std::alloc::{AllocError, Global};
+use toml::value::Array;
+use toml::{Table, Value};
+
+/// The path of a key.
+pub(crate) fn path(alloc: Global, at: &str, key: &str) -> Result<Text, AllocError>
+    ensures { IfOk result (λ text. text ≡ path at.now key.now) }
+{
+    Ok(Text::from_string(format!(in alloc; "{at}.{key}")?))
+}
+
+/// The path of an element.
+pub(crate) fn indexed(alloc: Global, key: &str, i: usize) -> Result<Text, AllocError>
+    ensures { IfOk result (λ text. text ≡ indexed key.now i) }
+{
+    Ok(Text::from_string(format!(in alloc; "{key}[{i}]")?))
+}
+
+/// The value under a key.
+pub(crate) fn member<'a>(table: &'a Table, key: &str) -> Option<&'a Value>
+    ensures { option_map (λ v. view v.now) result ≡ get_member key.now (table_view table.now) }
+{
+    table.get(key)
+}
+
+/// The number, where it is from `lo` to `hi`.
+fn within(lo: u32, hi: u32, number: i64) -> Option<u32>
+    ensures value { result ≡ within lo hi number }
+    ensures least { IfSome result (λ n. lo ≤ n) }
+    ensures most { IfSome result (λ n. n ≤ hi) }
+{
+    if number < 0 || number > 4_294_967_295 {
+        return None;
+    }
+    let number = number as u32;
+    if lo <= number && number <= hi {
+        Some(number)
+    } else {
+        None
+    }
+}
+
+/// The number that a value is, from `lo` to `hi`.
+pub(crate) fn ranged(
+    alloc: Global,
+    lo: u32,
+    hi: u32,
+    key: &str,
+    at: &str,
+    value: &Value,
+) -> Result<u32, WorldFault>
+    ensures value { Reads (λ n. n) result (ranged (path at.now key.now) lo hi (as_integer (view value.now))) }
+    ensures least { IfOk result (λ n. lo ≤ n) }
+    ensures most { IfOk result (λ n. n ≤ hi) }
+{
+    match value.as_integer() {
+        None => Err(WorldFault::WrongType(path(alloc, at, key)?)),
+        Some(number) => match within(lo, hi, number) {
+            None => Err(WorldFault::OutOfRange(path(alloc, at, key)?)),
+            Some(number) => Ok(number),
+        },
+    }
+}
+
+/// A number under a key.
+#[tactic(auto, unfolding(crate::specs::Keys::number_at))]
+pub(crate) fn number(
+    alloc: Global,
+    lo: u32,
+    hi: u32,
+    key: &str,
+    at: &str,
+    table: &Table,
+) -> Result<u32, WorldFault>
+    ensures value { Reads (λ n. n) result (number_at lo hi key.now at.now (table_view table.now)) }
+    ensures least { IfOk result (λ n. lo ≤ n) }
+    ensures most { IfOk result (λ n. n ≤ hi) }
+{
+    match member(table, key) {
+        None => Err(WorldFault::Missing(path(alloc, at, key)?)),
+        Some(value) => ranged(alloc, lo, hi, key, at, value),
+    }
+}
+
+/// A number under a key, or `default` where there is none.
+#[tactic(auto, unfolding(crate::specs::Keys::number_or_at))]
+pub(crate) fn number_or(
+    alloc: Global,
+    default: u32,
+    lo: u32,
+    hi: u32,
+    key: &str,
+    at: &str,
+    table: &Table,
+) -> Result<u32, WorldFault>
+    requires least { lo ≤ default }
+    requires most { default ≤ hi }
+    ensures value { Reads (λ n. n) result (number_or_at default lo hi key.now at.now (table_view table.now)) }
+    ensures least { IfOk result (λ n. lo ≤ n) }
+    ensures most { IfOk result (λ n. n ≤ hi) }
+{
+    match member(table, key) {
+        None => Ok(default),
+        Some(value) => ranged(alloc, lo, hi, key, at, value),
+    }
+}
+
+/// A number under a key, where there is one.
+#[tactic(auto, unfolding(crate::specs::Keys::optional_number_at))]
+pub(crate) fn optional_number(
+    alloc: Global,
+    lo: u32,
+    hi: u32,
+    key: &str,
+    at: &str,
+    table: &Table,
+) -> Result<Option<u32>, WorldFault>
+    ensures { Reads (λ o. o) result (optional_number_at lo hi key.now at.now (table_view table.now)) }
+{
+    match member(table, key) {
+        None => Ok(None),
+        Some(value) => {
+            let number = ranged(alloc, lo, hi, key, at, value)?;
+            Ok(Some(number))
+        }
+    }
+}
+
+/// A name under a key.
+#[tactic(auto, unfolding(crate::specs::Keys::name_at))]
+pub(crate) fn name(alloc: Global, key: &str, at: &str, table: &Table) -> Result<Text, WorldFault>
+    ensures value { Reads (λ t. t) result (name_at key.now at.now (table_view table.now)) }
+    ensures good { IfOk result (λ t. name_ok t ≡ true) }
+{
+    match member(table, key) {
+        None => Err(WorldFault::Missing(path(alloc, at, key)?)),
+        Some(value) => match value.as_str() {
+            None => Err(WorldFault::WrongType(path(alloc, at, key)?)),
+            Some(text) => {
+                if !name_ok(text.as_bytes()) {
+                    return Err(WorldFault::OutOfRange(path(alloc, at, key)?));
+                }
+                Ok(Text::from_str(alloc, text)?)
+            }
+        },
+    }
+}
+
+/// The text that a value is.
+fn typed_text(alloc: Global, key: &str, at: &str, value: &Value) -> Result<Text, WorldFault>
+    ensures { Reads (λ t. t) result (typed (path at.now key.now) (as_str (view value.now))) }
+{
+    match value.as_str() {
+        None => Err(WorldFault::WrongType(path(alloc, at, key)?)),
+        Some(text) => Ok(Text::from_str(alloc, text)?),
+    }
+}
+
+/// A text under a key.
+#[tactic(auto, unfolding(crate::specs::Keys::text_at))]
+pub(crate) fn text(alloc: Global, key: &str, at: &str, table: &Table) -> Result<Text, WorldFault>
+    ensures { Reads (λ t. t) result (text_at key.now at.now (table_view table.now)) }
+{
+    match member(table, key) {
+        None => Err(WorldFault::Missing(path(alloc, at, key)?)),
+        Some(value) => typed_text(alloc, key, at, value),
+    }
+}
+
+/// A text under a key, where there is one.
+#[tactic(auto, unfolding(crate::specs::Keys::optional_text_at))]
+pub(crate) fn optional_text(
+    alloc: Global,
+    key: &str,
+    at: &str,
+    table: &Table,
+) -> Result<Option<Text>, WorldFault>
+    ensures { Reads (λ o. o) result (optional_text_at key.now at.now (table_view table.now)) }
+{
+    match member(table, key) {
+        None => Ok(None),
+        Some(value) => {
+            let text = typed_text(alloc, key, at, value)?;
+            Ok(Some(text))
+        }
+    }
+}
+
+/// A truth value under a key.
+#[tactic(auto, unfolding(crate::specs::Keys::flag_at))]
+pub(crate) fn flag(alloc: Global, key: &str, at: &str, table: &Table) -> Result<bool, WorldFault>
+    ensures { Reads (λ b. b) result (flag_at key.now at.now (table_view table.now)) }
+{
+    match member(table, key) {
+        None => Err(WorldFault::Missing(path(alloc, at, key)?)),
+        Some(value) => match value.as_bool() {
+            None => Err(WorldFault::WrongType(path(alloc, at, key)?)),
+            Some(flag) => Ok(flag),
+        },
+    }
+}
+
+/// A table of the document.
+#[tactic(auto, unfolding(crate::specs::Keys::table_at))]
+pub(crate) fn table<'a>(
+    alloc: Global,
+    key: &str,
+    document: &'a Table,
+) -> Result<&'a Table, WorldFault>
+    ensures { Reads (λ t. table_view t.now) result (table_at key.now (table_view document.now)) }
+{
+    match member(document, key) {
+        None => Err(WorldFault::Missing(Text::from_str(alloc, key)?)),
+        Some(value) => match value.as_table() {
+            None => Err(WorldFault::WrongType(Text::from_str(alloc, key)?)),
+            Some(table) => Ok(table),
+        },
+    }
+}
+
+/// How many elements there are.
+fn count(array: &Array) -> usize
+    ensures value { result ≡ count_of (array_view array.now) }
+    ensures length { result ≡ length array.now.items }
+{
+    array.len()
+}
+
+/// The array that a value is, with at least `least` elements and at most `most`.
+pub(crate) fn sized<'a>(
+    alloc: Global,
+    least: usize,
+    most: usize,
+    key: &str,
+    value: &'a Value,
+) -> Result<&'a Array, WorldFault>
+    ensures value { Reads (λ a. array_view a.now) result (sized key.now least most (as_array (view value.now))) }
+    ensures most { IfOk result (λ a. length a.now.items ≤ most) }
+{
+    match value.as_array() {
+        None => Err(WorldFault::WrongType(Text::from_str(alloc, key)?)),
+        Some(array) => {
+            let count = count(array);
+            if least <= count && count <= most {
+                Ok(array)
+            } else {
+                Err(WorldFault::OutOfRange(Text::from_str(alloc, key)?))
+            }
+        }
+    }
+}

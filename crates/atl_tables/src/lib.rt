@@ -1,0 +1,37 @@
+//! The world of a campaign, and the containers that every crate uses.
+#![tactic(auto)]
+
+mod elements;
+pub mod fault;
+mod item_table;
+mod keys;
+mod kind_table;
+pub mod lookup;
+pub mod names;
+mod neighbours;
+pub mod numbered;
+mod output_table;
+mod reading;
+mod region_table;
+mod regions;
+mod rules_table;
+pub mod sequence;
+mod skill_table;
+mod tables;
+mod terrain_table;
+pub mod text;
+mod titled;
+pub mod tracked;
+pub mod world;
+
+pub use fault::WorldFault;
+pub use names::{name_ok, pass_ok};
+pub use numbered::{Entries, Numbered};
+pub use reading::read_world;
+pub use sequence::Sequence;
+pub use text::Text;
+pub use tracked::Tracked;
+pub use world::{Item, Kind, RegionPlan, Rules, Skill, Terrain, World};
+
+#[cfg(test)]
+mod tests;

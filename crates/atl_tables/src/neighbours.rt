@@ -1,0 +1,129 @@
+//! That neighbours are mutual.
+ghost use Rattle.std.specs.Prelude.{◌≡◌, OnOk, option_and_then};
+ghost use Rattle.std.specs.FinMap.{get};
+ghost use Rattle.std.specs.List.{All};
+ghost use Rattle.atl_tables.specs.Each.{each};
+ghost use Rattle.atl_tables.specs.Faults.{first_fault, Gives};
+ghost use Rattle.atl_tables.specs.Keys.{path};
+ghost use Rattle.atl_tables.specs.Neighbours.{on_side, is_number, neighbour, neighbours_at};
+ghost use Rattle.atl_tables.specs.Planet.{LeadsBack, HasNeighbours};
+
+use crate::fault::WorldFault;
+use crate::keys::{indexed, path};
+use crate::numbered::Numbered;
+use crate::region_table::RegionDraft;
+use crate::world::RegionPlan;
+use std::alloc::Global;
+
+/// A side of a region.
+#[derive(Drop, Clone, Copy, Debug)]
+pub enum Side {
+    North,
+    South,
+    East,
+    West,
+}
+
+fn on_side(side: Side, plan: &RegionPlan) -> Option<u32>
+    ensures { result ≡ on_side side plan.now }
+{
+    match side {
+        Side::North => plan.north,
+        Side::South => plan.south,
+        Side::East => plan.east,
+        Side::West => plan.west,
+    }
+}
+
+/// The neighbour of a region on a side, where there is such a region and it has one.
+fn beyond(regions: &Numbered<RegionPlan>, number: u32, side: Side) -> Option<u32>
+    ensures { result ≡ option_and_then (on_side side) (get regions.now number) }
+{
+    match regions.get(number) {
+        None => None,
+        Some(plan) => on_side(side, plan),
+    }
+}
+
+fn is_number(number: u32, other: Option<u32>) -> bool
+    ensures { result ≡ is_number number other }
+{
+    match other {
+        None => false,
+        Some(other) => other == number,
+    }
+}
+
+/// That a region's neighbour under a key has the region on the opposite side.
+fn neighbour(
+    alloc: Global,
+    key: &str,
+    at: &str,
+    regions: &Numbered<RegionPlan>,
+    opposite: Side,
+    number: u32,
+    other: Option<u32>,
+) -> Result<(), WorldFault>
+    ensures value { Gives (λ u. u) result (neighbour (path at.now key.now) regions.now opposite number other) (tt {0}) }
+    ensures back { OnOk result (LeadsBack regions.now (on_side opposite) number other) }
+{
+    match other {
+        None => Ok(()),
+        Some(other) => {
+            if is_number(number, beyond(regions, other, opposite)) {
+                return Ok(());
+            }
+            Err(WorldFault::BadNeighbour(path(alloc, at, key)?))
+        }
+    }
+}
+
+#[tactic(auto, unfolding(crate::specs::Neighbours::neighbours_at))]
+fn neighbours_of(
+    alloc: Global,
+    regions: &Numbered<RegionPlan>,
+    i: usize,
+    draft: &RegionDraft,
+) -> Result<(), WorldFault>
+    ensures value { Gives (λ u. u) result (first_fault (neighbours_at regions.now i draft.now)) (tt {0}) }
+    ensures back { OnOk result (HasNeighbours regions.now draft.now.number draft.now.north draft.now.south draft.now.east draft.now.west) }
+{
+    let place = indexed(alloc, "region", i)?;
+    let at = place.as_str();
+    let number = draft.number;
+    neighbour(
+        alloc,
+        "north",
+        at,
+        regions,
+        Side::South,
+        number,
+        draft.north,
+    )?;
+    neighbour(
+        alloc,
+        "south",
+        at,
+        regions,
+        Side::North,
+        number,
+        draft.south,
+    )?;
+    neighbour(alloc, "east", at, regions, Side::West, number, draft.east)?;
+    neighbour(alloc, "west", at, regions, Side::East, number, draft.west)
+}
+
+/// That the neighbours of all regions are mutual.
+pub(crate) fn mutual_neighbours(
+    alloc: Global,
+    regions: &Numbered<RegionPlan>,
+    drafts: &[RegionDraft],
+) -> Result<(), WorldFault>
+    ensures value { Gives (λ u. u) result (first_fault (each (neighbours_at regions.now) 0 drafts.now)) (tt {0}) }
+    ensures back { OnOk result (All (λ d. HasNeighbours regions.now d.number d.north d.south d.east d.west) drafts.now) }
+{
+    for i in 0..drafts.len() {
+        neighbours_of(alloc, regions, i, &drafts[i])?;
+    }
+    Ok(())
+}

@@ -1,0 +1,111 @@
+//! Values under numbers, in rising order of the numbers.
+ghost use Rattle.std.specs.Prelude.{◌≡◌, ℕ, IfOk, OnOk, OnErr, IsOk, option_copied, None, Some, is_some, length};
+ghost use Rattle.std.specs.Ordering.{nat_cmp};
+ghost use Rattle.std.specs.FinMap as map;
+ghost use Rattle.std.specs.Coded.{coded_ℕ};
+
+use std::alloc::{AllocError, Global};
+use std::collections::{BTreeMap, btree_map};
+use std::marker::Model;
+
+/// A map from numbers to values.
+#[derive(Drop)]
+pub struct Numbered<V> {
+    entries: BTreeMap<u32, V>,
+}
+
+impl<V> Model for Numbered<V> {
+    ghost Value = { map.FinMap nat_cmp V };
+
+    ghost coded = { map.code coded_ℕ V.code };
+
+    ghost view = { λ a. map.from_entries a.entries.entries };
+}
+
+impl<V: Drop> Numbered<V> {
+    ghost use Rattle.std.specs.Option.{option_copied_mut};
+    ghost use Rattle.std.specs.Borrow.{sem};
+    ghost use Rattle.atl_tables.specs.Lending.{LendsAt};
+
+    pub fn new(alloc: Global) -> Self
+        ensures { result ≡ map.empty }
+    {
+        Self {
+            entries: BTreeMap::new(alloc),
+        }
+    }
+
+    pub fn get(&self, number: u32) -> Option<&V>
+        ensures { option_copied result ≡ map.get self.now number }
+    {
+        self.entries.get(&number)
+    }
+
+    pub fn get_mut(&mut self, number: u32) -> Option<&mut V>
+        ensures* writes_back { sem 𝓛 (LendsAt V.row self.entry number result) }
+        ensures value { option_copied_mut result ≡ map.get self.old number }
+    {
+        self.entries.get_mut(&number)
+    }
+
+    /// Puts a value under a number that has none.
+    pub fn insert(&mut self, number: u32, value: V) -> Result<(), AllocError>
+        ensures ok { OnOk result (self.new ≡ map.insert self.old number value) }
+        ensures err { OnErr result (self.new ≡ self.old) }
+    {
+        self.entries.insert(number, value)?;
+        Ok(())
+    }
+
+    pub fn remove(&mut self, number: u32)
+        ensures { self.new ≡ map.remove self.old number }
+    {
+        self.entries.remove(&number);
+    }
+
+    pub fn len(&self) -> usize
+        ensures { result ≡ map.len self.now }
+    {
+        self.entries.len()
+    }
+
+    /// The numbers with their values, in rising order.
+    pub fn iter(&self) -> Entries<'_, V>
+        ensures { result ≡ map.entries self.now }
+    {
+        Entries {
+            inner: self.entries.iter(),
+        }
+    }
+}
+
+/// The entries that are left to come.
+#[derive(Drop)]
+pub struct Entries<'a, V> {
+    inner: btree_map::Iter<'a, u32, V>,
+}
+
+impl<'a, V> Model for Entries<'a, V> {
+    ghost use Rattle.std.specs.Prelude.{List, ℕ};
+
+    ghost Value = { List (ℕ × V) };
+
+    ghost view = { λ a. a.inner };
+}
+
+impl<'a, V> Iterator for Entries<'a, V> {
+    type Item = (u32, &'a V);
+
+    ghost use Rattle.std.specs.Iterator.{YieldsFirstBy, item_count};
+
+    ghost next_gives = { YieldsFirstBy (λ p. (p.0, p.1.now)) (λ s. s) };
+
+    ghost remaining = { item_count (λ s. s) };
+
+    fn next(&mut self) -> Option<(u32, &'a V)> {
+        match self.inner.next() {
+            Some((number, value)) => Some((*number, value)),
+            None => None,
+        }
+    }
+}

@@ -1,0 +1,129 @@
+//! The table `output` of a terrain.
+ghost use Rattle.std.specs.Prelude.{◌≡◌, ◌≤◌, IfOk, map};
+ghost use Rattle.std.specs.List.{All};
+ghost use Rattle.toml.specs.View.{table_view};
+ghost use Rattle.atl_tables.specs.Drafts.{AreTables, IsOutput};
+ghost use Rattle.atl_tables.specs.Each.{each};
+ghost use Rattle.atl_tables.specs.Faults.{first_fault, Gives};
+ghost use Rattle.atl_tables.specs.OutputTable.{amounts_keys, amounts_from, output_keys, output_from, twin_key_at, known_key_at, amount_of};
+
+use crate::fault::WorldFault;
+use crate::item_table::ItemDraft;
+use crate::keys::{member, path, ranged};
+use crate::sequence::Sequence;
+use crate::tables::Tables;
+use crate::text::Text;
+use crate::titled::{Titled, is_among, known, same_name};
+use std::alloc::{AllocError, Global};
+use toml::Table;
+
+/// An item by name, and how much of it is found in a month.
+#[derive(Drop, Debug)]
+pub struct Output {
+    pub item: Text,
+    pub amount: u32,
+}
+
+impl Titled for Output {
+    ghost title_of = { λ o. o.item };
+
+    fn title(&self) -> &Text {
+        &self.item
+    }
+}
+
+/// Each key with its amount, in byte order.
+fn amounts(alloc: Global, at: &str, table: &Table) -> Result<Sequence<Output>, WorldFault>
+    ensures value { Gives (λ v. v) result (first_fault (amounts_keys at.now (table_view table.now))) (amounts_from at.now (table_view table.now)) }
+    ensures sound { IfOk result (λ v. All IsOutput v) }
+{
+    let mut outputs = Sequence::new(alloc);
+    for (key, value) in table.iter() {
+        let key = key.as_str();
+        let amount = ranged(alloc, 0, 999_999_999, key, at, value)?;
+        let item = Text::from_str(alloc, key)?;
+        outputs.push(Output { item, amount })?;
+    }
+    Ok(outputs)
+}
+
+/// The output of a terrain, or none.
+#[tactic(auto, unfolding(crate::specs::OutputTable::output_keys, crate::specs::OutputTable::output_from, crate::specs::Keys::optional_table_at))]
+pub(crate) fn outputs(alloc: Global, at: &str, t: &Table) -> Result<Sequence<Output>, WorldFault>
+    ensures value { Gives (λ v. v) result (first_fault (output_keys at.now (table_view t.now))) (output_from at.now (table_view t.now)) }
+    ensures sound { IfOk result (λ v. All IsOutput v) }
+{
+    match member(t, "output") {
+        None => Ok(Sequence::new(alloc)),
+        Some(value) => {
+            let place = path(alloc, at, "output")?;
+            match value.as_table() {
+                None => Err(WorldFault::WrongType(place)),
+                Some(table) => amounts(alloc, place.as_str(), table),
+            }
+        }
+    }
+}
+
+/// That no two keys are equal, ignoring ASCII case.
+pub(crate) fn no_twin_keys(alloc: Global, at: &str, outputs: &[Output]) -> Result<(), WorldFault>
+    ensures { Gives (λ u. u) result (first_fault (each (twin_key_at at.now outputs.now) 0 outputs.now)) (tt {0}) }
+{
+    for i in 0..outputs.len() {
+        let output = &outputs[i];
+        if is_among(&outputs[..i], output.title()) {
+            return Err(WorldFault::TwoNames(path(alloc, at, output.item.as_str())?));
+        }
+    }
+    Ok(())
+}
+
+/// That each key stands for an item.
+pub(crate) fn known_keys(
+    alloc: Global,
+    all: &Tables,
+    at: &str,
+    outputs: &[Output],
+) -> Result<(), WorldFault>
+    requires { AreTables all.now }
+    ensures { Gives (λ u. u) result (first_fault (each (known_key_at all.now at.now) 0 outputs.now)) (tt {0}) }
+{
+    for i in 0..outputs.len() {
+        let item = &outputs[i].item;
+        known(alloc, all.items.as_slice(), item.as_str(), at, item)?;
+    }
+    Ok(())
+}
+
+/// The amount of an item, 0 where it isn't named.
+#[tactic(auto, unfolding(crate::specs::OutputTable::amount_of))]
+fn amount_of(outputs: &[Output], item: &Text) -> u32
+    requires { All IsOutput outputs.now }
+    ensures value { result ≡ amount_of outputs.now item.now }
+    ensures most { result ≤ 999999999 }
+{
+    for output in outputs {
+        if same_name(&output.item, item) {
+            return output.amount;
+        }
+    }
+    0
+}
+
+/// The amounts of all items, by their numbers.
+pub(crate) fn amounts_of(
+    alloc: Global,
+    items: &[ItemDraft],
+    outputs: &[Output],
+) -> Result<Sequence<u32>, AllocError>
+    requires { All IsOutput outputs.now }
+    ensures value { IfOk result (λ v. v ≡ map (λ item. amount_of outputs.now item.name) items.now) }
+    ensures most { IfOk result (λ v. All (λ amount. amount ≤ 999999999) v) }
+{
+    let mut amounts = Sequence::new(alloc);
+    for item in items {
+        let amount = amount_of(outputs, &item.name);
+        amounts.push(amount)?;
+    }
+    Ok(amounts)
+}

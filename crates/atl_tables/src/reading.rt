@@ -1,0 +1,193 @@
+//! The reader of world files.
+ghost use Rattle.std.specs.Prelude.{◌≡◌, ◌<◌, ◌++◌, length, IfOk};
+ghost use Rattle.toml.specs.View.{table_view};
+ghost use Rattle.atl_tables.specs.Drafts.{AreTables};
+ghost use Rattle.atl_tables.specs.Faults.{first_fault, Reads, Gives};
+ghost use Rattle.atl_tables.specs.Parts.{ArePartsOf, parts_of};
+ghost use Rattle.atl_tables.specs.Planet.{IsWorld, is_land, land_of};
+ghost use Rattle.atl_tables.specs.Sums.{numbers_where};
+ghost use Rattle.atl_tables.specs.World.{tables_of, regions_of, planet_of, keys_are_good, names_differ, names_are_known, neighbours_are_mutual, is_some_land, table_conditions, conditions, world_of};
+
+use crate::elements::{list, optional_list};
+use crate::fault::WorldFault;
+use crate::item_table::ItemDraft;
+use crate::kind_table::KindDraft;
+use crate::neighbours::mutual_neighbours;
+use crate::numbered::Numbered;
+use crate::region_table::RegionDraft;
+use crate::regions::{by_number, no_twin_numbers};
+use crate::rules_table::{resolve_rules, rules};
+use crate::sequence::Sequence;
+use crate::tables::{Tables, resolve_all};
+use crate::terrain_table::{TerrainDraft, no_twins_in_outputs};
+use crate::titled::no_twins;
+use crate::world::{Item, Kind, RegionPlan, Rules, Skill, Terrain, World};
+use std::alloc::{AllocError, Global};
+use toml::Table;
+
+/// What tables stand for, with regions in the order of the file.
+#[derive(Drop, Debug)]
+pub struct Parts {
+    pub rules: Rules,
+    pub terrains: Sequence<Terrain>,
+    pub items: Sequence<Item>,
+    pub kinds: Sequence<Kind>,
+    pub regions: Sequence<RegionPlan>,
+}
+
+/// What the tables say.
+#[tactic(auto, unfolding(crate::specs::World::keys_are_good, crate::specs::World::tables_of))]
+fn tables(alloc: Global, document: &Table) -> Result<Tables, WorldFault>
+    ensures value { Gives (λ t. t) result (first_fault (keys_are_good (table_view document.now))) (tables_of (table_view document.now)) }
+    ensures sound { IfOk result AreTables }
+{
+    let rules = rules(alloc, document)?;
+    let terrains = list::<TerrainDraft>(alloc, 20, "terrain", document)?;
+    let items = optional_list::<ItemDraft>(alloc, 200, "item", document)?;
+    let skills = optional_list::<Skill>(alloc, 100, "skill", document)?;
+    let kinds = optional_list::<KindDraft>(alloc, 100, "kind", document)?;
+    let regions = list::<RegionDraft>(alloc, 2_500, "region", document)?;
+    Ok(Tables {
+        rules,
+        terrains,
+        items,
+        skills,
+        kinds,
+        regions,
+    })
+}
+
+/// That no name and no number stands twice.
+#[tactic(auto, unfolding(crate::specs::World::names_differ))]
+fn names_differ(alloc: Global, all: &Tables) -> Result<(), WorldFault>
+    ensures { Gives (λ u. u) result (first_fault (names_differ all.now)) (tt {0}) }
+{
+    no_twins(alloc, "terrain", all.terrains.as_slice())?;
+    no_twins(alloc, "item", all.items.as_slice())?;
+    no_twins(alloc, "skill", all.skills.as_slice())?;
+    no_twins(alloc, "kind", all.kinds.as_slice())?;
+    no_twin_numbers(alloc, all.regions.as_slice())?;
+    no_twins_in_outputs(alloc, all.terrains.as_slice())
+}
+
+/// What the tables stand for.
+#[tactic(auto, unfolding(crate::specs::World::names_are_known))]
+fn resolve(alloc: Global, all: &Tables) -> Result<Parts, WorldFault>
+    requires { AreTables all.now }
+    ensures value { Gives (λ p. p) result (first_fault (names_are_known all.now)) (parts_of all.now) }
+    ensures sound { IfOk result (ArePartsOf all.now) }
+{
+    let rules = resolve_rules(alloc, all)?;
+    let terrains = resolve_all(alloc, all, all.terrains.as_slice())?;
+    let items = resolve_all(alloc, all, all.items.as_slice())?;
+    let kinds = resolve_all(alloc, all, all.kinds.as_slice())?;
+    let regions = resolve_all(alloc, all, all.regions.as_slice())?;
+    Ok(Parts {
+        rules,
+        terrains,
+        items,
+        kinds,
+        regions,
+    })
+}
+
+fn is_land(terrains: &[Terrain], plan: &RegionPlan) -> bool
+    ensures { result ≡ is_land terrains.now plan.now }
+{
+    match terrains.get(plan.terrain as usize) {
+        Some(terrain) => terrain.land,
+        None => false,
+    }
+}
+
+/// The numbers of the regions with land, in rising order.
+fn land(
+    alloc: Global,
+    terrains: &[Terrain],
+    regions: &Numbered<RegionPlan>,
+) -> Result<Sequence<u32>, AllocError>
+    ensures { IfOk result (λ numbers. numbers ≡ numbers_where (is_land terrains.now) regions.now) }
+{
+    let mut numbers = Sequence::new(alloc);
+    for (number, plan) in regions.iter() {
+        if is_land(terrains, plan) {
+            numbers.push(number)?;
+        }
+    }
+    Ok(numbers)
+}
+
+/// The world of its records, if it has land.
+fn with_land(
+    alloc: Global,
+    rules: Rules,
+    terrains: Sequence<Terrain>,
+    items: Sequence<Item>,
+    skills: Sequence<Skill>,
+    kinds: Sequence<Kind>,
+    regions: Numbered<RegionPlan>,
+) -> Result<World, WorldFault>
+    requires world { 0 < length (land_of (record { rules = rules; terrains = terrains; items = items; skills = skills; kinds = kinds; regions = regions })) → IsWorld (record { rules = rules; terrains = terrains; items = items; skills = skills; kinds = kinds; regions = regions }) }
+    ensures { Gives (λ w. w) result (first_fault (is_some_land (land_of (record { rules = rules; terrains = terrains; items = items; skills = skills; kinds = kinds; regions = regions })))) (record { rules = rules; terrains = terrains; items = items; skills = skills; kinds = kinds; regions = regions }) }
+{
+    let land = land(alloc, terrains.as_slice(), &regions)?;
+    if land.len() == 0 {
+        return Err(WorldFault::NoLand);
+    }
+    Ok(World::from_parts(rules, terrains, items, skills, kinds, regions, land))
+}
+
+/// The world of what tables stand for, where neighbours are mutual.
+#[tactic(auto, unfolding(crate::specs::World::neighbours_are_mutual))]
+fn join(alloc: Global, all: Tables, parts: Parts) -> Result<World, WorldFault>
+    requires all { AreTables all }
+    requires parts { parts ≡ parts_of all }
+    requires sound { ArePartsOf all parts }
+    ensures { Gives (λ w. w) result (first_fault (neighbours_are_mutual all ++ is_some_land (land_of (planet_of all)))) (planet_of all) }
+{
+    let Parts {
+        rules,
+        terrains,
+        items,
+        kinds,
+        regions,
+    } = parts;
+    let regions = by_number(alloc, regions.into_vec())?;
+    mutual_neighbours(alloc, &regions, all.regions.as_slice())?;
+    with_land(alloc, rules, terrains, items, all.skills, kinds, regions)
+}
+
+/// The world that tables describe, where names and numbers keep their rules.
+fn from_tables(alloc: Global, all: Tables) -> Result<World, WorldFault>
+    requires { AreTables all }
+    ensures { Gives (λ w. w) result (first_fault (table_conditions all)) (planet_of all) }
+{
+    names_differ(alloc, &all)?;
+    let parts = resolve(alloc, &all)?;
+    join(alloc, all, parts)
+}
+
+#[tactic(auto, unfolding(crate::specs::World::conditions))]
+fn from_document(alloc: Global, document: &Table) -> Result<World, WorldFault>
+    ensures { Gives (λ w. w) result (first_fault (conditions (table_view document.now))) (planet_of (tables_of (table_view document.now))) }
+{
+    let all = tables(alloc, document)?;
+    from_tables(alloc, all)
+}
+
+/// The world that a text describes, or its first fault in the order that docs/FORMATS.md, "Faults of a world file", gives.
+/// `Memory` is answered only where there was none left, and says nothing of the text.
+#[tactic(auto, unfolding(crate::specs::World::world_of))]
+pub fn read_world(alloc: Global, text: &str) -> Result<World, WorldFault>
+    ensures definition { Reads (λ w. w) result (world_of text.now) }
+{
+    match toml::table_from_str(alloc, text) {
+        Ok(document) => from_document(alloc, &document),
+        Err(error) => {
+            if error.is_memory() {
+                return Err(WorldFault::Memory);
+            }
+            Err(WorldFault::NotToml)
+        }
+    }
+}

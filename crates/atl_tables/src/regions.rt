@@ -1,0 +1,44 @@
+//! The regions by their numbers, of which no two are equal.
+ghost use Rattle.std.specs.Prelude.{◌≡◌, ◌≤◌, length, IfOk};
+ghost use Rattle.std.specs.FinMap.{len};
+ghost use Rattle.atl_tables.specs.Faults.{first_fault, Gives};
+ghost use Rattle.atl_tables.specs.Regions.{twin_numbers, by_number};
+
+use crate::fault::WorldFault;
+use crate::keys::{indexed, path};
+use crate::numbered::Numbered;
+use crate::region_table::RegionDraft;
+use crate::world::RegionPlan;
+use std::alloc::{AllocError, Global};
+
+/// That no two regions have one number.
+pub(crate) fn no_twin_numbers(alloc: Global, drafts: &[RegionDraft]) -> Result<(), WorldFault>
+    ensures { Gives (λ u. u) result (first_fault (twin_numbers drafts.now)) (tt {0}) }
+{
+    let mut seen: Numbered<()> = Numbered::new(alloc);
+    for i in 0..drafts.len() {
+        let number = drafts[i].number;
+        if let Some(()) = seen.get(number) {
+            let place = indexed(alloc, "region", i)?;
+            return Err(WorldFault::TwoNames(path(alloc, place.as_str(), "number")?));
+        }
+        seen.insert(number, ())?;
+    }
+    Ok(())
+}
+
+/// The regions under their numbers.
+pub(crate) fn by_number(
+    alloc: Global,
+    plans: Vec<RegionPlan>,
+) -> Result<Numbered<RegionPlan>, AllocError>
+    ensures value { IfOk result (λ m. m ≡ by_number plans.items) }
+    ensures len { IfOk result (λ m. len m ≤ length plans.items) }
+{
+    let mut plans = plans;
+    let mut regions = Numbered::new(alloc);
+    while let Some(plan) = plans.pop() {
+        regions.insert(plan.number, plan)?;
+    }
+    Ok(regions)
+}

@@ -1,0 +1,35 @@
+//! The tables `[[skill]]`.
+ghost use Rattle.atl_tables.specs.Planet.{IsSkill};
+ghost use Rattle.atl_tables.specs.SkillTable.{skill_keys, skill_from};
+
+use crate::elements::Element;
+use crate::fault::WorldFault;
+use crate::keys;
+use crate::text::Text;
+use crate::titled::Titled;
+use crate::world::Skill;
+use std::alloc::Global;
+use toml::Table;
+
+impl Element for Skill {
+    ghost conditions = { skill_keys };
+
+    ghost record_of = { skill_from };
+
+    ghost is_sound = { IsSkill };
+
+    #[tactic(auto, unfolding(crate::specs::SkillTable::skill_keys, crate::specs::SkillTable::skill_from))]
+    fn read(alloc: Global, at: &str, t: &Table) -> Result<Skill, WorldFault> {
+        let name = keys::name(alloc, "name", at, t)?;
+        let fee = keys::number(alloc, 0, 1_000_000, "fee", at, t)?;
+        Ok(Skill { name, fee })
+    }
+}
+
+impl Titled for Skill {
+    ghost title_of = { λ x. x.name };
+
+    fn title(&self) -> &Text {
+        &self.name
+    }
+}

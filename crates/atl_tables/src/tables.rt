@@ -1,0 +1,66 @@
+//! All tables of a world file, and what each of them stands for.
+ghost use Rattle.std.specs.Prelude.{◌≡◌, ℕ, IfOk, map};
+ghost use Rattle.std.specs.List.{All};
+ghost use Rattle.atl_tables.specs.Drafts.{AreTables};
+ghost use Rattle.atl_tables.specs.Each.{each, EachPlace};
+ghost use Rattle.atl_tables.specs.Faults.{Conditions, first_fault, Gives};
+ghost use Rattle.atl_tables.specs.declared.tables.Tables.{Tables};
+
+use crate::fault::WorldFault;
+use crate::item_table::ItemDraft;
+use crate::kind_table::KindDraft;
+use crate::region_table::RegionDraft;
+use crate::rules_table::RulesDraft;
+use crate::sequence::Sequence;
+use crate::terrain_table::TerrainDraft;
+use crate::world::Skill;
+use std::alloc::Global;
+
+/// What the tables of a document say, before names are looked up.
+#[derive(Drop, Debug)]
+pub struct Tables {
+    pub rules: RulesDraft,
+    pub terrains: Sequence<TerrainDraft>,
+    pub items: Sequence<ItemDraft>,
+    pub skills: Sequence<Skill>,
+    pub kinds: Sequence<KindDraft>,
+    pub regions: Sequence<RegionDraft>,
+}
+
+/// What a table says, before its names are looked up.
+pub(crate) trait Draft: Drop {
+    type Record: Drop;
+
+    ghost is_draft: { Self → Type 0 };
+    // Where its names stand for nothing, what it is else, and what is true of that at its place.
+    ghost unknown: { Tables → ℕ → Self → Conditions };
+
+    ghost record_of: { Tables → Self → Self.Record };
+
+    ghost is_sound: { Tables → ℕ → Self.Record → Type 0 };
+
+    fn resolve(&self, alloc: Global, all: &Tables, i: usize) -> Result<Self::Record, WorldFault>
+        requires all { AreTables all.now }
+        requires draft { is_draft self.now }
+        ensures value { Gives (λ x. x) result (first_fault (unknown all.now i self.now)) (record_of all.now self.now) }
+        ensures sound { IfOk result (λ x. is_sound all.now i x) };
+}
+
+/// What tables in an array stand for.
+pub(crate) fn resolve_all<D: Draft>(
+    alloc: Global,
+    all: &Tables,
+    drafts: &[D],
+) -> Result<Sequence<D::Record>, WorldFault>
+    requires all { AreTables all.now }
+    requires drafts { All D.is_draft drafts.now }
+    ensures value { Gives (λ v. v) result (first_fault (each (D.unknown all.now) 0 drafts.now)) (map (D.record_of all.now) drafts.now) }
+    ensures sound { IfOk result (λ v. EachPlace (D.is_sound all.now) v) }
+{
+    let mut records = Sequence::new(alloc);
+    for i in 0..drafts.len() {
+        let record = drafts[i].resolve(alloc, all, i)?;
+        records.push(record)?;
+    }
+    Ok(records)
+}

@@ -1,0 +1,117 @@
+//! The tables `[[terrain]]`.
+ghost use Rattle.std.specs.Prelude.{length};
+ghost use Rattle.atl_tables.specs.Drafts.{IsTerrainDraft};
+ghost use Rattle.atl_tables.specs.Each.{each};
+ghost use Rattle.atl_tables.specs.Faults.{first_fault, Gives};
+ghost use Rattle.atl_tables.specs.Planet.{IsTerrain};
+ghost use Rattle.atl_tables.specs.TerrainTable.{terrain_keys, terrain_from, terrain_twins, terrain_known, terrain_of};
+
+use crate::elements::Element;
+use crate::fault::WorldFault;
+use crate::keys::{self, indexed, path};
+use crate::output_table::{Output, amounts_of, known_keys, no_twin_keys, outputs};
+use crate::sequence::Sequence;
+use crate::tables::{Draft, Tables};
+use crate::text::Text;
+use crate::titled::Titled;
+use crate::world::Terrain;
+use std::alloc::Global;
+use toml::Table;
+
+/// A terrain, with its output by names of items.
+#[derive(Drop, Debug)]
+pub struct TerrainDraft {
+    pub name: Text,
+    pub land: bool,
+    pub wage: u32,
+    pub places: u32,
+    pub money_limit: u32,
+    pub peasant_limit: u32,
+    pub output: Sequence<Output>,
+}
+
+impl Element for TerrainDraft {
+    ghost conditions = { terrain_keys };
+
+    ghost record_of = { terrain_from };
+
+    ghost is_sound = { IsTerrainDraft };
+
+    #[tactic(auto, unfolding(crate::specs::TerrainTable::terrain_keys, crate::specs::TerrainTable::terrain_from))]
+    fn read(alloc: Global, at: &str, t: &Table) -> Result<TerrainDraft, WorldFault> {
+        let name = keys::name(alloc, "name", at, t)?;
+        let land = keys::flag(alloc, "land", at, t)?;
+        let wage = keys::number(alloc, 1, 1_000_000, "wage", at, t)?;
+        let places = keys::number(alloc, 0, 999_999_999, "places", at, t)?;
+        let money_limit = keys::number(alloc, 0, 999_999_999, "money_limit", at, t)?;
+        let peasant_limit = keys::number(alloc, 0, 999_999_999, "peasant_limit", at, t)?;
+        let output = outputs(alloc, at, t)?;
+        Ok(TerrainDraft {
+            name,
+            land,
+            wage,
+            places,
+            money_limit,
+            peasant_limit,
+            output,
+        })
+    }
+}
+
+impl Titled for TerrainDraft {
+    ghost title_of = { λ x. x.name };
+
+    fn title(&self) -> &Text {
+        &self.name
+    }
+}
+
+impl Draft for TerrainDraft {
+    type Record = Terrain;
+
+    ghost is_draft = { IsTerrainDraft };
+
+    ghost unknown = { terrain_known };
+
+    ghost record_of = { terrain_of };
+
+    ghost is_sound = { λ all i x. IsTerrain (length all.items) x };
+
+    #[tactic(auto, unfolding(crate::specs::TerrainTable::terrain_known, crate::specs::TerrainTable::terrain_of))]
+    fn resolve(&self, alloc: Global, all: &Tables, i: usize) -> Result<Terrain, WorldFault> {
+        let place = indexed(alloc, "terrain", i)?;
+        let place = path(alloc, place.as_str(), "output")?;
+        known_keys(alloc, all, place.as_str(), self.output.as_slice())?;
+        let output = amounts_of(alloc, all.items.as_slice(), self.output.as_slice())?;
+        let name = self.name.copy(alloc)?;
+        Ok(Terrain {
+            name,
+            land: self.land,
+            wage: self.wage,
+            places: self.places,
+            money_limit: self.money_limit,
+            peasant_limit: self.peasant_limit,
+            output,
+        })
+    }
+}
+
+/// That no two keys of the output of a terrain are equal, ignoring ASCII case.
+#[tactic(auto, unfolding(crate::specs::TerrainTable::terrain_twins))]
+fn no_twins_in_output(alloc: Global, i: usize, draft: &TerrainDraft) -> Result<(), WorldFault>
+    ensures { Gives (λ u. u) result (first_fault (terrain_twins i draft.now)) (tt {0}) }
+{
+    let place = indexed(alloc, "terrain", i)?;
+    let place = path(alloc, place.as_str(), "output")?;
+    no_twin_keys(alloc, place.as_str(), draft.output.as_slice())
+}
+
+/// Likewise of all terrains.
+pub(crate) fn no_twins_in_outputs(alloc: Global, drafts: &[TerrainDraft]) -> Result<(), WorldFault>
+    ensures { Gives (λ u. u) result (first_fault (each terrain_twins 0 drafts.now)) (tt {0}) }
+{
+    for i in 0..drafts.len() {
+        no_twins_in_output(alloc, i, &drafts[i])?;
+    }
+    Ok(())
+}

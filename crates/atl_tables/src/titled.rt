@@ -1,0 +1,105 @@
+//! Names that may stand once only, and the numbers that names stand for.
+ghost use Rattle.std.specs.Prelude.{◌≡◌, ◌≤◌, ◌<◌, ℕ, List, length, IfOk, IfSome, Some, None, unwrap_or, option_and_then};
+ghost use Rattle.std.specs.List.{list_any};
+ghost use Rattle.atl_tables.specs.Faults.{first_fault, Gives};
+ghost use Rattle.atl_tables.specs.Keys.{path};
+ghost use Rattle.atl_tables.specs.Titles.{same_name, twins, number_of, known, known_or_absent};
+
+use crate::fault::WorldFault;
+use crate::keys::{indexed, path};
+use crate::text::Text;
+use std::alloc::Global;
+
+/// What has a name.
+pub(crate) trait Titled {
+    ghost title_of: { Self → List ℕ };
+
+    fn title(&self) -> &Text
+        ensures { result.now ≡ title_of self.now };
+}
+
+/// Whether two names are equal, ignoring ASCII case.
+pub(crate) fn same_name(a: &Text, b: &Text) -> bool
+    ensures { result ≡ same_name a.now b.now }
+{
+    a.as_bytes().eq_ignore_ascii_case(b.as_bytes())
+}
+
+pub(crate) fn is_among<T: Titled>(items: &[T], name: &Text) -> bool
+    ensures { result ≡ list_any (λ x. same_name (T.title_of x) name.now) items.now }
+{
+    for item in items {
+        if same_name(item.title(), name) {
+            return true;
+        }
+    }
+    false
+}
+
+/// That no name stands twice.
+pub(crate) fn no_twins<T: Titled>(alloc: Global, key: &str, items: &[T]) -> Result<(), WorldFault>
+    ensures { Gives (λ u. u) result (first_fault (twins T.title_of key.now items.now)) (tt {0}) }
+{
+    for i in 0..items.len() {
+        if is_among(&items[..i], items[i].title()) {
+            let place = indexed(alloc, key, i)?;
+            return Err(WorldFault::TwoNames(path(alloc, place.as_str(), "name")?));
+        }
+    }
+    Ok(())
+}
+
+/// The number of the first with this name.
+#[tactic(auto, unfolding(crate::specs::Titles::number_of))]
+pub(crate) fn number_of<T: Titled>(items: &[T], name: &Text) -> Option<u16>
+    requires { length items.now ≤ 65536 }
+    ensures value { result ≡ number_of T.title_of items.now name.now }
+    ensures below { IfSome result (λ n. n < length items.now) }
+{
+    for i in 0..items.len() {
+        if same_name(items[i].title(), name) {
+            return Some(i as u16);
+        }
+    }
+    None
+}
+
+/// The number of the first with a name that a text under a key refers to.
+pub(crate) fn known<T: Titled>(
+    alloc: Global,
+    items: &[T],
+    key: &str,
+    at: &str,
+    name: &Text,
+) -> Result<u16, WorldFault>
+    requires { length items.now ≤ 65536 }
+    ensures value { Gives (λ n. n) result (known (path at.now key.now) (number_of T.title_of items.now name.now)) (unwrap_or (number_of T.title_of items.now name.now) 0) }
+    ensures number { IfOk result (λ n. number_of T.title_of items.now name.now ≡ Some n) }
+    ensures below { IfOk result (λ n. n < length items.now) }
+{
+    match number_of(items, name) {
+        Some(number) => Ok(number),
+        None => Err(WorldFault::UnknownName(path(alloc, at, key)?)),
+    }
+}
+
+/// Likewise of a text that may be missing.
+pub(crate) fn known_or_absent<T: Titled>(
+    alloc: Global,
+    items: &[T],
+    key: &str,
+    at: &str,
+    name: &Option<Text>,
+) -> Result<Option<u16>, WorldFault>
+    requires { length items.now ≤ 65536 }
+    ensures value { Gives (λ n. n) result (known_or_absent (path at.now key.now) (number_of T.title_of items.now) name.now) (option_and_then (number_of T.title_of items.now) name.now) }
+    ensures below { IfOk result (λ o. IfSome o (λ n. n < length items.now)) }
+{
+    match name {
+        None => Ok(None),
+        Some(name) => {
+            let number = known(alloc, items, key, at, name)?;
+            Ok(Some(number))
+        }
+    }
+}
