@@ -1,0 +1,7 @@
+pub mod WordLaws
+pub mod LineLaws
+pub mod UnitLaws
+pub mod RuleLaws
+pub mod OrderLaws
+pub mod BoundLaws
+pub mod NamingLaws

@@ -1,0 +1,130 @@
+-- Laws of words.
+use Rattle.std.proofs.Common.{◌≡◌, ℕ, zero, suc, ◌+◌, ◌-◌, ◌<◌, ◌≤◌, Bool, ◌||◌, not, true, false, cond, eqb, List, [], ◌∷◌, ◌++◌, length, get_or, take, drop, min, refl, sym, ap, ◌∙◌, arith}
+use Rattle.std.specs.List.{slice_range, position_or_len, before_first}
+use Rattle.std.specs.Char.{is_ascii_digit, digit_value}
+use Rattle.std.proofs.lemmas.Bool.Decides.{nat_tests}
+use Rattle.std.proofs.lemmas.Bool.{cond-true, cond-false, or_parts, true≢false}
+use Rattle.std.proofs.lemmas.List.{length-append, drop_at, take_at, drop-drop, take-append-drop, append_assoc, drop_min, take_rest, at_drop_more, at_drop_all}
+use Rattle.std.proofs.Math.Nat.{min_comm}
+use Rattle.atl_orders.specs.Words.{StandsIn, EndsWith, EndsAt, is_blank, is_quote, ends_word, words_after, words}
+
+-- a byte that ends a word and no byte of a word
+pub words_after-drop : (skip : ℕ) (line : List ℕ) → words_after skip line ≡ words (drop skip line)
+unfolding words_after
+words_after-drop zero line = refl
+words_after-drop (suc skip) [] = refl
+words_after-drop (suc skip) (b ∷ bs) = words_after-drop skip bs
+
+pub words-nil : words [] ≡ []
+unfolding words_after
+words-nil = refl
+
+pub words-blank : (b : ℕ) (bs : List ℕ) → is_blank b ≡ true → words (b ∷ bs) ≡ words bs
+unfolding words_after
+words-blank b bs h = cond-true (is_blank b) _ _ h
+
+pub words-comment : (bs : List ℕ) → words (59 ∷ bs) ≡ []
+unfolding words_after
+words-comment bs = refl
+
+pub words-quoted : (bs : List ℕ) → words (34 ∷ bs) ≡ record { bytes = before_first is_quote bs; quoted = true } ∷ words (drop 1 (drop (position_or_len is_quote bs) bs))
+unfolding words_after
+words-quoted bs = ap (λ ws. record { bytes = before_first is_quote bs; quoted = true } ∷ ws) (words_after-drop (position_or_len is_quote bs + 1) bs ∙ ap words (sym (drop-drop 1 (position_or_len is_quote bs) bs)))
+
+-- a byte that doesn't end a word stands in it
+drop-bare : (t : Bool) (n b : ℕ) (bs : List ℕ) → t ≡ false → drop (cond (not t) (1 + n) 0 - 1) bs ≡ drop (cond (not t) (1 + n) 0) (b ∷ bs)
+drop-bare true n b bs h = absurd (true≢false h)
+drop-bare false n b bs h =
+    let less : 1 + n - 1 ≡ n = omega arith in
+    let more : 1 + n ≡ suc n = omega arith in
+    rw (less, more) refl
+
+pub words-bare : (b : ℕ) (bs : List ℕ) → ends_word b ≡ false → words (b ∷ bs) ≡ record { bytes = before_first ends_word (b ∷ bs); quoted = false } ∷ words (drop (position_or_len ends_word (b ∷ bs)) (b ∷ bs))
+unfolding words_after
+words-bare b bs h =
+    let one = or_parts (is_blank b || eqb b 34) (eqb b 59) h in
+    let two = or_parts (is_blank b) (eqb b 34) one.0 in
+    cond-false (is_blank b) _ _ two.0 ∙ cond-false (eqb b 59) _ _ one.1 ∙ cond-false (eqb b 34) _ _ two.1
+    ∙ ap (λ ws. record { bytes = before_first ends_word (b ∷ bs); quoted = false } ∷ ws) (words_after-drop (position_or_len ends_word (b ∷ bs) - 1) bs ∙ ap words (drop-bare (ends_word b) _ b bs h))
+
+pub words-bare_line : (line : List ℕ) → 0 < length line → ends_word (get_or line 0 0) ≡ false → words line ≡ record { bytes = before_first ends_word line; quoted = false } ∷ words (drop (position_or_len ends_word line) line)
+words-bare_line [] p h = absurd (omega arith)
+words-bare_line (b ∷ bs) p h = words-bare b bs h
+
+-- what follows a closing quote, if it is there
+pub behind_closing : (bs : List ℕ) (closing : ℕ) → closing ≡ min (length bs) 1 → take (length bs - closing) (drop closing bs) ≡ drop 1 bs
+behind_closing bs closing e = take_rest bs closing ∙ ap (λ n. drop n bs) (e ∙ min_comm (length bs) 1) ∙ drop_min 1 bs
+
+pub digit_value_of : (b : ℕ) → is_ascii_digit b ≡ true → digit_value b ≡ b - 48
+digit_value_of b h = grind (arith, nat_tests)
+
+-- one step of a loop over a line
+pub comment_at : (line : List ℕ) (i : ℕ) → i < length line → get_or line i 0 ≡ 59 → words (drop i line) ≡ []
+comment_at line i h e = at_drop_more words line i 0 h ∙ ap (λ b. words (b ∷ drop (i + 1) line)) e ∙ words-comment (drop (i + 1) line)
+
+pub blank_at : (line : List ℕ) (i : ℕ) → i < length line → is_blank (get_or line i 0) ≡ true → words (drop (i + 1) line) ≡ words (drop i line)
+blank_at line i h e = sym (at_drop_more words line i 0 h ∙ words-blank (get_or line i 0) (drop (i + 1) line) e)
+
+pub end_of_words : (line : List ℕ) (i : ℕ) → length line ≤ i → words (drop i line) ≡ []
+end_of_words line i h = at_drop_all words line i h ∙ words-nil
+
+-- ---- where words stand
+
+pub stands_first : (line : List ℕ) (n : ℕ) (bytes : List ℕ) → bytes ≡ take n line → StandsIn line bytes (length line)
+stands_first line n bytes e =
+    let whole : bytes ++ drop n line ≡ line = ap (λ l. l ++ drop n line) e ∙ take-append-drop n line in
+    record { front = []; back = drop n line; whole = sym whole; behind_is = ap length whole }
+
+pub ends_behind : (line : List ℕ) (n : ℕ) → EndsWith line (drop n line)
+ends_behind line n = record { front = take n line; whole = sym (take-append-drop n line) }
+
+pub ends_further : (line mid rest : List ℕ) → EndsWith line mid → EndsWith mid rest → EndsWith line rest
+ends_further line mid rest a b = record { front = a.front ++ b.front; whole = a.whole ∙ ap (λ l. a.front ++ l) b.whole ∙ sym (append_assoc a.front b.front rest) }
+
+pub stands_further : (line mid bytes : List ℕ) (behind : ℕ) → EndsWith line mid → StandsIn mid bytes behind → StandsIn line bytes behind
+stands_further line mid bytes behind a b =
+    record { front = a.front ++ b.front; back = b.back; whole = a.whole ∙ ap (λ l. a.front ++ l) b.whole ∙ sym (append_assoc a.front b.front (bytes ++ b.back)); behind_is = b.behind_is }
+
+-- the part `&line[n..]`
+pub ends_at : (line : List ℕ) (n : ℕ) → EndsWith line (take (length line - n) (drop n line))
+ends_at line n = rw (take_rest line n) (ends_behind line n)
+
+pub ends_shorter : (line rest : List ℕ) → EndsWith line rest → length rest ≤ length line
+ends_shorter line rest e = omega (arith, ap length e.whole, length-append e.front rest)
+
+pub stands_shorter : (line bytes : List ℕ) (behind : ℕ) → StandsIn line bytes behind → (length bytes ≤ behind) × (behind ≤ length line)
+stands_shorter line bytes behind s =
+    let a : length line ≡ length s.front + length (bytes ++ s.back) = ap length s.whole ∙ length-append s.front (bytes ++ s.back) in
+    let b : length (bytes ++ s.back) ≡ length bytes + length s.back = length-append bytes s.back in
+    (omega (arith, s.behind_is), omega (arith, s.behind_is))
+
+-- a word behind another still stands up to the place where the line ends
+pub place_behind : (text : List ℕ) (place : ℕ) (line rest : List ℕ) → EndsAt text place line → EndsWith line rest → EndsAt text place rest
+place_behind text place line rest a e = record {
+  front = a.front ++ e.front;
+  back = a.back;
+  whole = a.whole ∙ ap (λ l. a.front ++ (l ++ a.back)) e.whole ∙ ap (λ l. a.front ++ l) (append_assoc e.front rest a.back) ∙ sym (append_assoc a.front e.front (rest ++ a.back));
+  place_is = ap length (append_assoc a.front e.front rest ∙ ap (λ l. a.front ++ l) (sym e.whole)) ∙ a.place_is;
+}
+
+-- the span of a word has its bytes
+pub bytes_in_span : (text : List ℕ) (place : ℕ) (line bytes : List ℕ) (behind : ℕ) → EndsAt text place line → StandsIn line bytes behind → slice_range text (place - behind) (place - behind + length bytes) ≡ bytes
+bytes_in_span text place line bytes behind a s =
+    let whole : text ≡ (a.front ++ s.front) ++ (bytes ++ (s.back ++ a.back)) =
+    a.whole ∙ ap (λ l. a.front ++ (l ++ a.back)) s.whole
+    ∙ ap (λ l. a.front ++ l) (append_assoc s.front (bytes ++ s.back) a.back)
+    ∙ sym (append_assoc a.front s.front ((bytes ++ s.back) ++ a.back))
+    ∙ ap (λ l. (a.front ++ s.front) ++ l) (append_assoc bytes s.back a.back) in
+    let ends : length (a.front ++ line) ≡ length a.front + length line = length-append a.front line in
+    let parts : length line ≡ length s.front + length (bytes ++ s.back) = ap length s.whole ∙ length-append s.front (bytes ++ s.back) in
+    let fronts : length (a.front ++ s.front) ≡ length a.front + length s.front = length-append a.front s.front in
+    let start : length (a.front ++ s.front) ≡ place - behind = omega (arith, a.place_is, s.behind_is) in
+    let count : place - behind + length bytes - (place - behind) ≡ length bytes = omega arith in
+    let here : drop (place - behind) text ≡ bytes ++ (s.back ++ a.back) = ap (drop (place - behind)) whole ∙ drop_at (a.front ++ s.front) (bytes ++ (s.back ++ a.back)) (place - behind) start in
+    ap (λ n. take n (drop (place - behind) text)) count ∙ ap (take (length bytes)) here ∙ take_at bytes (s.back ++ a.back) (length bytes) refl
+
+pub ends_with_all : (text : List ℕ) → EndsWith text text
+ends_with_all text = record { front = []; whole = refl }
+
+pub place_fits : (text : List ℕ) (place : ℕ) (line : List ℕ) → EndsAt text place line → length line ≤ place
+place_fits text place line e = omega (arith, e.place_is, length-append e.front line)

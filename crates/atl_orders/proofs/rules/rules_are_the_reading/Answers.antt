@@ -1,0 +1,8 @@
+use Rattle.atl_orders.proofs.RuleLaws as laws
+use Rattle.atl_orders.proofs.rules.rules_are_the_reading.Goals as goal
+
+pub returns-clause-lines : goal.returns-clause-lines
+returns-clause-lines c = (laws.line_fits, laws.line_only)
+
+pub returns-clause-mailings : goal.returns-clause-mailings
+returns-clause-mailings c = (laws.body_fits, laws.body_only)

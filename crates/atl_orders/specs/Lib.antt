@@ -1,0 +1,11 @@
+pub mod Aliasing
+pub mod Faulting
+pub mod Words
+pub mod Lines
+pub mod Verbs
+pub mod Operands
+pub mod Orders
+pub mod Reading
+pub mod Mailing
+pub mod Rules
+pub mod Bounds

@@ -1,0 +1,116 @@
+-- What a mailing says, from its lines.
+use Rattle.std.specs.Prelude.{◌≡◌, ℕ, ◌+◌, Bool, List, [], ◌∷◌, length, map, codes, Option, Some, None, Result, Ok, Err, nat_lt, if◌then◌else◌}
+use Rattle.std.specs.List.{flat_map}
+use Rattle.std.specs.Option.{option_copied}
+use Rattle.atl_tables.specs.Planet.{Planet}
+use Rattle.atl_orders.specs.declared.order.UnitRef.{UnitRef}
+use Rattle.atl_orders.specs.declared.reading.Place.{Place}
+use Rattle.atl_orders.specs.declared.reading.Place.TheVariants.{Nowhere}
+use Rattle.atl_orders.specs.declared.fault.FaultyLine.{FaultyLine}
+use Rattle.atl_orders.specs.declared.fault.MailFault.{MailFault}
+use Rattle.atl_orders.specs.declared.fault.MailFault.TheVariants.{TooLong, NoHeader, BadHeader, Memory}
+use Rattle.atl_orders.specs.declared.mailing.Entry.{Entry}
+use Rattle.atl_orders.specs.declared.mailing.Mailing.{Mailing}
+use Rattle.atl_orders.specs.declared.mailing.Header.{Header}
+use Rattle.atl_orders.specs.declared.mailing.Body.{Body}
+use Rattle.atl_orders.specs.Aliasing.{no_alias}
+use Rattle.atl_orders.specs.Words.{WordText, words, begins, number_of}
+use Rattle.atl_orders.specs.Lines.{lines, lines_of_rest}
+use Rattle.atl_orders.specs.Operands.{not_zero}
+use Rattle.atl_orders.specs.Orders.{Said, said}
+use Rattle.atl_orders.specs.Reading.{Effect, nothing, faulty, says, line_step}
+
+-- an order with its line and its unit
+pub record EntrySaid : Type 0 where
+  pub line : ℕ
+  pub target : UnitRef
+  pub said : Said
+
+-- what each line up to `#END` does, with its number
+unfoldable pub effects : Planet → ℕ → Place → (ℕ → Bool) → List (List ℕ) → List (ℕ × Effect)
+effects world n place given [] = []
+effects world n place given (line ∷ rest) =
+    if begins (codes "#END") (words line) then []
+    else (n, (line_step world place given line).effect)
+    ∷ effects world (n + 1) (line_step world place given line).place (line_step world place given line).given rest
+
+-- the orders and the faults among them
+abbrev pub entry_of : ℕ × Effect → List EntrySaid
+entry_of (n, nothing) = []
+entry_of (n, faulty fault) = []
+entry_of (n, says unit said) = record { line = n; target = unit; said = said } ∷ []
+
+abbrev pub fault_of : ℕ × Effect → List FaultyLine
+fault_of (n, nothing) = []
+fault_of (n, faulty fault) = record { line = n; fault = fault } ∷ []
+fault_of (n, says unit said) = []
+
+-- the faction that a header names
+abbrev pub faction_of : List WordText → Option ℕ
+faction_of [] = None
+faction_of (w ∷ []) = None
+faction_of (w ∷ v ∷ ws) = not_zero (number_of 9999 v.bytes)
+
+-- The faction, and the lines behind the header with the number of their first.
+pub record Headed : Type 0 where
+  pub faction : ℕ
+  pub next : ℕ
+  pub rest : List (List ℕ)
+
+abbrev pub header_line : ℕ → List (List ℕ) → Option ℕ → Result Headed MailFault
+header_line n rest None = Err BadHeader
+header_line n rest (Some faction) = Ok (record { faction = faction; next = n + 1; rest = rest })
+
+-- the first header of these lines
+unfoldable pub header_from : ℕ → List (List ℕ) → Result Headed MailFault
+header_from n [] = Err NoHeader
+header_from n (line ∷ rest) =
+    if begins (codes "#ATLANTIS") (words line) then header_line n rest (faction_of (words line))
+    else header_from (n + 1) rest
+
+-- What a mailing says.
+pub record Reading : Type 0 where
+  pub faction : ℕ
+  pub entries : List EntrySaid
+  pub faults : List FaultyLine
+
+abbrev pub behind_header : Planet → Result Headed MailFault → Result Reading MailFault
+behind_header world (Err fault) = Err fault
+behind_header world (Ok h) = Ok (record {
+  faction = h.faction;
+  entries = flat_map entry_of (effects world h.next Nowhere no_alias h.rest);
+  faults = flat_map fault_of (effects world h.next Nowhere no_alias h.rest);
+})
+
+-- the reading of a text
+unfoldable pub reading : Planet → List ℕ → Result Reading MailFault
+reading world text =
+    if nat_lt 65536 (length text) then Err TooLong
+    else behind_header world (header_from 1 (lines text))
+
+-- ---- what the code answers
+
+abbrev pub entry_said : List ℕ → Entry → EntrySaid
+entry_said text e = record { line = e.line; target = e.target; said = said text e.order }
+
+abbrev pub reading_of : Mailing → Reading
+reading_of m = record { faction = m.faction; entries = map (entry_said m.text) m.entries; faults = m.faults }
+
+-- the mailing was read with this world
+abbrev pub IsReadWith : Planet → Mailing → Type 0
+IsReadWith world m = reading world m.text ≡ Ok (reading_of m)
+
+-- What was answered is what reading gives, unless memory ran out.
+abbrev pub Reads : {X Y : Type 0} → (X → Y) → Result X MailFault → Result Y MailFault → Type 0
+Reads view (Ok x) read = read ≡ Ok (view x)
+Reads view (Err Memory) read = Unit {0}
+Reads view (Err TooLong) read = read ≡ Err TooLong
+Reads view (Err NoHeader) read = read ≡ Err NoHeader
+Reads view (Err BadHeader) read = read ≡ Err BadHeader
+
+-- a header, seen as the lines behind it
+abbrev pub headed : Header → Headed
+headed h = record { faction = h.faction; next = h.next; rest = lines_of_rest (option_copied h.rest) }
+
+abbrev pub body_entries : List ℕ → Body → List EntrySaid
+body_entries text b = map (entry_said text) b.entries

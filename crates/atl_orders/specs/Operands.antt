@@ -1,0 +1,117 @@
+-- What the words behind a keyword are read as.
+use Rattle.std.specs.Prelude.{◌≡◌, ℕ, List, [], ◌∷◌, ◌++◌, codes, Option, Some, None, Result, Ok, Err, ◌==◌, if◌then◌else◌}
+use Rattle.atl_tables.specs.Planet.{Planet}
+use Rattle.atl_tables.specs.Lookup.{item_named, skill_named, kind_named}
+use Rattle.atl_orders.specs.declared.order.UnitRef.{UnitRef}
+use Rattle.atl_orders.specs.declared.order.UnitRef.TheVariants.{Number, Alias}
+use Rattle.atl_orders.specs.declared.order.Direction.{Direction}
+use Rattle.atl_orders.specs.declared.order.Direction.TheVariants.{North, South, East, West}
+use Rattle.atl_orders.specs.declared.fault.LineFault.{LineFault}
+use Rattle.atl_orders.specs.declared.fault.LineFault.TheVariants.{BadNumber, UnknownThing, MissingWord, BadAlias, BadDirection}
+use Rattle.atl_orders.specs.Words.{WordText, is_word, number_of}
+
+-- A step of reading is a value, or the first fault.
+infixl 10 ◌>>=◌
+abbrev pub ◌>>=◌ : {A B : Type 0} → Result A LineFault → (A → Result B LineFault) → Result B LineFault
+(Ok x) >>= f = f x
+(Err e) >>= f = Err e
+
+-- What a function returned, seen by view, is what reading gives.
+abbrev pub viewed : {X Y : Type 0} → (X → Y) → Result X LineFault → Result Y LineFault
+viewed view (Ok x) = Ok (view x)
+viewed view (Err e) = Err e
+
+abbrev pub Gives : {X Y : Type 0} → (X → Y) → Result X LineFault → Result Y LineFault → Type 0
+Gives view result read = read ≡ viewed view result
+
+-- a value that there has to be
+abbrev pub or_fault : {X : Type 0} → LineFault → Option X → Result X LineFault
+or_fault fault None = Err fault
+or_fault fault (Some x) = Ok x
+
+-- a number from 1 on
+abbrev pub not_zero : Option ℕ → Option ℕ
+not_zero None = None
+not_zero (Some n) = if n == 0 then None else Some n
+
+-- the next word, and those after it
+abbrev pub word_at : List WordText → Result (WordText × List WordText) LineFault
+word_at [] = Err MissingWord
+word_at (w ∷ ws) = Ok (w, ws)
+
+-- a number from 1 on, up to the most
+unfoldable pub count_at : ℕ → LineFault → List WordText → Result (ℕ × List WordText) LineFault
+count_at most fault ws = do
+  w ← word_at ws
+  n ← or_fault fault (not_zero (number_of most w.0.bytes))
+  Ok (n, w.1)
+
+abbrev pub number_at : List WordText → Result (ℕ × List WordText) LineFault
+number_at ws = count_at 999999999 BadNumber ws
+
+abbrev pub alias_at : List WordText → Result (ℕ × List WordText) LineFault
+alias_at ws = count_at 9999 BadAlias ws
+
+-- a unit by its number, or NEW and an alias
+unfoldable pub unit_at : List WordText → Result (UnitRef × List WordText) LineFault
+unit_at ws = do
+  w ← word_at ws
+  if is_word (codes "NEW") w.0
+      then (alias_at w.1 >>= λ n. Ok (Alias n.0, n.1))
+      else (number_at ws >>= λ n. Ok (Number n.0, n.1))
+
+-- an item, a skill or a kind of the world by its name
+unfoldable pub item_at : Planet → List WordText → Result ℕ LineFault
+item_at world ws = do
+  w ← word_at ws
+  or_fault UnknownThing (item_named world w.0.bytes w.0.quoted)
+
+unfoldable pub skill_at : Planet → List WordText → Result ℕ LineFault
+skill_at world ws = do
+  w ← word_at ws
+  or_fault UnknownThing (skill_named world w.0.bytes w.0.quoted)
+
+unfoldable pub kind_at : Planet → List WordText → Result ℕ LineFault
+kind_at world ws = do
+  w ← word_at ws
+  or_fault UnknownThing (kind_named world w.0.bytes w.0.quoted)
+
+abbrev pub direction_of : WordText → Option Direction
+direction_of w =
+    if is_word (codes "NORTH") w then Some North
+    else if is_word (codes "SOUTH") w then Some South
+    else if is_word (codes "EAST") w then Some East
+    else if is_word (codes "WEST") w then Some West
+    else None
+
+unfoldable pub direction_at : List WordText → Result Direction LineFault
+direction_at ws = do
+  w ← word_at ws
+  or_fault BadDirection (direction_of w.0)
+
+-- ---- units up to the line's end
+
+-- a unit by the word of its number, and by the word behind NEW
+abbrev pub numbered : WordText → Result UnitRef LineFault
+numbered w = or_fault BadNumber (not_zero (number_of 999999999 w.bytes)) >>= λ n. Ok (Number n)
+
+abbrev pub named_new : WordText → Result UnitRef LineFault
+named_new w = or_fault BadAlias (not_zero (number_of 9999 w.bytes)) >>= λ n. Ok (Alias n)
+
+-- one unit more, in front
+abbrev pub and_then_units : Result UnitRef LineFault → Result (List UnitRef) LineFault → Result (List UnitRef) LineFault
+and_then_units unit units = unit >>= λ u. units >>= λ us. Ok (u ∷ us)
+
+unfoldable pub units_of : List WordText → Result (List UnitRef) LineFault
+units_of [] = Ok []
+units_of (w ∷ []) = if is_word (codes "NEW") w then Err MissingWord else and_then_units (numbered w) (Ok [])
+units_of (w ∷ v ∷ ws) = if is_word (codes "NEW") w then and_then_units (named_new v) (units_of ws) else and_then_units (numbered w) (units_of (v ∷ ws))
+
+-- one or more
+unfoldable pub some_units_at : List WordText → Result (List UnitRef) LineFault
+some_units_at [] = Err MissingWord
+some_units_at (w ∷ ws) = units_of (w ∷ ws)
+
+-- units read so far, with what the others give
+abbrev pub with_units : List UnitRef → Result (List UnitRef) LineFault → Result (List UnitRef) LineFault
+with_units front units = units >>= λ us. Ok (front ++ us)

@@ -1,0 +1,116 @@
+-- The rules of reading a mailing: of each line the first that fits says what it does.
+use Rattle.std.specs.Prelude.{◌≡◌, ℕ, ◌+◌, ◌++◌, Bool, true, false, List, [], ◌∷◌, codes, Option, Some, None, Ok, Err}
+use Rattle.std.specs.List.{list_all, flat_map}
+use Rattle.atl_tables.specs.Planet.{Planet}
+use Rattle.atl_orders.specs.declared.order.UnitRef.{UnitRef}
+use Rattle.atl_orders.specs.declared.order.UnitRef.TheVariants.{Number}
+use Rattle.atl_orders.specs.declared.fault.FaultyLine.{FaultyLine}
+use Rattle.atl_orders.specs.declared.fault.LineFault.{LineFault}
+use Rattle.atl_orders.specs.declared.fault.LineFault.TheVariants.{NoUnit, UnknownOrder, BadByte, BadAlias, NestedForm, EndAlone}
+use Rattle.atl_orders.specs.declared.verb.Verb.{Verb}
+use Rattle.atl_orders.specs.declared.reading.Keyword.{Keyword}
+use Rattle.atl_orders.specs.declared.reading.Keyword.TheVariants as keywords
+use Rattle.atl_orders.specs.declared.reading.Place.{Place}
+use Rattle.atl_orders.specs.declared.reading.Place.TheVariants.{Nowhere, At, Forming, Skipping}
+use Rattle.atl_orders.specs.Aliasing.{with_alias}
+use Rattle.atl_orders.specs.Words.{WordText, words, begins}
+use Rattle.atl_orders.specs.Operands.{number_at, alias_at}
+use Rattle.atl_orders.specs.Orders.{Said, form, said_by}
+use Rattle.atl_orders.specs.Reading.{is_plain, keyword_of, Effect, nothing, faulty, says, target, outside, Step, line_step}
+use Rattle.atl_orders.specs.Mailing.{EntrySaid, entry_of, fault_of, effects}
+
+-- what a line does, where the next one stands, and the aliases given so far
+abbrev pub step : Effect → Place → (ℕ → Bool) → Step
+step effect place given = record { effect = effect; place = place; given = given }
+
+-- the place outside the block that is open, if one is
+abbrev pub outer : Place → Option Place
+outer Nowhere = None
+outer (At n) = None
+outer (Forming parent alias) = Some (At parent)
+outer (Skipping parent) = Some (outside parent)
+
+-- the first word is this keyword
+abbrev pub Leads : WordText → Keyword → Type 0
+Leads w k = keyword_of w ≡ Some k
+
+-- a line with words, by its first word
+pub data WordsSay (world : Planet) (place : Place) (given : ℕ → Bool) (w : WordText) (ws : List WordText) (s : Step) : Type 0 where
+  -- UNIT: the unit is named, and a block ends; on a fault no unit is
+  unit_named : Leads w keywords.Unit → (n : ℕ) (rest : List WordText) → number_at ws ≡ Ok (n, rest)
+      → s ≡ step nothing (At n) given → WordsSay world place given w ws s
+  unit_faulty : Leads w keywords.Unit → (fault : LineFault) → number_at ws ≡ Err fault
+      → s ≡ step (faulty fault) Nowhere given → WordsSay world place given w ws s
+  -- END: the open block is closed
+  block_closed : Leads w keywords.End → (out : Place) → outer place ≡ Some out
+      → s ≡ step nothing out given → WordsSay world place given w ws s
+  end_alone : Leads w keywords.End → outer place ≡ None
+      → s ≡ step (faulty EndAlone) place given → WordsSay world place given w ws s
+  -- FORM: inside a block it is faulty, and the block goes on; another fault opens a skipped block
+  form_nested : Leads w keywords.Form → (out : Place) → outer place ≡ Some out
+      → s ≡ step (faulty NestedForm) place given → WordsSay world place given w ws s
+  form_nowhere : Leads w keywords.Form → place ≡ Nowhere
+      → s ≡ step (faulty NoUnit) (Skipping None) given → WordsSay world place given w ws s
+  form_faulty : Leads w keywords.Form → (n : ℕ) → place ≡ At n → (fault : LineFault) → alias_at ws ≡ Err fault
+      → s ≡ step (faulty fault) (Skipping (Some n)) given → WordsSay world place given w ws s
+  form_again : Leads w keywords.Form → (n : ℕ) → place ≡ At n
+      → (alias : ℕ) (rest : List WordText) → alias_at ws ≡ Ok (alias, rest) → given alias ≡ true
+      → s ≡ step (faulty BadAlias) (Skipping (Some n)) given → WordsSay world place given w ws s
+  form_new : Leads w keywords.Form → (n : ℕ) → place ≡ At n
+      → (alias : ℕ) (rest : List WordText) → alias_at ws ≡ Ok (alias, rest) → given alias ≡ false
+      → s ≡ step (says (Number n) (form alias)) (Forming n alias) (with_alias given alias) → WordsSay world place given w ws s
+  -- an order of the table: for the unit that is named, if its words have no fault
+  order_nowhere : (verb : Verb) → Leads w (keywords.Order verb) → target place ≡ None
+      → s ≡ step (faulty NoUnit) place given → WordsSay world place given w ws s
+  order_faulty : (verb : Verb) → Leads w (keywords.Order verb) → (unit : UnitRef) → target place ≡ Some unit
+      → (fault : LineFault) → said_by world verb ws ≡ Err fault
+      → s ≡ step (faulty fault) place given → WordsSay world place given w ws s
+  order_said : (verb : Verb) → Leads w (keywords.Order verb) → (unit : UnitRef) → target place ≡ Some unit
+      → (said : Said) → said_by world verb ws ≡ Ok said
+      → s ≡ step (says unit said) place given → WordsSay world place given w ws s
+  -- anything else
+  unknown : keyword_of w ≡ None
+      → s ≡ step (faulty UnknownOrder) place given → WordsSay world place given w ws s
+
+-- a line
+pub data LineSays (world : Planet) (place : Place) (given : ℕ → Bool) (line : List ℕ) (s : Step) : Type 0 where
+  bad_byte : list_all is_plain line ≡ false
+      → s ≡ step (faulty BadByte) place given → LineSays world place given line s
+  no_word : list_all is_plain line ≡ true → words line ≡ []
+      → s ≡ step nothing place given → LineSays world place given line s
+  some_words : list_all is_plain line ≡ true → (w : WordText) (ws : List WordText) → words line ≡ w ∷ ws
+      → WordsSay world place given w ws s → LineSays world place given line s
+
+-- the lines behind the header, from the one of this number on: their orders and their faults
+pub data BodySays (world : Planet) : ℕ → Place → (ℕ → Bool) → List (List ℕ) → List EntrySaid → List FaultyLine → Type 0 where
+  text_ended : (n : ℕ) (place : Place) (given : ℕ → Bool) → BodySays world n place given [] [] []
+  orders_ended : (n : ℕ) (place : Place) (given : ℕ → Bool) (line : List ℕ) (rest : List (List ℕ))
+      → begins (codes "#END") (words line) ≡ true → BodySays world n place given (line ∷ rest) [] []
+  one_line : (n : ℕ) (place : Place) (given : ℕ → Bool) (line : List ℕ) (rest : List (List ℕ))
+      → begins (codes "#END") (words line) ≡ false
+      → (s : Step) → LineSays world place given line s
+      → (entries : List EntrySaid) (faults : List FaultyLine) → BodySays world (n + 1) s.place s.given rest entries faults
+      → BodySays world n place given (line ∷ rest) (entry_of (n, s.effect) ++ entries) (fault_of (n, s.effect) ++ faults)
+
+-- what the function gives for a line fits the rules, and nothing else does
+abbrev pub LineRules : Type 0
+LineRules =
+    ((world : Planet) (place : Place) (given : ℕ → Bool) (line : List ℕ)
+    → LineSays world place given line (line_step world place given line))
+    × ((world : Planet) (place : Place) (given : ℕ → Bool) (line : List ℕ) (s : Step)
+    → LineSays world place given line s → s ≡ line_step world place given line)
+
+abbrev pub entries_from : Planet → ℕ → Place → (ℕ → Bool) → List (List ℕ) → List EntrySaid
+entries_from world n place given lines = flat_map entry_of (effects world n place given lines)
+
+abbrev pub faults_from : Planet → ℕ → Place → (ℕ → Bool) → List (List ℕ) → List FaultyLine
+faults_from world n place given lines = flat_map fault_of (effects world n place given lines)
+
+-- and so for all lines
+abbrev pub BodyRules : Type 0
+BodyRules =
+    ((world : Planet) (n : ℕ) (place : Place) (given : ℕ → Bool) (lines : List (List ℕ))
+    → BodySays world n place given lines (entries_from world n place given lines) (faults_from world n place given lines))
+    × ((world : Planet) (n : ℕ) (place : Place) (given : ℕ → Bool) (lines : List (List ℕ)) (entries : List EntrySaid) (faults : List FaultyLine)
+    → BodySays world n place given lines entries faults
+    → (entries ≡ entries_from world n place given lines) × (faults ≡ faults_from world n place given lines))

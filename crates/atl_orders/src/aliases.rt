@@ -1,0 +1,50 @@
+//! The aliases that a mailing has given.
+ghost use Rattle.std.specs.Prelude.{◌≡◌, ◌≤◌, ℕ, false, vec_len, slice_index_or, IfOk};
+
+use std::alloc::{AllocError, Global};
+
+/// The most that an alias may be.
+const LAST: usize = 9_999;
+
+/// So many times false.
+fn cleared(alloc: Global, count: usize) -> Result<Vec<bool>, AllocError>
+    ensures len { IfOk result (λ flags. vec_len flags ≡ count) }
+    ensures clear { IfOk result (λ flags. (k : ℕ) → slice_index_or flags.items k false ≡ false) }
+{
+    let flags = vec![in alloc; false; count]?;
+    Ok(flags)
+}
+
+/// Which aliases the FORM lines so far have given.
+#[derive(Drop)]
+pub struct Aliases {
+    given: Vec<bool>,
+    ghost each: { vec_len given ≡ 10000 },
+}
+
+impl Aliases {
+    ghost use Rattle.atl_orders.specs.Aliasing.{no_alias, with_alias, given_by};
+
+    /// No alias.
+    pub fn new(alloc: Global) -> Result<Aliases, AllocError>
+        ensures { IfOk result (λ made. given_by made ≡ no_alias) }
+    {
+        Ok(Aliases {
+            given: cleared(alloc, LAST + 1)?,
+        })
+    }
+
+    pub fn contains(&self, alias: u32) -> bool
+        requires { alias ≤ 9999 }
+        ensures { result ≡ given_by self.now alias }
+    {
+        self.given[alias as usize]
+    }
+
+    pub fn add(&mut self, alias: u32)
+        requires { alias ≤ 9999 }
+        ensures { given_by self.new ≡ with_alias (given_by self.old) alias }
+    {
+        self.given[alias as usize] = true;
+    }
+}

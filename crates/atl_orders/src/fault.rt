@@ -1,0 +1,125 @@
+//! What is wrong with a line, and why a text is no mailing.
+ghost use Rattle.std.specs.Prelude.{◌≡◌};
+ghost use Rattle.atl_orders.specs.declared.fault.MailFault.TheVariants.{Memory};
+
+use std::alloc::{AllocError, AllocFailed};
+
+/// What is wrong with a line. See docs/FORMATS.md, "Line faults".
+#[derive(Drop, Clone, Copy, Debug, PartialEq, Eq)]
+pub enum LineFault {
+    /// No unit is named for the order.
+    NoUnit,
+    /// The first word is no keyword of an order.
+    UnknownOrder,
+    /// A number was to stand here, in its range.
+    BadNumber,
+    /// Nothing has this name.
+    UnknownThing,
+    /// The line ends too early.
+    MissingWord,
+    /// A byte that no line may have.
+    BadByte,
+    /// No alias, or one that was given before.
+    BadAlias,
+    /// A FORM inside a block.
+    NestedForm,
+    /// An END without a block.
+    EndAlone,
+    /// None of the four directions.
+    BadDirection,
+    /// No name.
+    BadName,
+}
+
+impl LineFault {
+    ghost use Rattle.atl_orders.specs.Faulting.{fault_number, fault_name};
+
+    /// The fault's number, from 1 to 11.
+    pub fn number(self) -> u32
+        ensures { result ≡ fault_number self }
+    {
+        match self {
+            LineFault::NoUnit => 1,
+            LineFault::UnknownOrder => 2,
+            LineFault::BadNumber => 3,
+            LineFault::UnknownThing => 4,
+            LineFault::MissingWord => 5,
+            LineFault::BadByte => 6,
+            LineFault::BadAlias => 7,
+            LineFault::NestedForm => 8,
+            LineFault::EndAlone => 9,
+            LineFault::BadDirection => 10,
+            LineFault::BadName => 11,
+        }
+    }
+
+    /// The fault's name, as reports print it.
+    pub fn name(self) -> &'static str
+        ensures { result.now ≡ fault_name self }
+    {
+        match self {
+            LineFault::NoUnit => "NoUnit",
+            LineFault::UnknownOrder => "UnknownOrder",
+            LineFault::BadNumber => "BadNumber",
+            LineFault::UnknownThing => "UnknownThing",
+            LineFault::MissingWord => "MissingWord",
+            LineFault::BadByte => "BadByte",
+            LineFault::BadAlias => "BadAlias",
+            LineFault::NestedForm => "NestedForm",
+            LineFault::EndAlone => "EndAlone",
+            LineFault::BadDirection => "BadDirection",
+            LineFault::BadName => "BadName",
+        }
+    }
+}
+
+/// A line, by its number from 1 on over the whole text, and what is wrong with it.
+#[derive(Drop, Clone, Copy, Debug, PartialEq, Eq)]
+pub struct FaultyLine {
+    pub line: u32,
+    pub fault: LineFault,
+}
+
+/// Why a text is no mailing, or that there was no memory to read it. See docs/FORMATS.md, "Mailings".
+#[derive(Drop, Clone, Copy, Debug, PartialEq, Eq)]
+pub enum MailFault {
+    /// The text has more than 65,536 bytes.
+    TooLong,
+    /// No line begins with `#ATLANTIS`.
+    NoHeader,
+    /// The first line that does names no faction.
+    BadHeader,
+    Memory,
+}
+
+impl MailFault {
+    ghost use Rattle.atl_orders.specs.Faulting.{mail_fault_number};
+
+    /// The number of a refused text, from 1 to 3.
+    pub fn number(self) -> Option<u32>
+        ensures { result ≡ mail_fault_number self }
+    {
+        match self {
+            MailFault::TooLong => Some(1),
+            MailFault::NoHeader => Some(2),
+            MailFault::BadHeader => Some(3),
+            MailFault::Memory => None,
+        }
+    }
+}
+
+impl From<AllocError> for MailFault {
+    ghost from_gives = { λ _ e. e ≡ Memory };
+
+    fn from(_e: AllocError) -> MailFault {
+        MailFault::Memory
+    }
+}
+
+impl<T: Drop> From<AllocFailed<T>> for MailFault {
+    ghost from_gives = { λ _ e. e ≡ Memory };
+
+    fn from(_e: AllocFailed<T>) -> MailFault {
+        MailFault::Memory
+    }
+}

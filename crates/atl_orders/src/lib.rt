@@ -1,0 +1,23 @@
+//! Mailings: the orders that players write for a month, and what is wrong with their lines.
+#![tactic(auto)]
+
+mod aliases;
+mod fault;
+mod lines;
+mod mailing;
+mod operands;
+mod order;
+mod orders;
+mod reading;
+mod rules;
+mod verb;
+mod words;
+
+pub use fault::{FaultyLine, LineFault, MailFault};
+pub use mailing::{Entry, Mailing, read_mailing};
+pub use order::{Direction, NameKind, Order, Span, UnitRef};
+pub use rules::{readings_keep_bounds, rules_are_the_reading};
+pub use verb::Verb;
+
+#[cfg(test)]
+mod tests;

@@ -1,0 +1,51 @@
+//! The lines of a text.
+
+ghost use Rattle.std.specs.Prelude.{◌≡◌, ◌≤◌, ◌∷◌, length, IfSome};
+ghost use Rattle.std.specs.List.{position_or_len};
+ghost use Rattle.std.specs.Option.{option_copied};
+ghost use Rattle.atl_orders.specs.Lines.{is_feed, without_return, lines, lines_of_rest, left_size, StartsWith};
+ghost use Rattle.atl_orders.specs.Words.{EndsWith};
+
+/// Where the line feed is, or the length.
+#[tactic(auto, using(std::proofs::lemmas::List::Sums::position_or_len_is))]
+fn feed_at(bytes: &[u8]) -> usize
+    ensures value { result ≡ position_or_len is_feed bytes.now }
+    ensures within { result ≤ length bytes.now }
+{
+    for (i, byte) in bytes.iter().enumerate() {
+        if *byte == b'\n' {
+            return i;
+        }
+    }
+    bytes.len()
+}
+
+/// A line without a carriage return at its end.
+#[tactic(auto, using(crate::proofs::LineLaws::return_cut, crate::proofs::LineLaws::return_kept, crate::proofs::LineLaws::all_front, crate::proofs::LineLaws::take_front))]
+fn without_return(line: &[u8]) -> &[u8]
+    ensures value { result.now ≡ without_return line.now }
+    ensures front { StartsWith line.now result.now }
+{
+    let len = line.len();
+    if len > 0 && line[len - 1] == b'\r' {
+        return &line[..len - 1];
+    }
+    line
+}
+
+/// The first line of a text, and what follows its line feed.
+#[tactic(auto, using(crate::proofs::LineLaws::front_further, crate::proofs::LineLaws::take_front, crate::proofs::WordLaws::ends_at))]
+pub fn next_line(text: &[u8]) -> (&[u8], Option<&[u8]>)
+    ensures lines { lines text.now ≡ result.0.now ∷ lines_of_rest (option_copied result.1) }
+    ensures front { StartsWith text.now result.0.now }
+    ensures rest { IfSome (option_copied result.1) (EndsWith text.now) }
+    ensures shorter { left_size (option_copied result.1) ≤ length text.now }
+{
+    let end = feed_at(text);
+    let line = without_return(&text[..end]);
+    if end < text.len() {
+        (line, Some(&text[end + 1..]))
+    } else {
+        (line, None)
+    }
+}

@@ -1,0 +1,221 @@
+//! A mailing: its header, its lines, and what they say.
+ghost use Rattle.std.specs.Prelude.{List, ℕ, IfSome, ◌≡◌, ◌+◌, ◌<◌, ◌≤◌, ◌++◌, ◌^◌, length, IfOk, OnOk};
+ghost use Rattle.std.specs.List.{flat_map, slice_range};
+ghost use Rattle.atl_tables.specs.Lookup.{name_of};
+ghost use Rattle.std.specs.Option.{option_copied};
+ghost use Rattle.atl_orders.specs.declared.reading.Place.TheVariants.{Nowhere};
+ghost use Rattle.atl_orders.specs.Aliasing.{no_alias};
+ghost use Rattle.atl_orders.specs.Words.{words, EndsWith};
+ghost use Rattle.atl_orders.specs.Lines.{lines, left_size};
+ghost use Rattle.atl_orders.specs.Reading.{effect_of};
+ghost use Rattle.atl_orders.specs.Mailing.{faction_of, header_from, effects, entry_of, fault_of, headed, body_entries, reading, reading_of, IsReadWith, Reads};
+
+use crate::aliases::Aliases;
+use crate::fault::{FaultyLine, MailFault};
+use crate::lines::next_line;
+use crate::order::{Order, Span, UnitRef};
+use crate::reading::{Outcome, Place, read_line};
+use crate::words::{Cursor, begins, next_word, number};
+use atl_tables::lookup::letter_of;
+use atl_tables::{Sequence, Text, World};
+use std::alloc::{AllocError, Global};
+
+/// The most bytes that a mailing may have.
+pub const MOST_BYTES: usize = 65_536;
+
+/// An order for a unit.
+#[derive(Drop, Debug)]
+pub struct Entry {
+    /// The number of its line, from 1 on over the whole text.
+    pub line: u32,
+    /// The unit that is to carry it out; for FORM the parent.
+    pub target: UnitRef,
+    pub order: Order,
+}
+
+/// What a text says for a month.
+#[derive(Drop, Debug)]
+pub struct Mailing {
+    /// The number of the faction that it is of, from 1 to 9,999.
+    pub faction: u32,
+    /// The bytes that were read, which the names in orders are parts of.
+    pub text: Sequence<u8>,
+    /// The orders, by line.
+    pub entries: Sequence<Entry>,
+    /// What is wrong, by line.
+    pub faults: Sequence<FaultyLine>,
+}
+
+impl Mailing {
+    ghost use Rattle.std.specs.Prelude.{true};
+    ghost use Rattle.atl_tables.specs.Names.{name_ok};
+    ghost use Rattle.atl_orders.specs.Orders.{name_in};
+
+    /// A name in an order of this mailing: the part of the text that the span says, with `_` as a space where it is bare.
+    #[tactic(auto, using(crate::proofs::NamingLaws::name_is_text))]
+    pub fn name(&self, alloc: Global, span: Span) -> Result<Text, AllocError>
+        ensures { IfOk result (λ made.
+            name_ok (name_in self.now.text span) ≡ true → made ≡ name_in self.now.text span) }
+    {
+        let bytes = part(self.text.as_slice(), span.start, span.end);
+        let letters = letters_of(alloc, bytes, span.quoted)?;
+        Text::from_utf8(alloc, &letters)
+    }
+}
+
+/// The part of a text from one place up to another, as far as it is there.
+#[tactic(auto, using(std::proofs::lemmas::List::drop_min, std::proofs::lemmas::List::take_min, std::proofs::lemmas::List::take_rest))]
+fn part(text: &[u8], start: usize, end: usize) -> &[u8]
+    ensures { result.now ≡ slice_range text.now start end }
+{
+    let behind = &text[start.min(text.len())..];
+    &behind[..end.saturating_sub(start).min(behind.len())]
+}
+
+/// The letters of a name.
+fn letters_of(alloc: Global, bytes: &[u8], quoted: bool) -> Result<Vec<u8>, AllocError>
+    ensures { IfOk result (λ letters. letters.items ≡ name_of bytes.now quoted) }
+{
+    bytes
+        .iter()
+        .map(|byte| letter_of(*byte, quoted))
+        .collect(alloc)
+}
+
+/// The faction that a header names.
+fn faction_of(line: &[u8]) -> Option<u32>
+    ensures { result ≡ faction_of (words line.now) }
+{
+    let (_, rest) = next_word(line)?;
+    let (word, _) = next_word(rest)?;
+    match number(word.bytes, 9999) {
+        Some(n) if n != 0 => Some(n),
+        _ => None,
+    }
+}
+
+/// The faction, and what stands behind a header with the number of its first line.
+#[derive(Drop, Clone, Copy)]
+struct Header<'a> {
+    faction: u32,
+    next: u32,
+    rest: Option<&'a [u8]>,
+}
+
+/// The first header of a text.
+#[tactic(auto, using(crate::proofs::WordLaws::ends_further, crate::proofs::WordLaws::ends_with_all), unfolding(crate::specs::Mailing::header_from))]
+fn find_header(text: &[u8]) -> Result<Header<'_>, MailFault>
+    requires { length text.now ≤ 65536 }
+    ensures exact { Reads headed result (header_from 1 (lines text.now)) }
+    ensures rest { IfOk result (λ h. IfSome (option_copied h.rest) (EndsWith text.now)) }
+    ensures small { IfOk result (λ h. h.next + left_size (option_copied h.rest) ≤ 65538) }
+{
+    let mut rest = Some(text);
+    let mut number = 1;
+    while let Some(left) = rest {
+        let (line, after) = next_line(left);
+        if begins(line, b"#ATLANTIS") {
+            return match faction_of(line) {
+                None => Err(MailFault::BadHeader),
+                Some(faction) => Ok(Header {
+                    faction,
+                    next: number + 1,
+                    rest: after,
+                }),
+            };
+        }
+        rest = after;
+        number += 1;
+    }
+    Err(MailFault::NoHeader)
+}
+
+/// What the lines behind a header say.
+#[derive(Drop)]
+struct Body {
+    entries: Sequence<Entry>,
+    faults: Sequence<FaultyLine>,
+}
+
+impl Body {
+    ghost use Rattle.atl_orders.specs.Mailing.{body_entries};
+
+    /// Notes what a line does.
+    fn note(&mut self, line: u32, outcome: Outcome) -> Result<(), AllocError>
+        ensures entries { OnOk result ((text : List ℕ) → body_entries text self.new
+            ≡ body_entries text self.old ++ entry_of (line, effect_of text outcome)) }
+        ensures faults { OnOk result ((text : List ℕ) → self.new.faults
+            ≡ self.old.faults ++ fault_of (line, effect_of text outcome)) }
+    {
+        match outcome {
+            Outcome::Nothing => {}
+            Outcome::Faulty(fault) => self.faults.push(FaultyLine { line, fault })?,
+            Outcome::Says(target, order) => self.entries.push(Entry {
+                line,
+                target,
+                order,
+            })?,
+        }
+        Ok(())
+    }
+}
+
+/// What the lines behind a header say, up to the end.
+#[tactic(auto, using(crate::proofs::LineLaws::line_place, crate::proofs::WordLaws::ends_further, crate::proofs::LineLaws::starts_shorter, crate::proofs::WordLaws::ends_shorter), unfolding(crate::specs::Mailing::effects))]
+fn read_body(alloc: Global, world: &World, text: &[u8], header: Header) -> Result<Body, AllocError>
+    requires small { header.next + left_size (option_copied header.rest) < 2 ^ 32 }
+    requires rest { IfSome (option_copied header.rest) (EndsWith text.now) }
+    ensures entries { IfOk result (λ b. body_entries text.now b
+        ≡ flat_map entry_of (effects world.now header.entry.next Nowhere no_alias (headed header.entry).rest)) }
+    ensures faults { IfOk result (λ b. b.faults
+        ≡ flat_map fault_of (effects world.now header.entry.next Nowhere no_alias (headed header.entry).rest)) }
+{
+    let mut body = Body {
+        entries: Sequence::new(alloc),
+        faults: Sequence::new(alloc),
+    };
+    let mut aliases = Aliases::new(alloc)?;
+    let mut place = Place::Nowhere;
+    let mut number = header.next;
+    let mut rest = header.rest;
+    while let Some(left) = rest {
+        let (line, after) = next_line(left);
+        if begins(line, b"#END") {
+            return Ok(body);
+        }
+        let line = Cursor {
+            text,
+            rest: line,
+            end: text.len() - left.len() + line.len(),
+        };
+        let (outcome, next) = read_line(alloc, world, place, &mut aliases, line)?;
+        body.note(number, outcome)?;
+        place = next;
+        rest = after;
+        number += 1;
+    }
+    Ok(body)
+}
+
+/// Reads the orders of a mailing. The text may have any bytes; it is kept as it is. TooLong comes for more than 65,536
+/// bytes, else NoHeader where no line begins with `#ATLANTIS`, else BadHeader where the first that does names no faction
+/// from 1 to 9,999, and Memory at any point. A faulty line gives no order, and the other lines stand. See docs/RULES.md,
+/// "Reading a mailing".
+#[tactic(auto, unfolding(crate::specs::Mailing::reading))]
+pub fn read_mailing(alloc: Global, world: &World, text: &[u8]) -> Result<Mailing, MailFault>
+    ensures reading { Reads reading_of result (reading world.now text.now) }
+    ensures kept { IfOk result (λ m. m.text ≡ text.now) }
+    ensures read { IfOk result (IsReadWith world.now) }
+{
+    if text.len() > MOST_BYTES {
+        return Err(MailFault::TooLong);
+    }
+    let header = find_header(text)?;
+    let Body { entries, faults } = read_body(alloc, world, text, header)?;
+    Ok(Mailing {
+        faction: header.faction,
+        text: Sequence::from_vec(Vec::from_slice(alloc, text)?),
+        entries,
+        faults,
+    })
+}

@@ -1,0 +1,144 @@
+//! What the words behind a keyword are read as. Each call reads the words at the start of the rest of a line, and
+//! answers the first fault from left to right.
+ghost use Rattle.std.specs.Prelude.{◌≡◌, ◌<◌, ◌≤◌, IfOk};
+ghost use Rattle.atl_orders.specs.Words.{words, word_text, StandsIn, EndsWith};
+ghost use Rattle.atl_orders.specs.Operands.{Gives, word_at, count_at, number_at, alias_at, unit_at, item_at, skill_at, kind_at, direction_of, direction_at, units_of};
+
+use crate::fault::LineFault;
+use crate::order::{Direction, UnitRef};
+use crate::words::{Word, is_same, next_word, number};
+use atl_tables::{Sequence, World};
+use std::alloc::{AllocError, Global};
+
+/// The next word, and what follows it.
+pub fn word_at(line: &[u8]) -> Result<(Word<'_>, &[u8]), LineFault>
+    ensures word { Gives (λ x. (word_text x.0, words x.1.now)) result (word_at (words line.now)) }
+    ensures stands { IfOk result (λ x. StandsIn line.now x.0.bytes.now x.0.behind) }
+    ensures rest { IfOk result (λ x. EndsWith line.now x.1.now) }
+{
+    next_word(line).ok_or(LineFault::MissingWord)
+}
+
+/// The next word as a number from 1 up to the most, else this fault.
+#[tactic(auto, unfolding(crate::specs::Operands::count_at))]
+fn count_at(line: &[u8], most: u32, fault: LineFault) -> Result<(u32, &[u8]), LineFault>
+    requires { most < 1000000000 }
+    ensures count { Gives (λ x. (x.0, words x.1.now)) result (count_at most fault (words line.now)) }
+    ensures within { IfOk result (λ x. x.0 ≤ most) }
+{
+    let (word, rest) = word_at(line)?;
+    match number(word.bytes, most) {
+        Some(n) if n != 0 => Ok((n, rest)),
+        _ => Err(fault),
+    }
+}
+
+/// The next word as a number from 1 to 999,999,999.
+pub fn number_at(line: &[u8]) -> Result<(u32, &[u8]), LineFault>
+    ensures { Gives (λ x. (x.0, words x.1.now)) result (number_at (words line.now)) }
+{
+    count_at(line, 999_999_999, LineFault::BadNumber)
+}
+
+/// The next word as an alias, from 1 to 9,999.
+pub fn alias_at(line: &[u8]) -> Result<(u32, &[u8]), LineFault>
+    ensures alias { Gives (λ x. (x.0, words x.1.now)) result (alias_at (words line.now)) }
+    ensures within { IfOk result (λ x. x.0 ≤ 9999) }
+{
+    count_at(line, 9999, LineFault::BadAlias)
+}
+
+/// The next words as a unit: a number, or NEW and an alias.
+#[tactic(auto, unfolding(crate::specs::Operands::unit_at))]
+pub fn unit_at(line: &[u8]) -> Result<(UnitRef, &[u8]), LineFault>
+    ensures { Gives (λ x. (x.0, words x.1.now)) result (unit_at (words line.now)) }
+{
+    let (word, rest) = word_at(line)?;
+    if is_same(word.bytes, b"NEW") {
+        let (alias, rest) = alias_at(rest)?;
+        return Ok((UnitRef::Alias(alias), rest));
+    }
+    let (number, rest) = number_at(line)?;
+    Ok((UnitRef::Number(number), rest))
+}
+
+/// The next word as an item of the world.
+#[tactic(auto, unfolding(crate::specs::Operands::item_at))]
+pub fn item_at(world: &World, line: &[u8]) -> Result<u16, LineFault>
+    ensures { Gives (λ x. x) result (item_at world.now (words line.now)) }
+{
+    let (word, _) = word_at(line)?;
+    world
+        .item_named(word.bytes, word.quoted)
+        .ok_or(LineFault::UnknownThing)
+}
+
+/// The next word as a skill of the world.
+#[tactic(auto, unfolding(crate::specs::Operands::skill_at))]
+pub fn skill_at(world: &World, line: &[u8]) -> Result<u16, LineFault>
+    ensures { Gives (λ x. x) result (skill_at world.now (words line.now)) }
+{
+    let (word, _) = word_at(line)?;
+    world
+        .skill_named(word.bytes, word.quoted)
+        .ok_or(LineFault::UnknownThing)
+}
+
+/// The next word as a kind of structure.
+#[tactic(auto, unfolding(crate::specs::Operands::kind_at))]
+pub fn kind_at(world: &World, line: &[u8]) -> Result<u16, LineFault>
+    ensures { Gives (λ x. x) result (kind_at world.now (words line.now)) }
+{
+    let (word, _) = word_at(line)?;
+    world
+        .kind_named(word.bytes, word.quoted)
+        .ok_or(LineFault::UnknownThing)
+}
+
+/// A direction by its name.
+fn direction_of(word: Word) -> Option<Direction>
+    ensures { result ≡ direction_of (word_text word.entry) }
+{
+    if is_same(word.bytes, b"NORTH") {
+        Some(Direction::North)
+    } else if is_same(word.bytes, b"SOUTH") {
+        Some(Direction::South)
+    } else if is_same(word.bytes, b"EAST") {
+        Some(Direction::East)
+    } else if is_same(word.bytes, b"WEST") {
+        Some(Direction::West)
+    } else {
+        None
+    }
+}
+
+/// The next word as a direction.
+#[tactic(auto, unfolding(crate::specs::Operands::direction_at))]
+pub fn direction_at(line: &[u8]) -> Result<Direction, LineFault>
+    ensures { Gives (λ x. x) result (direction_at (words line.now)) }
+{
+    let (word, _) = word_at(line)?;
+    direction_of(word).ok_or(LineFault::BadDirection)
+}
+
+/// Units up to the line's end, or the first fault among them.
+#[tactic(auto, using(crate::proofs::UnitLaws::one_more, crate::proofs::UnitLaws::fault_stays, crate::proofs::UnitLaws::rest_shorter, crate::proofs::UnitLaws::no_more))]
+pub fn units_of(
+    alloc: Global,
+    line: &[u8],
+) -> Result<Result<Sequence<UnitRef>, LineFault>, AllocError>
+    ensures { IfOk result (λ read. Gives (λ units. units) read (units_of (words line.now))) }
+{
+    let mut units = Sequence::new(alloc);
+    let mut rest = line;
+    'words: while let Some(_) = next_word(rest) {
+        match unit_at(rest) {
+            Err(fault) => return Ok(Err(fault)),
+            Ok((unit, after)) => {
+                units.push(unit)?;
+                rest = after;
+            }
+        }
+    }
+    Ok(Ok(units))
+}

@@ -1,0 +1,275 @@
+//! What each order says by the words behind its verb.
+ghost use Rattle.std.specs.Prelude.{List, ℕ, ◌≡◌, IfOk, length};
+ghost use Rattle.std.specs.List.{list_all};
+ghost use Rattle.atl_tables.specs.Names.{is_name_byte, has_open_ends, name_ok};
+ghost use Rattle.atl_tables.specs.Lookup.{name_of};
+ghost use Rattle.atl_orders.specs.Words.{words, word_text, IsCursor};
+ghost use Rattle.atl_orders.specs.Operands.{Gives};
+ghost use Rattle.atl_orders.specs.Orders.{said, kind_of_name, form_at, name_at, guard_at, enter_at, promote_at, give_at, pay_at, transfer_at, recruit_at, quit_at, move_at, sail_at, build_at, teach_at, study_at, produce_at, said_by};
+
+use crate::fault::LineFault;
+use crate::operands::{
+    alias_at, direction_at, item_at, kind_at, number_at, skill_at, unit_at, units_of, word_at,
+};
+use crate::order::{NameKind, Order, Span};
+use crate::verb::Verb;
+use crate::words::{Cursor, Word, is_same, next_word, number};
+use atl_tables::World;
+use atl_tables::lookup::letter_of;
+use std::alloc::{AllocError, Global};
+
+/// FORM and its alias.
+#[tactic(auto, unfolding(crate::specs::Orders::form_at))]
+fn form_at(line: &[u8]) -> Result<Order, LineFault>
+    ensures { (text : List ℕ) → Gives (said text) result (form_at (words line.now)) }
+{
+    let (alias, _) = alias_at(line)?;
+    Ok(Order::Form(alias))
+}
+
+/// Whether a word names something by bytes that a name may have.
+fn has_name_bytes(word: Word) -> bool
+    ensures { result ≡ list_all is_name_byte (name_of word.entry.bytes.now word.entry.quoted) }
+{
+    let quoted = word.quoted;
+    word.bytes
+        .iter()
+        .map(|byte| letter_of(*byte, quoted))
+        .all(|byte| 32 <= byte && byte <= 126 && byte != b'"')
+}
+
+/// Whether no space is at either end of what a word names.
+fn has_open_ends(word: Word) -> bool
+    ensures { result ≡ has_open_ends (name_of word.entry.bytes.now word.entry.quoted) }
+{
+    let bytes = word.bytes;
+    if bytes.is_empty() {
+        return true;
+    }
+    let first = letter_of(bytes[0], word.quoted);
+    let last = letter_of(bytes[bytes.len() - 1], word.quoted);
+    first != b' ' && last != b' '
+}
+
+/// Whether a word may be the name of something.
+fn is_name(word: Word) -> bool
+    ensures { result ≡ name_ok (name_of word.entry.bytes.now word.entry.quoted) }
+{
+    let len = word.bytes.len();
+    1 <= len && len <= 40 && has_open_ends(word) && has_name_bytes(word)
+}
+
+/// What the first word behind NAME says that it names.
+fn kind_of_name(word: Word) -> Option<NameKind>
+    ensures { result ≡ kind_of_name (word_text word.entry) }
+{
+    if is_same(word.bytes, b"UNIT") {
+        Some(NameKind::Unit)
+    } else if is_same(word.bytes, b"FACTION") {
+        Some(NameKind::Faction)
+    } else if is_same(word.bytes, b"BUILDING") {
+        Some(NameKind::Building)
+    } else if is_same(word.bytes, b"SHIP") {
+        Some(NameKind::Ship)
+    } else {
+        None
+    }
+}
+
+/// NAME, what is named, and its name.
+#[tactic(auto, using(crate::proofs::WordLaws::place_fits, crate::proofs::WordLaws::place_behind, crate::proofs::WordLaws::stands_shorter, crate::proofs::WordLaws::ends_shorter), unfolding(crate::specs::Orders::name_at))]
+fn name_at(cursor: Cursor) -> Result<Order, LineFault>
+    requires { IsCursor cursor }
+    ensures { Gives (said cursor.entry.text.now) result (name_at (words cursor.entry.rest.now)) }
+{
+    let (sort, rest) = word_at(cursor.rest)?;
+    let what = kind_of_name(sort).ok_or(LineFault::UnknownThing)?;
+    let (word, _) = word_at(rest)?;
+    if !is_name(word) {
+        return Err(LineFault::BadName);
+    }
+    let start = cursor.end - word.behind;
+    let name = Span {
+        start,
+        end: start + word.bytes.len(),
+        quoted: word.quoted,
+    };
+    Ok(Order::Name { what, name })
+}
+
+/// GUARD and 0 or 1.
+#[tactic(auto, unfolding(crate::specs::Orders::guard_at))]
+fn guard_at(line: &[u8]) -> Result<Order, LineFault>
+    ensures { (text : List ℕ) → Gives (said text) result (guard_at (words line.now)) }
+{
+    let (word, _) = word_at(line)?;
+    let flag = number(word.bytes, 1).ok_or(LineFault::BadNumber)?;
+    Ok(Order::Guard(flag == 1))
+}
+
+/// ENTER and a structure.
+#[tactic(auto, unfolding(crate::specs::Orders::enter_at))]
+fn enter_at(line: &[u8]) -> Result<Order, LineFault>
+    ensures { (text : List ℕ) → Gives (said text) result (enter_at (words line.now)) }
+{
+    let (structure, _) = number_at(line)?;
+    Ok(Order::Enter(structure))
+}
+
+/// PROMOTE and a unit.
+#[tactic(auto, unfolding(crate::specs::Orders::promote_at))]
+fn promote_at(line: &[u8]) -> Result<Order, LineFault>
+    ensures { (text : List ℕ) → Gives (said text) result (promote_at (words line.now)) }
+{
+    let (unit, _) = unit_at(line)?;
+    Ok(Order::Promote(unit))
+}
+
+/// GIVE, a unit, an amount and an item.
+#[tactic(auto, unfolding(crate::specs::Orders::give_at))]
+fn give_at(world: &World, line: &[u8]) -> Result<Order, LineFault>
+    ensures { (text : List ℕ) → Gives (said text) result (give_at world.now (words line.now)) }
+{
+    let (to, rest) = unit_at(line)?;
+    let (amount, rest) = number_at(rest)?;
+    let item = item_at(world, rest)?;
+    Ok(Order::Give { to, amount, item })
+}
+
+/// PAY, a unit and an amount.
+#[tactic(auto, unfolding(crate::specs::Orders::pay_at))]
+fn pay_at(line: &[u8]) -> Result<Order, LineFault>
+    ensures { (text : List ℕ) → Gives (said text) result (pay_at (words line.now)) }
+{
+    let (to, rest) = unit_at(line)?;
+    let (amount, _) = number_at(rest)?;
+    Ok(Order::Pay { to, amount })
+}
+
+/// TRANSFER, a unit and a number of men.
+#[tactic(auto, unfolding(crate::specs::Orders::transfer_at))]
+fn transfer_at(line: &[u8]) -> Result<Order, LineFault>
+    ensures { (text : List ℕ) → Gives (said text) result (transfer_at (words line.now)) }
+{
+    let (to, rest) = unit_at(line)?;
+    let (men, _) = number_at(rest)?;
+    Ok(Order::Transfer { to, men })
+}
+
+/// RECRUIT and a number of men.
+#[tactic(auto, unfolding(crate::specs::Orders::recruit_at))]
+fn recruit_at(line: &[u8]) -> Result<Order, LineFault>
+    ensures { (text : List ℕ) → Gives (said text) result (recruit_at (words line.now)) }
+{
+    let (men, _) = number_at(line)?;
+    Ok(Order::Recruit(men))
+}
+
+/// QUIT and the faction.
+#[tactic(auto, unfolding(crate::specs::Orders::quit_at))]
+fn quit_at(line: &[u8]) -> Result<Order, LineFault>
+    ensures { (text : List ℕ) → Gives (said text) result (quit_at (words line.now)) }
+{
+    let (faction, _) = number_at(line)?;
+    Ok(Order::Quit(faction))
+}
+
+/// MOVE and a direction.
+#[tactic(auto, unfolding(crate::specs::Orders::move_at))]
+fn move_at(line: &[u8]) -> Result<Order, LineFault>
+    ensures { (text : List ℕ) → Gives (said text) result (move_at (words line.now)) }
+{
+    let direction = direction_at(line)?;
+    Ok(Order::Move(direction))
+}
+
+/// SAIL and a direction.
+#[tactic(auto, unfolding(crate::specs::Orders::sail_at))]
+fn sail_at(line: &[u8]) -> Result<Order, LineFault>
+    ensures { (text : List ℕ) → Gives (said text) result (sail_at (words line.now)) }
+{
+    let direction = direction_at(line)?;
+    Ok(Order::Sail(direction))
+}
+
+/// BUILD, with or without a kind.
+#[tactic(auto, unfolding(crate::specs::Orders::build_at))]
+fn build_at(world: &World, line: &[u8]) -> Result<Order, LineFault>
+    ensures { (text : List ℕ) → Gives (said text) result (build_at world.now (words line.now)) }
+{
+    if next_word(line).is_none() {
+        return Ok(Order::Build(None));
+    }
+    let kind = kind_at(world, line)?;
+    Ok(Order::Build(Some(kind)))
+}
+
+/// TEACH and units up to the line's end.
+#[tactic(auto, unfolding(crate::specs::Orders::teach_at, crate::specs::Operands::some_units_at))]
+fn teach_at(alloc: Global, line: &[u8]) -> Result<Result<Order, LineFault>, AllocError>
+    ensures { IfOk result (λ read. (text : List ℕ) → Gives (said text) read (teach_at (words line.now))) }
+{
+    if next_word(line).is_none() {
+        return Ok(Err(LineFault::MissingWord));
+    }
+    match units_of(alloc, line)? {
+        Ok(units) => Ok(Ok(Order::Teach(units))),
+        Err(fault) => Ok(Err(fault)),
+    }
+}
+
+/// STUDY and a skill.
+#[tactic(auto, unfolding(crate::specs::Orders::study_at))]
+fn study_at(world: &World, line: &[u8]) -> Result<Order, LineFault>
+    ensures { (text : List ℕ) → Gives (said text) result (study_at world.now (words line.now)) }
+{
+    let skill = skill_at(world, line)?;
+    Ok(Order::Study(skill))
+}
+
+/// PRODUCE and an item.
+#[tactic(auto, unfolding(crate::specs::Orders::produce_at))]
+fn produce_at(world: &World, line: &[u8]) -> Result<Order, LineFault>
+    ensures { (text : List ℕ) → Gives (said text) result (produce_at world.now (words line.now)) }
+{
+    let item = item_at(world, line)?;
+    Ok(Order::Produce(item))
+}
+
+/// What an order says by the words behind its verb, or the first fault among them.
+pub fn said_by(
+    alloc: Global,
+    world: &World,
+    verb: Verb,
+    cursor: Cursor,
+) -> Result<Result<Order, LineFault>, AllocError>
+    requires { IsCursor cursor }
+    ensures { IfOk result (λ read. Gives (said cursor.entry.text.now) read
+        (said_by world.now verb (words cursor.entry.rest.now))) }
+{
+    let line = cursor.rest;
+    match verb {
+        Verb::Form => Ok(form_at(line)),
+        Verb::Name => Ok(name_at(cursor)),
+        Verb::Guard => Ok(guard_at(line)),
+        Verb::Enter => Ok(enter_at(line)),
+        Verb::Leave => Ok(Ok(Order::Leave)),
+        Verb::Promote => Ok(promote_at(line)),
+        Verb::Give => Ok(give_at(world, line)),
+        Verb::Pay => Ok(pay_at(line)),
+        Verb::Transfer => Ok(transfer_at(line)),
+        Verb::Tax => Ok(Ok(Order::Tax)),
+        Verb::Recruit => Ok(recruit_at(line)),
+        Verb::Quit => Ok(quit_at(line)),
+        Verb::Move => Ok(move_at(line)),
+        Verb::Sail => Ok(sail_at(line)),
+        Verb::Build => Ok(build_at(world, line)),
+        Verb::Teach => {
+            let read = teach_at(alloc, line)?;
+            Ok(read)
+        }
+        Verb::Study => Ok(study_at(world, line)),
+        Verb::Produce => Ok(produce_at(world, line)),
+        Verb::Work => Ok(Ok(Order::Work)),
+    }
+}

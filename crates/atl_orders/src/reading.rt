@@ -1,0 +1,191 @@
+//! What a line does.
+ghost use Rattle.std.specs.Prelude.{◌≡◌, ℕ, List, IfOk};
+ghost use Rattle.std.specs.List.{list_all};
+ghost use Rattle.atl_orders.specs.Aliasing.{given_by};
+ghost use Rattle.atl_orders.specs.Words.{words, word_text, IsCursor};
+ghost use Rattle.atl_orders.specs.Operands.{number_at};
+ghost use Rattle.atl_orders.specs.Orders.{said_by};
+ghost use Rattle.atl_orders.specs.Reading.{is_plain, keyword_of, effect_of, unit_step, end_step, form_step, target, order_effect, line_step};
+
+use crate::aliases::Aliases;
+use crate::fault::LineFault;
+use crate::operands::{alias_at, number_at};
+use crate::order::{Order, UnitRef};
+use crate::orders::said_by;
+use crate::verb::Verb;
+use crate::words::{Cursor, Word, is_same, next_word};
+use atl_tables::World;
+use std::alloc::{AllocError, Global};
+
+/// What a line begins with.
+#[derive(Drop, Clone, Copy, Debug, PartialEq, Eq)]
+pub enum Keyword {
+    Unit,
+    End,
+    Form,
+    Order(Verb),
+}
+
+/// For whom the orders of a line are.
+#[derive(Drop, Clone, Copy, Debug, PartialEq, Eq)]
+pub enum Place {
+    /// No unit is named.
+    Nowhere,
+    /// This unit's.
+    At(u32),
+    /// A new unit's, in the block of a FORM without fault.
+    Forming { parent: u32, alias: u32 },
+    /// Nobody's, in the block of a faulty FORM, behind which the unit outside is named again, if there is one.
+    Skipping(Option<u32>),
+}
+
+/// What a line does beside moving the place.
+#[derive(Drop, Debug)]
+pub enum Outcome {
+    Nothing,
+    Faulty(LineFault),
+    Says(UnitRef, Order),
+}
+
+/// Whether a line has only bytes that a mailing may have.
+fn is_plain(line: &[u8]) -> bool
+    ensures { result ≡ list_all is_plain line.now }
+{
+    line.iter()
+        .all(|byte| *byte == b'\t' || (32 <= *byte && *byte <= 126))
+}
+
+/// The keyword that a word is.
+fn keyword_of(word: Word) -> Option<Keyword>
+    ensures { result ≡ keyword_of (word_text word.entry) }
+{
+    let bytes = word.bytes;
+    if is_same(bytes, b"UNIT") {
+        Some(Keyword::Unit)
+    } else if is_same(bytes, b"END") {
+        Some(Keyword::End)
+    } else if is_same(bytes, b"FORM") {
+        Some(Keyword::Form)
+    } else {
+        Verb::of_word(word).map(Keyword::Order)
+    }
+}
+
+/// A UNIT line, with the words behind its keyword.
+#[tactic(auto, unfolding(crate::specs::Reading::unit_step))]
+fn unit_line(line: &[u8]) -> (Outcome, Place)
+    ensures { (given : _) (text : List ℕ) → unit_step given (number_at (words line.now))
+        ≡ record { effect = effect_of text result.0; place = result.1; given = given } }
+{
+    match number_at(line) {
+        Ok((number, _)) => (Outcome::Nothing, Place::At(number)),
+        Err(fault) => (Outcome::Faulty(fault), Place::Nowhere),
+    }
+}
+
+/// An END line.
+#[tactic(auto, unfolding(crate::specs::Reading::end_step))]
+fn end_line(place: Place) -> (Outcome, Place)
+    ensures { (given : _) (text : List ℕ) → end_step place given
+        ≡ record { effect = effect_of text result.0; place = result.1; given = given } }
+{
+    match place {
+        Place::Nowhere | Place::At(_) => (Outcome::Faulty(LineFault::EndAlone), place),
+        Place::Forming { parent, alias: _ } => (Outcome::Nothing, Place::At(parent)),
+        Place::Skipping(Some(parent)) => (Outcome::Nothing, Place::At(parent)),
+        Place::Skipping(None) => (Outcome::Nothing, Place::Nowhere),
+    }
+}
+
+/// A FORM line, with the words behind its keyword.
+#[tactic(auto, unfolding(crate::specs::Reading::form_step, crate::specs::Reading::block_step))]
+fn form_line(place: Place, aliases: &mut Aliases, line: &[u8]) -> (Outcome, Place)
+    ensures { (text : List ℕ) → form_step place (given_by aliases.old) (words line.now)
+        ≡ record { effect = effect_of text result.0; place = result.1; given = given_by aliases.new } }
+{
+    let parent = match place {
+        Place::Nowhere => return (Outcome::Faulty(LineFault::NoUnit), Place::Skipping(None)),
+        Place::Forming { .. } | Place::Skipping(_) => {
+            return (Outcome::Faulty(LineFault::NestedForm), place);
+        }
+        Place::At(parent) => parent,
+    };
+    let skipping = Place::Skipping(Some(parent));
+    match alias_at(line) {
+        Err(fault) => (Outcome::Faulty(fault), skipping),
+        Ok((alias, _)) => {
+            if aliases.contains(alias) {
+                return (Outcome::Faulty(LineFault::BadAlias), skipping);
+            }
+            aliases.add(alias);
+            let order = Order::Form(alias);
+            (
+                Outcome::Says(UnitRef::Number(parent), order),
+                Place::Forming { parent, alias },
+            )
+        }
+    }
+}
+
+/// For whom an order is.
+fn target(place: Place) -> Option<UnitRef>
+    ensures { result ≡ target place }
+{
+    match place {
+        Place::Nowhere | Place::Skipping(_) => None,
+        Place::At(number) => Some(UnitRef::Number(number)),
+        Place::Forming { parent: _, alias } => Some(UnitRef::Alias(alias)),
+    }
+}
+
+/// An order's line, with the words behind its verb.
+fn order_line(
+    alloc: Global,
+    world: &World,
+    place: Place,
+    verb: Verb,
+    cursor: Cursor,
+) -> Result<Outcome, AllocError>
+    requires { IsCursor cursor }
+    ensures { IfOk result (λ outcome. effect_of cursor.entry.text.now outcome
+        ≡ order_effect (target place) (said_by world.now verb (words cursor.entry.rest.now))) }
+{
+    let Some(unit) = target(place) else {
+        return Ok(Outcome::Faulty(LineFault::NoUnit));
+    };
+    match said_by(alloc, world, verb, cursor)? {
+        Ok(order) => Ok(Outcome::Says(unit, order)),
+        Err(fault) => Ok(Outcome::Faulty(fault)),
+    }
+}
+
+/// What one whole line does, and the place for the next one. It may add to the aliases.
+#[tactic(auto, using(crate::proofs::WordLaws::place_behind, crate::proofs::WordLaws::ends_shorter), unfolding(crate::specs::Reading::line_step, crate::specs::Reading::words_step, crate::specs::Reading::keyword_step))]
+pub fn read_line(
+    alloc: Global,
+    world: &World,
+    place: Place,
+    aliases: &mut Aliases,
+    line: Cursor,
+) -> Result<(Outcome, Place), AllocError>
+    requires { IsCursor line }
+    ensures { IfOk result (λ r. line_step world.now place (given_by aliases.old) line.entry.rest.now
+        ≡ record { effect = effect_of line.entry.text.now r.0; place = r.1; given = given_by aliases.new }) }
+{
+    if !is_plain(line.rest) {
+        return Ok((Outcome::Faulty(LineFault::BadByte), place));
+    }
+    let Some((word, rest)) = next_word(line.rest) else {
+        return Ok((Outcome::Nothing, place));
+    };
+    match keyword_of(word) {
+        None => Ok((Outcome::Faulty(LineFault::UnknownOrder), place)),
+        Some(Keyword::Unit) => Ok(unit_line(rest)),
+        Some(Keyword::End) => Ok(end_line(place)),
+        Some(Keyword::Form) => Ok(form_line(place, aliases, rest)),
+        Some(Keyword::Order(verb)) => {
+            let outcome = order_line(alloc, world, place, verb, Cursor { rest, ..line })?;
+            Ok((outcome, place))
+        }
+    }
+}

@@ -1,0 +1,102 @@
+//! The verbs of orders.
+ghost use Rattle.std.specs.Prelude.{◌≡◌, find};
+ghost use Rattle.atl_orders.specs.Words.{word_text, is_word};
+
+use crate::words::{Word, is_same};
+
+/// What an order does.
+#[derive(Drop, Clone, Copy, Debug, PartialEq, Eq)]
+pub enum Verb {
+    Form,
+    Name,
+    Guard,
+    Enter,
+    Leave,
+    Promote,
+    Give,
+    Pay,
+    Transfer,
+    Tax,
+    Recruit,
+    Quit,
+    Move,
+    Sail,
+    Build,
+    Teach,
+    Study,
+    Produce,
+    Work,
+}
+
+/// The verbs of the order table, which FORM isn't in.
+const TABLE: [Verb; 18] = [
+    Verb::Name,
+    Verb::Guard,
+    Verb::Enter,
+    Verb::Leave,
+    Verb::Promote,
+    Verb::Give,
+    Verb::Pay,
+    Verb::Transfer,
+    Verb::Tax,
+    Verb::Recruit,
+    Verb::Quit,
+    Verb::Move,
+    Verb::Sail,
+    Verb::Build,
+    Verb::Teach,
+    Verb::Study,
+    Verb::Produce,
+    Verb::Work,
+];
+
+impl Verb {
+    ghost use Rattle.atl_orders.specs.Verbs.{keyword, table, verb_of};
+
+    /// The keyword in capitals, as reports print it.
+    pub fn keyword(self) -> &'static str
+        ensures { result.now ≡ keyword self }
+    {
+        match self {
+            Verb::Form => "FORM",
+            Verb::Name => "NAME",
+            Verb::Guard => "GUARD",
+            Verb::Enter => "ENTER",
+            Verb::Leave => "LEAVE",
+            Verb::Promote => "PROMOTE",
+            Verb::Give => "GIVE",
+            Verb::Pay => "PAY",
+            Verb::Transfer => "TRANSFER",
+            Verb::Tax => "TAX",
+            Verb::Recruit => "RECRUIT",
+            Verb::Quit => "QUIT",
+            Verb::Move => "MOVE",
+            Verb::Sail => "SAIL",
+            Verb::Build => "BUILD",
+            Verb::Teach => "TEACH",
+            Verb::Study => "STUDY",
+            Verb::Produce => "PRODUCE",
+            Verb::Work => "WORK",
+        }
+    }
+
+    /// The verb of the order table whose keyword a word is.
+    fn listed(word: Word) -> Option<Verb>
+        ensures { result ≡ find (λ verb. is_word (keyword verb) (word_text word.entry)) table }
+    {
+        TABLE
+            .iter()
+            .copied()
+            .find(|verb| is_same(word.bytes, verb.keyword().as_bytes()))
+    }
+
+    /// The verb of the order table that a word is, in any case; BOARD is read as ENTER.
+    pub fn of_word(word: Word) -> Option<Verb>
+        ensures { result ≡ verb_of (word_text word.entry) }
+    {
+        if is_same(word.bytes, b"BOARD") {
+            return Some(Verb::Enter);
+        }
+        Verb::listed(word)
+    }
+}

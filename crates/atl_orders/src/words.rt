@@ -1,0 +1,163 @@
+//! The words of a line.
+
+ghost use Rattle.std.specs.Prelude.{◌≡◌, ◌≤◌, ◌<◌, ◌∷◌, [], MatchOption, IfSome, length, slice_index, false};
+ghost use Rattle.std.specs.List.{position_or_len};
+ghost use Rattle.std.specs.Str.{str_eq_ignore_ascii_case};
+ghost use Rattle.atl_orders.specs.Words.{is_quote, is_blank, ends_word, words, word_text, begins, number_of, StandsIn, EndsWith};
+
+/// A word of a line.
+#[derive(Drop, Clone, Copy, Debug)]
+pub struct Word<'a> {
+    pub bytes: &'a [u8],
+    pub quoted: bool,
+    /// How many bytes the line has from the first of these on.
+    pub behind: usize,
+}
+
+/// The rest of a line in a text.
+#[derive(Drop, Clone, Copy, Debug)]
+pub struct Cursor<'a> {
+    pub text: &'a [u8],
+    pub rest: &'a [u8],
+    /// Where in the text the line ends.
+    pub end: usize,
+}
+
+/// Whether two texts are equal, ignoring ASCII case.
+pub fn is_same(word: &[u8], name: &[u8]) -> bool
+    ensures { result ≡ str_eq_ignore_ascii_case word.now name.now }
+{
+    word.eq_ignore_ascii_case(name)
+}
+
+fn is_quote(byte: u8) -> bool
+    ensures { result ≡ is_quote byte }
+{
+    byte == b'"'
+}
+
+/// Where the quote is, or the length.
+#[tactic(auto, using(std::proofs::lemmas::List::Sums::position_or_len_is))]
+fn quote_at(bytes: &[u8]) -> usize
+    ensures value { result ≡ position_or_len is_quote bytes.now }
+    ensures within { result ≤ length bytes.now }
+{
+    for (i, byte) in bytes.iter().enumerate() {
+        if is_quote(*byte) {
+            return i;
+        }
+    }
+    bytes.len()
+}
+
+/// Space and tab.
+pub fn is_blank(byte: u8) -> bool
+    ensures { result ≡ is_blank byte }
+{
+    byte == b' ' || byte == b'\t'
+}
+
+/// Whether a bare word ends at a byte.
+fn ends_word(byte: u8) -> bool
+    ensures { result ≡ ends_word byte }
+{
+    byte == b' ' || byte == b'\t' || byte == b'"' || byte == b';'
+}
+
+/// Where a bare word ends.
+#[tactic(auto, using(std::proofs::lemmas::List::Sums::position_or_len_is))]
+fn end_at(bytes: &[u8]) -> usize
+    ensures value { result ≡ position_or_len ends_word bytes.now }
+    ensures within { result ≤ length bytes.now }
+{
+    for (i, byte) in bytes.iter().enumerate() {
+        if ends_word(*byte) {
+            return i;
+        }
+    }
+    bytes.len()
+}
+
+/// A word after its opening quote, and what follows its closing one.
+fn quoted_word(after: &[u8]) -> (Word<'_>, &[u8])
+    ensures words { words (34 ∷ after.now) ≡ word_text result.0 ∷ words result.1.now }
+    ensures stands { StandsIn after.now result.0.bytes.now result.0.behind }
+    ensures rest { EndsWith after.now result.1.now }
+{
+    let (bytes, behind) = after.split_at(quote_at(after));
+    let closing = behind.len().min(1);
+    let word = Word {
+        bytes,
+        quoted: true,
+        behind: after.len(),
+    };
+    (word, &behind[closing..])
+}
+
+/// A bare word, and what follows it.
+fn bare_word(line: &[u8]) -> (Word<'_>, &[u8])
+    requires some { 0 < length line.now }
+    requires bare { ends_word (slice_index line.now 0) ≡ false }
+    ensures words { words line.now ≡ word_text result.0 ∷ words result.1.now }
+    ensures stands { StandsIn line.now result.0.bytes.now result.0.behind }
+    ensures rest { EndsWith line.now result.1.now }
+{
+    let (bytes, behind) = line.split_at(end_at(line));
+    let word = Word {
+        bytes,
+        quoted: false,
+        behind: line.len(),
+    };
+    (word, behind)
+}
+
+/// The first word of a line, and what follows it.
+#[tactic(auto, using(crate::proofs::WordLaws::comment_at, crate::proofs::WordLaws::blank_at, crate::proofs::WordLaws::end_of_words))]
+pub fn next_word(line: &[u8]) -> Option<(Word<'_>, &[u8])>
+    ensures words { MatchOption result (words line.now ≡ [])
+        (λ found. words line.now ≡ word_text found.0 ∷ words found.1.now) }
+    ensures stands { IfSome result (λ found. StandsIn line.now found.0.bytes.now found.0.behind) }
+    ensures rest { IfSome result (λ found. EndsWith line.now found.1.now) }
+{
+    for (i, byte) in line.iter().enumerate() {
+        if *byte == b';' {
+            return None;
+        }
+        if *byte == b'"' {
+            return Some(quoted_word(&line[i + 1..]));
+        }
+        if !is_blank(*byte) {
+            return Some(bare_word(&line[i..]));
+        }
+    }
+    None
+}
+
+/// Whether this is the first word of a line, in any case.
+pub fn begins(line: &[u8], name: &[u8]) -> bool
+    ensures { result ≡ begins name.now (words line.now) }
+{
+    match next_word(line) {
+        None => false,
+        Some((word, _)) => is_same(word.bytes, name),
+    }
+}
+
+/// The number that a word writes, if it is at most this one.
+pub fn number(bytes: &[u8], most: u32) -> Option<u32>
+    requires { most < 1000000000 }
+    ensures { result ≡ number_of most bytes.now }
+{
+    let most = u64::from(most);
+    let mut value: u64 = 0;
+    for byte in bytes {
+        if !byte.is_ascii_digit() {
+            return None;
+        }
+        value = (10 * value + u64::from(*byte - b'0')).min(most + 1);
+    }
+    if bytes.is_empty() || most < value {
+        return None;
+    }
+    Some(value as u32)
+}
