@@ -1,0 +1,83 @@
+-- Rising lists of numbers, beside the maps whose numbers they list.
+use Rattle.std.proofs.Common.{◌≡◌, ℕ, suc, ◌+◌, T, not, ◌≤◌, ◌<◌, Bool, true, false, cond, nat_le, List, [], ◌∷◌, ◌++◌, map, filter, take, drop, length, Option, Some, None, refl, sym, ap, subst, ◌∙◌, arith}
+use Rattle.std.specs.List.{position_or_len}
+use Rattle.std.specs.declared.cmp.Ordering.{Ordering}
+use Rattle.std.specs.declared.cmp.Ordering.TheVariants.{Less, Equal, Greater}
+use Rattle.std.specs.Ordering.{nat_cmp, is_lt, is_eq, eq_by_cmp}
+use Rattle.std.specs.Cmp.{nat_cmp_total, ranked, tied_itself}
+use Rattle.std.specs.FinMap.{FinMap, get, insert, remove, find, put, entries, entries_sorted, entries-insert, get-entries, get-remove, is_sorted, nat_cmp-IsAntisymmetric}
+use Rattle.std.specs.FinMap.Entries.{by_order, below_all}
+use Rattle.std.proofs.lemmas.Bool.{and_parts, false≢true}
+use Rattle.std.proofs.lemmas.Bool.Decides.{nat_tests}
+use Rattle.atl_tables.specs.Sums.{numbers_where}
+use Rattle.atl_tables.proofs.SumLaws.{chosen-cons}
+use Rattle.atl_state.specs.Ordered.{first_above, put_number}
+
+-- ---- as recursions
+put_step : (t : Bool) (n x : ℕ) (xs : List ℕ) → take (cond (not t) (1 + first_above n xs) 0) (x ∷ xs) ++ n ∷ drop (cond (not t) (1 + first_above n xs) 0) (x ∷ xs) ≡ cond t (n ∷ x ∷ xs) (x ∷ put_number n xs)
+unfolding put_number
+put_step true n x xs = refl
+put_step false n x xs = let e : 1 + first_above n xs ≡ suc (first_above n xs) = omega arith in ap (λ i. take i (x ∷ xs) ++ n ∷ drop i (x ∷ xs)) e
+
+pub put_number-cons : (n x : ℕ) (xs : List ℕ) → put_number n (x ∷ xs) ≡ cond (nat_le n x) (n ∷ x ∷ xs) (x ∷ put_number n xs)
+unfolding put_number
+put_number-cons n x xs = put_step (nat_le n x) n x xs
+
+put_number-nil : (n : ℕ) → put_number n [] ≡ n ∷ []
+unfolding put_number
+put_number-nil n = refl
+
+itself : (n : ℕ) → nat_le n n ≡ true
+itself n = grind (arith, nat_tests)
+
+-- ---- the numbers whose values pass a test
+below : (k q : ℕ) → is_lt (nat_cmp k q) ≡ true → k < q
+below k q h =
+    elim (nat_cmp k q) as (λ r. nat_cmp k q ≡ r → is_lt r ≡ true → k < q) [
+      | Less ↦ λ e _. ranked k q Less (sym e)
+      | Equal ↦ λ e g. absurd (false≢true g)
+      | Greater ↦ λ e g. absurd (false≢true g)
+    ] refl h
+
+ties : (k : ℕ) → T (eq_by_cmp nat_cmp k k)
+ties k = subst (λ o. T (is_eq o)) (sym (tied_itself nat_cmp_total k)) tt
+
+is_true : (b : Bool) → T b → b ≡ true
+is_true true h = refl
+is_true false h = absurd h
+
+some_none : {X : Type 0} (x : X) {P : Type 0} → Some x ≡ None → P
+some_none x e = cc
+
+first_holds : (n x : ℕ) (t : Bool) (xs ys : List ℕ) → n < x → put_number n ys ≡ n ∷ ys → put_number n (cond t (x ∷ ys) ys) ≡ n ∷ cond t (x ∷ ys) ys
+first_holds n x true xs ys l h = let e : nat_le n x ≡ true = grind (arith, nat_tests) in put_number-cons n x ys ∙ ap (λ b. cond b (n ∷ x ∷ ys) (x ∷ put_number n ys)) e
+first_holds n x false xs ys l h = h
+
+later_step : (n x : ℕ) (t : Bool) (ys zs : List ℕ) → x < n → zs ≡ put_number n ys → cond t (x ∷ zs) zs ≡ put_number n (cond t (x ∷ ys) ys)
+later_step n x true ys zs l h = let e : nat_le n x ≡ false = grind (arith, nat_tests) in ap (λ q. x ∷ q) h ∙ sym (put_number-cons n x ys ∙ ap (λ b. cond b (n ∷ x ∷ ys) (x ∷ put_number n ys)) e)
+later_step n x false ys zs l h = h
+
+module _ {X : Type 0} (p : X → Bool) where
+  abbrev chosen : List (ℕ × X) → List ℕ
+  chosen es = map (λ e. e.0) (filter (λ e. p e.1) es)
+
+  -- a number below all comes first
+  put_first : (k : ℕ) (es : List (ℕ × X)) → is_sorted nat_cmp es ≡ true → (e : ℕ × X) → k < e.0 → below_all nat_cmp e.0 es ≡ true → put_number k (chosen (e ∷ es)) ≡ k ∷ chosen (e ∷ es)
+  put_first k [] s e l b = ap (put_number k) (chosen-cons p e []) ∙ first_holds k e.0 (p e.1) [] [] l (put_number-nil k) ∙ ap (λ ns. k ∷ ns) (sym (chosen-cons p e []))
+  put_first k (f ∷ es) s e l b =
+      let rest : put_number k (chosen (f ∷ es)) ≡ k ∷ chosen (f ∷ es) = put_first k es (and_parts _ _ s).1 f (omega (arith, below e.0 f.0 (and_parts _ _ b).0)) (and_parts _ _ s).0 in
+      ap (put_number k) (chosen-cons p e (f ∷ es)) ∙ first_holds k e.0 (p e.1) [] (chosen (f ∷ es)) l rest ∙ ap (λ ns. k ∷ ns) (sym (chosen-cons p e (f ∷ es)))
+
+  chosen-put_new : (k : ℕ) (v : X) → p v ≡ true → (es : List (ℕ × X)) → is_sorted nat_cmp es ≡ true → find nat_cmp k es ≡ None → chosen (put nat_cmp k v es) ≡ put_number k (chosen es)
+  chosen-put_new k v h [] s g = chosen-cons p (k, v) [] ∙ ap (λ b. cond b (k ∷ []) []) h ∙ sym (put_number-nil k)
+  chosen-put_new k v h (e ∷ es) s g =
+      elim (nat_cmp k e.0) as (λ r. nat_cmp k e.0 ≡ r → cond (is_eq r) (Some e.1) (find nat_cmp k es) ≡ None → chosen (by_order r ((k, v) ∷ e ∷ es) ((e.0, v) ∷ es) (e ∷ put nat_cmp k v es)) ≡ put_number k (chosen (e ∷ es))) [
+        | Less ↦ λ l _. chosen-cons p (k, v) (e ∷ es) ∙ ap (λ b. cond b (k ∷ chosen (e ∷ es)) (chosen (e ∷ es))) h ∙ sym (put_first k es (and_parts _ _ s).1 e (ranked k e.0 Less (sym l)) (and_parts _ _ s).0)
+        | Equal ↦ λ _ g. some_none e.1 g
+        | Greater ↦ λ l g. chosen-cons p e (put nat_cmp k v es) ∙ later_step k e.0 (p e.1) (chosen es) (chosen (put nat_cmp k v es)) (ranked k e.0 Greater (sym l)) (chosen-put_new k v h es (and_parts _ _ s).1 g) ∙ ap (put_number k) (sym (chosen-cons p e es))
+      ] refl g
+
+  -- a new number is put at its place
+  pub numbers_where-insert_new : (m : FinMap nat_cmp X) (k : ℕ) (v : X) → get m k ≡ None → p v ≡ true → numbers_where p (insert m k v) ≡ put_number k (numbers_where p m)
+  numbers_where-insert_new m k v fresh h =
+      ap chosen (entries-insert nat_cmp_total m k v) ∙ chosen-put_new k v h (entries m) (is_true _ (entries_sorted m)) (sym (get-entries m k) ∙ fresh)

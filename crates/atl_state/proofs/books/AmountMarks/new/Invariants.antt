@@ -1,0 +1,6 @@
+use Rattle.std.proofs.Common.{◌≡◌, false}
+use Rattle.std.specs.Prelude.{replicate}
+use Rattle.atl_state.proofs.books.AmountMarks.new.Given as goal
+
+abbrev pub invariant-loop-made : goal.invariant-loop-made
+invariant-loop-made l = l.rows.items ≡ replicate l._made (replicate 13 false)

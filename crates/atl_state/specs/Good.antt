@@ -1,0 +1,28 @@
+-- What is true of every campaign that commands reach.
+use Rattle.std.specs.Prelude.{◌≡◌, ◌≤◌, ◌+◌, ◌*◌, ℕ, Some, None}
+use Rattle.std.specs.FinMap.{get, len}
+use Rattle.atl_tables.specs.Planet.{Planet}
+use Rattle.atl_state.specs.declared.books.Entry.{Entry}
+use Rattle.atl_state.specs.declared.books.Thing.{Thing}
+use Rattle.atl_state.specs.declared.records.Faction.{Faction}
+use Rattle.atl_state.specs.Books.{amount_in, IsGrid, IsWithin}
+use Rattle.atl_state.specs.Founding.{things_of}
+use Rattle.atl_state.specs.State.{State}
+
+-- no amount of the books is greater in size
+abbrev pub amount_bound : State → ℕ
+amount_bound c = 200000000000000 * (c.month + 1) + 1000000000 * len c.factions
+
+pub record IsGood (w : Planet) (c : State) : Type 0 where
+  pub month : c.month ≤ 9999
+  pub few_factions : len c.factions ≤ 9999
+  pub few_units : len c.units ≤ 10000
+  pub few_regions : len c.regions ≤ 2500
+  pub next_faction : c.next_faction ≡ len c.factions + 1
+  pub next_unit_least : 1 ≤ c.next_unit
+  pub next_unit_most : c.next_unit ≤ 1000000000
+  pub numbered : (n : ℕ) (f : Faction) → get c.factions n ≡ Some f → f.number ≡ n
+  pub factions_new : (n : ℕ) → c.next_faction ≤ n → get c.factions n ≡ None
+  pub units_new : (n : ℕ) → c.next_unit ≤ n → get c.units n ≡ None
+  pub grid : IsGrid (things_of w) c.books
+  pub amounts : (e : Entry) (t : Thing) → IsWithin (amount_bound c) (amount_in c.books e t)

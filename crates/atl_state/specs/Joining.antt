@@ -1,0 +1,63 @@
+-- What joining makes of a campaign.
+use Rattle.std.specs.Prelude.{◌≡◌, ◌+◌, ◌%◌, ◌||◌, ◌++◌, List, ℕ, pos, Bool, false, nat_le, nat_lt, nat_eq, codes, length, slice_index, if◌then◌else◌, Result, Ok, Err}
+use Rattle.std.specs.List.{list_any}
+use Rattle.std.specs.Fmt.{decimal}
+use Rattle.std.specs.Cmp.Lexicographic.{pointwise}
+use Rattle.std.specs.FinMap.{insert, entries, len, empty}
+use Rattle.atl_tables.specs.Planet.{Planet, land_of}
+use Rattle.atl_state.specs.declared.books.Entry.TheVariants.{Joining}
+use Rattle.atl_state.specs.declared.books.Thing.TheVariants.{Money, People}
+use Rattle.atl_state.specs.declared.records.Faction.{Faction}
+use Rattle.atl_state.specs.declared.records.Unit.{Unit}
+use Rattle.atl_state.specs.declared.records.JoinFault.{JoinFault}
+use Rattle.atl_state.specs.declared.records.JoinFault.TheVariants.{NameTaken, Full, Memory}
+use Rattle.atl_state.specs.Books.{with_booked}
+use Rattle.atl_state.specs.State.{State}
+
+-- some faction ever joined under this name
+abbrev pub name_taken : State → List ℕ → Bool
+name_taken c name = list_any (λ e. pointwise nat_eq e.1.joined_as name) (entries c.factions)
+
+-- no faction, or no unit, more can come
+abbrev pub is_full : State → Bool
+is_full c = (nat_le 9999 (len c.factions) || nat_le 10000 (len c.units)) || nat_lt 999999999 c.next_unit
+
+-- where a faction begins: the land region that the word picks, counted from 0 by number
+abbrev pub home_of : Planet → ℕ → ℕ
+home_of w word = slice_index (land_of w) (word % length (land_of w))
+
+abbrev pub new_faction : ℕ → List ℕ → List ℕ → Faction
+new_faction number name pass = record { number = number; joined_as = name; name = name; pass = pass; gone = false }
+
+-- one man with the start money
+abbrev pub first_unit : Planet → ℕ → State → Unit
+first_unit w word c = record {
+  faction = c.next_faction;
+  region = home_of w word;
+  structure = 0;
+  holding = record { name = codes "Unit " ++ decimal c.next_unit; men = 1; money = w.rules.start_money; guard = false; items = empty; days = empty };
+}
+
+-- the campaign with one faction more and its unit, and what they bring booked
+unfoldable pub joined : Planet → List ℕ → List ℕ → ℕ → State → State
+joined w name pass word c = record c {
+  next_faction = c.next_faction + 1;
+  next_unit = c.next_unit + 1;
+  factions = insert c.factions c.next_faction (new_faction c.next_faction name pass);
+  units = insert c.units c.next_unit (first_unit w word c);
+  books = with_booked (with_booked c.books Joining Money (pos w.rules.start_money)) Joining People (pos 1);
+}
+
+-- what joining makes of a campaign, and the numbers of the faction and its unit
+unfoldable pub join_of : Planet → List ℕ → List ℕ → ℕ → State → Result (State × (ℕ × ℕ)) JoinFault
+join_of w name pass word c =
+    if name_taken c name then Err NameTaken
+    else (if is_full c then Err Full
+    else Ok (joined w name pass word c, (c.next_faction, c.next_unit)))
+
+-- what a call of `join` may answer and leave
+abbrev pub Joins : Planet → List ℕ → List ℕ → ℕ → State → Result (ℕ × ℕ) JoinFault → State → Type 0
+Joins w name pass word old (Ok numbers) new = join_of w name pass word old ≡ Ok (new, numbers)
+Joins w name pass word old (Err NameTaken) new = (join_of w name pass word old ≡ Err NameTaken) × (new ≡ old)
+Joins w name pass word old (Err Full) new = (join_of w name pass word old ≡ Err Full) × (new ≡ old)
+Joins w name pass word old (Err Memory) new = new ≡ old

@@ -1,0 +1,11 @@
+pub mod Books
+pub mod Founding
+pub mod Good
+pub mod Held
+pub mod Joining
+pub mod Lending
+pub mod Marking
+pub mod Marks
+pub mod Ordered
+pub mod State
+pub mod Totals

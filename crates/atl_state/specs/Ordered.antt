@@ -1,0 +1,11 @@
+-- Rising lists of numbers, as numbers come.
+use Rattle.std.specs.Prelude.{ℕ, nat_le, List, ◌∷◌, ◌++◌, take, drop}
+use Rattle.std.specs.List.{position_or_len}
+
+-- the place of the first number that is not below another
+abbrev pub first_above : ℕ → List ℕ → ℕ
+first_above n xs = position_or_len (nat_le n) xs
+
+-- the list with a number at its place
+unfoldable pub put_number : ℕ → List ℕ → List ℕ
+put_number n xs = take (first_above n xs) xs ++ n ∷ drop (first_above n xs) xs

@@ -1,0 +1,157 @@
+//! What the books say: signed amounts by entry and thing.
+ghost use Rattle.std.specs.Prelude.{◌≡◌, ◌<◌, ◌+ℤ◌, IfOk, length, replicate, false};
+ghost use Rattle.std.specs.Int.{w64};
+ghost use Rattle.std.specs.Int.RustNames.{FitsSigned};
+ghost use Rattle.atl_state.specs.Books.{entry_place, thing_place, amount_in, with_booked, no_amounts};
+ghost use Rattle.atl_state.specs.Marks.{amount_marked};
+
+use std::alloc::{AllocError, Global};
+use std::marker::Model;
+
+/// Why an amount changed.
+#[derive(Drop, Clone, Copy, Debug, PartialEq, Eq)]
+pub enum Entry {
+    Founding,
+    Joining,
+    Income,
+    Wages,
+    Recruiting,
+    Study,
+    Upkeep,
+    Lost,
+    Births,
+    Starved,
+    Left,
+    Made,
+    Used,
+}
+
+/// What is booked.
+#[derive(Drop, Clone, Copy, Debug, PartialEq, Eq)]
+pub enum Thing {
+    Money,
+    People,
+    Item(u16),
+}
+
+/// The place of an entry in a row.
+pub(crate) fn entry_place(entry: Entry) -> usize
+    ensures place { result ≡ entry_place entry }
+    ensures small { result < 13 }
+{
+    match entry {
+        Entry::Founding => 0,
+        Entry::Joining => 1,
+        Entry::Income => 2,
+        Entry::Wages => 3,
+        Entry::Recruiting => 4,
+        Entry::Study => 5,
+        Entry::Upkeep => 6,
+        Entry::Lost => 7,
+        Entry::Births => 8,
+        Entry::Starved => 9,
+        Entry::Left => 10,
+        Entry::Made => 11,
+        Entry::Used => 12,
+    }
+}
+
+/// The place of a thing's row.
+pub(crate) fn thing_place(thing: Thing) -> usize
+    ensures { result ≡ thing_place thing }
+{
+    match thing {
+        Thing::Money => 0,
+        Thing::People => 1,
+        Thing::Item(item) => 2 + usize::from(item),
+    }
+}
+
+/// A row of amounts for each thing.
+#[derive(Drop)]
+pub struct Books {
+    rows: Vec<[i64; 13]>,
+}
+
+impl Model for Books {
+    ghost use Rattle.std.specs.Prelude.{List, ℤ};
+
+    ghost Value = { List (List ℤ) };
+
+    ghost view = { λ a. a.rows.items };
+}
+
+impl Books {
+    /// Books of so many things, all 0.
+    pub fn new(alloc: Global, things: usize) -> Result<Books, AllocError>
+        ensures { IfOk result (λ made. made ≡ no_amounts things) }
+    {
+        let mut rows = Vec::new(alloc);
+        for _made in 0..things {
+            rows.push([0; 13])?;
+        }
+        Ok(Books { rows })
+    }
+
+    pub fn len(&self) -> usize
+        ensures { result ≡ length self.now }
+    {
+        self.rows.len()
+    }
+
+    pub fn amount(&self, entry: Entry, thing: Thing) -> i64
+        requires { thing_place thing < length self.now }
+        ensures { result ≡ amount_in self.now entry thing }
+    {
+        self.rows[thing_place(thing)][entry_place(entry)]
+    }
+
+    /// Adds an amount under an entry. It takes no memory.
+    pub fn book(&mut self, entry: Entry, thing: Thing, amount: i64)
+        requires there { thing_place thing < length self.old }
+        requires fits { FitsSigned w64 (amount_in self.old entry thing +ℤ amount) }
+        ensures { self.new ≡ with_booked self.old entry thing amount }
+    {
+        let row = thing_place(thing);
+        let place = entry_place(entry);
+        self.rows[row][place] += amount;
+    }
+}
+
+/// For each amount whether it changed.
+#[derive(Drop)]
+pub(crate) struct AmountMarks {
+    rows: Vec<[bool; 13]>,
+}
+
+impl Model for AmountMarks {
+    ghost use Rattle.std.specs.Prelude.{List, Bool};
+
+    ghost Value = { List (List Bool) };
+
+    ghost view = { λ a. a.rows.items };
+}
+
+impl AmountMarks {
+    /// Nothing marked.
+    pub(crate) fn new(alloc: Global, things: usize) -> Result<AmountMarks, AllocError>
+        ensures { IfOk result (λ made. made ≡ replicate things (replicate 13 false)) }
+    {
+        let mut rows = Vec::new(alloc);
+        for _made in 0..things {
+            rows.push([false; 13])?;
+        }
+        Ok(AmountMarks { rows })
+    }
+
+    /// Marks an amount. It takes no memory.
+    pub(crate) fn mark(&mut self, entry: Entry, thing: Thing)
+        ensures { self.new ≡ amount_marked self.old entry thing }
+    {
+        let row = thing_place(thing);
+        let place = entry_place(entry);
+        if row < self.rows.len() {
+            self.rows[row][place] = true;
+        }
+    }
+}

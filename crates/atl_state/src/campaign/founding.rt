@@ -1,0 +1,86 @@
+//! How a campaign begins.
+ghost use Rattle.std.specs.Prelude.{◌≡◌, ◌≤◌, ◌+◌, IsTrue, IfOk, length, pos};
+ghost use Rattle.std.specs.FinMap as map;
+ghost use Rattle.atl_tables.specs.Names.{pass_ok};
+ghost use Rattle.atl_tables.specs.Sums.{sum_over, mapped};
+ghost use Rattle.atl_state.specs.declared.books.Entry.TheVariants.{Founding};
+ghost use Rattle.atl_state.specs.declared.books.Thing.TheVariants.{Money, People};
+ghost use Rattle.atl_state.specs.Books.{no_amounts, with_booked};
+ghost use Rattle.atl_state.specs.Totals.{kept, Balances};
+ghost use Rattle.atl_state.specs.Founding.{founded_of, founded_region};
+ghost use Rattle.atl_state.specs.Good.{IsGood};
+
+use super::Campaign;
+use crate::books::{AmountMarks, Books, Entry, Thing};
+use crate::records::Region;
+use crate::totals::regions_total;
+use atl_tables::{Numbered, RegionPlan, Text, Tracked, World};
+use std::alloc::{AllocError, Global};
+
+/// The regions as they are founded.
+fn regions_made(alloc: Global, plans: &Numbered<RegionPlan>) -> Result<Tracked<Region>, AllocError>
+    ensures { IfOk result (λ regions. regions.values ≡ mapped founded_region plans.now) }
+{
+    let mut regions = Numbered::new(alloc);
+    for (number, plan) in plans.iter() {
+        let region = Region {
+            peasants: plan.peasants,
+            money: plan.money,
+        };
+        regions.insert(number, region)?;
+    }
+    Tracked::of(alloc, regions)
+}
+
+/// What the books say at founding, for so many things.
+fn founding_books(
+    alloc: Global,
+    things: usize,
+    regions: &Tracked<Region>,
+) -> Result<Books, AllocError>
+    requires few { length (map.entries regions.now.values) ≤ 2500 }
+    requires some { 2 ≤ things }
+    ensures money { IfOk result (λ _. sum_over (λ r. kept Money r) regions.now.values ≤ 100000000000000) }
+    ensures people { IfOk result (λ _. sum_over (λ r. kept People r) regions.now.values ≤ 100000000000000) }
+    ensures value { IfOk result (λ books. books ≡ with_booked (with_booked (no_amounts things) Founding Money (pos (sum_over (λ r. kept Money r) regions.now.values))) Founding People (pos (sum_over (λ r. kept People r) regions.now.values))) }
+{
+    let mut books = Books::new(alloc, things)?;
+    let money = regions_total(regions, Thing::Money);
+    let people = regions_total(regions, Thing::People);
+    books.book(Entry::Founding, Thing::Money, money as i64);
+    books.book(Entry::Founding, Thing::People, people as i64);
+    Ok(books)
+}
+
+/// A campaign as it is founded: month 0 is closed, the regions are as the world has them, and nobody is there. The
+/// books say what the regions hold. See docs/RULES.md, "Founding".
+pub fn founded(alloc: Global, world: &World, pass: &[u8]) -> Result<Campaign, AllocError>
+    requires pass { IsTrue (pass_ok pass.now) }
+    ensures definition { IfOk result (λ c. c.what ≡ founded_of world.now pass.now) }
+    ensures good { IfOk result (λ c. IsGood world.now c.what) }
+    ensures balances { IfOk result (λ c. Balances c.what) }
+{
+    let pass = Text::from_utf8(alloc, pass)?;
+    let regions = regions_made(alloc, world.regions())?;
+    let things = 2 + world.items().len();
+    let books = founding_books(alloc, things, &regions)?;
+    let amounts_marked = AmountMarks::new(alloc, things)?;
+    Ok(Campaign {
+        alloc,
+        month: 0,
+        pass,
+        next_faction: 1,
+        next_unit: 1,
+        next_structure: 1,
+        factions: Tracked::new(alloc),
+        regions,
+        units: Tracked::new(alloc),
+        structures: Tracked::new(alloc),
+        mail: Tracked::new(alloc),
+        reports: Tracked::new(alloc),
+        books,
+        amounts_marked,
+        row_marked: false,
+        lists: Numbered::new(alloc),
+    })
+}

@@ -1,0 +1,221 @@
+//! How a faction joins.
+ghost use Rattle.std.specs.Prelude.{◌≡◌, ◌≤◌, ◌<◌, ◌++◌, IsTrue, IfOk, OnOk, OnErr, None, codes, false, length, nat_eq, pos};
+ghost use Rattle.std.specs.Cmp.Lexicographic.{pointwise};
+ghost use Rattle.std.specs.FinMap as map;
+ghost use Rattle.std.specs.Fmt.{decimal};
+ghost use Rattle.std.specs.List.{list_any};
+ghost use Rattle.std.specs.Str.{IsUtf8};
+ghost use Rattle.atl_tables.specs.Names.{name_ok, pass_ok};
+ghost use Rattle.atl_tables.specs.Planet.{IsWorld};
+ghost use Rattle.atl_state.specs.declared.books.Entry.TheVariants.{Joining};
+ghost use Rattle.atl_state.specs.declared.books.Thing.TheVariants.{Money, People};
+ghost use Rattle.atl_state.specs.Books.{amount_in, with_booked, IsSmall};
+ghost use Rattle.atl_state.specs.Good.{IsGood};
+ghost use Rattle.atl_state.specs.Joining.{name_taken, is_full, home_of, new_faction, joined, Joins};
+ghost use Rattle.atl_state.specs.Marking.{join_marked};
+ghost use Rattle.atl_state.specs.Ordered.{put_number};
+ghost use Rattle.atl_state.specs.State.{list_of, with_unit};
+ghost use Rattle.atl_state.specs.Totals.{Balances};
+ghost use Rattle.std.specs.Prelude.{true};
+
+use super::Campaign;
+use crate::books::{Books, Entry, Thing};
+use crate::holding::Holding;
+use crate::numbers::Numbers;
+use crate::records::{Faction, JoinFault, Unit};
+use atl_tables::{Numbered, Text, Tracked, World};
+use std::alloc::{AllocError, Global};
+
+/// Lists a unit in a region. Without memory for it nothing changes.
+fn list_unit(
+    alloc: Global,
+    lists: &mut Numbered<Numbers>,
+    region: u32,
+    number: u32,
+) -> Result<(), AllocError>
+    ensures ok { OnOk result (lists.new ≡ map.insert lists.old region (put_number number (list_of lists.old region))) }
+    ensures err { OnErr result (lists.new ≡ lists.old) }
+{
+    match lists.get_mut(region) {
+        Some(list) => list.put(number),
+        None => {
+            let mut list = Numbers::new(alloc);
+            list.put(number)?;
+            lists.insert(region, list)
+        }
+    }
+}
+
+fn is_taken(factions: &Tracked<Faction>, name: &[u8]) -> bool
+    ensures { result ≡ list_any (λ e. pointwise nat_eq e.1.joined_as name.now) (map.entries factions.now.values) }
+{
+    for (_, faction) in factions.iter() {
+        if faction.joined_as.as_bytes() == name {
+            return true;
+        }
+    }
+    false
+}
+
+/// The region where a faction begins.
+fn home(world: &World, word: u32) -> u32
+    ensures { result ≡ home_of world.now word }
+{
+    let land = world.land();
+    land[word as usize % land.len()]
+}
+
+fn unit_made(
+    alloc: Global,
+    number: u32,
+    faction: u32,
+    region: u32,
+    money: u32,
+) -> Result<Unit, AllocError>
+    requires { money ≤ 999999999 }
+    ensures { IfOk result (λ unit. unit ≡ record {
+      faction = faction;
+      region = region;
+      structure = 0;
+      holding = record { name = codes "Unit " ++ decimal number; men = 1; money = money; guard = false; items = map.empty; days = map.empty };
+    }) }
+{
+    let name = Text::from_string(format!(in alloc; "Unit {number}")?);
+    Ok(Unit {
+        faction,
+        region,
+        structure: 0,
+        holding: Holding::new(name, 1, money, Numbered::new(alloc), Numbered::new(alloc)),
+    })
+}
+
+fn faction_made(alloc: Global, number: u32, name: &[u8], pass: &[u8]) -> Result<Faction, AllocError>
+    requires name { IsUtf8 name.now }
+    requires pass { IsUtf8 pass.now }
+    ensures { IfOk result (λ faction. faction ≡ new_faction number name.now pass.now) }
+{
+    Ok(Faction {
+        number,
+        joined_as: Text::from_utf8(alloc, name)?,
+        name: Text::from_utf8(alloc, name)?,
+        pass: Text::from_utf8(alloc, pass)?,
+        gone: false,
+    })
+}
+
+/// Books what a faction brings.
+fn book_joining(books: &mut Books, money: u32)
+    requires rows { 2 ≤ length books.old }
+    requires money { IsSmall (amount_in books.old Joining Money) }
+    requires people { IsSmall (amount_in books.old Joining People) }
+    ensures { books.new ≡ with_booked (with_booked books.old Joining Money (pos money)) Joining People (pos 1) }
+{
+    books.book(Entry::Joining, Thing::Money, i64::from(money));
+    books.book(Entry::Joining, Thing::People, 1);
+}
+
+impl Campaign {
+    /// Whether some faction ever joined under a name.
+    fn is_name_taken(&self, name: &[u8]) -> bool
+        ensures { result ≡ name_taken self.now.what name.now }
+    {
+        is_taken(&self.factions, name)
+    }
+
+    /// Whether no faction, or no unit, more can come.
+    fn is_full(&self) -> bool
+        ensures { result ≡ is_full self.now.what }
+    {
+        self.factions.len() >= 9_999 || self.units.len() >= 10_000 || self.next_unit > 999_999_999
+    }
+
+    /// Adds a unit under a number that no unit has. Without memory for it nothing but a mark changes.
+    fn add_unit(&mut self, number: u32, unit: Unit) -> Result<(), AllocError>
+        requires { map.get self.old.what.units number ≡ None }
+        ensures ok { OnOk result (self.new.what ≡ with_unit self.old.what number unit) }
+        ensures err { OnErr result (self.new.what ≡ self.old.what) }
+        ensures marks { OnOk result (self.new.marks ≡ record self.old.marks { units = map.insert self.old.marks.units number true }) }
+    {
+        let region = unit.region;
+        self.units.insert(number, unit)?;
+        match list_unit(self.alloc, &mut self.lists, region, number) {
+            Ok(()) => Ok(()),
+            Err(e) => {
+                self.units.remove(number);
+                Err(e)
+            }
+        }
+    }
+
+    /// A faction joins, with one unit: one man with the start money, in the land region that the word picks. What it
+    /// brings is booked. The answer is the number of the faction and that of its unit. On a fault the campaign stays as
+    /// it is, but for marks. See docs/RULES.md, "Joining".
+    #[tactic(auto, unfolding(crate::specs::Joining::join_of))]
+    pub fn join(
+        &mut self,
+        world: &World,
+        name: &[u8],
+        pass: &[u8],
+        word: u32,
+    ) -> Result<(u32, u32), JoinFault>
+        requires good { IsGood world.now self.old.what }
+        requires name { IsTrue (name_ok name.now) }
+        requires pass { IsTrue (pass_ok pass.now) }
+        ensures definition { Joins world.now name.now pass.now word self.old.what result self.new.what }
+        ensures good { IsGood world.now self.new.what }
+        ensures balances { Balances self.old.what → Balances self.new.what }
+        ensures marks { OnOk result (self.new.marks ≡ join_marked self.old) }
+    {
+        if self.is_name_taken(name) {
+            return Err(JoinFault::NameTaken);
+        }
+        if self.is_full() {
+            return Err(JoinFault::Full);
+        }
+        match self.enroll(world, name, pass, word) {
+            Ok(numbers) => Ok(numbers),
+            Err(_) => Err(JoinFault::Memory),
+        }
+    }
+
+    /// The joining of a faction for which there is room.
+    fn enroll(
+        &mut self,
+        world: &World,
+        name: &[u8],
+        pass: &[u8],
+        word: u32,
+    ) -> Result<(u32, u32), AllocError>
+        requires good { IsGood world.now self.old.what }
+        requires room { self.old.what.next_unit ≤ 999999999 }
+        requires name { IsUtf8 name.now }
+        requires pass { IsUtf8 pass.now }
+        ensures ok { OnOk result (self.new.what ≡ joined world.now name.now pass.now word self.old.what) }
+        ensures numbers { IfOk result (λ numbers. numbers ≡ (self.old.what.next_faction, self.old.what.next_unit)) }
+        ensures err { OnErr result (self.new.what ≡ self.old.what) }
+        ensures marks { OnOk result (self.new.marks ≡ join_marked self.old) }
+        ensures world { IsWorld world.now }
+    {
+        let faction = self.next_faction;
+        let number = self.next_unit;
+        let money = world.rules().start_money;
+        let region = home(world, word);
+        let unit = unit_made(self.alloc, number, faction, region, money)?;
+        let member = faction_made(self.alloc, faction, name, pass)?;
+        self.factions.insert(faction, member)?;
+        match self.add_unit(number, unit) {
+            Ok(()) => {}
+            Err(e) => {
+                self.factions.remove(faction);
+                return Err(e);
+            }
+        }
+        self.next_faction = faction + 1;
+        self.next_unit = number + 1;
+        book_joining(&mut self.books, money);
+        self.amounts_marked.mark(Entry::Joining, Thing::Money);
+        self.amounts_marked.mark(Entry::Joining, Thing::People);
+        self.row_marked = true;
+        Ok((faction, number))
+    }
+}

@@ -1,0 +1,118 @@
+//! What a unit holds.
+ghost use Rattle.std.specs.Prelude.{◌≡◌, ◌≤◌, ℕ, false};
+ghost use Rattle.std.specs.FinMap as map;
+ghost use Rattle.atl_state.specs.Held.{amount_of, AreAmounts};
+
+use atl_tables::{Numbered, Text};
+use std::marker::Model;
+
+/// A unit's name, men, money, guard flag, items and days of study. It holds at most 999,999 men, 999,999,999 of money
+/// and 999,999,999 of each item. See docs/RULES.md, "Limits".
+#[derive(Drop)]
+pub struct Holding {
+    name: Text,
+    men: u32,
+    money: u32,
+    guard: bool,
+    // How much of each item is held, where it is not 0.
+    items: Numbered<u32>,
+    // The days of each skill over all men, where they are not 0.
+    days: Numbered<u32>,
+}
+
+impl Model for Holding {
+    ghost use Rattle.std.specs.Prelude.{◌≤◌};
+    ghost use Rattle.atl_state.specs.Held.{Held, held_code, IsHolding};
+
+    ghost Value = { Held };
+
+    ghost coded = { held_code };
+
+    ghost view = { λ a. record { name = a.name; men = a.men; money = a.money; guard = a.guard; items = a.items; days = a.days } };
+
+    ghost invariant = { λ a. IsHolding (record { name = a.name; men = a.men; money = a.money; guard = a.guard; items = a.items; days = a.days }) };
+}
+
+impl Holding {
+    /// People with money and nothing else.
+    pub fn new(
+        name: Text,
+        men: u32,
+        money: u32,
+        items: Numbered<u32>,
+        days: Numbered<u32>,
+    ) -> Holding
+        requires few { men ≤ 999999 }
+        requires fits { money ≤ 999999999 }
+        requires items { AreAmounts items }
+        ensures { result ≡ record { name = name; men = men; money = money; guard = false; items = items; days = days } }
+    {
+        Holding {
+            name,
+            men,
+            money,
+            guard: false,
+            items,
+            days,
+        }
+    }
+
+    pub fn name(&self) -> &Text
+        ensures { result.now ≡ self.now.name }
+    {
+        &self.name
+    }
+
+    pub fn men(&self) -> u32
+        ensures value { result ≡ self.now.men }
+        ensures fits { self.now.men ≤ 999999 }
+    {
+        self.men
+    }
+
+    pub fn money(&self) -> u32
+        ensures value { result ≡ self.now.money }
+        ensures fits { self.now.money ≤ 999999999 }
+    {
+        self.money
+    }
+
+    /// Whether the guard flag is set.
+    pub fn guard(&self) -> bool
+        ensures { result ≡ self.now.guard }
+    {
+        self.guard
+    }
+
+    /// How much of an item is held.
+    pub fn amount(&self, item: u32) -> u32
+        ensures { result ≡ amount_of self.now.items item }
+    {
+        match self.items.get(item) {
+            Some(amount) => *amount,
+            None => 0,
+        }
+    }
+
+    /// The items that are held, by their numbers.
+    pub fn items(&self) -> &Numbered<u32>
+        ensures { result.now ≡ self.now.items }
+    {
+        &self.items
+    }
+
+    /// The days of study over all men, by the skills' numbers.
+    pub fn days(&self) -> &Numbered<u32>
+        ensures { result.now ≡ self.now.days }
+    {
+        &self.days
+    }
+
+    /// Sets the money, at most 999,999,999.
+    pub fn set_money(&mut self, money: u32)
+        requires { money ≤ 999999999 }
+        ensures { self.new ≡ record self.old { money = money } }
+    {
+        self.money = money;
+    }
+}

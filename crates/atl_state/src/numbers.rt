@@ -1,0 +1,59 @@
+//! A rising list of numbers.
+ghost use Rattle.std.specs.Prelude.{◌≡◌, ◌≤◌, OnOk, OnErr, [], length};
+ghost use Rattle.atl_state.specs.Ordered.{put_number, first_above};
+
+use std::alloc::{AllocError, Global};
+use std::marker::Model;
+
+#[derive(Drop, Debug)]
+pub(crate) struct Numbers {
+    items: Vec<u32>,
+}
+
+impl Model for Numbers {
+    ghost use Rattle.std.specs.Prelude.{List, ℕ};
+
+    ghost Value = { List ℕ };
+
+    ghost view = { λ a. a.items.items };
+}
+
+/// The place of the first number that is not below another.
+fn first_above(items: &[u32], number: u32) -> usize
+    ensures place { result ≡ first_above number items.now }
+    ensures small { result ≤ length items.now }
+{
+    for (i, item) in items.iter().enumerate() {
+        if number <= *item {
+            return i;
+        }
+    }
+    items.len()
+}
+
+impl Numbers {
+    pub(crate) fn new(alloc: Global) -> Numbers
+        ensures { result ≡ [] }
+    {
+        Numbers {
+            items: Vec::new(alloc),
+        }
+    }
+
+    /// Puts a number at its place in a rising list.
+    #[tactic(auto, unfolding(crate::specs::Ordered::put_number))]
+    pub(crate) fn put(&mut self, number: u32) -> Result<(), AllocError>
+        ensures ok { OnOk result (self.new ≡ put_number number self.old) }
+        ensures err { OnErr result (self.new ≡ self.old) }
+    {
+        let place = first_above(&self.items, number);
+        self.items.insert(place, number)?;
+        Ok(())
+    }
+
+    pub(crate) fn as_slice(&self) -> &[u32]
+        ensures { result.now ≡ self.now }
+    {
+        &self.items
+    }
+}
