@@ -1,0 +1,10 @@
+//! What a faction sees, and the report that it reads.
+#![tactic(auto)]
+
+pub mod report;
+pub mod sight;
+pub mod views;
+
+pub use report::report_text;
+pub use sight::view;
+pub use views::{RegionView, Side, UnitView, View};
