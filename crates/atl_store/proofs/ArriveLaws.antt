@@ -1,0 +1,152 @@
+-- From what the statements did to what the tables hold: one entry of a map, one amount of the books.
+use Rattle.std.proofs.Common.{◌≡◌, ◌≢◌, ◌⊎◌, ◌+◌, ℕ, ℤ, pos, true, false, cond, List, [], ◌∷◌, take, get_or, Some, None, Less, Equal, Greater, refl, sym, ap, ◌∙◌, subst, inl, inr, true≢false, arith}
+use Rattle.std.specs.Ordering.{nat_cmp, is_eq, int_eq}
+use Rattle.std.specs.Cmp.{nat_cmp_total}
+use Rattle.std.specs.FinMap.{FinMap, get, insert, empty, get-insert, get-empty, nat_cmp-IsAntisymmetric}
+use Rattle.std.proofs.lemmas.Bool.{cases_eq}
+use Rattle.std.proofs.lemmas.Cmp.{tied_itself}
+use Rattle.sqlite.specs.Order.{Row}
+use Rattle.sqlite.specs.Effect.{Database}
+use Rattle.sqlite_rules.specs.Lists.{Has}
+use Rattle.atl_state.specs.State.{State as Campaign}
+use Rattle.atl_state.specs.Books.{amount_in, entry_place, thing_place}
+use Rattle.atl_state.specs.declared.books.Entry.{Entry}
+use Rattle.atl_state.specs.declared.books.Thing.{Thing}
+use Rattle.atl_state.specs.declared.records.Unit.{Unit}
+use Rattle.atl_store.specs.declared.rows.has.Sort.{Sort}
+use Rattle.atl_store.specs.Sets.{Is, put, rows_in}
+use Rattle.atl_store.specs.Tables.{books_table}
+use Rattle.atl_store.specs.Shown.{int, books_key, books_row}
+use Rattle.atl_store.specs.Rows.{RowsOf, HasRowsOf, BooksRowsOf, things_of}
+use Rattle.atl_store.specs.Lines.{amount_lines}
+use Rattle.atl_store.specs.Inside.{Puts, Drops}
+use Rattle.atl_store.specs.Arriving.{Settles}
+use Rattle.atl_store.proofs.EntryLaws.{same_number}
+use Rattle.atl_store.proofs.GoodsLaws.{optional_has, has_optional}
+use Rattle.atl_store.proofs.LedgerLaws.{two_same, differs_zero, is_differing}
+
+-- ---- one entry more in a map
+
+other : (k n : ℕ) → k ≢ n → is_eq (nat_cmp k n) ≡ false
+other k n apart = elim (nat_cmp k n) as (λ o. nat_cmp k n ≡ o → is_eq o ≡ false) [
+  | Less ↦ λ _. refl
+  | Equal ↦ λ e. absurd (apart (nat_cmp-IsAntisymmetric k n e))
+  | Greater ↦ λ _. refl
+] refl
+
+module _ {V : Type 0} where
+  some_is : (a b : V) → Some a ≡ Some b → a ≡ b
+  some_is a b e = cc
+
+  nothing_is : (v : V) → None ≡ Some v → ⊥
+  nothing_is v e = cc
+
+  pub get_inserted : (m : FinMap nat_cmp V) (n : ℕ) (v : V) → get (insert m n v) n ≡ Some v
+  get_inserted m n v = get-insert nat_cmp_total m n v n ∙ ap (λ b. cond b (Some v) (get m n)) (ap is_eq (tied_itself nat_cmp_total n))
+
+  pub get_beside : (m : FinMap nat_cmp V) (n : ℕ) (v : V) (k : ℕ) → k ≢ n → get (insert m n v) k ≡ get m k
+  get_beside m n v k apart = get-insert nat_cmp_total m n v k ∙ ap (λ b. cond b (Some v) (get m k)) (other k n apart)
+
+-- one put into the rows of a map is one insertion into the map
+pub put_rows : {V : Type 0} (line : ℕ → V → Row) (numbered : (n : ℕ) (v : V) → take 1 (line n v) ≡ int n ∷ []) (rows news : List Row) (m : FinMap nat_cmp V) (n : ℕ) (v : V) → Is rows (RowsOf line m) → Is news (put 1 (line n v) (Has rows)) → Is news (RowsOf line (insert m n v))
+put_rows line numbered rows news m n v was made r = (
+  λ there. elim ((made r).0 there) [
+    | inl same ↦ (n, v, get_inserted m n v, same)
+    | inr kept ↦
+        let old = (was r).0 kept.0 in
+        (old.0, old.1, get_beside m n v old.0 (λ e. kept.1 (ap (take 1) old.3 ∙ numbered old.0 old.1 ∙ ap (λ k. int k ∷ []) e ∙ sym (numbered n v))) ∙ old.2, old.3)
+  ],
+  λ of. (made r).1 (elim (cases_eq of.0 n) [
+    | inl same ↦
+        let value : v ≡ of.1 = some_is v of.1 (sym (ap (get (insert m n v)) same ∙ get_inserted m n v) ∙ of.2) in
+        inl (of.3 ∙ ap (λ k. line k of.1) same ∙ ap (line n) (sym value))
+    | inr apart ↦ inr (
+      (was r).1 (of.0, of.1, sym (get_beside m n v of.0 apart) ∙ of.2, of.3),
+      λ e. apart (same_number of.0 n (sym (numbered of.0 of.1) ∙ ap (take 1) (sym of.3) ∙ e ∙ numbered n v)),
+    )
+  ]),
+)
+
+-- a new unit that has nothing adds no row of has
+pub no_goods : (rows : List Row) (units : FinMap nat_cmp Unit) (n : ℕ) (u : Unit) → get units n ≡ None → ((sort : Sort) → things_of sort u.holding ≡ empty) → Is rows (HasRowsOf units) → Is rows (HasRowsOf (insert units n u))
+no_goods rows units n u fresh bare was r = (
+  λ there.
+      let old = (was r).0 there in
+      let apart : old.0 ≢ n = λ same. nothing_is old.1 (sym fresh ∙ ap (get units) (sym same) ∙ old.2) in
+      (old.0, old.1, get_beside units n u old.0 apart ∙ old.2, old.3, old.4, old.5, old.6, old.7, old.8),
+  λ of. (was r).1 (elim (cases_eq of.0 n) [
+    | inl same ↦
+        let value : u ≡ of.1 = some_is u of.1 (sym (ap (get (insert units n u)) same ∙ get_inserted units n u) ∙ of.2) in
+        let none : get (things_of of.3 of.1.holding) of.4 ≡ None = ap (λ (x : Unit). get (things_of of.3 x.holding) of.4) (sym value) ∙ ap (λ (m : FinMap nat_cmp ℕ). get m of.4) (bare of.3) ∙ get-empty nat_cmp of.4 in
+        absurd (nothing_is of.5 (sym none ∙ of.6))
+    | inr apart ↦ (of.0, of.1, sym (get_beside units n u of.0 apart) ∙ of.2, of.3, of.4, of.5, of.6, of.7, of.8)
+  ]),
+)
+
+-- ---- one amount of the books
+
+module _ (c : Campaign) (e : Entry) (t : Thing) where
+  abbrev row : Row
+  row = books_row (entry_place e + 1) (thing_place t) (amount_in c.books e t)
+
+  pub settles_put : (a b : Database) → int_eq (amount_in c.books e t) (pos 0) ≡ false → Puts books_table 2 row a b → Settles c e t a b
+  settles_put a b some did = record {
+    rows = λ r. (
+      λ there. elim ((did.rows r).0 there) [
+        | inl same ↦ inl (subst (Has (amount_lines c e t)) (sym same) (has_optional (int_eq (amount_in c.books e t) (pos 0)) row some))
+        | inr was ↦ inr was
+      ],
+      λ h. (did.rows r).1 (elim h [ inl here ↦ inl (optional_has (int_eq (amount_in c.books e t) (pos 0)) row r here).1 | inr was ↦ inr was ]),
+    );
+    others = did.others;
+  }
+
+  pub settles_drop : (a b : Database) → int_eq (amount_in c.books e t) (pos 0) ≡ true → Drops books_table 2 (books_key (entry_place e + 1) (thing_place t)) a b → Settles c e t a b
+  settles_drop a b none did = record {
+    rows = λ r. (
+      λ there. inr ((did.rows r).0 there),
+      λ h. (did.rows r).1 (elim h [ inl here ↦ absurd (true≢false (sym none ∙ (optional_has (int_eq (amount_in c.books e t) (pos 0)) row r here).0)) | inr was ↦ was ]),
+    );
+    others = did.others;
+  }
+
+  -- the rows of the books A are those of the books B then, which differ in this amount alone
+  pub settled_rows : (A B : List (List ℤ)) (a b : Database) → Settles c e t a b → amount_in B e t ≡ amount_in c.books e t
+      → ((f : Entry) (u : Thing) → (entry_place f ≢ entry_place e) ⊎ (thing_place u ≢ thing_place t) → amount_in B f u ≡ amount_in A f u)
+      → Is (rows_in books_table a.trees) (BooksRowsOf A) → Is (rows_in books_table b.trees) (BooksRowsOf B)
+  settled_rows A B a b did here beside was r = (
+    λ there. elim ((did.rows r).0 there) [
+      | inl new ↦
+          let is = optional_has (int_eq (amount_in c.books e t) (pos 0)) row r new in
+          (e, t, λ none. differs_zero (amount_in c.books e t) is.0 (sym here ∙ none), is.1 ∙ ap (books_row (entry_place e + 1) (thing_place t)) (sym here))
+      | inr kept ↦
+          let old = (was r).0 kept.0 in
+          let same = beside old.0 old.1 (apart old.0 old.1 (λ q. kept.1 (ap (take 2) old.3 ∙ q))) in
+          (old.0, old.1, λ none. old.2 (sym same ∙ none), old.3 ∙ ap (books_row (entry_place old.0 + 1) (thing_place old.1)) (sym same))
+    ],
+    λ of. (did.rows r).1 (elim (cases_eq (entry_place of.0) (entry_place e)) [
+      | inl entries ↦ elim (cases_eq (thing_place of.1) (thing_place t)) [
+        | inl things ↦
+            let same : amount_in B of.0 of.1 ≡ amount_in c.books e t = ap (λ k. get_or (get_or B k []) (entry_place of.0) (pos 0)) things ∙ ap (λ k. get_or (get_or B (thing_place t) []) k (pos 0)) entries ∙ here in
+            let row_is : r ≡ row = of.3 ∙ ap (λ k. books_row (k + 1) (thing_place of.1) (amount_in B of.0 of.1)) entries ∙ ap (λ k. books_row (entry_place e + 1) k (amount_in B of.0 of.1)) things ∙ ap (books_row (entry_place e + 1) (thing_place t)) same in
+            inl (subst (Has (amount_lines c e t)) (sym row_is) (has_optional (int_eq (amount_in c.books e t) (pos 0)) row (is_differing (amount_in c.books e t) (λ none. of.2 (same ∙ none)))))
+        | inr things ↦ inr (kept_row of.0 of.1 of.2 of.3 (inr things))
+      ]
+      | inr entries ↦ inr (kept_row of.0 of.1 of.2 of.3 (inl entries))
+    ]),
+  )
+    where
+      apart : (f : Entry) (u : Thing) → ◌≢◌ {A = Row} (books_key (entry_place f + 1) (thing_place u)) (books_key (entry_place e + 1) (thing_place t)) → (entry_place f ≢ entry_place e) ⊎ (thing_place u ≢ thing_place t)
+      apart f u differs = elim (cases_eq (entry_place f) (entry_place e)) [
+        | inl entries ↦ inr (λ things. differs (ap (λ k. books_key (k + 1) (thing_place u)) entries ∙ ap (books_key (entry_place e + 1)) things))
+        | inr entries ↦ inl entries
+      ]
+
+      kept_row : (f : Entry) (u : Thing) → amount_in B f u ≢ pos 0 → r ≡ books_row (entry_place f + 1) (thing_place u) (amount_in B f u) → (entry_place f ≢ entry_place e) ⊎ (thing_place u ≢ thing_place t)
+          → Has (rows_in books_table a.trees) r × (take 2 r ≢ books_key (entry_place e + 1) (thing_place t))
+      kept_row f u some is far = (
+        (was r).1 (f, u, λ none. some (beside f u far ∙ none), is ∙ ap (books_row (entry_place f + 1) (thing_place u)) (beside f u far)),
+        λ q.
+            let keys = two_same (entry_place f + 1) (thing_place u) (entry_place e + 1) (thing_place t) (ap (take 2) (sym is) ∙ q) in
+            elim far [ inl entries ↦ entries (omega (arith, keys.0)) | inr things ↦ things keys.1 ],
+      )

@@ -1,0 +1,134 @@
+-- The rows of all that units have.
+use Rattle.std.proofs.Common.{◌≡◌, ◌≢◌, ◌==◌, ℕ, Bool, true, false, if◌then◌else◌, List, [], ◌∷◌, take, refl, sym, ap, ◌∙◌, subst, inl, inr, true≢false, arith}
+use Rattle.std.specs.List.{flat_map}
+use Rattle.std.specs.Ordering.{nat_cmp}
+use Rattle.std.specs.FinMap.{FinMap, entries, is_sorted}
+use Rattle.std.proofs.lemmas.Bool.{cases_Bool, and_parts}
+use Rattle.std.proofs.lemmas.Bool.Decides.{nat_tests}
+use Rattle.sqlite.specs.Order.{Row}
+use Rattle.sqlite_rules.specs.Lists.{Has}
+use Rattle.sqlite_rules.proofs.ListLemmas.{has_either, has_left, has_right}
+use Rattle.atl_state.specs.Held.{Held}
+use Rattle.atl_state.specs.declared.records.Unit.{Unit}
+use Rattle.atl_store.specs.declared.rows.has.Sort.{Sort}
+use Rattle.atl_store.specs.declared.rows.has.Sort.TheVariants.{Item, Skill}
+use Rattle.atl_store.specs.Sets.{Is, puts}
+use Rattle.atl_store.specs.Shown.{has_key, has_row}
+use Rattle.atl_store.specs.Written.{sort_number}
+use Rattle.atl_store.specs.Rows.{things_of, HasRowsOf}
+use Rattle.atl_store.specs.Lines.{thing_lines, sort_lines, goods_lines, all_goods_lines}
+use Rattle.atl_store.proofs.EntryLaws.{AreApart, apart_append, filled, below_has, less_apart, got_entry, entry_got, in_order}
+
+-- ---- lists made of lists
+
+pub flat_has : {X : Type 0} (f : X → List Row) (xs : List X) (r : Row) → Has (flat_map f xs) r → (x : X) × Has xs x × Has (f x) r
+flat_has f [] r there = absurd there
+flat_has f (x ∷ xs) r there = elim (has_either (f x) (flat_map f xs) r there) [
+  | inl here ↦ (x, inl refl, here)
+  | inr more ↦ let found = flat_has f xs r more in (found.0, inr found.1, found.2)
+]
+
+pub has_flat : {X : Type 0} (f : X → List Row) (xs : List X) (x : X) (r : Row) → Has xs x → Has (f x) r → Has (flat_map f xs) r
+has_flat f [] x r there here = absurd there
+has_flat f (y ∷ xs) x r (inl same) here = has_left (f y) (flat_map f xs) r (subst (λ z. Has (f z) r) same here)
+has_flat f (y ∷ xs) x r (inr later) here = has_right (f y) (flat_map f xs) r (has_flat f xs x r later here)
+
+-- ---- one amount
+
+pub optional_has : (b : Bool) (row r : Row) → Has (if b then [] else row ∷ []) r → (b ≡ false) × (r ≡ row)
+optional_has true row r there = absurd there
+optional_has false row r (inl same) = (refl, same)
+optional_has false row r (inr none) = absurd none
+
+pub has_optional : (b : Bool) (row : Row) → b ≡ false → Has (if b then [] else row ∷ []) row
+has_optional true row is = absurd (true≢false is)
+has_optional false row is = inl refl
+
+pub optional_apart : (key : ℕ) (b : Bool) (row : Row) → AreApart key (if b then [] else row ∷ [])
+optional_apart key true row = tt
+optional_apart key false row = (λ y none. absurd none, tt)
+
+not_zero : (a : ℕ) → (a == 0) ≡ false → a ≢ 0
+not_zero a differs same = grind (arith, nat_tests)
+
+is_not_zero : (a : ℕ) → a ≢ 0 → (a == 0) ≡ false
+is_not_zero a apart = elim (cases_Bool (a == 0)) [ inl same ↦ absurd (apart (grind (arith, nat_tests))) | inr differs ↦ differs ]
+
+three_same : (a b c d e f : ℕ) → ◌≡◌ {A = Row} (has_key a b c) (has_key d e f) → (a ≡ d) × (b ≡ e) × (c ≡ f)
+three_same a b c d e f same = (cc, cc, cc)
+
+-- ---- the things of one sort
+
+sort_has : (unit : ℕ) (sort : Sort) (es : List (ℕ × ℕ)) (r : Row) → Has (sort_lines unit sort es) r → (e : ℕ × ℕ) × Has es e × (e.1 ≢ 0) × (r ≡ has_row unit (sort_number sort) e.0 e.1)
+sort_has unit sort es r there =
+    let found = flat_has (λ (e : ℕ × ℕ). thing_lines unit sort e.0 e.1) es r there in
+    let row = optional_has (found.0.1 == 0) (has_row unit (sort_number sort) found.0.0 found.0.1) r found.2 in
+    (found.0, found.1, not_zero found.0.1 row.0, row.1)
+
+has_sort : (unit : ℕ) (sort : Sort) (es : List (ℕ × ℕ)) (thing amount : ℕ) → Has es (thing, amount) → amount ≢ 0 → Has (sort_lines unit sort es) (has_row unit (sort_number sort) thing amount)
+has_sort unit sort es thing amount there some =
+    has_flat (λ (e : ℕ × ℕ). thing_lines unit sort e.0 e.1) es (thing, amount) _ there (has_optional (amount == 0) (has_row unit (sort_number sort) thing amount) (is_not_zero amount some))
+
+sort_apart : (unit : ℕ) (sort : Sort) (es : List (ℕ × ℕ)) → is_sorted nat_cmp es ≡ true → AreApart 3 (sort_lines unit sort es)
+sort_apart unit sort [] sorted = tt
+sort_apart unit sort (e ∷ es) sorted =
+    apart_append 3 (thing_lines unit sort e.0 e.1) (sort_lines unit sort es) (optional_apart 3 (e.1 == 0) (has_row unit (sort_number sort) e.0 e.1)) (sort_apart unit sort es (and_parts _ _ sorted).1)
+    (λ x y early late same.
+    let one = optional_has (e.1 == 0) (has_row unit (sort_number sort) e.0 e.1) x early in
+    let two = sort_has unit sort es y late in
+    let keys = three_same unit (sort_number sort) e.0 unit (sort_number sort) two.0.0 (ap (take 3) (sym one.1) ∙ same ∙ ap (take 3) two.3) in
+    less_apart e.0 two.0.0 (below_has e.0 es two.0 (and_parts _ _ sorted).0 two.1) keys.2)
+
+-- ---- all that one unit has
+
+pub goods_has : (unit : ℕ) (held : Held) (r : Row) → Has (goods_lines unit held) r → (sort : Sort) × (e : ℕ × ℕ) × Has (entries (things_of sort held)) e × (e.1 ≢ 0) × (r ≡ has_row unit (sort_number sort) e.0 e.1)
+goods_has unit held r there = elim (has_either (sort_lines unit Item (entries held.items)) (sort_lines unit Skill (entries held.days)) r there) [
+  | inl item ↦ let e = sort_has unit Item (entries held.items) r item in (Item, e.0, e.1, e.2, e.3)
+  | inr skill ↦ let e = sort_has unit Skill (entries held.days) r skill in (Skill, e.0, e.1, e.2, e.3)
+]
+
+has_goods : (unit : ℕ) (held : Held) (sort : Sort) (thing amount : ℕ) → Has (entries (things_of sort held)) (thing, amount) → amount ≢ 0 → Has (goods_lines unit held) (has_row unit (sort_number sort) thing amount)
+has_goods unit held Item thing amount there some = has_left (sort_lines unit Item (entries held.items)) (sort_lines unit Skill (entries held.days)) _ (has_sort unit Item (entries held.items) thing amount there some)
+has_goods unit held Skill thing amount there some = has_right (sort_lines unit Item (entries held.items)) (sort_lines unit Skill (entries held.days)) _ (has_sort unit Skill (entries held.days) thing amount there some)
+
+goods_apart : (unit : ℕ) (held : Held) → AreApart 3 (goods_lines unit held)
+goods_apart unit held =
+    apart_append 3 (sort_lines unit Item (entries held.items)) (sort_lines unit Skill (entries held.days)) (sort_apart unit Item (entries held.items) (in_order held.items)) (sort_apart unit Skill (entries held.days) (in_order held.days))
+    (λ x y early late same.
+    let one = sort_has unit Item (entries held.items) x early in
+    let two = sort_has unit Skill (entries held.days) y late in
+    let keys = three_same unit 0 one.0.0 unit 1 two.0.0 (ap (take 3) (sym one.3) ∙ same ∙ ap (take 3) two.3) in
+    absurd (omega (arith, keys.1)))
+
+-- ---- all that all units have
+
+all_apart : (es : List (ℕ × Unit)) → is_sorted nat_cmp es ≡ true → AreApart 3 (all_goods_lines es)
+all_apart [] sorted = tt
+all_apart (e ∷ es) sorted =
+    apart_append 3 (goods_lines e.0 e.1.holding) (all_goods_lines es) (goods_apart e.0 e.1.holding) (all_apart es (and_parts _ _ sorted).1)
+    (λ x y early late same.
+    let one = goods_has e.0 e.1.holding x early in
+    let found = flat_has (λ (u : ℕ × Unit). goods_lines u.0 u.1.holding) es y late in
+    let two = goods_has found.0.0 found.0.1.holding y found.2 in
+    let keys = three_same e.0 (sort_number one.0) one.1.0 found.0.0 (sort_number two.0) two.1.0 (ap (take 3) (sym one.4) ∙ same ∙ ap (take 3) two.4) in
+    less_apart e.0 found.0.0 (below_has e.0 es found.0 (and_parts _ _ sorted).0 found.1) keys.0)
+
+pub goods_filled : (rows old : List Row) (units : FinMap nat_cmp Unit) → old ≡ [] → Is rows (puts 3 (all_goods_lines (entries units)) (Has old)) → Is rows (HasRowsOf units)
+goods_filled rows old units none made r =
+    let is = filled 3 rows (all_goods_lines (entries units)) old none (all_apart (entries units) (in_order units)) made r in (
+      λ there.
+          let found = flat_has (λ (u : ℕ × Unit). goods_lines u.0 u.1.holding) (entries units) r (is.0 there) in
+          let row = goods_has found.0.0 found.0.1.holding r found.2 in (
+            found.0.0,
+            found.0.1,
+            entry_got units found.0.0 found.0.1 found.1,
+            row.0,
+            row.1.0,
+            row.1.1,
+            entry_got (things_of row.0 found.0.1.holding) row.1.0 row.1.1 row.2,
+            row.3,
+            row.4,
+          ),
+      λ of. is.1 (has_flat (λ (u : ℕ × Unit). goods_lines u.0 u.1.holding) (entries units) (of.0, of.1) r (got_entry units of.0 of.1 of.2)
+          (subst (Has (goods_lines of.0 of.1.holding)) (sym of.8) (has_goods of.0 of.1.holding of.3 of.4 of.5 (got_entry (things_of of.3 of.1.holding) of.4 of.5 of.6) of.7))),
+    )

@@ -1,0 +1,140 @@
+-- The rows of the books.
+use Rattle.std.proofs.Common.{◌≡◌, ◌≢◌, ◌+◌, ◌<◌, ◌≤◌, ◌&&◌, ℕ, zero, suc, ℤ, pos, Bool, true, false, nat_lt, List, [], ◌∷◌, length, take, get_or, refl, sym, ap, ◌∙◌, subst, inl, inr, arith}
+use Rattle.std.specs.List.{list_all, range_with_len}
+use Rattle.std.specs.Ordering.{int_eq}
+use Rattle.std.proofs.lemmas.Bool.{cases_Bool, cases_lt, and_parts}
+use Rattle.std.proofs.lemmas.Bool.Decides.{nat_tests}
+use Rattle.std.proofs.lemmas.Int.{ints}
+use Rattle.std.proofs.lemmas.List.{get_or_past}
+use Rattle.sqlite.specs.Order.{Row}
+use Rattle.sqlite_rules.specs.Lists.{Has}
+use Rattle.sqlite_rules.proofs.ListLemmas.{test_has}
+use Rattle.atl_state.specs.State.{State}
+use Rattle.atl_state.specs.Books.{amount_in, entry_place, thing_place}
+use Rattle.atl_state.specs.declared.books.Entry.{Entry}
+use Rattle.atl_state.specs.declared.books.Entry.TheVariants.{Founding, Joining, Income, Wages, Recruiting, Study, Upkeep, Lost, Births, Starved, Left, Made, Used}
+use Rattle.atl_state.specs.declared.books.Thing.{Thing}
+use Rattle.atl_state.specs.declared.books.Thing.TheVariants.{Money, People, Item as Good}
+use Rattle.atl_store.specs.Sets.{Is, puts}
+use Rattle.atl_store.specs.Shown.{books_key, books_row}
+use Rattle.atl_store.specs.Rows.{BooksRowsOf}
+use Rattle.atl_store.specs.Lines.{all_entries, thing_at, amount_lines, entries_lines, things_lines}
+use Rattle.atl_store.proofs.EntryLaws.{AreApart, apart_append, filled}
+use Rattle.atl_store.proofs.GoodsLaws.{flat_has, has_flat, optional_has, has_optional, optional_apart}
+
+-- ---- things and entries by their places
+
+pub place_at : (i : ℕ) → thing_place (thing_at i) ≡ i
+place_at zero = refl
+place_at (suc zero) = refl
+place_at (suc (suc i)) = omega arith
+
+pub at_place : (t : Thing) → thing_at (thing_place t) ≡ t
+at_place Money = refl
+at_place People = refl
+at_place (Good i) = item_at (2 + i) i (omega arith)
+  where
+    item_at : (n i : ℕ) → n ≡ suc (suc i) → thing_at n ≡ Good i
+    item_at n i is = ap thing_at is
+
+every_entry : (e : Entry) → Has all_entries e
+every_entry Founding = inl refl
+every_entry Joining = inr (inl refl)
+every_entry Income = inr (inr (inl refl))
+every_entry Wages = inr (inr (inr (inl refl)))
+every_entry Recruiting = inr (inr (inr (inr (inl refl))))
+every_entry Study = inr (inr (inr (inr (inr (inl refl)))))
+every_entry Upkeep = inr (inr (inr (inr (inr (inr (inl refl))))))
+every_entry Lost = inr (inr (inr (inr (inr (inr (inr (inl refl)))))))
+every_entry Births = inr (inr (inr (inr (inr (inr (inr (inr (inl refl))))))))
+every_entry Starved = inr (inr (inr (inr (inr (inr (inr (inr (inr (inl refl)))))))))
+every_entry Left = inr (inr (inr (inr (inr (inr (inr (inr (inr (inr (inl refl))))))))))
+every_entry Made = inr (inr (inr (inr (inr (inr (inr (inr (inr (inr (inr (inl refl)))))))))))
+every_entry Used = inr (inr (inr (inr (inr (inr (inr (inr (inr (inr (inr (inr (inl refl))))))))))))
+
+-- the places of the entries rise
+abbrev are_rising : List Entry → Bool
+are_rising [] = true
+are_rising (e ∷ es) = list_all (λ f. nat_lt (entry_place e) (entry_place f)) es && are_rising es
+
+-- ---- the amounts of one thing
+
+pub differs_zero : (z : ℤ) → int_eq z (pos 0) ≡ false → z ≢ pos 0
+differs_zero z differs same = grind (ints, arith)
+
+pub is_differing : (z : ℤ) → z ≢ pos 0 → int_eq z (pos 0) ≡ false
+is_differing z apart = elim (cases_Bool (int_eq z (pos 0))) [ inl same ↦ absurd (apart (grind (ints, arith))) | inr differs ↦ differs ]
+
+pub two_same : (a b c d : ℕ) → ◌≡◌ {A = Row} (books_key a b) (books_key c d) → (a ≡ c) × (b ≡ d)
+two_same a b c d same = (cc, cc)
+
+module _ (c : State) where
+  abbrev row_at : Entry → Thing → Row
+  row_at e t = books_row (entry_place e + 1) (thing_place t) (amount_in c.books e t)
+
+  entries_has : (t : Thing) (es : List Entry) (r : Row) → Has (entries_lines c t es) r → (e : Entry) × Has es e × (amount_in c.books e t ≢ pos 0) × (r ≡ row_at e t)
+  entries_has t es r there =
+      let found = flat_has (λ e. amount_lines c e t) es r there in
+      let row = optional_has (int_eq (amount_in c.books found.0 t) (pos 0)) (row_at found.0 t) r found.2 in
+      (found.0, found.1, differs_zero (amount_in c.books found.0 t) row.0, row.1)
+
+  has_entries : (t : Thing) (es : List Entry) (e : Entry) → Has es e → amount_in c.books e t ≢ pos 0 → Has (entries_lines c t es) (row_at e t)
+  has_entries t es e there some = has_flat (λ e. amount_lines c e t) es e (row_at e t) there (has_optional (int_eq (amount_in c.books e t) (pos 0)) (row_at e t) (is_differing (amount_in c.books e t) some))
+
+  entries_apart : (t : Thing) (es : List Entry) → are_rising es ≡ true → AreApart 2 (entries_lines c t es)
+  entries_apart t [] rising = tt
+  entries_apart t (e ∷ es) rising =
+      apart_append 2 (amount_lines c e t) (entries_lines c t es) (optional_apart 2 (int_eq (amount_in c.books e t) (pos 0)) (row_at e t)) (entries_apart t es (and_parts _ _ rising).1)
+      (λ x y early late same.
+      let one = optional_has (int_eq (amount_in c.books e t) (pos 0)) (row_at e t) x early in
+      let two = entries_has t es y late in
+      let keys = two_same (entry_place e + 1) (thing_place t) (entry_place two.0 + 1) (thing_place t) (ap (take 2) (sym one.1) ∙ same ∙ ap (take 2) two.3) in
+      let less = test_has (λ f. nat_lt (entry_place e) (entry_place f)) es two.0 (and_parts _ _ rising).0 two.1 in
+      grind (arith, nat_tests, keys.0, less))
+
+  -- ---- all things
+
+  range_has : (from count i : ℕ) → Has (range_with_len from count) i → (from ≤ i) × (i < from + count)
+  range_has from zero i there = absurd there
+  range_has from (suc count) i (inl same) = (omega (arith, same), omega (arith, same))
+  range_has from (suc count) i (inr later) = let h = range_has (from + 1) count i later in (omega (arith, h.0), omega (arith, h.1))
+
+  has_range : (from count i : ℕ) → from ≤ i → i < from + count → Has (range_with_len from count) i
+  has_range from zero i least most = absurd (omega (arith, least, most))
+  has_range from (suc count) i least most = elim (cases_lt from i) [
+    | inl later ↦ inr (has_range (from + 1) count i (omega (arith, later)) (omega (arith, most)))
+    | inr here ↦ inl (omega (arith, least, here))
+  ]
+
+  things_apart : (from count : ℕ) → AreApart 2 (things_lines c (range_with_len from count))
+  things_apart from zero = tt
+  things_apart from (suc count) =
+      apart_append 2 (entries_lines c (thing_at from) all_entries) (things_lines c (range_with_len (from + 1) count)) (entries_apart (thing_at from) all_entries refl) (things_apart (from + 1) count)
+      (λ x y early late same.
+      let one = entries_has (thing_at from) all_entries x early in
+      let found = flat_has (λ place. entries_lines c (thing_at place) all_entries) (range_with_len (from + 1) count) y late in
+      let two = entries_has (thing_at found.0) all_entries y found.2 in
+      let keys = two_same (entry_place one.0 + 1) (thing_place (thing_at from)) (entry_place two.0 + 1) (thing_place (thing_at found.0)) (ap (take 2) (sym one.3) ∙ same ∙ ap (take 2) two.3) in
+      let places : from ≡ found.0 = sym (place_at from) ∙ keys.1 ∙ place_at found.0 in
+      absurd (omega (arith, places, (range_has (from + 1) count found.0 found.1).0)))
+
+  -- an amount that is not 0 has a place
+  within : (e : Entry) (t : Thing) → amount_in c.books e t ≢ pos 0 → thing_place t < length c.books
+  within e t some = elim (cases_lt (thing_place t) (length c.books)) [
+    | inl inside ↦ inside
+    | inr past ↦ absurd (some (ap (λ (row : List ℤ). get_or row (entry_place e) (pos 0)) (get_or_past c.books (thing_place t) [] (omega (arith, past))) ∙ get_or_past [] (entry_place e) (pos 0) (omega arith)))
+  ]
+
+  pub books_filled : (rows old : List Row) → old ≡ [] → Is rows (puts 2 (things_lines c (range_with_len 0 (length c.books))) (Has old)) → Is rows (BooksRowsOf c.books)
+  books_filled rows old none made r =
+      let places = range_with_len 0 (length c.books) in
+      let is = filled 2 rows (things_lines c places) old none (things_apart 0 (length c.books)) made r in (
+        λ there.
+            let found = flat_has (λ place. entries_lines c (thing_at place) all_entries) places r (is.0 there) in
+            let row = entries_has (thing_at found.0) all_entries r found.2 in
+            (row.0, thing_at found.0, row.2, row.3),
+        λ of.
+            let inside = has_range 0 (length c.books) (thing_place of.1) (omega arith) (omega (arith, within of.0 of.1 of.2)) in
+            let here : Has (entries_lines c (thing_at (thing_place of.1)) all_entries) (row_at of.0 of.1) = subst (λ t. Has (entries_lines c t all_entries) (row_at of.0 of.1)) (sym (at_place of.1)) (has_entries of.1 all_entries of.0 (every_entry of.0) of.2) in
+            is.1 (subst (Has (things_lines c places)) (sym of.3) (has_flat (λ place. entries_lines c (thing_at place) all_entries) places (thing_place of.1) (row_at of.0 of.1) inside here)),
+      )

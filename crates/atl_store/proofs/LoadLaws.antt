@@ -1,0 +1,54 @@
+-- From the rows that a SELECT gave to the trees: the rowids differ and are integers.
+use Rattle.std.proofs.Common.{◌≡◌, ℕ, true, false, List, [], ◌∷◌, map, Ordering, Less, Equal, Greater, refl, sym, ap, ◌∙◌}
+use Rattle.std.specs.List.{AllByRecursion, IsDistinct}
+use Rattle.std.specs.List.Sorted.{IsPermutation}
+use Rattle.std.specs.Ordering.{is_eq, ordering_reverse}
+use Rattle.std.proofs.lemmas.List.Sorted.{IsPermutation-sym}
+use Rattle.std.proofs.lemmas.Map.Keys.{IsDistinct-IsPermutation}
+use Rattle.sqlite_value.specs.Order.{Row, column, value_cmp}
+use Rattle.sqlite_value.proofs.OrderLemmas.{value_cmp_total}
+use Rattle.sqlite_trees.specs.Tree.{rowid, IsAscending}
+use Rattle.sqlite_trees.specs.View.{is_int}
+use Rattle.sqlite_trees.proofs.ListLemmas.{all-permutation}
+use Rattle.atl_store.specs.Sets.{IsKeyed}
+
+-- the rows have different integers in this column
+pub record HaveKeys (at : ℕ) (rows : List Row) : Type 0 where
+  pub apart : IsDistinct (λ a b. is_eq (value_cmp (column a at) (column b at))) rows
+  pub ints : AllByRecursion (λ r. is_int (column r at) ≡ true) rows
+
+all_mapped : (f : Row → Row) (P Q : Row → Type 0) (rows : List Row) → ((r : Row) → P (f r) → Q r) → AllByRecursion P (map f rows) → AllByRecursion Q rows
+all_mapped f P Q [] so all = tt
+all_mapped f P Q (r ∷ rows) so all = (so r all.0, all_mapped f P Q rows so all.1)
+
+distinct_mapped : (f : Row → Row) (at : ℕ) (rows : List Row) → ((r : Row) → column (f r) at ≡ rowid r) → IsDistinct (λ a b. is_eq (value_cmp (column a at) (column b at))) (map f rows)
+    → IsDistinct (λ a b. is_eq (value_cmp (rowid a) (rowid b))) rows
+unfolding IsDistinct
+distinct_mapped f at [] is apart = tt
+distinct_mapped f at (r ∷ rows) is apart = (
+  all_mapped f _ _ rows (λ x h. ap (λ v. is_eq (value_cmp v (rowid x))) (sym (is r)) ∙ ap (λ v. is_eq (value_cmp (column (f r) at) v)) (sym (is x)) ∙ h) apart.0,
+  distinct_mapped f at rows is apart.1,
+)
+
+-- the same by the word that IsKeyed has
+ascending_from : (rows : List Row) → IsDistinct (λ a b. is_eq (value_cmp (rowid a) (rowid b))) rows → IsAscending (λ a b. is_eq (value_cmp (rowid a) (rowid b)) ≡ false) rows
+unfolding IsDistinct
+ascending_from [] apart = tt
+ascending_from (r ∷ rows) apart = (apart.0, ascending_from rows apart.1)
+
+flips : (at : ℕ) (a b : Row) → is_eq (value_cmp (column a at) (column b at)) ≡ is_eq (value_cmp (column b at) (column a at))
+flips at a b = ap is_eq (value_cmp_total.antisymm (column a at) (column b at)) ∙ reversed (value_cmp (column b at) (column a at))
+  where
+    reversed : (o : Ordering) → is_eq (ordering_reverse o) ≡ is_eq o
+    reversed Less = refl
+    reversed Equal = refl
+    reversed Greater = refl
+
+-- f shows a row, with its rowid in this column, and these are all rows that it shows
+pub keyed_by : (f : Row → Row) (at : ℕ) (tree shown : List Row) → ((r : Row) → column (f r) at ≡ rowid r) → IsPermutation (map f tree) shown → HaveKeys at shown → IsKeyed tree
+keyed_by f at tree shown is same have =
+    let back = IsPermutation-sym (map f tree) shown same in
+    record {
+      apart = ascending_from tree (distinct_mapped f at tree is (IsDistinct-IsPermutation _ (flips at) shown (map f tree) back have.apart));
+      ints = all_mapped f _ _ tree (λ r h. ap is_int (sym (is r)) ∙ h) (all-permutation _ shown (map f tree) back have.ints);
+    }

@@ -1,0 +1,47 @@
+-- What reading the table mail shows.
+use Rattle.std.proofs.Common.{◌≡◌, ℕ, false, List, [], ◌∷◌, codes, refl}
+use Rattle.sqlite_tied.specs.Compute.{everything}
+use Rattle.sqlite.specs.Command.TheVariants.{Select}
+use Rattle.sqlite.specs.declared.types.Value.TheVariants.{Null}
+use Rattle.sqlite.specs.Term.{Term, col}
+use Rattle.sqlite.specs.Collation.TheVariants.{Binary}
+use Rattle.sqlite.specs.Listing.{understood, reads_listing}
+use Rattle.sqlite.specs.Order.{Row}
+use Rattle.sqlite.specs.Program.{overlay}
+use Rattle.sqlite.specs.State.{State, Shown, Survives, CommitsShowing}
+use Rattle.sqlite.proofs.Callers.{IsPlain, command_of, reads_as}
+use Rattle.sqlite_value.specs.Keys.{ascending}
+use Rattle.atl_store.specs.Sets.{visible}
+use Rattle.atl_store.specs.Tables.{mail_table, nine_tables}
+use Rattle.atl_store.specs.Reading.{Reads}
+use Rattle.atl_store.specs.Stored.{first_columns}
+use Rattle.atl_store.proofs.ReadLaws.{all_query, all_shown, shows_only, commits_none}
+use Rattle.atl_store.proofs.ShownLaws.{whole_shown}
+use Rattle.std.proofs.Common.{map}
+
+abbrev pub all_mail : List ℕ
+all_mail = codes "SELECT faction, text FROM mail ORDER BY faction"
+
+abbrev project : List Term
+project = col 1 0 ∷ col 1 2 ∷ []
+
+all_is : command_of (understood nine_tables all_mail) ≡ Select (record { lets = []; body = all_query 8 project ((col 1 0, ascending Binary) ∷ []) }) (codes "faction" ∷ codes "text" ∷ [])
+unfolding understood everything
+all_is = refl
+
+all_plain : IsPlain (understood nine_tables all_mail)
+unfolding understood everything
+all_plain = (refl, refl)
+
+all_unlisted : reads_listing nine_tables all_mail ≡ false
+unfolding understood everything
+all_unlisted = refl
+
+pub reads_mail : (old new : State) (rows : List Row) → Shown all_mail [] old new rows → Reads mail_table (map (first_columns 2) rows) old new
+reads_mail old new rows h has =
+    let got = reads_as all_mail [] old new nine_tables has _ all_is all_plain all_unlisted rows h in
+    let shown = all_shown 8 project _ old.now.trees (overlay old.now.trees []) [] rows refl (got.answer Null) in
+    (whole_shown (visible mail_table) (first_columns 2) (λ r. refl) (old.now.trees 8) rows shown, shows_only all_mail [] old new rows nine_tables has all_plain h)
+
+pub commits_no_mail : (old new : State) → old.now.schema ≡ nine_tables → Survives old new (CommitsShowing all_mail [] old) → Survives old new (λ _. ⊥)
+commits_no_mail old new has = commits_none all_mail [] old new nine_tables has all_plain

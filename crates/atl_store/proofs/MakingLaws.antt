@@ -1,0 +1,55 @@
+-- One table after another is made, up to all nine.
+use Rattle.std.proofs.Common.{◌≡◌, ◌++◌, ◌∷◌, [], IsTrue, true, map, sym, ap, ◌∙◌, subst, inl, inr}
+use Rattle.sqlite.specs.Schema.{Schema}
+use Rattle.sqlite.specs.Table.{Table}
+use Rattle.sqlite.specs.State.{State}
+use Rattle.sqlite_schema.specs.Rules.{Obeys}
+use Rattle.sqlite_rules.specs.Lists.{Has}
+use Rattle.sqlite_rules.proofs.ListLemmas.{has_either}
+use Rattle.atl_store.specs.Sets.{IsKeyed, Creates, visible}
+use Rattle.atl_store.specs.Tables.{first_tables}
+use Rattle.atl_store.specs.Inside.{Inside, IsBlank}
+use Rattle.atl_store.specs.Making.{Extends, AreEmpty}
+
+-- one more table, where those before had no row
+pub extends : (before after : Schema) (table : Table) (old new : State) → IsTrue old.in_transaction → new.in_transaction ≡ true → after.tables ≡ before.tables ++ table ∷ []
+    → (old.now.schema ≡ before → Creates before after table.tree old.now new.now) → Extends before after old new
+extends before after table old new inside mode more makes = (
+  mode ∙ sym inside,
+  λ bare.
+      let made = makes bare.schema_is in (
+        record {
+          schema_is = made.schema_is;
+          empty = λ t listed. elim (has_either before.tables (table ∷ []) t (subst (λ l. Has l t) more listed)) [
+            | inl was ↦ made.others t was ∙ bare.empty t was
+            | inr (inl same) ↦ ap (λ (u : Table). new.now.trees u.tree) same ∙ made.empty
+            | inr (inr none) ↦ absurd none
+          ];
+        },
+        made.sound,
+      ),
+)
+
+pub extends_three : (one two three four : Schema) (a b c d : State) → Extends one two a b → Extends two three b c → Extends three four c d → Extends one four a d
+extends_three one two three four a b c d first second third = (third.0 ∙ second.0 ∙ first.0, λ bare. third.1 (second.1 (first.1 bare).0).0)
+
+no_rows : IsKeyed []
+no_rows = record { apart = tt; ints = tt }
+
+-- from a database without tables
+pub makes_tables : (a b c d : State) → Extends (first_tables 0 0) (first_tables 3 1) a b → Extends (first_tables 3 1) (first_tables 6 2) b c → Extends (first_tables 6 2) (first_tables 9 3) c d → Inside IsBlank AreEmpty a d
+makes_tables a b c d one two three =
+    let all = extends_three (first_tables 0 0) (first_tables 3 1) (first_tables 6 2) (first_tables 9 3) a b c d one two three in (
+      all.0,
+      λ blank.
+          let made = all.1 (record { schema_is = blank; empty = λ t listed. absurd listed }) in (
+            λ t listed. ap (map (visible t)) (made.0.empty t listed),
+            record {
+              schema = made.0.schema_is;
+              sound = record {
+                keyed = λ t listed. subst IsKeyed (sym (made.0.empty t listed)) no_rows;
+                obeys = subst (λ s. Obeys s d.now.trees) made.0.schema_is made.1.obeys;
+              };
+            },
+          ),
+    )

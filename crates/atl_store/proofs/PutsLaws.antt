@@ -1,0 +1,84 @@
+-- Rows that are put one after another.
+use Rattle.std.proofs.Common.{◌≡◌, ◌≢◌, ◌↔◌, ◌++◌, ℕ, List, [], ◌∷◌, refl, ◌∙◌, inl, inr}
+use Rattle.sqlite.specs.Order.{Row}
+use Rattle.sqlite.specs.Table.{Table}
+use Rattle.sqlite.specs.Effect.{Database}
+use Rattle.sqlite.specs.State.{State}
+use Rattle.sqlite_rules.specs.Lists.{Has}
+use Rattle.atl_store.specs.Sets.{Set, rows_in, put, puts}
+use Rattle.atl_store.specs.Tables.{nine_tables}
+use Rattle.atl_store.specs.Inside.{Inside, HasTables, Puts, PutsRows}
+
+-- with the rest put too, all is put
+pub record Towards (table : Table) (key : ℕ) (rest all : List Row) (old now : Database) : Type 0 where
+  pub rows : (r : Row) → puts key rest (Has (rows_in table now.trees)) r ↔ puts key all (Has (rows_in table old.trees)) r
+  pub others : (t : Table) → Has nine_tables.tables t → t.tree ≢ table.tree → now.trees t.tree ≡ old.trees t.tree
+
+puts_same : (key : ℕ) (news : List Row) (S T : Set) → ((r : Row) → S r ↔ T r) → (r : Row) → puts key news S r ↔ puts key news T r
+puts_same key [] S T same r = same r
+puts_same key (new ∷ news) S T same r = puts_same key news (put key new S) (put key new T) (λ x. (
+  λ h. elim h [ inl is ↦ inl is | inr was ↦ inr ((same x).0 was.0, was.1) ],
+  λ h. elim h [ inl is ↦ inl is | inr was ↦ inr ((same x).1 was.0, was.1) ],
+)) r
+
+puts_append : (key : ℕ) (xs ys : List Row) (S : Set) (r : Row) → puts key (xs ++ ys) S r → puts key ys (puts key xs S) r
+puts_append key [] ys S r h = h
+puts_append key (x ∷ xs) ys S r h = puts_append key xs ys (put key x S) r h
+
+append_puts : (key : ℕ) (xs ys : List Row) (S : Set) (r : Row) → puts key ys (puts key xs S) r → puts key (xs ++ ys) S r
+append_puts key [] ys S r h = h
+append_puts key (x ∷ xs) ys S r h = append_puts key xs ys (put key x S) r h
+
+module _ (table : Table) (key : ℕ) where
+  towards_start : (all : List Row) (db : Database) → Towards table key all all db db
+  towards_start all db = record { rows = λ r. (λ h. h, λ h. h); others = λ t listed other. refl }
+
+  towards_rows : (xs rest all : List Row) (old mid new : Database) → Towards table key (xs ++ rest) all old mid → PutsRows table key xs mid new → Towards table key rest all old new
+  towards_rows xs rest all old mid new so_far more = record {
+    rows = λ r.
+        let same = puts_same key rest (Has (rows_in table new.trees)) (puts key xs (Has (rows_in table mid.trees))) more.rows r in (
+          λ h. (so_far.rows r).0 (append_puts key xs rest _ r (same.0 h)),
+          λ h. same.1 (puts_append key xs rest _ r ((so_far.rows r).1 h)),
+        );
+    others = λ t listed other. more.others t listed other ∙ so_far.others t listed other;
+  }
+
+  puts_one : (x : Row) (old new : Database) → Puts table key x old new → PutsRows table key (x ∷ []) old new
+  puts_one x old new one = record { rows = one.rows; others = one.others }
+
+  pub inside_start : (all : List Row) (s : State) → Inside HasTables (Towards table key all all) s s
+  inside_start all s = (refl, λ has. (towards_start all s.now, has))
+
+  pub inside_rows : (xs rest all : List Row) (old mid new : State) → Inside HasTables (Towards table key (xs ++ rest) all) old mid → Inside HasTables (PutsRows table key xs) mid new → Inside HasTables (Towards table key rest all) old new
+  inside_rows xs rest all old mid new so_far more = (
+    more.0 ∙ so_far.0,
+    λ has.
+        let was = so_far.1 has in
+        let now = more.1 was.1 in
+        (towards_rows xs rest all old.now mid.now new.now was.0 now.0, now.1),
+  )
+
+  pub inside_one : (x : Row) (rest all : List Row) (old mid new : State) → Inside HasTables (Towards table key (x ∷ rest) all) old mid → Inside HasTables (Puts table key x) mid new → Inside HasTables (Towards table key rest all) old new
+  inside_one x rest all old mid new so_far more = inside_rows (x ∷ []) rest all old mid new so_far (more.0, λ has. let did = more.1 has in (puts_one x mid.now new.now did.0, did.1))
+
+  pub inside_end : (all : List Row) (old new : State) → Inside HasTables (Towards table key [] all) old new → Inside HasTables (PutsRows table key all) old new
+  inside_end all old new done = (done.0, λ has. let did = done.1 has in (record { rows = did.0.rows; others = did.0.others }, did.1))
+
+  -- one list after another
+  pub inside_both : (xs ys : List Row) (a b c : State) → Inside HasTables (PutsRows table key xs) a b → Inside HasTables (PutsRows table key ys) b c → Inside HasTables (PutsRows table key (xs ++ ys)) a c
+  inside_both xs ys a b c one two = (
+    two.0 ∙ one.0,
+    λ has.
+        let was = one.1 has in
+        let now = two.1 was.1 in (
+          record {
+            rows = λ r.
+                let same = puts_same key ys (Has (rows_in table b.now.trees)) (puts key xs (Has (rows_in table a.now.trees))) was.0.rows r in (
+                  λ there. append_puts key xs ys _ r (same.0 ((now.0.rows r).0 there)),
+                  λ h. (now.0.rows r).1 (same.1 (puts_append key xs ys _ r h)),
+                );
+            others = λ t listed other. now.0.others t listed other ∙ was.0.others t listed other;
+          },
+          now.1,
+        ),
+  )

@@ -1,0 +1,39 @@
+-- What the writing of a joining and of a mail does.
+use Rattle.std.specs.Prelude.{◌≡◌, ◌≢◌, ◌⊎◌, ◌+◌, ◌≤◌, ℕ, List, Some, length, take}
+use Rattle.std.specs.FinMap.{get}
+use Rattle.sqlite.specs.Table.{Table}
+use Rattle.sqlite.specs.Effect.{Database}
+use Rattle.sqlite_rules.specs.Lists.{Has}
+use Rattle.atl_state.specs.State.{State}
+use Rattle.atl_state.specs.Books.{entry_place, thing_place}
+use Rattle.atl_state.specs.declared.books.Entry.{Entry}
+use Rattle.atl_state.specs.declared.books.Thing.{Thing}
+use Rattle.atl_state.specs.declared.records.Faction.{Faction}
+use Rattle.atl_state.specs.declared.records.Unit.{Unit}
+use Rattle.atl_store.specs.Sets.{Is, rows_in}
+use Rattle.atl_store.specs.Tables.{books_table, nine_tables}
+use Rattle.atl_store.specs.Shown.{books_key}
+use Rattle.atl_store.specs.Lines.{amount_lines}
+use Rattle.atl_store.specs.Rows.{Holds}
+use Rattle.atl_store.specs.Keeps.{IsJoining, with_mail}
+
+-- the campaign has this faction, its report, and the unit that came last
+pub record IsFound (c : State) (number : ℕ) (faction : Faction) (place : ℕ) (unit : Unit) (report : List ℕ) : Type 0 where
+  pub place_is : c.next_unit ≡ place + 1
+  pub faction_is : get c.factions number ≡ Some faction
+  pub unit_is : get c.units place ≡ Some unit
+  pub report_is : get c.reports number ≡ Some report
+  pub things : 2 ≤ length c.books
+
+-- the amount of a thing under an entry has its row, or none where it is 0, and every other row and table is as it was
+pub record Settles (c : State) (entry : Entry) (thing : Thing) (old new : Database) : Type 0 where
+  pub rows : Is (rows_in books_table new.trees) (λ r. Has (amount_lines c entry thing) r ⊎ (Has (rows_in books_table old.trees) r × (take 2 r ≢ books_key (entry_place entry + 1) (thing_place thing))))
+  pub others : (t : Table) → Has nine_tables.tables t → t.tree ≢ books_table.tree → new.trees t.tree ≡ old.trees t.tree
+
+-- tables that held the campaign before a joining hold the one after it
+abbrev pub WritesJoin : ℕ → State → Database → Database → Type 0
+WritesJoin faction after old new = (text : List ℕ) (before : State) → IsJoining before faction after → Holds old.trees text before → Holds new.trees text after
+
+-- tables that held a campaign hold it with this mail
+abbrev pub WritesMail : ℕ → List ℕ → Database → Database → Type 0
+WritesMail faction mail old new = (text : List ℕ) (before : State) → Holds old.trees text before → Holds new.trees text (with_mail before faction mail)

@@ -1,0 +1,17 @@
+pub mod Sets
+pub mod Tables
+pub mod Inside
+pub mod Making
+pub mod Shown
+pub mod PutsHead
+pub mod Written
+pub mod Faults
+pub mod Stored
+pub mod Reading
+pub mod StoredRows
+pub mod Rows
+pub mod Lines
+pub mod Filling
+pub mod Keeps
+pub mod Arriving
+pub mod WorldText

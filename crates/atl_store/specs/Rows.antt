@@ -1,0 +1,73 @@
+-- The rows that stand for a world text and a campaign: of each table the set of its rows, told from the whole campaign.
+use Rattle.std.specs.Prelude.{◌≡◌, ◌≢◌, ◌+◌, ℕ, ℤ, pos, List, map, Some}
+use Rattle.std.specs.Ordering.{nat_cmp}
+use Rattle.std.specs.FinMap.{FinMap, get}
+use Rattle.sqlite.specs.Order.{Row}
+use Rattle.sqlite_trees.specs.Tree.{Trees}
+use Rattle.atl_state.specs.State.{State}
+use Rattle.atl_state.specs.Held.{Held}
+use Rattle.atl_state.specs.Books.{amount_in, entry_place, thing_place}
+use Rattle.atl_state.specs.declared.books.Entry.{Entry}
+use Rattle.atl_state.specs.declared.books.Thing.{Thing}
+use Rattle.atl_state.specs.declared.records.Faction.{Faction}
+use Rattle.atl_state.specs.declared.records.Region.{Region}
+use Rattle.atl_state.specs.declared.records.Structure.{Structure}
+use Rattle.atl_state.specs.declared.records.Unit.{Unit}
+use Rattle.atl_store.specs.declared.rows.has.Sort.{Sort}
+use Rattle.atl_store.specs.declared.rows.has.Sort.TheVariants.{Item, Skill}
+use Rattle.atl_store.specs.Sets.{Is, rows_in}
+use Rattle.atl_store.specs.Tables.{campaign_table, faction_table, region_table, unit_table, has_table, structure_table, mail_table, report_table, books_table}
+use Rattle.atl_store.specs.Shown.{Head, head_row, faction_row, region_row, unit_row, has_row, structure_row, mail_row, report_row, books_row}
+use Rattle.atl_store.specs.Written.{sort_number}
+
+abbrev pub head_of : State → Head
+head_of c = record { month = c.month; next_faction = c.next_faction; next_unit = c.next_unit; next_structure = c.next_structure; pass = c.pass }
+
+abbrev pub campaign_line : List ℕ → State → Row
+campaign_line text c = head_row (head_of c) text
+
+abbrev pub faction_line : ℕ → Faction → Row
+faction_line n f = faction_row n f.joined_as f.name f.pass f.gone
+
+abbrev pub region_line : ℕ → Region → Row
+region_line n r = region_row n r.peasants r.money
+
+abbrev pub unit_line : ℕ → Unit → Row
+unit_line n u = unit_row n u.faction u.holding.name u.region u.structure u.holding.men u.holding.money u.holding.guard
+
+abbrev pub structure_line : ℕ → Structure → Row
+structure_line n s = structure_row n s.kind s.name s.region s.done s.owner
+
+-- one row for each entry of a map
+abbrev pub RowsOf : {V : Type 0} → (ℕ → V → Row) → FinMap nat_cmp V → Row → Type 0
+RowsOf {V} line m r = (n : ℕ) × (v : V) × (get m n ≡ Some v) × (r ≡ line n v)
+
+-- the same as a list, in the order of the entries
+abbrev pub lines_of : {V : Type 0} → (ℕ → V → Row) → List (ℕ × V) → List Row
+lines_of line entries = map (λ e. line e.0 e.1) entries
+
+-- what a holding has of a sort: amounts of items, days of skills
+abbrev pub things_of : Sort → Held → FinMap nat_cmp ℕ
+things_of Item held = held.items
+things_of Skill held = held.days
+
+-- one row for each thing that a unit has, where the amount is not 0
+abbrev pub HasRowsOf : FinMap nat_cmp Unit → Row → Type 0
+HasRowsOf units r =
+    (n : ℕ) × (u : Unit) × (get units n ≡ Some u) × (sort : Sort) × (thing : ℕ) × (amount : ℕ) × (get (things_of sort u.holding) thing ≡ Some amount) × (amount ≢ 0) × (r ≡ has_row n (sort_number sort) thing amount)
+
+-- one row for each entry and thing where the amount is not 0
+abbrev pub BooksRowsOf : List (List ℤ) → Row → Type 0
+BooksRowsOf books r = (e : Entry) × (t : Thing) × (amount_in books e t ≢ pos 0) × (r ≡ books_row (entry_place e + 1) (thing_place t) (amount_in books e t))
+
+-- the tables have exactly the rows of the world text and the campaign
+pub record Holds (trees : Trees) (text : List ℕ) (c : State) : Type 0 where
+  pub campaign : Is (rows_in campaign_table trees) (λ r. r ≡ campaign_line text c)
+  pub factions : Is (rows_in faction_table trees) (RowsOf faction_line c.factions)
+  pub regions : Is (rows_in region_table trees) (RowsOf region_line c.regions)
+  pub units : Is (rows_in unit_table trees) (RowsOf unit_line c.units)
+  pub has : Is (rows_in has_table trees) (HasRowsOf c.units)
+  pub structures : Is (rows_in structure_table trees) (RowsOf structure_line c.structures)
+  pub mail : Is (rows_in mail_table trees) (RowsOf mail_row c.mail)
+  pub reports : Is (rows_in report_table trees) (RowsOf report_row c.reports)
+  pub books : Is (rows_in books_table trees) (BooksRowsOf c.books)

@@ -1,0 +1,73 @@
+-- The nine tables: their columns, keys and checks, and the schema that they make together.
+use Rattle.std.specs.Prelude.{[], ◌∷◌, Some, None, codes, pos, take, List, ℕ}
+use Rattle.sqlite.specs.declared.types.Value.TheVariants.{Int}
+use Rattle.sqlite.specs.Table.{Table}
+use Rattle.sqlite.specs.Schema.{Schema}
+use Rattle.sqlite.specs.Kind.TheVariants.{Integer, Text, Blob}
+use Rattle.sqlite.specs.Collation.TheVariants.{Binary}
+use Rattle.sqlite_catalog.specs.Listing.{automatic}
+use Rattle.sqlite_schema.specs.declared.schema.Column.{Column}
+use Rattle.sqlite_schema.specs.declared.schema.Index.{Index}
+use Rattle.sqlite_sql.specs.Term.{lit, col, op2}
+use Rattle.sqlite_sql.specs.declared.ops.BinaryOp.TheVariants.{Compare}
+use Rattle.sqlite_sql.specs.declared.ops.CompareOp.TheVariants.{Eq}
+use Rattle.atl_store.specs.Sets.{field, table}
+
+abbrev pub number : List ℕ → Column
+number name = field name Integer
+
+abbrev pub text : List ℕ → Column
+text name = field name Text
+
+abbrev pub campaign_table : Table
+campaign_table = table 0 (codes "campaign")
+    (number (codes "id") ∷ number (codes "format") ∷ number (codes "month") ∷ number (codes "next_faction") ∷ number (codes "next_unit") ∷ number (codes "next_structure") ∷ text (codes "pass") ∷ text (codes "world") ∷ [])
+    (Some 0) (0 ∷ []) [] (op2 (Compare Eq Binary) (col 1 0) (lit (Int (pos 1))) ∷ [])
+
+abbrev pub faction_table : Table
+faction_table = table 1 (codes "faction")
+    (number (codes "number") ∷ text (codes "joined_as") ∷ text (codes "name") ∷ text (codes "pass") ∷ number (codes "gone") ∷ [])
+    (Some 0) (0 ∷ []) ((2 ∷ []) ∷ []) []
+
+abbrev pub region_table : Table
+region_table = table 3 (codes "region") (number (codes "number") ∷ number (codes "peasants") ∷ number (codes "money") ∷ []) (Some 0) (0 ∷ []) [] []
+
+abbrev pub unit_table : Table
+unit_table = table 4 (codes "unit")
+    (number (codes "number") ∷ number (codes "faction") ∷ text (codes "name") ∷ number (codes "region") ∷ number (codes "structure") ∷ number (codes "men") ∷ number (codes "money") ∷ number (codes "guard") ∷ [])
+    (Some 0) (0 ∷ []) [] []
+
+abbrev pub has_table : Table
+has_table = table 5 (codes "has") (number (codes "unit") ∷ number (codes "sort") ∷ number (codes "thing") ∷ number (codes "amount") ∷ []) None (1 ∷ 2 ∷ 3 ∷ []) ((1 ∷ 2 ∷ 3 ∷ []) ∷ []) []
+
+abbrev pub structure_table : Table
+structure_table = table 7 (codes "structure")
+    (number (codes "number") ∷ number (codes "kind") ∷ text (codes "name") ∷ number (codes "region") ∷ number (codes "done") ∷ number (codes "owner") ∷ [])
+    (Some 0) (0 ∷ []) [] []
+
+abbrev pub mail_table : Table
+mail_table = table 8 (codes "mail") (number (codes "faction") ∷ field (codes "text") Blob ∷ []) (Some 0) (0 ∷ []) [] []
+
+abbrev pub report_table : Table
+report_table = table 9 (codes "report") (number (codes "faction") ∷ text (codes "text") ∷ []) (Some 0) (0 ∷ []) [] []
+
+abbrev pub books_table : Table
+books_table = table 10 (codes "books") (number (codes "entry") ∷ number (codes "thing") ∷ number (codes "amount") ∷ []) None (1 ∷ 2 ∷ []) ((1 ∷ 2 ∷ []) ∷ []) []
+
+-- in the order in which they are made
+abbrev pub all_tables : List Table
+all_tables = campaign_table ∷ faction_table ∷ region_table ∷ unit_table ∷ has_table ∷ structure_table ∷ mail_table ∷ report_table ∷ books_table ∷ []
+
+-- the keys that are not the row's number have an index of their own
+abbrev pub all_indexes : List Index
+all_indexes = automatic faction_table 0 (2 ∷ []) 2 ∷ automatic has_table 0 (1 ∷ 2 ∷ 3 ∷ []) 6 ∷ automatic books_table 0 (1 ∷ 2 ∷ []) 11 ∷ []
+
+-- the schema once so many of the tables are made, which have so many indexes
+abbrev pub first_tables : ℕ → ℕ → Schema
+first_tables tables indexes = record { tables = take tables all_tables; indexes = take indexes all_indexes; views = [] }
+
+abbrev pub no_tables : Schema
+no_tables = first_tables 0 0
+
+abbrev pub nine_tables : Schema
+nine_tables = record { tables = all_tables; indexes = all_indexes; views = [] }

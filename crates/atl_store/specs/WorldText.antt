@@ -1,0 +1,23 @@
+-- The world text that the tables of a campaign hold.
+use Rattle.std.specs.Prelude.{ℕ, List, [], ◌∷◌}
+use Rattle.sqlite.specs.declared.types.Value.{Value}
+use Rattle.sqlite.specs.declared.types.Value.TheVariants.{Null, Int, Real, Text, Blob}
+use Rattle.sqlite.specs.Order.{Row, column}
+use Rattle.sqlite.specs.State.{State}
+use Rattle.atl_store.specs.Sets.{rows_in}
+use Rattle.atl_store.specs.Tables.{campaign_table}
+
+abbrev pub text_of : Value → List ℕ
+text_of (Text t) = t
+text_of Null = []
+text_of (Int n) = []
+text_of (Real x) = []
+text_of (Blob b) = []
+
+-- the last column of the first row
+abbrev pub world_in : List Row → List ℕ
+world_in [] = []
+world_in (r ∷ rows) = text_of (column r 7)
+
+abbrev pub world_text : State → List ℕ
+world_text s = world_in (rows_in campaign_table s.now.trees)

@@ -1,0 +1,88 @@
+//! Why the store gives up.
+ghost use Rattle.std.specs.Prelude.{◌≡◌};
+ghost use Rattle.atl_store.specs.Faults.{read_fault, value_fault, write_fault, create_fault};
+
+use sqlite::{Error, ErrorCode};
+use std::alloc::AllocFailed;
+
+/// Why nothing was written. The tables are as they were.
+#[derive(Drop, Clone, Copy, Debug, PartialEq, Eq)]
+pub enum WriteFault {
+    /// The database refuses for another cause than memory.
+    Store,
+    /// There is no memory for it.
+    Memory,
+}
+
+/// Why no campaign was created. The tables are as they were.
+#[derive(Drop, Clone, Copy, Debug, PartialEq, Eq)]
+pub enum CreateFault {
+    /// A table `campaign` is there already.
+    NotEmpty,
+    /// The database refuses for another cause than memory, or has other tables.
+    Store,
+    /// There is no memory for it.
+    Memory,
+}
+
+/// Why the rows of a table are not read.
+#[derive(Drop, Clone, Copy, Debug, PartialEq, Eq)]
+pub enum ReadFault {
+    /// The database refuses for another cause than memory.
+    Store,
+    /// There is no memory for them.
+    Memory,
+    /// A value is of another type than its column, or is a text that is not UTF-8.
+    OtherType,
+}
+
+impl From<Error> for ReadFault {
+    ghost from_gives = { λ error fault. fault ≡ read_fault error };
+
+    fn from(error: Error) -> ReadFault {
+        match error {
+            Error::SqliteFailure(ErrorCode::OutOfMemory) => ReadFault::Memory,
+            _ => ReadFault::Store,
+        }
+    }
+}
+
+impl<T: Drop> From<AllocFailed<T>> for ReadFault {
+    ghost use Rattle.atl_store.specs.declared.fault.ReadFault.TheVariants.{Memory};
+
+    ghost from_gives = { λ _ fault. fault ≡ Memory };
+
+    fn from(_e: AllocFailed<T>) -> ReadFault {
+        ReadFault::Memory
+    }
+}
+
+/// The fault of a writing that the database refused.
+pub(crate) fn unwritten(error: Error) -> WriteFault
+    ensures { result ≡ write_fault error }
+{
+    match error {
+        Error::SqliteFailure(ErrorCode::OutOfMemory) => WriteFault::Memory,
+        _ => WriteFault::Store,
+    }
+}
+
+/// The fault of a creation that the database refused.
+pub(crate) fn refused(error: Error) -> CreateFault
+    ensures { result ≡ create_fault error }
+{
+    match error {
+        Error::SqliteFailure(ErrorCode::OutOfMemory) => CreateFault::Memory,
+        _ => CreateFault::Store,
+    }
+}
+
+/// The fault of a value that is not read.
+pub(crate) fn unread(error: Error) -> ReadFault
+    ensures { result ≡ value_fault error }
+{
+    match error {
+        Error::SqliteFailure(ErrorCode::OutOfMemory) => ReadFault::Memory,
+        _ => ReadFault::OtherType,
+    }
+}

@@ -1,0 +1,170 @@
+//! A whole campaign is written into a new store.
+ghost use Rattle.std.specs.Prelude.{◌≡◌, ◌⊎◌, false, IsTrue, OnOk, OnErr, IfErr};
+ghost use Rattle.sqlite.specs.Held.{state};
+ghost use Rattle.sqlite.specs.State.{HasCleanDisk, Survives, KeepsCommit};
+ghost use Rattle.atl_store.specs.Tables.{no_tables};
+ghost use Rattle.atl_store.specs.Rows.{head_of};
+ghost use Rattle.atl_store.specs.PutsHead.{PutsHead};
+ghost use Rattle.atl_store.specs.Inside.{Inside, HasTables, IsBlank, Commits, LeavesOff, MayLeave};
+ghost use Rattle.atl_store.specs.Making.{has_campaign};
+ghost use Rattle.atl_store.specs.Filling.{FillsPlayers, FillsPlaces, FillsPeople, WritesFounding};
+ghost use Rattle.atl_store.specs.Keeps.{Keeps, Spares, MayFound, IsNotEmptyOnly};
+
+use crate::fault::{CreateFault, refused};
+use crate::goods::put_all_goods;
+use crate::kept::put_each;
+use crate::ledger::put_all_books;
+use crate::rows::campaign::{CampaignRow, put_campaign};
+use crate::tables::create_tables;
+use atl_state::Campaign;
+use sqlite::{Alter, Connection, Error, Transaction};
+use sqlite_schema::schema::Schema;
+
+/// Puts the campaign's own row with this world text. Where the row is there it keeps its own world text.
+pub(crate) fn put_head<S: Alter>(
+    tx: &mut Transaction<'_, S>,
+    campaign: &Campaign,
+    world: &str,
+) -> Result<(), Error>
+    ensures same_reference { tx.new.conn.ghost_name ≡ tx.old.conn.ghost_name }
+    ensures put { HasCleanDisk (state S.Store tx.new.conn.now) → OnOk result (Inside HasTables (PutsHead (head_of campaign.now.what) world.now) (state S.Store tx.old.conn.now) (state S.Store tx.new.conn.now)) }
+    ensures kept { HasCleanDisk (state S.Store tx.new.conn.now) → KeepsCommit (state S.Store tx.old.conn.now) (state S.Store tx.new.conn.now) }
+    ensures survives { Survives (state S.Store tx.old.conn.now) (state S.Store tx.new.conn.now) (λ _. ⊥) }
+{
+    let row = CampaignRow {
+        month: campaign.month(),
+        next_faction: campaign.next_faction(),
+        next_unit: campaign.next_unit(),
+        next_structure: campaign.next_structure(),
+        pass: campaign.pass().as_str(),
+    };
+    put_campaign(tx, &row, world)?;
+    Ok(())
+}
+
+/// Puts the campaign's own row, the factions and the reports.
+fn put_players<S: Alter>(
+    tx: &mut Transaction<'_, S>,
+    text: &str,
+    campaign: &Campaign,
+) -> Result<(), Error>
+    ensures same_reference { tx.new.conn.ghost_name ≡ tx.old.conn.ghost_name }
+    ensures put { HasCleanDisk (state S.Store tx.new.conn.now) → OnOk result (Inside HasTables (FillsPlayers text.now campaign.now.what) (state S.Store tx.old.conn.now) (state S.Store tx.new.conn.now)) }
+    ensures kept { HasCleanDisk (state S.Store tx.new.conn.now) → KeepsCommit (state S.Store tx.old.conn.now) (state S.Store tx.new.conn.now) }
+    ensures survives { Survives (state S.Store tx.old.conn.now) (state S.Store tx.new.conn.now) (λ _. ⊥) }
+{
+    put_head(tx, campaign, text)?;
+    put_each(tx, campaign.factions())?;
+    put_each(tx, campaign.reports())?;
+    Ok(())
+}
+
+/// Puts the regions, the structures and the books.
+fn put_places<S: Alter>(tx: &mut Transaction<'_, S>, campaign: &Campaign) -> Result<(), Error>
+    ensures same_reference { tx.new.conn.ghost_name ≡ tx.old.conn.ghost_name }
+    ensures put { HasCleanDisk (state S.Store tx.new.conn.now) → OnOk result (Inside HasTables (FillsPlaces campaign.now.what) (state S.Store tx.old.conn.now) (state S.Store tx.new.conn.now)) }
+    ensures kept { HasCleanDisk (state S.Store tx.new.conn.now) → KeepsCommit (state S.Store tx.old.conn.now) (state S.Store tx.new.conn.now) }
+    ensures survives { Survives (state S.Store tx.old.conn.now) (state S.Store tx.new.conn.now) (λ _. ⊥) }
+{
+    put_each(tx, campaign.regions())?;
+    put_each(tx, campaign.structures())?;
+    put_all_books(tx, campaign)?;
+    Ok(())
+}
+
+/// Puts the units, what they have, and the mail.
+fn put_people<S: Alter>(tx: &mut Transaction<'_, S>, campaign: &Campaign) -> Result<(), Error>
+    ensures same_reference { tx.new.conn.ghost_name ≡ tx.old.conn.ghost_name }
+    ensures put { HasCleanDisk (state S.Store tx.new.conn.now) → OnOk result (Inside HasTables (FillsPeople campaign.now.what) (state S.Store tx.old.conn.now) (state S.Store tx.new.conn.now)) }
+    ensures kept { HasCleanDisk (state S.Store tx.new.conn.now) → KeepsCommit (state S.Store tx.old.conn.now) (state S.Store tx.new.conn.now) }
+    ensures survives { Survives (state S.Store tx.old.conn.now) (state S.Store tx.new.conn.now) (λ _. ⊥) }
+{
+    put_each(tx, campaign.units())?;
+    put_all_goods(tx, campaign.units())?;
+    put_each(tx, campaign.mail())?;
+    Ok(())
+}
+
+/// Makes the tables and puts all rows of the campaign.
+fn put_founding<S: Alter>(
+    tx: &mut Transaction<'_, S>,
+    text: &str,
+    campaign: &Campaign,
+) -> Result<(), Error>
+    ensures same_reference { tx.new.conn.ghost_name ≡ tx.old.conn.ghost_name }
+    ensures put { HasCleanDisk (state S.Store tx.new.conn.now) → OnOk result (Inside IsBlank (WritesFounding text.now campaign.now.what) (state S.Store tx.old.conn.now) (state S.Store tx.new.conn.now)) }
+    ensures kept { HasCleanDisk (state S.Store tx.new.conn.now) → KeepsCommit (state S.Store tx.old.conn.now) (state S.Store tx.new.conn.now) }
+    ensures survives { Survives (state S.Store tx.old.conn.now) (state S.Store tx.new.conn.now) (λ _. ⊥) }
+{
+    create_tables(tx)?;
+    put_players(tx, text, campaign)?;
+    put_places(tx, campaign)?;
+    put_people(tx, campaign)?;
+    Ok(())
+}
+
+/// The transaction of a creation.
+fn write_founding<S: Alter>(
+    conn: &mut Connection<S>,
+    text: &str,
+    campaign: &Campaign,
+) -> Result<(), Error>
+    requires { conn.old.in_transaction ≡ false }
+    ensures ok { HasCleanDisk (state S.Store conn.new) → OnOk result (Commits IsBlank (WritesFounding text.now campaign.now.what) (state S.Store conn.old) (state S.Store conn.new)) }
+    ensures err { HasCleanDisk (state S.Store conn.new) → OnErr result (LeavesOff (state S.Store conn.old) (state S.Store conn.new)) }
+    ensures crash { Survives (state S.Store conn.old) (state S.Store conn.new) (MayLeave IsBlank (WritesFounding text.now campaign.now.what) (state S.Store conn.old)) }
+    ensures idle { conn.new.in_transaction ≡ false }
+{
+    let mut tx = conn.transaction();
+    put_founding(&mut tx, text, campaign)?;
+    tx.commit()?;
+    Ok(())
+}
+
+/// Whether there is a table `campaign`.
+fn is_there(schema: &Schema) -> bool
+    ensures { result ≡ has_campaign schema.now }
+{
+    for table in schema.tables.as_slice() {
+        if table.name.as_slice() == b"campaign".as_slice() {
+            return true;
+        }
+    }
+    false
+}
+
+/// Whether there is no table, index or view at all.
+fn is_blank(schema: &Schema) -> bool
+    ensures { IsTrue result → schema.now ≡ no_tables }
+{
+    schema.tables.as_slice().is_empty()
+        && schema.indexes.as_slice().is_empty()
+        && schema.views.as_slice().is_empty()
+}
+
+/// Makes the nine tables and writes the whole campaign with its world text, in one transaction. With Ok the connection
+/// holds the campaign. NotEmpty: a table `campaign` is there. Store: the connection is in a transaction, the database has
+/// other tables, or it refuses. On a fault the tables are as they were. See docs/FORMATS.md, "Tables".
+pub fn create<S: Alter>(
+    conn: &mut Connection<S>,
+    world_text: &str,
+    campaign: &Campaign,
+) -> Result<(), CreateFault>
+    ensures ok { HasCleanDisk (state S.Store conn.new) → OnOk result (Keeps (state S.Store conn.new) world_text.now campaign.now.what) }
+    ensures idle { OnOk result (conn.new.in_transaction ≡ false) }
+    ensures err { HasCleanDisk (state S.Store conn.new) → OnErr result (Spares (state S.Store conn.old) (state S.Store conn.new)) }
+    ensures crash { HasCleanDisk (state S.Store conn.new) → MayFound (state S.Store conn.old) world_text.now campaign.now.what (state S.Store conn.new) }
+    ensures not_empty { IfErr result (IsNotEmptyOnly conn.old.schema) }
+    ensures clean { HasCleanDisk (state S.Store conn.new) → HasCleanDisk (state S.Store conn.old) }
+{
+    if is_there(conn.schema()) {
+        return Err(CreateFault::NotEmpty);
+    }
+    if !is_blank(conn.schema()) || !conn.is_autocommit() {
+        return Err(CreateFault::Store);
+    }
+    match write_founding(conn, world_text, campaign) {
+        Ok(()) => Ok(()),
+        Err(error) => Err(refused(error)),
+    }
+}

@@ -1,0 +1,156 @@
+//! A joining is written into the tables of the campaign.
+ghost use Rattle.std.specs.Prelude.{◌≡◌, ◌≤◌, [], false, List, ℕ, OnOk, OnErr, IfSome, length};
+ghost use Rattle.sqlite.specs.Held.{state};
+ghost use Rattle.sqlite.specs.State.{HasCleanDisk, Survives, KeepsCommit};
+ghost use Rattle.atl_state.specs.State.{State};
+ghost use Rattle.atl_state.specs.declared.books.Entry.TheVariants.{Joining};
+ghost use Rattle.atl_state.specs.declared.books.Thing.TheVariants.{Money, People};
+ghost use Rattle.atl_store.specs.Tables.{faction_table, unit_table, report_table};
+ghost use Rattle.atl_store.specs.Shown.{report_row};
+ghost use Rattle.atl_store.specs.Rows.{head_of, faction_line, unit_line};
+ghost use Rattle.atl_store.specs.PutsHead.{PutsHead};
+ghost use Rattle.atl_store.specs.Inside.{Inside, HasTables, Both, Puts, Commits, LeavesOff, MayLeave};
+ghost use Rattle.atl_store.specs.Arriving.{IsFound, Settles, WritesJoin};
+ghost use Rattle.atl_store.specs.Keeps.{Keeps, Stops, IsJoining};
+
+use crate::fault::{WriteFault, unwritten};
+use crate::founding::put_head;
+use crate::kept::Kept;
+use crate::ledger::settle_amount;
+use atl_state::{Campaign, Entry, Faction, Thing, Unit};
+use atl_tables::Text;
+use sqlite::{Alter, Connection, Error, Transaction};
+
+/// A faction that joined, with its report and the unit that came last.
+#[derive(Clone, Copy)]
+struct Arrival<'a> {
+    number: u32,
+    faction: &'a Faction,
+    place: u32,
+    unit: &'a Unit,
+    report: &'a Text,
+}
+
+/// The faction that joined last, where the campaign has all of it.
+fn arrival_of(campaign: &Campaign, number: u32) -> Option<Arrival<'_>>
+    ensures found { IfSome result (λ a. IsFound campaign.now.what a.number a.faction.now a.place a.unit.now a.report.now) }
+    ensures number { IfSome result (λ a. a.number ≡ number) }
+{
+    let next = campaign.next_unit();
+    if next == 0 || campaign.things() < 2 {
+        return None;
+    }
+    let place = next - 1;
+    match campaign.faction(number) {
+        None => None,
+        Some(faction) => match campaign.unit(place) {
+            None => None,
+            Some(unit) => match campaign.report(number) {
+                None => None,
+                Some(report) => Some(Arrival {
+                    number,
+                    faction,
+                    place,
+                    unit,
+                    report,
+                }),
+            },
+        },
+    }
+}
+
+/// Puts the campaign's own row, the faction and its unit.
+fn put_newcomer<S: Alter>(
+    tx: &mut Transaction<'_, S>,
+    campaign: &Campaign,
+    arrival: &Arrival<'_>,
+) -> Result<(), Error>
+    ensures same_reference { tx.new.conn.ghost_name ≡ tx.old.conn.ghost_name }
+    ensures put { HasCleanDisk (state S.Store tx.new.conn.now) → OnOk result (Inside HasTables (Both (PutsHead (head_of campaign.now.what) []) (Both (Puts faction_table 1 (faction_line arrival.now.number arrival.now.faction.now)) (Puts unit_table 1 (unit_line arrival.now.place arrival.now.unit.now)))) (state S.Store tx.old.conn.now) (state S.Store tx.new.conn.now)) }
+    ensures kept { HasCleanDisk (state S.Store tx.new.conn.now) → KeepsCommit (state S.Store tx.old.conn.now) (state S.Store tx.new.conn.now) }
+    ensures survives { Survives (state S.Store tx.old.conn.now) (state S.Store tx.new.conn.now) (λ _. ⊥) }
+{
+    put_head(tx, campaign, "")?;
+    arrival.faction.put(tx, arrival.number)?;
+    arrival.unit.put(tx, arrival.place)?;
+    Ok(())
+}
+
+/// Puts the report and what joining booked.
+fn put_welcome<S: Alter>(
+    tx: &mut Transaction<'_, S>,
+    campaign: &Campaign,
+    arrival: &Arrival<'_>,
+) -> Result<(), Error>
+    requires { 2 ≤ length campaign.now.what.books }
+    ensures same_reference { tx.new.conn.ghost_name ≡ tx.old.conn.ghost_name }
+    ensures put { HasCleanDisk (state S.Store tx.new.conn.now) → OnOk result (Inside HasTables (Both (Puts report_table 1 (report_row arrival.now.number arrival.now.report.now)) (Both (Settles campaign.now.what Joining Money) (Settles campaign.now.what Joining People))) (state S.Store tx.old.conn.now) (state S.Store tx.new.conn.now)) }
+    ensures kept { HasCleanDisk (state S.Store tx.new.conn.now) → KeepsCommit (state S.Store tx.old.conn.now) (state S.Store tx.new.conn.now) }
+    ensures survives { Survives (state S.Store tx.old.conn.now) (state S.Store tx.new.conn.now) (λ _. ⊥) }
+{
+    arrival.report.put(tx, arrival.number)?;
+    settle_amount(tx, campaign, Entry::Joining, Thing::Money)?;
+    settle_amount(tx, campaign, Entry::Joining, Thing::People)?;
+    Ok(())
+}
+
+/// Puts all rows of a joining.
+fn put_joining<S: Alter>(
+    tx: &mut Transaction<'_, S>,
+    campaign: &Campaign,
+    arrival: &Arrival<'_>,
+) -> Result<(), Error>
+    requires { IsFound campaign.now.what arrival.now.number arrival.now.faction.now arrival.now.place arrival.now.unit.now arrival.now.report.now }
+    ensures same_reference { tx.new.conn.ghost_name ≡ tx.old.conn.ghost_name }
+    ensures put { HasCleanDisk (state S.Store tx.new.conn.now) → OnOk result (Inside HasTables (WritesJoin arrival.now.number campaign.now.what) (state S.Store tx.old.conn.now) (state S.Store tx.new.conn.now)) }
+    ensures kept { HasCleanDisk (state S.Store tx.new.conn.now) → KeepsCommit (state S.Store tx.old.conn.now) (state S.Store tx.new.conn.now) }
+    ensures survives { Survives (state S.Store tx.old.conn.now) (state S.Store tx.new.conn.now) (λ _. ⊥) }
+{
+    put_newcomer(tx, campaign, arrival)?;
+    put_welcome(tx, campaign, arrival)?;
+    Ok(())
+}
+
+/// The transaction of a joining.
+fn write_joining<S: Alter>(
+    conn: &mut Connection<S>,
+    campaign: &Campaign,
+    arrival: &Arrival<'_>,
+) -> Result<(), Error>
+    requires idle { conn.old.in_transaction ≡ false }
+    requires found { IsFound campaign.now.what arrival.now.number arrival.now.faction.now arrival.now.place arrival.now.unit.now arrival.now.report.now }
+    ensures ok { HasCleanDisk (state S.Store conn.new) → OnOk result (Commits HasTables (WritesJoin arrival.now.number campaign.now.what) (state S.Store conn.old) (state S.Store conn.new)) }
+    ensures err { HasCleanDisk (state S.Store conn.new) → OnErr result (LeavesOff (state S.Store conn.old) (state S.Store conn.new)) }
+    ensures crash { Survives (state S.Store conn.old) (state S.Store conn.new) (MayLeave HasTables (WritesJoin arrival.now.number campaign.now.what) (state S.Store conn.old)) }
+    ensures idle { conn.new.in_transaction ≡ false }
+{
+    let mut tx = conn.transaction();
+    put_joining(&mut tx, campaign, arrival)?;
+    tx.commit()?;
+    Ok(())
+}
+
+/// Writes a joining into a store that holds the campaign before it, in one transaction: the campaign's own row, the
+/// faction, its unit and its report, and what joining booked. The campaign is the one after the joining, with the
+/// faction's first report stored. With Ok the store holds it. Store or Memory: the store holds the one before, and a crash
+/// leaves the one before or the one after. See docs/FORMATS.md, "Tables".
+pub fn write_join<S: Alter>(
+    conn: &mut Connection<S>,
+    campaign: &Campaign,
+    faction: u32,
+) -> Result<(), WriteFault>
+    requires idle { conn.old.in_transaction ≡ false }
+    ensures ok { HasCleanDisk (state S.Store conn.new) → OnOk result ((text : List ℕ) (before : State) → Keeps (state S.Store conn.old) text before → IsJoining before faction campaign.now.what → Keeps (state S.Store conn.new) text campaign.now.what) }
+    ensures err { HasCleanDisk (state S.Store conn.new) → OnErr result ((text : List ℕ) (before : State) → Keeps (state S.Store conn.old) text before → IsJoining before faction campaign.now.what → Stops (state S.Store conn.old).faults (state S.Store conn.new) text before campaign.now.what) }
+    ensures clean { HasCleanDisk (state S.Store conn.new) → HasCleanDisk (state S.Store conn.old) }
+    ensures counts { (state S.Store conn.old).faults ≤ (state S.Store conn.new).faults }
+    ensures idle { conn.new.in_transaction ≡ false }
+{
+    match arrival_of(campaign, faction) {
+        None => Err(WriteFault::Store),
+        Some(arrival) => match write_joining(conn, campaign, &arrival) {
+            Ok(()) => Ok(()),
+            Err(error) => Err(unwritten(error)),
+        },
+    }
+}

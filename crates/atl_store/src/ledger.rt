@@ -1,0 +1,167 @@
+//! The books, written row by row.
+ghost use Rattle.std.specs.Prelude.{◌≡◌, ◌+◌, ◌<◌, OnOk, IfSome, length};
+ghost use Rattle.std.specs.List.{range_with_len};
+ghost use Rattle.sqlite.specs.Held.{state};
+ghost use Rattle.sqlite.specs.State.{HasCleanDisk, Survives, KeepsCommit};
+ghost use Rattle.atl_state.specs.Books.{entry_place, thing_place};
+ghost use Rattle.atl_store.specs.Tables.{books_table};
+ghost use Rattle.atl_store.specs.Lines.{all_entries, thing_at, amount_lines, entries_lines, things_lines};
+ghost use Rattle.atl_store.specs.Inside.{Inside, HasTables, PutsRows};
+ghost use Rattle.atl_store.specs.Arriving.{Settles};
+
+use crate::rows::books::{BooksRow, drop_books, put_books};
+use atl_state::{Campaign, Entry, Thing};
+use sqlite::{Alter, Error, ErrorCode, Transaction};
+
+/// All entries, in the order of their numbers.
+const ENTRIES: [Entry; 13] = [
+    Entry::Founding,
+    Entry::Joining,
+    Entry::Income,
+    Entry::Wages,
+    Entry::Recruiting,
+    Entry::Study,
+    Entry::Upkeep,
+    Entry::Lost,
+    Entry::Births,
+    Entry::Starved,
+    Entry::Left,
+    Entry::Made,
+    Entry::Used,
+];
+
+/// The number of an entry, from 1.
+fn entry_number(entry: Entry) -> u32
+    ensures { result ≡ entry_place entry + 1 }
+{
+    match entry {
+        Entry::Founding => 1,
+        Entry::Joining => 2,
+        Entry::Income => 3,
+        Entry::Wages => 4,
+        Entry::Recruiting => 5,
+        Entry::Study => 6,
+        Entry::Upkeep => 7,
+        Entry::Lost => 8,
+        Entry::Births => 9,
+        Entry::Starved => 10,
+        Entry::Left => 11,
+        Entry::Made => 12,
+        Entry::Used => 13,
+    }
+}
+
+/// The number of a thing: money, people, then the items.
+fn thing_number(thing: Thing) -> u32
+    ensures { result ≡ thing_place thing }
+{
+    match thing {
+        Thing::Money => 0,
+        Thing::People => 1,
+        Thing::Item(item) => 2 + u32::from(item),
+    }
+}
+
+/// The thing of a number, where a thing can have it.
+fn thing_of(number: usize) -> Option<Thing>
+    ensures { IfSome result (λ thing. thing ≡ thing_at number) }
+{
+    match number {
+        0 => Some(Thing::Money),
+        1 => Some(Thing::People),
+        _ => match u16::try_from(number - 2) {
+            Ok(item) => Some(Thing::Item(item)),
+            Err(_) => None,
+        },
+    }
+}
+
+/// Puts the row of an amount that is not 0.
+fn put_amount<S: Alter>(
+    tx: &mut Transaction<'_, S>,
+    campaign: &Campaign,
+    entry: Entry,
+    thing: Thing,
+) -> Result<(), Error>
+    requires { thing_place thing < length campaign.now.what.books }
+    ensures same_reference { tx.new.conn.ghost_name ≡ tx.old.conn.ghost_name }
+    ensures put { HasCleanDisk (state S.Store tx.new.conn.now) → OnOk result (Inside HasTables (PutsRows books_table 2 (amount_lines campaign.now.what entry thing)) (state S.Store tx.old.conn.now) (state S.Store tx.new.conn.now)) }
+    ensures kept { HasCleanDisk (state S.Store tx.new.conn.now) → KeepsCommit (state S.Store tx.old.conn.now) (state S.Store tx.new.conn.now) }
+    ensures survives { Survives (state S.Store tx.old.conn.now) (state S.Store tx.new.conn.now) (λ _. ⊥) }
+{
+    let amount = campaign.booked(entry, thing);
+    if amount != 0 {
+        let row = BooksRow {
+            entry: entry_number(entry),
+            thing: thing_number(thing),
+            amount,
+        };
+        put_books(tx, &row)?;
+    }
+    Ok(())
+}
+
+/// Puts the row of an amount, or takes it out where the amount is 0.
+pub(crate) fn settle_amount<S: Alter>(
+    tx: &mut Transaction<'_, S>,
+    campaign: &Campaign,
+    entry: Entry,
+    thing: Thing,
+) -> Result<(), Error>
+    requires { thing_place thing < length campaign.now.what.books }
+    ensures same_reference { tx.new.conn.ghost_name ≡ tx.old.conn.ghost_name }
+    ensures put { HasCleanDisk (state S.Store tx.new.conn.now) → OnOk result (Inside HasTables (Settles campaign.now.what entry thing) (state S.Store tx.old.conn.now) (state S.Store tx.new.conn.now)) }
+    ensures kept { HasCleanDisk (state S.Store tx.new.conn.now) → KeepsCommit (state S.Store tx.old.conn.now) (state S.Store tx.new.conn.now) }
+    ensures survives { Survives (state S.Store tx.old.conn.now) (state S.Store tx.new.conn.now) (λ _. ⊥) }
+{
+    let amount = campaign.booked(entry, thing);
+    if amount == 0 {
+        drop_books(tx, entry_number(entry), thing_number(thing))?;
+        return Ok(());
+    }
+    let row = BooksRow {
+        entry: entry_number(entry),
+        thing: thing_number(thing),
+        amount,
+    };
+    put_books(tx, &row)?;
+    Ok(())
+}
+
+/// Puts the rows of a thing under these entries.
+fn put_entries<S: Alter>(
+    tx: &mut Transaction<'_, S>,
+    campaign: &Campaign,
+    thing: Thing,
+    entries: &[Entry],
+) -> Result<(), Error>
+    requires { thing_place thing < length campaign.now.what.books }
+    ensures same_reference { tx.new.conn.ghost_name ≡ tx.old.conn.ghost_name }
+    ensures put { HasCleanDisk (state S.Store tx.new.conn.now) → OnOk result (Inside HasTables (PutsRows books_table 2 (entries_lines campaign.now.what thing entries.now)) (state S.Store tx.old.conn.now) (state S.Store tx.new.conn.now)) }
+    ensures kept { HasCleanDisk (state S.Store tx.new.conn.now) → KeepsCommit (state S.Store tx.old.conn.now) (state S.Store tx.new.conn.now) }
+    ensures survives { Survives (state S.Store tx.old.conn.now) (state S.Store tx.new.conn.now) (λ _. ⊥) }
+{
+    for entry in entries {
+        put_amount(tx, campaign, *entry, thing)?;
+    }
+    Ok(())
+}
+
+/// Puts the rows of all things.
+pub(crate) fn put_all_books<S: Alter>(
+    tx: &mut Transaction<'_, S>,
+    campaign: &Campaign,
+) -> Result<(), Error>
+    ensures same_reference { tx.new.conn.ghost_name ≡ tx.old.conn.ghost_name }
+    ensures put { HasCleanDisk (state S.Store tx.new.conn.now) → OnOk result (Inside HasTables (PutsRows books_table 2 (things_lines campaign.now.what (range_with_len 0 (length campaign.now.what.books)))) (state S.Store tx.old.conn.now) (state S.Store tx.new.conn.now)) }
+    ensures kept { HasCleanDisk (state S.Store tx.new.conn.now) → KeepsCommit (state S.Store tx.old.conn.now) (state S.Store tx.new.conn.now) }
+    ensures survives { Survives (state S.Store tx.old.conn.now) (state S.Store tx.new.conn.now) (λ _. ⊥) }
+{
+    for number in 0..campaign.things() {
+        match thing_of(number) {
+            Some(thing) => put_entries(tx, campaign, thing, &ENTRIES)?,
+            None => return Err(Error::SqliteFailure(ErrorCode::TooBig)),
+        }
+    }
+    Ok(())
+}

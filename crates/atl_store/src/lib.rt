@@ -1,0 +1,21 @@
+//! The tables of a campaign: created, written and read over `sqlite`, in memory or in a file. Each writing is one
+//! transaction, and a crash leaves the campaign before it or the one after it. See docs/FORMATS.md, "Tables".
+#![tactic(auto)]
+
+pub mod fault;
+mod founding;
+mod goods;
+mod joining;
+mod kept;
+mod ledger;
+mod mailing;
+pub mod rows;
+pub mod tables;
+
+pub use fault::{CreateFault, ReadFault, WriteFault};
+pub use founding::create;
+pub use joining::write_join;
+pub use mailing::write_mail;
+
+#[cfg(test)]
+mod tests;

@@ -1,0 +1,63 @@
+//! A mail is written into the tables of the campaign.
+ghost use Rattle.std.specs.Prelude.{◌≡◌, ◌≤◌, false, List, ℕ, OnOk, OnErr};
+ghost use Rattle.sqlite.specs.Held.{state};
+ghost use Rattle.sqlite.specs.State.{HasCleanDisk, Survives, KeepsCommit};
+ghost use Rattle.atl_state.specs.State.{State};
+ghost use Rattle.atl_store.specs.Inside.{Inside, HasTables, Commits, LeavesOff, MayLeave};
+ghost use Rattle.atl_store.specs.Arriving.{WritesMail};
+ghost use Rattle.atl_store.specs.Keeps.{Keeps, Stops, with_mail};
+
+use crate::fault::{WriteFault, unwritten};
+use crate::rows::mail::{MailRow, put_mail};
+use sqlite::{Alter, Connection, Error, Transaction};
+
+/// Puts the row of a mail.
+fn put_mailing<S: Alter>(
+    tx: &mut Transaction<'_, S>,
+    faction: u32,
+    text: &[u8],
+) -> Result<(), Error>
+    ensures same_reference { tx.new.conn.ghost_name ≡ tx.old.conn.ghost_name }
+    ensures put { HasCleanDisk (state S.Store tx.new.conn.now) → OnOk result (Inside HasTables (WritesMail faction text.now) (state S.Store tx.old.conn.now) (state S.Store tx.new.conn.now)) }
+    ensures kept { HasCleanDisk (state S.Store tx.new.conn.now) → KeepsCommit (state S.Store tx.old.conn.now) (state S.Store tx.new.conn.now) }
+    ensures survives { Survives (state S.Store tx.old.conn.now) (state S.Store tx.new.conn.now) (λ _. ⊥) }
+{
+    let row = MailRow { faction, text };
+    put_mail(tx, &row)?;
+    Ok(())
+}
+
+/// The transaction of a mail.
+fn write_mailing<S: Alter>(conn: &mut Connection<S>, faction: u32, text: &[u8]) -> Result<(), Error>
+    requires { conn.old.in_transaction ≡ false }
+    ensures ok { HasCleanDisk (state S.Store conn.new) → OnOk result (Commits HasTables (WritesMail faction text.now) (state S.Store conn.old) (state S.Store conn.new)) }
+    ensures err { HasCleanDisk (state S.Store conn.new) → OnErr result (LeavesOff (state S.Store conn.old) (state S.Store conn.new)) }
+    ensures crash { Survives (state S.Store conn.old) (state S.Store conn.new) (MayLeave HasTables (WritesMail faction text.now) (state S.Store conn.old)) }
+    ensures idle { conn.new.in_transaction ≡ false }
+{
+    let mut tx = conn.transaction();
+    put_mailing(&mut tx, faction, text)?;
+    tx.commit()?;
+    Ok(())
+}
+
+/// Writes the mail of a faction into a store that holds a campaign, in the place of an older one, in one transaction. With
+/// Ok the store holds the campaign with this mail. Store or Memory: it holds the one before, and a crash leaves the one
+/// before or the one after. See docs/FORMATS.md, "Tables".
+pub fn write_mail<S: Alter>(
+    conn: &mut Connection<S>,
+    faction: u32,
+    text: &[u8],
+) -> Result<(), WriteFault>
+    requires { conn.old.in_transaction ≡ false }
+    ensures ok { HasCleanDisk (state S.Store conn.new) → OnOk result ((world : List ℕ) (before : State) → Keeps (state S.Store conn.old) world before → Keeps (state S.Store conn.new) world (with_mail before faction text.now)) }
+    ensures err { HasCleanDisk (state S.Store conn.new) → OnErr result ((world : List ℕ) (before : State) → Keeps (state S.Store conn.old) world before → Stops (state S.Store conn.old).faults (state S.Store conn.new) world before (with_mail before faction text.now)) }
+    ensures clean { HasCleanDisk (state S.Store conn.new) → HasCleanDisk (state S.Store conn.old) }
+    ensures counts { (state S.Store conn.old).faults ≤ (state S.Store conn.new).faults }
+    ensures idle { conn.new.in_transaction ≡ false }
+{
+    match write_mailing(conn, faction, text) {
+        Ok(()) => Ok(()),
+        Err(error) => Err(unwritten(error)),
+    }
+}

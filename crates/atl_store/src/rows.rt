@@ -1,0 +1,12 @@
+//! One row of each table: put in, taken out, and all of them read.
+
+pub mod books;
+pub mod campaign;
+pub mod faction;
+pub mod has;
+pub mod mail;
+pub mod region;
+pub mod report;
+mod stored;
+pub mod structure;
+pub mod unit;

@@ -1,0 +1,103 @@
+//! The table of the campaign's own row.
+ghost use Rattle.std.specs.Prelude.{◌≡◌, OnOk, false, map, IfOk, IfErr};
+ghost use Rattle.sqlite.specs.Held.{state};
+ghost use Rattle.sqlite.specs.State.{HasCleanDisk, Survives, KeepsCommit};
+ghost use Rattle.atl_store.specs.Tables.{campaign_table, nine_tables};
+ghost use Rattle.atl_store.specs.Written.{head_shown};
+ghost use Rattle.atl_store.specs.PutsHead.{PutsHead};
+ghost use Rattle.atl_store.specs.Inside.{Inside, HasTables};
+ghost use Rattle.atl_store.specs.StoredRows.{campaign_stored};
+ghost use Rattle.atl_store.specs.Reading.{Reads, FindsOther};
+ghost use Rattle.atl_store.specs.declared.fault.ReadFault.TheVariants.{OtherType};
+
+use crate::fault::ReadFault;
+use crate::rows::stored::{Stored, parse_rows};
+use sqlite::{Alter, Connection, Error, Row, Transaction, params};
+use std::alloc::Global;
+
+/// What the campaign's own row says beside its format, which is 1, and the world text.
+#[derive(Clone, Copy, Debug)]
+pub struct CampaignRow<'a> {
+    /// The month last closed.
+    pub month: u32,
+    pub next_faction: u32,
+    pub next_unit: u32,
+    pub next_structure: u32,
+    /// The moderator's pass text.
+    pub pass: &'a str,
+}
+
+/// Inserts the row with this world text. Where the row is there it is changed, and keeps its own world text and format.
+pub(crate) fn put_campaign<S: Alter>(
+    tx: &mut Transaction<'_, S>,
+    row: &CampaignRow<'_>,
+    world: &str,
+) -> Result<(), Error>
+    ensures same_reference { tx.new.conn.ghost_name ≡ tx.old.conn.ghost_name }
+    ensures put { HasCleanDisk (state S.Store tx.new.conn.now) → OnOk result (Inside HasTables (PutsHead (head_shown row.now) world.now) (state S.Store tx.old.conn.now) (state S.Store tx.new.conn.now)) }
+    ensures kept { HasCleanDisk (state S.Store tx.new.conn.now) → KeepsCommit (state S.Store tx.old.conn.now) (state S.Store tx.new.conn.now) }
+    ensures survives { Survives (state S.Store tx.old.conn.now) (state S.Store tx.new.conn.now) (λ _. ⊥) }
+{
+    tx.execute(
+        "INSERT INTO campaign (id, format, month, next_faction, next_unit, next_structure, pass, world) VALUES (1, 1, ?1, ?2, ?3, ?4, ?5, ?6) ON CONFLICT (id) DO UPDATE SET month = ?1, next_faction = ?2, next_unit = ?3, next_structure = ?4, pass = ?5",
+        params![
+            row.month,
+            row.next_faction,
+            row.next_unit,
+            row.next_structure,
+            row.pass,
+            world
+        ],
+    )?;
+    Ok(())
+}
+
+/// The campaign's own row as it stands in its table, whoever wrote it.
+#[derive(Debug, Drop)]
+pub struct StoredCampaign {
+    pub id: i64,
+    pub format: i64,
+    pub month: i64,
+    pub next_faction: i64,
+    pub next_unit: i64,
+    pub next_structure: i64,
+    pub pass: String,
+    pub world: String,
+}
+
+impl Stored for StoredCampaign {
+    ghost columns = { campaign_table.columns };
+
+    ghost shown = { campaign_stored };
+
+    fn from_row(row: &Row) -> Result<StoredCampaign, Error> {
+        Ok(StoredCampaign {
+            id: row.get(0)?,
+            format: row.get(1)?,
+            month: row.get(2)?,
+            next_faction: row.get(3)?,
+            next_unit: row.get(4)?,
+            next_structure: row.get(5)?,
+            pass: row.get(6)?,
+            world: row.get(7)?,
+        })
+    }
+}
+
+/// The campaign's own rows, of which a whole store has one.
+pub fn read_campaign<S: Alter>(
+    alloc: Global,
+    conn: &mut Connection<S>,
+) -> Result<Vec<StoredCampaign>, ReadFault>
+    ensures rows { HasCleanDisk (state S.Store conn.new) → IfOk result (λ all. Reads campaign_table (map campaign_stored all.items) (state S.Store conn.old) (state S.Store conn.new)) }
+    ensures other { HasCleanDisk (state S.Store conn.new) → IfErr result (λ e. e ≡ OtherType → FindsOther campaign_table (state S.Store conn.old)) }
+    ensures survives { conn.old.schema ≡ nine_tables → Survives (state S.Store conn.old) (state S.Store conn.new) (λ _. ⊥) }
+    ensures idle { conn.old.in_transaction ≡ false → conn.new.in_transaction ≡ false }
+{
+    let rows = conn.query_all(
+        "SELECT id, format, month, next_faction, next_unit, next_structure, pass, world FROM campaign ORDER BY id",
+        &[],
+    )?;
+    let all = parse_rows(alloc, rows.as_slice())?;
+    Ok(all)
+}

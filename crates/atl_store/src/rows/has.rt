@@ -1,0 +1,128 @@
+//! The table of what units have: an amount of an item, or days of a skill.
+ghost use Rattle.std.specs.Prelude.{◌≡◌, OnOk, false, map, IfOk, IfErr};
+ghost use Rattle.sqlite.specs.Held.{state};
+ghost use Rattle.sqlite.specs.State.{HasCleanDisk, Survives, KeepsCommit};
+ghost use Rattle.atl_store.specs.Tables.{has_table, nine_tables};
+ghost use Rattle.atl_store.specs.Shown.{has_key};
+ghost use Rattle.atl_store.specs.Written.{has_shown, sort_number};
+ghost use Rattle.atl_store.specs.Inside.{Inside, HasTables, Puts, Drops};
+ghost use Rattle.atl_store.specs.StoredRows.{has_stored};
+ghost use Rattle.atl_store.specs.Reading.{ReadsPlaced, FindsOtherPlaced, placed_columns};
+ghost use Rattle.atl_store.specs.declared.fault.ReadFault.TheVariants.{OtherType};
+
+use crate::fault::ReadFault;
+use crate::rows::stored::{Stored, parse_rows};
+use sqlite::{Alter, Connection, Error, Row, Transaction, params};
+use std::alloc::Global;
+
+/// What a row of the table is of.
+#[derive(Clone, Copy, Debug, PartialEq, Eq)]
+pub enum Sort {
+    Item,
+    Skill,
+}
+
+impl Sort {
+    /// The number that stands for it in the table.
+    pub(crate) fn number(self) -> u32
+        ensures { result ≡ sort_number self }
+    {
+        match self {
+            Sort::Item => 0,
+            Sort::Skill => 1,
+        }
+    }
+}
+
+/// What a unit has of an item or a skill.
+#[derive(Clone, Copy, Debug)]
+pub struct HasRow {
+    /// Who has it.
+    pub unit: u32,
+    /// Whether it is an item or a skill.
+    pub sort: Sort,
+    /// The world's number of the item or the skill.
+    pub thing: u32,
+    /// How many of the item, or how many days of the skill.
+    pub amount: u32,
+}
+
+/// Inserts the row, or changes the one that has its unit, sort and thing.
+pub(crate) fn put_has<S: Alter>(tx: &mut Transaction<'_, S>, row: &HasRow) -> Result<(), Error>
+    ensures same_reference { tx.new.conn.ghost_name ≡ tx.old.conn.ghost_name }
+    ensures put { HasCleanDisk (state S.Store tx.new.conn.now) → OnOk result (Inside HasTables (Puts has_table 3 (has_shown row.now)) (state S.Store tx.old.conn.now) (state S.Store tx.new.conn.now)) }
+    ensures kept { HasCleanDisk (state S.Store tx.new.conn.now) → KeepsCommit (state S.Store tx.old.conn.now) (state S.Store tx.new.conn.now) }
+    ensures survives { Survives (state S.Store tx.old.conn.now) (state S.Store tx.new.conn.now) (λ _. ⊥) }
+{
+    let sort = row.sort.number();
+    tx.execute(
+        "INSERT INTO has (unit, sort, thing, amount) VALUES (?1, ?2, ?3, ?4) ON CONFLICT (unit, sort, thing) DO UPDATE SET amount = ?4",
+        params![row.unit, sort, row.thing, row.amount],
+    )?;
+    Ok(())
+}
+
+/// Deletes the row of this unit, sort and thing, where there is one.
+pub(crate) fn drop_has<S: Alter>(
+    tx: &mut Transaction<'_, S>,
+    unit: u32,
+    sort: Sort,
+    thing: u32,
+) -> Result<(), Error>
+    ensures same_reference { tx.new.conn.ghost_name ≡ tx.old.conn.ghost_name }
+    ensures dropped { HasCleanDisk (state S.Store tx.new.conn.now) → OnOk result (Inside HasTables (Drops has_table 3 (has_key unit (sort_number sort) thing)) (state S.Store tx.old.conn.now) (state S.Store tx.new.conn.now)) }
+    ensures kept { HasCleanDisk (state S.Store tx.new.conn.now) → KeepsCommit (state S.Store tx.old.conn.now) (state S.Store tx.new.conn.now) }
+    ensures survives { Survives (state S.Store tx.old.conn.now) (state S.Store tx.new.conn.now) (λ _. ⊥) }
+{
+    let number = sort.number();
+    tx.execute(
+        "DELETE FROM has WHERE unit = ?1 AND sort = ?2 AND thing = ?3",
+        params![unit, number, thing],
+    )?;
+    Ok(())
+}
+
+/// What a unit has of a thing as it stands in its table, whoever wrote it.
+#[derive(Debug, Drop)]
+pub struct StoredHas {
+    pub unit: i64,
+    pub sort: i64,
+    pub thing: i64,
+    pub amount: i64,
+    /// The place that the database keeps the row at, which differs from row to row.
+    pub rowid: i64,
+}
+
+impl Stored for StoredHas {
+    ghost columns = { placed_columns has_table };
+
+    ghost shown = { has_stored };
+
+    fn from_row(row: &Row) -> Result<StoredHas, Error> {
+        Ok(StoredHas {
+            unit: row.get(0)?,
+            sort: row.get(1)?,
+            thing: row.get(2)?,
+            amount: row.get(3)?,
+            rowid: row.get(4)?,
+        })
+    }
+}
+
+/// What units have, in the order of units, sorts and things.
+pub fn read_has<S: Alter>(
+    alloc: Global,
+    conn: &mut Connection<S>,
+) -> Result<Vec<StoredHas>, ReadFault>
+    ensures rows { HasCleanDisk (state S.Store conn.new) → IfOk result (λ all. ReadsPlaced has_table (map has_stored all.items) (state S.Store conn.old) (state S.Store conn.new)) }
+    ensures other { HasCleanDisk (state S.Store conn.new) → IfErr result (λ e. e ≡ OtherType → FindsOtherPlaced has_table (state S.Store conn.old)) }
+    ensures survives { conn.old.schema ≡ nine_tables → Survives (state S.Store conn.old) (state S.Store conn.new) (λ _. ⊥) }
+    ensures idle { conn.old.in_transaction ≡ false → conn.new.in_transaction ≡ false }
+{
+    let rows = conn.query_all(
+        "SELECT unit, sort, thing, amount, rowid FROM has ORDER BY unit, sort, thing",
+        &[],
+    )?;
+    let all = parse_rows(alloc, rows.as_slice())?;
+    Ok(all)
+}

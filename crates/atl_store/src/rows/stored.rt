@@ -1,0 +1,38 @@
+//! Rows as they are read.
+ghost use Rattle.std.specs.Prelude.{◌≡◌, List, map, length, not, IsTrue, IfOk, IfErr};
+ghost use Rattle.sqlite.specs.Order.{Row as SqlRow};
+ghost use Rattle.sqlite_schema.specs.declared.schema.Column.{Column};
+ghost use Rattle.atl_store.specs.Faults.{is_memory};
+ghost use Rattle.atl_store.specs.Stored.{first_columns, IsTyped, AreTyped};
+ghost use Rattle.atl_store.specs.declared.fault.ReadFault.TheVariants.{OtherType};
+
+use crate::fault::{ReadFault, unread};
+use sqlite::{Error, Row};
+use std::alloc::Global;
+
+/// A row of a table as it stands there, whoever wrote it.
+pub(crate) trait Stored: Drop + Sized {
+    // The columns of the answer that it is read from, and the row as SQL shows it.
+    ghost columns: { List Column };
+
+    ghost shown: { Self → SqlRow };
+
+    fn from_row(row: &Row) -> Result<Self, Error>
+        ensures ok { IfOk result (λ stored. shown stored ≡ first_columns (length columns) row.now) }
+        ensures other { IfErr result (λ e. IsTrue (not (is_memory e)) → ¬ IsTyped columns row.now) };
+}
+
+/// Each row of an answer.
+pub(crate) fn parse_rows<T: Stored>(alloc: Global, rows: &[Row]) -> Result<Vec<T>, ReadFault>
+    ensures ok { IfOk result (λ all. map T.shown all.items ≡ map (first_columns (length T.columns)) rows.now) }
+    ensures other { IfErr result (λ e. e ≡ OtherType → ¬ AreTyped T.columns rows.now) }
+{
+    let mut all = Vec::new(alloc);
+    for row in rows {
+        match T::from_row(row) {
+            Ok(stored) => all.push(stored)?,
+            Err(error) => return Err(unread(error)),
+        }
+    }
+    Ok(all)
+}

@@ -1,0 +1,98 @@
+//! The table of structures.
+ghost use Rattle.std.specs.Prelude.{◌≡◌, [], ◌∷◌, OnOk, false, map, IfOk, IfErr};
+ghost use Rattle.sqlite.specs.Held.{state};
+ghost use Rattle.sqlite.specs.State.{HasCleanDisk, Survives, KeepsCommit};
+ghost use Rattle.atl_store.specs.Tables.{structure_table, nine_tables};
+ghost use Rattle.atl_store.specs.Shown.{int};
+ghost use Rattle.atl_store.specs.Written.{structure_shown};
+ghost use Rattle.atl_store.specs.Inside.{Inside, HasTables, Puts};
+ghost use Rattle.atl_store.specs.StoredRows.{structure_stored};
+ghost use Rattle.atl_store.specs.Reading.{Reads, FindsOther};
+ghost use Rattle.atl_store.specs.declared.fault.ReadFault.TheVariants.{OtherType};
+
+use crate::fault::ReadFault;
+use crate::rows::stored::{Stored, parse_rows};
+use sqlite::{Alter, Connection, Error, Row, Transaction, params};
+use std::alloc::Global;
+
+/// A structure as its table has it.
+#[derive(Clone, Copy, Debug)]
+pub struct StructureRow<'a> {
+    /// From 1.
+    pub number: u32,
+    /// The world's number of its kind.
+    pub kind: u32,
+    /// Its name.
+    pub name: &'a str,
+    /// Where it stands.
+    pub region: u32,
+    /// How much of it is built.
+    pub done: u32,
+    /// The unit that owns it, or 0.
+    pub owner: u32,
+}
+
+/// Inserts the row, or changes the one that has its number.
+pub(crate) fn put_structure<S: Alter>(
+    tx: &mut Transaction<'_, S>,
+    row: &StructureRow<'_>,
+) -> Result<(), Error>
+    ensures same_reference { tx.new.conn.ghost_name ≡ tx.old.conn.ghost_name }
+    ensures put { HasCleanDisk (state S.Store tx.new.conn.now) → OnOk result (Inside HasTables (Puts structure_table 1 (structure_shown row.now)) (state S.Store tx.old.conn.now) (state S.Store tx.new.conn.now)) }
+    ensures kept { HasCleanDisk (state S.Store tx.new.conn.now) → KeepsCommit (state S.Store tx.old.conn.now) (state S.Store tx.new.conn.now) }
+    ensures survives { Survives (state S.Store tx.old.conn.now) (state S.Store tx.new.conn.now) (λ _. ⊥) }
+{
+    tx.execute(
+        "INSERT INTO structure (number, kind, name, region, done, owner) VALUES (?1, ?2, ?3, ?4, ?5, ?6) ON CONFLICT (number) DO UPDATE SET kind = ?2, name = ?3, region = ?4, done = ?5, owner = ?6",
+        params![
+            row.number, row.kind, row.name, row.region, row.done, row.owner
+        ],
+    )?;
+    Ok(())
+}
+
+/// A structure as it stands in its table, whoever wrote it.
+#[derive(Debug, Drop)]
+pub struct StoredStructure {
+    pub number: i64,
+    pub kind: i64,
+    pub name: String,
+    pub region: i64,
+    pub done: i64,
+    pub owner: i64,
+}
+
+impl Stored for StoredStructure {
+    ghost columns = { structure_table.columns };
+
+    ghost shown = { structure_stored };
+
+    fn from_row(row: &Row) -> Result<StoredStructure, Error> {
+        Ok(StoredStructure {
+            number: row.get(0)?,
+            kind: row.get(1)?,
+            name: row.get(2)?,
+            region: row.get(3)?,
+            done: row.get(4)?,
+            owner: row.get(5)?,
+        })
+    }
+}
+
+/// All structures, in the order of their numbers.
+pub fn read_structures<S: Alter>(
+    alloc: Global,
+    conn: &mut Connection<S>,
+) -> Result<Vec<StoredStructure>, ReadFault>
+    ensures rows { HasCleanDisk (state S.Store conn.new) → IfOk result (λ all. Reads structure_table (map structure_stored all.items) (state S.Store conn.old) (state S.Store conn.new)) }
+    ensures other { HasCleanDisk (state S.Store conn.new) → IfErr result (λ e. e ≡ OtherType → FindsOther structure_table (state S.Store conn.old)) }
+    ensures survives { conn.old.schema ≡ nine_tables → Survives (state S.Store conn.old) (state S.Store conn.new) (λ _. ⊥) }
+    ensures idle { conn.old.in_transaction ≡ false → conn.new.in_transaction ≡ false }
+{
+    let rows = conn.query_all(
+        "SELECT number, kind, name, region, done, owner FROM structure ORDER BY number",
+        &[],
+    )?;
+    let all = parse_rows(alloc, rows.as_slice())?;
+    Ok(all)
+}

@@ -1,0 +1,124 @@
+//! The table of units.
+ghost use Rattle.std.specs.Prelude.{◌≡◌, [], ◌∷◌, OnOk, false, map, IfOk, IfErr};
+ghost use Rattle.sqlite.specs.Held.{state};
+ghost use Rattle.sqlite.specs.State.{HasCleanDisk, Survives, KeepsCommit};
+ghost use Rattle.atl_store.specs.Tables.{unit_table, nine_tables};
+ghost use Rattle.atl_store.specs.Shown.{int};
+ghost use Rattle.atl_store.specs.Written.{unit_shown};
+ghost use Rattle.atl_store.specs.Inside.{Inside, HasTables, Puts, Drops};
+ghost use Rattle.atl_store.specs.StoredRows.{unit_stored};
+ghost use Rattle.atl_store.specs.Reading.{Reads, FindsOther};
+ghost use Rattle.atl_store.specs.declared.fault.ReadFault.TheVariants.{OtherType};
+
+use crate::fault::ReadFault;
+use crate::rows::stored::{Stored, parse_rows};
+use sqlite::{Alter, Connection, Error, Row, Transaction, params};
+use std::alloc::Global;
+
+/// A unit as its table has it, without the goods and skills, which have rows of their own.
+#[derive(Clone, Copy, Debug)]
+pub struct UnitRow<'a> {
+    /// From 1.
+    pub number: u32,
+    /// Whose it is.
+    pub faction: u32,
+    /// Its name.
+    pub name: &'a str,
+    /// Where it is.
+    pub region: u32,
+    /// The structure that it is inside, or 0.
+    pub structure: u32,
+    /// How many people it has.
+    pub men: u32,
+    /// Its money.
+    pub money: u32,
+    /// Whether its guard flag is set.
+    pub guard: bool,
+}
+
+/// Inserts the row, or changes the one that has its number.
+pub(crate) fn put_unit<S: Alter>(
+    tx: &mut Transaction<'_, S>,
+    row: &UnitRow<'_>,
+) -> Result<(), Error>
+    ensures same_reference { tx.new.conn.ghost_name ≡ tx.old.conn.ghost_name }
+    ensures put { HasCleanDisk (state S.Store tx.new.conn.now) → OnOk result (Inside HasTables (Puts unit_table 1 (unit_shown row.now)) (state S.Store tx.old.conn.now) (state S.Store tx.new.conn.now)) }
+    ensures kept { HasCleanDisk (state S.Store tx.new.conn.now) → KeepsCommit (state S.Store tx.old.conn.now) (state S.Store tx.new.conn.now) }
+    ensures survives { Survives (state S.Store tx.old.conn.now) (state S.Store tx.new.conn.now) (λ _. ⊥) }
+{
+    tx.execute(
+        "INSERT INTO unit (number, faction, name, region, structure, men, money, guard) VALUES (?1, ?2, ?3, ?4, ?5, ?6, ?7, ?8) ON CONFLICT (number) DO UPDATE SET faction = ?2, name = ?3, region = ?4, structure = ?5, men = ?6, money = ?7, guard = ?8",
+        params![
+            row.number,
+            row.faction,
+            row.name,
+            row.region,
+            row.structure,
+            row.men,
+            row.money,
+            row.guard
+        ],
+    )?;
+    Ok(())
+}
+
+/// Deletes the row of this number, where there is one.
+pub(crate) fn drop_unit<S: Alter>(tx: &mut Transaction<'_, S>, number: u32) -> Result<(), Error>
+    ensures same_reference { tx.new.conn.ghost_name ≡ tx.old.conn.ghost_name }
+    ensures dropped { HasCleanDisk (state S.Store tx.new.conn.now) → OnOk result (Inside HasTables (Drops unit_table 1 (int number ∷ [])) (state S.Store tx.old.conn.now) (state S.Store tx.new.conn.now)) }
+    ensures kept { HasCleanDisk (state S.Store tx.new.conn.now) → KeepsCommit (state S.Store tx.old.conn.now) (state S.Store tx.new.conn.now) }
+    ensures survives { Survives (state S.Store tx.old.conn.now) (state S.Store tx.new.conn.now) (λ _. ⊥) }
+{
+    tx.execute("DELETE FROM unit WHERE number = ?1", params![number])?;
+    Ok(())
+}
+
+/// A unit as it stands in its table, whoever wrote it.
+#[derive(Debug, Drop)]
+pub struct StoredUnit {
+    pub number: i64,
+    pub faction: i64,
+    pub name: String,
+    pub region: i64,
+    pub structure: i64,
+    pub men: i64,
+    pub money: i64,
+    pub guard: i64,
+}
+
+impl Stored for StoredUnit {
+    ghost columns = { unit_table.columns };
+
+    ghost shown = { unit_stored };
+
+    fn from_row(row: &Row) -> Result<StoredUnit, Error> {
+        Ok(StoredUnit {
+            number: row.get(0)?,
+            faction: row.get(1)?,
+            name: row.get(2)?,
+            region: row.get(3)?,
+            structure: row.get(4)?,
+            men: row.get(5)?,
+            money: row.get(6)?,
+            guard: row.get(7)?,
+        })
+    }
+}
+
+/// All units, in the order of their numbers.
+pub fn read_units<S: Alter>(
+    alloc: Global,
+    conn: &mut Connection<S>,
+) -> Result<Vec<StoredUnit>, ReadFault>
+    ensures rows { HasCleanDisk (state S.Store conn.new) → IfOk result (λ all. Reads unit_table (map unit_stored all.items) (state S.Store conn.old) (state S.Store conn.new)) }
+    ensures other { HasCleanDisk (state S.Store conn.new) → IfErr result (λ e. e ≡ OtherType → FindsOther unit_table (state S.Store conn.old)) }
+    ensures survives { conn.old.schema ≡ nine_tables → Survives (state S.Store conn.old) (state S.Store conn.new) (λ _. ⊥) }
+    ensures idle { conn.old.in_transaction ≡ false → conn.new.in_transaction ≡ false }
+{
+    let rows = conn.query_all(
+        "SELECT number, faction, name, region, structure, men, money, guard FROM unit ORDER BY number",
+        &[],
+    )?;
+    let all = parse_rows(alloc, rows.as_slice())?;
+    Ok(all)
+}
