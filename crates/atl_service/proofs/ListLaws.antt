@@ -1,0 +1,171 @@
+-- Lists of commands.
+use Rattle.std.proofs.Common.{◌≡◌, ◌≢◌, ◌⊎◌, ◌≤◌, ◌<◌, ◌+◌, ◌++◌, ◌∷◌, [], ℕ, List, map, take, drop, length, get_or, Option, Some, None, IfSome, refl, sym, ap, ap₂, ◌∙◌, subst, inl, inr, append_assoc, append-nil, arith}
+use native.Mathlib.Numerals.{unary_clauses}
+use Rattle.std.proofs.lemmas.List.{drop_more, drop_all}
+use Rattle.sqlite_disk.specs.Disk.{MoreFaults}
+use Rattle.sqlite_trees.specs.declared.store.Store.{Ghosts}
+use Rattle.sqlite.specs.Held.{Held, state}
+use Rattle.sqlite.specs.State.{State, HasCleanDisk}
+use Rattle.atl_tables.specs.Planet.{Planet}
+use Rattle.atl_state.specs.State.{State as Campaign}
+use Rattle.atl_store.specs.Keeps.{Keeps, Stops}
+use Rattle.atl_store.proofs.WorldTextLaws.{world_text_is}
+use Rattle.atl_service.specs.declared.command.Command.{Command}
+use Rattle.atl_service.specs.declared.command.Answer.{Answer}
+use Rattle.atl_service.specs.declared.command.Answer.TheVariants.{Joined, Text, Refused, Fault}
+use Rattle.atl_service.specs.declared.command.Fault.TheVariants.{Memory, Store, Closed}
+use Rattle.atl_service.specs.Step.{step, run_of}
+use Rattle.atl_store.specs.Keeps.{HoldsCampaign}
+use Rattle.atl_service.specs.Engine.{Engine, text_in}
+use Rattle.atl_service.specs.Runs.{Runs, RunsAt, RunsOpen, Accepts, Closes, RunsAll, Follows, FollowsAt, AreClosed, Headline, Interrupted, HeadlineAt}
+
+-- a count that began lower says the same of the disk
+stops_from : (few many : ℕ) (s : State) (text : List ℕ) (before after : Campaign) → few ≤ many → Stops many s text before after → Stops few s text before after
+stops_from few many s text before after h stops = record {
+  still = stops.still;
+  closes = elim stops.closes [ inl up ↦ inl up | inr more ↦ inr (lower few many s.faults h more) ];
+  crash = stops.crash;
+}
+  where
+    lower : (few many now : ℕ) → few ≤ many → MoreFaults many now → MoreFaults few now
+    lower few many now h more = omega (arith, h, more)
+
+module _ {S : Type 0} (g : Ghosts S) where
+  -- from another text that is the same, and from a lower count
+  follows_as : (t u : List ℕ) (few many : ℕ) (w : Planet) (c : Campaign) (cs : List Command) (rs : List Answer) (new : Engine S) → (HasCleanDisk (state g new.conn) → t ≡ u) → few ≤ many
+      → Follows g t many w c cs rs new → Follows g u few w c cs rs new
+  follows_as t u few many w c [] [] new same h f = (f.0, λ clean. subst (λ x. Keeps (state g new.conn) x c) (same clean) (f.1 clean))
+  follows_as t u few many w c [] (a ∷ rs) new same h f = absurd f
+  follows_as t u few many w c (x ∷ cs) [] new same h f = absurd f
+  follows_as t u few many w c (x ∷ cs) (Joined n m ∷ rs) new same h f = (f.0, follows_as t u few many w (step w c x).0 cs rs new same h f.1)
+  follows_as t u few many w c (x ∷ cs) (Text r ∷ rs) new same h f = (f.0, follows_as t u few many w (step w c x).0 cs rs new same h f.1)
+  follows_as t u few many w c (x ∷ cs) (Refused r ∷ rs) new same h f = (f.0, follows_as t u few many w (step w c x).0 cs rs new same h f.1)
+  follows_as t u few many w c (x ∷ cs) (Fault e ∷ rs) new same h f =
+      (f.0, f.1, f.2, λ clean. subst (λ t. Stops few (state g new.conn) t c (step w c x).0) (same clean) (stops_from few many (state g new.conn) t c (step w c x).0 h (f.3 clean)))
+
+  -- one command that was carried out, and then the rest
+  carried : (old mid new : Engine S) (c : Campaign) (x : Command) (a : Answer) (cs : List Command) (rs : List Answer) → (accepts : Accepts g c old x a mid) → (HasCleanDisk (state g new.conn) → HasCleanDisk (state g mid.conn))
+      → (state g old.conn).faults ≤ (state g mid.conn).faults → FollowsAt g mid cs rs new mid.campaign
+      → ((step old.world c x).1 ≡ a) × Follows g (text_in g old.conn) (state g old.conn).faults old.world (step old.world c x).0 cs rs new × (new.world ≡ old.world)
+  carried old mid new c x a cs rs accepts was counts rest =
+      let after = accepts.after in
+      let open_is : mid.campaign ≡ Some after = ap (λ (e : Engine S). e.campaign) accepts.same in
+      let world_is : mid.world ≡ old.world = ap (λ (e : Engine S). e.world) accepts.same in
+      let on = subst (FollowsAt g mid cs rs new) open_is rest in
+      let there = subst (λ w. Follows g (text_in g mid.conn) (state g mid.conn).faults w after cs rs new) world_is on.0 in
+      let text_is = λ (clean : HasCleanDisk (state g new.conn)). world_text_is (state g mid.conn) (text_in g old.conn) after (accepts.tables (was clean)) in (
+        ap (λ p. p.1) accepts.step,
+        subst (λ d. Follows g (text_in g old.conn) (state g old.conn).faults old.world d cs rs new) (sym (ap (λ p. p.0) accepts.step))
+            (follows_as (text_in g mid.conn) (text_in g old.conn) (state g old.conn).faults (state g mid.conn).faults old.world after cs rs new text_is counts there),
+        on.1 ∙ world_is,
+      )
+
+  -- one that closed the service
+  closed : (old mid new : Engine S) (c : Campaign) (x : Command) (cs : List Command) (rs : List Answer) → Closes g c old x mid → FollowsAt g mid cs rs new mid.campaign
+      → AreClosed cs rs × (new.campaign ≡ None) × (HasCleanDisk (state g new.conn) → Stops (state g old.conn).faults (state g new.conn) (text_in g old.conn) c (step old.world c x).0) × (new.world ≡ old.world)
+  closed old mid new c x cs rs closes rest =
+      let shut : mid.campaign ≡ None = ap (λ (e : Engine S). e.campaign) closes.same in
+      let on = subst (FollowsAt g mid cs rs new) shut rest in (
+        on.0,
+        ap (λ (e : Engine S). e.campaign) on.1 ∙ shut,
+        subst (λ (e : Engine S). HasCleanDisk (state g e.conn) → Stops (state g old.conn).faults (state g e.conn) (text_in g old.conn) c (step old.world c x).0) (sym on.1) closes.tables,
+        ap (λ (e : Engine S). e.world) on.1 ∙ ap (λ (e : Engine S). e.world) closes.same,
+      )
+
+  first_open : (old mid new : Engine S) (c : Campaign) (x : Command) (a : Answer) (cs : List Command) (rs : List Answer) → RunsOpen g c old x a mid
+      → (HasCleanDisk (state g new.conn) → HasCleanDisk (state g mid.conn)) → (state g old.conn).faults ≤ (state g mid.conn).faults → old.campaign ≡ Some c → FollowsAt g mid cs rs new mid.campaign
+      → FollowsAt g old (x ∷ cs) (a ∷ rs) new (Some c)
+  first_open old mid new c x (Joined n m) cs rs ran was counts up rest = let k = carried old mid new c x (Joined n m) cs rs ran was counts rest in ((k.0, k.1), k.2)
+  first_open old mid new c x (Text t) cs rs ran was counts up rest = let k = carried old mid new c x (Text t) cs rs ran.0 was counts rest in ((k.0, k.1), k.2)
+  first_open old mid new c x (Refused r) cs rs ran was counts up rest =
+      let same : mid ≡ old = ran.1 in
+      let on = subst (FollowsAt g old cs rs new) up (subst (λ (e : Engine S). FollowsAt g e cs rs new e.campaign) same rest) in
+      ((ap (λ p. p.1) ran.0, subst (λ d. Follows g (text_in g old.conn) (state g old.conn).faults old.world d cs rs new) (sym (ap (λ p. p.0) ran.0)) on.0), on.1)
+  first_open old mid new c x (Fault Memory) cs rs ran was counts up rest = let k = closed old mid new c x cs rs ran rest in (((λ e. let d = e in cc), k.0, k.1, k.2), k.3)
+  first_open old mid new c x (Fault Store) cs rs ran was counts up rest = let k = closed old mid new c x cs rs ran rest in (((λ e. let d = e in cc), k.0, k.1, k.2), k.3)
+  first_open old mid new c x (Fault Closed) cs rs ran was counts up rest = absurd ran
+
+  first_at : (old mid new : Engine S) (x : Command) (a : Answer) (cs : List Command) (rs : List Answer) (o : Option Campaign) → old.campaign ≡ o → RunsAt g old x a mid o
+      → (HasCleanDisk (state g new.conn) → HasCleanDisk (state g mid.conn)) → (state g old.conn).faults ≤ (state g mid.conn).faults → FollowsAt g mid cs rs new mid.campaign
+      → FollowsAt g old (x ∷ cs) (a ∷ rs) new o
+  first_at old mid new x a cs rs (Some c) up ran was counts rest = first_open old mid new c x a cs rs ran was counts up rest
+  first_at old mid new x a cs rs None shut ran was counts rest =
+      let on = subst (FollowsAt g old cs rs new) shut (subst (λ (e : Engine S). FollowsAt g e cs rs new e.campaign) ran.1 rest) in
+      ((ran.0, on.0), on.1)
+
+  pub run_first : (old mid new : Engine S) (x : Command) (a : Answer) (cs : List Command) (rs : List Answer) → Runs g old x a mid → (HasCleanDisk (state g mid.conn) → HasCleanDisk (state g old.conn))
+      → (state g old.conn).faults ≤ (state g mid.conn).faults → RunsAll g mid cs rs new → RunsAll g old (x ∷ cs) (a ∷ rs) new
+  run_first old mid new x a cs rs ran clean counts rest = record {
+    follows = first_at old mid new x a cs rs old.campaign refl ran rest.clean counts rest.follows;
+    clean = λ h. clean (rest.clean h);
+    counts = omega (arith, counts, rest.counts);
+  }
+
+  -- nothing is left to run
+  none_left : (now : Engine S) (o : Option Campaign) → now.campaign ≡ o → IfSome o (λ c. HoldsCampaign g now.conn (text_in g now.conn) c) → FollowsAt g now [] [] now o
+  none_left now (Some c) is holds = ((is, holds), refl)
+  none_left now None is holds = (tt, refl)
+
+  pub run_none : (now : Engine S) → IfSome now.campaign (λ c. HoldsCampaign g now.conn (text_in g now.conn) c) → RunsAll g now [] [] now
+  run_none now holds = record { follows = none_left now now.campaign refl holds; clean = λ h. h; counts = omega arith }
+
+  -- ---- the loop of `run_all`
+
+  pub one_more : (e mid now new : Engine S) (cs : List Command) (i : ℕ) (c : Command) (a : Answer) (sofar rs : List Answer) → i < length cs → c ≡ get_or cs i c
+      → ((ts : List Answer) (n : Engine S) → RunsAll g mid (drop i cs) ts n → RunsAll g e cs (sofar ++ ts) n) → Runs g mid c a now → (HasCleanDisk (state g now.conn) → HasCleanDisk (state g mid.conn))
+      → (state g mid.conn).faults ≤ (state g now.conn).faults → RunsAll g now (drop (i + 1) cs) rs new → RunsAll g e cs ((sofar ++ a ∷ []) ++ rs) new
+  one_more e mid now new cs i c a sofar rs h is whole ran clean counts rest =
+      let next : drop i cs ≡ c ∷ drop (i + 1) cs = drop_more cs i c h ∙ ap (λ x. x ∷ drop (i + 1) cs) (sym is) in
+      subst (λ ts. RunsAll g e cs ts new) (sym (append_assoc sofar (a ∷ []) rs)) (whole (a ∷ rs) new (subst (λ ds. RunsAll g mid ds (a ∷ rs) new) (sym next) (run_first mid now new c a (drop (i + 1) cs) rs ran clean counts rest)))
+
+  pub all_done : (e now : Engine S) (cs : List Command) (i : ℕ) (sofar : List Answer) → length cs ≤ i → ((ts : List Answer) (n : Engine S) → RunsAll g now (drop i cs) ts n → RunsAll g e cs (sofar ++ ts) n)
+      → IfSome now.campaign (λ c. HoldsCampaign g now.conn (text_in g now.conn) c) → RunsAll g e cs sofar now
+  all_done e now cs i sofar h whole holds = subst (λ ts. RunsAll g e cs ts now) (append-nil sofar) (whole [] now (subst (λ ds. RunsAll g now ds [] now) (sym (drop_all i cs h)) (run_none now holds)))
+
+  -- ---- the headline
+
+  abbrev Ends : List ℕ → ℕ → Planet → Campaign → List Command → List Answer → Engine S → Type 0
+  Ends text faults w c cs rs new = Headline g text w c cs rs new ⊎ Interrupted g text faults w c cs rs new
+
+  all_closed : (cs : List Command) (rs : List Answer) → AreClosed cs rs → rs ≡ map (λ _. Fault Closed) cs
+  all_closed [] [] h = refl
+  all_closed [] (a ∷ rs) h = absurd h
+  all_closed (x ∷ cs) [] h = absurd h
+  all_closed (x ∷ cs) (a ∷ rs) h = ap₂ (λ b bs. b ∷ bs) h.0 (all_closed cs rs h.1)
+
+  further : (text : List ℕ) (faults : ℕ) (w : Planet) (c : Campaign) (x : Command) (a : Answer) (cs : List Command) (rs : List Answer) (new : Engine S) → (step w c x).1 ≡ a → Ends text faults w (step w c x).0 cs rs new
+      → Ends text faults w c (x ∷ cs) (a ∷ rs) new
+  further text faults w c x a cs rs new is (inl h) = inl (record { answers_are = ap₂ (λ b bs. b ∷ bs) (sym is) h.answers_are; campaign_is = h.campaign_is; tables = h.tables })
+  further text faults w c x a cs rs new is (inr h) = inr (record {
+    count = h.count + 1;
+    within = omega (arith, h.within);
+    fault = h.fault;
+    first = h.first;
+    answers_are = simp unary_clauses (ap₂ (λ b bs. b ∷ bs) (sym is) (simp unary_clauses at h.answers_are));
+    campaign_is = h.campaign_is;
+    tables = simp unary_clauses (simp unary_clauses at h.tables);
+  })
+
+  ends : (text : List ℕ) (faults : ℕ) (w : Planet) (c : Campaign) (cs : List Command) (rs : List Answer) (new : Engine S) → Follows g text faults w c cs rs new → Ends text faults w c cs rs new
+  ends text faults w c [] [] new f = inl (record { answers_are = refl; campaign_is = f.0; tables = f.1 })
+  ends text faults w c [] (a ∷ rs) new f = absurd f
+  ends text faults w c (x ∷ cs) [] new f = absurd f
+  ends text faults w c (x ∷ cs) (Joined n m ∷ rs) new f = further text faults w c x (Joined n m) cs rs new f.0 (ends text faults w (step w c x).0 cs rs new f.1)
+  ends text faults w c (x ∷ cs) (Text r ∷ rs) new f = further text faults w c x (Text r) cs rs new f.0 (ends text faults w (step w c x).0 cs rs new f.1)
+  ends text faults w c (x ∷ cs) (Refused r ∷ rs) new f = further text faults w c x (Refused r) cs rs new f.0 (ends text faults w (step w c x).0 cs rs new f.1)
+  ends text faults w c (x ∷ cs) (Fault e ∷ rs) new f = inr (record {
+    count = 0;
+    within = omega arith;
+    fault = e;
+    first = f.0;
+    answers_are = ap (λ bs. Fault e ∷ bs) (all_closed cs rs f.1);
+    campaign_is = f.2;
+    tables = f.3;
+  })
+
+  headline_at : (old new : Engine S) (cs : List Command) (rs : List Answer) (o : Option Campaign) → FollowsAt g old cs rs new o → HeadlineAt g old cs rs new o
+  headline_at old new cs rs (Some c) f = ends (text_in g old.conn) (state g old.conn).faults old.world c cs rs new f.0
+  headline_at old new cs rs None f = (all_closed cs rs f.0, f.1)
+
+  pub headline : (old new : Engine S) (cs : List Command) (rs : List Answer) → RunsAll g old cs rs new → HeadlineAt g old cs rs new old.campaign
+  headline old new cs rs h = headline_at old new cs rs old.campaign h.follows

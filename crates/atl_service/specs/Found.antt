@@ -1,0 +1,47 @@
+-- What a founding may answer and leave.
+use Rattle.std.specs.Prelude.{◌≡◌, ℕ, List, Bool, true, false, Some, Ok, Err, ⊤}
+use Rattle.sqlite_trees.specs.declared.store.Store.{Ghosts}
+use Rattle.sqlite.specs.Held.{Held, state}
+use Rattle.sqlite.specs.State.{HasCleanDisk}
+use Rattle.atl_tables.specs.Names.{pass_ok}
+use Rattle.atl_tables.specs.Planet.{Planet}
+use Rattle.atl_tables.specs.World.{world_of}
+use Rattle.atl_state.specs.Founding.{founded_of}
+use Rattle.atl_store.specs.Making.{has_campaign}
+use Rattle.atl_store.specs.Keeps.{HoldsCampaign, Spares, MayFound}
+use Rattle.atl_store.specs.declared.fault.CreateFault.{CreateFault}
+use Rattle.atl_store.specs.declared.fault.CreateFault.TheVariants as create
+use Rattle.atl_service.specs.declared.command.Cause.{Cause}
+use Rattle.atl_service.specs.declared.command.Cause.TheVariants.{World as BadWorld, BadPassText, NotEmpty, Store, Memory}
+use Rattle.atl_service.specs.Engine.{Engine, text_in}
+
+-- the service is open, with the world of the text and the founded campaign, and its tables hold the rows of both
+pub record Founds {S : Type 0} (g : Ghosts S) (text pass : List ℕ) (made : Engine S) : Type 0 where
+  pub world : world_of text ≡ Ok made.world
+  pub pass_is_good : pass_ok pass ≡ true
+  pub campaign : made.campaign ≡ Some (founded_of made.world pass)
+  pub tables : HoldsCampaign g made.conn text (founded_of made.world pass)
+  pub text_is : HasCleanDisk (state g made.conn) → text_in g made.conn ≡ text
+
+-- the world text has no fault
+abbrev pub IsWorldText : List ℕ → Type 0
+IsWorldText text = (w : Planet) × (world_of text ≡ Ok w)
+
+-- the first of the checks that fails
+abbrev pub IsCause : List ℕ → List ℕ → Bool → Cause → Type 0
+IsCause text pass is_there (BadWorld fault) = world_of text ≡ Err fault
+IsCause text pass is_there BadPassText = IsWorldText text × (pass_ok pass ≡ false)
+IsCause text pass is_there NotEmpty = IsWorldText text × (pass_ok pass ≡ true) × (is_there ≡ true)
+IsCause text pass is_there Store = IsWorldText text × (pass_ok pass ≡ true) × (is_there ≡ false)
+IsCause text pass is_there Memory = ⊤
+
+-- The founding is refused. The tables are as they were, and a crash leaves what it left before or the founded campaign.
+pub record RefusesFounding {S : Type 0} (g : Ghosts S) (old : Held S) (text pass : List ℕ) (why : Cause) (new : Held S) : Type 0 where
+  pub cause : IsCause text pass (has_campaign old.schema) why
+  pub tables : HasCleanDisk (state g new) → Spares (state g old) (state g new)
+  pub crash : HasCleanDisk (state g new) → (w : Planet) → world_of text ≡ Ok w → MayFound (state g old) text (founded_of w pass) (state g new)
+
+abbrev pub cause_of : CreateFault → Cause
+cause_of create.NotEmpty = NotEmpty
+cause_of create.Store = Store
+cause_of create.Memory = Memory

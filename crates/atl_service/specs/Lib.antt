@@ -1,0 +1,5 @@
+pub mod Numbers
+pub mod Step
+pub mod Engine
+pub mod Runs
+pub mod Found

@@ -1,0 +1,50 @@
+-- What one command, and a list of commands, make of a campaign, and how they are answered.
+use Rattle.std.specs.Prelude.{◌∷◌, [], ℕ, List, not, nat_eq, if◌then◌else◌, Option, Some, None, Result, Ok, Err, unwrap_or}
+use Rattle.std.specs.Cmp.Lexicographic.{pointwise}
+use Rattle.std.specs.FinMap.{get}
+use Rattle.atl_tables.specs.Names.{name_ok, pass_ok}
+use Rattle.atl_tables.specs.Planet.{Planet}
+use Rattle.atl_state.specs.declared.records.Faction.{Faction}
+use Rattle.atl_state.specs.declared.records.JoinFault.{JoinFault}
+use Rattle.atl_state.specs.declared.records.JoinFault.TheVariants.{NameTaken, Full, Memory}
+use Rattle.atl_state.specs.State.{State, with_report}
+use Rattle.atl_state.specs.Joining.{join_of}
+use Rattle.atl_report.specs.Sight.{view_of}
+use Rattle.atl_report.specs.Report.{report_of}
+use Rattle.atl_service.specs.declared.command.Command.{Command}
+use Rattle.atl_service.specs.declared.command.Command.TheVariants.{Join, Report}
+use Rattle.atl_service.specs.declared.command.Answer.{Answer}
+use Rattle.atl_service.specs.declared.command.Answer.TheVariants.{Joined, Text, Refused, Fault}
+use Rattle.atl_service.specs.declared.command.Refusal.TheVariants as why
+use Rattle.atl_service.specs.declared.command.Fault.TheVariants as faults
+
+-- the campaign with a new report for a faction, of what it sees
+abbrev pub reported : Planet → State → ℕ → State
+reported w c faction = with_report c faction (report_of w (view_of c faction))
+
+-- a joining, with the first report
+abbrev pub joined_with : Planet → State → Result (State × (ℕ × ℕ)) JoinFault → State × Answer
+joined_with w c (Ok (after, (faction, unit))) = (reported w after faction, Joined faction unit)
+joined_with w c (Err NameTaken) = (c, Refused why.NameTaken)
+joined_with w c (Err Full) = (c, Refused why.Full)
+joined_with w c (Err Memory) = (c, Fault faults.Memory)
+
+-- the stored report of a faction that gives its pass text
+abbrev pub told_of : State → ℕ → List ℕ → Option Faction → State × Answer
+told_of c faction pass None = (c, Refused why.NoFaction)
+told_of c faction pass (Some f) =
+    if not (pointwise nat_eq f.pass pass) then (c, Refused why.WrongPass)
+    else (c, Text (unwrap_or (get c.reports faction) []))
+
+-- the campaign after a command, and its answer
+unfoldable pub step : Planet → State → Command → State × Answer
+step w c (Join name pass word) =
+    if not (name_ok name) then (c, Refused why.BadName)
+    else (if not (pass_ok pass) then (c, Refused why.BadPassText)
+    else joined_with w c (join_of w name pass word c))
+step w c (Report faction pass) = told_of c faction pass (get c.factions faction)
+
+-- the campaign after a list of commands, and the list of answers
+abbrev pub run_of : Planet → State → List Command → State × List Answer
+run_of w c [] = (c, [])
+run_of w c (command ∷ more) = let one = step w c command in let rest = run_of w one.0 more in (rest.0, one.1 ∷ rest.1)

@@ -1,0 +1,133 @@
+//! The answer to one command, while the service is open.
+ghost use Rattle.std.specs.Prelude.{◌≡◌, ◌≤◌, ℕ, List, false, IfOk, OnOk, OnErr};
+ghost use Rattle.sqlite.specs.Held.{state};
+ghost use Rattle.sqlite.specs.State.{HasCleanDisk};
+ghost use Rattle.atl_state.specs.Good.{IsGood};
+ghost use Rattle.atl_state.specs.Totals.{Balances};
+ghost use Rattle.atl_store.specs.Keeps.{Keeps, Stops};
+ghost use Rattle.atl_service.specs.Step.{step, reported};
+ghost use Rattle.atl_service.specs.Runs.{IsSound, IfIdle};
+
+use crate::command::{Answer, Command, Refusal};
+use atl_report::{report_text, view};
+use atl_state::{Campaign, JoinFault};
+use atl_store::{WriteFault, write_join};
+use atl_tables::{Sequence, Text, World, name_ok, pass_ok};
+use sqlite::{Alter, Connection};
+use std::alloc::{AllocError, Global};
+
+/// Stores a new report for a faction, of what it sees.
+fn store_report(
+    alloc: Global,
+    world: &World,
+    campaign: &mut Campaign,
+    faction: u32,
+) -> Result<(), AllocError>
+    ensures { OnOk result (campaign.new.what ≡ reported world.now campaign.old.what faction) }
+{
+    let seen = view(alloc, world, campaign, faction)?;
+    let text = report_text(alloc, world, &seen)?;
+    campaign.set_report(faction, Text::from_string(text))?;
+    Ok(())
+}
+
+/// The answer to a command Join. The commit is the last call that can fail.
+fn join<S: Alter>(
+    alloc: Global,
+    world: &World,
+    campaign: &mut Campaign,
+    conn: &mut Connection<S>,
+    name: &Sequence<u8>,
+    pass: &Sequence<u8>,
+    word: u32,
+) -> Result<Answer, WriteFault>
+    requires good { IsGood world.now campaign.old.what }
+    requires idle { conn.old.in_transaction ≡ false }
+    ensures step { IfOk result (λ answer. step world.now campaign.old.what (Command.Join name.now pass.now word) ≡ (campaign.new.what, answer)) }
+    ensures good { OnOk result (IsGood world.now campaign.new.what) }
+    ensures balances { OnOk result (Balances campaign.old.what → Balances campaign.new.what) }
+    ensures sound { IfOk result IsSound }
+    ensures same { IfOk result (λ answer. IfIdle answer ((campaign.new.what ≡ campaign.old.what) × (conn.new ≡ conn.old))) }
+    ensures ok { HasCleanDisk (state S.Store conn.new) → OnOk result ((text : List ℕ) → Keeps (state S.Store conn.old) text campaign.old.what → Keeps (state S.Store conn.new) text campaign.new.what) }
+    ensures err { HasCleanDisk (state S.Store conn.new) → OnErr result ((text : List ℕ) → Keeps (state S.Store conn.old) text campaign.old.what → Stops (state S.Store conn.old).faults (state S.Store conn.new) text campaign.old.what (step world.now campaign.old.what (Command.Join name.now pass.now word)).0) }
+    ensures clean { HasCleanDisk (state S.Store conn.new) → HasCleanDisk (state S.Store conn.old) }
+    ensures counts { (state S.Store conn.old).faults ≤ (state S.Store conn.new).faults }
+    ensures idle { conn.new.in_transaction ≡ false }
+{
+    if !name_ok(name.as_slice()) {
+        return Ok(Answer::Refused(Refusal::BadName));
+    }
+    if !pass_ok(pass.as_slice()) {
+        return Ok(Answer::Refused(Refusal::BadPassText));
+    }
+    match campaign.join(world, name.as_slice(), pass.as_slice(), word) {
+        Ok((faction, unit)) => match store_report(alloc, world, campaign, faction) {
+            Ok(()) => match write_join(conn, campaign, faction) {
+                Ok(()) => Ok(Answer::Joined { faction, unit }),
+                Err(fault) => Err(fault),
+            },
+            Err(_) => Err(WriteFault::Memory),
+        },
+        Err(JoinFault::NameTaken) => Ok(Answer::Refused(Refusal::NameTaken)),
+        Err(JoinFault::Full) => Ok(Answer::Refused(Refusal::Full)),
+        Err(JoinFault::Memory) => Err(WriteFault::Memory),
+    }
+}
+
+/// The answer to a command Report.
+#[tactic(auto, unfolding(crate::specs::Step::step))]
+fn told(
+    alloc: Global,
+    world: &World,
+    campaign: &Campaign,
+    faction: u32,
+    pass: &Sequence<u8>,
+) -> Result<Answer, AllocError>
+    ensures step { IfOk result (λ answer. step world.now campaign.now.what (Command.Report faction pass.now) ≡ (campaign.now.what, answer)) }
+    ensures sound { IfOk result IsSound }
+{
+    match campaign.faction(faction) {
+        None => Ok(Answer::Refused(Refusal::NoFaction)),
+        Some(known) => {
+            if known.pass.as_bytes() != pass.as_slice() {
+                return Ok(Answer::Refused(Refusal::WrongPass));
+            }
+            match campaign.report(faction) {
+                Some(report) => Ok(Answer::Text(report.copy(alloc)?)),
+                None => Ok(Answer::Text(Text::from_str(alloc, "")?)),
+            }
+        }
+    }
+}
+
+/// The answer to a command. After an Err the campaign may be a part of the way; the tables are as before.
+pub(crate) fn answered<S: Alter>(
+    alloc: Global,
+    world: &World,
+    campaign: &mut Campaign,
+    conn: &mut Connection<S>,
+    command: &Command,
+) -> Result<Answer, WriteFault>
+    requires good { IsGood world.now campaign.old.what }
+    requires idle { conn.old.in_transaction ≡ false }
+    ensures step { IfOk result (λ answer. step world.now campaign.old.what command.now ≡ (campaign.new.what, answer)) }
+    ensures good { OnOk result (IsGood world.now campaign.new.what) }
+    ensures balances { OnOk result (Balances campaign.old.what → Balances campaign.new.what) }
+    ensures sound { IfOk result IsSound }
+    ensures same { IfOk result (λ answer. IfIdle answer ((campaign.new.what ≡ campaign.old.what) × (conn.new ≡ conn.old))) }
+    ensures ok { HasCleanDisk (state S.Store conn.new) → OnOk result ((text : List ℕ) → Keeps (state S.Store conn.old) text campaign.old.what → Keeps (state S.Store conn.new) text campaign.new.what) }
+    ensures err { HasCleanDisk (state S.Store conn.new) → OnErr result ((text : List ℕ) → Keeps (state S.Store conn.old) text campaign.old.what → Stops (state S.Store conn.old).faults (state S.Store conn.new) text campaign.old.what (step world.now campaign.old.what command.now).0) }
+    ensures clean { HasCleanDisk (state S.Store conn.new) → HasCleanDisk (state S.Store conn.old) }
+    ensures counts { (state S.Store conn.old).faults ≤ (state S.Store conn.new).faults }
+    ensures idle { conn.new.in_transaction ≡ false }
+{
+    match command {
+        Command::Join { name, pass, word } => {
+            join(alloc, world, campaign, conn, name, pass, *word)
+        }
+        Command::Report { faction, pass } => match told(alloc, world, campaign, *faction, pass) {
+            Ok(answer) => Ok(answer),
+            Err(_) => Err(WriteFault::Memory),
+        },
+    }
+}

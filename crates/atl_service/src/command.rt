@@ -1,0 +1,98 @@
+//! Commands and answers.
+ghost use Rattle.std.specs.Prelude.{◌≡◌, ◌≤◌};
+ghost use Rattle.atl_service.specs.Numbers.{number_of};
+
+use atl_tables::{Sequence, Text, WorldFault};
+use sqlite::{Alter, Connection};
+
+/// What a club asks of its campaign. Names and pass texts are any bytes.
+#[derive(Drop)]
+pub enum Command {
+    /// A faction joins under a name, with a pass text of its own and a dice word that picks its region.
+    Join {
+        name: Sequence<u8>,
+        pass: Sequence<u8>,
+        word: u32,
+    },
+    /// A faction asks for its stored report.
+    Report {
+        faction: u32,
+        pass: Sequence<u8>,
+    },
+}
+
+/// Why a command is refused. A refused command changes nothing.
+#[derive(Drop, Clone, Copy, Debug, PartialEq, Eq)]
+pub enum Refusal {
+    /// The name breaks the rule of names.
+    BadName,
+    /// The pass text breaks the rule of pass texts.
+    BadPassText,
+    /// Some faction ever joined under this name.
+    NameTaken,
+    /// No faction, or no unit, more can come.
+    Full,
+    /// No faction has this number.
+    NoFaction,
+    /// The pass text is another one.
+    WrongPass,
+}
+
+impl Refusal {
+    /// The number under which the refusal is told. See docs/FORMATS.md, "Refusals".
+    pub fn number(self) -> u8
+        ensures { result ≡ number_of self }
+    {
+        match self {
+            Refusal::BadName => 1,
+            Refusal::BadPassText => 2,
+            Refusal::NameTaken => 3,
+            Refusal::Full => 4,
+            Refusal::NoFaction => 5,
+            Refusal::WrongPass => 6,
+        }
+    }
+}
+
+/// Why a command could not be carried out.
+#[derive(Drop, Clone, Copy, Debug, PartialEq, Eq)]
+pub enum Fault {
+    /// There was no memory. The service is closed from then on.
+    Memory,
+    /// The database refused for another cause. The service is closed from then on.
+    Store,
+    /// The service is closed.
+    Closed,
+}
+
+/// The answer to a command.
+#[derive(Drop)]
+pub enum Answer {
+    /// The numbers of the faction that joined and of its unit.
+    Joined { faction: u32, unit: u32 },
+    /// A report.
+    Text(Text),
+    Refused(Refusal),
+    Fault(Fault),
+}
+
+/// Why no campaign is founded: the first of these that applies, or Memory at any point.
+#[derive(Drop, Debug)]
+pub enum Cause {
+    /// The world text has this fault, which is not Memory.
+    World(WorldFault),
+    /// The moderator's pass text breaks the rule of pass texts.
+    BadPassText,
+    /// The database has a table `campaign`.
+    NotEmpty,
+    /// The database refuses for another cause than memory, or has other tables.
+    Store,
+    Memory,
+}
+
+/// A founding that was refused hands its connection back, with its tables as they were.
+#[derive(Drop)]
+pub struct Refused<S: Alter> {
+    pub why: Cause,
+    pub conn: Connection<S>,
+}

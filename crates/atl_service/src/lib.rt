@@ -1,0 +1,11 @@
+//! The commands of a campaign, over its tables: one at a time, and in lists.
+#![tactic(auto)]
+
+mod answering;
+pub mod command;
+pub mod service;
+#[cfg(test)]
+mod tests;
+
+pub use command::{Answer, Cause, Command, Fault, Refusal, Refused};
+pub use service::{Service, found};

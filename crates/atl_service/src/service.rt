@@ -1,0 +1,196 @@
+//! The service.
+ghost use Rattle.std.specs.Prelude.{◌≡◌, ◌≤◌, Ok, IfOk, IfErr, OnErr, IfSome, IsSome, option_map};
+ghost use Rattle.std.specs.Option.{option_copied};
+ghost use Rattle.sqlite.specs.Held.{state};
+ghost use Rattle.sqlite.specs.State.{HasCleanDisk};
+ghost use Rattle.atl_tables.specs.World.{world_of};
+ghost use Rattle.atl_service.specs.Found.{Founds, RefusesFounding, cause_of};
+
+use crate::answering::answered;
+use crate::command::{Answer, Cause, Command, Fault, Refused};
+use atl_state::{Campaign, founded};
+use atl_store::{CreateFault, WriteFault, create};
+use atl_tables::{World, WorldFault, pass_ok, read_world};
+use sqlite::{Alter, Connection};
+use std::alloc::{AllocError, Global};
+use std::marker::Model;
+
+/// A world and its campaign, in memory and in the tables of a connection. After a fault the service is closed: then every
+/// command is answered Closed.
+#[derive(Drop)]
+pub struct Service<S: Alter> {
+    alloc: Global,
+    conn: Connection<S>,
+    world: World,
+    campaign: Campaign,
+    is_open: bool,
+}
+
+impl<S: Alter> Model for Service<S> {
+    ghost use Rattle.std.specs.Prelude.{Some, None, cond};
+    ghost use Rattle.atl_service.specs.Engine.{Engine, engine_code, Stands};
+
+    ghost Value = { Engine S };
+
+    ghost coded = { engine_code S.code };
+
+    ghost view = { λ a. record { conn = a.conn; world = a.world; campaign = cond a.is_open (Some a.campaign.what) None } };
+
+    ghost invariant = { λ a. Stands S.Store a.conn a.world a.campaign.what a.is_open };
+}
+
+impl<S: Alter> Service<S> {
+    ghost use Rattle.atl_state.specs.Good.{IsGood};
+    ghost use Rattle.atl_state.specs.Totals.{Balances};
+    ghost use Rattle.atl_store.specs.Keeps.{HoldsCampaign};
+    ghost use Rattle.atl_service.specs.Engine.{text_in};
+    ghost use Rattle.atl_service.specs.Runs.{Runs, RunsAll, HeadlineAt};
+
+    /// Runs one command. A command that is refused, or answered with a report, changes nothing. After Fault Memory or
+    /// Store the tables are as before, the service is closed, and every command is answered Closed and changes nothing.
+    pub fn run(&mut self, command: &Command) -> Answer
+        ensures runs { Runs S.Store self.old command.now result self.new }
+        ensures clean { HasCleanDisk (state S.Store self.new.conn) → HasCleanDisk (state S.Store self.old.conn) }
+        ensures counts { (state S.Store self.old.conn).faults ≤ (state S.Store self.new.conn).faults }
+        ensures tables { IfSome self.new.campaign (λ c. HoldsCampaign S.Store self.new.conn (text_in S.Store self.new.conn) c) }
+    {
+        if !self.is_open {
+            return Answer::Fault(Fault::Closed);
+        }
+        match answered(
+            self.alloc,
+            &self.world,
+            &mut self.campaign,
+            &mut self.conn,
+            command,
+        ) {
+            Ok(answer) => answer,
+            Err(WriteFault::Memory) => {
+                self.is_open = false;
+                Answer::Fault(Fault::Memory)
+            }
+            Err(WriteFault::Store) => {
+                self.is_open = false;
+                Answer::Fault(Fault::Store)
+            }
+        }
+    }
+
+    /// Runs commands in their order, and gives an answer for each. The room for the answers is taken first: without it
+    /// nothing is run and nothing changes.
+    pub fn run_all(&mut self, commands: &[Command]) -> Result<Vec<Answer>, AllocError>
+        ensures runs { IfOk result (λ answers. RunsAll S.Store self.old commands.now answers.items self.new) }
+        ensures headline { IfOk result (λ answers. HeadlineAt S.Store self.old commands.now answers.items self.new self.old.campaign) }
+        ensures err { OnErr result (self.new ≡ self.old) }
+    {
+        let mut answers = Vec::with_capacity(self.alloc, commands.len())?;
+        for command in commands {
+            let answer = self.run(command);
+            answers.push(answer).unwrap();
+        }
+        Ok(answers)
+    }
+
+    /// The campaign, while the service is open.
+    pub fn campaign(&self) -> Option<&Campaign>
+        ensures value { option_map (λ c. c.what) (option_copied result) ≡ self.now.campaign }
+        ensures good { IfSome self.now.campaign (IsGood self.now.world) }
+        ensures balances { IfSome self.now.campaign Balances }
+        ensures tables { IfSome self.now.campaign (λ c. HoldsCampaign S.Store self.now.conn (text_in S.Store self.now.conn) c) }
+    {
+        if self.is_open {
+            Some(&self.campaign)
+        } else {
+            None
+        }
+    }
+
+    pub fn world(&self) -> &World
+        ensures value { result.now ≡ self.now.world }
+        ensures text { HasCleanDisk (state S.Store self.now.conn) → IsSome self.now.campaign → world_of (text_in S.Store self.now.conn) ≡ Ok self.now.world }
+    {
+        &self.world
+    }
+
+    /// The connection, with its tables as they are.
+    pub fn end(self) -> Connection<S>
+        ensures value { result ≡ self.conn }
+        ensures tables { IfSome self.campaign (λ c. HoldsCampaign S.Store result (text_in S.Store result) c) }
+    {
+        let Service {
+            alloc: _,
+            conn,
+            world: _,
+            campaign: _,
+            is_open: _,
+        } = self;
+        conn
+    }
+}
+
+/// Founds a campaign by a world text and the moderator's pass text, in a database without tables. The cause of a refusal
+/// is the first check that fails: the world's fault, the pass text, a campaign that is there, the database; or Memory at
+/// any of them.
+pub fn found<S: Alter>(
+    alloc: Global,
+    mut conn: Connection<S>,
+    world_text: &str,
+    pass: &[u8],
+) -> Result<Service<S>, Refused<S>>
+    ensures ok { IfOk result (Founds S.Store world_text.now pass.now) }
+    ensures err { IfErr result (λ r. RefusesFounding S.Store conn world_text.now pass.now r.why r.conn) }
+{
+    let world = match read_world(alloc, world_text) {
+        Ok(world) => world,
+        Err(WorldFault::Memory) => {
+            return Err(Refused {
+                why: Cause::Memory,
+                conn,
+            });
+        }
+        Err(fault) => {
+            return Err(Refused {
+                why: Cause::World(fault),
+                conn,
+            });
+        }
+    };
+    if !pass_ok(pass) {
+        return Err(Refused {
+            why: Cause::BadPassText,
+            conn,
+        });
+    }
+    let campaign = match founded(alloc, &world, pass) {
+        Ok(campaign) => campaign,
+        Err(_) => {
+            return Err(Refused {
+                why: Cause::Memory,
+                conn,
+            });
+        }
+    };
+    match create(&mut conn, world_text, &campaign) {
+        Ok(()) => Ok(Service {
+            alloc,
+            conn,
+            world,
+            campaign,
+            is_open: true,
+        }),
+        Err(fault) => Err(Refused {
+            why: cause_of(fault),
+            conn,
+        }),
+    }
+}
+
+fn cause_of(fault: CreateFault) -> Cause
+    ensures { result ≡ cause_of fault }
+{
+    match fault {
+        CreateFault::NotEmpty => Cause::NotEmpty,
+        CreateFault::Store => Cause::Store,
+        CreateFault::Memory => Cause::Memory,
+    }
+}

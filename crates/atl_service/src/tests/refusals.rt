@@ -1,0 +1,86 @@
+//! What is refused changes nothing.
+use super::{FIRST_REPORT, SMALL, join, report, small, tables, tells};
+use crate::{Cause, Refusal, Service, found};
+use sqlite::{Connection, MemStore};
+use std::alloc::Global;
+use std::process::Abort;
+use std::test::Fail;
+
+/// Asserts the numbers that come next, and how many units there are.
+fn has_numbers(
+    rt: &impl Abort,
+    service: &Service<MemStore>,
+    faction: u32,
+    unit: u32,
+    units: usize,
+) {
+    match service.campaign() {
+        Some(campaign) => {
+            assert_eq!(rt; campaign.next_faction(), faction);
+            assert_eq!(rt; campaign.next_unit(), unit);
+            assert_eq!(rt; campaign.units().len(), units);
+        }
+        None => assert!(rt; false),
+    }
+}
+
+#[test]
+fn a_name_is_taken_once(rt: HostRuntime) -> Result<(), Fail> {
+    let alloc = rt.alloc();
+    let join = join(alloc, "Avalon", "pw")?;
+    let report = report(alloc, 1, "pw")?;
+    let mut service = small(alloc).ok_or("found")?;
+    tells(&rt, &mut service, &join, "joined");
+    has_numbers(&rt, &service, 2, 2, 1);
+    tells(&rt, &mut service, &join, "name taken");
+    has_numbers(&rt, &service, 2, 2, 1);
+    tells(&rt, &mut service, &report, FIRST_REPORT);
+    let mut once = small(alloc).ok_or("found")?;
+    tells(&rt, &mut once, &join, "joined");
+    let mut conn = service.end();
+    let mut once_conn = once.end();
+    assert_eq!(rt; tables(&mut conn), tables(&mut once_conn));
+    Ok(())
+}
+
+#[test]
+fn refusals_have_their_numbers(rt: HostRuntime) {
+    assert_eq!(rt; Refusal::BadName.number(), 1);
+    assert_eq!(rt; Refusal::BadPassText.number(), 2);
+    assert_eq!(rt; Refusal::NameTaken.number(), 3);
+    assert_eq!(rt; Refusal::Full.number(), 4);
+    assert_eq!(rt; Refusal::NoFaction.number(), 5);
+    assert_eq!(rt; Refusal::WrongPass.number(), 6);
+}
+
+/// Why no campaign is founded in a database, in words.
+fn refused(conn: Connection<MemStore>, alloc: Global, world: &str, pass: &[u8]) -> &'static str {
+    match found(alloc, conn, world, pass) {
+        Ok(_) => "founded",
+        Err(refused) => match refused.why {
+            Cause::World(_) => "world",
+            Cause::BadPassText => "bad pass text",
+            Cause::NotEmpty => "not empty",
+            Cause::Store => "store",
+            Cause::Memory => "memory",
+        },
+    }
+}
+
+#[test]
+fn the_first_check_that_fails_is_told(rt: HostRuntime) -> Result<(), Fail> {
+    let alloc = rt.alloc();
+    let conn = Connection::open_in_memory(alloc)?;
+    assert_eq!(rt; refused(conn, alloc, "a = = b", b"a b"), "world");
+    let conn = Connection::open_in_memory(alloc)?;
+    assert_eq!(rt; refused(conn, alloc, SMALL, b"a b"), "bad pass text");
+    Ok(())
+}
+
+#[test]
+fn a_campaign_is_founded_once(rt: HostRuntime) -> Result<(), Fail> {
+    let alloc = rt.alloc();
+    let service = small(alloc).ok_or("found")?;
+    assert_eq!(rt; refused(service.end(), alloc, SMALL, b"gm"), "not empty");
+    Ok(())
+}
