@@ -1,0 +1,84 @@
+//! What the program tells on standard error.
+use atl_service::{Cause, Refusal};
+use atl_tables::WorldFault;
+use std::alloc::{AllocError, AllocFailed};
+use std::io;
+use std::process::ExitCode;
+
+/// Why the program did not do what was asked.
+#[derive(Drop)]
+pub enum Failure {
+    /// The words of the command line are bad, or ask for help.
+    CommandLine(clap::Error),
+    /// A file, or standard input, can't be read as text.
+    File,
+    World(WorldFault),
+    Refused(Refusal),
+    /// A campaign is in the database.
+    NotEmpty,
+    /// The database refuses.
+    Store,
+    Memory,
+    /// Standard output can't be written.
+    Output,
+}
+
+impl From<AllocError> for Failure {
+    fn from(_e: AllocError) -> Failure {
+        Failure::Memory
+    }
+}
+
+impl<T: Drop> From<AllocFailed<T>> for Failure {
+    fn from(_e: AllocFailed<T>) -> Failure {
+        Failure::Memory
+    }
+}
+
+impl From<Cause> for Failure {
+    fn from(cause: Cause) -> Failure {
+        match cause {
+            Cause::World(fault) => Failure::World(fault),
+            Cause::BadPassText => Failure::Refused(Refusal::BadPassText),
+            Cause::NotEmpty => Failure::NotEmpty,
+            Cause::Store => Failure::Store,
+            Cause::Memory => Failure::Memory,
+        }
+    }
+}
+
+fn tell_world_fault<R: Eprint>(rt: &R, fault: &WorldFault) -> io::Result<()> {
+    let number = fault.number();
+    let name = fault.name();
+    match fault.path() {
+        Some(path) => {
+            let path = path.as_str();
+            eprintln!(rt; "world: {number} {name} {path}")
+        }
+        None => eprintln!(rt; "world: {number} {name}"),
+    }
+}
+
+impl Failure {
+    /// Tells the failure in one line, or a bad command line in the words of its parser, and gives the status: 2 for a
+    /// bad command line, else 1.
+    pub fn tell<R: Eprint>(self, rt: &R) -> ExitCode {
+        let _ = match &self {
+            Failure::CommandLine(error) => eprint!(rt; "{error}"),
+            Failure::File => eprintln!(rt; "file: cannot read"),
+            Failure::World(fault) => tell_world_fault(rt, fault),
+            Failure::Refused(refusal) => {
+                let number = refusal.number();
+                eprintln!(rt; "refused: {number} {refusal:?}")
+            }
+            Failure::NotEmpty => eprintln!(rt; "fault: NotEmpty"),
+            Failure::Store => eprintln!(rt; "fault: Store"),
+            Failure::Memory => eprintln!(rt; "fault: Memory"),
+            Failure::Output => Ok(()),
+        };
+        match self {
+            Failure::CommandLine(_) => ExitCode::from(2),
+            _ => ExitCode::FAILURE,
+        }
+    }
+}
