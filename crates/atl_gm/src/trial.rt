@@ -67,7 +67,7 @@ fn print_text<R: Print>(rt: &R, text: &Text) -> Result<(), Failure> {
 fn print_answer<R: Print>(rt: &R, answer: &Answer) -> Result<(), Failure> {
     match answer {
         Answer::Text(text) => print_text(rt, text),
-        Answer::Joined { .. } => Ok(()),
+        Answer::Joined { .. } | Answer::Mailed { .. } => Ok(()),
         Answer::Refused(refusal) => Err(Failure::Refused(*refusal)),
         Answer::Fault(Fault::Store) => Err(Failure::Store),
         Answer::Fault(_) => Err(Failure::Memory),

@@ -5,3 +5,4 @@ pub mod RuleLaws
 pub mod OrderLaws
 pub mod BoundLaws
 pub mod NamingLaws
+pub mod SenderLaws

@@ -1,5 +1,5 @@
 -- What a mailing says, from its lines.
-use Rattle.std.specs.Prelude.{◌≡◌, ℕ, ◌+◌, Bool, List, [], ◌∷◌, length, map, codes, Option, Some, None, Result, Ok, Err, nat_lt, if◌then◌else◌}
+use Rattle.std.specs.Prelude.{◌≡◌, ◌≤◌, ℕ, ◌+◌, Bool, List, [], ◌∷◌, length, map, codes, Option, Some, None, Result, Ok, Err, nat_lt, if◌then◌else◌}
 use Rattle.std.specs.List.{flat_map}
 use Rattle.std.specs.Option.{option_copied}
 use Rattle.atl_tables.specs.Planet.{Planet}
@@ -87,6 +87,11 @@ unfoldable pub reading : Planet → List ℕ → Result Reading MailFault
 reading world text =
     if nat_lt 65536 (length text) then Err TooLong
     else behind_header world (header_from 1 (lines text))
+
+-- a mailing of a faction: it is short enough, and its header names the faction
+pub record IsMailingOf (faction : ℕ) (text : List ℕ) : Type 0 where
+  pub short : length text ≤ 65536
+  pub header : (next : ℕ) × (rest : List (List ℕ)) × (header_from 1 (lines text) ≡ Ok (record { faction = faction; next = next; rest = rest }))
 
 -- ---- what the code answers
 

@@ -1,8 +1,8 @@
 -- A founding.
-use Rattle.std.proofs.Common.{◌≡◌, ◌⊎◌, Bool, true, false, IsTrue, List, ℕ, Result, Ok, Some, refl, sym, ap, ◌∙◌, subst, inl, inr}
+use Rattle.std.proofs.Common.{◌≡◌, true, false, List, ℕ, Result, Ok, Some, refl, sym, ap, ◌∙◌, subst, inl}
 use Rattle.sqlite_trees.specs.declared.store.Store.{Ghosts}
 use Rattle.sqlite.specs.Held.{Held, state}
-use Rattle.sqlite.specs.State.{State, HasCleanDisk}
+use Rattle.sqlite.specs.State.{HasCleanDisk}
 use Rattle.atl_tables.specs.World.{world_of}
 use Rattle.atl_tables.specs.declared.fault.WorldFault.{WorldFault}
 use Rattle.atl_tables.specs.Names.{pass_ok}
@@ -17,7 +17,7 @@ use Rattle.atl_store.specs.declared.fault.CreateFault.{CreateFault}
 use Rattle.atl_store.specs.declared.fault.CreateFault.TheVariants.{NotEmpty, Store, Memory}
 use Rattle.atl_store.proofs.WorldTextLaws.{world_text_is}
 use Rattle.atl_store.specs.Keeps.{HoldsCampaign}
-use Rattle.atl_service.specs.Engine.{Engine, text_in, Stands}
+use Rattle.atl_service.specs.Engine.{Stands}
 use Rattle.atl_service.specs.declared.command.Cause.{Cause}
 use Rattle.atl_service.specs.Found.{Founds, RefusesFounding, IsCause, cause_of}
 

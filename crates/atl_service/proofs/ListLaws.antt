@@ -1,10 +1,10 @@
 -- Lists of commands.
-use Rattle.std.proofs.Common.{◌≡◌, ◌≢◌, ◌⊎◌, ◌≤◌, ◌<◌, ◌+◌, ◌++◌, ◌∷◌, [], ℕ, List, map, take, drop, length, get_or, Option, Some, None, IfSome, refl, sym, ap, ap₂, ◌∙◌, subst, inl, inr, append_assoc, append-nil, arith}
+use Rattle.std.proofs.Common.{◌≡◌, ◌⊎◌, ◌≤◌, ◌<◌, ◌+◌, ◌++◌, ◌∷◌, [], ℕ, List, map, drop, length, get_or, Option, Some, None, IfSome, refl, sym, ap, ap₂, ◌∙◌, subst, inl, inr, append_assoc, append-nil, arith}
 use native.Mathlib.Numerals.{unary_clauses}
 use Rattle.std.proofs.lemmas.List.{drop_more, drop_all}
 use Rattle.sqlite_disk.specs.Disk.{MoreFaults}
 use Rattle.sqlite_trees.specs.declared.store.Store.{Ghosts}
-use Rattle.sqlite.specs.Held.{Held, state}
+use Rattle.sqlite.specs.Held.{state}
 use Rattle.sqlite.specs.State.{State, HasCleanDisk}
 use Rattle.atl_tables.specs.Planet.{Planet}
 use Rattle.atl_state.specs.State.{State as Campaign}
@@ -12,9 +12,9 @@ use Rattle.atl_store.specs.Keeps.{Keeps, Stops}
 use Rattle.atl_store.proofs.WorldTextLaws.{world_text_is}
 use Rattle.atl_service.specs.declared.command.Command.{Command}
 use Rattle.atl_service.specs.declared.command.Answer.{Answer}
-use Rattle.atl_service.specs.declared.command.Answer.TheVariants.{Joined, Text, Refused, Fault}
+use Rattle.atl_service.specs.declared.command.Answer.TheVariants.{Joined, Mailed, Text, Refused, Fault}
 use Rattle.atl_service.specs.declared.command.Fault.TheVariants.{Memory, Store, Closed}
-use Rattle.atl_service.specs.Step.{step, run_of}
+use Rattle.atl_service.specs.Step.{step}
 use Rattle.atl_store.specs.Keeps.{HoldsCampaign}
 use Rattle.atl_service.specs.Engine.{Engine, text_in}
 use Rattle.atl_service.specs.Runs.{Runs, RunsAt, RunsOpen, Accepts, Closes, RunsAll, Follows, FollowsAt, AreClosed, Headline, Interrupted, HeadlineAt}
@@ -38,6 +38,7 @@ module _ {S : Type 0} (g : Ghosts S) where
   follows_as t u few many w c [] (a ∷ rs) new same h f = absurd f
   follows_as t u few many w c (x ∷ cs) [] new same h f = absurd f
   follows_as t u few many w c (x ∷ cs) (Joined n m ∷ rs) new same h f = (f.0, follows_as t u few many w (step w c x).0 cs rs new same h f.1)
+  follows_as t u few many w c (x ∷ cs) (Mailed n fs ∷ rs) new same h f = (f.0, follows_as t u few many w (step w c x).0 cs rs new same h f.1)
   follows_as t u few many w c (x ∷ cs) (Text r ∷ rs) new same h f = (f.0, follows_as t u few many w (step w c x).0 cs rs new same h f.1)
   follows_as t u few many w c (x ∷ cs) (Refused r ∷ rs) new same h f = (f.0, follows_as t u few many w (step w c x).0 cs rs new same h f.1)
   follows_as t u few many w c (x ∷ cs) (Fault e ∷ rs) new same h f =
@@ -76,6 +77,7 @@ module _ {S : Type 0} (g : Ghosts S) where
       → (HasCleanDisk (state g new.conn) → HasCleanDisk (state g mid.conn)) → (state g old.conn).faults ≤ (state g mid.conn).faults → old.campaign ≡ Some c → FollowsAt g mid cs rs new mid.campaign
       → FollowsAt g old (x ∷ cs) (a ∷ rs) new (Some c)
   first_open old mid new c x (Joined n m) cs rs ran was counts up rest = let k = carried old mid new c x (Joined n m) cs rs ran was counts rest in ((k.0, k.1), k.2)
+  first_open old mid new c x (Mailed n fs) cs rs ran was counts up rest = let k = carried old mid new c x (Mailed n fs) cs rs ran was counts rest in ((k.0, k.1), k.2)
   first_open old mid new c x (Text t) cs rs ran was counts up rest = let k = carried old mid new c x (Text t) cs rs ran.0 was counts rest in ((k.0, k.1), k.2)
   first_open old mid new c x (Refused r) cs rs ran was counts up rest =
       let same : mid ≡ old = ran.1 in
@@ -151,6 +153,7 @@ module _ {S : Type 0} (g : Ghosts S) where
   ends text faults w c [] (a ∷ rs) new f = absurd f
   ends text faults w c (x ∷ cs) [] new f = absurd f
   ends text faults w c (x ∷ cs) (Joined n m ∷ rs) new f = further text faults w c x (Joined n m) cs rs new f.0 (ends text faults w (step w c x).0 cs rs new f.1)
+  ends text faults w c (x ∷ cs) (Mailed n fs ∷ rs) new f = further text faults w c x (Mailed n fs) cs rs new f.0 (ends text faults w (step w c x).0 cs rs new f.1)
   ends text faults w c (x ∷ cs) (Text r ∷ rs) new f = further text faults w c x (Text r) cs rs new f.0 (ends text faults w (step w c x).0 cs rs new f.1)
   ends text faults w c (x ∷ cs) (Refused r ∷ rs) new f = further text faults w c x (Refused r) cs rs new f.0 (ends text faults w (step w c x).0 cs rs new f.1)
   ends text faults w c (x ∷ cs) (Fault e ∷ rs) new f = inr (record {

@@ -1,5 +1,5 @@
 -- From the answer to one command to what `run` promises.
-use Rattle.std.proofs.Common.{◌≡◌, Bool, true, false, cond, List, ℕ, Some, None, IfSome, Ok, refl, sym, ap, ap₂, ◌∙◌, subst}
+use Rattle.std.proofs.Common.{◌≡◌, Bool, true, false, cond, List, ℕ, Some, None, IfSome, refl, sym, ap, ap₂, ◌∙◌, subst}
 use Rattle.sqlite_trees.specs.declared.store.Store.{Ghosts}
 use Rattle.sqlite.specs.Held.{Held, state}
 use Rattle.sqlite.specs.State.{HasCleanDisk}
@@ -12,7 +12,7 @@ use Rattle.atl_store.specs.Keeps.{Keeps, Stops}
 use Rattle.atl_store.proofs.WorldTextLaws.{world_text_is}
 use Rattle.atl_service.specs.declared.command.Command.{Command}
 use Rattle.atl_service.specs.declared.command.Answer.{Answer}
-use Rattle.atl_service.specs.declared.command.Answer.TheVariants.{Joined, Text, Refused, Fault}
+use Rattle.atl_service.specs.declared.command.Answer.TheVariants.{Joined, Mailed, Text, Refused, Fault}
 use Rattle.atl_service.specs.declared.command.Fault.TheVariants.{Memory, Store}
 use Rattle.atl_service.specs.Step.{step}
 use Rattle.atl_store.specs.Keeps.{HoldsCampaign}
@@ -55,6 +55,7 @@ module _ {S : Type 0} (g : Ghosts S) where
     runs_open : (answer : Answer) → Stands g conn w c true → (HasCleanDisk (state g conn') → HasCleanDisk (state g conn)) → Keeping → step w c command ≡ (c', answer) → IsSound answer → IfIdle answer ((c' ≡ c) × (conn' ≡ conn))
         → RunsOpen g c (shown conn w c true) command answer (shown conn' w c' true)
     runs_open (Joined f u) stands was keeping is sound idle = record { after = c'; step = is; same = refl; tables = holding stands was keeping }
+    runs_open (Mailed n fs) stands was keeping is sound idle = record { after = c'; step = is; same = refl; tables = holding stands was keeping }
     runs_open (Text t) stands was keeping is sound idle = (record { after = c'; step = is; same = refl; tables = holding stands was keeping }, ap₂ (λ h d. shown h w d true) idle.1 idle.0)
     runs_open (Refused r) stands was keeping is sound idle = (is ∙ ap (λ d. (d, Refused r)) idle.0, ap₂ (λ h d. shown h w d true) idle.1 idle.0)
     runs_open (Fault f) stands was keeping is sound idle = absurd sound

@@ -1,8 +1,7 @@
 -- The step of a command Join, by what `join` answered, and what the store is to write of it.
-use Rattle.std.proofs.Common.{◌≡◌, ℕ, List, Bool, true, false, cond, not, Result, Ok, Err, refl, sym, ap, ◌∙◌}
+use Rattle.std.proofs.Common.{◌≡◌, ℕ, List, Bool, true, false, cond, not, Ok, Err, refl, sym, ap}
 use Rattle.atl_tables.specs.Names.{name_ok, pass_ok}
 use Rattle.atl_tables.specs.Planet.{Planet}
-use Rattle.atl_state.specs.declared.records.JoinFault.{JoinFault}
 use Rattle.atl_state.specs.declared.records.JoinFault.TheVariants.{NameTaken, Full}
 use Rattle.atl_state.specs.State.{State, with_report}
 use Rattle.atl_state.specs.Good.{IsGood}

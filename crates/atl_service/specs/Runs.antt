@@ -1,14 +1,16 @@
 -- What a call of `run` or of `run_all` may answer and leave.
 use Rattle.std.specs.Prelude.{◌≡◌, ◌≢◌, ◌⊎◌, ◌≤◌, ◌<◌, ◌+◌, ◌∷◌, ◌++◌, [], ℕ, List, map, take, drop, length, Option, Some, None, ⊤}
 use Rattle.sqlite_trees.specs.declared.store.Store.{Ghosts}
-use Rattle.sqlite.specs.Held.{Held, state}
+use Rattle.sqlite.specs.Held.{state}
 use Rattle.sqlite.specs.State.{HasCleanDisk}
 use Rattle.atl_tables.specs.Planet.{Planet}
 use Rattle.atl_state.specs.State.{State as Campaign}
 use Rattle.atl_store.specs.Keeps.{Stops}
+use Rattle.atl_service.specs.declared.answering.Unkept.{Unkept}
+use Rattle.atl_service.specs.declared.answering.Unkept.TheVariants as unkept
 use Rattle.atl_service.specs.declared.command.Command.{Command}
 use Rattle.atl_service.specs.declared.command.Answer.{Answer}
-use Rattle.atl_service.specs.declared.command.Answer.TheVariants.{Joined, Text, Refused, Fault}
+use Rattle.atl_service.specs.declared.command.Answer.TheVariants.{Joined, Mailed, Text, Refused, Fault}
 use Rattle.atl_service.specs.declared.command.Answer.TheVariants as Answers
 use Rattle.atl_service.specs.declared.command.Fault.{Fault as Failure}
 use Rattle.atl_service.specs.declared.command.Fault.TheVariants.{Memory, Store, Closed}
@@ -35,6 +37,7 @@ pub record Closes {S : Type 0} (g : Ghosts S) (c : Campaign) (old : Engine S) (c
 -- while the service is open, with this campaign
 abbrev pub RunsOpen : {S : Type 0} → Ghosts S → Campaign → Engine S → Command → Answer → Engine S → Type 0
 RunsOpen g c old command (Joined faction unit) new = Accepts g c old command (Joined faction unit) new
+RunsOpen g c old command (Mailed orders faults) new = Accepts g c old command (Mailed orders faults) new
 RunsOpen g c old command (Text report) new = Accepts g c old command (Text report) new × (new ≡ old)
 RunsOpen g c old command (Refused why) new = Refuses c old command (Refused why) new
 RunsOpen g c old command (Fault Memory) new = Closes g c old command new
@@ -63,6 +66,7 @@ AreClosed (c ∷ cs) [] = ⊥
 abbrev pub Follows : {S : Type 0} → Ghosts S → List ℕ → ℕ → Planet → Campaign → List Command → List Answer → Engine S → Type 0
 Follows g text faults w c [] [] new = (new.campaign ≡ Some c) × HoldsCampaign g new.conn text c
 Follows g text faults w c (command ∷ cs) (Joined faction unit ∷ rs) new = ((step w c command).1 ≡ Joined faction unit) × Follows g text faults w (step w c command).0 cs rs new
+Follows g text faults w c (command ∷ cs) (Mailed orders faulty ∷ rs) new = ((step w c command).1 ≡ Mailed orders faulty) × Follows g text faults w (step w c command).0 cs rs new
 Follows g text faults w c (command ∷ cs) (Text report ∷ rs) new = ((step w c command).1 ≡ Text report) × Follows g text faults w (step w c command).0 cs rs new
 Follows g text faults w c (command ∷ cs) (Refused why ∷ rs) new = ((step w c command).1 ≡ Refused why) × Follows g text faults w (step w c command).0 cs rs new
 Follows g text faults w c (command ∷ cs) (Fault fault ∷ rs) new =
@@ -101,6 +105,11 @@ HeadlineAt g old commands answers new (Some c) =
     Headline g (text_in g old.conn) old.world c commands answers new ⊎ Interrupted g (text_in g old.conn) (state g old.conn).faults old.world c commands answers new
 HeadlineAt g old commands answers new None = (answers ≡ map (λ _. Answers.Fault Closed) commands) × (new ≡ old)
 
+-- a mailing that is not kept is refused by the step, but for want of memory
+abbrev pub Denies : Planet → Campaign → Command → Unkept → Type 0
+Denies w c command (unkept.Refused why) = step w c command ≡ (c, Refused why)
+Denies w c command unkept.Memory = ⊤
+
 -- an answer that is no fault
 abbrev pub IsSound : Answer → Type 0
 IsSound (Fault _) = ⊥
@@ -109,6 +118,7 @@ IsSound _ = ⊤
 -- what a command that was refused, or that asks for a report, leaves as it is
 abbrev pub IfIdle : Answer → Type 0 → Type 0
 IfIdle (Joined _ _) P = ⊤
+IfIdle (Mailed _ _) P = ⊤
 IfIdle (Text _) P = P
 IfIdle (Refused _) P = P
 IfIdle (Fault _) P = ⊤

@@ -1,20 +1,24 @@
 -- What one command, and a list of commands, make of a campaign, and how they are answered.
-use Rattle.std.specs.Prelude.{◌∷◌, [], ℕ, List, not, nat_eq, if◌then◌else◌, Option, Some, None, Result, Ok, Err, unwrap_or}
+use Rattle.std.specs.Prelude.{◌==◌, ◌∷◌, [], ℕ, List, length, not, nat_eq, if◌then◌else◌, Option, Some, None, Result, Ok, Err, unwrap_or}
 use Rattle.std.specs.Cmp.Lexicographic.{pointwise}
 use Rattle.std.specs.FinMap.{get}
 use Rattle.atl_tables.specs.Names.{name_ok, pass_ok}
 use Rattle.atl_tables.specs.Planet.{Planet}
+use Rattle.atl_orders.specs.declared.fault.MailFault.{MailFault}
+use Rattle.atl_orders.specs.declared.fault.MailFault.TheVariants as mail
+use Rattle.atl_orders.specs.Mailing.{Reading, reading}
 use Rattle.atl_state.specs.declared.records.Faction.{Faction}
 use Rattle.atl_state.specs.declared.records.JoinFault.{JoinFault}
 use Rattle.atl_state.specs.declared.records.JoinFault.TheVariants.{NameTaken, Full, Memory}
-use Rattle.atl_state.specs.State.{State, with_report}
+use Rattle.atl_state.specs.State.{State, with_mail, with_report}
 use Rattle.atl_state.specs.Joining.{join_of}
 use Rattle.atl_report.specs.Sight.{view_of}
 use Rattle.atl_report.specs.Report.{report_of}
 use Rattle.atl_service.specs.declared.command.Command.{Command}
-use Rattle.atl_service.specs.declared.command.Command.TheVariants.{Join, Report}
+use Rattle.atl_service.specs.declared.command.Command.TheVariants.{Join, Mail, Report}
 use Rattle.atl_service.specs.declared.command.Answer.{Answer}
-use Rattle.atl_service.specs.declared.command.Answer.TheVariants.{Joined, Text, Refused, Fault}
+use Rattle.atl_service.specs.declared.command.Answer.TheVariants.{Joined, Mailed, Text, Refused, Fault}
+use Rattle.atl_service.specs.declared.command.Refusal.{Refusal}
 use Rattle.atl_service.specs.declared.command.Refusal.TheVariants as why
 use Rattle.atl_service.specs.declared.command.Fault.TheVariants as faults
 
@@ -29,12 +33,32 @@ joined_with w c (Err NameTaken) = (c, Refused why.NameTaken)
 joined_with w c (Err Full) = (c, Refused why.Full)
 joined_with w c (Err Memory) = (c, Fault faults.Memory)
 
--- the stored report of a faction that gives its pass text
-abbrev pub told_of : State → ℕ → List ℕ → Option Faction → State × Answer
-told_of c faction pass None = (c, Refused why.NoFaction)
-told_of c faction pass (Some f) =
-    if not (pointwise nat_eq f.pass pass) then (c, Refused why.WrongPass)
-    else (c, Text (unwrap_or (get c.reports faction) []))
+-- the faction of a number, that gives its pass text
+abbrev pub identified : List ℕ → Option Faction → Result Faction Refusal
+identified pass None = Err why.NoFaction
+identified pass (Some f) = if not (pointwise nat_eq f.pass pass) then Err why.WrongPass else Ok f
+
+-- a mailing that is kept in the place of an older one, with the number of its orders and its faulty lines; only that of another faction is refused
+abbrev pub mailed : State → ℕ → List ℕ → Result Reading MailFault → State × Answer
+mailed c faction text (Ok r) =
+    if not (r.faction == faction) then (c, Refused why.WrongFaction)
+    else (with_mail c faction text, Mailed (length r.entries) r.faults)
+mailed c faction text (Err mail.TooLong) = (c, Refused why.TooLong)
+mailed c faction text (Err mail.NoHeader) = (c, Refused why.NoHeader)
+mailed c faction text (Err mail.BadHeader) = (c, Refused why.BadHeader)
+mailed c faction text (Err mail.Memory) = (c, Fault faults.Memory)
+
+-- the mailing of the faction that was identified
+abbrev pub mailed_by : Planet → State → ℕ → List ℕ → Result Faction Refusal → State × Answer
+mailed_by w c faction text (Err refusal) = (c, Refused refusal)
+mailed_by w c faction text (Ok f) =
+    if f.gone then (c, Refused why.Gone)
+    else mailed c faction text (reading w text)
+
+-- the stored report of the faction that was identified
+abbrev pub told_of : State → ℕ → Result Faction Refusal → State × Answer
+told_of c faction (Err refusal) = (c, Refused refusal)
+told_of c faction (Ok f) = (c, Text (unwrap_or (get c.reports faction) []))
 
 -- the campaign after a command, and its answer
 unfoldable pub step : Planet → State → Command → State × Answer
@@ -42,7 +66,8 @@ step w c (Join name pass word) =
     if not (name_ok name) then (c, Refused why.BadName)
     else (if not (pass_ok pass) then (c, Refused why.BadPassText)
     else joined_with w c (join_of w name pass word c))
-step w c (Report faction pass) = told_of c faction pass (get c.factions faction)
+step w c (Mail faction pass text) = mailed_by w c faction text (identified pass (get c.factions faction))
+step w c (Report faction pass) = told_of c faction (identified pass (get c.factions faction))
 
 -- the campaign after a list of commands, and the list of answers
 abbrev pub run_of : Planet → State → List Command → State × List Answer

@@ -2,10 +2,11 @@
 ghost use Rattle.std.specs.Prelude.{◌≡◌, ◌≤◌};
 ghost use Rattle.atl_service.specs.Numbers.{number_of};
 
+use atl_orders::FaultyLine;
 use atl_tables::{Sequence, Text, WorldFault};
 use sqlite::{Alter, Connection};
 
-/// What a club asks of its campaign. Names and pass texts are any bytes.
+/// What a club asks of its campaign. Names, pass texts and mailings are any bytes.
 #[derive(Drop)]
 pub enum Command {
     /// A faction joins under a name, with a pass text of its own and a dice word that picks its region.
@@ -13,6 +14,12 @@ pub enum Command {
         name: Sequence<u8>,
         pass: Sequence<u8>,
         word: u32,
+    },
+    /// A faction sends its orders for the month to come.
+    Mail {
+        faction: u32,
+        pass: Sequence<u8>,
+        text: Sequence<u8>,
     },
     /// A faction asks for its stored report.
     Report {
@@ -36,6 +43,16 @@ pub enum Refusal {
     NoFaction,
     /// The pass text is another one.
     WrongPass,
+    /// The faction has no unit left.
+    Gone,
+    /// The mailing has more than 65,536 bytes.
+    TooLong,
+    /// No line of the mailing begins with `#ATLANTIS`.
+    NoHeader,
+    /// The first line that does names no faction from 1 to 9,999.
+    BadHeader,
+    /// The header names another faction.
+    WrongFaction,
 }
 
 impl Refusal {
@@ -50,6 +67,11 @@ impl Refusal {
             Refusal::Full => 4,
             Refusal::NoFaction => 5,
             Refusal::WrongPass => 6,
+            Refusal::Gone => 7,
+            Refusal::TooLong => 8,
+            Refusal::NoHeader => 9,
+            Refusal::BadHeader => 10,
+            Refusal::WrongFaction => 11,
         }
     }
 }
@@ -69,7 +91,16 @@ pub enum Fault {
 #[derive(Drop)]
 pub enum Answer {
     /// The numbers of the faction that joined and of its unit.
-    Joined { faction: u32, unit: u32 },
+    Joined {
+        faction: u32,
+        unit: u32,
+    },
+    /// How many orders the mailing has that was kept, a FORM among them and UNIT and END not; and its faulty lines, each
+    /// with what is wrong.
+    Mailed {
+        orders: usize,
+        faults: Sequence<FaultyLine>,
+    },
     /// A report.
     Text(Text),
     Refused(Refusal),

@@ -2,6 +2,7 @@
 mod commands;
 mod crashes;
 mod island;
+mod mailings;
 mod refusals;
 mod state;
 
@@ -58,6 +59,14 @@ pub(crate) fn join(alloc: Global, name: &str, pass: &str) -> Result<Command, Fai
     })
 }
 
+pub(crate) fn mail(alloc: Global, faction: u32, pass: &str, text: &str) -> Result<Command, Fail> {
+    Ok(Command::Mail {
+        faction,
+        pass: bytes(alloc, pass)?,
+        text: bytes(alloc, text)?,
+    })
+}
+
 pub(crate) fn report(alloc: Global, faction: u32, pass: &str) -> Result<Command, Fail> {
     Ok(Command::Report {
         faction,
@@ -85,7 +94,7 @@ fn number(conn: &mut Connection<MemStore>, sql: &str) -> Option<i64> {
 }
 
 /// What the tables hold, told in numbers.
-pub(crate) fn tables(conn: &mut Connection<MemStore>) -> [Option<i64>; 6] {
+pub(crate) fn tables(conn: &mut Connection<MemStore>) -> [Option<i64>; 8] {
     [
         number(
             conn,
@@ -96,6 +105,8 @@ pub(crate) fn tables(conn: &mut Connection<MemStore>) -> [Option<i64>; 6] {
         number(conn, "SELECT sum(length(text)) FROM report"),
         number(conn, "SELECT sum(amount) FROM books"),
         number(conn, "SELECT sum(money) FROM unit"),
+        number(conn, "SELECT count(*) FROM mail"),
+        number(conn, "SELECT sum(length(text)) FROM mail"),
     ]
 }
 
@@ -103,6 +114,7 @@ pub(crate) fn tables(conn: &mut Connection<MemStore>) -> [Option<i64>; 6] {
 pub(crate) fn told(answer: &Answer) -> &str {
     match answer {
         Answer::Joined { .. } => "joined",
+        Answer::Mailed { .. } => "mailed",
         Answer::Text(text) => text.as_str(),
         Answer::Refused(Refusal::BadName) => "bad name",
         Answer::Refused(Refusal::BadPassText) => "bad pass text",
@@ -110,6 +122,11 @@ pub(crate) fn told(answer: &Answer) -> &str {
         Answer::Refused(Refusal::Full) => "full",
         Answer::Refused(Refusal::NoFaction) => "no faction",
         Answer::Refused(Refusal::WrongPass) => "wrong pass",
+        Answer::Refused(Refusal::Gone) => "gone",
+        Answer::Refused(Refusal::TooLong) => "too long",
+        Answer::Refused(Refusal::NoHeader) => "no header",
+        Answer::Refused(Refusal::BadHeader) => "bad header",
+        Answer::Refused(Refusal::WrongFaction) => "wrong faction",
         Answer::Fault(Fault::Closed) => "closed",
         Answer::Fault(_) => "fault",
     }

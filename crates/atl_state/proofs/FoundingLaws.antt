@@ -1,12 +1,12 @@
 -- A founded campaign is good, and its books balance.
-use Rattle.std.proofs.Common.{◌≡◌, ℕ, ◌+◌, ◌*◌, ◌≤◌, ◌<◌, ◌==◌, cond, List, [], ◌∷◌, length, get_or, sum_by, None, Some, sym, ap, ◌∙◌, refl, arith, false}
+use Rattle.std.proofs.Common.{◌≡◌, ℕ, ◌+◌, ◌≤◌, ◌==◌, cond, List, [], ◌∷◌, sum_by, None, Some, sym, ap, ◌∙◌, refl, arith, false}
 use Rattle.std.specs.Prelude.{unwrap_or, ℤ, pos, ◌+ℤ◌}
 use Rattle.std.proofs.lemmas.Int.{ints}
 use Rattle.std.proofs.lemmas.List.{length-map}
 use Rattle.std.proofs.lemmas.List.Sums.{sum_by-cons}
 use Rattle.std.proofs.lemmas.Bool.Decides.{nat_tests}
 use Rattle.std.specs.Ordering.{nat_cmp}
-use Rattle.std.specs.FinMap.{FinMap, entries, empty, get, len, get-empty, len-empty, len-entries}
+use Rattle.std.specs.FinMap.{FinMap, entries, empty, get-empty, len-empty, len-entries}
 use Rattle.atl_tables.specs.Planet.{Planet, IsWorld}
 use Rattle.atl_tables.specs.Sums.{sum_over, mapped}
 use Rattle.atl_tables.proofs.MadeLaws.{entries-mapped}
@@ -18,11 +18,11 @@ use Rattle.atl_state.specs.declared.books.Thing.TheVariants.{Money, People, Item
 use Rattle.atl_state.specs.declared.records.Faction.{Faction}
 use Rattle.atl_state.specs.declared.records.Region.{Region}
 use Rattle.atl_state.specs.declared.records.Unit.{Unit}
-use Rattle.atl_state.specs.Books.{amount_in, booked, no_amounts, with_booked, IsGrid, IsWithin}
-use Rattle.atl_state.specs.State.{State, AreLists, list_of, numbers_in}
+use Rattle.atl_state.specs.Books.{amount_in, booked, no_amounts, with_booked, IsWithin}
+use Rattle.atl_state.specs.State.{AreLists}
 use Rattle.atl_state.specs.Totals.{total, Balances, held, kept}
 use Rattle.atl_state.specs.Founding.{founded_of, founded_region, things_of}
-use Rattle.atl_state.specs.Good.{IsGood, amount_bound}
+use Rattle.atl_state.specs.Good.{IsGood}
 use Rattle.atl_state.proofs.BookLaws.{booked-with_booked, booked-no_amounts, amount-no_amounts, IsGrid-no_amounts, IsGrid-with_booked, IsWithin-with_booked, share_of}
 
 pub no_lists : AreLists empty empty
@@ -95,6 +95,7 @@ founded-good w pass world money people =
       units_new = λ n _. get-empty nat_cmp n;
       grid = IsGrid-with_booked things one Founding People (pos p) g2;
       amounts = IsWithin-with_booked things one Founding People p m _ g2 (omega arith) (IsWithin-with_booked things (no_amounts things) Founding Money m 0 m g (omega arith) (none_within things) (omega arith)) (omega (arith, money, people));
+      mail = λ n text e. none_some text (sym (get-empty nat_cmp n) ∙ e);
     }
   where
     none_some : {A P : Type 0} (x : A) → None ≡ Some x → P

@@ -1,5 +1,5 @@
 -- Joining keeps a campaign good, and its books balanced.
-use Rattle.std.proofs.Common.{◌≡◌, ◌≢◌, ℕ, ◌+◌, ◌*◌, ◌≤◌, ◌<◌, ◌==◌, ◌||◌, Bool, true, false, cond, List, Option, Some, None, is_some, refl, sym, ap, ◌∙◌, arith, inl, inr, nat_le, nat_lt}
+use Rattle.std.proofs.Common.{◌≡◌, ℕ, ◌+◌, ◌≤◌, ◌<◌, ◌==◌, ◌||◌, Bool, true, false, cond, List, Option, Some, None, is_some, refl, sym, ap, ◌∙◌, arith, nat_le, nat_lt}
 use Rattle.std.specs.Prelude.{unwrap_or, ℤ, pos, ◌+ℤ◌}
 use Rattle.std.specs.declared.cmp.Ordering.TheVariants.{Less, Equal, Greater}
 use Rattle.std.specs.Ordering.{nat_cmp, is_eq}
@@ -12,11 +12,11 @@ use Rattle.atl_state.specs.declared.books.Entry.TheVariants.{Joining}
 use Rattle.atl_state.specs.declared.books.Thing.{Thing}
 use Rattle.atl_state.specs.declared.books.Thing.TheVariants.{Money, People, Item}
 use Rattle.atl_state.specs.declared.records.Faction.{Faction}
-use Rattle.atl_state.specs.State.{State, with_unit}
+use Rattle.atl_state.specs.State.{State}
 use Rattle.atl_state.specs.Books.{booked, with_booked, amount_in, IsSmall}
 use Rattle.atl_state.specs.Totals.{held, total, Balances}
 use Rattle.atl_state.specs.Founding.{things_of}
-use Rattle.atl_state.specs.Good.{IsGood, amount_bound}
+use Rattle.atl_state.specs.Good.{IsGood, IsActive, amount_bound}
 use Rattle.atl_state.specs.Joining.{joined, new_faction, first_unit, is_full}
 use Rattle.atl_state.proofs.BookLaws.{booked-with_booked, IsGrid-with_booked, IsWithin-with_booked, IsSmall-within, share_of}
 use Rattle.atl_state.proofs.TotalLaws.{total-with_unit}
@@ -86,6 +86,22 @@ numbered_new : (m : FinMap nat_cmp Faction) (k : ℕ) (x : Faction) → x.number
 numbered_new m k x is old n f e =
     numbered_cond (is_eq (nat_cmp n k)) x f (get m n) n (λ b. is ∙ is_number n k b) (old n f) (sym (get-insert nat_cmp_total m k x n) ∙ e)
 
+-- what was there is still there after an insertion where nothing was
+still_there : {V : Type 0} (m : FinMap nat_cmp V) (k q : ℕ) (v x : V) → get m k ≡ None → get m q ≡ Some x → get (insert m k v) q ≡ Some x
+still_there m k q v x free is =
+    get-insert nat_cmp_total m k v q ∙ elim (nat_cmp q k) as (λ o. nat_cmp q k ≡ o → cond (is_eq o) (Some v) (get m q) ≡ Some x) [
+      | Less ↦ λ _. is
+      | Equal ↦ λ e. none_some (sym free ∙ ap (get m) (sym (nat_cmp-IsAntisymmetric q k e)) ∙ is)
+      | Greater ↦ λ _. is
+    ] refl
+  where
+    none_some : {A P : Type 0} {y : A} → None ≡ Some y → P
+    none_some e = cc
+
+-- the factions of the mail are there after one more has joined
+active_joined : (c : State) (member : Faction) (n : ℕ) → get c.factions c.next_faction ≡ None → IsActive c n → (f : Faction) × (get (insert c.factions c.next_faction member) n ≡ Some f) × (f.gone ≡ false)
+active_joined c member n free (f, there, stays) = (f, still_there c.factions c.next_faction n member f free there, stays)
+
 few : (f u n : ℕ) → ((nat_le 9999 f || nat_le 10000 u) || nat_lt 999999999 n) ≡ false → (f < 9999) × (u < 10000) × (n ≤ 999999999)
 few f u n h = (grind (arith, nat_tests), grind (arith, nat_tests), grind (arith, nat_tests))
 
@@ -116,4 +132,5 @@ joined-good w name pass word c full world good =
       amounts = IsWithin-with_booked (things_of w) one Joining People 1 (amount_bound c + w.rules.start_money) _ g (omega arith)
           (IsWithin-with_booked (things_of w) c.books Joining Money w.rules.start_money (amount_bound c) (amount_bound c + w.rules.start_money) good.grid (omega arith) good.amounts (omega arith))
           (omega (arith, f, world.rules.start_money));
+      mail = λ n text is. let sent = good.mail n text is in (sent.0, active_joined c member n (good.factions_new c.next_faction (omega arith)) sent.1);
     }

@@ -1,11 +1,9 @@
 -- Rising lists of numbers, beside the maps whose numbers they list.
-use Rattle.std.proofs.Common.{◌≡◌, ℕ, suc, ◌+◌, T, not, ◌≤◌, ◌<◌, Bool, true, false, cond, nat_le, List, [], ◌∷◌, ◌++◌, map, filter, take, drop, length, Option, Some, None, refl, sym, ap, subst, ◌∙◌, arith}
-use Rattle.std.specs.List.{position_or_len}
-use Rattle.std.specs.declared.cmp.Ordering.{Ordering}
+use Rattle.std.proofs.Common.{◌≡◌, ℕ, suc, ◌+◌, T, not, ◌<◌, Bool, true, false, cond, nat_le, List, [], ◌∷◌, ◌++◌, map, filter, take, drop, Some, None, refl, sym, ap, subst, ◌∙◌, arith}
 use Rattle.std.specs.declared.cmp.Ordering.TheVariants.{Less, Equal, Greater}
 use Rattle.std.specs.Ordering.{nat_cmp, is_lt, is_eq, eq_by_cmp}
 use Rattle.std.specs.Cmp.{nat_cmp_total, ranked, tied_itself}
-use Rattle.std.specs.FinMap.{FinMap, get, insert, remove, find, put, entries, entries_sorted, entries-insert, get-entries, get-remove, is_sorted, nat_cmp-IsAntisymmetric}
+use Rattle.std.specs.FinMap.{FinMap, get, insert, find, put, entries, entries_sorted, entries-insert, get-entries, is_sorted}
 use Rattle.std.specs.FinMap.Entries.{by_order, below_all}
 use Rattle.std.proofs.lemmas.Bool.{and_parts, false≢true}
 use Rattle.std.proofs.lemmas.Bool.Decides.{nat_tests}

@@ -1,6 +1,6 @@
 -- The campaign that is founded.
 use Rattle.std.specs.Prelude.{◌+◌, List, length, ℕ, pos}
-use Rattle.std.specs.FinMap.{FinMap, empty}
+use Rattle.std.specs.FinMap.{empty}
 use Rattle.atl_tables.specs.Planet.{Planet}
 use Rattle.atl_tables.specs.Sums.{sum_over, mapped}
 use Rattle.atl_tables.specs.declared.world.RegionPlan.{RegionPlan}

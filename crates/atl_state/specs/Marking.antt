@@ -15,6 +15,10 @@ mark_unit c n = record c.marks { units = marked_with c.marks.units n (get c.what
 abbrev pub mark_report : Marked → ℕ → Marks
 mark_report c n = record c.marks { reports = insert c.marks.reports n true }
 
+-- a mail that was set
+abbrev pub mark_mail : Marked → ℕ → Marks
+mark_mail c n = record c.marks { mail = insert c.marks.mail n true }
+
 -- a faction that joined, with its unit, what it booked, and the numbers that come next
 abbrev pub join_marked : Marked → Marks
 join_marked c = record c.marks {

@@ -1,5 +1,5 @@
 -- What a contract sees of a campaign's change marks.
-use Rattle.std.specs.Prelude.{refl, ℕ, Bool, true, List, [], slice_index_or, slice_set}
+use Rattle.std.specs.Prelude.{refl, Bool, true, List, [], slice_index_or, slice_set}
 use Rattle.std.specs.Ordering.{nat_cmp}
 use Rattle.atl_state.specs.declared.books.Entry.{Entry}
 use Rattle.atl_state.specs.declared.books.Thing.{Thing}

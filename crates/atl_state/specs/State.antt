@@ -80,3 +80,7 @@ with_unit c n u = record c { units = insert c.units n u }
 -- the campaign with this report for a faction
 abbrev pub with_report : State → ℕ → List ℕ → State
 with_report c n text = record c { reports = insert c.reports n text }
+
+-- the campaign with this mail of a faction
+abbrev pub with_mail : State → ℕ → List ℕ → State
+with_mail c n text = record c { mail = insert c.mail n text }

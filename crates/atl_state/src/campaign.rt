@@ -2,10 +2,10 @@
 ghost use Rattle.std.specs.Prelude.{◌≡◌, ◌<◌, OnOk, OnErr, length};
 ghost use Rattle.std.specs.Option.{option_copied};
 ghost use Rattle.std.specs.FinMap as map;
-ghost use Rattle.atl_state.specs.State.{numbers_in, with_report};
+ghost use Rattle.atl_state.specs.State.{numbers_in, with_mail, with_report};
 ghost use Rattle.atl_state.specs.Books.{amount_in, thing_place};
 ghost use Rattle.atl_state.specs.Totals.{total, IsCountable};
-ghost use Rattle.atl_state.specs.Marking.{mark_report};
+ghost use Rattle.atl_state.specs.Marking.{mark_mail, mark_report};
 
 mod founding;
 mod joining;
@@ -230,6 +230,17 @@ impl Campaign {
             Some(unit) => Some(&mut unit.holding),
             None => None,
         }
+    }
+
+    /// Stores a faction's mail for the month to come in the place of an older one. Without memory for it the campaign stays
+    /// as it is.
+    pub fn set_mail(&mut self, faction: u32, text: Sequence<u8>) -> Result<(), AllocError>
+        ensures ok { OnOk result (self.new.what ≡ with_mail self.old.what faction text) }
+        ensures err { OnErr result (self.new ≡ self.old) }
+        ensures marks { OnOk result (self.new.marks ≡ mark_mail self.old faction) }
+    {
+        self.mail.put(faction, text)?;
+        Ok(())
     }
 
     /// Stores a faction's report in the place of an older one. Without memory for it the campaign stays as it is.

@@ -4,7 +4,7 @@ use Rattle.std.specs.FinMap.{get}
 use Rattle.sqlite.specs.Table.{Table}
 use Rattle.sqlite.specs.Effect.{Database}
 use Rattle.sqlite_rules.specs.Lists.{Has}
-use Rattle.atl_state.specs.State.{State}
+use Rattle.atl_state.specs.State.{State, with_mail}
 use Rattle.atl_state.specs.Books.{entry_place, thing_place}
 use Rattle.atl_state.specs.declared.books.Entry.{Entry}
 use Rattle.atl_state.specs.declared.books.Thing.{Thing}
@@ -15,7 +15,7 @@ use Rattle.atl_store.specs.Tables.{books_table, nine_tables}
 use Rattle.atl_store.specs.Shown.{books_key}
 use Rattle.atl_store.specs.Lines.{amount_lines}
 use Rattle.atl_store.specs.Rows.{Holds}
-use Rattle.atl_store.specs.Keeps.{IsJoining, with_mail}
+use Rattle.atl_store.specs.Keeps.{IsJoining}
 
 -- the campaign has this faction, its report, and the unit that came last
 pub record IsFound (c : State) (number : ℕ) (faction : Faction) (place : ℕ) (unit : Unit) (report : List ℕ) : Type 0 where

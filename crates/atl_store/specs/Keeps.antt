@@ -1,6 +1,5 @@
 -- What a connection keeps between two calls: the one word that the layers above use.
 use Rattle.std.specs.Prelude.{◌≡◌, ◌⊎◌, false, IsTrue, List, ℕ}
-use Rattle.std.specs.FinMap.{insert}
 use Rattle.sqlite_trees.specs.Tree.{Trees}
 use Rattle.sqlite_trees.specs.declared.store.Store.{Ghosts}
 use Rattle.sqlite.specs.Held.{Held, state}
@@ -59,7 +58,3 @@ IsNotEmptyOnly schema Memory = has_campaign schema ≡ false
 abbrev pub IsJoining : Campaign → ℕ → Campaign → Type 0
 IsJoining before faction after =
     (w : Planet) × (name : List ℕ) × (pass : List ℕ) × (word : ℕ) × (report : List ℕ) × IsGood w before × (faction ≡ before.next_faction) × (after ≡ with_report (joined w name pass word before) faction report)
-
--- the campaign with this mail of a faction in the place of an older one
-abbrev pub with_mail : Campaign → ℕ → List ℕ → Campaign
-with_mail c faction text = record c { mail = insert c.mail faction text }

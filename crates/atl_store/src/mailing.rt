@@ -2,10 +2,10 @@
 ghost use Rattle.std.specs.Prelude.{◌≡◌, ◌≤◌, false, List, ℕ, OnOk, OnErr};
 ghost use Rattle.sqlite.specs.Held.{state};
 ghost use Rattle.sqlite.specs.State.{HasCleanDisk, Survives, KeepsCommit};
-ghost use Rattle.atl_state.specs.State.{State};
+ghost use Rattle.atl_state.specs.State.{State, with_mail};
 ghost use Rattle.atl_store.specs.Inside.{Inside, HasTables, Commits, LeavesOff, MayLeave};
 ghost use Rattle.atl_store.specs.Arriving.{WritesMail};
-ghost use Rattle.atl_store.specs.Keeps.{Keeps, Stops, with_mail};
+ghost use Rattle.atl_store.specs.Keeps.{Keeps, Stops};
 
 use crate::fault::{WriteFault, unwritten};
 use crate::rows::mail::{MailRow, put_mail};

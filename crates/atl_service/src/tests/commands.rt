@@ -1,5 +1,5 @@
 //! Joinings and reports.
-use super::{FIRST_REPORT, join, report, small, tables, tells, told};
+use super::{FIRST_REPORT, join, mail, report, small, tables, tells, told};
 use crate::{Answer, Command, Service};
 use sqlite::MemStore;
 use std::alloc::Global;
@@ -60,27 +60,39 @@ fn club(alloc: Global) -> Result<Vec<Command>, Fail> {
     commands.push(join(alloc, "Avalon", "a b")?)?;
     commands.push(join(alloc, "Avalon", "pw")?)?;
     commands.push(join(alloc, "Avalon", "pw")?)?;
+    commands.push(mail(alloc, 9, "no", "hello")?)?;
+    commands.push(mail(alloc, 1, "no", "hello")?)?;
+    commands.push(mail(alloc, 1, "pw", "hello")?)?;
+    commands.push(mail(alloc, 1, "pw", "#ATLANTIS 1\nUNIT 1\nWORK\n")?)?;
+    commands.push(mail(alloc, 1, "pw", "#ATLANTIS 1\nUNIT 1\n")?)?;
     commands.push(report(alloc, 1, "pw")?)?;
     commands.push(report(alloc, 9, "pw")?)?;
     commands.push(report(alloc, 1, "no")?)?;
     Ok(commands)
 }
 
-/// The tables once one faction has joined.
-const AFTER_ONE: [Option<i64>; 6] = [
+/// The tables once one faction has joined and sent its second mailing.
+const AFTER_ONE: [Option<i64>; 8] = [
     Some(200002),
     Some(1),
     Some(1),
     Some(161),
     Some(2501),
     Some(1000),
+    Some(1),
+    Some(19),
 ];
 
-const TOLD: [&str; 7] = [
+const TOLD: [&str; 12] = [
     "bad name",
     "bad pass text",
     "joined",
     "name taken",
+    "no faction",
+    "wrong pass",
+    "no header",
+    "mailed",
+    "mailed",
     FIRST_REPORT,
     "no faction",
     "wrong pass",
@@ -95,7 +107,7 @@ fn one_by_one(rt: &impl Abort, service: &mut Service<MemStore>, commands: &[Comm
 fn at_once(rt: &impl Abort, service: &mut Service<MemStore>, commands: &[Command]) {
     match service.run_all(commands) {
         Ok(answers) => {
-            assert_eq!(rt; answers.len(), 7);
+            assert_eq!(rt; answers.len(), 12);
             for (answer, words) in answers.iter().zip(TOLD.iter()) {
                 assert_eq!(rt; told(answer), *words);
             }

@@ -51,6 +51,11 @@ fn refusals_have_their_numbers(rt: HostRuntime) {
     assert_eq!(rt; Refusal::Full.number(), 4);
     assert_eq!(rt; Refusal::NoFaction.number(), 5);
     assert_eq!(rt; Refusal::WrongPass.number(), 6);
+    assert_eq!(rt; Refusal::Gone.number(), 7);
+    assert_eq!(rt; Refusal::TooLong.number(), 8);
+    assert_eq!(rt; Refusal::NoHeader.number(), 9);
+    assert_eq!(rt; Refusal::BadHeader.number(), 10);
+    assert_eq!(rt; Refusal::WrongFaction.number(), 11);
 }
 
 /// Why no campaign is founded in a database, in words.

@@ -98,7 +98,10 @@ fn faulty_keys(rt: HostRuntime) -> Result<(), Fail> {
             "carry = 0\nskill = 1",
             "3 WrongType item[0].skill",
         ),
+        ("fee = 10", "", "2 Missing skill[0].fee"),
+        ("fee = 10", "fee = \"x\"", "3 WrongType skill[0].fee"),
         ("fee = 10", "fee = -1", "4 OutOfRange skill[0].fee"),
+        ("size = 20", "", "2 Missing kind[0].size"),
         ("size = 20", "size = 1000000", "4 OutOfRange kind[0].size"),
         ("ship = false", "ship = 0", "3 WrongType kind[0].ship"),
         (
@@ -106,6 +109,8 @@ fn faulty_keys(rt: HostRuntime) -> Result<(), Fail> {
             "level = 1\ncrew = true",
             "3 WrongType kind[0].crew",
         ),
+        ("peasants = 1000", "", "2 Missing region[0].peasants"),
+        ("money = 500", "money = true", "3 WrongType region[0].money"),
         (
             "peasants = 1000",
             "peasants = 1000000000",
@@ -212,6 +217,10 @@ fn hostile_worlds(rt: HostRuntime) -> Result<(), Fail> {
     let mut deep = String::from_str(alloc, "a = ")?;
     for _ in 0..200 {
         deep.push_str("{ a = ")?;
+    }
+    deep.push_str("1")?;
+    for _ in 0..200 {
+        deep.push_str(" }")?;
     }
     assert_eq!(rt; fault(alloc, deep.as_str())?.as_str(), "1 NotToml");
     match SMALL.split_once("[[region]]") {

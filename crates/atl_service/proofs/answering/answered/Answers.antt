@@ -10,3 +10,9 @@ returns-in-Join-clause-err g c clean =
     subst (λ (command : Command). OnErr c.join.result ((text : List ℕ) → Keeps (state g.S.Store c.args.conn.now) text c.args.campaign.now.what
     → Stops (state g.S.Store c.args.conn.now).faults (state g.S.Store c.join.new.conn) text c.args.campaign.now.what (step c.args.world.now c.args.campaign.now.what command).0))
     (sym c.in-Join.is) (c.join.ensures.err clean)
+
+pub returns-in-Mail-clause-err : goal.returns-in-Mail-clause-err
+returns-in-Mail-clause-err g c clean =
+    subst (λ (command : Command). OnErr c.mail.result ((text : List ℕ) → Keeps (state g.S.Store c.args.conn.now) text c.args.campaign.now.what
+    → Stops (state g.S.Store c.args.conn.now).faults (state g.S.Store c.mail.new.conn) text c.args.campaign.now.what (step c.args.world.now c.args.campaign.now.what command).0))
+    (sym c.in-Mail.is) (c.mail.ensures.err clean)

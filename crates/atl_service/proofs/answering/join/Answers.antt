@@ -1,10 +1,10 @@
-use Rattle.std.proofs.Common.{◌≡◌, true, ap, sym, ◌∙◌, subst}
+use Rattle.std.proofs.Common.{◌≡◌, ap, sym, ◌∙◌, subst}
 use Rattle.sqlite.specs.Held.{state}
 use Rattle.atl_state.specs.State.{State as Campaign}
 use Rattle.atl_store.specs.Keeps.{Stops}
 use Rattle.atl_store.proofs.StayLaws.{stays_stops}
 use Rattle.atl_service.specs.Step.{reported}
-use Rattle.atl_service.proofs.GoodLaws.{Balances-with_report}
+use Rattle.atl_service.proofs.GoodLaws.{IsGood-with_report, Balances-with_report}
 use Rattle.atl_service.proofs.StepLaws.{bad_name, bad_pass, is_taken, is_too_full, steps_on, joining_is}
 use Rattle.atl_service.proofs.answering.join.Goals as goal
 
@@ -32,6 +32,9 @@ returns-in-Err-write_join-clause-err g c clean text keeps =
     let steps = steps_on w old c.args.name.now c.args.pass.now c.args.word c.join.new.self.what c.in-Ok.faction c.in-Ok.unit (cc) (cc) is in
     let stops = c.in-Err-write_join.ensures.err clean text old keeps (rw done (joining_is w c.args.name.now c.args.pass.now c.args.word old c.join.new.self.what c.in-Ok.faction c.in-Ok.unit c.requires.good is)) in
     subst (λ (after : Campaign). Stops (state g.S.Store c.args.conn.now).faults (state g.S.Store c.write_join.new.conn) text old after) (done ∙ sym (ap (λ p. p.0) steps)) stops
+
+pub returns-in-Ok-write_join-clause-good : goal.returns-in-Ok-write_join-clause-good
+returns-in-Ok-write_join-clause-good g c = rw c.in-Ok-store_report.ensures (IsGood-with_report c.args.world.now c.join.new.self.what c.in-Ok.faction _ c.join.ensures.good)
 
 pub returns-in-Ok-write_join-clause-balances : goal.returns-in-Ok-write_join-clause-balances
 returns-in-Ok-write_join-clause-balances g c h = rw c.in-Ok-store_report.ensures (Balances-with_report c.join.new.self.what c.in-Ok.faction _ (c.join.ensures.balances h))

@@ -1,4 +1,4 @@
-use Rattle.std.proofs.Common.{◌≡◌, true, false, sym, ap, ◌∙◌}
+use Rattle.std.proofs.Common.{◌≡◌, true, false, sym, ◌∙◌}
 use Rattle.atl_tables.specs.Names.{pass_ok}
 use Rattle.atl_service.specs.declared.command.Cause.TheVariants.{BadPassText}
 use Rattle.atl_service.proofs.FoundLaws.{spared, founded_stands, founds_on, refused_by_store}

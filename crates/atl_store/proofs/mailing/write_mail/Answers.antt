@@ -1,6 +1,6 @@
 use Rattle.sqlite.specs.Held.{state}
+use Rattle.atl_state.specs.State.{with_mail}
 use Rattle.atl_store.specs.Inside.{HasTables}
-use Rattle.atl_store.specs.Keeps.{with_mail}
 use Rattle.atl_store.specs.Arriving.{WritesMail}
 use Rattle.atl_store.proofs.StayLaws.{commits_keeps, leaves_stops}
 use Rattle.atl_store.proofs.mailing.write_mail.Goals as goal

@@ -1,4 +1,4 @@
-use Rattle.std.proofs.Common.{◌≡◌, ◌+◌, ◌++◌, ◌∷◌, [], cond, ap, ◌∙◌, vec_len, arith}
+use Rattle.std.proofs.Common.{◌+◌, ◌++◌, ◌∷◌, [], cond, ap, ◌∙◌, vec_len, arith}
 use Rattle.atl_service.proofs.ListLaws.{one_more, all_done, headline}
 use Rattle.atl_service.proofs.service.Service.run_all.Goals as goal
 

@@ -1,4 +1,4 @@
-use Rattle.std.proofs.Common.{◌≡◌, ◌+◌, sym, ap, ◌∙◌, refl, arith}
+use Rattle.std.proofs.Common.{◌≡◌, ◌+◌, ap, ◌∙◌, refl, arith}
 use Rattle.atl_tables.proofs.SumLaws.{taken_back}
 use Rattle.atl_tables.proofs.TrackLaws.{values-without}
 use Rattle.atl_state.specs.State.{State, Marked}

@@ -1,7 +1,6 @@
-use Rattle.std.proofs.Common.{◌≡◌, false, sym}
+use Rattle.std.proofs.Common.{sym}
 use Rattle.atl_tables.proofs.NameLaws.{name_ok-IsUtf8, pass_ok-IsUtf8}
-use Rattle.atl_state.specs.Joining.{is_full}
-use Rattle.atl_state.proofs.JoinLaws.{room, joined-balances, joined-good}
+use Rattle.atl_state.proofs.JoinLaws.{joined-balances, joined-good}
 use Rattle.atl_state.proofs.campaign.Campaign.join.Goals as goal
 
 pub enroll-requires-clause-name : goal.enroll-requires-clause-name

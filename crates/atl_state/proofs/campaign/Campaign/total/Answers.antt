@@ -1,5 +1,5 @@
-use Rattle.std.proofs.Common.{◌≤◌, ◌+◌, length, arith}
-use Rattle.std.specs.FinMap.{len, entries, len-entries}
+use Rattle.std.proofs.Common.{arith}
+use Rattle.std.specs.FinMap.{len-entries}
 use Rattle.atl_state.proofs.campaign.Campaign.total.Goals as goal
 
 pub units_total-requires : goal.units_total-requires

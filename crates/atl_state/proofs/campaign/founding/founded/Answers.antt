@@ -1,5 +1,5 @@
-use Rattle.std.proofs.Common.{◌≡◌, ◌≤◌, ◌+◌, length, sym, subst, refl, arith}
-use Rattle.std.specs.FinMap.{entries, len, len-entries}
+use Rattle.std.proofs.Common.{◌≡◌, sym, subst, refl, arith}
+use Rattle.std.specs.FinMap.{len-entries}
 use Rattle.std.proofs.lemmas.List.{length-map}
 use Rattle.atl_tables.proofs.MadeLaws.{entries-mapped}
 use Rattle.atl_tables.proofs.NameLaws.{pass_ok-IsUtf8}

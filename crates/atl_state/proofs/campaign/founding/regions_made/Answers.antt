@@ -1,4 +1,4 @@
-use Rattle.std.proofs.Common.{◌≡◌, ◌++◌, ◌∷◌, [], map, sym, ap, ◌∙◌, refl, rules}
+use Rattle.std.proofs.Common.{◌≡◌, ◌∷◌, [], map, sym, ◌∙◌, refl, rules}
 use Rattle.std.proofs.lemmas.List.{append-nil, append_assoc}
 use Rattle.std.specs.FinMap.{entries, same_entries_map}
 use Rattle.atl_tables.specs.Sums.{mapped}
