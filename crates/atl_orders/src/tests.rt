@@ -279,9 +279,7 @@ fn headers(rt: HostRuntime) -> Result<(), Fail> {
 /// So many times a text, behind another.
 fn repeated(rt: &HostRuntime, front: &[u8], text: &[u8], times: usize) -> Result<Vec<u8>, Fail> {
     let mut whole = Vec::from_slice(rt.alloc(), front)?;
-    for _ in 0..times {
-        whole.extend_from_slice(text)?;
-    }
+    whole.extend_from_slice(&text.repeat(rt.alloc(), times)?)?;
     Ok(whole)
 }
 

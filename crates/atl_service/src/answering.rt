@@ -176,7 +176,7 @@ fn mail<S: Alter>(
                         orders,
                         faults: mailing.faults,
                     }),
-                    Err(fault) => Err(fault),
+                    Err(unwritten) => Err(unwritten),
                 },
                 Err(_) => Err(WriteFault::Memory),
             }
