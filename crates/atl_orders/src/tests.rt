@@ -52,9 +52,8 @@ fn world(rt: &HostRuntime) -> Result<World, Fail> {
     Ok(read_world(rt.alloc(), WORLD)?)
 }
 
-/// What a mailing says: its orders in the form of `Debug`, and its faults, each behind its line.
-fn told(rt: &HostRuntime, text: &[u8]) -> Result<String, Fail> {
-    let mailing = read_mailing(rt.alloc(), &world(rt)?, text)?;
+/// The orders of a mailing in the form of `Debug`, each behind its line.
+fn orders_of(rt: &HostRuntime, mailing: &Mailing) -> Result<String, Fail> {
     let mut told = String::new(rt.alloc());
     for entry in mailing.entries.as_slice() {
         let order = format!(in rt.alloc();
@@ -63,6 +62,12 @@ fn told(rt: &HostRuntime, text: &[u8]) -> Result<String, Fail> {
         )?;
         told.push_str(&order)?;
     }
+    Ok(told)
+}
+
+/// The faults of a mailing, each behind its line.
+fn faults_of(rt: &HostRuntime, mailing: &Mailing) -> Result<String, Fail> {
+    let mut told = String::new(rt.alloc());
     for faulty in mailing.faults.as_slice() {
         let fault = format!(in rt.alloc();
             "{}: {} {};",
@@ -72,6 +77,14 @@ fn told(rt: &HostRuntime, text: &[u8]) -> Result<String, Fail> {
         )?;
         told.push_str(&fault)?;
     }
+    Ok(told)
+}
+
+/// What a mailing says: its orders, and its faults.
+fn told(rt: &HostRuntime, text: &[u8]) -> Result<String, Fail> {
+    let mailing = read_mailing(rt.alloc(), &world(rt)?, text)?;
+    let mut told = orders_of(rt, &mailing)?;
+    told.push_str(&faults_of(rt, &mailing)?)?;
     Ok(told)
 }
 
@@ -318,29 +331,29 @@ fn hostile_texts(rt: HostRuntime) -> Result<(), Fail> {
     Ok(())
 }
 
-#[test]
-fn keywords(rt: HostRuntime) -> Result<(), Fail> {
-    let mailing = read_mailing(
-        rt.alloc(),
-        &world(&rt)?,
-        b"#ATLANTIS 1\nUNIT 7\nBOARD 1\nFORM 1\nEND\nRECRUIT 3",
-    )?;
+/// The first word of each order of a mailing.
+fn keywords_of(rt: &HostRuntime, mailing: &Mailing) -> Result<String, Fail> {
     let mut keywords = String::new(rt.alloc());
     for entry in mailing.entries.as_slice() {
         keywords.push_str(entry.order.verb().keyword())?;
         keywords.push_str(" ")?;
     }
+    Ok(keywords)
+}
+
+#[test]
+fn keywords(rt: HostRuntime) -> Result<(), Fail> {
+    let text = b"#ATLANTIS 1\nUNIT 7\nBOARD 1\nFORM 1\nEND\nRECRUIT 3";
+    let mailing = read_mailing(rt.alloc(), &world(&rt)?, text)?;
+    let keywords = keywords_of(&rt, &mailing)?;
     assert_eq!(rt; keywords.as_str(), "ENTER FORM RECRUIT ");
     rules_are_the_reading();
     readings_keep_bounds();
     Ok(())
 }
 
-/// A name is the part of the text that its span says, with `_` as a space where it is bare.
-#[test]
-fn names(rt: HostRuntime) -> Result<(), Fail> {
-    let text = "#ATLANTIS 1\nUNIT 7\nNAME UNIT Big_Bob\nNAME FACTION \"a _b\"";
-    let mailing = read_mailing(rt.alloc(), &world(&rt)?, text.as_bytes())?;
+/// The names that the orders of a mailing give.
+fn names_of(rt: &HostRuntime, mailing: &Mailing) -> Result<String, Fail> {
     let mut names = String::new(rt.alloc());
     for entry in mailing.entries.as_slice() {
         if let Order::Name { name, .. } = &entry.order {
@@ -348,6 +361,15 @@ fn names(rt: HostRuntime) -> Result<(), Fail> {
             names.push_str("|")?;
         }
     }
+    Ok(names)
+}
+
+/// A name is the part of the text that its span says, with `_` as a space where it is bare.
+#[test]
+fn names(rt: HostRuntime) -> Result<(), Fail> {
+    let text = "#ATLANTIS 1\nUNIT 7\nNAME UNIT Big_Bob\nNAME FACTION \"a _b\"";
+    let mailing = read_mailing(rt.alloc(), &world(&rt)?, text.as_bytes())?;
+    let names = names_of(&rt, &mailing)?;
     assert_eq!(rt; names.as_str(), "Big Bob|a _b|");
     Ok(())
 }

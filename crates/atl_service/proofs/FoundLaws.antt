@@ -19,7 +19,7 @@ use Rattle.atl_store.proofs.WorldTextLaws.{world_text_is}
 use Rattle.atl_store.specs.Keeps.{HoldsCampaign}
 use Rattle.atl_service.specs.Engine.{Stands}
 use Rattle.atl_service.specs.declared.command.Cause.{Cause}
-use Rattle.atl_service.specs.Found.{Founds, RefusesFounding, IsCause, cause_of}
+use Rattle.atl_service.specs.Found.{Founds, RefusesFounding, IsCause, Prepares, of_creation}
 
 module _ {S : Type 0} (g : Ghosts S) where
   -- a founding that was refused before the store was asked
@@ -36,28 +36,28 @@ module _ {S : Type 0} (g : Ghosts S) where
     text = λ up clean. ap world_of (world_text_is (state g conn) text c (holds clean)) ∙ is;
   }
 
-  pub founds_on : (conn : Held S) (w : Planet) (c : Campaign) (text pass : List ℕ) → world_of text ≡ Ok w → pass_ok pass ≡ true → c ≡ founded_of w pass → HoldsCampaign g conn text c → Founds g text pass (record { conn = conn; world = w; campaign = Some c })
-  founds_on conn w c text pass is good made holds = record {
-    world = is;
-    pass_is_good = good;
-    campaign = ap Some made;
-    tables = λ clean. subst (Keeps (state g conn) text) made (holds clean);
+  pub founds_on : (conn : Held S) (w : Planet) (c : Campaign) (text pass : List ℕ) → Prepares text pass w c → HoldsCampaign g conn text c → Founds g text pass (record { conn = conn; world = w; campaign = Some c })
+  founds_on conn w c text pass made holds = record {
+    world = made.world;
+    pass_is_good = made.pass_is_good;
+    campaign = ap Some made.campaign;
+    tables = λ clean. subst (Keeps (state g conn) text) made.campaign (holds clean);
     text_is = λ clean. world_text_is (state g conn) text c (holds clean);
   }
 
   -- the founding that the store refused
-  pub refused_by_store : (old new : Held S) (w : Planet) (c : Campaign) (text pass : List ℕ) (fault : CreateFault) → world_of text ≡ Ok w → pass_ok pass ≡ true → c ≡ founded_of w pass → IsNotEmptyOnly old.schema fault
-      → (HasCleanDisk (state g new) → Spares (state g old) (state g new)) → (HasCleanDisk (state g new) → MayFound (state g old) text c (state g new)) → RefusesFounding g old text pass (cause_of fault) new
-  refused_by_store old new w c text pass fault is good made only spares may = record {
+  pub refused_by_store : (old new : Held S) (w : Planet) (c : Campaign) (text pass : List ℕ) (fault : CreateFault) → Prepares text pass w c → IsNotEmptyOnly old.schema fault
+      → (HasCleanDisk (state g new) → Spares (state g old) (state g new)) → (HasCleanDisk (state g new) → MayFound (state g old) text c (state g new)) → RefusesFounding g old text pass (of_creation fault) new
+  refused_by_store old new w c text pass fault made only spares may = record {
     cause = cause fault only;
     tables = spares;
-    crash = λ clean v v_is. let same : w ≡ v = ok_same w v (sym is ∙ v_is) in subst (λ (d : Campaign). MayFound (state g old) text d (state g new)) (made ∙ ap (λ u. founded_of u pass) same) (may clean);
+    crash = λ clean v v_is. let same : w ≡ v = ok_same w v (sym made.world ∙ v_is) in subst (λ (d : Campaign). MayFound (state g old) text d (state g new)) (made.campaign ∙ ap (λ u. founded_of u pass) same) (may clean);
   }
     where
       ok_same : (a b : Planet) → ◌≡◌ {A = Result Planet WorldFault} (Ok a) (Ok b) → a ≡ b
       ok_same a b e = cc
 
-      cause : (f : CreateFault) → IsNotEmptyOnly old.schema f → IsCause text pass (has_campaign old.schema) (cause_of f)
-      cause NotEmpty there = ((w, is), good, there)
-      cause Store gone = ((w, is), good, gone)
+      cause : (f : CreateFault) → IsNotEmptyOnly old.schema f → IsCause text pass (has_campaign old.schema) (of_creation f)
+      cause NotEmpty there = ((w, made.world), made.pass_is_good, there)
+      cause Store gone = ((w, made.world), made.pass_is_good, gone)
       cause Memory gone = tt

@@ -1,3 +1,4 @@
+pub mod AnswerLaws
 pub mod FoundLaws
 pub mod GoodLaws
 pub mod ListLaws

@@ -6,6 +6,9 @@ use Rattle.sqlite.specs.State.{HasCleanDisk}
 use Rattle.atl_tables.specs.Names.{pass_ok}
 use Rattle.atl_tables.specs.Planet.{Planet}
 use Rattle.atl_tables.specs.World.{world_of}
+use Rattle.atl_tables.specs.declared.fault.WorldFault.{WorldFault}
+use Rattle.atl_tables.specs.declared.fault.WorldFault.TheVariants as world
+use Rattle.atl_state.specs.State.{State as Campaign}
 use Rattle.atl_state.specs.Founding.{founded_of}
 use Rattle.atl_store.specs.Making.{has_campaign}
 use Rattle.atl_store.specs.Keeps.{HoldsCampaign, Spares, MayFound}
@@ -41,7 +44,19 @@ pub record RefusesFounding {S : Type 0} (g : Ghosts S) (old : Held S) (text pass
   pub tables : HasCleanDisk (state g new) → Spares (state g old) (state g new)
   pub crash : HasCleanDisk (state g new) → (w : Planet) → world_of text ≡ Ok w → MayFound (state g old) text (founded_of w pass) (state g new)
 
-abbrev pub cause_of : CreateFault → Cause
-cause_of create.NotEmpty = NotEmpty
-cause_of create.Store = Store
-cause_of create.Memory = Memory
+-- the world of the text, and the campaign that is founded in it
+pub record Prepares (text pass : List ℕ) (w : Planet) (c : Campaign) : Type 0 where
+  pub world : world_of text ≡ Ok w
+  pub pass_is_good : pass_ok pass ≡ true
+  pub campaign : c ≡ founded_of w pass
+
+-- ---- what becomes of a fault
+
+abbrev pub of_world : WorldFault → Cause
+of_world world.Memory = Memory
+of_world fault = BadWorld fault
+
+abbrev pub of_creation : CreateFault → Cause
+of_creation create.NotEmpty = NotEmpty
+of_creation create.Store = Store
+of_creation create.Memory = Memory

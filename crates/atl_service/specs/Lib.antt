@@ -1,5 +1,6 @@
 pub mod Numbers
 pub mod Step
 pub mod Engine
+pub mod Answering
 pub mod Runs
 pub mod Found

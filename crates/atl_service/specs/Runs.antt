@@ -6,8 +6,6 @@ use Rattle.sqlite.specs.State.{HasCleanDisk}
 use Rattle.atl_tables.specs.Planet.{Planet}
 use Rattle.atl_state.specs.State.{State as Campaign}
 use Rattle.atl_store.specs.Keeps.{Stops}
-use Rattle.atl_service.specs.declared.answering.Unkept.{Unkept}
-use Rattle.atl_service.specs.declared.answering.Unkept.TheVariants as unkept
 use Rattle.atl_service.specs.declared.command.Command.{Command}
 use Rattle.atl_service.specs.declared.command.Answer.{Answer}
 use Rattle.atl_service.specs.declared.command.Answer.TheVariants.{Joined, Mailed, Text, Refused, Fault}
@@ -104,21 +102,3 @@ abbrev pub HeadlineAt : {S : Type 0} → Ghosts S → Engine S → List Command 
 HeadlineAt g old commands answers new (Some c) =
     Headline g (text_in g old.conn) old.world c commands answers new ⊎ Interrupted g (text_in g old.conn) (state g old.conn).faults old.world c commands answers new
 HeadlineAt g old commands answers new None = (answers ≡ map (λ _. Answers.Fault Closed) commands) × (new ≡ old)
-
--- a mailing that is not kept is refused by the step, but for want of memory
-abbrev pub Denies : Planet → Campaign → Command → Unkept → Type 0
-Denies w c command (unkept.Refused why) = step w c command ≡ (c, Refused why)
-Denies w c command unkept.Memory = ⊤
-
--- an answer that is no fault
-abbrev pub IsSound : Answer → Type 0
-IsSound (Fault _) = ⊥
-IsSound _ = ⊤
-
--- what a command that was refused, or that asks for a report, leaves as it is
-abbrev pub IfIdle : Answer → Type 0 → Type 0
-IfIdle (Joined _ _) P = ⊤
-IfIdle (Mailed _ _) P = ⊤
-IfIdle (Text _) P = P
-IfIdle (Refused _) P = P
-IfIdle (Fault _) P = ⊤

@@ -1,15 +1,11 @@
 //! The answer to one command, while the service is open.
-ghost use Rattle.std.specs.Prelude.{◌≡◌, ◌≤◌, ℕ, List, length, false, Ok, Err, Some, IfOk, IfErr, OnOk, OnErr};
+ghost use Rattle.std.specs.Prelude.{◌≡◌, length, false, Ok, Err, Some, IfOk, IfErr, OnOk, OnErr};
 ghost use Rattle.std.specs.FinMap as map;
-ghost use Rattle.sqlite.specs.Held.{state};
-ghost use Rattle.sqlite.specs.State.{HasCleanDisk};
 ghost use Rattle.atl_orders.specs.Mailing.{IsMailingOf};
 ghost use Rattle.atl_state.specs.Good.{IsGood, IsActive};
 ghost use Rattle.atl_state.specs.State.{with_mail};
-ghost use Rattle.atl_state.specs.Totals.{Balances};
-ghost use Rattle.atl_store.specs.Keeps.{Keeps, Stops};
 ghost use Rattle.atl_service.specs.Step.{identified, step, reported};
-ghost use Rattle.atl_service.specs.Runs.{Denies, IsSound, IfIdle};
+ghost use Rattle.atl_service.specs.Answering.{Answers, Denies, GivesUp, IsSound, LeavesIdle, unread};
 
 use crate::command::{Answer, Command, Refusal};
 use atl_orders::{MailFault, Mailing, read_mailing};
@@ -47,16 +43,9 @@ fn join<S: Alter>(
 ) -> Result<Answer, WriteFault>
     requires good { IsGood world.now campaign.old.what }
     requires idle { conn.old.in_transaction ≡ false }
-    ensures step { IfOk result (λ answer. step world.now campaign.old.what (Command.Join name.now pass.now word) ≡ (campaign.new.what, answer)) }
-    ensures good { OnOk result (IsGood world.now campaign.new.what) }
-    ensures balances { OnOk result (Balances campaign.old.what → Balances campaign.new.what) }
-    ensures sound { IfOk result IsSound }
-    ensures same { IfOk result (λ answer. IfIdle answer ((campaign.new.what ≡ campaign.old.what) × (conn.new ≡ conn.old))) }
-    ensures ok { HasCleanDisk (state S.Store conn.new) → OnOk result ((text : List ℕ) → Keeps (state S.Store conn.old) text campaign.old.what → Keeps (state S.Store conn.new) text campaign.new.what) }
-    ensures err { HasCleanDisk (state S.Store conn.new) → OnErr result ((text : List ℕ) → Keeps (state S.Store conn.old) text campaign.old.what → Stops (state S.Store conn.old).faults (state S.Store conn.new) text campaign.old.what (step world.now campaign.old.what (Command.Join name.now pass.now word)).0) }
-    ensures clean { HasCleanDisk (state S.Store conn.new) → HasCleanDisk (state S.Store conn.old) }
-    ensures counts { (state S.Store conn.old).faults ≤ (state S.Store conn.new).faults }
-    ensures idle { conn.new.in_transaction ≡ false }
+    ensures ok { IfOk result (Answers S.Store world.now campaign.old.what conn.old (Command.Join name.now pass.now word) campaign.new.what conn.new) }
+    ensures err { OnErr result (GivesUp S.Store world.now campaign.old.what conn.old (Command.Join name.now pass.now word) conn.new) }
+    ensures leaves { LeavesIdle S.Store conn.old conn.new }
 {
     if !name_ok(name.as_slice()) {
         return Ok(Answer::Refused(Refusal::BadName));
@@ -64,18 +53,15 @@ fn join<S: Alter>(
     if !pass_ok(pass.as_slice()) {
         return Ok(Answer::Refused(Refusal::BadPassText));
     }
-    match campaign.join(world, name.as_slice(), pass.as_slice(), word) {
-        Ok((faction, unit)) => match store_report(alloc, world, campaign, faction) {
-            Ok(()) => match write_join(conn, campaign, faction) {
-                Ok(()) => Ok(Answer::Joined { faction, unit }),
-                Err(fault) => Err(fault),
-            },
-            Err(_) => Err(WriteFault::Memory),
-        },
-        Err(JoinFault::NameTaken) => Ok(Answer::Refused(Refusal::NameTaken)),
-        Err(JoinFault::Full) => Ok(Answer::Refused(Refusal::Full)),
-        Err(JoinFault::Memory) => Err(WriteFault::Memory),
-    }
+    let (faction, unit) = match campaign.join(world, name.as_slice(), pass.as_slice(), word) {
+        Ok(numbers) => numbers,
+        Err(JoinFault::NameTaken) => return Ok(Answer::Refused(Refusal::NameTaken)),
+        Err(JoinFault::Full) => return Ok(Answer::Refused(Refusal::Full)),
+        Err(JoinFault::Memory) => return Err(WriteFault::Memory),
+    };
+    store_report(alloc, world, campaign, faction)?;
+    write_join(conn, campaign, faction)?;
+    Ok(Answer::Joined { faction, unit })
 }
 
 /// The faction of a number, that gives its pass text.
@@ -106,6 +92,29 @@ enum Unkept {
     Memory,
 }
 
+impl From<Refusal> for Unkept {
+    ghost use Rattle.atl_service.specs.declared.answering.Unkept.TheVariants.{Refused};
+
+    ghost from_gives = { λ refusal unkept. unkept ≡ Refused refusal };
+
+    fn from(refusal: Refusal) -> Unkept {
+        Unkept::Refused(refusal)
+    }
+}
+
+impl From<MailFault> for Unkept {
+    ghost from_gives = { λ fault unkept. unkept ≡ unread fault };
+
+    fn from(fault: MailFault) -> Unkept {
+        match fault {
+            MailFault::TooLong => Unkept::Refused(Refusal::TooLong),
+            MailFault::NoHeader => Unkept::Refused(Refusal::NoHeader),
+            MailFault::BadHeader => Unkept::Refused(Refusal::BadHeader),
+            MailFault::Memory => Unkept::Memory,
+        }
+    }
+}
+
 /// What a mailing says that is to be kept; or the first reason why it is not.
 #[tactic(auto, unfolding(crate::specs::Step::step))]
 fn received(
@@ -122,26 +131,15 @@ fn received(
     ensures active { OnOk result (IsActive campaign.now.what faction) }
     ensures refused { IfErr result (Denies world.now campaign.now.what (Command.Mail faction pass.now text.now)) }
 {
-    match identified(campaign, faction, pass) {
-        Err(refusal) => return Err(Unkept::Refused(refusal)),
-        Ok(known) => {
-            if known.gone {
-                return Err(Unkept::Refused(Refusal::Gone));
-            }
-        }
+    let known = identified(campaign, faction, pass)?;
+    if known.gone {
+        return Err(Unkept::Refused(Refusal::Gone));
     }
-    match read_mailing(alloc, world, text.as_slice()) {
-        Ok(mailing) => {
-            if mailing.faction != faction {
-                return Err(Unkept::Refused(Refusal::WrongFaction));
-            }
-            Ok(mailing)
-        }
-        Err(MailFault::TooLong) => Err(Unkept::Refused(Refusal::TooLong)),
-        Err(MailFault::NoHeader) => Err(Unkept::Refused(Refusal::NoHeader)),
-        Err(MailFault::BadHeader) => Err(Unkept::Refused(Refusal::BadHeader)),
-        Err(MailFault::Memory) => Err(Unkept::Memory),
+    let mailing = read_mailing(alloc, world, text.as_slice())?;
+    if mailing.faction != faction {
+        return Err(Unkept::Refused(Refusal::WrongFaction));
     }
+    Ok(mailing)
 }
 
 /// The answer to a command Mail. The commit is the last call that can fail.
@@ -156,34 +154,22 @@ fn mail<S: Alter>(
 ) -> Result<Answer, WriteFault>
     requires good { IsGood world.now campaign.old.what }
     requires idle { conn.old.in_transaction ≡ false }
-    ensures step { IfOk result (λ answer. step world.now campaign.old.what (Command.Mail faction pass.now text.now) ≡ (campaign.new.what, answer)) }
-    ensures good { OnOk result (IsGood world.now campaign.new.what) }
-    ensures balances { OnOk result (Balances campaign.old.what → Balances campaign.new.what) }
-    ensures sound { IfOk result IsSound }
-    ensures same { IfOk result (λ answer. IfIdle answer ((campaign.new.what ≡ campaign.old.what) × (conn.new ≡ conn.old))) }
-    ensures ok { HasCleanDisk (state S.Store conn.new) → OnOk result ((kept : List ℕ) → Keeps (state S.Store conn.old) kept campaign.old.what → Keeps (state S.Store conn.new) kept campaign.new.what) }
-    ensures err { HasCleanDisk (state S.Store conn.new) → OnErr result ((kept : List ℕ) → Keeps (state S.Store conn.old) kept campaign.old.what → Stops (state S.Store conn.old).faults (state S.Store conn.new) kept campaign.old.what (step world.now campaign.old.what (Command.Mail faction pass.now text.now)).0) }
-    ensures clean { HasCleanDisk (state S.Store conn.new) → HasCleanDisk (state S.Store conn.old) }
-    ensures counts { (state S.Store conn.old).faults ≤ (state S.Store conn.new).faults }
-    ensures idle { conn.new.in_transaction ≡ false }
+    ensures ok { IfOk result (Answers S.Store world.now campaign.old.what conn.old (Command.Mail faction pass.now text.now) campaign.new.what conn.new) }
+    ensures err { OnErr result (GivesUp S.Store world.now campaign.old.what conn.old (Command.Mail faction pass.now text.now) conn.new) }
+    ensures leaves { LeavesIdle S.Store conn.old conn.new }
 {
-    match received(alloc, world, campaign, faction, pass, text) {
-        Ok(mailing) => {
-            let orders = mailing.entries.len();
-            match campaign.set_mail(faction, mailing.text) {
-                Ok(()) => match write_mail(conn, faction, text.as_slice()) {
-                    Ok(()) => Ok(Answer::Mailed {
-                        orders,
-                        faults: mailing.faults,
-                    }),
-                    Err(unwritten) => Err(unwritten),
-                },
-                Err(_) => Err(WriteFault::Memory),
-            }
-        }
-        Err(Unkept::Refused(refusal)) => Ok(Answer::Refused(refusal)),
-        Err(Unkept::Memory) => Err(WriteFault::Memory),
-    }
+    let mailing = match received(alloc, world, campaign, faction, pass, text) {
+        Ok(mailing) => mailing,
+        Err(Unkept::Refused(refusal)) => return Ok(Answer::Refused(refusal)),
+        Err(Unkept::Memory) => return Err(WriteFault::Memory),
+    };
+    let orders = mailing.entries.len();
+    campaign.set_mail(faction, mailing.text)?;
+    write_mail(conn, faction, text.as_slice())?;
+    Ok(Answer::Mailed {
+        orders,
+        faults: mailing.faults,
+    })
 }
 
 /// The answer to a command Report.
@@ -198,13 +184,14 @@ fn told(
     ensures step { IfOk result (λ answer. step world.now campaign.now.what (Command.Report faction pass.now) ≡ (campaign.now.what, answer)) }
     ensures sound { IfOk result IsSound }
 {
-    match identified(campaign, faction, pass) {
-        Err(refusal) => Ok(Answer::Refused(refusal)),
-        Ok(_) => match campaign.report(faction) {
-            Some(report) => Ok(Answer::Text(report.copy(alloc)?)),
-            None => Ok(Answer::Text(Text::from_str(alloc, "")?)),
-        },
+    if let Err(refusal) = identified(campaign, faction, pass) {
+        return Ok(Answer::Refused(refusal));
     }
+    let text = match campaign.report(faction) {
+        Some(report) => report.copy(alloc)?,
+        None => Text::from_str(alloc, "")?,
+    };
+    Ok(Answer::Text(text))
 }
 
 /// The answer to a command. After an Err the campaign may be a part of the way; the tables are as before.
@@ -217,16 +204,9 @@ pub(crate) fn answered<S: Alter>(
 ) -> Result<Answer, WriteFault>
     requires good { IsGood world.now campaign.old.what }
     requires idle { conn.old.in_transaction ≡ false }
-    ensures step { IfOk result (λ answer. step world.now campaign.old.what command.now ≡ (campaign.new.what, answer)) }
-    ensures good { OnOk result (IsGood world.now campaign.new.what) }
-    ensures balances { OnOk result (Balances campaign.old.what → Balances campaign.new.what) }
-    ensures sound { IfOk result IsSound }
-    ensures same { IfOk result (λ answer. IfIdle answer ((campaign.new.what ≡ campaign.old.what) × (conn.new ≡ conn.old))) }
-    ensures ok { HasCleanDisk (state S.Store conn.new) → OnOk result ((text : List ℕ) → Keeps (state S.Store conn.old) text campaign.old.what → Keeps (state S.Store conn.new) text campaign.new.what) }
-    ensures err { HasCleanDisk (state S.Store conn.new) → OnErr result ((text : List ℕ) → Keeps (state S.Store conn.old) text campaign.old.what → Stops (state S.Store conn.old).faults (state S.Store conn.new) text campaign.old.what (step world.now campaign.old.what command.now).0) }
-    ensures clean { HasCleanDisk (state S.Store conn.new) → HasCleanDisk (state S.Store conn.old) }
-    ensures counts { (state S.Store conn.old).faults ≤ (state S.Store conn.new).faults }
-    ensures idle { conn.new.in_transaction ≡ false }
+    ensures ok { IfOk result (Answers S.Store world.now campaign.old.what conn.old command.now campaign.new.what conn.new) }
+    ensures err { OnErr result (GivesUp S.Store world.now campaign.old.what conn.old command.now conn.new) }
+    ensures leaves { LeavesIdle S.Store conn.old conn.new }
 {
     match command {
         Command::Join { name, pass, word } => {
@@ -237,9 +217,6 @@ pub(crate) fn answered<S: Alter>(
             pass,
             text,
         } => mail(alloc, world, campaign, conn, *faction, pass, text),
-        Command::Report { faction, pass } => match told(alloc, world, campaign, *faction, pass) {
-            Ok(answer) => Ok(answer),
-            Err(_) => Err(WriteFault::Memory),
-        },
+        Command::Report { faction, pass } => { Ok(told(alloc, world, campaign, *faction, pass)?) }
     }
 }

@@ -1,10 +1,13 @@
 //! Commands and answers.
 ghost use Rattle.std.specs.Prelude.{◌≡◌, ◌≤◌};
 ghost use Rattle.atl_service.specs.Numbers.{number_of};
+ghost use Rattle.atl_service.specs.Found.{of_world, of_creation};
 
 use atl_orders::FaultyLine;
+use atl_store::CreateFault;
 use atl_tables::{Sequence, Text, WorldFault};
 use sqlite::{Alter, Connection};
+use std::alloc::AllocError;
 
 /// What a club asks of its campaign. Names, pass texts and mailings are any bytes.
 #[derive(Drop)]
@@ -119,6 +122,39 @@ pub enum Cause {
     /// The database refuses for another cause than memory, or has other tables.
     Store,
     Memory,
+}
+
+impl From<WorldFault> for Cause {
+    ghost from_gives = { λ fault cause. cause ≡ of_world fault };
+
+    fn from(fault: WorldFault) -> Cause {
+        match fault {
+            WorldFault::Memory => Cause::Memory,
+            fault => Cause::World(fault),
+        }
+    }
+}
+
+impl From<CreateFault> for Cause {
+    ghost from_gives = { λ fault cause. cause ≡ of_creation fault };
+
+    fn from(fault: CreateFault) -> Cause {
+        match fault {
+            CreateFault::NotEmpty => Cause::NotEmpty,
+            CreateFault::Store => Cause::Store,
+            CreateFault::Memory => Cause::Memory,
+        }
+    }
+}
+
+impl From<AllocError> for Cause {
+    ghost use Rattle.atl_service.specs.declared.command.Cause.TheVariants.{Memory};
+
+    ghost from_gives = { λ _ cause. cause ≡ Memory };
+
+    fn from(_e: AllocError) -> Cause {
+        Cause::Memory
+    }
 }
 
 /// A founding that was refused hands its connection back, with its tables as they were.

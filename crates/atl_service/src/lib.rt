@@ -3,6 +3,7 @@
 
 mod answering;
 pub mod command;
+mod founding;
 pub mod service;
 #[cfg(test)]
 mod tests;

@@ -4,13 +4,14 @@ ghost use Rattle.std.specs.Option.{option_copied};
 ghost use Rattle.sqlite.specs.Held.{state};
 ghost use Rattle.sqlite.specs.State.{HasCleanDisk};
 ghost use Rattle.atl_tables.specs.World.{world_of};
-ghost use Rattle.atl_service.specs.Found.{Founds, RefusesFounding, cause_of};
+ghost use Rattle.atl_service.specs.Found.{Founds, RefusesFounding};
 
 use crate::answering::answered;
 use crate::command::{Answer, Cause, Command, Fault, Refused};
-use atl_state::{Campaign, founded};
-use atl_store::{CreateFault, WriteFault, create};
-use atl_tables::{World, WorldFault, pass_ok, read_world};
+use crate::founding::prepared;
+use atl_state::Campaign;
+use atl_store::{WriteFault, create};
+use atl_tables::World;
 use sqlite::{Alter, Connection};
 use std::alloc::{AllocError, Global};
 use std::marker::Model;
@@ -140,35 +141,9 @@ pub fn found<S: Alter>(
     ensures ok { IfOk result (Founds S.Store world_text.now pass.now) }
     ensures err { IfErr result (λ r. RefusesFounding S.Store conn world_text.now pass.now r.why r.conn) }
 {
-    let world = match read_world(alloc, world_text) {
-        Ok(world) => world,
-        Err(WorldFault::Memory) => {
-            return Err(Refused {
-                why: Cause::Memory,
-                conn,
-            });
-        }
-        Err(fault) => {
-            return Err(Refused {
-                why: Cause::World(fault),
-                conn,
-            });
-        }
-    };
-    if !pass_ok(pass) {
-        return Err(Refused {
-            why: Cause::BadPassText,
-            conn,
-        });
-    }
-    let campaign = match founded(alloc, &world, pass) {
-        Ok(campaign) => campaign,
-        Err(_) => {
-            return Err(Refused {
-                why: Cause::Memory,
-                conn,
-            });
-        }
+    let (world, campaign) = match prepared(alloc, world_text, pass) {
+        Ok(both) => both,
+        Err(why) => return Err(Refused { why, conn }),
     };
     match create(&mut conn, world_text, &campaign) {
         Ok(()) => Ok(Service {
@@ -179,18 +154,8 @@ pub fn found<S: Alter>(
             is_open: true,
         }),
         Err(fault) => Err(Refused {
-            why: cause_of(fault),
+            why: Cause::from(fault),
             conn,
         }),
-    }
-}
-
-fn cause_of(fault: CreateFault) -> Cause
-    ensures { result ≡ cause_of fault }
-{
-    match fault {
-        CreateFault::NotEmpty => Cause::NotEmpty,
-        CreateFault::Store => Cause::Store,
-        CreateFault::Memory => Cause::Memory,
     }
 }

@@ -8,7 +8,7 @@ mod state;
 
 use crate::{Answer, Command, Fault, Refusal, Service, found};
 use atl_tables::Sequence;
-use sqlite::{Connection, MemStore};
+use sqlite::{Alter, Connection, MemStore};
 use std::alloc::Global;
 use std::process::Abort;
 use std::test::Fail;
@@ -59,11 +59,11 @@ pub(crate) fn join(alloc: Global, name: &str, pass: &str) -> Result<Command, Fai
     })
 }
 
-pub(crate) fn mail(alloc: Global, faction: u32, pass: &str, text: &str) -> Result<Command, Fail> {
+pub(crate) fn mail(alloc: Global, faction: u32, pass: &str, text: &[u8]) -> Result<Command, Fail> {
     Ok(Command::Mail {
         faction,
         pass: bytes(alloc, pass)?,
-        text: bytes(alloc, text)?,
+        text: Sequence::from_slice(alloc, text)?,
     })
 }
 
@@ -74,19 +74,20 @@ pub(crate) fn report(alloc: Global, faction: u32, pass: &str) -> Result<Command,
     })
 }
 
-/// A campaign of the world with one region, in a database in memory. The helpers here have no clauses, which keeps the
-/// proofs of the tests short.
-pub(crate) fn small(alloc: Global) -> Option<Service<MemStore>> {
-    match Connection::open_in_memory(alloc) {
-        Ok(conn) => match found(alloc, conn, SMALL, b"gm") {
-            Ok(service) => Some(service),
-            Err(_) => None,
-        },
-        Err(_) => None,
+// Of what is large (a world, a campaign, a service, a connection) each function here holds one, and lends it: so the
+// proofs stay short.
+
+/// A campaign of a world, in a database in memory.
+pub(crate) fn service_of(alloc: Global, world: &str) -> Result<Service<MemStore>, Fail> {
+    let conn = Connection::open_in_memory(alloc)?;
+    match found(alloc, conn, world, b"gm") {
+        Ok(service) => Ok(service),
+        Err(_) => Err(Fail::new("found")),
     }
 }
 
-fn number(conn: &mut Connection<MemStore>, sql: &str) -> Option<i64> {
+/// A number that a query answers.
+pub(crate) fn number<S: Alter>(conn: &mut Connection<S>, sql: &str) -> Option<i64> {
     match conn.query_row(sql, &[]) {
         Ok(row) => row.get(0).ok(),
         Err(_) => None,
@@ -94,7 +95,7 @@ fn number(conn: &mut Connection<MemStore>, sql: &str) -> Option<i64> {
 }
 
 /// What the tables hold, told in numbers.
-pub(crate) fn tables(conn: &mut Connection<MemStore>) -> [Option<i64>; 8] {
+pub(crate) fn tables<S: Alter>(conn: &mut Connection<S>) -> [Option<i64>; 8] {
     [
         number(
             conn,

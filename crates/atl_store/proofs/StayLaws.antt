@@ -1,5 +1,5 @@
 -- From what a transaction did to what the store keeps.
-use Rattle.std.proofs.Common.{◌≡◌, ℕ, Bool, true, false, not, List, IsTrue, refl, sym, ap, ◌∙◌, subst, inl, inr}
+use Rattle.std.proofs.Common.{◌≡◌, ℕ, Bool, true, false, not, List, IsTrue, Result, Ok, Err, OnErr, refl, sym, ap, ◌∙◌, subst, inl, inr}
 use Rattle.sqlite_trees.specs.Tree.{Trees}
 use Rattle.sqlite.specs.Effect.{Database}
 use Rattle.sqlite.specs.State.{State, HasCleanDisk, Survives}
@@ -59,3 +59,8 @@ leaves_spares old new auto off is said settled up =
     not_true : (b : Bool) → not b ≡ true → b ≡ false
     not_true true e = cc
     not_true false e = refl
+
+-- what holds in any case holds where there is an error
+pub on_err : {A E : Type 0} (r : Result A E) (P : Type 0) → P → OnErr r P
+on_err (Ok a) P p = tt
+on_err (Err e) P p = p

@@ -3,7 +3,7 @@ ghost use Rattle.std.specs.Prelude.{◌≡◌};
 ghost use Rattle.atl_store.specs.Faults.{read_fault, value_fault, write_fault, create_fault};
 
 use sqlite::{Error, ErrorCode};
-use std::alloc::AllocFailed;
+use std::alloc::{AllocError, AllocFailed};
 
 /// Why nothing was written. The tables are as they were.
 #[derive(Drop, Clone, Copy, Debug, PartialEq, Eq)]
@@ -36,6 +36,38 @@ pub enum ReadFault {
     OtherType,
 }
 
+impl From<Error> for WriteFault {
+    ghost from_gives = { λ error fault. fault ≡ write_fault error };
+
+    fn from(error: Error) -> WriteFault {
+        match error {
+            Error::SqliteFailure(ErrorCode::OutOfMemory) => WriteFault::Memory,
+            _ => WriteFault::Store,
+        }
+    }
+}
+
+impl From<AllocError> for WriteFault {
+    ghost use Rattle.atl_store.specs.declared.fault.WriteFault.TheVariants.{Memory};
+
+    ghost from_gives = { λ _ fault. fault ≡ Memory };
+
+    fn from(_e: AllocError) -> WriteFault {
+        WriteFault::Memory
+    }
+}
+
+impl From<Error> for CreateFault {
+    ghost from_gives = { λ error fault. fault ≡ create_fault error };
+
+    fn from(error: Error) -> CreateFault {
+        match error {
+            Error::SqliteFailure(ErrorCode::OutOfMemory) => CreateFault::Memory,
+            _ => CreateFault::Store,
+        }
+    }
+}
+
 impl From<Error> for ReadFault {
     ghost from_gives = { λ error fault. fault ≡ read_fault error };
 
@@ -54,26 +86,6 @@ impl<T: Drop> From<AllocFailed<T>> for ReadFault {
 
     fn from(_e: AllocFailed<T>) -> ReadFault {
         ReadFault::Memory
-    }
-}
-
-/// The fault of a writing that the database refused.
-pub(crate) fn unwritten(error: Error) -> WriteFault
-    ensures { result ≡ write_fault error }
-{
-    match error {
-        Error::SqliteFailure(ErrorCode::OutOfMemory) => WriteFault::Memory,
-        _ => WriteFault::Store,
-    }
-}
-
-/// The fault of a creation that the database refused.
-pub(crate) fn refused(error: Error) -> CreateFault
-    ensures { result ≡ create_fault error }
-{
-    match error {
-        Error::SqliteFailure(ErrorCode::OutOfMemory) => CreateFault::Memory,
-        _ => CreateFault::Store,
     }
 }
 

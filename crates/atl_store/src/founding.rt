@@ -10,7 +10,7 @@ ghost use Rattle.atl_store.specs.Making.{has_campaign};
 ghost use Rattle.atl_store.specs.Filling.{FillsPlayers, FillsPlaces, FillsPeople, WritesFounding};
 ghost use Rattle.atl_store.specs.Keeps.{Keeps, Spares, MayFound, IsNotEmptyOnly};
 
-use crate::fault::{CreateFault, refused};
+use crate::fault::CreateFault;
 use crate::goods::put_all_goods;
 use crate::kept::put_each;
 use crate::ledger::put_all_books;
@@ -125,12 +125,8 @@ fn write_founding<S: Alter>(
 fn is_there(schema: &Schema) -> bool
     ensures { result ≡ has_campaign schema.now }
 {
-    for table in schema.tables.as_slice() {
-        if table.name.as_slice() == b"campaign".as_slice() {
-            return true;
-        }
-    }
-    false
+    let mut tables = schema.tables.as_slice().iter();
+    tables.any(|table| table.name.as_slice() == b"campaign".as_slice())
 }
 
 /// Whether there is no table, index or view at all.
@@ -163,8 +159,6 @@ pub fn create<S: Alter>(
     if !is_blank(conn.schema()) || !conn.is_autocommit() {
         return Err(CreateFault::Store);
     }
-    match write_founding(conn, world_text, campaign) {
-        Ok(()) => Ok(()),
-        Err(error) => Err(refused(error)),
-    }
+    write_founding(conn, world_text, campaign)?;
+    Ok(())
 }

@@ -13,7 +13,7 @@ ghost use Rattle.atl_store.specs.Inside.{Inside, HasTables, Both, Puts, Commits,
 ghost use Rattle.atl_store.specs.Arriving.{IsFound, Settles, WritesJoin};
 ghost use Rattle.atl_store.specs.Keeps.{Keeps, Stops, IsJoining};
 
-use crate::fault::{WriteFault, unwritten};
+use crate::fault::WriteFault;
 use crate::founding::put_head;
 use crate::kept::Kept;
 use crate::ledger::settle_amount;
@@ -41,22 +41,13 @@ fn arrival_of(campaign: &Campaign, number: u32) -> Option<Arrival<'_>>
         return None;
     }
     let place = next - 1;
-    match campaign.faction(number) {
-        None => None,
-        Some(faction) => match campaign.unit(place) {
-            None => None,
-            Some(unit) => match campaign.report(number) {
-                None => None,
-                Some(report) => Some(Arrival {
-                    number,
-                    faction,
-                    place,
-                    unit,
-                    report,
-                }),
-            },
-        },
-    }
+    Some(Arrival {
+        number,
+        faction: campaign.faction(number)?,
+        place,
+        unit: campaign.unit(place)?,
+        report: campaign.report(number)?,
+    })
 }
 
 /// Puts the campaign's own row, the faction and its unit.
@@ -146,11 +137,9 @@ pub fn write_join<S: Alter>(
     ensures counts { (state S.Store conn.old).faults ≤ (state S.Store conn.new).faults }
     ensures idle { conn.new.in_transaction ≡ false }
 {
-    match arrival_of(campaign, faction) {
-        None => Err(WriteFault::Store),
-        Some(arrival) => match write_joining(conn, campaign, &arrival) {
-            Ok(()) => Ok(()),
-            Err(error) => Err(unwritten(error)),
-        },
-    }
+    let Some(arrival) = arrival_of(campaign, faction) else {
+        return Err(WriteFault::Store);
+    };
+    write_joining(conn, campaign, &arrival)?;
+    Ok(())
 }

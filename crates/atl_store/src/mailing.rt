@@ -7,7 +7,7 @@ ghost use Rattle.atl_store.specs.Inside.{Inside, HasTables, Commits, LeavesOff, 
 ghost use Rattle.atl_store.specs.Arriving.{WritesMail};
 ghost use Rattle.atl_store.specs.Keeps.{Keeps, Stops};
 
-use crate::fault::{WriteFault, unwritten};
+use crate::fault::WriteFault;
 use crate::rows::mail::{MailRow, put_mail};
 use sqlite::{Alter, Connection, Error, Transaction};
 
@@ -56,8 +56,6 @@ pub fn write_mail<S: Alter>(
     ensures counts { (state S.Store conn.old).faults ≤ (state S.Store conn.new).faults }
     ensures idle { conn.new.in_transaction ≡ false }
 {
-    match write_mailing(conn, faction, text) {
-        Ok(()) => Ok(()),
-        Err(error) => Err(unwritten(error)),
-    }
+    write_mailing(conn, faction, text)?;
+    Ok(())
 }

@@ -1,5 +1,6 @@
 //! A small world's campaign in a store.
-ghost use Rattle.std.specs.Prelude.{◌≡◌, false, IfOk};
+ghost use Rattle.std.specs.Prelude.{◌≡◌, false, IfOk, OnOk};
+ghost use Rattle.atl_state.specs.Good.{IsGood};
 
 mod crashes;
 mod writes;
@@ -15,7 +16,7 @@ use crate::rows::report::read_reports;
 use crate::rows::structure::read_structures;
 use crate::rows::unit::read_units;
 use atl_state::{Campaign, founded};
-use atl_tables::{Text, read_world};
+use atl_tables::{Text, World, read_world};
 use sqlite::{Alter, Connection, MemStore};
 use std::alloc::Global;
 use std::process::Abort;
@@ -52,14 +53,22 @@ pub(crate) fn small(alloc: Global) -> Result<Campaign, Fail> {
     Ok(founded(alloc, &world, b"gm")?)
 }
 
+/// Avalon joins and gets its first report.
+fn welcome(alloc: Global, world: &World, campaign: &mut Campaign) -> Result<(), Fail>
+    requires { IsGood world.now campaign.old.what }
+{
+    if campaign.join(world, b"Avalon", b"pw", 0).is_err() {
+        return Err(Fail::new("join"));
+    }
+    campaign.set_report(1, Text::from_str(alloc, "A report.\n")?)?;
+    Ok(())
+}
+
 /// The campaign once Avalon has joined and has its first report.
 pub(crate) fn joined(alloc: Global) -> Result<Campaign, Fail> {
     let world = read_world(alloc, SMALL)?;
     let mut campaign = founded(alloc, &world, b"gm")?;
-    if campaign.join(&world, b"Avalon", b"pw", 0).is_err() {
-        return Err(Fail::new("join"));
-    }
-    campaign.set_report(1, Text::from_str(alloc, "A report.\n")?)?;
+    welcome(alloc, &world, &mut campaign)?;
     Ok(campaign)
 }
 
@@ -70,13 +79,21 @@ pub(crate) fn is_booked(rt: &impl Abort, row: &StoredBooks, entry: i64, thing: i
     assert_eq!(rt; row.amount, amount);
 }
 
+/// The campaign is created as it is founded.
+fn found<S: Alter>(alloc: Global, conn: &mut Connection<S>) -> Result<(), Fail>
+    ensures { OnOk result (conn.new.in_transaction ≡ false) }
+{
+    let campaign = small(alloc)?;
+    create(conn, SMALL, &campaign)?;
+    Ok(())
+}
+
 /// A store of the campaign as it is founded.
 pub(crate) fn created(alloc: Global) -> Result<Connection<MemStore>, Fail>
     ensures { IfOk result (λ conn. conn.in_transaction ≡ false) }
 {
-    let campaign = small(alloc)?;
     let mut conn = Connection::open_in_memory(alloc)?;
-    create(&mut conn, SMALL, &campaign)?;
+    found(alloc, &mut conn)?;
     Ok(conn)
 }
 

@@ -1,7 +1,9 @@
 //! A small world and an island, and the faults of texts that are nearly the small one.
 use crate::read_world;
 use crate::text::Text;
+use crate::world::{Rules, World};
 use std::alloc::Global;
+use std::process::Abort;
 use std::test::Fail;
 
 mod faults;
@@ -32,10 +34,7 @@ peasants = 1000
 money = 500
 "#;
 
-#[test]
-fn reads_small(rt: HostRuntime) -> Result<(), Fail> {
-    let world = read_world(rt.alloc(), SMALL)?;
-    let rules = world.rules();
+fn shows_rules(rt: &impl Abort, rules: &Rules) {
     assert_eq!(rt;
         (rules.maintenance, rules.tax_per_man, rules.recruit_price),
         (10, 10, 50)
@@ -52,6 +51,12 @@ fn reads_small(rt: HostRuntime) -> Result<(), Fail> {
         (rules.observation, rules.stealth, rules.sailing),
         (None, None, None)
     );
+}
+
+#[test]
+fn reads_small(rt: HostRuntime) -> Result<(), Fail> {
+    let world = read_world(rt.alloc(), SMALL)?;
+    shows_rules(&rt, world.rules());
     let terrains = world.terrains();
     assert_eq!(rt; terrains.len(), 1);
     let plain = &terrains[0];
@@ -69,9 +74,7 @@ fn reads_small(rt: HostRuntime) -> Result<(), Fail> {
     Ok(())
 }
 
-#[test]
-fn finds_the_region(rt: HostRuntime) -> Result<(), Fail> {
-    let world = read_world(rt.alloc(), SMALL)?;
+fn shows_vale(rt: &impl Abort, world: &World) -> Result<(), Fail> {
     let vale = world.region(1).ok_or("no region 1")?;
     assert_eq!(rt; vale.name.as_str(), "Vale");
     assert_eq!(rt; (vale.number, vale.peasants, vale.money), (1, 1000, 500));
@@ -91,6 +94,12 @@ fn finds_the_region(rt: HostRuntime) -> Result<(), Fail> {
         (0, 0, 0)
     );
     Ok(())
+}
+
+#[test]
+fn finds_the_region(rt: HostRuntime) -> Result<(), Fail> {
+    let world = read_world(rt.alloc(), SMALL)?;
+    shows_vale(&rt, &world)
 }
 
 /// The first fault of a text, as a program prints it, and of a world `none`.

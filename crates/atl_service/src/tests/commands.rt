@@ -1,5 +1,5 @@
-//! Joinings and reports.
-use super::{FIRST_REPORT, join, mail, report, small, tables, tells, told};
+//! Joinings, reports, and lists of commands.
+use super::{FIRST_REPORT, SMALL, join, mail, report, service_of, tables, tells, told};
 use crate::{Answer, Command, Service};
 use sqlite::MemStore;
 use std::alloc::Global;
@@ -29,45 +29,52 @@ fn is_first(rt: &impl Abort, service: &mut Service<MemStore>, join: &Command) {
     );
 }
 
+fn one_joins(rt: &impl Abort, alloc: Global, service: &mut Service<MemStore>) -> Result<(), Fail> {
+    assert_eq!(rt; FIRST_REPORT.len(), 161);
+    is_first(rt, service, &join(alloc, "Avalon", "pw")?);
+    tells(rt, service, &report(alloc, 1, "pw")?, FIRST_REPORT);
+    Ok(())
+}
+
 #[test]
 fn first_report(rt: HostRuntime) -> Result<(), Fail> {
-    let alloc = rt.alloc();
-    let join = join(alloc, "Avalon", "pw")?;
-    let report = report(alloc, 1, "pw")?;
-    assert_eq!(rt; FIRST_REPORT.len(), 161);
-    let mut service = small(alloc).ok_or("found")?;
-    is_first(&rt, &mut service, &join);
-    tells(&rt, &mut service, &report, FIRST_REPORT);
+    let mut service = service_of(rt.alloc(), SMALL)?;
+    one_joins(&rt, rt.alloc(), &mut service)
+}
+
+fn two_join(rt: &impl Abort, alloc: Global, service: &mut Service<MemStore>) -> Result<(), Fail> {
+    tells(rt, service, &join(alloc, "Avalon", "pw")?, "joined");
+    tells(rt, service, &join(alloc, "Bree", "pb")?, "joined");
+    tells(rt, service, &report(alloc, 2, "pb")?, SECOND_REPORT);
     Ok(())
 }
 
 #[test]
 fn another_faction_is_seen_without_money(rt: HostRuntime) -> Result<(), Fail> {
-    let alloc = rt.alloc();
-    let first = join(alloc, "Avalon", "pw")?;
-    let second = join(alloc, "Bree", "pb")?;
-    let report = report(alloc, 2, "pb")?;
-    let mut service = small(alloc).ok_or("found")?;
-    tells(&rt, &mut service, &first, "joined");
-    tells(&rt, &mut service, &second, "joined");
-    tells(&rt, &mut service, &report, SECOND_REPORT);
-    Ok(())
+    let mut service = service_of(rt.alloc(), SMALL)?;
+    two_join(&rt, rt.alloc(), &mut service)
 }
 
-fn club(alloc: Global) -> Result<Vec<Command>, Fail> {
-    let mut commands = Vec::new(alloc);
+fn fill(alloc: Global, commands: &mut Vec<Command>) -> Result<(), Fail> {
     commands.push(join(alloc, " x", "pw")?)?;
     commands.push(join(alloc, "Avalon", "a b")?)?;
     commands.push(join(alloc, "Avalon", "pw")?)?;
     commands.push(join(alloc, "Avalon", "pw")?)?;
-    commands.push(mail(alloc, 9, "no", "hello")?)?;
-    commands.push(mail(alloc, 1, "no", "hello")?)?;
-    commands.push(mail(alloc, 1, "pw", "hello")?)?;
-    commands.push(mail(alloc, 1, "pw", "#ATLANTIS 1\nUNIT 1\nWORK\n")?)?;
-    commands.push(mail(alloc, 1, "pw", "#ATLANTIS 1\nUNIT 1\n")?)?;
+    commands.push(mail(alloc, 9, "no", b"hello")?)?;
+    commands.push(mail(alloc, 1, "no", b"hello")?)?;
+    commands.push(mail(alloc, 1, "pw", b"hello")?)?;
+    commands.push(mail(alloc, 1, "pw", b"#ATLANTIS 1\nUNIT 1\nWORK\n")?)?;
+    commands.push(mail(alloc, 1, "pw", b"#ATLANTIS 1\nUNIT 1\n")?)?;
     commands.push(report(alloc, 1, "pw")?)?;
     commands.push(report(alloc, 9, "pw")?)?;
     commands.push(report(alloc, 1, "no")?)?;
+    Ok(())
+}
+
+/// Commands of all kinds, good ones and refused ones.
+fn club(alloc: Global) -> Result<Vec<Command>, Fail> {
+    let mut commands = Vec::new(alloc);
+    fill(alloc, &mut commands)?;
     Ok(commands)
 }
 
@@ -98,35 +105,40 @@ const TOLD: [&str; 12] = [
     "wrong pass",
 ];
 
-fn one_by_one(rt: &impl Abort, service: &mut Service<MemStore>, commands: &[Command]) {
-    for (command, words) in commands.iter().zip(TOLD.iter()) {
-        tells(rt, service, command, words);
+fn are_told(rt: &impl Abort, answers: &[Answer]) {
+    assert_eq!(rt; answers.len(), 12);
+    for (answer, words) in answers.iter().zip(TOLD.iter()) {
+        assert_eq!(rt; told(answer), *words);
     }
 }
 
-fn at_once(rt: &impl Abort, service: &mut Service<MemStore>, commands: &[Command]) {
+/// The tables once the commands were run one by one.
+fn one_by_one(
+    rt: &impl Abort,
+    alloc: Global,
+    commands: &[Command],
+) -> Result<[Option<i64>; 8], Fail> {
+    let mut service = service_of(alloc, SMALL)?;
+    for (command, words) in commands.iter().zip(TOLD.iter()) {
+        tells(rt, &mut service, command, words);
+    }
+    Ok(tables(&mut service.end()))
+}
+
+/// The tables once the commands were run as a list.
+fn at_once(rt: &impl Abort, alloc: Global, commands: &[Command]) -> Result<[Option<i64>; 8], Fail> {
+    let mut service = service_of(alloc, SMALL)?;
     match service.run_all(commands) {
-        Ok(answers) => {
-            assert_eq!(rt; answers.len(), 12);
-            for (answer, words) in answers.iter().zip(TOLD.iter()) {
-                assert_eq!(rt; told(answer), *words);
-            }
-        }
+        Ok(answers) => are_told(rt, &answers),
         Err(_) => assert!(rt; false),
     }
+    Ok(tables(&mut service.end()))
 }
 
 #[test]
 fn a_list_is_run_as_one_by_one(rt: HostRuntime) -> Result<(), Fail> {
-    let alloc = rt.alloc();
-    let commands = club(alloc)?;
-    let mut service = small(alloc).ok_or("found")?;
-    one_by_one(&rt, &mut service, &commands);
-    let mut other = small(alloc).ok_or("found")?;
-    at_once(&rt, &mut other, &commands);
-    let mut conn = service.end();
-    let mut other_conn = other.end();
-    assert_eq!(rt; tables(&mut conn), tables(&mut other_conn));
-    assert_eq!(rt; tables(&mut conn), AFTER_ONE);
+    let commands = club(rt.alloc())?;
+    assert_eq!(rt; one_by_one(&rt, rt.alloc(), &commands)?, AFTER_ONE);
+    assert_eq!(rt; at_once(&rt, rt.alloc(), &commands)?, AFTER_ONE);
     Ok(())
 }

@@ -1,12 +1,10 @@
 //! A disk that stops at each of its calls, while a campaign is founded and a faction joins.
-use super::{SMALL, join, told};
+use super::{SMALL, join, number, told};
 use crate::{Command, found};
-use sqlite::{Connection, FileStore, Options};
+use sqlite::{Alter, Connection, Options};
 use sqlite_disk::{Crash, Files, Fuse, Memory};
 use std::alloc::Global;
 use std::test::Fail;
-
-type Conn = Connection<FileStore<Fuse<Memory>>>;
 
 /// How far the commands came.
 #[derive(Clone, Copy, PartialEq, Eq, Debug)]
@@ -19,7 +17,11 @@ enum Reached {
 }
 
 /// Founds a campaign and lets a faction join twice.
-fn run(alloc: Global, conn: Conn, command: &Command) -> (Reached, Conn) {
+fn run<S: Alter>(
+    alloc: Global,
+    conn: Connection<S>,
+    command: &Command,
+) -> (Reached, Connection<S>) {
     match found(alloc, conn, SMALL, b"gm") {
         Err(refused) => (Reached::Nothing, refused.conn),
         Ok(mut service) => {
@@ -36,20 +38,15 @@ fn run(alloc: Global, conn: Conn, command: &Command) -> (Reached, Conn) {
 }
 
 /// How many factions the tables have, where there are tables; a part of a writing is an error.
-fn factions(conn: &mut Conn) -> Result<Option<i64>, Fail> {
-    let Ok(row) = conn.query_row("SELECT count(*) FROM faction", &[]) else {
-        return Ok(None);
-    };
-    let factions: i64 = row.get(0)?;
-    let units: i64 = conn.query_row("SELECT count(*) FROM unit", &[])?.get(0)?;
-    let reports: i64 = conn.query_row("SELECT count(*) FROM report", &[])?.get(0)?;
-    let next: i64 = conn
-        .query_row("SELECT next_faction FROM campaign", &[])?
-        .get(0)?;
-    if units != factions || reports != factions || next.wrapping_sub(1) != factions {
+fn factions<S: Alter>(conn: &mut Connection<S>) -> Result<Option<i64>, Fail> {
+    let factions = number(conn, "SELECT count(*) FROM faction");
+    let units = number(conn, "SELECT count(*) FROM unit");
+    let reports = number(conn, "SELECT count(*) FROM report");
+    let joined = number(conn, "SELECT next_faction - 1 FROM campaign");
+    if units != factions || reports != factions || joined != factions {
         return Err(Fail::new("a part of a writing"));
     }
-    Ok(Some(factions))
+    Ok(factions)
 }
 
 /// How far commands came on a disk that passes so many calls on, and the factions that are found after a crash.

@@ -1,8 +1,9 @@
 //! A faction that begins on the island.
-use super::{bytes, report, tells};
-use crate::{Command, found};
-use sqlite::{Connection, MemStore};
+use super::{bytes, report, service_of, tells};
+use crate::{Command, Service};
+use sqlite::MemStore;
 use std::alloc::Global;
+use std::process::Abort;
 use std::test::Fail;
 
 /// The regions of the island world.
@@ -77,37 +78,19 @@ Exits: north 4, west 2.
 * Unit 1 \"Unit 1\": 1 men, 1000 money.
 ";
 
-fn begins(
-    rt: &impl std::process::Abort,
-    conn: Connection<MemStore>,
-    alloc: Global,
-    join: &Command,
-    report: &Command,
-) {
-    match found(alloc, conn, ISLAND, b"gm") {
-        Ok(mut service) => {
-            tells(rt, &mut service, join, "joined");
-            tells(rt, &mut service, report, REPORT);
-        }
-        Err(_) => assert!(rt; false),
-    }
-}
-
-#[test]
-fn the_second_land_region(rt: HostRuntime) -> Result<(), Fail> {
-    let alloc = rt.alloc();
+fn begins(rt: &impl Abort, alloc: Global, service: &mut Service<MemStore>) -> Result<(), Fail> {
     let join = Command::Join {
         name: bytes(alloc, "Avalon")?,
         pass: bytes(alloc, "pw")?,
         word: 1,
     };
-    let report = report(alloc, 1, "pw")?;
-    begins(
-        &rt,
-        Connection::open_in_memory(alloc)?,
-        alloc,
-        &join,
-        &report,
-    );
+    tells(rt, service, &join, "joined");
+    tells(rt, service, &report(alloc, 1, "pw")?, REPORT);
     Ok(())
+}
+
+#[test]
+fn the_second_land_region(rt: HostRuntime) -> Result<(), Fail> {
+    let mut service = service_of(rt.alloc(), ISLAND)?;
+    begins(&rt, rt.alloc(), &mut service)
 }

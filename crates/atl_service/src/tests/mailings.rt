@@ -1,57 +1,10 @@
 //! Mailings.
-use super::{small, tables, tells};
+use super::{SMALL, join, mail, service_of, tables, tells};
 use crate::{Answer, Command, Service};
-use atl_tables::Sequence;
 use sqlite::MemStore;
-use std::alloc::{AllocError, Global};
+use std::alloc::Global;
 use std::process::Abort;
 use std::test::Fail;
-
-// A test has few exits while it holds a service, which keeps its proof short.
-
-fn avalon(alloc: Global) -> Result<Command, AllocError> {
-    Ok(Command::Join {
-        name: Sequence::from_slice(alloc, b"Avalon")?,
-        pass: Sequence::from_slice(alloc, b"pw")?,
-        word: 0,
-    })
-}
-
-/// A campaign that Avalon has joined.
-fn joined(alloc: Global) -> Option<Service<MemStore>> {
-    match avalon(alloc) {
-        Ok(join) => match small(alloc) {
-            Some(mut service) => {
-                service.run(&join);
-                Some(service)
-            }
-            None => None,
-        },
-        Err(_) => None,
-    }
-}
-
-fn sent(alloc: Global, faction: u32, pass: &str, text: &[u8]) -> Result<Command, AllocError> {
-    Ok(Command::Mail {
-        faction,
-        pass: Sequence::from_slice(alloc, pass.as_bytes())?,
-        text: Sequence::from_slice(alloc, text)?,
-    })
-}
-
-/// Asserts the answer to a mailing, in words.
-fn is_told(
-    rt: &impl Abort,
-    alloc: Global,
-    service: &mut Service<MemStore>,
-    mailing: (u32, &str, &str),
-    words: &str,
-) {
-    match sent(alloc, mailing.0, mailing.1, mailing.2.as_bytes()) {
-        Ok(command) => tells(rt, service, &command, words),
-        Err(_) => assert!(rt; false),
-    }
-}
 
 /// Asserts how many orders a mailing has that was accepted, and its faulty lines with the numbers of their faults.
 fn is_mailed(rt: &impl Abort, answer: &Answer, orders: usize, faulty: &[(u32, u32)]) {
@@ -71,6 +24,13 @@ fn is_mailed(rt: &impl Abort, answer: &Answer, orders: usize, faulty: &[(u32, u3
     }
 }
 
+/// A campaign that Avalon has joined.
+fn joined(rt: &impl Abort, alloc: Global) -> Result<Service<MemStore>, Fail> {
+    let mut service = service_of(alloc, SMALL)?;
+    tells(rt, &mut service, &join(alloc, "Avalon", "pw")?, "joined");
+    Ok(service)
+}
+
 /// Sends a mailing of the first faction, and asserts that it is accepted.
 fn sends(
     rt: &impl Abort,
@@ -79,14 +39,10 @@ fn sends(
     text: &str,
     orders: usize,
     faulty: &[(u32, u32)],
-) {
-    match sent(alloc, 1, "pw", text.as_bytes()) {
-        Ok(command) => {
-            let answer = service.run(&command);
-            is_mailed(rt, &answer, orders, faulty);
-        }
-        Err(_) => assert!(rt; false),
-    }
+) -> Result<(), Fail> {
+    let answer = service.run(&mail(alloc, 1, "pw", text.as_bytes())?);
+    is_mailed(rt, &answer, orders, faulty);
+    Ok(())
 }
 
 /// Asserts what the campaign keeps of the first faction's mail.
@@ -108,71 +64,72 @@ const FORMS: &str = "#ATLANTIS 1\nUNIT 1\nFORM 1\nRECRUIT 2\nEND\nPAY NEW 1 100\
 
 #[test]
 fn one_faulty_line(rt: HostRuntime) -> Result<(), Fail> {
-    let alloc = rt.alloc();
-    let mut service = joined(alloc).ok_or("joined")?;
-    sends(&rt, alloc, &mut service, FAULTY, 1, &[(5, 2)]);
+    let mut service = joined(&rt, rt.alloc())?;
+    sends(&rt, rt.alloc(), &mut service, FAULTY, 1, &[(5, 2)])?;
     keeps(&rt, &service, Some(FAULTY));
+    Ok(())
+}
+
+fn sends_twice(
+    rt: &impl Abort,
+    alloc: Global,
+    service: &mut Service<MemStore>,
+) -> Result<(), Fail> {
+    sends(rt, alloc, service, FAULTY, 1, &[(5, 2)])?;
+    sends(rt, alloc, service, FORMS, 3, &[])?;
+    keeps(rt, service, Some(FORMS));
     Ok(())
 }
 
 #[test]
 fn the_last_mailing_is_kept(rt: HostRuntime) -> Result<(), Fail> {
-    let alloc = rt.alloc();
-    let mut service = joined(alloc).ok_or("joined")?;
-    sends(&rt, alloc, &mut service, FAULTY, 1, &[(5, 2)]);
-    sends(&rt, alloc, &mut service, FORMS, 3, &[]);
-    keeps(&rt, &service, Some(FORMS));
-    let mut conn = service.end();
-    let rows = tables(&mut conn);
-    assert_eq!(rt; rows[6], Some(1));
-    assert_eq!(rt; rows[7], Some(59));
+    let mut service = joined(&rt, rt.alloc())?;
+    sends_twice(&rt, rt.alloc(), &mut service)?;
+    let rows = tables(&mut service.end());
+    assert_eq!(rt; (rows[6], rows[7]), (Some(1), Some(59)));
+    Ok(())
+}
+
+/// Mailings with the faction and the pass text that send them, and why they are refused.
+const REFUSED: [(u32, &str, &str, &str); 5] = [
+    (9, "no", "hello", "no faction"),
+    (1, "no", "hello", "wrong pass"),
+    (1, "pw", "hello", "no header"),
+    (1, "pw", "#ATLANTIS x", "bad header"),
+    (1, "pw", "#ATLANTIS 2", "wrong faction"),
+];
+
+fn refuses(rt: &impl Abort, alloc: Global, service: &mut Service<MemStore>) -> Result<(), Fail> {
+    for (faction, pass, text, words) in REFUSED {
+        let command = mail(alloc, faction, pass, text.as_bytes())?;
+        tells(rt, service, &command, words);
+    }
+    keeps(rt, service, None);
     Ok(())
 }
 
 #[test]
 fn a_refused_mailing_is_not_kept(rt: HostRuntime) -> Result<(), Fail> {
-    let alloc = rt.alloc();
-    let mut service = joined(alloc).ok_or("joined")?;
-    for (mailing, words) in [
-        ((9, "no", "hello"), "no faction"),
-        ((1, "no", "hello"), "wrong pass"),
-        ((1, "pw", "hello"), "no header"),
-        ((1, "pw", "#ATLANTIS x"), "bad header"),
-        ((1, "pw", "#ATLANTIS 2"), "wrong faction"),
-    ] {
-        is_told(&rt, alloc, &mut service, mailing, words);
-    }
-    keeps(&rt, &service, None);
-    Ok(())
+    let mut service = joined(&rt, rt.alloc())?;
+    refuses(&rt, rt.alloc(), &mut service)
 }
 
-/// A mailing of a header and so many line feeds.
-fn long(alloc: Global, feeds: usize) -> Result<Command, AllocError> {
+/// A mailing of a header of 11 bytes and so many line feeds.
+fn long(alloc: Global, feeds: usize) -> Result<Command, Fail> {
     let mut text = Vec::from_slice(alloc, b"#ATLANTIS 1")?;
     text.extend_from_slice(&b"\n".repeat(alloc, feeds)?)?;
-    sent(alloc, 1, "pw", &text)
+    mail(alloc, 1, "pw", &text)
 }
 
-/// Asserts the answer to a mailing of a header of 11 bytes and so many line feeds.
-fn is_told_of_long(
-    rt: &impl Abort,
-    alloc: Global,
-    service: &mut Service<MemStore>,
-    feeds: usize,
-    words: &str,
-) {
-    match long(alloc, feeds) {
-        Ok(command) => tells(rt, service, &command, words),
-        Err(_) => assert!(rt; false),
-    }
+fn limits(rt: &impl Abort, alloc: Global, service: &mut Service<MemStore>) -> Result<(), Fail> {
+    tells(rt, service, &long(alloc, 65_526)?, "too long");
+    keeps(rt, service, None);
+    tells(rt, service, &long(alloc, 65_525)?, "mailed");
+    Ok(())
 }
 
 #[test]
 fn a_mailing_has_65536_bytes_at_most(rt: HostRuntime) -> Result<(), Fail> {
-    let alloc = rt.alloc();
-    let mut service = joined(alloc).ok_or("joined")?;
-    is_told_of_long(&rt, alloc, &mut service, 65_526, "too long");
-    keeps(&rt, &service, None);
-    is_told_of_long(&rt, alloc, &mut service, 65_525, "mailed");
-    Ok(())
+    let mut service = joined(&rt, rt.alloc())?;
+    limits(&rt, rt.alloc(), &mut service)
 }

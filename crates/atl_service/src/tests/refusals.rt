@@ -1,5 +1,5 @@
 //! What is refused changes nothing.
-use super::{FIRST_REPORT, SMALL, join, report, small, tables, tells};
+use super::{FIRST_REPORT, SMALL, join, report, service_of, tables, tells};
 use crate::{Cause, Refusal, Service, found};
 use sqlite::{Connection, MemStore};
 use std::alloc::Global;
@@ -24,22 +24,33 @@ fn has_numbers(
     }
 }
 
+fn joins_twice(
+    rt: &impl Abort,
+    alloc: Global,
+    service: &mut Service<MemStore>,
+) -> Result<(), Fail> {
+    let join = join(alloc, "Avalon", "pw")?;
+    tells(rt, service, &join, "joined");
+    has_numbers(rt, service, 2, 2, 1);
+    tells(rt, service, &join, "name taken");
+    has_numbers(rt, service, 2, 2, 1);
+    tells(rt, service, &report(alloc, 1, "pw")?, FIRST_REPORT);
+    Ok(())
+}
+
+/// The tables once Avalon has joined.
+fn joined_once(rt: &impl Abort, alloc: Global) -> Result<[Option<i64>; 8], Fail> {
+    let mut service = service_of(alloc, SMALL)?;
+    tells(rt, &mut service, &join(alloc, "Avalon", "pw")?, "joined");
+    Ok(tables(&mut service.end()))
+}
+
 #[test]
 fn a_name_is_taken_once(rt: HostRuntime) -> Result<(), Fail> {
-    let alloc = rt.alloc();
-    let join = join(alloc, "Avalon", "pw")?;
-    let report = report(alloc, 1, "pw")?;
-    let mut service = small(alloc).ok_or("found")?;
-    tells(&rt, &mut service, &join, "joined");
-    has_numbers(&rt, &service, 2, 2, 1);
-    tells(&rt, &mut service, &join, "name taken");
-    has_numbers(&rt, &service, 2, 2, 1);
-    tells(&rt, &mut service, &report, FIRST_REPORT);
-    let mut once = small(alloc).ok_or("found")?;
-    tells(&rt, &mut once, &join, "joined");
-    let mut conn = service.end();
-    let mut once_conn = once.end();
-    assert_eq!(rt; tables(&mut conn), tables(&mut once_conn));
+    let once = joined_once(&rt, rt.alloc())?;
+    let mut service = service_of(rt.alloc(), SMALL)?;
+    joins_twice(&rt, rt.alloc(), &mut service)?;
+    assert_eq!(rt; tables(&mut service.end()), once);
     Ok(())
 }
 
@@ -58,17 +69,21 @@ fn refusals_have_their_numbers(rt: HostRuntime) {
     assert_eq!(rt; Refusal::WrongFaction.number(), 11);
 }
 
+fn told_cause(cause: &Cause) -> &'static str {
+    match cause {
+        Cause::World(_) => "world",
+        Cause::BadPassText => "bad pass text",
+        Cause::NotEmpty => "not empty",
+        Cause::Store => "store",
+        Cause::Memory => "memory",
+    }
+}
+
 /// Why no campaign is founded in a database, in words.
 fn refused(conn: Connection<MemStore>, alloc: Global, world: &str, pass: &[u8]) -> &'static str {
     match found(alloc, conn, world, pass) {
         Ok(_) => "founded",
-        Err(refused) => match refused.why {
-            Cause::World(_) => "world",
-            Cause::BadPassText => "bad pass text",
-            Cause::NotEmpty => "not empty",
-            Cause::Store => "store",
-            Cause::Memory => "memory",
-        },
+        Err(refused) => told_cause(&refused.why),
     }
 }
 
@@ -84,8 +99,10 @@ fn the_first_check_that_fails_is_told(rt: HostRuntime) -> Result<(), Fail> {
 
 #[test]
 fn a_campaign_is_founded_once(rt: HostRuntime) -> Result<(), Fail> {
-    let alloc = rt.alloc();
-    let service = small(alloc).ok_or("found")?;
-    assert_eq!(rt; refused(service.end(), alloc, SMALL, b"gm"), "not empty");
+    let service = service_of(rt.alloc(), SMALL)?;
+    assert_eq!(rt;
+        refused(service.end(), rt.alloc(), SMALL, b"gm"),
+        "not empty"
+    );
     Ok(())
 }

@@ -7,22 +7,15 @@ use std::alloc::{AllocError, Global};
 use std::process::Abort;
 use std::test::Fail;
 
-// The helpers have no clauses, which keeps the proofs of the tests short.
-
-fn small_world(alloc: Global) -> Option<World> {
-    match read_world(alloc, SMALL) {
-        Ok(world) => Some(world),
-        Err(_) => None,
-    }
+fn small_world(alloc: Global) -> Result<World, Fail> {
+    Ok(read_world(alloc, SMALL)?)
 }
 
-fn small_campaign(alloc: Global, world: &World) -> Option<Campaign> {
-    match founded(alloc, world, b"gm") {
-        Ok(campaign) => Some(campaign),
-        Err(_) => None,
-    }
+fn small_campaign(alloc: Global, world: &World) -> Result<Campaign, Fail> {
+    Ok(founded(alloc, world, b"gm")?)
 }
 
+/// The campaign once Avalon has joined.
 fn joined_campaign(alloc: Global, world: &World) -> Option<Campaign> {
     match founded(alloc, world, b"gm") {
         Ok(mut campaign) => match campaign.join(world, b"Avalon", b"pw", 5) {
@@ -50,12 +43,16 @@ fn is_founded(rt: &impl Abort, campaign: &Campaign) {
     assert_eq!(rt; total(campaign, Thing::People), Some(1000));
 }
 
+fn founds(rt: &impl Abort, alloc: Global, world: &World) -> Result<(), Fail> {
+    let campaign = small_campaign(alloc, world)?;
+    is_founded(rt, &campaign);
+    Ok(())
+}
+
 #[test]
 fn founding(rt: HostRuntime) -> Result<(), Fail> {
-    let world = small_world(rt.alloc()).ok_or("world")?;
-    let campaign = small_campaign(rt.alloc(), &world).ok_or("founded")?;
-    is_founded(&rt, &campaign);
-    Ok(())
+    let world = small_world(rt.alloc())?;
+    founds(&rt, rt.alloc(), &world)
 }
 
 fn has_entries(rt: &impl Abort, campaign: &Campaign) {
@@ -95,14 +92,18 @@ fn has_unit(rt: &impl Abort, campaign: &Campaign) {
     assert!(rt; campaign.in_region(2).is_empty());
 }
 
+fn joins(rt: &impl Abort, alloc: Global, world: &World) -> Result<(), Fail> {
+    let campaign = joined_campaign(alloc, world).ok_or("joined")?;
+    has_entries(rt, &campaign);
+    has_faction(rt, &campaign);
+    has_unit(rt, &campaign);
+    Ok(())
+}
+
 #[test]
 fn joining(rt: HostRuntime) -> Result<(), Fail> {
-    let world = small_world(rt.alloc()).ok_or("world")?;
-    let campaign = joined_campaign(rt.alloc(), &world).ok_or("joined")?;
-    has_entries(&rt, &campaign);
-    has_faction(&rt, &campaign);
-    has_unit(&rt, &campaign);
-    Ok(())
+    let world = small_world(rt.alloc())?;
+    joins(&rt, rt.alloc(), &world)
 }
 
 fn lends(rt: &impl Abort, campaign: &mut Campaign) {
@@ -118,21 +119,31 @@ fn report_of(alloc: Global, world: &World, campaign: &Campaign) -> Result<Text, 
     Ok(Text::from_string(text))
 }
 
-fn stores(rt: &impl Abort, campaign: &mut Campaign, text: Text) {
-    assert!(rt; campaign.set_report(1, text).is_ok());
+/// Stores the first faction's report of what it sees.
+fn stores(
+    rt: &impl Abort,
+    alloc: Global,
+    world: &World,
+    campaign: &mut Campaign,
+) -> Result<(), Fail> {
+    let text = report_of(alloc, world, campaign)?;
+    campaign.set_report(1, text)?;
     match campaign.report(1) {
         Some(stored) => assert_eq!(rt; stored.as_str(), FIRST_REPORT),
         None => assert!(rt; false),
     }
+    Ok(())
+}
+
+fn lends_and_stores(rt: &impl Abort, alloc: Global, world: &World) -> Result<(), Fail> {
+    let mut campaign = joined_campaign(alloc, world).ok_or("joined")?;
+    stores(rt, alloc, world, &mut campaign)?;
+    lends(rt, &mut campaign);
+    Ok(())
 }
 
 #[test]
 fn lending_and_reporting(rt: HostRuntime) -> Result<(), Fail> {
-    let alloc = rt.alloc();
-    let world = small_world(alloc).ok_or("world")?;
-    let mut campaign = joined_campaign(alloc, &world).ok_or("joined")?;
-    let text = report_of(alloc, &world, &campaign)?;
-    stores(&rt, &mut campaign, text);
-    lends(&rt, &mut campaign);
-    Ok(())
+    let world = small_world(rt.alloc())?;
+    lends_and_stores(&rt, rt.alloc(), &world)
 }

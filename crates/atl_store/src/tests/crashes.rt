@@ -36,7 +36,7 @@ enum Answered {
 }
 
 /// Creates a campaign and writes a joining, up to the first fault.
-fn run(alloc: Global, conn: &mut Connection<Stopping>) -> Result<Answered, Fail> {
+fn run<S: Alter>(alloc: Global, conn: &mut Connection<S>) -> Result<Answered, Fail> {
     if !is_created(alloc, conn)? {
         return Ok(Answered::Nothing);
     }
@@ -47,7 +47,7 @@ fn run(alloc: Global, conn: &mut Connection<Stopping>) -> Result<Answered, Fail>
 }
 
 /// How many factions the tables have, where there are tables. A part of a writing is a failure.
-fn found(alloc: Global, conn: &mut Connection<Stopping>) -> Result<Option<usize>, Fail> {
+fn found<S: Alter>(alloc: Global, conn: &mut Connection<S>) -> Result<Option<usize>, Fail> {
     if conn.schema().tables.is_empty() {
         return Ok(None);
     }

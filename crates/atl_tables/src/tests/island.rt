@@ -2,6 +2,7 @@
 use crate::read_world;
 use crate::world::World;
 use std::alloc::Global;
+use std::process::Abort;
 use std::test::Fail;
 
 const ISLE: &str = r#"[rules]
@@ -196,9 +197,7 @@ fn kinds(rt: HostRuntime) -> Result<(), Fail> {
     Ok(())
 }
 
-#[test]
-fn regions(rt: HostRuntime) -> Result<(), Fail> {
-    let world = isle(rt.alloc())?;
+fn shows_regions(rt: &impl Abort, world: &World) -> Result<(), Fail> {
     assert_eq!(rt; world.regions().len(), 4);
     assert_eq!(rt; world.land(), [1, 3, 4].as_slice());
     let sound = world.region(2).ok_or("no region 2")?;
@@ -220,4 +219,10 @@ fn regions(rt: HostRuntime) -> Result<(), Fail> {
     assert_eq!(rt; (wood.name.as_str(), wood.terrain), ("Wood", 1));
     assert_eq!(rt; (wood.north, wood.south), (None, Some(3)));
     Ok(())
+}
+
+#[test]
+fn regions(rt: HostRuntime) -> Result<(), Fail> {
+    let world = isle(rt.alloc())?;
+    shows_regions(&rt, &world)
 }

@@ -2,29 +2,27 @@ use Rattle.std.proofs.Common.{◌≡◌, sym, ap, ◌∙◌, subst}
 use Rattle.sqlite.specs.Held.{state}
 use Rattle.atl_state.specs.State.{State as Campaign, with_mail}
 use Rattle.atl_store.specs.Keeps.{Stops}
+use Rattle.atl_store.proofs.StayLaws.{on_err}
+use Rattle.atl_service.specs.declared.command.Command.TheVariants.{Mail}
+use Rattle.atl_service.specs.Answering.{GivesUp}
 use Rattle.atl_service.proofs.GoodLaws.{IsGood-with_mail, Balances-with_mail}
 use Rattle.atl_service.proofs.answering.mail.Goals as goal
 
-pub returns-in-Ok-write_mail-clause-good : goal.returns-in-Ok-write_mail-clause-good
-returns-in-Ok-write_mail-clause-good g c =
+pub returns-clause-ok : goal.returns-clause-ok
+returns-clause-ok g c =
     let old = c.args.campaign.now.what in
-    let done : c.set_mail.new.self.what ≡ with_mail old c.args.faction c.args.text.now = c.in-Ok-set_mail.ensures.ok ∙ ap (with_mail old c.args.faction) c.in-Ok.ensures.text in
-    rw done (IsGood-with_mail c.args.world.now old c.args.faction c.args.text.now c.in-Ok.ensures.own c.in-Ok.ensures.active c.requires.good)
+    let done : c.set_mail.new.self.what ≡ with_mail old c.args.faction c.args.text.now = c.in_ok-set_mail.ensures.ok ∙ ap (with_mail old c.args.faction) c.in-Ok.ensures.text in
+    record {
+      step_is = rw (done, c.len-orders.ensures) c.in-Ok.ensures.step;
+      sound = tt;
+      same = tt;
+      good = rw done (IsGood-with_mail c.args.world.now old c.args.faction c.args.text.now c.in-Ok.ensures.own c.in-Ok.ensures.active c.requires.good);
+      balances = λ h. rw done (Balances-with_mail old c.args.faction c.args.text.now h);
+      tables = λ clean text keeps. rw done (rw c.as_slice.ensures at (c.in_ok-write_mail.ensures.ok clean text old keeps));
+    }
 
-pub returns-in-Ok-write_mail-clause-balances : goal.returns-in-Ok-write_mail-clause-balances
-returns-in-Ok-write_mail-clause-balances g c h =
+pub returns-in_err-write_mail-clause-err : goal.returns-in_err-write_mail-clause-err
+returns-in_err-write_mail-clause-err g c = on_err _ (GivesUp g.S.Store c.args.world.now c.args.campaign.now.what c.args.conn.now (Mail c.args.faction c.args.pass.now c.args.text.now) c.write_mail.new.conn) (λ clean text keeps.
     let old = c.args.campaign.now.what in
-    let done : c.set_mail.new.self.what ≡ with_mail old c.args.faction c.args.text.now = c.in-Ok-set_mail.ensures.ok ∙ ap (with_mail old c.args.faction) c.in-Ok.ensures.text in
-    rw done (Balances-with_mail old c.args.faction c.args.text.now h)
-
-pub returns-in-Ok-write_mail-clause-ok : goal.returns-in-Ok-write_mail-clause-ok
-returns-in-Ok-write_mail-clause-ok g c clean kept keeps =
-    let old = c.args.campaign.now.what in
-    let done : c.set_mail.new.self.what ≡ with_mail old c.args.faction c.args.text.now = c.in-Ok-set_mail.ensures.ok ∙ ap (with_mail old c.args.faction) c.in-Ok.ensures.text in
-    rw done (rw c.as_slice.ensures at (c.in-Ok-write_mail.ensures.ok clean kept old keeps))
-
-pub returns-in-Err-write_mail-clause-err : goal.returns-in-Err-write_mail-clause-err
-returns-in-Err-write_mail-clause-err g c clean kept keeps =
-    let old = c.args.campaign.now.what in
-    let stops = rw c.as_slice.ensures at (c.in-Err-write_mail.ensures.err clean kept old keeps) in
-    subst (λ (after : Campaign). Stops (state g.S.Store c.args.conn.now).faults (state g.S.Store c.write_mail.new.conn) kept old after) (sym (ap (λ p. p.0) c.in-Ok.ensures.step)) stops
+    let stops = rw c.as_slice.ensures at (c.in_err-write_mail.ensures.err clean text old keeps) in
+    subst (λ (after : Campaign). Stops (state g.S.Store c.args.conn.now).faults (state g.S.Store c.write_mail.new.conn) text old after) (sym (ap (λ p. p.0) c.in-Ok.ensures.step)) stops)

@@ -4,7 +4,7 @@ use Rattle.atl_orders.specs.Mailing.{reading_of, IsMailingOf}
 use Rattle.atl_orders.proofs.SenderLaws.{read_is_mailing}
 use Rattle.atl_service.proofs.answering.received.Goals as goal
 
-pub returns-else-mailing-faction-clause-own : goal.returns-else-mailing-faction-clause-own
-returns-else-mailing-faction-clause-own c =
-    let own : c.in-Ok-read_mailing.mailing.faction ≡ c.args.faction = grind (arith, nat_tests) in
-    subst (λ n. IsMailingOf n c.args.text.now) own (read_is_mailing c.args.world.now c.args.text.now (reading_of c.in-Ok-read_mailing.mailing) (rw c.as_slice.ensures at c.in-Ok-read_mailing.ensures.reading))
+pub returns-clause-own : goal.returns-clause-own
+returns-clause-own c =
+    let own : c.in_ok-mailing.mailing.faction ≡ c.args.faction = grind (arith, nat_tests) in
+    subst (λ n. IsMailingOf n c.args.text.now) own (read_is_mailing c.args.world.now c.args.text.now (reading_of c.in_ok-mailing.mailing) (rw c.as_slice.ensures at c.in_ok-mailing.ensures.reading))

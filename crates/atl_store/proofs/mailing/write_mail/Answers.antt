@@ -2,19 +2,19 @@ use Rattle.sqlite.specs.Held.{state}
 use Rattle.atl_state.specs.State.{with_mail}
 use Rattle.atl_store.specs.Inside.{HasTables}
 use Rattle.atl_store.specs.Arriving.{WritesMail}
-use Rattle.atl_store.proofs.StayLaws.{commits_keeps, leaves_stops}
+use Rattle.atl_store.proofs.StayLaws.{commits_keeps, leaves_stops, on_err}
 use Rattle.atl_store.proofs.mailing.write_mail.Goals as goal
 
-pub returns-in-Ok-clause-ok : goal.returns-in-Ok-clause-ok
-returns-in-Ok-clause-ok g c clean text before keeps =
+pub returns-clause-ok : goal.returns-clause-ok
+returns-clause-ok g c clean text before keeps =
     let old = state g.S.Store c.args.conn.now in
     let new = state g.S.Store c.write_mailing.new.conn in
-    commits_keeps old new text (λ db up. g.met.S.Store.settled c.write_mailing.new.conn.store db up) HasTables (WritesMail c.args.faction c.args.text.now) (with_mail before c.args.faction c.args.text.now) (c.in-Ok.ensures.ok clean) keeps.tables
+    commits_keeps old new text (λ db up. g.met.S.Store.settled c.write_mailing.new.conn.store db up) HasTables (WritesMail c.args.faction c.args.text.now) (with_mail before c.args.faction c.args.text.now) (c.in_ok-write_mailing.ensures.ok clean) keeps.tables
     (λ did. did text before keeps.rows)
 
-pub returns-in-Err-clause-err : goal.returns-in-Err-clause-err
-returns-in-Err-clause-err g c clean text before keeps =
+pub returns-in_err-write_mailing-clause-err : goal.returns-in_err-write_mailing-clause-err
+returns-in_err-write_mailing-clause-err g c clean = on_err c.from_residual.result _ (λ text before keeps.
     let old = state g.S.Store c.args.conn.now in
     let new = state g.S.Store c.write_mailing.new.conn in
-    leaves_stops old new text (λ db up. g.met.S.Store.settled c.write_mailing.new.conn.store db up) (WritesMail c.args.faction c.args.text.now) before (with_mail before c.args.faction c.args.text.now) clean (c.in-Err.ensures.err clean) c.write_mailing.ensures.crash keeps
-    (λ db did. did text before keeps.rows)
+    leaves_stops old new text (λ db up. g.met.S.Store.settled c.write_mailing.new.conn.store db up) (WritesMail c.args.faction c.args.text.now) before (with_mail before c.args.faction c.args.text.now) clean (c.in_err-write_mailing.ensures.err clean) c.write_mailing.ensures.crash keeps
+    (λ db did. did text before keeps.rows))

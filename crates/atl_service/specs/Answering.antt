@@ -1,0 +1,63 @@
+-- What answering one command does while the service is open. `before` and `old` are the campaign and the connection before it, `after` and `new` those behind it.
+use Rattle.std.specs.Prelude.{◌≡◌, ◌≤◌, ℕ, List, false, ⊤}
+use Rattle.sqlite_trees.specs.declared.store.Store.{Ghosts}
+use Rattle.sqlite.specs.Held.{Held, state}
+use Rattle.sqlite.specs.State.{HasCleanDisk}
+use Rattle.atl_tables.specs.Planet.{Planet}
+use Rattle.atl_orders.specs.declared.fault.MailFault.{MailFault}
+use Rattle.atl_orders.specs.declared.fault.MailFault.TheVariants as mail
+use Rattle.atl_state.specs.State.{State as Campaign}
+use Rattle.atl_state.specs.Good.{IsGood}
+use Rattle.atl_state.specs.Totals.{Balances}
+use Rattle.atl_store.specs.Keeps.{Keeps, Stops}
+use Rattle.atl_service.specs.declared.answering.Unkept.{Unkept}
+use Rattle.atl_service.specs.declared.answering.Unkept.TheVariants as unkept
+use Rattle.atl_service.specs.declared.command.Command.{Command}
+use Rattle.atl_service.specs.declared.command.Answer.{Answer}
+use Rattle.atl_service.specs.declared.command.Answer.TheVariants.{Joined, Mailed, Text, Refused, Fault}
+use Rattle.atl_service.specs.declared.command.Refusal.TheVariants as why
+use Rattle.atl_service.specs.Step.{step}
+
+-- an answer that is no fault
+abbrev pub IsSound : Answer → Type 0
+IsSound (Fault _) = ⊥
+IsSound _ = ⊤
+
+-- what a command that was refused, or that asks for a report, leaves as it is
+abbrev pub IfIdle : Answer → Type 0 → Type 0
+IfIdle (Joined _ _) P = ⊤
+IfIdle (Mailed _ _) P = ⊤
+IfIdle (Text _) P = P
+IfIdle (Refused _) P = P
+IfIdle (Fault _) P = ⊤
+
+-- The answer and the campaign are the step's. The campaign is good, its books balance, and tables that held the one before hold it.
+pub record Answers {S : Type 0} (g : Ghosts S) (w : Planet) (before : Campaign) (old : Held S) (command : Command) (after : Campaign) (new : Held S) (answer : Answer) : Type 0 where
+  pub step_is : step w before command ≡ (after, answer)
+  pub sound : IsSound answer
+  pub same : IfIdle answer ((after ≡ before) × (new ≡ old))
+  pub good : IsGood w after
+  pub balances : Balances before → Balances after
+  pub tables : HasCleanDisk (state g new) → (text : List ℕ) → Keeps (state g old) text before → Keeps (state g new) text after
+
+-- There is no answer. Tables that held the campaign before stop at it, and a crash leaves it or the step's.
+abbrev pub GivesUp : {S : Type 0} → Ghosts S → Planet → Campaign → Held S → Command → Held S → Type 0
+GivesUp g w before old command new = HasCleanDisk (state g new) → (text : List ℕ) → Keeps (state g old) text before → Stops (state g old).faults (state g new) text before (step w before command).0
+
+-- answered or not, the connection is in no transaction, and a disk that is clean now was clean before
+pub record LeavesIdle {S : Type 0} (g : Ghosts S) (old new : Held S) : Type 0 where
+  pub idle : new.in_transaction ≡ false
+  pub clean : HasCleanDisk (state g new) → HasCleanDisk (state g old)
+  pub counts : (state g old).faults ≤ (state g new).faults
+
+-- a mailing that is not kept is refused by the step, but for want of memory
+abbrev pub Denies : Planet → Campaign → Command → Unkept → Type 0
+Denies w c command (unkept.Refused why) = step w c command ≡ (c, Refused why)
+Denies w c command unkept.Memory = ⊤
+
+-- what becomes of a mailing that can't be read
+abbrev pub unread : MailFault → Unkept
+unread mail.TooLong = unkept.Refused why.TooLong
+unread mail.NoHeader = unkept.Refused why.NoHeader
+unread mail.BadHeader = unkept.Refused why.BadHeader
+unread mail.Memory = unkept.Memory

@@ -1,0 +1,29 @@
+//! What a founding begins with.
+ghost use Rattle.std.specs.Prelude.{Bool, IfOk, IfErr};
+ghost use Rattle.atl_state.specs.Good.{IsGood};
+ghost use Rattle.atl_state.specs.Totals.{Balances};
+ghost use Rattle.atl_service.specs.Found.{Prepares, IsCause};
+
+use crate::command::Cause;
+use atl_state::{Campaign, founded};
+use atl_tables::{World, pass_ok, read_world};
+use std::alloc::Global;
+
+/// The world of a text and the campaign that is founded in it; or the first check that fails.
+pub(crate) fn prepared(
+    alloc: Global,
+    world_text: &str,
+    pass: &[u8],
+) -> Result<(World, Campaign), Cause>
+    ensures ok { IfOk result (λ made. Prepares world_text.now pass.now made.0 made.1.what) }
+    ensures good { IfOk result (λ made. IsGood made.0 made.1.what) }
+    ensures balances { IfOk result (λ made. Balances made.1.what) }
+    ensures err { IfErr result (λ why. (is_there : Bool) → IsCause world_text.now pass.now is_there why) }
+{
+    let world = read_world(alloc, world_text)?;
+    if !pass_ok(pass) {
+        return Err(Cause::BadPassText);
+    }
+    let campaign = founded(alloc, &world, pass)?;
+    Ok((world, campaign))
+}
