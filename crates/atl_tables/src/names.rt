@@ -33,12 +33,7 @@ fn has_open_ends(text: &[u8]) -> bool
 fn are_name_bytes(text: &[u8]) -> bool
     ensures { result ≡ list_all is_name_byte text.now }
 {
-    for byte in text {
-        if !is_name_byte(*byte) {
-            return false;
-        }
-    }
-    true
+    text.iter().all(|byte| is_name_byte(*byte))
 }
 
 fn are_pass_bytes(text: &[u8]) -> bool

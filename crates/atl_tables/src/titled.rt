@@ -28,12 +28,7 @@ pub(crate) fn same_name(a: &Text, b: &Text) -> bool
 pub(crate) fn is_among<T: Titled>(items: &[T], name: &Text) -> bool
     ensures { result ≡ list_any (λ x. same_name (T.title_of x) name.now) items.now }
 {
-    for item in items {
-        if same_name(item.title(), name) {
-            return true;
-        }
-    }
-    false
+    items.iter().any(|item| same_name(item.title(), name))
 }
 
 /// That no name stands twice.

@@ -2,7 +2,8 @@
 ghost use Rattle.std.specs.Prelude.{◌≡◌, ℕ, Bool, true, false, IfOk, OnOk, OnErr, option_copied, None, length};
 ghost use Rattle.std.specs.Ordering.{nat_cmp};
 ghost use Rattle.std.specs.FinMap as map;
-ghost use Rattle.atl_tables.specs.Tracking.{with_value, without_value, marked_numbers};
+ghost use Rattle.atl_tables.specs.Changing.{AreMarked};
+ghost use Rattle.atl_tables.specs.Tracking.{with_value, without_value, marked_numbers, marked_with};
 ghost use Rattle.atl_tables.specs.Sums.{mapped};
 
 use crate::numbered::{Entries, Numbered};
@@ -170,6 +171,3 @@ fn mark_present<V: Drop>(values: &Numbered<V>, marks: &mut Numbered<bool>, numbe
         }
     }
 }
-
-ghost use Rattle.atl_tables.specs.Tracking.{marked_with};
-ghost use Rattle.atl_tables.specs.Changing.{AreMarked};
