@@ -74,15 +74,11 @@ fn identified<'a>(
     ensures there { IfOk result (λ f. map.get campaign.now.what.factions faction ≡ Some f.now) }
     ensures err { IfErr result (λ why. identified pass.now (map.get campaign.now.what.factions faction) ≡ Err why) }
 {
-    match campaign.faction(faction) {
-        None => Err(Refusal::NoFaction),
-        Some(known) => {
-            if known.pass.as_bytes() != pass.as_slice() {
-                return Err(Refusal::WrongPass);
-            }
-            Ok(known)
-        }
+    let known = campaign.faction(faction).ok_or(Refusal::NoFaction)?;
+    if known.pass.as_bytes() != pass.as_slice() {
+        return Err(Refusal::WrongPass);
     }
+    Ok(known)
 }
 
 /// Why a mailing is not kept.
