@@ -70,11 +70,6 @@ end_of_words line i h = at_drop_all words line i h ∙ words-nil
 
 -- ---- where words stand
 
-pub stands_first : (line : List ℕ) (n : ℕ) (bytes : List ℕ) → bytes ≡ take n line → StandsIn line bytes (length line)
-stands_first line n bytes e =
-    let whole : bytes ++ drop n line ≡ line = ap (λ l. l ++ drop n line) e ∙ take-append-drop n line in
-    record { front = []; back = drop n line; whole = sym whole; behind_is = ap length whole }
-
 pub ends_behind : (line : List ℕ) (n : ℕ) → EndsWith line (drop n line)
 ends_behind line n = record { front = take n line; whole = sym (take-append-drop n line) }
 

@@ -1,5 +1,5 @@
 -- From the answer to one command to what `run` promises.
-use Rattle.std.proofs.Common.{◌≡◌, Bool, true, false, cond, List, ℕ, Some, None, IfSome, refl, sym, ap, ap₂, ◌∙◌, subst}
+use Rattle.std.proofs.Common.{◌≡◌, Bool, true, false, cond, Some, None, IfSome, refl, sym, ap, ap₂, ◌∙◌, subst}
 use Rattle.sqlite_trees.specs.declared.store.Store.{Ghosts}
 use Rattle.sqlite.specs.Held.{Held, state}
 use Rattle.atl_tables.specs.World.{world_of}

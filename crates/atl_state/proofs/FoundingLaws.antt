@@ -6,7 +6,7 @@ use Rattle.std.proofs.lemmas.List.{length-map}
 use Rattle.std.proofs.lemmas.List.Sums.{sum_by-cons}
 use Rattle.std.proofs.lemmas.Bool.Decides.{nat_tests}
 use Rattle.std.specs.Ordering.{nat_cmp}
-use Rattle.std.specs.FinMap.{FinMap, entries, empty, get-empty, len-empty, len-entries}
+use Rattle.std.specs.FinMap.{entries, empty, get-empty, len-empty, len-entries}
 use Rattle.atl_tables.specs.Planet.{Planet, IsWorld}
 use Rattle.atl_tables.specs.Sums.{sum_over, mapped}
 use Rattle.atl_tables.proofs.MadeLaws.{entries-mapped}
@@ -27,9 +27,6 @@ use Rattle.atl_state.proofs.BookLaws.{booked-with_booked, booked-no_amounts, amo
 
 pub no_lists : AreLists empty empty
 no_lists r = ap (λ o. unwrap_or o []) (get-empty nat_cmp r) ∙ sym (rw (entries-empty {X = Unit}) refl)
-
-pub founded_regions : Planet → FinMap nat_cmp Region
-founded_regions w = mapped founded_region w.regions
 
 nobody : (t : Thing) → sum_over (λ (u : Unit). held t u.holding) (empty {X = Unit} {R = nat_cmp}) ≡ 0
 nobody t = rw (entries-empty {X = Unit}) refl

@@ -1,8 +1,8 @@
 -- Rising lists of numbers, beside the maps whose numbers they list.
-use Rattle.std.proofs.Common.{◌≡◌, ℕ, suc, ◌+◌, T, not, ◌<◌, Bool, true, false, cond, nat_le, List, [], ◌∷◌, ◌++◌, map, filter, take, drop, Some, None, refl, sym, ap, subst, ◌∙◌, arith}
+use Rattle.std.proofs.Common.{◌≡◌, ℕ, suc, ◌+◌, T, not, ◌<◌, Bool, true, false, cond, nat_le, List, [], ◌∷◌, ◌++◌, map, filter, take, drop, Some, None, refl, sym, ap, ◌∙◌, arith}
 use Rattle.std.specs.declared.cmp.Ordering.TheVariants.{Less, Equal, Greater}
-use Rattle.std.specs.Ordering.{nat_cmp, is_lt, is_eq, eq_by_cmp}
-use Rattle.std.specs.Cmp.{nat_cmp_total, ranked, tied_itself}
+use Rattle.std.specs.Ordering.{nat_cmp, is_lt, is_eq}
+use Rattle.std.specs.Cmp.{nat_cmp_total, ranked}
 use Rattle.std.specs.FinMap.{FinMap, get, insert, find, put, entries, entries_sorted, entries-insert, get-entries, is_sorted}
 use Rattle.std.specs.FinMap.Entries.{by_order, below_all}
 use Rattle.std.proofs.lemmas.Bool.{and_parts, false≢true}
@@ -36,9 +36,6 @@ below k q h =
       | Equal ↦ λ e g. absurd (false≢true g)
       | Greater ↦ λ e g. absurd (false≢true g)
     ] refl h
-
-ties : (k : ℕ) → T (eq_by_cmp nat_cmp k k)
-ties k = subst (λ o. T (is_eq o)) (sym (tied_itself nat_cmp_total k)) tt
 
 is_true : (b : Bool) → T b → b ≡ true
 is_true true h = refl

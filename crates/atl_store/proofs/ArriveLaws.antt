@@ -1,5 +1,5 @@
 -- From what the statements did to what the tables hold: one entry of a map, one amount of the books.
-use Rattle.std.proofs.Common.{◌≡◌, ◌≢◌, ◌⊎◌, ◌+◌, ℕ, ℤ, pos, true, false, cond, List, [], ◌∷◌, take, get_or, Some, None, Less, Equal, Greater, refl, sym, ap, ◌∙◌, subst, inl, inr, true≢false, arith}
+use Rattle.std.proofs.Common.{◌≡◌, ◌≢◌, ◌⊎◌, ◌+◌, ℕ, ℤ, pos, false, cond, List, [], ◌∷◌, take, get_or, Some, None, Less, Equal, Greater, refl, sym, ap, ◌∙◌, subst, inl, inr, arith}
 use Rattle.std.specs.Ordering.{nat_cmp, is_eq, int_eq}
 use Rattle.std.specs.Cmp.{nat_cmp_total}
 use Rattle.std.specs.FinMap.{FinMap, get, insert, empty, get-insert, get-empty, nat_cmp-IsAntisymmetric}
@@ -19,7 +19,6 @@ use Rattle.atl_store.specs.Tables.{books_table}
 use Rattle.atl_store.specs.Shown.{int, books_key, books_row}
 use Rattle.atl_store.specs.Rows.{RowsOf, HasRowsOf, BooksRowsOf, things_of}
 use Rattle.atl_store.specs.Lines.{amount_lines}
-use Rattle.atl_store.specs.Inside.{Puts, Drops}
 use Rattle.atl_store.specs.Arriving.{Settles}
 use Rattle.atl_store.proofs.EntryLaws.{same_number}
 use Rattle.atl_store.proofs.GoodsLaws.{optional_has, has_optional}
@@ -88,27 +87,6 @@ no_goods rows units n u fresh bare was r = (
 module _ (c : Campaign) (e : Entry) (t : Thing) where
   abbrev row : Row
   row = books_row (entry_place e + 1) (thing_place t) (amount_in c.books e t)
-
-  pub settles_put : (a b : Database) → int_eq (amount_in c.books e t) (pos 0) ≡ false → Puts books_table 2 row a b → Settles c e t a b
-  settles_put a b some did = record {
-    rows = λ r. (
-      λ there. elim ((did.rows r).0 there) [
-        | inl same ↦ inl (subst (Has (amount_lines c e t)) (sym same) (has_optional (int_eq (amount_in c.books e t) (pos 0)) row some))
-        | inr was ↦ inr was
-      ],
-      λ h. (did.rows r).1 (elim h [ inl here ↦ inl (optional_has (int_eq (amount_in c.books e t) (pos 0)) row r here).1 | inr was ↦ inr was ]),
-    );
-    others = did.others;
-  }
-
-  pub settles_drop : (a b : Database) → int_eq (amount_in c.books e t) (pos 0) ≡ true → Drops books_table 2 (books_key (entry_place e + 1) (thing_place t)) a b → Settles c e t a b
-  settles_drop a b none did = record {
-    rows = λ r. (
-      λ there. inr ((did.rows r).0 there),
-      λ h. (did.rows r).1 (elim h [ inl here ↦ absurd (true≢false (sym none ∙ (optional_has (int_eq (amount_in c.books e t) (pos 0)) row r here).0)) | inr was ↦ was ]),
-    );
-    others = did.others;
-  }
 
   -- the rows of the books A are those of the books B then, which differ in this amount alone
   pub settled_rows : (A B : List (List ℤ)) (a b : Database) → Settles c e t a b → amount_in B e t ≡ amount_in c.books e t

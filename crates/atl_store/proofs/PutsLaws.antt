@@ -1,5 +1,5 @@
 -- Rows that are put one after another.
-use Rattle.std.proofs.Common.{◌≡◌, ◌≢◌, ◌↔◌, ◌++◌, ℕ, List, [], ◌∷◌, refl, ◌∙◌, inl, inr}
+use Rattle.std.proofs.Common.{◌≡◌, ◌≢◌, ◌↔◌, ◌++◌, ℕ, List, [], ◌∷◌, ◌∙◌, inl, inr}
 use Rattle.sqlite.specs.Order.{Row}
 use Rattle.sqlite.specs.Table.{Table}
 use Rattle.sqlite.specs.Effect.{Database}
@@ -30,9 +30,6 @@ append_puts key [] ys S r h = h
 append_puts key (x ∷ xs) ys S r h = append_puts key xs ys (put key x S) r h
 
 module _ (table : Table) (key : ℕ) where
-  towards_start : (all : List Row) (db : Database) → Towards table key all all db db
-  towards_start all db = record { rows = λ r. (λ h. h, λ h. h); others = λ t listed other. refl }
-
   towards_rows : (xs rest all : List Row) (old mid new : Database) → Towards table key (xs ++ rest) all old mid → PutsRows table key xs mid new → Towards table key rest all old new
   towards_rows xs rest all old mid new so_far more = record {
     rows = λ r.
@@ -46,9 +43,6 @@ module _ (table : Table) (key : ℕ) where
   puts_one : (x : Row) (old new : Database) → Puts table key x old new → PutsRows table key (x ∷ []) old new
   puts_one x old new one = record { rows = one.rows; others = one.others }
 
-  pub inside_start : (all : List Row) (s : State) → Inside HasTables (Towards table key all all) s s
-  inside_start all s = (refl, λ has. (towards_start all s.now, has))
-
   pub inside_rows : (xs rest all : List Row) (old mid new : State) → Inside HasTables (Towards table key (xs ++ rest) all) old mid → Inside HasTables (PutsRows table key xs) mid new → Inside HasTables (Towards table key rest all) old new
   inside_rows xs rest all old mid new so_far more = (
     more.0 ∙ so_far.0,
@@ -60,9 +54,6 @@ module _ (table : Table) (key : ℕ) where
 
   pub inside_one : (x : Row) (rest all : List Row) (old mid new : State) → Inside HasTables (Towards table key (x ∷ rest) all) old mid → Inside HasTables (Puts table key x) mid new → Inside HasTables (Towards table key rest all) old new
   inside_one x rest all old mid new so_far more = inside_rows (x ∷ []) rest all old mid new so_far (more.0, λ has. let did = more.1 has in (puts_one x mid.now new.now did.0, did.1))
-
-  pub inside_end : (all : List Row) (old new : State) → Inside HasTables (Towards table key [] all) old new → Inside HasTables (PutsRows table key all) old new
-  inside_end all old new done = (done.0, λ has. let did = done.1 has in (record { rows = did.0.rows; others = did.0.others }, did.1))
 
   -- one list after another
   pub inside_both : (xs ys : List Row) (a b c : State) → Inside HasTables (PutsRows table key xs) a b → Inside HasTables (PutsRows table key ys) b c → Inside HasTables (PutsRows table key (xs ++ ys)) a c

@@ -12,7 +12,6 @@ use Rattle.sqlite_schema.specs.declared.command.Conflict.TheVariants.{Replace}
 use Rattle.sqlite_schema.specs.declared.command.Source.TheVariants.{Values}
 use Rattle.sqlite_schema.specs.declared.program.Program.{Program}
 use Rattle.sqlite_rules.specs.Lists.{Has}
-use Rattle.sqlite_rules.specs.Keys.{conflicts}
 use Rattle.sqlite_rules.specs.Cast.{cast_row}
 use Rattle.sqlite_rules.specs.Edit.{with_rowid}
 use Rattle.sqlite_rules.specs.Action.{works}
@@ -22,7 +21,7 @@ use Rattle.sqlite.specs.Effect.{Database, Answers, value_rows}
 use Rattle.sqlite.specs.Rows.{Written, Task, Then, Gives, TriesEach, Counts, InsertsOr, count_of, nothing, mended, shown}
 use Rattle.sqlite.specs.Does.{Tally, Does, AtPlace, OnRows, Concludes}
 use Rattle.atl_store.specs.Sets.{table, IsKeyed}
-use Rattle.atl_store.proofs.EditLaws.{Swaps, Loses, tries, deletes, went, same_value}
+use Rattle.atl_store.proofs.EditLaws.{Loses, deletes, went, same_value}
 use Rattle.atl_store.proofs.ListLaws.{AreFound}
 use Rattle.atl_store.proofs.UpsertLaws.{update_query, clause_on, Upserted, upserts}
 use Rattle.sqlite_sql.specs.Program.{overlay}
@@ -44,46 +43,15 @@ module _ (schema : Schema) (tree : ℕ) (name : List ℕ) (columns : List Column
   abbrev task : Option ℕ → Row → Table → Task
   task limit params u = record { limit = limit; keys = Enforced; schema = schema; table = u; params = params }
 
-  abbrev Replaced : Row → Trees → Trees → Type 0
-  Replaced src db next = Swaps schema t (conflicts None schema.indexes t (made db src)) (cast_row t (made db src)) db next
-
-  each_replaces : (limit : Option ℕ) (params : Row) (src : Row) (top : ℤ) (db : Trees) (done : Written × ℤ) → IsKeyed (db tree)
-      → TriesEach (task limit params t) Replace [] (src ∷ []) top (nothing db) (Ok done) → Replaced src db done.0.trees
-  each_replaces limit params src top db done keyed h =
-      let one = went h in
-      let is : done.0.trees ≡ one.0.trees = ap (λ (x : Written × ℤ). x.0.trees) (same_value one.2) in
-      subst (Replaced src db) (sym is) (tries schema t unlinked limit params (made db src) db one.0 keyed one.1)
-
   counted : (limit : Option ℕ) (params : Row) (db : Trees) (done : Written × ℤ) (counter : Option Row) (w : Written)
       → Then (Counts (task limit params t) done.0.trees counter done.1) (λ next. Gives (record done.0 { trees = next })) (Ok w) → w.trees ≡ done.0.trees
   counted limit params db done counter w h = let counts = went h in ap (λ (x : Written). x.trees) (same_value counts.2) ∙ same_value counts.1
-
-  rows_replace : (limit : Option ℕ) (params : Row) (terms : List Term) (width : ℕ) (src : Row) (db : Trees) (w : Written) → IsKeyed (db tree)
-      → value_rows (params ++ []) width (length terms / width) terms ≡ src ∷ []
-      → InsertsOr (task limit params t) Replace [] (Values terms width) db (Ok w) → Replaced src db w.trees
-  rows_replace limit params terms width src db w keyed source h =
-      let rows = went h in
-      let counter = went rows.2 in
-      let each = went counter.2 in
-      let given : rows.0 ≡ src ∷ [] = rows.1.1 ∙ source in
-      subst (Replaced src db) (sym (counted limit params db each.0 counter.0 w each.2))
-      (each_replaces limit params src (count_of counter.0) db each.0 keyed (subst (λ l. TriesEach (task limit params t) Replace [] l (count_of counter.0) (nothing db) (Ok each.0)) given each.1))
 
   concluded : (limit : Option ℕ) (params : Row) (w : Written) (out : Tally × Database) → Concludes (task limit params t) mode None w (Ok out) → (out.1.trees ≡ w.trees) × (out.1.schema ≡ schema)
   concluded limit params w out h =
       let tested = went h in
       let shown = went tested.2 in
       (ap (λ (x : Tally × Database). x.1.trees) (same_value shown.2), ap (λ (x : Tally × Database). x.1.schema) (same_value shown.2))
-
-  pub replaces : (limit : Option ℕ) (params : Row) (text : List ℕ) (terms : List Term) (width : ℕ) (src : Row) (db : Trees) (out : Tally × Database) → IsKeyed (db tree)
-      → value_rows (params ++ []) width (length terms / width) terms ≡ src ∷ []
-      → Does limit mode params (record { schema = schema; trees = db }) text None (InsertOr at Replace (Values terms width) []) (Ok out)
-      → Replaced src db out.1.trees × (out.1.schema ≡ schema)
-  replaces limit params text terms width src db out keyed source h =
-      let did = subst (λ o. AtPlace (λ (u : Table). OnRows (task limit params u) mode None (InsertOr at Replace (Values terms width) []) db) o (Ok out)) place h in
-      let wrote = went did in
-      let end = concluded limit params wrote.0 out wrote.2 in
-      (subst (Replaced src db) (sym end.0) (rows_replace limit params terms width src db wrote.0 keyed source wrote.1), end.1)
 
   pub removes : (limit : Option ℕ) (params : Row) (text : List ℕ) (q : Program) (p : Row → Bool) (db : Trees) (out : Tally × Database) → IsKeyed (db tree)
       → ((rows : List Row) → Answers (record { schema = schema; trees = db }) q params rows → AreFound p (db tree) rows)

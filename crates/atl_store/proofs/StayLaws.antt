@@ -45,10 +45,6 @@ module _ (old new : State) (text : List ℕ) (settled : (db : Trees) → IsTrue 
     ];
   }
 
--- nothing was done
-pub stays_stops : (s : State) (text : List ℕ) (before after : Campaign) → Keeps s text before → Stops s.faults s text before after
-stays_stops s text before after keeps = record { still = λ up. keeps; closes = inl keeps.is_open; crash = λ db may. inl (keeps.crash db may) }
-
 -- what a founding that left off has spared, where the connection said that it was in no transaction
 pub leaves_spares : (old new : State) (auto : Bool) → LeavesOff old new → auto ≡ not old.in_transaction → IsTrue auto → (IsTrue auto → IsTrue old.is_open → old.now ≡ old.committed) → Spares old new
 leaves_spares old new auto off is said settled up =
