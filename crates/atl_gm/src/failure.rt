@@ -6,7 +6,6 @@ use std::io;
 use std::process::ExitCode;
 
 /// Why the program did not do what was asked.
-#[derive(Drop)]
 pub enum Failure {
     /// The words of the command line are bad, or ask for help.
     CommandLine(clap::Error),
@@ -21,6 +20,21 @@ pub enum Failure {
     Memory,
     /// Standard output can't be written.
     Output,
+}
+
+impl Drop for Failure {
+    fn drop(self) {
+        match self {
+            Failure::CommandLine(_) => {}
+            Failure::File => {}
+            Failure::World(_) => {}
+            Failure::Refused(_) => {}
+            Failure::NotEmpty => {}
+            Failure::Store => {}
+            Failure::Memory => {}
+            Failure::Output => {}
+        }
+    }
 }
 
 impl From<AllocError> for Failure {

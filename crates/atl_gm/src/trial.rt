@@ -1,6 +1,6 @@
 //! A first report, in memory.
 use crate::failure::Failure;
-use atl_service::{Answer, Command, Fault, Service, found};
+use atl_service::{Answer, Command, Fault, Refused, Service, found};
 use atl_tables::{Sequence, Text};
 use sqlite::{Connection, MemStore};
 use std::alloc::Global;
@@ -53,7 +53,7 @@ fn first_report(
 ) -> Result<Answer, Failure> {
     match found(alloc, conn, world_text, b"gm") {
         Ok(mut service) => Ok(reported(&mut service, join, report)),
-        Err(refused) => Err(Failure::from(refused.why)),
+        Err(Refused { why, conn: _ }) => Err(Failure::from(why)),
     }
 }
 

@@ -34,7 +34,7 @@ pub struct Entry {
 }
 
 /// What a text says for a month.
-#[derive(Drop, Debug)]
+#[derive(Debug)]
 pub struct Mailing {
     /// The number of the faction that it is of, from 1 to 9,999.
     pub faction: u32,
@@ -46,10 +46,34 @@ pub struct Mailing {
     pub faults: Sequence<FaultyLine>,
 }
 
+impl Drop for Mailing {
+    fn drop(self) {
+        let Mailing {
+            faction: _,
+            text: _,
+            entries: _,
+            faults: _,
+        } = self;
+    }
+}
+
 impl Mailing {
     ghost use Rattle.std.specs.Prelude.{true};
     ghost use Rattle.atl_tables.specs.Names.{name_ok};
     ghost use Rattle.atl_orders.specs.Orders.{name_in};
+
+    /// The bytes that were read, the orders, and what is wrong.
+    pub fn into_parts(self) -> (Sequence<u8>, Sequence<Entry>, Sequence<FaultyLine>)
+        ensures { result ≡ (self.text, self.entries, self.faults) }
+    {
+        let Mailing {
+            faction: _,
+            text,
+            entries,
+            faults,
+        } = self;
+        (text, entries, faults)
+    }
 
     /// A name in an order of this mailing: the part of the text that the span says, with `_` as a space where it is bare.
     #[tactic(auto, using(crate::proofs::NamingLaws::name_is_text))]
@@ -131,14 +155,35 @@ fn find_header(text: &[u8]) -> Result<Header<'_>, MailFault>
 }
 
 /// What the lines behind a header say.
-#[derive(Drop)]
 struct Body {
     entries: Sequence<Entry>,
     faults: Sequence<FaultyLine>,
 }
 
+impl Drop for Body {
+    fn drop(self) {
+        let Body {
+            entries: _,
+            faults: _,
+        } = self;
+    }
+}
+
 impl Body {
     ghost use Rattle.atl_orders.specs.Mailing.{body_entries};
+
+    /// The mailing of a faction whose lines say this.
+    fn into_mailing(self, faction: u32, text: Sequence<u8>) -> Mailing
+        ensures { result ≡ record { faction = faction; text = text; entries = self.entries; faults = self.faults } }
+    {
+        let Body { entries, faults } = self;
+        Mailing {
+            faction,
+            text,
+            entries,
+            faults,
+        }
+    }
 
     /// Notes what a line does.
     fn note(&mut self, line: u32, outcome: Outcome) -> Result<(), AllocError>
@@ -211,11 +256,7 @@ pub fn read_mailing(alloc: Global, world: &World, text: &[u8]) -> Result<Mailing
         return Err(MailFault::TooLong);
     }
     let header = find_header(text)?;
-    let Body { entries, faults } = read_body(alloc, world, text, header)?;
-    Ok(Mailing {
-        faction: header.faction,
-        text: Sequence::from_vec(Vec::from_slice(alloc, text)?),
-        entries,
-        faults,
-    })
+    let body = read_body(alloc, world, text, header)?;
+    let kept = Sequence::from_vec(Vec::from_slice(alloc, text)?);
+    Ok(body.into_mailing(header.faction, kept))
 }

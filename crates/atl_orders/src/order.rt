@@ -41,7 +41,7 @@ pub struct Span {
 
 /// An order. Its numbers are from 1 to 999,999,999; items, skills and kinds are by their numbers in the world. See
 /// docs/RULES.md, "Orders".
-#[derive(Drop, Debug)]
+#[derive(Debug)]
 pub enum Order {
     /// A new unit, by the alias that the mailing gives it.
     Form(u32),
@@ -72,6 +72,36 @@ pub enum Order {
     /// The item.
     Produce(u16),
     Work,
+}
+
+impl Drop for Order {
+    fn drop(self) {
+        match self {
+            Order::Form(_) => {}
+            Order::Name { what: _, name: _ } => {}
+            Order::Guard(_) => {}
+            Order::Enter(_) => {}
+            Order::Leave => {}
+            Order::Promote(_) => {}
+            Order::Give {
+                to: _,
+                amount: _,
+                item: _,
+            } => {}
+            Order::Pay { to: _, amount: _ } => {}
+            Order::Transfer { to: _, men: _ } => {}
+            Order::Tax => {}
+            Order::Recruit(_) => {}
+            Order::Quit(_) => {}
+            Order::Move(_) => {}
+            Order::Sail(_) => {}
+            Order::Build(_) => {}
+            Order::Teach(_) => {}
+            Order::Study(_) => {}
+            Order::Produce(_) => {}
+            Order::Work => {}
+        }
+    }
 }
 
 impl Order {

@@ -2,7 +2,6 @@
 use atl_tables::{Sequence, Text};
 
 /// What a faction sees of a campaign.
-#[derive(Drop)]
 pub struct View {
     /// The month last closed.
     pub month: u32,
@@ -14,8 +13,18 @@ pub struct View {
     pub regions: Sequence<RegionView>,
 }
 
+impl Drop for View {
+    fn drop(self) {
+        let View {
+            month: _,
+            faction: _,
+            name: _,
+            regions: _,
+        } = self;
+    }
+}
+
 /// A region that is seen.
-#[derive(Drop)]
 pub struct RegionView {
     pub number: u32,
     pub peasants: u32,
@@ -24,13 +33,34 @@ pub struct RegionView {
     pub units: Sequence<UnitView>,
 }
 
+impl Drop for RegionView {
+    fn drop(self) {
+        let RegionView {
+            number: _,
+            peasants: _,
+            money: _,
+            units: _,
+        } = self;
+    }
+}
+
 /// A unit that is seen.
-#[derive(Drop)]
 pub struct UnitView {
     pub number: u32,
     pub name: Text,
     pub men: u32,
     pub side: Side,
+}
+
+impl Drop for UnitView {
+    fn drop(self) {
+        let UnitView {
+            number: _,
+            name: _,
+            men: _,
+            side: _,
+        } = self;
+    }
 }
 
 /// Whose a unit is that is seen.

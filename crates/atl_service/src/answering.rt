@@ -160,12 +160,10 @@ fn mail<S: Alter>(
         Err(Unkept::Memory) => return Err(WriteFault::Memory),
     };
     let orders = mailing.entries.len();
-    campaign.set_mail(faction, mailing.text)?;
+    let (kept, _, faults) = mailing.into_parts();
+    campaign.set_mail(faction, kept)?;
     write_mail(conn, faction, text.as_slice())?;
-    Ok(Answer::Mailed {
-        orders,
-        faults: mailing.faults,
-    })
+    Ok(Answer::Mailed { orders, faults })
 }
 
 /// The answer to a command Report.

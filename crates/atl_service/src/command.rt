@@ -10,7 +10,6 @@ use sqlite::{Alter, Connection};
 use std::alloc::AllocError;
 
 /// What a club asks of its campaign. Names, pass texts and mailings are any bytes.
-#[derive(Drop)]
 pub enum Command {
     /// A faction joins under a name, with a pass text of its own and a dice word that picks its region.
     Join {
@@ -29,6 +28,27 @@ pub enum Command {
         faction: u32,
         pass: Sequence<u8>,
     },
+}
+
+impl Drop for Command {
+    fn drop(self) {
+        match self {
+            Command::Join {
+                name: _,
+                pass: _,
+                word: _,
+            } => {}
+            Command::Mail {
+                faction: _,
+                pass: _,
+                text: _,
+            } => {}
+            Command::Report {
+                faction: _,
+                pass: _,
+            } => {}
+        }
+    }
 }
 
 /// Why a command is refused. A refused command changes nothing.
@@ -91,7 +111,6 @@ pub enum Fault {
 }
 
 /// The answer to a command.
-#[derive(Drop)]
 pub enum Answer {
     /// The numbers of the faction that joined and of its unit.
     Joined {
@@ -108,6 +127,24 @@ pub enum Answer {
     Text(Text),
     Refused(Refusal),
     Fault(Fault),
+}
+
+impl Drop for Answer {
+    fn drop(self) {
+        match self {
+            Answer::Joined {
+                faction: _,
+                unit: _,
+            } => {}
+            Answer::Mailed {
+                orders: _,
+                faults: _,
+            } => {}
+            Answer::Text(_) => {}
+            Answer::Refused(_) => {}
+            Answer::Fault(_) => {}
+        }
+    }
 }
 
 /// Why no campaign is founded: the first of these that applies, or Memory at any point.

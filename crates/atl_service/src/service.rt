@@ -18,13 +18,24 @@ use std::marker::Model;
 
 /// A world and its campaign, in memory and in the tables of a connection. After a fault the service is closed: then every
 /// command is answered Closed.
-#[derive(Drop)]
 pub struct Service<S: Alter> {
     alloc: Global,
     conn: Connection<S>,
     world: World,
     campaign: Campaign,
     is_open: bool,
+}
+
+impl<S: Alter> Drop for Service<S> {
+    fn drop(self) {
+        let Service {
+            alloc: _,
+            conn: _,
+            world: _,
+            campaign: _,
+            is_open: _,
+        } = self;
+    }
 }
 
 impl<S: Alter> Model for Service<S> {

@@ -22,7 +22,6 @@ use std::marker::Model;
 
 /// A whole campaign, with a mark on each part that changed since it was last written. Two campaigns are equal where they
 /// are equal but for the marks.
-#[derive(Drop)]
 pub struct Campaign {
     alloc: Global,
     month: u32,
@@ -43,6 +42,29 @@ pub struct Campaign {
     row_marked: bool,
     // The numbers of the units of each region, in rising order.
     lists: Numbered<Numbers>,
+}
+
+impl Drop for Campaign {
+    fn drop(self) {
+        let Campaign {
+            alloc: _,
+            month: _,
+            pass: _,
+            next_faction: _,
+            next_unit: _,
+            next_structure: _,
+            factions: _,
+            regions: _,
+            units: _,
+            structures: _,
+            mail: _,
+            reports: _,
+            books: _,
+            amounts_marked: _,
+            row_marked: _,
+            lists: _,
+        } = self;
+    }
 }
 
 impl Model for Campaign {

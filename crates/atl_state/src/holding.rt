@@ -8,7 +8,6 @@ use std::marker::Model;
 
 /// A unit's name, men, money, guard flag, items and days of study. It holds at most 999,999 men, 999,999,999 of money
 /// and 999,999,999 of each item. See docs/RULES.md, "Limits".
-#[derive(Drop)]
 pub struct Holding {
     name: Text,
     men: u32,
@@ -18,6 +17,19 @@ pub struct Holding {
     items: Numbered<u32>,
     // The days of each skill over all men, where they are not 0.
     days: Numbered<u32>,
+}
+
+impl Drop for Holding {
+    fn drop(self) {
+        let Holding {
+            name: _,
+            men: _,
+            money: _,
+            guard: _,
+            items: _,
+            days: _,
+        } = self;
+    }
 }
 
 impl Model for Holding {

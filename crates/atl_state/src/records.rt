@@ -3,7 +3,6 @@ use crate::holding::Holding;
 use atl_tables::Text;
 
 /// A player's faction.
-#[derive(Drop)]
 pub struct Faction {
     pub number: u32,
     /// The name that it joined under, which no other faction ever takes.
@@ -15,8 +14,19 @@ pub struct Faction {
     pub gone: bool,
 }
 
+impl Drop for Faction {
+    fn drop(self) {
+        let Faction {
+            number: _,
+            joined_as: _,
+            name: _,
+            pass: _,
+            gone: _,
+        } = self;
+    }
+}
+
 /// People of one faction in one place.
-#[derive(Drop)]
 pub struct Unit {
     /// The number of its faction.
     pub faction: u32,
@@ -25,6 +35,17 @@ pub struct Unit {
     /// The number of the structure that it is inside, or 0.
     pub structure: u32,
     pub holding: Holding,
+}
+
+impl Drop for Unit {
+    fn drop(self) {
+        let Unit {
+            faction: _,
+            region: _,
+            structure: _,
+            holding: _,
+        } = self;
+    }
 }
 
 /// What a region holds.
