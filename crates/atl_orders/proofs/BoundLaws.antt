@@ -2,6 +2,7 @@
 use Rattle.std.proofs.Common.{◌≡◌, ℕ, ◌+◌, ◌<◌, Bool, true, false, cond, List, [], ◌∷◌, ◌++◌, length, codes, Option, Some, None, Result, Ok, Err, nat_lt, refl, subst, arith}
 use Rattle.std.specs.List.{All, list_all, flat_map}
 use Rattle.std.proofs.lemmas.List.Elements.{All-nil, All-cons, All-append}
+use Rattle.atl_orders.specs.Limits.{most_bytes, most_number, last_alias, last_faction}
 use Rattle.atl_tables.specs.Planet.{Planet}
 use Rattle.atl_orders.specs.declared.order.UnitRef.{UnitRef}
 use Rattle.atl_orders.specs.declared.order.UnitRef.TheVariants.{Number, Alias}
@@ -66,7 +67,7 @@ module _ (world : Planet) (given : ℕ → Bool) where
   forming_sound : (place : Place) (ws : List WordText) → IsPlace place → IsStep world (form_step place given ws)
   unfolding form_step
   forming_sound Nowhere ws h = (tt, tt)
-  forming_sound (At n) ws h = block_sound n (alias_at ws) h (count_holds 9999 BadAlias ws)
+  forming_sound (At n) ws h = block_sound n (alias_at ws) h (count_holds last_alias BadAlias ws)
   forming_sound (Forming parent alias) ws h = (tt, h)
   forming_sound (Skipping parent) ws h = (tt, h)
 
@@ -83,7 +84,7 @@ module _ (world : Planet) (given : ℕ → Bool) where
   keyword_sound : (place : Place) (k : Option Keyword) (ws : List WordText) → IsPlace place → IsStep world (keyword_step world place given k ws)
   unfolding keyword_step
   keyword_sound place None ws h = (tt, h)
-  keyword_sound place (Some keywords.Unit) ws h = unit_sound (number_at ws) (count_holds 999999999 BadNumber ws)
+  keyword_sound place (Some keywords.Unit) ws h = unit_sound (number_at ws) (count_holds most_number BadNumber ws)
   keyword_sound place (Some keywords.End) ws h = end_sound place h
   keyword_sound place (Some keywords.Form) ws h = forming_sound place ws h
   keyword_sound place (Some (keywords.Order verb)) ws h = (order_sound place (said_by world verb ws) h (said_sound world verb ws), h)
@@ -142,14 +143,14 @@ HoldsOf P (Ok x) = P x
 HoldsOf P (Err e) = Unit {0}
 
 abbrev IsHeaded : Headed → Type 0
-IsHeaded h = IsWithin 9999 h.faction × (0 < h.next)
+IsHeaded h = IsWithin last_faction h.faction × (0 < h.next)
 
-faction_within : (ws : List WordText) (n : ℕ) → faction_of ws ≡ Some n → IsWithin 9999 n
+faction_within : (ws : List WordText) (n : ℕ) → faction_of ws ≡ Some n → IsWithin last_faction n
 faction_within [] n h = cc
 faction_within (w ∷ []) n h = cc
-faction_within (w ∷ v ∷ ws) n h = from_one 9999 (number_of 9999 v.bytes) n (number_within 9999 v.bytes) h
+faction_within (w ∷ v ∷ ws) n h = from_one last_faction (number_of last_faction v.bytes) n (number_within last_faction v.bytes) h
 
-line_headed : (n : ℕ) (rest : List (List ℕ)) (f : Option ℕ) → ((k : ℕ) → f ≡ Some k → IsWithin 9999 k) → HoldsOf IsHeaded (header_line n rest f)
+line_headed : (n : ℕ) (rest : List (List ℕ)) (f : Option ℕ) → ((k : ℕ) → f ≡ Some k → IsWithin last_faction k) → HoldsOf IsHeaded (header_line n rest f)
 line_headed n rest None h = tt
 line_headed n rest (Some k) h = (h k refl, omega arith)
 
@@ -172,7 +173,7 @@ test_sound world false r h = h
 
 reading_sound : (world : Planet) (text : List ℕ) → HoldsOf (IsReading world) (reading world text)
 unfolding reading
-reading_sound world text = test_sound world (nat_lt 65536 (length text)) _ (behind_sound world (header_from 1 (lines text)) (header_sound (lines text) 1))
+reading_sound world text = test_sound world (nat_lt most_bytes (length text)) _ (behind_sound world (header_from 1 (lines text)) (header_sound (lines text) 1))
 
 pub readings_keep_bounds : ReadingsKeepBounds
 readings_keep_bounds world text r e = subst (HoldsOf (IsReading world)) e (reading_sound world text)

@@ -7,6 +7,7 @@ use Rattle.std.specs.Str.Parse.{digits_value}
 use Rattle.std.proofs.lemmas.Bool.Decides.{nat_tests}
 use Rattle.std.proofs.lemmas.List.Elements.{All-nil, All-cons}
 use Rattle.std.proofs.lemmas.List.Quantifiers.{position-Some}
+use Rattle.atl_orders.specs.Limits.{last_alias, most_number}
 use Rattle.atl_tables.specs.Names.{name_ok}
 use Rattle.atl_tables.specs.Planet.{Planet}
 use Rattle.atl_tables.specs.Lookup.{name_of, place_named}
@@ -83,17 +84,17 @@ unfolding unit_at
 unit_holds [] = tt
 unit_holds (w ∷ ws) =
     either _ (is_word (codes "NEW") w) _ _
-    (after (λ (x : Counted). IsAlias x.0) _ (alias_at ws) _ (count_holds 9999 BadAlias ws) (λ n h. h))
-    (after (λ (x : Counted). IsNumber x.0) _ (number_at (w ∷ ws)) _ (count_holds 999999999 BadNumber (w ∷ ws)) (λ n h. h))
+    (after (λ (x : Counted). IsAlias x.0) _ (alias_at ws) _ (count_holds last_alias BadAlias ws) (λ n h. h))
+    (after (λ (x : Counted). IsNumber x.0) _ (number_at (w ∷ ws)) _ (count_holds most_number BadNumber (w ∷ ws)) (λ n h. h))
 
 and_then : (unit : Result UnitRef LineFault) (units : Result (List UnitRef) LineFault) → Holds IsUnitRef unit → Holds (All IsUnitRef) units → Holds (All IsUnitRef) (and_then_units unit units)
 and_then unit units h k = after IsUnitRef _ unit _ h (λ u p. after (All IsUnitRef) _ units _ k (λ us q. All-cons IsUnitRef u us p q))
 
 numbered_holds : (w : WordText) → Holds IsUnitRef (numbered w)
-numbered_holds w = after IsNumber _ (or_fault BadNumber (not_zero (number_of 999999999 w.bytes))) _ (word_number 999999999 BadNumber w) (λ n h. h)
+numbered_holds w = after IsNumber _ (or_fault BadNumber (not_zero (number_of most_number w.bytes))) _ (word_number most_number BadNumber w) (λ n h. h)
 
 named_holds : (w : WordText) → Holds IsUnitRef (named_new w)
-named_holds w = after IsAlias _ (or_fault BadAlias (not_zero (number_of 9999 w.bytes))) _ (word_number 9999 BadAlias w) (λ n h. h)
+named_holds w = after IsAlias _ (or_fault BadAlias (not_zero (number_of last_alias w.bytes))) _ (word_number last_alias BadAlias w) (λ n h. h)
 
 units_hold : (ws : List WordText) → Holds (All IsUnitRef) (units_of ws)
 unfolding units_of
@@ -133,7 +134,7 @@ Sound world r = Holds (IsOrderOf world) r
 module _ (world : Planet) where
   form_sound : (ws : List WordText) → Sound world (form_at ws)
   unfolding form_at
-  form_sound ws = after _ (IsOrderOf world) (alias_at ws) _ (count_holds 9999 BadAlias ws) (λ n h. h)
+  form_sound ws = after _ (IsOrderOf world) (alias_at ws) _ (count_holds last_alias BadAlias ws) (λ n h. h)
 
   named_sound : (t : Bool) (what : NameKind) (bytes : List ℕ) → name_ok bytes ≡ t → Sound world (cond t (Ok (name what bytes)) (Err BadName))
   named_sound true what bytes h = h
@@ -155,7 +156,7 @@ module _ (world : Planet) where
 
   enter_sound : (ws : List WordText) → Sound world (enter_at ws)
   unfolding enter_at
-  enter_sound ws = after _ (IsOrderOf world) (number_at ws) _ (count_holds 999999999 BadNumber ws) (λ n h. h)
+  enter_sound ws = after _ (IsOrderOf world) (number_at ws) _ (count_holds most_number BadNumber ws) (λ n h. h)
 
   promote_sound : (ws : List WordText) → Sound world (promote_at ws)
   unfolding promote_at
@@ -165,28 +166,28 @@ module _ (world : Planet) where
   unfolding give_at
   give_sound ws =
       after _ (IsOrderOf world) (unit_at ws) _ (unit_holds ws) (λ to h.
-      after _ (IsOrderOf world) (number_at to.1) _ (count_holds 999999999 BadNumber to.1) (λ amount k.
+      after _ (IsOrderOf world) (number_at to.1) _ (count_holds most_number BadNumber to.1) (λ amount k.
       after _ (IsOrderOf world) (item_at world amount.1) _ (item_holds world amount.1) (λ item l. (h, k, l))))
 
   pay_sound : (ws : List WordText) → Sound world (pay_at ws)
   unfolding pay_at
   pay_sound ws =
       after _ (IsOrderOf world) (unit_at ws) _ (unit_holds ws) (λ to h.
-      after _ (IsOrderOf world) (number_at to.1) _ (count_holds 999999999 BadNumber to.1) (λ amount k. (h, k)))
+      after _ (IsOrderOf world) (number_at to.1) _ (count_holds most_number BadNumber to.1) (λ amount k. (h, k)))
 
   transfer_sound : (ws : List WordText) → Sound world (transfer_at ws)
   unfolding transfer_at
   transfer_sound ws =
       after _ (IsOrderOf world) (unit_at ws) _ (unit_holds ws) (λ to h.
-      after _ (IsOrderOf world) (number_at to.1) _ (count_holds 999999999 BadNumber to.1) (λ men k. (h, k)))
+      after _ (IsOrderOf world) (number_at to.1) _ (count_holds most_number BadNumber to.1) (λ men k. (h, k)))
 
   recruit_sound : (ws : List WordText) → Sound world (recruit_at ws)
   unfolding recruit_at
-  recruit_sound ws = after _ (IsOrderOf world) (number_at ws) _ (count_holds 999999999 BadNumber ws) (λ n h. h)
+  recruit_sound ws = after _ (IsOrderOf world) (number_at ws) _ (count_holds most_number BadNumber ws) (λ n h. h)
 
   quit_sound : (ws : List WordText) → Sound world (quit_at ws)
   unfolding quit_at
-  quit_sound ws = after _ (IsOrderOf world) (number_at ws) _ (count_holds 999999999 BadNumber ws) (λ n h. h)
+  quit_sound ws = after _ (IsOrderOf world) (number_at ws) _ (count_holds most_number BadNumber ws) (λ n h. h)
 
   move_sound : (ws : List WordText) → Sound world (move_at ws)
   unfolding move_at

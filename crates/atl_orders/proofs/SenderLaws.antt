@@ -1,6 +1,7 @@
 -- Who a mailing is of.
 use Rattle.std.proofs.Common.{◌≡◌, ◌≤◌, Bool, true, false, cond, List, ℕ, length, Result, Ok, Err, nat_lt, refl, ap, ◌∙◌, arith}
 use Rattle.std.proofs.lemmas.Bool.Decides.{nat_tests}
+use Rattle.atl_orders.specs.Limits.{most_bytes}
 use Rattle.atl_tables.specs.Planet.{Planet}
 use Rattle.atl_orders.specs.declared.fault.MailFault.{MailFault}
 use Rattle.atl_orders.specs.declared.fault.MailFault.TheVariants.{TooLong}
@@ -11,15 +12,15 @@ one_reading : (a b : Reading) → ◌≡◌ {A = Result Reading MailFault} (Ok a
 one_reading a b e = cc
 
 module _ (world : Planet) (text : List ℕ) (r : Reading) where
-  sent : (headed : Result Headed MailFault) → header_from 1 (lines text) ≡ headed → length text ≤ 65536 → behind_header world headed ≡ Ok r → IsMailingOf r.faction text
+  sent : (headed : Result Headed MailFault) → header_from 1 (lines text) ≡ headed → length text ≤ most_bytes → behind_header world headed ≡ Ok r → IsMailingOf r.faction text
   sent (Ok h) is short e = record { short = short; header = (h.next, h.rest, is ∙ ap (λ n. Ok (record { faction = n; next = h.next; rest = h.rest })) (ap (λ (x : Reading). x.faction) (one_reading _ r e))) }
   sent (Err fault) is short e = cc
 
-  tested : (long : Bool) → nat_lt 65536 (length text) ≡ long → cond long (Err TooLong) (behind_header world (header_from 1 (lines text))) ≡ Ok r → IsMailingOf r.faction text
+  tested : (long : Bool) → nat_lt most_bytes (length text) ≡ long → cond long (Err TooLong) (behind_header world (header_from 1 (lines text))) ≡ Ok r → IsMailingOf r.faction text
   tested true is e = cc
   tested false is e = sent (header_from 1 (lines text)) refl (grind (arith, nat_tests)) e
 
   -- a text that is read is a mailing of the faction that the reading tells
   pub read_is_mailing : reading world text ≡ Ok r → IsMailingOf r.faction text
   unfolding reading
-  read_is_mailing e = tested (nat_lt 65536 (length text)) refl e
+  read_is_mailing e = tested (nat_lt most_bytes (length text)) refl e

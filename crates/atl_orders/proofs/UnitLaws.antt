@@ -1,5 +1,6 @@
 -- Laws of lists of units.
 use Rattle.std.proofs.Common.{◌≡◌, ℕ, ◌+◌, ◌<◌, ◌≤◌, Bool, true, false, cond, List, [], ◌∷◌, ◌++◌, length, codes, Option, Some, None, Result, Ok, Err, refl, sym, ap, ◌∙◌, arith}
+use Rattle.atl_orders.specs.Limits.{last_alias, most_number}
 use Rattle.atl_orders.specs.declared.order.UnitRef.{UnitRef}
 use Rattle.atl_orders.specs.declared.order.UnitRef.TheVariants.{Number, Alias}
 use Rattle.atl_orders.specs.declared.fault.LineFault.{LineFault}
@@ -40,8 +41,8 @@ choose false a b c d p q = q
 -- the first unit, and the others
 pub units_step : (w : WordText) (ws : List WordText) → units_of (w ∷ ws) ≡ unit_at (w ∷ ws) >>= then_units
 unfolding units_of unit_at count_at
-units_step w [] = choose (is_word (codes "NEW") w) _ _ _ _ refl (number_step (not_zero (number_of 999999999 w.bytes)) [])
-units_step w (v ∷ ws) = choose (is_word (codes "NEW") w) _ _ _ _ (alias_step (not_zero (number_of 9999 v.bytes)) ws) (number_step (not_zero (number_of 999999999 w.bytes)) (v ∷ ws))
+units_step w [] = choose (is_word (codes "NEW") w) _ _ _ _ refl (number_step (not_zero (number_of most_number w.bytes)) [])
+units_step w (v ∷ ws) = choose (is_word (codes "NEW") w) _ _ _ _ (alias_step (not_zero (number_of last_alias v.bytes)) ws) (number_step (not_zero (number_of most_number w.bytes)) (v ∷ ws))
 
 started : (units : Result (List UnitRef) LineFault) (front : List UnitRef) (u : UnitRef) → with_units (front ++ u ∷ []) units ≡ with_units front (units >>= λ us. Ok (u ∷ us))
 started (Ok us) front u = ap (λ l. Ok l) (append_assoc front (u ∷ []) us)
@@ -77,9 +78,9 @@ no_unit rest u n h = cc
 pub rest_shorter : (ws : List WordText) (u : UnitRef) (rest : List WordText) → unit_at ws ≡ found u rest → length rest < length ws
 unfolding unit_at count_at
 rest_shorter [] u rest h = cc
-rest_shorter (w ∷ []) u rest h = let few : length rest ≤ 0 = chosen (is_word (codes "NEW") w) _ _ u rest 0 (no_unit rest u 0) (read_rest (not_zero (number_of 999999999 w.bytes)) BadNumber Number [] u rest) h in omega arith
+rest_shorter (w ∷ []) u rest h = let few : length rest ≤ 0 = chosen (is_word (codes "NEW") w) _ _ u rest 0 (no_unit rest u 0) (read_rest (not_zero (number_of most_number w.bytes)) BadNumber Number [] u rest) h in omega arith
 rest_shorter (w ∷ v ∷ ws) u rest h =
     let few : length rest ≤ length ws + 1 = chosen (is_word (codes "NEW") w) _ _ u rest (length ws + 1)
-    (λ e. omega (arith, read_rest (not_zero (number_of 9999 v.bytes)) BadAlias Alias ws u rest e))
-    (λ e. omega (arith, read_rest (not_zero (number_of 999999999 w.bytes)) BadNumber Number (v ∷ ws) u rest e)) h in
+    (λ e. omega (arith, read_rest (not_zero (number_of last_alias v.bytes)) BadAlias Alias ws u rest e))
+    (λ e. omega (arith, read_rest (not_zero (number_of most_number w.bytes)) BadNumber Number (v ∷ ws) u rest e)) h in
     omega arith

@@ -1,6 +1,7 @@
 -- What every order that is read keeps: its numbers are in their ranges, its names are names, and its things are the world's.
 use Rattle.std.specs.Prelude.{◌≡◌, ◌≤◌, ◌<◌, ℕ, true, List, [], ◌∷◌, length, Some, None, Ok}
 use Rattle.std.specs.List.{All}
+use Rattle.atl_orders.specs.Limits.{most_number, last_alias, last_faction}
 use Rattle.atl_tables.specs.Names.{name_ok}
 use Rattle.atl_tables.specs.Planet.{Planet}
 use Rattle.atl_orders.specs.declared.order.UnitRef.{UnitRef}
@@ -13,10 +14,10 @@ abbrev pub IsWithin : ℕ → ℕ → Type 0
 IsWithin most n = (1 ≤ n) × (n ≤ most)
 
 abbrev pub IsNumber : ℕ → Type 0
-IsNumber n = IsWithin 999999999 n
+IsNumber n = IsWithin most_number n
 
 abbrev pub IsAlias : ℕ → Type 0
-IsAlias alias = IsWithin 9999 alias
+IsAlias alias = IsWithin last_alias alias
 
 abbrev pub IsUnitRef : UnitRef → Type 0
 IsUnitRef (Number n) = IsNumber n
@@ -54,7 +55,7 @@ LinesRise n [] = Unit {0}
 LinesRise n (e ∷ es) = (n < e.line) × LinesRise e.line es
 
 pub record IsReading (world : Planet) (r : Reading) : Type 0 where
-  pub faction : IsWithin 9999 r.faction
+  pub faction : IsWithin last_faction r.faction
   pub entries : All (IsEntry world) r.entries
   pub lines : LinesRise 0 r.entries
 

@@ -1,3 +1,4 @@
+pub mod Limits
 pub mod Aliasing
 pub mod Faulting
 pub mod Words

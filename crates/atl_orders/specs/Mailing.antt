@@ -2,6 +2,7 @@
 use Rattle.std.specs.Prelude.{◌≡◌, ◌≤◌, ℕ, ◌+◌, Bool, List, [], ◌∷◌, length, map, codes, Option, Some, None, Result, Ok, Err, nat_lt, if◌then◌else◌}
 use Rattle.std.specs.List.{flat_map}
 use Rattle.std.specs.Option.{option_copied}
+use Rattle.atl_orders.specs.Limits.{last_faction, most_bytes}
 use Rattle.atl_tables.specs.Planet.{Planet}
 use Rattle.atl_orders.specs.declared.order.UnitRef.{UnitRef}
 use Rattle.atl_orders.specs.declared.reading.Place.{Place}
@@ -49,7 +50,7 @@ fault_of (n, says unit said) = []
 abbrev pub faction_of : List WordText → Option ℕ
 faction_of [] = None
 faction_of (w ∷ []) = None
-faction_of (w ∷ v ∷ ws) = not_zero (number_of 9999 v.bytes)
+faction_of (w ∷ v ∷ ws) = not_zero (number_of last_faction v.bytes)
 
 -- The faction, and the lines behind the header with the number of their first.
 pub record Headed : Type 0 where
@@ -85,12 +86,12 @@ behind_header world (Ok h) = Ok (record {
 -- the reading of a text
 unfoldable pub reading : Planet → List ℕ → Result Reading MailFault
 reading world text =
-    if nat_lt 65536 (length text) then Err TooLong
+    if nat_lt most_bytes (length text) then Err TooLong
     else behind_header world (header_from 1 (lines text))
 
 -- a mailing of a faction: it is short enough, and its header names the faction
 pub record IsMailingOf (faction : ℕ) (text : List ℕ) : Type 0 where
-  pub short : length text ≤ 65536
+  pub short : length text ≤ most_bytes
   pub header : (next : ℕ) × (rest : List (List ℕ)) × (header_from 1 (lines text) ≡ Ok (record { faction = faction; next = next; rest = rest }))
 
 -- ---- what the code answers

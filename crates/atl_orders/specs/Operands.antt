@@ -1,5 +1,6 @@
 -- What the words behind a keyword are read as.
 use Rattle.std.specs.Prelude.{◌≡◌, ℕ, List, [], ◌∷◌, ◌++◌, codes, Option, Some, None, Result, Ok, Err, ◌==◌, if◌then◌else◌}
+use Rattle.atl_orders.specs.Limits.{last_alias, most_number}
 use Rattle.atl_tables.specs.Planet.{Planet}
 use Rattle.atl_tables.specs.Lookup.{item_named, skill_named, kind_named}
 use Rattle.atl_orders.specs.declared.order.UnitRef.{UnitRef}
@@ -47,10 +48,10 @@ count_at most fault ws = do
   Ok (n, w.1)
 
 abbrev pub number_at : List WordText → Result (ℕ × List WordText) LineFault
-number_at ws = count_at 999999999 BadNumber ws
+number_at ws = count_at most_number BadNumber ws
 
 abbrev pub alias_at : List WordText → Result (ℕ × List WordText) LineFault
-alias_at ws = count_at 9999 BadAlias ws
+alias_at ws = count_at last_alias BadAlias ws
 
 -- a unit by its number, or NEW and an alias
 unfoldable pub unit_at : List WordText → Result (UnitRef × List WordText) LineFault
@@ -93,10 +94,10 @@ direction_at ws = do
 
 -- a unit by the word of its number, and by the word behind NEW
 abbrev pub numbered : WordText → Result UnitRef LineFault
-numbered w = or_fault BadNumber (not_zero (number_of 999999999 w.bytes)) >>= λ n. Ok (Number n)
+numbered w = or_fault BadNumber (not_zero (number_of most_number w.bytes)) >>= λ n. Ok (Number n)
 
 abbrev pub named_new : WordText → Result UnitRef LineFault
-named_new w = or_fault BadAlias (not_zero (number_of 9999 w.bytes)) >>= λ n. Ok (Alias n)
+named_new w = or_fault BadAlias (not_zero (number_of last_alias w.bytes)) >>= λ n. Ok (Alias n)
 
 -- one unit more, in front
 abbrev pub and_then_units : Result UnitRef LineFault → Result (List UnitRef) LineFault → Result (List UnitRef) LineFault

@@ -1,10 +1,9 @@
 //! The aliases that a mailing has given.
-ghost use Rattle.std.specs.Prelude.{◌≡◌, ◌≤◌, ℕ, false, vec_len, slice_index_or, IfOk};
+ghost use Rattle.std.specs.Prelude.{◌≡◌, ◌≤◌, ◌+◌, ℕ, false, vec_len, slice_index_or, IfOk};
+ghost use Rattle.atl_orders.specs.Limits.{last_alias};
 
+use crate::limits::LAST_ALIAS;
 use std::alloc::{AllocError, Global};
-
-/// The most that an alias may be.
-const LAST: usize = 9_999;
 
 /// So many times false.
 fn cleared(alloc: Global, count: usize) -> Result<Vec<bool>, AllocError>
@@ -19,7 +18,7 @@ fn cleared(alloc: Global, count: usize) -> Result<Vec<bool>, AllocError>
 #[derive(Drop)]
 pub struct Aliases {
     given: Vec<bool>,
-    ghost each: { vec_len given ≡ 10000 },
+    ghost each: { vec_len given ≡ last_alias + 1 },
 }
 
 impl Aliases {
@@ -30,19 +29,19 @@ impl Aliases {
         ensures { IfOk result (λ made. given_by made ≡ no_alias) }
     {
         Ok(Aliases {
-            given: cleared(alloc, LAST + 1)?,
+            given: cleared(alloc, LAST_ALIAS as usize + 1)?,
         })
     }
 
     pub fn contains(&self, alias: u32) -> bool
-        requires { alias ≤ 9999 }
+        requires { alias ≤ last_alias }
         ensures { result ≡ given_by self.now alias }
     {
         self.given[alias as usize]
     }
 
     pub fn add(&mut self, alias: u32)
-        requires { alias ≤ 9999 }
+        requires { alias ≤ last_alias }
         ensures { given_by self.new ≡ with_alias (given_by self.old) alias }
     {
         self.given[alias as usize] = true;

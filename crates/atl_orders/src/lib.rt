@@ -3,6 +3,7 @@
 
 mod aliases;
 mod fault;
+mod limits;
 mod lines;
 mod mailing;
 mod operands;
@@ -14,6 +15,7 @@ mod verb;
 mod words;
 
 pub use fault::{FaultyLine, LineFault, MailFault};
+pub use limits::{LAST_ALIAS, LAST_FACTION, MOST_BYTES, MOST_NUMBER};
 pub use mailing::{Entry, Mailing, read_mailing};
 pub use order::{Direction, NameKind, Order, Span, UnitRef};
 pub use rules::{readings_keep_bounds, rules_are_the_reading};

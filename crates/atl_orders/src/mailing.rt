@@ -4,6 +4,7 @@ ghost use Rattle.std.specs.List.{flat_map, slice_range};
 ghost use Rattle.atl_tables.specs.Lookup.{name_of};
 ghost use Rattle.std.specs.Option.{option_copied};
 ghost use Rattle.atl_orders.specs.declared.reading.Place.TheVariants.{Nowhere};
+ghost use Rattle.atl_orders.specs.Limits.{most_bytes};
 ghost use Rattle.atl_orders.specs.Aliasing.{no_alias};
 ghost use Rattle.atl_orders.specs.Words.{words, EndsWith};
 ghost use Rattle.atl_orders.specs.Lines.{lines, left_size};
@@ -12,6 +13,7 @@ ghost use Rattle.atl_orders.specs.Mailing.{faction_of, header_from, effects, ent
 
 use crate::aliases::Aliases;
 use crate::fault::{FaultyLine, MailFault};
+use crate::limits::{LAST_FACTION, MOST_BYTES};
 use crate::lines::next_line;
 use crate::order::{Order, Span, UnitRef};
 use crate::reading::{Outcome, Place, read_line};
@@ -19,9 +21,6 @@ use crate::words::{Cursor, begins, next_word, number};
 use atl_tables::lookup::letter_of;
 use atl_tables::{Sequence, Text, World};
 use std::alloc::{AllocError, Global};
-
-/// The most bytes that a mailing may have.
-pub const MOST_BYTES: usize = 65_536;
 
 /// An order for a unit.
 #[derive(Drop, Debug)]
@@ -112,7 +111,7 @@ fn faction_of(line: &[u8]) -> Option<u32>
 {
     let (_, rest) = next_word(line)?;
     let (word, _) = next_word(rest)?;
-    match number(word.bytes, 9999) {
+    match number(word.bytes, LAST_FACTION) {
         Some(n) if n != 0 => Some(n),
         _ => None,
     }
@@ -129,10 +128,10 @@ struct Header<'a> {
 /// The first header of a text.
 #[tactic(auto, using(crate::proofs::WordLaws::ends_further, crate::proofs::WordLaws::ends_with_all), unfolding(crate::specs::Mailing::header_from))]
 fn find_header(text: &[u8]) -> Result<Header<'_>, MailFault>
-    requires { length text.now ≤ 65536 }
+    requires { length text.now ≤ most_bytes }
     ensures exact { Reads headed result (header_from 1 (lines text.now)) }
     ensures rest { IfOk result (λ h. IfSome (option_copied h.rest) (EndsWith text.now)) }
-    ensures small { IfOk result (λ h. h.next + left_size (option_copied h.rest) ≤ 65538) }
+    ensures small { IfOk result (λ h. h.next + left_size (option_copied h.rest) ≤ most_bytes + 2) }
 {
     let mut rest = Some(text);
     let mut number = 1;

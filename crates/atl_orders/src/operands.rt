@@ -1,10 +1,12 @@
 //! What the words behind a keyword are read as. Each call reads the words at the start of the rest of a line, and
 //! answers the first fault from left to right.
-ghost use Rattle.std.specs.Prelude.{◌≡◌, ◌<◌, ◌≤◌, IfOk};
+ghost use Rattle.std.specs.Prelude.{◌≡◌, ◌≤◌, IfOk};
+ghost use Rattle.atl_orders.specs.Limits.{most_number, last_alias};
 ghost use Rattle.atl_orders.specs.Words.{words, word_text, StandsIn, EndsWith};
 ghost use Rattle.atl_orders.specs.Operands.{Gives, word_at, count_at, number_at, alias_at, unit_at, item_at, skill_at, kind_at, direction_of, direction_at, units_of};
 
 use crate::fault::LineFault;
+use crate::limits::{LAST_ALIAS, MOST_NUMBER};
 use crate::order::{Direction, UnitRef};
 use crate::words::{Word, is_same, next_word, number};
 use atl_tables::{Sequence, World};
@@ -22,7 +24,7 @@ pub fn word_at(line: &[u8]) -> Result<(Word<'_>, &[u8]), LineFault>
 /// The next word as a number from 1 up to the most, else this fault.
 #[tactic(auto, unfolding(crate::specs::Operands::count_at))]
 fn count_at(line: &[u8], most: u32, fault: LineFault) -> Result<(u32, &[u8]), LineFault>
-    requires { most < 1000000000 }
+    requires { most ≤ most_number }
     ensures count { Gives (λ x. (x.0, words x.1.now)) result (count_at most fault (words line.now)) }
     ensures within { IfOk result (λ x. x.0 ≤ most) }
 {
@@ -37,15 +39,15 @@ fn count_at(line: &[u8], most: u32, fault: LineFault) -> Result<(u32, &[u8]), Li
 pub fn number_at(line: &[u8]) -> Result<(u32, &[u8]), LineFault>
     ensures { Gives (λ x. (x.0, words x.1.now)) result (number_at (words line.now)) }
 {
-    count_at(line, 999_999_999, LineFault::BadNumber)
+    count_at(line, MOST_NUMBER, LineFault::BadNumber)
 }
 
 /// The next word as an alias, from 1 to 9,999.
 pub fn alias_at(line: &[u8]) -> Result<(u32, &[u8]), LineFault>
     ensures alias { Gives (λ x. (x.0, words x.1.now)) result (alias_at (words line.now)) }
-    ensures within { IfOk result (λ x. x.0 ≤ 9999) }
+    ensures within { IfOk result (λ x. x.0 ≤ last_alias) }
 {
-    count_at(line, 9999, LineFault::BadAlias)
+    count_at(line, LAST_ALIAS, LineFault::BadAlias)
 }
 
 /// The next words as a unit: a number, or NEW and an alias.

@@ -3,6 +3,7 @@
 ghost use Rattle.std.specs.Prelude.{◌≡◌, ◌≤◌, ◌<◌, ◌∷◌, [], MatchOption, IfSome, length, slice_index, false};
 ghost use Rattle.std.specs.List.{position_or_len};
 ghost use Rattle.std.specs.Str.{str_eq_ignore_ascii_case};
+ghost use Rattle.atl_orders.specs.Limits.{most_number};
 ghost use Rattle.atl_orders.specs.Words.{is_quote, is_blank, ends_word, words, word_text, begins, number_of, StandsIn, EndsWith};
 
 /// A word of a line.
@@ -145,7 +146,7 @@ pub fn begins(line: &[u8], name: &[u8]) -> bool
 
 /// The number that a word writes, if it is at most this one.
 pub fn number(bytes: &[u8], most: u32) -> Option<u32>
-    requires { most < 1000000000 }
+    requires { most ≤ most_number }
     ensures { result ≡ number_of most bytes.now }
 {
     let most = u64::from(most);

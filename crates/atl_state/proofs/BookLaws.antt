@@ -6,12 +6,13 @@ use Rattle.std.proofs.lemmas.List.{get_or-set_same, get_or-set_other, get_or_pas
 use Rattle.std.proofs.lemmas.List.Elements.{All-replicate}
 use Rattle.std.proofs.lemmas.Bool.{cases_eq, cases_lt}
 use Rattle.std.proofs.lemmas.Bool.Decides.{nat_tests}
+use Rattle.atl_state.specs.Limits.{entry_count}
 use Rattle.atl_state.specs.declared.books.Entry.{Entry}
 use Rattle.atl_state.specs.declared.books.Entry.TheVariants.{Founding, Joining, Income, Wages, Recruiting, Study, Upkeep, Lost, Births, Starved, Left, Made, Used}
 use Rattle.atl_state.specs.declared.books.Thing.{Thing}
 use Rattle.atl_state.specs.Books.{entry_place, thing_place, row_of, amount_in, with_booked, added_up, booked, no_amounts, IsGrid, IsWithin, IsSmall}
 
-pub entry_small : (e : Entry) → entry_place e < 13
+pub entry_small : (e : Entry) → entry_place e < entry_count
 entry_small Founding = omega arith
 entry_small Joining = omega arith
 entry_small Income = omega arith
@@ -51,7 +52,7 @@ booked-with_booked things books e u n g h t =
     let j = thing_place u in
     let l = length books in
     let inside : j < length books = omega (arith, g.rows) in
-    let wide : length (row_of books u) ≡ 13 = g.wide j [] inside in
+    let wide : length (row_of books u) ≡ entry_count = g.wide j [] inside in
     let new = set (row_of books u) (entry_place e) (amount_in books e u +ℤ n) in
     elim (cases_eq i j) [
       | inl same ↦
@@ -86,13 +87,13 @@ IsGrid-with_booked things books e u n g =
 get_or-replicate_same : {A : Type 0} (n i : ℕ) (a : A) → get_or (replicate n a) i a ≡ a
 get_or-replicate_same n i a = elim (cases_lt i n) [ inl h ↦ get_or-replicate n i a a h | inr h ↦ get_or_past (replicate n a) i a (rw length-replicate h) ]
 
-no_row : (i : ℕ) → get_or (replicate 13 (pos 0)) i (pos 0) ≡ pos 0
-no_row i = get_or-replicate_same 13 i (pos 0)
+no_row : (i : ℕ) → get_or (replicate entry_count (pos 0)) i (pos 0) ≡ pos 0
+no_row i = get_or-replicate_same entry_count i (pos 0)
 
-nothing_in : (P : List ℤ → Type 0) (things i : ℕ) → P (replicate 13 (pos 0)) → P [] → P (get_or (no_amounts things) i [])
+nothing_in : (P : List ℤ → Type 0) (things i : ℕ) → P (replicate entry_count (pos 0)) → P [] → P (get_or (no_amounts things) i [])
 nothing_in P things i full empty =
     elim (cases_lt i things) [
-      | inl h ↦ rw (get_or-replicate things i (replicate 13 (pos 0)) [] h) full
+      | inl h ↦ rw (get_or-replicate things i (replicate entry_count (pos 0)) [] h) full
       | inr h ↦ let past : things ≤ i = h in rw (get_or_past (no_amounts things) i [] (rw length-replicate past)) empty
     ]
 
@@ -103,7 +104,7 @@ pub booked-no_amounts : (things : ℕ) (t : Thing) → booked (no_amounts things
 booked-no_amounts things t = nothing_in (λ row. added_up row ≡ pos 0) things (thing_place t) refl refl
 
 pub IsGrid-no_amounts : (things : ℕ) → IsGrid things (no_amounts things)
-IsGrid-no_amounts things = record { rows = length-replicate things (replicate 13 (pos 0)); wide = All-replicate (λ (row : List ℤ). length row ≡ 13) things (replicate 13 (pos 0)) refl }
+IsGrid-no_amounts things = record { rows = length-replicate things (replicate entry_count (pos 0)); wide = All-replicate (λ (row : List ℤ). length row ≡ entry_count) things (replicate entry_count (pos 0)) refl }
 
 -- ---- how great the amounts are
 
@@ -119,7 +120,7 @@ pub amount-with_booked : (things : ℕ) (books : List (List ℤ)) (e : Entry) (u
     → (amount_in (with_booked books e u n) f t ≡ amount_in books f t +ℤ n) ⊎ (amount_in (with_booked books e u n) f t ≡ amount_in books f t)
 amount-with_booked things books e u n g h f t =
     let inside : thing_place u < length books = omega (arith, g.rows) in
-    let wide : length (row_of books u) ≡ 13 = g.wide (thing_place u) [] inside in
+    let wide : length (row_of books u) ≡ entry_count = g.wide (thing_place u) [] inside in
     let new = amount_in books e u +ℤ n in
     elim (either_at books (thing_place u) (thing_place t) (set (row_of books u) (entry_place e) new) [] inside) [
       | inl row ↦

@@ -8,6 +8,8 @@ use Rattle.std.specs.FinMap.{FinMap, get, insert, len, get-empty, get-insert, le
 use Rattle.std.proofs.lemmas.Int.{ints}
 use Rattle.std.proofs.lemmas.Bool.Decides.{nat_tests}
 use Rattle.atl_tables.specs.Planet.{Planet, IsWorld}
+use Rattle.atl_orders.specs.Limits.{last_faction}
+use Rattle.atl_state.specs.Limits.{most_units, last_unit}
 use Rattle.atl_state.specs.declared.books.Entry.TheVariants.{Joining}
 use Rattle.atl_state.specs.declared.books.Thing.{Thing}
 use Rattle.atl_state.specs.declared.books.Thing.TheVariants.{Money, People, Item}
@@ -102,10 +104,10 @@ still_there m k q v x free is =
 active_joined : (c : State) (member : Faction) (n : ℕ) → get c.factions c.next_faction ≡ None → IsActive c n → (f : Faction) × (get (insert c.factions c.next_faction member) n ≡ Some f) × (f.gone ≡ false)
 active_joined c member n free (f, there, stays) = (f, still_there c.factions c.next_faction n member f free there, stays)
 
-few : (f u n : ℕ) → ((nat_le 9999 f || nat_le 10000 u) || nat_lt 999999999 n) ≡ false → (f < 9999) × (u < 10000) × (n ≤ 999999999)
+few : (f u n : ℕ) → ((nat_le last_faction f || nat_le most_units u) || nat_lt last_unit n) ≡ false → (f < last_faction) × (u < most_units) × (n ≤ last_unit)
 few f u n h = (grind (arith, nat_tests), grind (arith, nat_tests), grind (arith, nat_tests))
 
-pub room : (c : State) → is_full c ≡ false → (len c.factions < 9999) × (len c.units < 10000) × (c.next_unit ≤ 999999999)
+pub room : (c : State) → is_full c ≡ false → (len c.factions < last_faction) × (len c.units < most_units) × (c.next_unit ≤ last_unit)
 room c h = few (len c.factions) (len c.units) c.next_unit h
 
 pub joined-good : (w : Planet) (name pass : List ℕ) (word : ℕ) (c : State) → is_full c ≡ false → IsWorld w → IsGood w c → IsGood w (joined w name pass word c)

@@ -1,5 +1,6 @@
 -- The books, as rows of signed amounts: a row for each thing, with a place for each entry.
 use Rattle.std.specs.Prelude.{◌≡◌, length, All, ℕ, ℤ, pos, negsuc, ◌+ℤ◌, ◌≤ℤ◌, ◌+◌, ◌^◌, List, [], ◌∷◌, slice_index_or, slice_set, replicate}
+use Rattle.atl_state.specs.Limits.{entry_count}
 use Rattle.atl_state.specs.declared.books.Entry.{Entry}
 use Rattle.atl_state.specs.declared.books.Entry.TheVariants.{Founding, Joining, Income, Wages, Recruiting, Study, Upkeep, Lost, Births, Starved, Left, Made, Used}
 use Rattle.atl_state.specs.declared.books.Thing.{Thing}
@@ -39,7 +40,7 @@ with_booked books e t n = slice_set books (thing_place t) (slice_set (row_of boo
 
 -- books of so many things with nothing in them
 abbrev pub no_amounts : ℕ → List (List ℤ)
-no_amounts things = replicate things (replicate 13 (pos 0))
+no_amounts things = replicate things (replicate entry_count (pos 0))
 
 -- all that is booked of a thing
 abbrev pub added_up : List ℤ → ℤ
@@ -52,7 +53,7 @@ booked books t = added_up (row_of books t)
 -- books of so many things, with a place for each entry
 pub record IsGrid (things : ℕ) (books : List (List ℤ)) : Type 0 where
   pub rows : length books ≡ things
-  pub wide : All (λ row. length row ≡ 13) books
+  pub wide : All (λ row. length row ≡ entry_count) books
 
 -- an amount with room for another
 abbrev pub IsSmall : ℤ → Type 0

@@ -2,7 +2,9 @@
 use Rattle.std.specs.Prelude.{◌≡◌, ◌≤◌, ◌+◌, ◌*◌, ℕ, List, false, Some, None}
 use Rattle.std.specs.FinMap.{get, len}
 use Rattle.atl_tables.specs.Planet.{Planet}
+use Rattle.atl_orders.specs.Limits.{last_faction}
 use Rattle.atl_orders.specs.Mailing.{IsMailingOf}
+use Rattle.atl_state.specs.Limits.{last_month, most_units, last_unit}
 use Rattle.atl_state.specs.declared.books.Entry.{Entry}
 use Rattle.atl_state.specs.declared.books.Thing.{Thing}
 use Rattle.atl_state.specs.declared.records.Faction.{Faction}
@@ -19,13 +21,13 @@ abbrev pub IsActive : State → ℕ → Type 0
 IsActive c n = (f : Faction) × (get c.factions n ≡ Some f) × (f.gone ≡ false)
 
 pub record IsGood (w : Planet) (c : State) : Type 0 where
-  pub month : c.month ≤ 9999
-  pub few_factions : len c.factions ≤ 9999
-  pub few_units : len c.units ≤ 10000
+  pub month : c.month ≤ last_month
+  pub few_factions : len c.factions ≤ last_faction
+  pub few_units : len c.units ≤ most_units
   pub few_regions : len c.regions ≤ 2500
   pub next_faction : c.next_faction ≡ len c.factions + 1
   pub next_unit_least : 1 ≤ c.next_unit
-  pub next_unit_most : c.next_unit ≤ 1000000000
+  pub next_unit_most : c.next_unit ≤ last_unit + 1
   pub numbered : (n : ℕ) (f : Faction) → get c.factions n ≡ Some f → f.number ≡ n
   pub factions_new : (n : ℕ) → c.next_faction ≤ n → get c.factions n ≡ None
   pub units_new : (n : ℕ) → c.next_unit ≤ n → get c.units n ≡ None

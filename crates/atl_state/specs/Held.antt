@@ -3,6 +3,7 @@ use Rattle.std.specs.Prelude.{◌≡◌, ◌≤◌, List, ℕ, Bool, refl, unwra
 use Rattle.std.specs.Ordering.{nat_cmp}
 use Rattle.std.specs.Coded.{Coded, code_by, coded×, coded_ℕ, coded_list, coded_bool}
 use Rattle.std.specs.FinMap.{FinMap, code, get}
+use Rattle.atl_state.specs.Limits.{men_limit, holding_limit}
 
 pub record Held : Type 0 where
   pub name : List ℕ
@@ -26,10 +27,10 @@ amount_of items item = unwrap_or (get items item) 0
 
 -- an item that is listed is held, up to the holding limit
 abbrev pub AreAmounts : FinMap nat_cmp ℕ → Type 0
-AreAmounts items = (item amount : ℕ) → get items item ≡ Some amount → (1 ≤ amount) × (amount ≤ 999999999)
+AreAmounts items = (item amount : ℕ) → get items item ≡ Some amount → (1 ≤ amount) × (amount ≤ holding_limit)
 
 -- the limits of a unit's men, money and items
 pub record IsHolding (h : Held) : Type 0 where
-  pub men : h.men ≤ 999999
-  pub money : h.money ≤ 999999999
+  pub men : h.men ≤ men_limit
+  pub money : h.money ≤ holding_limit
   pub items : AreAmounts h.items

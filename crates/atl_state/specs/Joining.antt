@@ -5,6 +5,8 @@ use Rattle.std.specs.Fmt.{decimal}
 use Rattle.std.specs.Cmp.Lexicographic.{pointwise}
 use Rattle.std.specs.FinMap.{insert, entries, len, empty}
 use Rattle.atl_tables.specs.Planet.{Planet, land_of}
+use Rattle.atl_orders.specs.Limits.{last_faction}
+use Rattle.atl_state.specs.Limits.{most_units, last_unit}
 use Rattle.atl_state.specs.declared.books.Entry.TheVariants.{Joining}
 use Rattle.atl_state.specs.declared.books.Thing.TheVariants.{Money, People}
 use Rattle.atl_state.specs.declared.records.Faction.{Faction}
@@ -20,7 +22,7 @@ name_taken c name = list_any (λ e. pointwise nat_eq e.1.joined_as name) (entrie
 
 -- no faction, or no unit, more can come
 abbrev pub is_full : State → Bool
-is_full c = (nat_le 9999 (len c.factions) || nat_le 10000 (len c.units)) || nat_lt 999999999 c.next_unit
+is_full c = (nat_le last_faction (len c.factions) || nat_le most_units (len c.units)) || nat_lt last_unit c.next_unit
 
 -- where a faction begins: the land region that the word picks, counted from 0 by number
 abbrev pub home_of : Planet → ℕ → ℕ

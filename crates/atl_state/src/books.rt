@@ -2,9 +2,11 @@
 ghost use Rattle.std.specs.Prelude.{◌≡◌, ◌<◌, ◌+ℤ◌, IfOk, length, replicate, false};
 ghost use Rattle.std.specs.Int.{w64};
 ghost use Rattle.std.specs.Int.RustNames.{FitsSigned};
+ghost use Rattle.atl_state.specs.Limits.{entry_count};
 ghost use Rattle.atl_state.specs.Books.{entry_place, thing_place, amount_in, with_booked, no_amounts};
 ghost use Rattle.atl_state.specs.Marks.{amount_marked};
 
+use crate::limits::ENTRY_COUNT;
 use std::alloc::{AllocError, Global};
 use std::marker::Model;
 
@@ -37,7 +39,7 @@ pub enum Thing {
 /// The place of an entry in a row.
 pub(crate) fn entry_place(entry: Entry) -> usize
     ensures place { result ≡ entry_place entry }
-    ensures small { result < 13 }
+    ensures small { result < entry_count }
 {
     match entry {
         Entry::Founding => 0,
@@ -70,7 +72,7 @@ pub(crate) fn thing_place(thing: Thing) -> usize
 /// A row of amounts for each thing.
 #[derive(Drop)]
 pub struct Books {
-    rows: Vec<[i64; 13]>,
+    rows: Vec<[i64; ENTRY_COUNT]>,
 }
 
 impl Model for Books {
@@ -88,7 +90,7 @@ impl Books {
     {
         let mut rows = Vec::new(alloc);
         for _made in 0..things {
-            rows.push([0; 13])?;
+            rows.push([0; ENTRY_COUNT])?;
         }
         Ok(Books { rows })
     }
@@ -121,7 +123,7 @@ impl Books {
 /// For each amount whether it changed.
 #[derive(Drop)]
 pub(crate) struct AmountMarks {
-    rows: Vec<[bool; 13]>,
+    rows: Vec<[bool; ENTRY_COUNT]>,
 }
 
 impl Model for AmountMarks {
@@ -135,11 +137,11 @@ impl Model for AmountMarks {
 impl AmountMarks {
     /// Nothing marked.
     pub(crate) fn new(alloc: Global, things: usize) -> Result<AmountMarks, AllocError>
-        ensures { IfOk result (λ made. made ≡ replicate things (replicate 13 false)) }
+        ensures { IfOk result (λ made. made ≡ replicate things (replicate entry_count false)) }
     {
         let mut rows = Vec::new(alloc);
         for _made in 0..things {
-            rows.push([false; 13])?;
+            rows.push([false; ENTRY_COUNT])?;
         }
         Ok(AmountMarks { rows })
     }

@@ -1,6 +1,7 @@
 //! What a unit holds.
 ghost use Rattle.std.specs.Prelude.{◌≡◌, ◌≤◌, ℕ, false};
 ghost use Rattle.std.specs.FinMap as map;
+ghost use Rattle.atl_state.specs.Limits.{men_limit, holding_limit};
 ghost use Rattle.atl_state.specs.Held.{amount_of, AreAmounts};
 
 use atl_tables::{Numbered, Text};
@@ -54,8 +55,8 @@ impl Holding {
         items: Numbered<u32>,
         days: Numbered<u32>,
     ) -> Holding
-        requires few { men ≤ 999999 }
-        requires fits { money ≤ 999999999 }
+        requires few { men ≤ men_limit }
+        requires fits { money ≤ holding_limit }
         requires items { AreAmounts items }
         ensures { result ≡ record { name = name; men = men; money = money; guard = false; items = items; days = days } }
     {
@@ -77,14 +78,14 @@ impl Holding {
 
     pub fn men(&self) -> u32
         ensures value { result ≡ self.now.men }
-        ensures fits { self.now.men ≤ 999999 }
+        ensures fits { self.now.men ≤ men_limit }
     {
         self.men
     }
 
     pub fn money(&self) -> u32
         ensures value { result ≡ self.now.money }
-        ensures fits { self.now.money ≤ 999999999 }
+        ensures fits { self.now.money ≤ holding_limit }
     {
         self.money
     }
@@ -122,7 +123,7 @@ impl Holding {
 
     /// Sets the money, at most 999,999,999.
     pub fn set_money(&mut self, money: u32)
-        requires { money ≤ 999999999 }
+        requires { money ≤ holding_limit }
         ensures { self.new ≡ record self.old { money = money } }
     {
         self.money = money;

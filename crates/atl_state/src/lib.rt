@@ -4,6 +4,7 @@
 pub mod books;
 pub mod campaign;
 pub mod holding;
+mod limits;
 mod numbers;
 pub mod records;
 mod totals;
@@ -11,4 +12,5 @@ mod totals;
 pub use books::{Books, Entry, Thing};
 pub use campaign::{Campaign, founded};
 pub use holding::Holding;
+pub use limits::{ENTRY_COUNT, LAST_UNIT, MOST_UNITS};
 pub use records::{Faction, JoinFault, Region, Structure, Unit};

@@ -12,6 +12,7 @@ ghost use Rattle.atl_state.specs.declared.books.Thing.TheVariants.{Money, People
 ghost use Rattle.atl_state.specs.Books.{amount_in, with_booked, IsSmall};
 ghost use Rattle.atl_state.specs.Good.{IsGood};
 ghost use Rattle.atl_state.specs.Joining.{name_taken, is_full, home_of, new_faction, joined, Joins};
+ghost use Rattle.atl_state.specs.Limits.{holding_limit, last_unit};
 ghost use Rattle.atl_state.specs.Marking.{join_marked};
 ghost use Rattle.atl_state.specs.Ordered.{put_number};
 ghost use Rattle.atl_state.specs.State.{list_of, with_unit};
@@ -21,8 +22,10 @@ ghost use Rattle.std.specs.Prelude.{true};
 use super::Campaign;
 use crate::books::{Books, Entry, Thing};
 use crate::holding::Holding;
+use crate::limits::{LAST_UNIT, MOST_UNITS};
 use crate::numbers::Numbers;
 use crate::records::{Faction, JoinFault, Unit};
+use atl_orders::LAST_FACTION;
 use atl_tables::{Numbered, Text, Tracked, World};
 use std::alloc::{AllocError, Global};
 
@@ -72,7 +75,7 @@ fn unit_made(
     region: u32,
     money: u32,
 ) -> Result<Unit, AllocError>
-    requires { money ≤ 999999999 }
+    requires { money ≤ holding_limit }
     ensures { IfOk result (λ unit. unit ≡ record {
       faction = faction;
       region = region;
@@ -126,7 +129,9 @@ impl Campaign {
     fn is_full(&self) -> bool
         ensures { result ≡ is_full self.now.what }
     {
-        self.factions.len() >= 9_999 || self.units.len() >= 10_000 || self.next_unit > 999_999_999
+        self.factions.len() >= LAST_FACTION as usize
+            || self.units.len() >= MOST_UNITS
+            || self.next_unit > LAST_UNIT
     }
 
     /// Adds a unit under a number that no unit has. Without memory for it nothing but a mark changes.
@@ -187,7 +192,7 @@ impl Campaign {
         word: u32,
     ) -> Result<(u32, u32), AllocError>
         requires good { IsGood world.now self.old.what }
-        requires room { self.old.what.next_unit ≤ 999999999 }
+        requires room { self.old.what.next_unit ≤ last_unit }
         requires name { IsUtf8 name.now }
         requires pass { IsUtf8 pass.now }
         ensures ok { OnOk result (self.new.what ≡ joined world.now name.now pass.now word self.old.what) }

@@ -1,0 +1,13 @@
+//! The limits of mailings. See docs/RULES.md, "Limits".
+
+/// The most bytes that a mailing may have.
+pub const MOST_BYTES: usize = 65_536;
+
+/// The largest number that a word of an order may write.
+pub const MOST_NUMBER: u32 = 999_999_999;
+
+/// The largest alias; the smallest is 1.
+pub const LAST_ALIAS: u32 = 9_999;
+
+/// The largest number of a faction; the smallest is 1.
+pub const LAST_FACTION: u32 = 9_999;

@@ -1,0 +1,26 @@
+-- The limits of a campaign.
+use Rattle.std.specs.Prelude.{ℕ}
+
+-- the month last closed is at most this one
+abbrev pub last_month : ℕ
+last_month = 9999
+
+-- so many units at one time
+abbrev pub most_units : ℕ
+most_units = 10000
+
+-- units are numbered from 1 up to this one
+abbrev pub last_unit : ℕ
+last_unit = 999999999
+
+-- so many men in a unit
+abbrev pub men_limit : ℕ
+men_limit = 999999
+
+-- so much money, or of one item, in a unit
+abbrev pub holding_limit : ℕ
+holding_limit = 999999999
+
+-- so many entries of the books
+abbrev pub entry_count : ℕ
+entry_count = 13
