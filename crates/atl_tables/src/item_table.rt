@@ -18,7 +18,7 @@ use std::alloc::Global;
 use toml::Table;
 
 /// An item, with its skill and its raw item by name.
-#[derive(Drop, Debug)]
+#[derive(Debug)]
 pub struct ItemDraft {
     pub name: Text,
     pub weight: u32,
@@ -27,6 +27,20 @@ pub struct ItemDraft {
     pub level: u32,
     pub raw: Option<Text>,
     pub raw_count: u32,
+}
+
+impl Drop for ItemDraft {
+    fn drop(self) {
+        let ItemDraft {
+            name: _,
+            weight: _,
+            carry: _,
+            skill: _,
+            level: _,
+            raw: _,
+            raw_count: _,
+        } = self;
+    }
 }
 
 impl Element for ItemDraft {

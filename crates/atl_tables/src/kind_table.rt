@@ -15,7 +15,7 @@ use std::alloc::Global;
 use toml::Table;
 
 /// A kind of structure, with its material and skills by name.
-#[derive(Drop, Debug)]
+#[derive(Debug)]
 pub struct KindDraft {
     pub name: Text,
     pub ship: bool,
@@ -26,6 +26,22 @@ pub struct KindDraft {
     pub capacity: u32,
     pub crew: u32,
     pub helps: Option<Text>,
+}
+
+impl Drop for KindDraft {
+    fn drop(self) {
+        let KindDraft {
+            name: _,
+            ship: _,
+            material: _,
+            size: _,
+            skill: _,
+            level: _,
+            capacity: _,
+            crew: _,
+            helps: _,
+        } = self;
+    }
 }
 
 impl Element for KindDraft {

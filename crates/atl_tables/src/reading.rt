@@ -154,7 +154,8 @@ fn join(alloc: Global, all: Tables, parts: Parts) -> Result<World, WorldFault>
     } = parts;
     let regions = by_number(alloc, regions.into_vec())?;
     mutual_neighbours(alloc, &regions, all.regions.as_slice())?;
-    with_land(alloc, rules, terrains, items, all.skills, kinds, regions)
+    let skills = all.into_skills();
+    with_land(alloc, rules, terrains, items, skills, kinds, regions)
 }
 
 /// The world that tables describe, where names and numbers keep their rules.

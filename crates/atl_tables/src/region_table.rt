@@ -15,7 +15,7 @@ use std::alloc::Global;
 use toml::Table;
 
 /// A region, with its terrain by name.
-#[derive(Drop, Debug)]
+#[derive(Debug)]
 pub struct RegionDraft {
     pub number: u32,
     pub name: Text,
@@ -26,6 +26,22 @@ pub struct RegionDraft {
     pub south: Option<u32>,
     pub east: Option<u32>,
     pub west: Option<u32>,
+}
+
+impl Drop for RegionDraft {
+    fn drop(self) {
+        let RegionDraft {
+            number: _,
+            name: _,
+            terrain: _,
+            peasants: _,
+            money: _,
+            north: _,
+            south: _,
+            east: _,
+            west: _,
+        } = self;
+    }
 }
 
 impl Element for RegionDraft {

@@ -16,7 +16,7 @@ use std::alloc::Global;
 use toml::Table;
 
 /// The rules, with skills by name.
-#[derive(Drop, Debug)]
+#[derive(Debug)]
 pub struct RulesDraft {
     pub maintenance: u32,
     pub tax_per_man: u32,
@@ -30,6 +30,25 @@ pub struct RulesDraft {
     pub observation: Option<Text>,
     pub stealth: Option<Text>,
     pub sailing: Option<Text>,
+}
+
+impl Drop for RulesDraft {
+    fn drop(self) {
+        let RulesDraft {
+            maintenance: _,
+            tax_per_man: _,
+            recruit_price: _,
+            recruit_fraction: _,
+            growth: _,
+            income: _,
+            start_money: _,
+            man_weight: _,
+            man_carry: _,
+            observation: _,
+            stealth: _,
+            sailing: _,
+        } = self;
+    }
 }
 
 #[tactic(auto, unfolding(crate::specs::RulesTable::rules_keys, crate::specs::RulesTable::rules_from))]

@@ -19,7 +19,7 @@ use std::alloc::Global;
 use toml::Table;
 
 /// A terrain, with its output by names of items.
-#[derive(Drop, Debug)]
+#[derive(Debug)]
 pub struct TerrainDraft {
     pub name: Text,
     pub land: bool,
@@ -28,6 +28,20 @@ pub struct TerrainDraft {
     pub money_limit: u32,
     pub peasant_limit: u32,
     pub output: Sequence<Output>,
+}
+
+impl Drop for TerrainDraft {
+    fn drop(self) {
+        let TerrainDraft {
+            name: _,
+            land: _,
+            wage: _,
+            places: _,
+            money_limit: _,
+            peasant_limit: _,
+            output: _,
+        } = self;
+    }
 }
 
 impl Element for TerrainDraft {
