@@ -18,16 +18,16 @@ is_some-put v false None = refl
 is_some-put v false (Some w) = refl
 
 pub seen_more : {V : Type 0} (m : FinMap nat_cmp V) (v : V) (ds : List RegionDraft) (i : ℕ) (d : RegionDraft) → i < length ds → d ≡ get_or ds i d → ((n : ℕ) → is_some (get m n) ≡ has_number n (take i ds))
-    → (n : ℕ) → is_some (get (insert m d.number v) n) ≡ has_number n (take (i + 1) ds)
+    → (n : ℕ) → is_some (get (insert m d.place.number v) n) ≡ has_number n (take (i + 1) ds)
 seen_more m v ds i d below here seen n =
-    ap is_some (get-insert nat_cmp_total m d.number v n)
-    ∙ is_some-put v (eq_by_cmp nat_cmp n d.number) (get m n)
-    ∙ ap (λ b. b || eq_by_cmp nat_cmp n d.number) (seen n)
-    ∙ ap (λ b. has_number n (take i ds) || b) (unsigned_tied n d.number ∙ ap (λ (e : RegionDraft). n == e.number) here)
-    ∙ sym (list_any_more (λ e. n == e.number) ds i d below)
+    ap is_some (get-insert nat_cmp_total m d.place.number v n)
+    ∙ is_some-put v (eq_by_cmp nat_cmp n d.place.number) (get m n)
+    ∙ ap (λ b. b || eq_by_cmp nat_cmp n d.place.number) (seen n)
+    ∙ ap (λ b. has_number n (take i ds) || b) (unsigned_tied n d.place.number ∙ ap (λ (e : RegionDraft). n == e.place.number) here)
+    ∙ sym (list_any_more (λ e. n == e.place.number) ds i d below)
 
 -- what the map says of an element
-pub by_map : (all : List RegionDraft) (i : ℕ) (d : RegionDraft) (b : Bool) → has_number d.number (take i all) ≡ b → first_fault (twin_number_at all i d) ≡ cond b (Some (TwoNames (path (indexed (codes "region") i) (codes "number")))) None
+pub by_map : (all : List RegionDraft) (i : ℕ) (d : RegionDraft) (b : Bool) → has_number d.place.number (take i all) ≡ b → first_fault (twin_number_at all i d) ≡ cond b (Some (TwoNames (path (indexed (codes "region") i) (codes "number")))) None
 unfolding twin_number_at
 by_map all i d true h = rw h
 by_map all i d false h = rw h

@@ -63,7 +63,7 @@ few [] = omega (arith, len-empty nat_cmp RegionPlan)
 few (p ∷ ps) = omega (arith, one_more (by_number ps) p.number p, few ps)
 
 -- the world of tables that were read and whose names stand for something
-pub is_world : (all : Tables) → AreTables all → ArePartsOf all (parts_of all) → All (λ d. HasNeighbours (regions_of all) d.number d.north d.south d.east d.west) all.regions → 0 < length (land_of (planet_of all)) → IsWorld (planet_of all)
+pub is_world : (all : Tables) → AreTables all → ArePartsOf all (parts_of all) → All (λ d. HasNeighbours (regions_of all) d.place.number d.sides.north d.sides.south d.sides.east d.sides.west) all.regions → 0 < length (land_of (planet_of all)) → IsWorld (planet_of all)
 unfolding planet_of regions_of region_of
 is_world all tables parts back land =
     let regions = by_number (map (region_of all) all.regions) in
@@ -79,7 +79,7 @@ is_world all tables parts back land =
       kinds = subst (λ n. EachPlace (λ i x. IsKind n (length all.skills) x) (map (kind_of all) all.kinds)) (sym item_count) parts.kinds;
       regions = at_number (λ n p. IsRegionPlan (length (map (terrain_of all) all.terrains)) n p) (map (region_of all) all.regions) (subst (λ n. EachPlace (λ i x. IsRegionPlan n x.number x) (map (region_of all) all.regions)) (sym terrain_count) parts.regions);
       neighbours = at_number (λ n p. HasNeighbours regions n p.north p.south p.east p.west) (map (region_of all) all.regions)
-          (mapped_places (λ d. HasNeighbours regions d.number d.north d.south d.east d.west) (λ p. HasNeighbours regions p.number p.north p.south p.east p.west) (region_of all) (λ d h. h) all.regions back);
+          (mapped_places (λ d. HasNeighbours regions d.place.number d.sides.north d.sides.south d.sides.east d.sides.west) (λ p. HasNeighbours regions p.number p.north p.south p.east p.west) (region_of all) (λ d h. h) all.regions back);
       few_terrains = omega (arith, terrain_count, tables.few_terrains);
       few_items = omega (arith, item_count, tables.few_items);
       few_skills = tables.few_skills;

@@ -5,29 +5,41 @@ use Rattle.atl_tables.specs.Faults.{Conditions, fault_of, value_or}
 use Rattle.atl_tables.specs.Keys.{path, indexed, number_at, name_at, number_or_at, optional_text_at}
 use Rattle.atl_tables.specs.Titles.{known_or_absent, skill_number, item_number}
 use Rattle.atl_tables.specs.declared.item_table.ItemDraft.{ItemDraft}
+use Rattle.atl_tables.specs.declared.item_table.Making.{Making}
 use Rattle.atl_tables.specs.declared.tables.Tables.{Tables}
 use Rattle.atl_tables.specs.declared.world.Item.{Item}
 
+-- what making it takes
+unfoldable pub making_keys : List ℕ → Members → Conditions
+making_keys at t =
+    fault_of (optional_text_at (codes "skill") at t)
+    ∷ fault_of (number_or_at 1 1 5 (codes "level") at t)
+    ∷ fault_of (optional_text_at (codes "raw") at t)
+    ∷ fault_of (number_or_at 1 1 1000 (codes "raw_count") at t)
+    ∷ []
+
+unfoldable pub making_from : List ℕ → Members → Making
+making_from at t = record {
+  skill = value_or None (optional_text_at (codes "skill") at t);
+  level = value_or 1 (number_or_at 1 1 5 (codes "level") at t);
+  raw = value_or None (optional_text_at (codes "raw") at t);
+  raw_count = value_or 1 (number_or_at 1 1 1000 (codes "raw_count") at t);
+}
+
+-- the whole table
 unfoldable pub item_keys : List ℕ → Members → Conditions
 item_keys at t =
     fault_of (name_at (codes "name") at t)
     ∷ fault_of (number_at 0 10000 (codes "weight") at t)
     ∷ fault_of (number_at 0 10000 (codes "carry") at t)
-    ∷ fault_of (optional_text_at (codes "skill") at t)
-    ∷ fault_of (number_or_at 1 1 5 (codes "level") at t)
-    ∷ fault_of (optional_text_at (codes "raw") at t)
-    ∷ fault_of (number_or_at 1 1 1000 (codes "raw_count") at t)
-    ∷ []
+    ∷ making_keys at t
 
 unfoldable pub item_from : List ℕ → Members → ItemDraft
 item_from at t = record {
   name = value_or [] (name_at (codes "name") at t);
   weight = value_or 0 (number_at 0 10000 (codes "weight") at t);
   carry = value_or 0 (number_at 0 10000 (codes "carry") at t);
-  skill = value_or None (optional_text_at (codes "skill") at t);
-  level = value_or 1 (number_or_at 1 1 5 (codes "level") at t);
-  raw = value_or None (optional_text_at (codes "raw") at t);
-  raw_count = value_or 1 (number_or_at 1 1 1000 (codes "raw_count") at t);
+  making = making_from at t;
 }
 
 -- an item other than the i-th
@@ -38,8 +50,8 @@ other_than i (Some n) = if n == i then None else Some n
 -- its names stand for a skill and for another item
 unfoldable pub item_known : Tables → ℕ → ItemDraft → Conditions
 item_known all i d =
-    known_or_absent (path (indexed (codes "item") i) (codes "skill")) (skill_number all) d.skill
-    ∷ known_or_absent (path (indexed (codes "item") i) (codes "raw")) (λ name. other_than i (item_number all name)) d.raw
+    known_or_absent (path (indexed (codes "item") i) (codes "skill")) (skill_number all) d.making.skill
+    ∷ known_or_absent (path (indexed (codes "item") i) (codes "raw")) (λ name. other_than i (item_number all name)) d.making.raw
     ∷ []
 
 unfoldable pub item_of : Tables → ItemDraft → Item
@@ -47,8 +59,8 @@ item_of all d = record {
   name = d.name;
   weight = d.weight;
   carry = d.carry;
-  skill = option_and_then (skill_number all) d.skill;
-  level = d.level;
-  raw = option_and_then (item_number all) d.raw;
-  raw_count = d.raw_count;
+  skill = option_and_then (skill_number all) d.making.skill;
+  level = d.making.level;
+  raw = option_and_then (item_number all) d.making.raw;
+  raw_count = d.making.raw_count;
 }

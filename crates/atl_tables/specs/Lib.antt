@@ -8,6 +8,7 @@ pub mod ItemTable
 pub mod Keys
 pub mod KindTable
 pub mod Lending
+pub mod Limits
 pub mod Lookup
 pub mod Names
 pub mod Neighbours

@@ -29,8 +29,8 @@ neighbour p regions opposite number (Some m) = if is_number number (option_and_t
 
 unfoldable pub neighbours_at : FinMap nat_cmp RegionPlan → ℕ → RegionDraft → Conditions
 neighbours_at regions i d =
-    neighbour (path (indexed (codes "region") i) (codes "north")) regions South d.number d.north
-    ∷ neighbour (path (indexed (codes "region") i) (codes "south")) regions North d.number d.south
-    ∷ neighbour (path (indexed (codes "region") i) (codes "east")) regions West d.number d.east
-    ∷ neighbour (path (indexed (codes "region") i) (codes "west")) regions East d.number d.west
+    neighbour (path (indexed (codes "region") i) (codes "north")) regions South d.place.number d.sides.north
+    ∷ neighbour (path (indexed (codes "region") i) (codes "south")) regions North d.place.number d.sides.south
+    ∷ neighbour (path (indexed (codes "region") i) (codes "east")) regions West d.place.number d.sides.east
+    ∷ neighbour (path (indexed (codes "region") i) (codes "west")) regions East d.place.number d.sides.west
     ∷ []

@@ -5,6 +5,7 @@ use Rattle.std.specs.Option.{option_map_or}
 use Rattle.toml.specs.Data.{Members, no_members, member, as_integer}
 use Rattle.atl_tables.specs.Faults.{Conditions, fault_of, value_or}
 use Rattle.atl_tables.specs.Keys.{path, ranged, optional_table_at}
+use Rattle.atl_tables.specs.Limits.{most_amount}
 use Rattle.atl_tables.specs.Titles.{same_name, known, item_number}
 use Rattle.atl_tables.specs.declared.fault.WorldFault.TheVariants.{TwoNames}
 use Rattle.atl_tables.specs.declared.output_table.Output.{Output}
@@ -13,11 +14,11 @@ use Rattle.atl_tables.specs.declared.tables.Tables.{Tables}
 -- each key with its amount, in the table of the path at
 abbrev pub amounts_keys : List ℕ → Members → Conditions
 amounts_keys at no_members = []
-amounts_keys at (member key d ms) = fault_of (ranged (path at key) 0 999999999 (as_integer d)) ∷ amounts_keys at ms
+amounts_keys at (member key d ms) = fault_of (ranged (path at key) 0 most_amount (as_integer d)) ∷ amounts_keys at ms
 
 abbrev pub amounts_from : List ℕ → Members → List Output
 amounts_from at no_members = []
-amounts_from at (member key d ms) = record { item = key; amount = value_or 0 (ranged (path at key) 0 999999999 (as_integer d)) } ∷ amounts_from at ms
+amounts_from at (member key d ms) = record { item = key; amount = value_or 0 (ranged (path at key) 0 most_amount (as_integer d)) } ∷ amounts_from at ms
 
 -- of the terrain at a path
 abbrev pub output_path : List ℕ → List ℕ

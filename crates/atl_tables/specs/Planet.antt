@@ -17,6 +17,7 @@ use Rattle.atl_tables.specs.contracts.world.Item as item
 use Rattle.atl_tables.specs.contracts.world.Skill as skill
 use Rattle.atl_tables.specs.contracts.world.Kind as kind
 use Rattle.atl_tables.specs.contracts.world.RegionPlan as plan
+use Rattle.atl_tables.specs.Limits.{most_terrains, most_items, most_skills, most_kinds, most_regions, last_region, most_amount}
 use Rattle.atl_tables.specs.Names.{name_ok}
 use Rattle.atl_tables.specs.Sums.{numbers_where}
 
@@ -55,7 +56,7 @@ pub record AreRules (skills : ℕ) (r : Rules) : Type 0 where
   pub recruit_fraction : r.recruit_fraction ≤ 1000
   pub growth : r.growth ≤ 100
   pub income : r.income ≤ 1000
-  pub start_money : r.start_money ≤ 999999999
+  pub start_money : r.start_money ≤ most_amount
   pub man_weight : r.man_weight ≤ 10000
   pub man_carry : r.man_carry ≤ 10000
   pub observation : IfSome r.observation (λ s. s < skills)
@@ -67,11 +68,11 @@ pub record IsTerrain (items : ℕ) (t : Terrain) : Type 0 where
   pub name : name_ok t.name ≡ true
   pub wage_least : 1 ≤ t.wage
   pub wage : t.wage ≤ 1000000
-  pub places : t.places ≤ 999999999
-  pub money_limit : t.money_limit ≤ 999999999
-  pub peasant_limit : t.peasant_limit ≤ 999999999
+  pub places : t.places ≤ most_amount
+  pub money_limit : t.money_limit ≤ most_amount
+  pub peasant_limit : t.peasant_limit ≤ most_amount
   pub outputs : length t.output ≡ items
-  pub output : All (λ amount. amount ≤ 999999999) t.output
+  pub output : All (λ amount. amount ≤ most_amount) t.output
 
 -- the i-th item, which is made of another one
 pub record IsItem (items skills i : ℕ) (x : Item) : Type 0 where
@@ -98,18 +99,18 @@ pub record IsKind (items skills : ℕ) (k : Kind) : Type 0 where
   pub skill : k.skill < skills
   pub level_least : 1 ≤ k.level
   pub level : k.level ≤ 5
-  pub capacity : k.capacity ≤ 999999999
+  pub capacity : k.capacity ≤ most_amount
   pub crew : k.crew ≤ 999999
   pub helps : IfSome k.helps (λ s. s < skills)
 
 pub record IsRegionPlan (terrains number : ℕ) (p : RegionPlan) : Type 0 where
   pub number_is : p.number ≡ number
   pub number_least : 1 ≤ number
-  pub number_most : number ≤ 9999
+  pub number_most : number ≤ last_region
   pub name : name_ok p.name ≡ true
   pub terrain : p.terrain < terrains
-  pub peasants : p.peasants ≤ 999999999
-  pub money : p.money ≤ 999999999
+  pub peasants : p.peasants ≤ most_amount
+  pub money : p.money ≤ most_amount
 
 -- a neighbour's neighbour on the opposite side is the region of this number
 abbrev pub LeadsBack : FinMap nat_cmp RegionPlan → (RegionPlan → Option ℕ) → ℕ → Option ℕ → Type 0
@@ -130,9 +131,9 @@ pub record IsWorld (w : Planet) : Type 0 where
   pub kinds : (i : ℕ) (k : Kind) → slice_get w.kinds i ≡ Some k → IsKind (length w.items) (length w.skills) k
   pub regions : (n : ℕ) (p : RegionPlan) → get w.regions n ≡ Some p → IsRegionPlan (length w.terrains) n p
   pub neighbours : (n : ℕ) (p : RegionPlan) → get w.regions n ≡ Some p → HasNeighbours w.regions n p.north p.south p.east p.west
-  pub few_terrains : length w.terrains ≤ 20
-  pub few_items : length w.items ≤ 200
-  pub few_skills : length w.skills ≤ 100
-  pub few_kinds : length w.kinds ≤ 100
-  pub few_regions : len w.regions ≤ 2500
+  pub few_terrains : length w.terrains ≤ most_terrains
+  pub few_items : length w.items ≤ most_items
+  pub few_skills : length w.skills ≤ most_skills
+  pub few_kinds : length w.kinds ≤ most_kinds
+  pub few_regions : len w.regions ≤ most_regions
   pub some_land : 0 < length (land_of w)

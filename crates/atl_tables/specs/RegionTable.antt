@@ -1,52 +1,72 @@
 -- A table `[[region]]`: its keys in order, with their ranges, and the region that they give.
 use Rattle.std.specs.Prelude.{ℕ, List, [], ◌∷◌, codes, None, unwrap_or}
 use Rattle.toml.specs.Data.{Members}
-use Rattle.atl_tables.specs.Faults.{Conditions, fault_of, value_or}
+use Rattle.atl_tables.specs.Faults.{Conditions, fault_of, first_fault, value_or}
 use Rattle.atl_tables.specs.Keys.{path, indexed, number_at, name_at, text_at, optional_number_at}
+use Rattle.atl_tables.specs.Limits.{last_region, most_amount}
 use Rattle.atl_tables.specs.Titles.{known, terrain_number}
+use Rattle.atl_tables.specs.declared.region_table.Place.{Place}
 use Rattle.atl_tables.specs.declared.region_table.RegionDraft.{RegionDraft}
+use Rattle.atl_tables.specs.declared.region_table.Sides.{Sides}
 use Rattle.atl_tables.specs.declared.tables.Tables.{Tables}
 use Rattle.atl_tables.specs.declared.world.RegionPlan.{RegionPlan}
 
-unfoldable pub region_keys : List ℕ → Members → Conditions
-region_keys at t =
-    fault_of (number_at 1 9999 (codes "number") at t)
+-- what the region is
+unfoldable pub place_keys : List ℕ → Members → Conditions
+place_keys at t =
+    fault_of (number_at 1 last_region (codes "number") at t)
     ∷ fault_of (name_at (codes "name") at t)
     ∷ fault_of (text_at (codes "terrain") at t)
-    ∷ fault_of (number_at 0 999999999 (codes "peasants") at t)
-    ∷ fault_of (number_at 0 999999999 (codes "money") at t)
-    ∷ fault_of (optional_number_at 1 9999 (codes "north") at t)
-    ∷ fault_of (optional_number_at 1 9999 (codes "south") at t)
-    ∷ fault_of (optional_number_at 1 9999 (codes "east") at t)
-    ∷ fault_of (optional_number_at 1 9999 (codes "west") at t)
+    ∷ fault_of (number_at 0 most_amount (codes "peasants") at t)
+    ∷ fault_of (number_at 0 most_amount (codes "money") at t)
     ∷ []
 
-unfoldable pub region_from : List ℕ → Members → RegionDraft
-region_from at t = record {
-  number = value_or 0 (number_at 1 9999 (codes "number") at t);
+unfoldable pub place_from : List ℕ → Members → Place
+place_from at t = record {
+  number = value_or 0 (number_at 1 last_region (codes "number") at t);
   name = value_or [] (name_at (codes "name") at t);
   terrain = value_or [] (text_at (codes "terrain") at t);
-  peasants = value_or 0 (number_at 0 999999999 (codes "peasants") at t);
-  money = value_or 0 (number_at 0 999999999 (codes "money") at t);
-  north = value_or None (optional_number_at 1 9999 (codes "north") at t);
-  south = value_or None (optional_number_at 1 9999 (codes "south") at t);
-  east = value_or None (optional_number_at 1 9999 (codes "east") at t);
-  west = value_or None (optional_number_at 1 9999 (codes "west") at t);
+  peasants = value_or 0 (number_at 0 most_amount (codes "peasants") at t);
+  money = value_or 0 (number_at 0 most_amount (codes "money") at t);
 }
+
+-- the numbers of its neighbours
+unfoldable pub side_keys : List ℕ → Members → Conditions
+side_keys at t =
+    fault_of (optional_number_at 1 last_region (codes "north") at t)
+    ∷ fault_of (optional_number_at 1 last_region (codes "south") at t)
+    ∷ fault_of (optional_number_at 1 last_region (codes "east") at t)
+    ∷ fault_of (optional_number_at 1 last_region (codes "west") at t)
+    ∷ []
+
+unfoldable pub sides_from : List ℕ → Members → Sides
+sides_from at t = record {
+  north = value_or None (optional_number_at 1 last_region (codes "north") at t);
+  south = value_or None (optional_number_at 1 last_region (codes "south") at t);
+  east = value_or None (optional_number_at 1 last_region (codes "east") at t);
+  west = value_or None (optional_number_at 1 last_region (codes "west") at t);
+}
+
+-- the whole table
+unfoldable pub region_keys : List ℕ → Members → Conditions
+region_keys at t = first_fault (place_keys at t) ∷ side_keys at t
+
+unfoldable pub region_from : List ℕ → Members → RegionDraft
+region_from at t = record { place = place_from at t; sides = sides_from at t }
 
 -- its name stands for a terrain
 unfoldable pub region_known : Tables → ℕ → RegionDraft → Conditions
-region_known all i d = known (path (indexed (codes "region") i) (codes "terrain")) (terrain_number all d.terrain) ∷ []
+region_known all i d = known (path (indexed (codes "region") i) (codes "terrain")) (terrain_number all d.place.terrain) ∷ []
 
 unfoldable pub region_of : Tables → RegionDraft → RegionPlan
 region_of all d = record {
-  number = d.number;
-  name = d.name;
-  terrain = unwrap_or (terrain_number all d.terrain) 0;
-  peasants = d.peasants;
-  money = d.money;
-  north = d.north;
-  south = d.south;
-  east = d.east;
-  west = d.west;
+  number = d.place.number;
+  name = d.place.name;
+  terrain = unwrap_or (terrain_number all d.place.terrain) 0;
+  peasants = d.place.peasants;
+  money = d.place.money;
+  north = d.sides.north;
+  south = d.sides.south;
+  east = d.sides.east;
+  west = d.sides.west;
 }

@@ -11,11 +11,11 @@ use Rattle.atl_tables.specs.Faults.{Conditions}
 use Rattle.atl_tables.specs.Keys.{path, indexed}
 
 abbrev pub has_number : ℕ → List RegionDraft → Bool
-has_number n ds = list_any (λ d. n == d.number) ds
+has_number n ds = list_any (λ d. n == d.place.number) ds
 
 -- no region before this one has its number
 unfoldable pub twin_number_at : List RegionDraft → ℕ → RegionDraft → Conditions
-twin_number_at all i d = (if has_number d.number (take i all) then Some (TwoNames (path (indexed (codes "region") i) (codes "number"))) else None) ∷ []
+twin_number_at all i d = (if has_number d.place.number (take i all) then Some (TwoNames (path (indexed (codes "region") i) (codes "number"))) else None) ∷ []
 
 abbrev pub twin_numbers : List RegionDraft → Conditions
 twin_numbers all = each (twin_number_at all) 0 all

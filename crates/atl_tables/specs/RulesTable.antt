@@ -1,43 +1,92 @@
 -- The table `[rules]`: its keys in order, with their ranges, and the rules that they give.
 use Rattle.std.specs.Prelude.{ℕ, List, [], ◌∷◌, codes, None, option_and_then}
 use Rattle.toml.specs.Data.{Members, no_members}
-use Rattle.atl_tables.specs.Faults.{Conditions, fault_of, value_or}
+use Rattle.atl_tables.specs.Faults.{Conditions, fault_of, first_fault, value_or}
 use Rattle.atl_tables.specs.Keys.{path, number_at, optional_text_at, table_at}
+use Rattle.atl_tables.specs.Limits.{most_amount}
 use Rattle.atl_tables.specs.Titles.{known_or_absent, skill_number}
+use Rattle.atl_tables.specs.declared.rules_table.MenRules.{MenRules}
+use Rattle.atl_tables.specs.declared.rules_table.PeasantRules.{PeasantRules}
+use Rattle.atl_tables.specs.declared.rules_table.Prices.{Prices}
 use Rattle.atl_tables.specs.declared.rules_table.RulesDraft.{RulesDraft}
+use Rattle.atl_tables.specs.declared.rules_table.SkillNames.{SkillNames}
 use Rattle.atl_tables.specs.declared.tables.Tables.{Tables}
 use Rattle.atl_tables.specs.declared.world.Rules.{Rules}
 
-unfoldable pub rules_keys : List ℕ → Members → Conditions
-rules_keys at t =
+-- what men cost and bring
+unfoldable pub price_keys : List ℕ → Members → Conditions
+price_keys at t =
     fault_of (number_at 1 1000 (codes "maintenance") at t)
     ∷ fault_of (number_at 0 1000 (codes "tax_per_man") at t)
     ∷ fault_of (number_at 1 1000000 (codes "recruit_price") at t)
-    ∷ fault_of (number_at 1 1000 (codes "recruit_fraction") at t)
+    ∷ []
+
+unfoldable pub prices_from : List ℕ → Members → Prices
+prices_from at t = record {
+  maintenance = value_or 0 (number_at 1 1000 (codes "maintenance") at t);
+  tax_per_man = value_or 0 (number_at 0 1000 (codes "tax_per_man") at t);
+  recruit_price = value_or 0 (number_at 1 1000000 (codes "recruit_price") at t);
+}
+
+-- what peasants do in a month
+unfoldable pub peasant_keys : List ℕ → Members → Conditions
+peasant_keys at t =
+    fault_of (number_at 1 1000 (codes "recruit_fraction") at t)
     ∷ fault_of (number_at 0 100 (codes "growth") at t)
     ∷ fault_of (number_at 0 1000 (codes "income") at t)
-    ∷ fault_of (number_at 0 999999999 (codes "start_money") at t)
+    ∷ []
+
+unfoldable pub peasants_from : List ℕ → Members → PeasantRules
+peasants_from at t = record {
+  recruit_fraction = value_or 0 (number_at 1 1000 (codes "recruit_fraction") at t);
+  growth = value_or 0 (number_at 0 100 (codes "growth") at t);
+  income = value_or 0 (number_at 0 1000 (codes "income") at t);
+}
+
+-- what men start with, weigh and carry
+unfoldable pub men_keys : List ℕ → Members → Conditions
+men_keys at t =
+    fault_of (number_at 0 most_amount (codes "start_money") at t)
     ∷ fault_of (number_at 0 10000 (codes "man_weight") at t)
     ∷ fault_of (number_at 0 10000 (codes "man_carry") at t)
-    ∷ fault_of (optional_text_at (codes "observation") at t)
+    ∷ []
+
+unfoldable pub men_from : List ℕ → Members → MenRules
+men_from at t = record {
+  start_money = value_or 0 (number_at 0 most_amount (codes "start_money") at t);
+  man_weight = value_or 0 (number_at 0 10000 (codes "man_weight") at t);
+  man_carry = value_or 0 (number_at 0 10000 (codes "man_carry") at t);
+}
+
+-- the skills that the rules speak of
+unfoldable pub skill_name_keys : List ℕ → Members → Conditions
+skill_name_keys at t =
+    fault_of (optional_text_at (codes "observation") at t)
     ∷ fault_of (optional_text_at (codes "stealth") at t)
     ∷ fault_of (optional_text_at (codes "sailing") at t)
     ∷ []
 
-unfoldable pub rules_from : List ℕ → Members → RulesDraft
-rules_from at t = record {
-  maintenance = value_or 0 (number_at 1 1000 (codes "maintenance") at t);
-  tax_per_man = value_or 0 (number_at 0 1000 (codes "tax_per_man") at t);
-  recruit_price = value_or 0 (number_at 1 1000000 (codes "recruit_price") at t);
-  recruit_fraction = value_or 0 (number_at 1 1000 (codes "recruit_fraction") at t);
-  growth = value_or 0 (number_at 0 100 (codes "growth") at t);
-  income = value_or 0 (number_at 0 1000 (codes "income") at t);
-  start_money = value_or 0 (number_at 0 999999999 (codes "start_money") at t);
-  man_weight = value_or 0 (number_at 0 10000 (codes "man_weight") at t);
-  man_carry = value_or 0 (number_at 0 10000 (codes "man_carry") at t);
+unfoldable pub skill_names_from : List ℕ → Members → SkillNames
+skill_names_from at t = record {
   observation = value_or None (optional_text_at (codes "observation") at t);
   stealth = value_or None (optional_text_at (codes "stealth") at t);
   sailing = value_or None (optional_text_at (codes "sailing") at t);
+}
+
+-- all of them, in this order
+unfoldable pub rules_keys : List ℕ → Members → Conditions
+rules_keys at t =
+    first_fault (price_keys at t)
+    ∷ first_fault (peasant_keys at t)
+    ∷ first_fault (men_keys at t)
+    ∷ skill_name_keys at t
+
+unfoldable pub rules_from : List ℕ → Members → RulesDraft
+rules_from at t = record {
+  prices = prices_from at t;
+  peasants = peasants_from at t;
+  men = men_from at t;
+  skills = skill_names_from at t;
 }
 
 -- the table of the document
@@ -53,23 +102,23 @@ rules_in doc = rules_from (codes "rules") (rules_table doc)
 -- its names stand for skills
 unfoldable pub rules_known : Tables → Conditions
 rules_known all =
-    known_or_absent (path (codes "rules") (codes "observation")) (skill_number all) all.rules.observation
-    ∷ known_or_absent (path (codes "rules") (codes "stealth")) (skill_number all) all.rules.stealth
-    ∷ known_or_absent (path (codes "rules") (codes "sailing")) (skill_number all) all.rules.sailing
+    known_or_absent (path (codes "rules") (codes "observation")) (skill_number all) all.rules.skills.observation
+    ∷ known_or_absent (path (codes "rules") (codes "stealth")) (skill_number all) all.rules.skills.stealth
+    ∷ known_or_absent (path (codes "rules") (codes "sailing")) (skill_number all) all.rules.skills.sailing
     ∷ []
 
 unfoldable pub rules_of : Tables → Rules
 rules_of all = let r = all.rules in record {
-  maintenance = r.maintenance;
-  tax_per_man = r.tax_per_man;
-  recruit_price = r.recruit_price;
-  recruit_fraction = r.recruit_fraction;
-  growth = r.growth;
-  income = r.income;
-  start_money = r.start_money;
-  man_weight = r.man_weight;
-  man_carry = r.man_carry;
-  observation = option_and_then (skill_number all) r.observation;
-  stealth = option_and_then (skill_number all) r.stealth;
-  sailing = option_and_then (skill_number all) r.sailing;
+  maintenance = r.prices.maintenance;
+  tax_per_man = r.prices.tax_per_man;
+  recruit_price = r.prices.recruit_price;
+  recruit_fraction = r.peasants.recruit_fraction;
+  growth = r.peasants.growth;
+  income = r.peasants.income;
+  start_money = r.men.start_money;
+  man_weight = r.men.man_weight;
+  man_carry = r.men.man_carry;
+  observation = option_and_then (skill_number all) r.skills.observation;
+  stealth = option_and_then (skill_number all) r.skills.stealth;
+  sailing = option_and_then (skill_number all) r.skills.sailing;
 }

@@ -2,31 +2,45 @@
 use Rattle.std.specs.Prelude.{ℕ, List, [], ◌∷◌, codes, false, map}
 use Rattle.toml.specs.Data.{Members}
 use Rattle.atl_tables.specs.Each.{each}
-use Rattle.atl_tables.specs.Faults.{Conditions, fault_of, value_or}
+use Rattle.atl_tables.specs.Faults.{Conditions, fault_of, first_fault, value_or}
 use Rattle.atl_tables.specs.Keys.{indexed, number_at, name_at, flag_at}
+use Rattle.atl_tables.specs.Limits.{most_amount}
 use Rattle.atl_tables.specs.OutputTable.{output_path, output_keys, output_from, twin_key_at, known_key_at, amount_of}
 use Rattle.atl_tables.specs.declared.tables.Tables.{Tables}
+use Rattle.atl_tables.specs.declared.terrain_table.Economy.{Economy}
 use Rattle.atl_tables.specs.declared.terrain_table.TerrainDraft.{TerrainDraft}
 use Rattle.atl_tables.specs.declared.world.Terrain.{Terrain}
 
+-- what a region of it pays, and the most that it holds
+unfoldable pub economy_keys : List ℕ → Members → Conditions
+economy_keys at t =
+    fault_of (number_at 1 1000000 (codes "wage") at t)
+    ∷ fault_of (number_at 0 most_amount (codes "places") at t)
+    ∷ fault_of (number_at 0 most_amount (codes "money_limit") at t)
+    ∷ fault_of (number_at 0 most_amount (codes "peasant_limit") at t)
+    ∷ []
+
+unfoldable pub economy_from : List ℕ → Members → Economy
+economy_from at t = record {
+  wage = value_or 0 (number_at 1 1000000 (codes "wage") at t);
+  places = value_or 0 (number_at 0 most_amount (codes "places") at t);
+  money_limit = value_or 0 (number_at 0 most_amount (codes "money_limit") at t);
+  peasant_limit = value_or 0 (number_at 0 most_amount (codes "peasant_limit") at t);
+}
+
+-- the whole table
 unfoldable pub terrain_keys : List ℕ → Members → Conditions
 terrain_keys at t =
     fault_of (name_at (codes "name") at t)
     ∷ fault_of (flag_at (codes "land") at t)
-    ∷ fault_of (number_at 1 1000000 (codes "wage") at t)
-    ∷ fault_of (number_at 0 999999999 (codes "places") at t)
-    ∷ fault_of (number_at 0 999999999 (codes "money_limit") at t)
-    ∷ fault_of (number_at 0 999999999 (codes "peasant_limit") at t)
+    ∷ first_fault (economy_keys at t)
     ∷ output_keys at t
 
 unfoldable pub terrain_from : List ℕ → Members → TerrainDraft
 terrain_from at t = record {
   name = value_or [] (name_at (codes "name") at t);
   land = value_or false (flag_at (codes "land") at t);
-  wage = value_or 0 (number_at 1 1000000 (codes "wage") at t);
-  places = value_or 0 (number_at 0 999999999 (codes "places") at t);
-  money_limit = value_or 0 (number_at 0 999999999 (codes "money_limit") at t);
-  peasant_limit = value_or 0 (number_at 0 999999999 (codes "peasant_limit") at t);
+  economy = economy_from at t;
   output = output_from at t;
 }
 
@@ -42,9 +56,9 @@ unfoldable pub terrain_of : Tables → TerrainDraft → Terrain
 terrain_of all d = record {
   name = d.name;
   land = d.land;
-  wage = d.wage;
-  places = d.places;
-  money_limit = d.money_limit;
-  peasant_limit = d.peasant_limit;
+  wage = d.economy.wage;
+  places = d.economy.places;
+  money_limit = d.economy.money_limit;
+  peasant_limit = d.economy.peasant_limit;
   output = map (λ item. amount_of d.output item.name) all.items;
 }

@@ -10,6 +10,7 @@ use Rattle.atl_tables.specs.Faults.{Conditions, first_fault, unless}
 use Rattle.atl_tables.specs.ItemTable.{item_keys, item_from, item_known, item_of}
 use Rattle.atl_tables.specs.Keys.{array_at, optional_array_at}
 use Rattle.atl_tables.specs.KindTable.{kind_keys, kind_from, kind_known, kind_of}
+use Rattle.atl_tables.specs.Limits.{most_terrains, most_items, most_skills, most_kinds, most_regions}
 use Rattle.atl_tables.specs.Neighbours.{neighbours_at}
 use Rattle.atl_tables.specs.Planet.{Planet, land_of}
 use Rattle.atl_tables.specs.RegionTable.{region_keys, region_from, region_known, region_of}
@@ -20,18 +21,26 @@ use Rattle.atl_tables.specs.TerrainTable.{terrain_keys, terrain_from, terrain_tw
 use Rattle.atl_tables.specs.Titles.{twins}
 use Rattle.atl_tables.specs.declared.fault.WorldFault.{WorldFault}
 use Rattle.atl_tables.specs.declared.fault.WorldFault.TheVariants.{NotToml, NoLand}
+use Rattle.atl_tables.specs.declared.reading.Things.{Things}
 use Rattle.atl_tables.specs.declared.tables.Tables.{Tables}
 use Rattle.atl_tables.specs.declared.world.RegionPlan.{RegionPlan}
 
--- what the tables say, where each key keeps its rule
+-- what the tables say, where each key keeps its rule: those that may be missing, and all
+unfoldable pub things_of : Members → Things
+things_of doc = record {
+  items = list_of item_from (codes "item") (optional_array_at most_items (codes "item") doc);
+  skills = list_of skill_from (codes "skill") (optional_array_at most_skills (codes "skill") doc);
+  kinds = list_of kind_from (codes "kind") (optional_array_at most_kinds (codes "kind") doc);
+}
+
 unfoldable pub tables_of : Members → Tables
 tables_of doc = record {
   rules = rules_in doc;
-  terrains = list_of terrain_from (codes "terrain") (array_at 20 (codes "terrain") doc);
-  items = list_of item_from (codes "item") (optional_array_at 200 (codes "item") doc);
-  skills = list_of skill_from (codes "skill") (optional_array_at 100 (codes "skill") doc);
-  kinds = list_of kind_from (codes "kind") (optional_array_at 100 (codes "kind") doc);
-  regions = list_of region_from (codes "region") (array_at 2500 (codes "region") doc);
+  terrains = list_of terrain_from (codes "terrain") (array_at most_terrains (codes "terrain") doc);
+  items = (things_of doc).items;
+  skills = (things_of doc).skills;
+  kinds = (things_of doc).kinds;
+  regions = list_of region_from (codes "region") (array_at most_regions (codes "region") doc);
 }
 
 -- the world, where each name stands for something
@@ -49,15 +58,19 @@ planet_of all = record {
 }
 
 -- ---- the conditions, rank by rank
--- every key is there, has its type and is in its range
+-- every key is there, has its type and is in its range: in items, skills and kinds, and in all tables
+unfoldable pub things_are_good : Members → Conditions
+things_are_good doc =
+    list_conditions item_keys (codes "item") (optional_array_at most_items (codes "item") doc)
+    ++ (list_conditions skill_keys (codes "skill") (optional_array_at most_skills (codes "skill") doc)
+    ++ list_conditions kind_keys (codes "kind") (optional_array_at most_kinds (codes "kind") doc))
+
 unfoldable pub keys_are_good : Members → Conditions
 keys_are_good doc =
     rules_conditions doc
-    ++ (list_conditions terrain_keys (codes "terrain") (array_at 20 (codes "terrain") doc)
-    ++ (list_conditions item_keys (codes "item") (optional_array_at 200 (codes "item") doc)
-    ++ (list_conditions skill_keys (codes "skill") (optional_array_at 100 (codes "skill") doc)
-    ++ (list_conditions kind_keys (codes "kind") (optional_array_at 100 (codes "kind") doc)
-    ++ list_conditions region_keys (codes "region") (array_at 2500 (codes "region") doc)))))
+    ++ (list_conditions terrain_keys (codes "terrain") (array_at most_terrains (codes "terrain") doc)
+    ++ (things_are_good doc
+    ++ list_conditions region_keys (codes "region") (array_at most_regions (codes "region") doc)))
 
 -- no name and no number stands twice
 unfoldable pub names_differ : Tables → Conditions

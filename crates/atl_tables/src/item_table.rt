@@ -1,8 +1,8 @@
 //! The tables `[[item]]`.
 ghost use Rattle.std.specs.Prelude.{◌≡◌, ◌≢◌, ◌≤◌, ◌<◌, codes, length, IfOk, IfSome, Some, option_and_then};
-ghost use Rattle.atl_tables.specs.Drafts.{IsItemDraft};
+ghost use Rattle.atl_tables.specs.Drafts.{IsMaking, IsItemDraft};
 ghost use Rattle.atl_tables.specs.Faults.{Gives};
-ghost use Rattle.atl_tables.specs.ItemTable.{item_keys, item_from, other_than, item_known, item_of};
+ghost use Rattle.atl_tables.specs.ItemTable.{making_keys, making_from, item_keys, item_from, other_than, item_known, item_of};
 ghost use Rattle.atl_tables.specs.Keys.{path};
 ghost use Rattle.atl_tables.specs.Planet.{IsItem};
 ghost use Rattle.atl_tables.specs.Titles.{number_of, known_or_absent};
@@ -17,16 +17,66 @@ use crate::world::Item;
 use std::alloc::Global;
 use toml::Table;
 
-/// An item, with its skill and its raw item by name.
-#[derive(Drop, Debug)]
-pub struct ItemDraft {
-    pub name: Text,
-    pub weight: u32,
-    pub carry: u32,
+/// What making an item takes, with its skill and its raw item by name.
+#[derive(Debug)]
+pub struct Making {
     pub skill: Option<Text>,
     pub level: u32,
     pub raw: Option<Text>,
     pub raw_count: u32,
+}
+
+impl Drop for Making {
+    fn drop(self) {
+        let Making {
+            skill: _,
+            level: _,
+            raw: _,
+            raw_count: _,
+        } = self;
+    }
+}
+
+/// An item, with names for what making it takes.
+#[derive(Debug)]
+pub struct ItemDraft {
+    pub name: Text,
+    pub weight: u32,
+    pub carry: u32,
+    pub making: Making,
+}
+
+impl Drop for ItemDraft {
+    fn drop(self) {
+        let ItemDraft {
+            name: _,
+            weight: _,
+            carry: _,
+            making: _,
+        } = self;
+    }
+}
+
+impl Element for Making {
+    ghost conditions = { making_keys };
+
+    ghost record_of = { making_from };
+
+    ghost is_sound = { IsMaking };
+
+    #[tactic(auto, unfolding(crate::specs::ItemTable::making_keys, crate::specs::ItemTable::making_from))]
+    fn read(alloc: Global, at: &str, t: &Table) -> Result<Making, WorldFault> {
+        let skill = keys::optional_text(alloc, "skill", at, t)?;
+        let level = keys::number_or(alloc, 1, 1, 5, "level", at, t)?;
+        let raw = keys::optional_text(alloc, "raw", at, t)?;
+        let raw_count = keys::number_or(alloc, 1, 1, 1_000, "raw_count", at, t)?;
+        Ok(Making {
+            skill,
+            level,
+            raw,
+            raw_count,
+        })
+    }
 }
 
 impl Element for ItemDraft {
@@ -41,18 +91,12 @@ impl Element for ItemDraft {
         let name = keys::name(alloc, "name", at, t)?;
         let weight = keys::number(alloc, 0, 10_000, "weight", at, t)?;
         let carry = keys::number(alloc, 0, 10_000, "carry", at, t)?;
-        let skill = keys::optional_text(alloc, "skill", at, t)?;
-        let level = keys::number_or(alloc, 1, 1, 5, "level", at, t)?;
-        let raw = keys::optional_text(alloc, "raw", at, t)?;
-        let raw_count = keys::number_or(alloc, 1, 1, 1_000, "raw_count", at, t)?;
+        let making = Making::read(alloc, at, t)?;
         Ok(ItemDraft {
             name,
             weight,
             carry,
-            skill,
-            level,
-            raw,
-            raw_count,
+            making,
         })
     }
 }
@@ -123,17 +167,18 @@ impl Draft for ItemDraft {
     fn resolve(&self, alloc: Global, all: &Tables, i: usize) -> Result<Item, WorldFault> {
         let place = indexed(alloc, "item", i)?;
         let at = place.as_str();
-        let skill = known_or_absent(alloc, all.skills.as_slice(), "skill", at, &self.skill)?;
-        let raw = raw_item(alloc, all.items.as_slice(), i, at, &self.raw)?;
+        let making = &self.making;
+        let skill = known_or_absent(alloc, all.skills.as_slice(), "skill", at, &making.skill)?;
+        let raw = raw_item(alloc, all.items.as_slice(), i, at, &making.raw)?;
         let name = self.name.copy(alloc)?;
         Ok(Item {
             name,
             weight: self.weight,
             carry: self.carry,
             skill,
-            level: self.level,
+            level: making.level,
             raw,
-            raw_count: self.raw_count,
+            raw_count: making.raw_count,
         })
     }
 }

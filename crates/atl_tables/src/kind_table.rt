@@ -1,12 +1,13 @@
 //! The tables `[[kind]]`.
 ghost use Rattle.std.specs.Prelude.{length};
-ghost use Rattle.atl_tables.specs.Drafts.{IsKindDraft};
-ghost use Rattle.atl_tables.specs.KindTable.{kind_keys, kind_from, kind_known, kind_of};
+ghost use Rattle.atl_tables.specs.Drafts.{IsBuilding, IsPurpose, IsKindDraft};
+ghost use Rattle.atl_tables.specs.KindTable.{building_keys, building_from, purpose_keys, purpose_from, kind_keys, kind_from, kind_known, kind_of};
 ghost use Rattle.atl_tables.specs.Planet.{IsKind};
 
 use crate::elements::Element;
 use crate::fault::WorldFault;
 use crate::keys::{self, indexed};
+use crate::limits::MOST_AMOUNT;
 use crate::tables::{Draft, Tables};
 use crate::text::Text;
 use crate::titled::{Titled, known, known_or_absent};
@@ -14,18 +15,94 @@ use crate::world::Kind;
 use std::alloc::Global;
 use toml::Table;
 
-/// A kind of structure, with its material and skills by name.
-#[derive(Drop, Debug)]
-pub struct KindDraft {
-    pub name: Text,
-    pub ship: bool,
+/// What building a structure takes, with its material and its skill by name.
+#[derive(Debug)]
+pub struct Building {
     pub material: Text,
     pub size: u32,
     pub skill: Text,
     pub level: u32,
+}
+
+impl Drop for Building {
+    fn drop(self) {
+        let Building {
+            material: _,
+            size: _,
+            skill: _,
+            level: _,
+        } = self;
+    }
+}
+
+/// What a structure is good for, with the skill that it helps by name.
+#[derive(Drop, Debug)]
+pub struct Purpose {
     pub capacity: u32,
     pub crew: u32,
     pub helps: Option<Text>,
+}
+
+/// A kind of structure, with its material and skills by name.
+#[derive(Debug)]
+pub struct KindDraft {
+    pub name: Text,
+    pub ship: bool,
+    pub building: Building,
+    pub purpose: Purpose,
+}
+
+impl Drop for KindDraft {
+    fn drop(self) {
+        let KindDraft {
+            name: _,
+            ship: _,
+            building: _,
+            purpose: _,
+        } = self;
+    }
+}
+
+impl Element for Building {
+    ghost conditions = { building_keys };
+
+    ghost record_of = { building_from };
+
+    ghost is_sound = { IsBuilding };
+
+    #[tactic(auto, unfolding(crate::specs::KindTable::building_keys, crate::specs::KindTable::building_from))]
+    fn read(alloc: Global, at: &str, t: &Table) -> Result<Building, WorldFault> {
+        let material = keys::text(alloc, "material", at, t)?;
+        let size = keys::number(alloc, 1, 999_999, "size", at, t)?;
+        let skill = keys::text(alloc, "skill", at, t)?;
+        let level = keys::number(alloc, 1, 5, "level", at, t)?;
+        Ok(Building {
+            material,
+            size,
+            skill,
+            level,
+        })
+    }
+}
+
+impl Element for Purpose {
+    ghost conditions = { purpose_keys };
+
+    ghost record_of = { purpose_from };
+
+    ghost is_sound = { IsPurpose };
+
+    #[tactic(auto, unfolding(crate::specs::KindTable::purpose_keys, crate::specs::KindTable::purpose_from))]
+    fn read(alloc: Global, at: &str, t: &Table) -> Result<Purpose, WorldFault> {
+        let capacity = keys::number_or(alloc, 0, 0, MOST_AMOUNT, "capacity", at, t)?;
+        let crew = keys::number_or(alloc, 0, 0, 999_999, "crew", at, t)?;
+        let helps = keys::optional_text(alloc, "helps", at, t)?;
+        Ok(Purpose {
+            capacity,
+            crew,
+            helps,
+        })
+    }
 }
 
 impl Element for KindDraft {
@@ -39,23 +116,13 @@ impl Element for KindDraft {
     fn read(alloc: Global, at: &str, t: &Table) -> Result<KindDraft, WorldFault> {
         let name = keys::name(alloc, "name", at, t)?;
         let ship = keys::flag(alloc, "ship", at, t)?;
-        let material = keys::text(alloc, "material", at, t)?;
-        let size = keys::number(alloc, 1, 999_999, "size", at, t)?;
-        let skill = keys::text(alloc, "skill", at, t)?;
-        let level = keys::number(alloc, 1, 5, "level", at, t)?;
-        let capacity = keys::number_or(alloc, 0, 0, 999_999_999, "capacity", at, t)?;
-        let crew = keys::number_or(alloc, 0, 0, 999_999, "crew", at, t)?;
-        let helps = keys::optional_text(alloc, "helps", at, t)?;
+        let building = Building::read(alloc, at, t)?;
+        let purpose = Purpose::read(alloc, at, t)?;
         Ok(KindDraft {
             name,
             ship,
-            material,
-            size,
-            skill,
-            level,
-            capacity,
-            crew,
-            helps,
+            building,
+            purpose,
         })
     }
 }
@@ -84,19 +151,27 @@ impl Draft for KindDraft {
         let place = indexed(alloc, "kind", i)?;
         let at = place.as_str();
         let skills = all.skills.as_slice();
-        let material = known(alloc, all.items.as_slice(), "material", at, &self.material)?;
-        let skill = known(alloc, skills, "skill", at, &self.skill)?;
-        let helps = known_or_absent(alloc, skills, "helps", at, &self.helps)?;
+        let building = &self.building;
+        let purpose = &self.purpose;
+        let material = known(
+            alloc,
+            all.items.as_slice(),
+            "material",
+            at,
+            &building.material,
+        )?;
+        let skill = known(alloc, skills, "skill", at, &building.skill)?;
+        let helps = known_or_absent(alloc, skills, "helps", at, &purpose.helps)?;
         let name = self.name.copy(alloc)?;
         Ok(Kind {
             name,
             ship: self.ship,
             material,
-            size: self.size,
+            size: building.size,
             skill,
-            level: self.level,
-            capacity: self.capacity,
-            crew: self.crew,
+            level: building.level,
+            capacity: purpose.capacity,
+            crew: purpose.crew,
             helps,
         })
     }

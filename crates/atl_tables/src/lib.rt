@@ -6,6 +6,7 @@ pub mod fault;
 mod item_table;
 mod keys;
 mod kind_table;
+pub mod limits;
 pub mod lookup;
 pub mod names;
 mod neighbours;

@@ -3,10 +3,12 @@ ghost use Rattle.std.specs.Prelude.{◌≡◌};
 ghost use Rattle.std.specs.List.{list_all};
 ghost use Rattle.atl_tables.specs.Names.{name_ok, pass_ok, is_short, is_name_byte, is_pass_byte, has_open_ends};
 
+use crate::limits::MOST_NAME_BYTES;
+
 fn is_short(text: &[u8]) -> bool
     ensures { result ≡ is_short text.now }
 {
-    1 <= text.len() && text.len() <= 40
+    1 <= text.len() && text.len() <= MOST_NAME_BYTES
 }
 
 fn is_name_byte(byte: u8) -> bool

@@ -86,11 +86,11 @@ fn neighbours_of(
     draft: &RegionDraft,
 ) -> Result<(), WorldFault>
     ensures value { Gives (λ u. u) result (first_fault (neighbours_at regions.now i draft.now)) (tt {0}) }
-    ensures back { OnOk result (HasNeighbours regions.now draft.now.number draft.now.north draft.now.south draft.now.east draft.now.west) }
+    ensures back { OnOk result (HasNeighbours regions.now draft.now.place.number draft.now.sides.north draft.now.sides.south draft.now.sides.east draft.now.sides.west) }
 {
     let place = indexed(alloc, "region", i)?;
     let at = place.as_str();
-    let number = draft.number;
+    let number = draft.place.number;
     neighbour(
         alloc,
         "north",
@@ -98,7 +98,7 @@ fn neighbours_of(
         regions,
         Side::South,
         number,
-        draft.north,
+        draft.sides.north,
     )?;
     neighbour(
         alloc,
@@ -107,10 +107,26 @@ fn neighbours_of(
         regions,
         Side::North,
         number,
-        draft.south,
+        draft.sides.south,
     )?;
-    neighbour(alloc, "east", at, regions, Side::West, number, draft.east)?;
-    neighbour(alloc, "west", at, regions, Side::East, number, draft.west)
+    neighbour(
+        alloc,
+        "east",
+        at,
+        regions,
+        Side::West,
+        number,
+        draft.sides.east,
+    )?;
+    neighbour(
+        alloc,
+        "west",
+        at,
+        regions,
+        Side::East,
+        number,
+        draft.sides.west,
+    )
 }
 
 /// That the neighbours of all regions are mutual.
@@ -120,7 +136,7 @@ pub(crate) fn mutual_neighbours(
     drafts: &[RegionDraft],
 ) -> Result<(), WorldFault>
     ensures value { Gives (λ u. u) result (first_fault (each (neighbours_at regions.now) 0 drafts.now)) (tt {0}) }
-    ensures back { OnOk result (All (λ d. HasNeighbours regions.now d.number d.north d.south d.east d.west) drafts.now) }
+    ensures back { OnOk result (All (λ d. HasNeighbours regions.now d.place.number d.sides.north d.sides.south d.sides.east d.sides.west) drafts.now) }
 {
     for i in 0..drafts.len() {
         neighbours_of(alloc, regions, i, &drafts[i])?;

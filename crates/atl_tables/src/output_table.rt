@@ -5,11 +5,13 @@ ghost use Rattle.toml.specs.View.{table_view};
 ghost use Rattle.atl_tables.specs.Drafts.{AreTables, IsOutput};
 ghost use Rattle.atl_tables.specs.Each.{each};
 ghost use Rattle.atl_tables.specs.Faults.{first_fault, Gives};
+ghost use Rattle.atl_tables.specs.Limits.{most_amount};
 ghost use Rattle.atl_tables.specs.OutputTable.{amounts_keys, amounts_from, output_keys, output_from, twin_key_at, known_key_at, amount_of};
 
 use crate::fault::WorldFault;
 use crate::item_table::ItemDraft;
 use crate::keys::{member, path, ranged};
+use crate::limits::MOST_AMOUNT;
 use crate::sequence::Sequence;
 use crate::tables::Tables;
 use crate::text::Text;
@@ -40,7 +42,7 @@ fn amounts(alloc: Global, at: &str, table: &Table) -> Result<Sequence<Output>, W
     let mut outputs = Sequence::new(alloc);
     for (key, value) in table.iter() {
         let key = key.as_str();
-        let amount = ranged(alloc, 0, 999_999_999, key, at, value)?;
+        let amount = ranged(alloc, 0, MOST_AMOUNT, key, at, value)?;
         let item = Text::from_str(alloc, key)?;
         outputs.push(Output { item, amount })?;
     }
@@ -100,7 +102,7 @@ pub(crate) fn known_keys(
 fn amount_of(outputs: &[Output], item: &Text) -> u32
     requires { All IsOutput outputs.now }
     ensures value { result ≡ amount_of outputs.now item.now }
-    ensures most { result ≤ 999999999 }
+    ensures most { result ≤ most_amount }
 {
     for output in outputs {
         if same_name(&output.item, item) {
@@ -118,7 +120,7 @@ pub(crate) fn amounts_of(
 ) -> Result<Sequence<u32>, AllocError>
     requires { All IsOutput outputs.now }
     ensures value { IfOk result (λ v. v ≡ map (λ item. amount_of outputs.now item.name) items.now) }
-    ensures most { IfOk result (λ v. All (λ amount. amount ≤ 999999999) v) }
+    ensures most { IfOk result (λ v. All (λ amount. amount ≤ most_amount) v) }
 {
     let mut amounts = Sequence::new(alloc);
     for item in items {

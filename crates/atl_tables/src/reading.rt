@@ -1,17 +1,18 @@
 //! The reader of world files.
 ghost use Rattle.std.specs.Prelude.{◌≡◌, ◌<◌, ◌++◌, length, IfOk};
 ghost use Rattle.toml.specs.View.{table_view};
-ghost use Rattle.atl_tables.specs.Drafts.{AreTables};
+ghost use Rattle.atl_tables.specs.Drafts.{AreThings, AreTables};
 ghost use Rattle.atl_tables.specs.Faults.{first_fault, Reads, Gives};
 ghost use Rattle.atl_tables.specs.Parts.{ArePartsOf, parts_of};
 ghost use Rattle.atl_tables.specs.Planet.{IsWorld, is_land, land_of};
 ghost use Rattle.atl_tables.specs.Sums.{numbers_where};
-ghost use Rattle.atl_tables.specs.World.{tables_of, regions_of, planet_of, keys_are_good, names_differ, names_are_known, neighbours_are_mutual, is_some_land, table_conditions, conditions, world_of};
+ghost use Rattle.atl_tables.specs.World.{things_of, tables_of, regions_of, planet_of, things_are_good, keys_are_good, names_differ, names_are_known, neighbours_are_mutual, is_some_land, table_conditions, conditions, world_of};
 
 use crate::elements::{list, optional_list};
 use crate::fault::WorldFault;
 use crate::item_table::ItemDraft;
 use crate::kind_table::KindDraft;
+use crate::limits::{MOST_ITEMS, MOST_KINDS, MOST_REGIONS, MOST_SKILLS, MOST_TERRAINS};
 use crate::neighbours::mutual_neighbours;
 use crate::numbered::Numbered;
 use crate::region_table::RegionDraft;
@@ -35,6 +36,29 @@ pub struct Parts {
     pub regions: Sequence<RegionPlan>,
 }
 
+/// The tables that may be missing.
+#[derive(Drop)]
+pub struct Things {
+    pub items: Sequence<ItemDraft>,
+    pub skills: Sequence<Skill>,
+    pub kinds: Sequence<KindDraft>,
+}
+
+#[tactic(auto, unfolding(crate::specs::World::things_are_good, crate::specs::World::things_of))]
+fn read_things(alloc: Global, document: &Table) -> Result<Things, WorldFault>
+    ensures value { Gives (λ t. t) result (first_fault (things_are_good (table_view document.now))) (things_of (table_view document.now)) }
+    ensures sound { IfOk result AreThings }
+{
+    let items = optional_list::<ItemDraft>(alloc, MOST_ITEMS, "item", document)?;
+    let skills = optional_list::<Skill>(alloc, MOST_SKILLS, "skill", document)?;
+    let kinds = optional_list::<KindDraft>(alloc, MOST_KINDS, "kind", document)?;
+    Ok(Things {
+        items,
+        skills,
+        kinds,
+    })
+}
+
 /// What the tables say.
 #[tactic(auto, unfolding(crate::specs::World::keys_are_good, crate::specs::World::tables_of))]
 fn tables(alloc: Global, document: &Table) -> Result<Tables, WorldFault>
@@ -42,17 +66,15 @@ fn tables(alloc: Global, document: &Table) -> Result<Tables, WorldFault>
     ensures sound { IfOk result AreTables }
 {
     let rules = rules(alloc, document)?;
-    let terrains = list::<TerrainDraft>(alloc, 20, "terrain", document)?;
-    let items = optional_list::<ItemDraft>(alloc, 200, "item", document)?;
-    let skills = optional_list::<Skill>(alloc, 100, "skill", document)?;
-    let kinds = optional_list::<KindDraft>(alloc, 100, "kind", document)?;
-    let regions = list::<RegionDraft>(alloc, 2_500, "region", document)?;
+    let terrains = list::<TerrainDraft>(alloc, MOST_TERRAINS, "terrain", document)?;
+    let things = read_things(alloc, document)?;
+    let regions = list::<RegionDraft>(alloc, MOST_REGIONS, "region", document)?;
     Ok(Tables {
         rules,
         terrains,
-        items,
-        skills,
-        kinds,
+        items: things.items,
+        skills: things.skills,
+        kinds: things.kinds,
         regions,
     })
 }
@@ -154,7 +176,8 @@ fn join(alloc: Global, all: Tables, parts: Parts) -> Result<World, WorldFault>
     } = parts;
     let regions = by_number(alloc, regions.into_vec())?;
     mutual_neighbours(alloc, &regions, all.regions.as_slice())?;
-    with_land(alloc, rules, terrains, items, all.skills, kinds, regions)
+    let skills = all.into_skills();
+    with_land(alloc, rules, terrains, items, skills, kinds, regions)
 }
 
 /// The world that tables describe, where names and numbers keep their rules.

@@ -1,12 +1,15 @@
 //! The tables `[[region]]`.
 ghost use Rattle.std.specs.Prelude.{length};
-ghost use Rattle.atl_tables.specs.Drafts.{IsRegionDraft};
-ghost use Rattle.atl_tables.specs.RegionTable.{region_keys, region_from, region_known, region_of};
+ghost use Rattle.toml.specs.View.{table_view};
+ghost use Rattle.atl_tables.specs.Drafts.{IsPlace, IsRegionDraft};
+ghost use Rattle.atl_tables.specs.Faults.{first_fault, Gives};
+ghost use Rattle.atl_tables.specs.RegionTable.{place_keys, place_from, side_keys, sides_from, region_keys, region_from, region_known, region_of};
 ghost use Rattle.atl_tables.specs.Planet.{IsRegionPlan};
 
 use crate::elements::Element;
 use crate::fault::WorldFault;
 use crate::keys::{self, indexed};
+use crate::limits::{LAST_REGION, MOST_AMOUNT};
 use crate::tables::{Draft, Tables};
 use crate::text::Text;
 use crate::titled::known;
@@ -14,18 +17,82 @@ use crate::world::RegionPlan;
 use std::alloc::Global;
 use toml::Table;
 
-/// A region, with its terrain by name.
-#[derive(Drop, Debug)]
-pub struct RegionDraft {
+/// What a region is, with its terrain by name.
+#[derive(Debug)]
+pub struct Place {
     pub number: u32,
     pub name: Text,
     pub terrain: Text,
     pub peasants: u32,
     pub money: u32,
+}
+
+impl Drop for Place {
+    fn drop(self) {
+        let Place {
+            number: _,
+            name: _,
+            terrain: _,
+            peasants: _,
+            money: _,
+        } = self;
+    }
+}
+
+/// The numbers of its neighbours.
+#[derive(Drop, Debug)]
+pub struct Sides {
     pub north: Option<u32>,
     pub south: Option<u32>,
     pub east: Option<u32>,
     pub west: Option<u32>,
+}
+
+/// A region, with its terrain by name.
+#[derive(Drop, Debug)]
+pub struct RegionDraft {
+    pub place: Place,
+    pub sides: Sides,
+}
+
+impl Element for Place {
+    ghost conditions = { place_keys };
+
+    ghost record_of = { place_from };
+
+    ghost is_sound = { IsPlace };
+
+    #[tactic(auto, unfolding(crate::specs::RegionTable::place_keys, crate::specs::RegionTable::place_from))]
+    fn read(alloc: Global, at: &str, t: &Table) -> Result<Place, WorldFault> {
+        let number = keys::number(alloc, 1, LAST_REGION, "number", at, t)?;
+        let name = keys::name(alloc, "name", at, t)?;
+        let terrain = keys::text(alloc, "terrain", at, t)?;
+        let peasants = keys::number(alloc, 0, MOST_AMOUNT, "peasants", at, t)?;
+        let money = keys::number(alloc, 0, MOST_AMOUNT, "money", at, t)?;
+        Ok(Place {
+            number,
+            name,
+            terrain,
+            peasants,
+            money,
+        })
+    }
+}
+
+#[tactic(auto, unfolding(crate::specs::RegionTable::side_keys, crate::specs::RegionTable::sides_from))]
+fn read_sides(alloc: Global, at: &str, t: &Table) -> Result<Sides, WorldFault>
+    ensures { Gives (λ s. s) result (first_fault (side_keys at.now (table_view t.now))) (sides_from at.now (table_view t.now)) }
+{
+    let north = keys::optional_number(alloc, 1, LAST_REGION, "north", at, t)?;
+    let south = keys::optional_number(alloc, 1, LAST_REGION, "south", at, t)?;
+    let east = keys::optional_number(alloc, 1, LAST_REGION, "east", at, t)?;
+    let west = keys::optional_number(alloc, 1, LAST_REGION, "west", at, t)?;
+    Ok(Sides {
+        north,
+        south,
+        east,
+        west,
+    })
 }
 
 impl Element for RegionDraft {
@@ -37,26 +104,9 @@ impl Element for RegionDraft {
 
     #[tactic(auto, unfolding(crate::specs::RegionTable::region_keys, crate::specs::RegionTable::region_from))]
     fn read(alloc: Global, at: &str, t: &Table) -> Result<RegionDraft, WorldFault> {
-        let number = keys::number(alloc, 1, 9_999, "number", at, t)?;
-        let name = keys::name(alloc, "name", at, t)?;
-        let terrain = keys::text(alloc, "terrain", at, t)?;
-        let peasants = keys::number(alloc, 0, 999_999_999, "peasants", at, t)?;
-        let money = keys::number(alloc, 0, 999_999_999, "money", at, t)?;
-        let north = keys::optional_number(alloc, 1, 9_999, "north", at, t)?;
-        let south = keys::optional_number(alloc, 1, 9_999, "south", at, t)?;
-        let east = keys::optional_number(alloc, 1, 9_999, "east", at, t)?;
-        let west = keys::optional_number(alloc, 1, 9_999, "west", at, t)?;
-        Ok(RegionDraft {
-            number,
-            name,
-            terrain,
-            peasants,
-            money,
-            north,
-            south,
-            east,
-            west,
-        })
+        let place = Place::read(alloc, at, t)?;
+        let sides = read_sides(alloc, at, t)?;
+        Ok(RegionDraft { place, sides })
     }
 }
 
@@ -79,19 +129,19 @@ impl Draft for RegionDraft {
             all.terrains.as_slice(),
             "terrain",
             place.as_str(),
-            &self.terrain,
+            &self.place.terrain,
         )?;
-        let name = self.name.copy(alloc)?;
+        let name = self.place.name.copy(alloc)?;
         Ok(RegionPlan {
-            number: self.number,
+            number: self.place.number,
             name,
             terrain,
-            peasants: self.peasants,
-            money: self.money,
-            north: self.north,
-            south: self.south,
-            east: self.east,
-            west: self.west,
+            peasants: self.place.peasants,
+            money: self.place.money,
+            north: self.sides.north,
+            south: self.sides.south,
+            east: self.sides.east,
+            west: self.sides.west,
         })
     }
 }

@@ -17,7 +17,7 @@ pub(crate) fn no_twin_numbers(alloc: Global, drafts: &[RegionDraft]) -> Result<(
 {
     let mut seen: Numbered<()> = Numbered::new(alloc);
     for i in 0..drafts.len() {
-        let number = drafts[i].number;
+        let number = drafts[i].place.number;
         if let Some(()) = seen.get(number) {
             let place = indexed(alloc, "region", i)?;
             return Err(WorldFault::TwoNames(path(alloc, place.as_str(), "number")?));

@@ -1,13 +1,15 @@
 //! The table `[rules]`.
 ghost use Rattle.std.specs.Prelude.{IfOk, length};
 ghost use Rattle.toml.specs.View.{table_view};
-ghost use Rattle.atl_tables.specs.Drafts.{AreRulesDraft, AreTables};
+ghost use Rattle.atl_tables.specs.Drafts.{ArePrices, ArePeasantRules, AreMenRules, AreRulesDraft, AreTables};
 ghost use Rattle.atl_tables.specs.Faults.{first_fault, Gives};
 ghost use Rattle.atl_tables.specs.Planet.{AreRules};
-ghost use Rattle.atl_tables.specs.RulesTable.{rules_keys, rules_from, rules_conditions, rules_in, rules_known, rules_of};
+ghost use Rattle.atl_tables.specs.RulesTable.{price_keys, prices_from, peasant_keys, peasants_from, men_keys, men_from, skill_name_keys, skill_names_from, rules_keys, rules_from, rules_conditions, rules_in, rules_known, rules_of};
 
+use crate::elements::Element;
 use crate::fault::WorldFault;
 use crate::keys;
+use crate::limits::MOST_AMOUNT;
 use crate::tables::Tables;
 use crate::text::Text;
 use crate::titled::known_or_absent;
@@ -15,54 +17,151 @@ use crate::world::Rules;
 use std::alloc::Global;
 use toml::Table;
 
-/// The rules, with skills by name.
+/// What men cost and bring.
 #[derive(Drop, Debug)]
-pub struct RulesDraft {
+pub struct Prices {
     pub maintenance: u32,
     pub tax_per_man: u32,
     pub recruit_price: u32,
+}
+
+/// What peasants do in a month.
+#[derive(Drop, Debug)]
+pub struct PeasantRules {
     pub recruit_fraction: u32,
     pub growth: u32,
     pub income: u32,
+}
+
+/// What men start with, weigh and carry.
+#[derive(Drop, Debug)]
+pub struct MenRules {
     pub start_money: u32,
     pub man_weight: u32,
     pub man_carry: u32,
+}
+
+/// The skills that the rules speak of, by name.
+#[derive(Debug)]
+pub struct SkillNames {
     pub observation: Option<Text>,
     pub stealth: Option<Text>,
     pub sailing: Option<Text>,
 }
 
-#[tactic(auto, unfolding(crate::specs::RulesTable::rules_keys, crate::specs::RulesTable::rules_from))]
-fn rules_from(alloc: Global, at: &str, t: &Table) -> Result<RulesDraft, WorldFault>
-    ensures value { Gives (λ r. r) result (first_fault (rules_keys at.now (table_view t.now))) (rules_from at.now (table_view t.now)) }
-    ensures sound { IfOk result AreRulesDraft }
+impl Drop for SkillNames {
+    fn drop(self) {
+        let SkillNames {
+            observation: _,
+            stealth: _,
+            sailing: _,
+        } = self;
+    }
+}
+
+/// The rules, with skills by name.
+#[derive(Drop, Debug)]
+pub struct RulesDraft {
+    pub prices: Prices,
+    pub peasants: PeasantRules,
+    pub men: MenRules,
+    pub skills: SkillNames,
+}
+
+impl Element for Prices {
+    ghost conditions = { price_keys };
+
+    ghost record_of = { prices_from };
+
+    ghost is_sound = { ArePrices };
+
+    #[tactic(auto, unfolding(crate::specs::RulesTable::price_keys, crate::specs::RulesTable::prices_from))]
+    fn read(alloc: Global, at: &str, t: &Table) -> Result<Prices, WorldFault> {
+        let maintenance = keys::number(alloc, 1, 1_000, "maintenance", at, t)?;
+        let tax_per_man = keys::number(alloc, 0, 1_000, "tax_per_man", at, t)?;
+        let recruit_price = keys::number(alloc, 1, 1_000_000, "recruit_price", at, t)?;
+        Ok(Prices {
+            maintenance,
+            tax_per_man,
+            recruit_price,
+        })
+    }
+}
+
+impl Element for PeasantRules {
+    ghost conditions = { peasant_keys };
+
+    ghost record_of = { peasants_from };
+
+    ghost is_sound = { ArePeasantRules };
+
+    #[tactic(auto, unfolding(crate::specs::RulesTable::peasant_keys, crate::specs::RulesTable::peasants_from))]
+    fn read(alloc: Global, at: &str, t: &Table) -> Result<PeasantRules, WorldFault> {
+        let recruit_fraction = keys::number(alloc, 1, 1_000, "recruit_fraction", at, t)?;
+        let growth = keys::number(alloc, 0, 100, "growth", at, t)?;
+        let income = keys::number(alloc, 0, 1_000, "income", at, t)?;
+        Ok(PeasantRules {
+            recruit_fraction,
+            growth,
+            income,
+        })
+    }
+}
+
+impl Element for MenRules {
+    ghost conditions = { men_keys };
+
+    ghost record_of = { men_from };
+
+    ghost is_sound = { AreMenRules };
+
+    #[tactic(auto, unfolding(crate::specs::RulesTable::men_keys, crate::specs::RulesTable::men_from))]
+    fn read(alloc: Global, at: &str, t: &Table) -> Result<MenRules, WorldFault> {
+        let start_money = keys::number(alloc, 0, MOST_AMOUNT, "start_money", at, t)?;
+        let man_weight = keys::number(alloc, 0, 10_000, "man_weight", at, t)?;
+        let man_carry = keys::number(alloc, 0, 10_000, "man_carry", at, t)?;
+        Ok(MenRules {
+            start_money,
+            man_weight,
+            man_carry,
+        })
+    }
+}
+
+#[tactic(auto, unfolding(crate::specs::RulesTable::skill_name_keys, crate::specs::RulesTable::skill_names_from))]
+fn skill_names(alloc: Global, at: &str, t: &Table) -> Result<SkillNames, WorldFault>
+    ensures { Gives (λ s. s) result (first_fault (skill_name_keys at.now (table_view t.now))) (skill_names_from at.now (table_view t.now)) }
 {
-    let maintenance = keys::number(alloc, 1, 1_000, "maintenance", at, t)?;
-    let tax_per_man = keys::number(alloc, 0, 1_000, "tax_per_man", at, t)?;
-    let recruit_price = keys::number(alloc, 1, 1_000_000, "recruit_price", at, t)?;
-    let recruit_fraction = keys::number(alloc, 1, 1_000, "recruit_fraction", at, t)?;
-    let growth = keys::number(alloc, 0, 100, "growth", at, t)?;
-    let income = keys::number(alloc, 0, 1_000, "income", at, t)?;
-    let start_money = keys::number(alloc, 0, 999_999_999, "start_money", at, t)?;
-    let man_weight = keys::number(alloc, 0, 10_000, "man_weight", at, t)?;
-    let man_carry = keys::number(alloc, 0, 10_000, "man_carry", at, t)?;
     let observation = keys::optional_text(alloc, "observation", at, t)?;
     let stealth = keys::optional_text(alloc, "stealth", at, t)?;
     let sailing = keys::optional_text(alloc, "sailing", at, t)?;
-    Ok(RulesDraft {
-        maintenance,
-        tax_per_man,
-        recruit_price,
-        recruit_fraction,
-        growth,
-        income,
-        start_money,
-        man_weight,
-        man_carry,
+    Ok(SkillNames {
         observation,
         stealth,
         sailing,
     })
+}
+
+impl Element for RulesDraft {
+    ghost conditions = { rules_keys };
+
+    ghost record_of = { rules_from };
+
+    ghost is_sound = { AreRulesDraft };
+
+    #[tactic(auto, unfolding(crate::specs::RulesTable::rules_keys, crate::specs::RulesTable::rules_from))]
+    fn read(alloc: Global, at: &str, t: &Table) -> Result<RulesDraft, WorldFault> {
+        let prices = Prices::read(alloc, at, t)?;
+        let peasants = PeasantRules::read(alloc, at, t)?;
+        let men = MenRules::read(alloc, at, t)?;
+        let skills = skill_names(alloc, at, t)?;
+        Ok(RulesDraft {
+            prices,
+            peasants,
+            men,
+            skills,
+        })
+    }
 }
 
 /// The rules of the document.
@@ -72,7 +171,7 @@ pub(crate) fn rules(alloc: Global, document: &Table) -> Result<RulesDraft, World
     ensures sound { IfOk result AreRulesDraft }
 {
     let t = keys::table(alloc, "rules", document)?;
-    rules_from(alloc, "rules", t)
+    RulesDraft::read(alloc, "rules", t)
 }
 
 /// The rules, with skills by number.
@@ -82,21 +181,26 @@ pub(crate) fn resolve_rules(alloc: Global, all: &Tables) -> Result<Rules, WorldF
     ensures value { Gives (λ r. r) result (first_fault (rules_known all.now)) (rules_of all.now) }
     ensures sound { IfOk result (AreRules (length all.now.skills)) }
 {
-    let draft = &all.rules;
-    let skills = all.skills.as_slice();
-    let observation = known_or_absent(alloc, skills, "observation", "rules", &draft.observation)?;
-    let stealth = known_or_absent(alloc, skills, "stealth", "rules", &draft.stealth)?;
-    let sailing = known_or_absent(alloc, skills, "sailing", "rules", &draft.sailing)?;
+    let RulesDraft {
+        prices,
+        peasants,
+        men,
+        skills,
+    } = &all.rules;
+    let known = all.skills.as_slice();
+    let observation = known_or_absent(alloc, known, "observation", "rules", &skills.observation)?;
+    let stealth = known_or_absent(alloc, known, "stealth", "rules", &skills.stealth)?;
+    let sailing = known_or_absent(alloc, known, "sailing", "rules", &skills.sailing)?;
     Ok(Rules {
-        maintenance: draft.maintenance,
-        tax_per_man: draft.tax_per_man,
-        recruit_price: draft.recruit_price,
-        recruit_fraction: draft.recruit_fraction,
-        growth: draft.growth,
-        income: draft.income,
-        start_money: draft.start_money,
-        man_weight: draft.man_weight,
-        man_carry: draft.man_carry,
+        maintenance: prices.maintenance,
+        tax_per_man: prices.tax_per_man,
+        recruit_price: prices.recruit_price,
+        recruit_fraction: peasants.recruit_fraction,
+        growth: peasants.growth,
+        income: peasants.income,
+        start_money: men.start_money,
+        man_weight: men.man_weight,
+        man_carry: men.man_carry,
         observation,
         stealth,
         sailing,

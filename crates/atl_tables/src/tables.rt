@@ -17,7 +17,7 @@ use crate::world::Skill;
 use std::alloc::Global;
 
 /// What the tables of a document say, before names are looked up.
-#[derive(Drop, Debug)]
+#[derive(Debug)]
 pub struct Tables {
     pub rules: RulesDraft,
     pub terrains: Sequence<TerrainDraft>,
@@ -25,6 +25,36 @@ pub struct Tables {
     pub skills: Sequence<Skill>,
     pub kinds: Sequence<KindDraft>,
     pub regions: Sequence<RegionDraft>,
+}
+
+impl Tables {
+    /// The skills, of which the world has what the file says.
+    pub(crate) fn into_skills(self) -> Sequence<Skill>
+        ensures { result ≡ self.skills }
+    {
+        let Tables {
+            rules: _,
+            terrains: _,
+            items: _,
+            skills,
+            kinds: _,
+            regions: _,
+        } = self;
+        skills
+    }
+}
+
+impl Drop for Tables {
+    fn drop(self) {
+        let Tables {
+            rules: _,
+            terrains: _,
+            items: _,
+            skills: _,
+            kinds: _,
+            regions: _,
+        } = self;
+    }
 }
 
 /// What a table says, before its names are looked up.

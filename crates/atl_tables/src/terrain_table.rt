@@ -1,14 +1,15 @@
 //! The tables `[[terrain]]`.
 ghost use Rattle.std.specs.Prelude.{length};
-ghost use Rattle.atl_tables.specs.Drafts.{IsTerrainDraft};
+ghost use Rattle.atl_tables.specs.Drafts.{IsEconomy, IsTerrainDraft};
 ghost use Rattle.atl_tables.specs.Each.{each};
 ghost use Rattle.atl_tables.specs.Faults.{first_fault, Gives};
 ghost use Rattle.atl_tables.specs.Planet.{IsTerrain};
-ghost use Rattle.atl_tables.specs.TerrainTable.{terrain_keys, terrain_from, terrain_twins, terrain_known, terrain_of};
+ghost use Rattle.atl_tables.specs.TerrainTable.{economy_keys, economy_from, terrain_keys, terrain_from, terrain_twins, terrain_known, terrain_of};
 
 use crate::elements::Element;
 use crate::fault::WorldFault;
 use crate::keys::{self, indexed, path};
+use crate::limits::MOST_AMOUNT;
 use crate::output_table::{Output, amounts_of, known_keys, no_twin_keys, outputs};
 use crate::sequence::Sequence;
 use crate::tables::{Draft, Tables};
@@ -18,16 +19,55 @@ use crate::world::Terrain;
 use std::alloc::Global;
 use toml::Table;
 
-/// A terrain, with its output by names of items.
+/// What a region of a terrain pays, and the most that it holds.
 #[derive(Drop, Debug)]
-pub struct TerrainDraft {
-    pub name: Text,
-    pub land: bool,
+pub struct Economy {
     pub wage: u32,
     pub places: u32,
     pub money_limit: u32,
     pub peasant_limit: u32,
+}
+
+/// A terrain, with its output by names of items.
+#[derive(Debug)]
+pub struct TerrainDraft {
+    pub name: Text,
+    pub land: bool,
+    pub economy: Economy,
     pub output: Sequence<Output>,
+}
+
+impl Drop for TerrainDraft {
+    fn drop(self) {
+        let TerrainDraft {
+            name: _,
+            land: _,
+            economy: _,
+            output: _,
+        } = self;
+    }
+}
+
+impl Element for Economy {
+    ghost conditions = { economy_keys };
+
+    ghost record_of = { economy_from };
+
+    ghost is_sound = { IsEconomy };
+
+    #[tactic(auto, unfolding(crate::specs::TerrainTable::economy_keys, crate::specs::TerrainTable::economy_from))]
+    fn read(alloc: Global, at: &str, t: &Table) -> Result<Economy, WorldFault> {
+        let wage = keys::number(alloc, 1, 1_000_000, "wage", at, t)?;
+        let places = keys::number(alloc, 0, MOST_AMOUNT, "places", at, t)?;
+        let money_limit = keys::number(alloc, 0, MOST_AMOUNT, "money_limit", at, t)?;
+        let peasant_limit = keys::number(alloc, 0, MOST_AMOUNT, "peasant_limit", at, t)?;
+        Ok(Economy {
+            wage,
+            places,
+            money_limit,
+            peasant_limit,
+        })
+    }
 }
 
 impl Element for TerrainDraft {
@@ -41,18 +81,12 @@ impl Element for TerrainDraft {
     fn read(alloc: Global, at: &str, t: &Table) -> Result<TerrainDraft, WorldFault> {
         let name = keys::name(alloc, "name", at, t)?;
         let land = keys::flag(alloc, "land", at, t)?;
-        let wage = keys::number(alloc, 1, 1_000_000, "wage", at, t)?;
-        let places = keys::number(alloc, 0, 999_999_999, "places", at, t)?;
-        let money_limit = keys::number(alloc, 0, 999_999_999, "money_limit", at, t)?;
-        let peasant_limit = keys::number(alloc, 0, 999_999_999, "peasant_limit", at, t)?;
+        let economy = Economy::read(alloc, at, t)?;
         let output = outputs(alloc, at, t)?;
         Ok(TerrainDraft {
             name,
             land,
-            wage,
-            places,
-            money_limit,
-            peasant_limit,
+            economy,
             output,
         })
     }
@@ -87,10 +121,10 @@ impl Draft for TerrainDraft {
         Ok(Terrain {
             name,
             land: self.land,
-            wage: self.wage,
-            places: self.places,
-            money_limit: self.money_limit,
-            peasant_limit: self.peasant_limit,
+            wage: self.economy.wage,
+            places: self.economy.places,
+            money_limit: self.economy.money_limit,
+            peasant_limit: self.economy.peasant_limit,
             output,
         })
     }

@@ -11,10 +11,18 @@ use std::alloc::{AllocError, Global};
 use std::marker::Model;
 
 /// A map from numbers to values that keeps which of them were changed, put in or taken out.
-#[derive(Drop)]
 pub struct Tracked<V> {
     values: Numbered<V>,
     marks: Numbered<bool>,
+}
+
+impl<V: Drop> Drop for Tracked<V> {
+    fn drop(self) {
+        let Tracked {
+            values: _,
+            marks: _,
+        } = self;
+    }
 }
 
 impl<V> Model for Tracked<V> {

@@ -38,7 +38,7 @@ pub struct Rules {
 }
 
 /// A sort of land or water.
-#[derive(Drop, Debug)]
+#[derive(Debug)]
 pub struct Terrain {
     pub name: Text,
     /// Whether it is land.
@@ -53,6 +53,20 @@ pub struct Terrain {
     pub peasant_limit: u32,
     /// How much of each item, by its number, is found in a month.
     pub output: Sequence<u32>,
+}
+
+impl Drop for Terrain {
+    fn drop(self) {
+        let Terrain {
+            name: _,
+            land: _,
+            wage: _,
+            places: _,
+            money_limit: _,
+            peasant_limit: _,
+            output: _,
+        } = self;
+    }
 }
 
 /// A thing that units hold and make.
@@ -125,7 +139,6 @@ pub struct RegionPlan {
 
 /// A whole world. Its terrains, items, skills and kinds are numbered from 0 in the order of the file, its regions stand
 /// under their own numbers.
-#[derive(Drop)]
 pub struct World {
     rules: Rules,
     terrains: Sequence<Terrain>,
@@ -135,6 +148,20 @@ pub struct World {
     regions: Numbered<RegionPlan>,
     // The numbers of the regions with land, in rising order.
     land: Sequence<u32>,
+}
+
+impl Drop for World {
+    fn drop(self) {
+        let World {
+            rules: _,
+            terrains: _,
+            items: _,
+            skills: _,
+            kinds: _,
+            regions: _,
+            land: _,
+        } = self;
+    }
 }
 
 impl Model for World {

@@ -4,6 +4,7 @@ use Rattle.std.proofs.lemmas.Map.Iter.{rest_more}
 use Rattle.std.proofs.lemmas.List.Elements.{All-push}
 use Rattle.toml.specs.Data.{as_integer}
 use Rattle.toml.specs.View.{view, members_view}
+use Rattle.atl_tables.specs.Limits.{most_amount}
 use Rattle.atl_tables.specs.Drafts.{IsOutput}
 use Rattle.atl_tables.specs.Keys.{path, ranged}
 use Rattle.atl_tables.proofs.OutputLaws.{keys_on, amounts_on}
@@ -17,7 +18,7 @@ loop-key-preserved c =
     let rest = members_view c.next.new.self in
     let n = c.in_ok-amount.amount in
     let here = rest_more deref_pair c.loop-key.key-iterator c.next.new.self c.next.result (c.in-Some.key, c.in-Some.value) c.in-Some.is c.next.ensures.steps in
-    let one : ranged (path at key) 0 999999999 (as_integer d) ≡ Ok n = rw (← c.as_str-key.ensures.value) c.in_ok-amount.ensures.value in
+    let one : ranged (path at key) 0 most_amount (as_integer d) ≡ Ok n = rw (← c.as_str-key.ensures.value) c.in_ok-amount.ensures.value in
     let so_far = c.loop-key.invariant in
     rw (c.in_ok-push.ensures.ok, c.in_ok-item.ensures, c.as_str-key.ensures.value) (record {
       faults = keys_on at key d rest n one _ (rw here at so_far.faults);

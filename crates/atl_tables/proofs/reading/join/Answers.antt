@@ -42,7 +42,7 @@ with_land-requires c =
     let made = c.in_ok-regions.ensures.value ∙ regions_are all c.args.parts c.into_vec.result.items c.requires.parts c.into_vec.ensures in
     let e = planet_is all c.args.parts c.in_ok-regions.regions c.requires.parts made in
     let back = rw (c.as_slice.ensures, made) at c.in_ok-mutual_neighbours.ensures.back in
-    record { world = subst (λ (w : Planet). 0 < length (land_of w) → IsWorld w) (sym e) (is_world all c.requires.all (subst (ArePartsOf all) c.requires.parts c.requires.sound) back) }
+    record { world = rw c.into_skills-skills.ensures (subst (λ (w : Planet). 0 < length (land_of w) → IsWorld w) (sym e) (is_world all c.requires.all (subst (ArePartsOf all) c.requires.parts c.requires.sound) back)) }
 
 pub returns : goal.returns
 unfolding neighbours_are_mutual
@@ -51,4 +51,4 @@ returns c =
     let made = c.in_ok-regions.ensures.value ∙ regions_are all c.args.parts c.into_vec.result.items c.requires.parts c.into_vec.ensures in
     let e = planet_is all c.args.parts c.in_ok-regions.regions c.requires.parts made in
     gives_after (λ w. w) c.with_land.result (neighbours_are_mutual all) (land all) (planet_of all) (rw (c.as_slice.ensures, made) at c.in_ok-mutual_neighbours.ensures.value.0)
-    (subst (λ (w : Planet). Gives (λ x. x) c.with_land.result (first_fault (is_some_land (land_of w))) w) e c.with_land.ensures)
+    (subst (λ (w : Planet). Gives (λ x. x) c.with_land.result (first_fault (is_some_land (land_of w))) w) e (rw c.into_skills-skills.ensures at c.with_land.ensures))

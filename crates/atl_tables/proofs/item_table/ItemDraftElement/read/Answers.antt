@@ -4,30 +4,30 @@ use Rattle.atl_tables.specs.ItemTable.{item_keys, item_from}
 use Rattle.atl_tables.proofs.FaultLaws.{stops_first}
 use Rattle.atl_tables.proofs.item_table.ItemDraftElement.read.Goals as goal
 
-pub returns-in_err-skill-clause-value : goal.returns-in_err-skill-clause-value
+pub returns-in_err-name-clause-value : goal.returns-in_err-name-clause-value
 unfolding item_keys item_from
-returns-in_err-skill-clause-value c =
-    let p = err_from_is_err_and c.from_residual-in_err-skill.result c.from_residual-in_err-skill.ensures.1 in
-    rw (p.1, p.2, c.in_ok-name.ensures.value, c.in_ok-weight.ensures.value, c.in_ok-carry.ensures.value) (stops_first (λ x. x) c.in_err-skill.field-0.0 _ _ c.in_err-skill.ensures)
+returns-in_err-name-clause-value c =
+    let p = err_from_is_err_and c.from_residual.result c.from_residual.ensures.1 in
+    rw (p.1, p.2) (stops_first (λ x. x) c.in_err-name.field-0.0 _ _ c.in_err-name.ensures.value)
 
-pub returns-in_err-level-clause-value : goal.returns-in_err-level-clause-value
+pub returns-in_err-weight-clause-value : goal.returns-in_err-weight-clause-value
 unfolding item_keys item_from
-returns-in_err-level-clause-value c =
-    let p = err_from_is_err_and c.from_residual-in_err-level.result c.from_residual-in_err-level.ensures.1 in
-    rw (p.1, p.2, c.in_ok-name.ensures.value, c.in_ok-weight.ensures.value, c.in_ok-carry.ensures.value, c.in_ok-skill.ensures) (stops_first (λ x. x) c.in_err-level.field-0.0 _ _ c.in_err-level.ensures.value)
+returns-in_err-weight-clause-value c =
+    let p = err_from_is_err_and c.from_residual-in_err-weight.result c.from_residual-in_err-weight.ensures.1 in
+    rw (p.1, p.2, c.in_ok-name.ensures.value) (stops_first (λ x. x) c.in_err-weight.field-0.0 _ _ c.in_err-weight.ensures.value)
 
-pub returns-in_err-raw-clause-value : goal.returns-in_err-raw-clause-value
+pub returns-in_err-carry-clause-value : goal.returns-in_err-carry-clause-value
 unfolding item_keys item_from
-returns-in_err-raw-clause-value c =
-    let p = err_from_is_err_and c.from_residual-in_err-raw.result c.from_residual-in_err-raw.ensures.1 in
-    rw (p.1, p.2, c.in_ok-name.ensures.value, c.in_ok-weight.ensures.value, c.in_ok-carry.ensures.value, c.in_ok-skill.ensures, c.in_ok-level.ensures.value) (stops_first (λ x. x) c.in_err-raw.field-0.0 _ _ c.in_err-raw.ensures)
+returns-in_err-carry-clause-value c =
+    let p = err_from_is_err_and c.from_residual-in_err-carry.result c.from_residual-in_err-carry.ensures.1 in
+    rw (p.1, p.2, c.in_ok-name.ensures.value, c.in_ok-weight.ensures.value) (stops_first (λ x. x) c.in_err-carry.field-0.0 _ _ c.in_err-carry.ensures.value)
 
-pub returns-in_err-raw_count-clause-value : goal.returns-in_err-raw_count-clause-value
+pub returns-in_err-making-clause-value : goal.returns-in_err-making-clause-value
 unfolding item_keys item_from
-returns-in_err-raw_count-clause-value c =
-    let p = err_from_is_err_and c.from_residual-in_err-raw_count.result c.from_residual-in_err-raw_count.ensures.1 in
-    rw (p.1, p.2, c.in_ok-name.ensures.value, c.in_ok-weight.ensures.value, c.in_ok-carry.ensures.value, c.in_ok-skill.ensures, c.in_ok-level.ensures.value, c.in_ok-raw.ensures) (stops_first (λ x. x) c.in_err-raw_count.field-0.0 _ _ c.in_err-raw_count.ensures.value)
+returns-in_err-making-clause-value c =
+    let p = err_from_is_err_and c.from_residual-in_err-making.result c.from_residual-in_err-making.ensures.1 in
+    rw (p.1, p.2, c.in_ok-name.ensures.value, c.in_ok-weight.ensures.value, c.in_ok-carry.ensures.value) c.in_err-making.ensures.value
 
 pub returns-clause-value : goal.returns-clause-value
 unfolding item_keys item_from
-returns-clause-value c = rw (c.in_ok-name.ensures.value, c.in_ok-weight.ensures.value, c.in_ok-carry.ensures.value, c.in_ok-skill.ensures, c.in_ok-level.ensures.value, c.in_ok-raw.ensures, c.in_ok-raw_count.ensures.value) (refl, refl)
+returns-clause-value c = rw (c.in_ok-name.ensures.value, c.in_ok-weight.ensures.value, c.in_ok-carry.ensures.value, c.in_ok-making.ensures.value.0, c.in_ok-making.ensures.value.1) (refl, refl)
