@@ -51,7 +51,7 @@ optional_apart key false row = (λ y none. absurd none, tt)
 not_zero : (a : ℕ) → (a == 0) ≡ false → a ≢ 0
 not_zero a differs same = grind (arith, nat_tests)
 
-is_not_zero : (a : ℕ) → a ≢ 0 → (a == 0) ≡ false
+pub is_not_zero : (a : ℕ) → a ≢ 0 → (a == 0) ≡ false
 is_not_zero a apart = elim (cases_Bool (a == 0)) [ inl same ↦ absurd (apart (grind (arith, nat_tests))) | inr differs ↦ differs ]
 
 three_same : (a b c d e f : ℕ) → ◌≡◌ {A = Row} (has_key a b c) (has_key d e f) → (a ≡ d) × (b ≡ e) × (c ≡ f)

@@ -4,6 +4,7 @@ pub mod StatementLaws
 pub mod UpsertLaws
 pub mod MakeLaws
 pub mod KeepLaws
+pub mod WriteLaws
 pub mod ReadLaws
 pub mod CreateLaws
 pub mod LoadLaws
@@ -21,6 +22,7 @@ pub mod HasRowLaws
 pub mod BooksRowLaws
 pub mod HeadRowLaws
 pub mod ShownLaws
+pub mod RowsLaws
 pub mod CampaignReadLaws
 pub mod FactionReadLaws
 pub mod RegionReadLaws

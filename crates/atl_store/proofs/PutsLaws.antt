@@ -1,5 +1,5 @@
 -- Rows that are put one after another.
-use Rattle.std.proofs.Common.{◌≡◌, ◌≢◌, ◌↔◌, ◌++◌, ℕ, List, [], ◌∷◌, ◌∙◌, inl, inr}
+use Rattle.std.proofs.Common.{◌≡◌, ◌≢◌, ◌↔◌, ◌++◌, ℕ, List, [], ◌∷◌, refl, sym, ◌∙◌, subst, inl, inr}
 use Rattle.sqlite.specs.Order.{Row}
 use Rattle.sqlite.specs.Table.{Table}
 use Rattle.sqlite.specs.Effect.{Database}
@@ -54,6 +54,27 @@ module _ (table : Table) (key : ℕ) where
 
   pub inside_one : (x : Row) (rest all : List Row) (old mid new : State) → Inside HasTables (Towards table key (x ∷ rest) all) old mid → Inside HasTables (Puts table key x) mid new → Inside HasTables (Towards table key rest all) old new
   inside_one x rest all old mid new so_far more = inside_rows (x ∷ []) rest all old mid new so_far (more.0, λ has. let did = more.1 has in (puts_one x mid.now new.now did.0, did.1))
+
+  -- nothing is put yet
+  pub none_yet : (rest all : List Row) → rest ≡ all → (s : State) → Inside HasTables (Towards table key rest all) s s
+  none_yet rest all same s = (refl, λ has. (record { rows = λ r. subst (λ rows. puts key rest (Has (rows_in table s.now.trees)) r ↔ puts key rows (Has (rows_in table s.now.trees)) r) same (λ h. h, λ h. h); others = λ t listed other. refl }, has))
+
+  -- nothing is left to put
+  pub all_put : (rest all : List Row) → rest ≡ [] → (old new : State) → Inside HasTables (Towards table key rest all) old new → Inside HasTables (PutsRows table key all) old new
+  all_put rest all none old new did = (
+    did.0,
+    λ has.
+        let made = did.1 has in
+        (record { rows = λ r. subst (λ rows. puts key rows (Has (rows_in table new.now.trees)) r ↔ puts key all (Has (rows_in table old.now.trees)) r) none (made.0.rows r); others = made.0.others }, made.1),
+  )
+
+  -- no row at all
+  pub none_put : (rows : List Row) → rows ≡ [] → (s : State) → Inside HasTables (PutsRows table key rows) s s
+  none_put rows none s = all_put rows rows none s s (none_yet rows rows refl s)
+
+  -- one row
+  pub one_put : (row : Row) (rows : List Row) → rows ≡ row ∷ [] → (old new : State) → Inside HasTables (Puts table key row) old new → Inside HasTables (PutsRows table key rows) old new
+  one_put row rows is old new did = (did.0, λ has. let made = did.1 has in (subst (λ list. PutsRows table key list old.now new.now) (sym is) (puts_one row old.now new.now made.0), made.1))
 
   -- one list after another
   pub inside_both : (xs ys : List Row) (a b c : State) → Inside HasTables (PutsRows table key xs) a b → Inside HasTables (PutsRows table key ys) b c → Inside HasTables (PutsRows table key (xs ++ ys)) a c

@@ -1,12 +1,18 @@
 -- One after the other inside a transaction, and a transaction as a whole.
-use Rattle.std.proofs.Common.{◌≡◌, [], false, true, IsTrue, sym, ap, subst, ◌∙◌, arith}
+use Rattle.std.proofs.Common.{◌≡◌, [], false, true, true≢false, IsTrue, Result, Ok, Err, IsErr, OnOk, OnErr, IfErr, sym, ap, subst, ◌∙◌, inl, inr, arith}
+use Rattle.std.specs.Borrow.{MutBor}
+use Rattle.sqlite.specs.declared.error.Error.{Error}
+use Rattle.sqlite.specs.Steps.{FailsToCommit}
 use Rattle.sqlite_trees.specs.declared.store.Store.{Ghosts}
 use Rattle.sqlite.specs.Effect.{Database}
 use Rattle.sqlite.specs.Held.{Held, state}
-use Rattle.sqlite.specs.State.{State, HasCleanDisk, Survives, Shows, KeepsCounts}
+use Rattle.sqlite.specs.State.{State, HasCleanDisk, Survives, Shows, KeepsCounts, KeepsCommit, IsRolledBack}
 use Rattle.sqlite.proofs.StateLemmas.{survives_then}
 use Rattle.sqlite.proofs.Callers.{survives_begin}
-use Rattle.atl_store.specs.Inside.{HasTables, Inside, Both, Commits, MayLeave}
+use Rattle.atl_store.specs.Inside.{HasTables, Inside, Both, Commits, LeavesOff, MayLeave}
+use Rattle.atl_store.specs.Writes.{Writes, Transacts}
+use Rattle.atl_store.proofs.KeepLaws.{on_ok, if_err}
+use Rattle.atl_store.proofs.WriteLaws.{not_ok}
 
 pub inside_then : (Before : Database → Type 0) (First Second : Database → Database → Type 0) (a b c : State) → Inside Before First a b → Inside HasTables Second b c → Inside Before (Both First Second) a c
 inside_then Before First Second a b c one two = (
@@ -47,3 +53,42 @@ module _ {S : Type 0} (g : Ghosts S) (old begun mid end : Held S) (begins : begu
         idle = shows.mode;
         is_open = shows.is_open;
       }
+
+given_err : {A E P : Type 0} (r : Result A E) → P → OnErr r P
+given_err (Ok a) p = tt
+given_err (Err e) p = p
+
+module _ {S : Type 0} (g : Ghosts S) (old : Held S) (begun mid : MutBor (Held S)) (begins : begun.now ≡ record old { in_transaction = true }) (Before : Database → Type 0) (Does : Database → Database → Type 0) (end : Held S) (over : end.in_transaction ≡ false) where
+  rolled_back : KeepsCommit (state g begun.now) (state g mid.now) → IsRolledBack (state g mid.now) (state g end) → LeavesOff (state g old) (state g end)
+  rolled_back kept back = record {
+    was_open = λ up. subst IsTrue (ap (λ (h : Held S). (state g h).is_open) begins) (kept.was_open (back.was_open up));
+    undone = λ up.
+        let was : (state g mid.now).committed ≡ (state g old).committed = kept.committed (back.was_open up) ∙ ap (λ (h : Held S). (state g h).committed) begins in
+        let now = back.undone up in
+        (now.0 ∙ was, now.1 ∙ was);
+    idle = over;
+  }
+
+  -- the step inside failed, and the transaction is let go
+  pub left_off : {Inner : State → State → Type 0} {A E B F : Type 0} (r : Result A E) {p : Result B F} → IsErr r → Writes g Inner p begun mid
+      → (HasCleanDisk (state g end) → IsRolledBack (state g mid.now) (state g end)) → Survives (state g mid.now) (state g end) (λ _. ⊥) → Transacts g Before Does r old end
+  left_off r failed did back survives = record {
+    ok = λ _. not_ok r _ failed;
+    err = λ clean. given_err r (rolled_back (did.kept (omega (arith, survives.clean))) (back clean));
+    crash = survives_then (state g old) (state g mid.now) (state g end) _ _ (MayLeave Before Does (state g old)) (λ _ db none. absurd none) (λ _ db none. absurd none) (survives_begin g old (state g mid.now) _ (rw begins at did.survives)) survives;
+    idle = over;
+  }
+
+  -- the step inside was done, and its end is that of the commit
+  pub committed : {A B F : Type 0} {b : B} (r : Result A Error) → Writes g (Inside Before Does) {E = F} (Ok b) begun mid
+      → (HasCleanDisk (state g end) → OnOk r (IsTrue (state g mid.now).in_transaction × Shows (state g mid.now) (state g end) (state g mid.now).now (state g mid.now).now false × KeepsCounts (state g mid.now) (state g end) × ((state g end).marks ≡ [])))
+      → (HasCleanDisk (state g end) → IfErr r (FailsToCommit (state g mid.now) (state g end))) → Survives (state g mid.now) (state g end) (λ db. db ≡ (state g mid.now).now.trees) → Transacts g Before Does r old end
+  committed r did done fails survives = record {
+    ok = λ clean. on_ok r (λ shown. committed_after g old begun.now mid.now end begins Before Does did.does survives (λ _. shown) clean) (done clean);
+    err = λ clean.
+        let before : HasCleanDisk (state g mid.now) = omega (arith, survives.clean) in
+        let inside : (state g mid.now).in_transaction ≡ true = (did.does before).0 ∙ ap (λ (h : Held S). h.in_transaction) begins in
+        if_err r (λ e failed. elim failed [ inl fails ↦ rolled_back (did.kept before) fails.3 | inr late ↦ absurd (true≢false (sym inside ∙ late.1)) ]) (fails clean);
+    crash = crash_after g old begun.now mid.now end begins Before Does did.survives did.does survives;
+    idle = over;
+  }

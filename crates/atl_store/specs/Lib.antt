@@ -1,6 +1,7 @@
 pub mod Sets
 pub mod Tables
 pub mod Inside
+pub mod Writes
 pub mod Making
 pub mod Shown
 pub mod PutsHead
@@ -8,6 +9,7 @@ pub mod Written
 pub mod Faults
 pub mod Stored
 pub mod Reading
+pub mod ReadsRows
 pub mod StoredRows
 pub mod Rows
 pub mod Lines

@@ -1,11 +1,12 @@
 //! A whole campaign is written into a new store.
-ghost use Rattle.std.specs.Prelude.{◌≡◌, ◌⊎◌, false, IsTrue, OnOk, OnErr, IfErr};
+ghost use Rattle.std.specs.Prelude.{◌≡◌, false, IsTrue, OnOk, OnErr, IfErr};
 ghost use Rattle.sqlite.specs.Held.{state};
-ghost use Rattle.sqlite.specs.State.{HasCleanDisk, Survives, KeepsCommit};
+ghost use Rattle.sqlite.specs.State.{HasCleanDisk};
 ghost use Rattle.atl_store.specs.Tables.{no_tables};
 ghost use Rattle.atl_store.specs.Rows.{head_of};
 ghost use Rattle.atl_store.specs.PutsHead.{PutsHead};
-ghost use Rattle.atl_store.specs.Inside.{Inside, HasTables, IsBlank, Commits, LeavesOff, MayLeave};
+ghost use Rattle.atl_store.specs.Writes.{Writes, Transacts};
+ghost use Rattle.atl_store.specs.Inside.{Inside, HasTables, IsBlank};
 ghost use Rattle.atl_store.specs.Making.{has_campaign};
 ghost use Rattle.atl_store.specs.Filling.{FillsPlayers, FillsPlaces, FillsPeople, WritesFounding};
 ghost use Rattle.atl_store.specs.Keeps.{Keeps, Spares, MayFound, IsNotEmptyOnly};
@@ -26,10 +27,7 @@ pub(crate) fn put_head<S: Alter>(
     campaign: &Campaign,
     world: &str,
 ) -> Result<(), Error>
-    ensures same_reference { tx.new.conn.ghost_name ≡ tx.old.conn.ghost_name }
-    ensures put { HasCleanDisk (state S.Store tx.new.conn.now) → OnOk result (Inside HasTables (PutsHead (head_of campaign.now.what) world.now) (state S.Store tx.old.conn.now) (state S.Store tx.new.conn.now)) }
-    ensures kept { HasCleanDisk (state S.Store tx.new.conn.now) → KeepsCommit (state S.Store tx.old.conn.now) (state S.Store tx.new.conn.now) }
-    ensures survives { Survives (state S.Store tx.old.conn.now) (state S.Store tx.new.conn.now) (λ _. ⊥) }
+    ensures { Writes S.Store (Inside HasTables (PutsHead (head_of campaign.now.what) world.now)) result tx.old.conn tx.new.conn }
 {
     let row = CampaignRow {
         month: campaign.month(),
@@ -38,8 +36,7 @@ pub(crate) fn put_head<S: Alter>(
         next_structure: campaign.next_structure(),
         pass: campaign.pass().as_str(),
     };
-    put_campaign(tx, &row, world)?;
-    Ok(())
+    put_campaign(tx, &row, world)
 }
 
 /// Puts the campaign's own row, the factions and the reports.
@@ -48,41 +45,29 @@ fn put_players<S: Alter>(
     text: &str,
     campaign: &Campaign,
 ) -> Result<(), Error>
-    ensures same_reference { tx.new.conn.ghost_name ≡ tx.old.conn.ghost_name }
-    ensures put { HasCleanDisk (state S.Store tx.new.conn.now) → OnOk result (Inside HasTables (FillsPlayers text.now campaign.now.what) (state S.Store tx.old.conn.now) (state S.Store tx.new.conn.now)) }
-    ensures kept { HasCleanDisk (state S.Store tx.new.conn.now) → KeepsCommit (state S.Store tx.old.conn.now) (state S.Store tx.new.conn.now) }
-    ensures survives { Survives (state S.Store tx.old.conn.now) (state S.Store tx.new.conn.now) (λ _. ⊥) }
+    ensures { Writes S.Store (Inside HasTables (FillsPlayers text.now campaign.now.what)) result tx.old.conn tx.new.conn }
 {
     put_head(tx, campaign, text)?;
     put_each(tx, campaign.factions())?;
-    put_each(tx, campaign.reports())?;
-    Ok(())
+    put_each(tx, campaign.reports())
 }
 
 /// Puts the regions, the structures and the books.
 fn put_places<S: Alter>(tx: &mut Transaction<'_, S>, campaign: &Campaign) -> Result<(), Error>
-    ensures same_reference { tx.new.conn.ghost_name ≡ tx.old.conn.ghost_name }
-    ensures put { HasCleanDisk (state S.Store tx.new.conn.now) → OnOk result (Inside HasTables (FillsPlaces campaign.now.what) (state S.Store tx.old.conn.now) (state S.Store tx.new.conn.now)) }
-    ensures kept { HasCleanDisk (state S.Store tx.new.conn.now) → KeepsCommit (state S.Store tx.old.conn.now) (state S.Store tx.new.conn.now) }
-    ensures survives { Survives (state S.Store tx.old.conn.now) (state S.Store tx.new.conn.now) (λ _. ⊥) }
+    ensures { Writes S.Store (Inside HasTables (FillsPlaces campaign.now.what)) result tx.old.conn tx.new.conn }
 {
     put_each(tx, campaign.regions())?;
     put_each(tx, campaign.structures())?;
-    put_all_books(tx, campaign)?;
-    Ok(())
+    put_all_books(tx, campaign)
 }
 
 /// Puts the units, what they have, and the mail.
 fn put_people<S: Alter>(tx: &mut Transaction<'_, S>, campaign: &Campaign) -> Result<(), Error>
-    ensures same_reference { tx.new.conn.ghost_name ≡ tx.old.conn.ghost_name }
-    ensures put { HasCleanDisk (state S.Store tx.new.conn.now) → OnOk result (Inside HasTables (FillsPeople campaign.now.what) (state S.Store tx.old.conn.now) (state S.Store tx.new.conn.now)) }
-    ensures kept { HasCleanDisk (state S.Store tx.new.conn.now) → KeepsCommit (state S.Store tx.old.conn.now) (state S.Store tx.new.conn.now) }
-    ensures survives { Survives (state S.Store tx.old.conn.now) (state S.Store tx.new.conn.now) (λ _. ⊥) }
+    ensures { Writes S.Store (Inside HasTables (FillsPeople campaign.now.what)) result tx.old.conn tx.new.conn }
 {
     put_each(tx, campaign.units())?;
     put_all_goods(tx, campaign.units())?;
-    put_each(tx, campaign.mail())?;
-    Ok(())
+    put_each(tx, campaign.mail())
 }
 
 /// Makes the tables and puts all rows of the campaign.
@@ -91,16 +76,12 @@ fn put_founding<S: Alter>(
     text: &str,
     campaign: &Campaign,
 ) -> Result<(), Error>
-    ensures same_reference { tx.new.conn.ghost_name ≡ tx.old.conn.ghost_name }
-    ensures put { HasCleanDisk (state S.Store tx.new.conn.now) → OnOk result (Inside IsBlank (WritesFounding text.now campaign.now.what) (state S.Store tx.old.conn.now) (state S.Store tx.new.conn.now)) }
-    ensures kept { HasCleanDisk (state S.Store tx.new.conn.now) → KeepsCommit (state S.Store tx.old.conn.now) (state S.Store tx.new.conn.now) }
-    ensures survives { Survives (state S.Store tx.old.conn.now) (state S.Store tx.new.conn.now) (λ _. ⊥) }
+    ensures { Writes S.Store (Inside IsBlank (WritesFounding text.now campaign.now.what)) result tx.old.conn tx.new.conn }
 {
     create_tables(tx)?;
     put_players(tx, text, campaign)?;
     put_places(tx, campaign)?;
-    put_people(tx, campaign)?;
-    Ok(())
+    put_people(tx, campaign)
 }
 
 /// The transaction of a creation.
@@ -110,15 +91,11 @@ fn write_founding<S: Alter>(
     campaign: &Campaign,
 ) -> Result<(), Error>
     requires { conn.old.in_transaction ≡ false }
-    ensures ok { HasCleanDisk (state S.Store conn.new) → OnOk result (Commits IsBlank (WritesFounding text.now campaign.now.what) (state S.Store conn.old) (state S.Store conn.new)) }
-    ensures err { HasCleanDisk (state S.Store conn.new) → OnErr result (LeavesOff (state S.Store conn.old) (state S.Store conn.new)) }
-    ensures crash { Survives (state S.Store conn.old) (state S.Store conn.new) (MayLeave IsBlank (WritesFounding text.now campaign.now.what) (state S.Store conn.old)) }
-    ensures idle { conn.new.in_transaction ≡ false }
+    ensures { Transacts S.Store IsBlank (WritesFounding text.now campaign.now.what) result conn.old conn.new }
 {
     let mut tx = conn.transaction();
     put_founding(&mut tx, text, campaign)?;
-    tx.commit()?;
-    Ok(())
+    tx.commit()
 }
 
 /// Whether there is a table `campaign`.

@@ -1,7 +1,7 @@
 //! A joining is written into the tables of the campaign.
 ghost use Rattle.std.specs.Prelude.{◌≡◌, ◌≤◌, [], false, List, ℕ, OnOk, OnErr, IfSome, length};
 ghost use Rattle.sqlite.specs.Held.{state};
-ghost use Rattle.sqlite.specs.State.{HasCleanDisk, Survives, KeepsCommit};
+ghost use Rattle.sqlite.specs.State.{HasCleanDisk};
 ghost use Rattle.atl_state.specs.State.{State};
 ghost use Rattle.atl_state.specs.declared.books.Entry.TheVariants.{Joining};
 ghost use Rattle.atl_state.specs.declared.books.Thing.TheVariants.{Money, People};
@@ -9,7 +9,8 @@ ghost use Rattle.atl_store.specs.Tables.{faction_table, unit_table, report_table
 ghost use Rattle.atl_store.specs.Shown.{report_row};
 ghost use Rattle.atl_store.specs.Rows.{head_of, faction_line, unit_line};
 ghost use Rattle.atl_store.specs.PutsHead.{PutsHead};
-ghost use Rattle.atl_store.specs.Inside.{Inside, HasTables, Both, Puts, Commits, LeavesOff, MayLeave};
+ghost use Rattle.atl_store.specs.Writes.{Writes, Transacts};
+ghost use Rattle.atl_store.specs.Inside.{Inside, HasTables, Both, Puts};
 ghost use Rattle.atl_store.specs.Arriving.{IsFound, Settles, WritesJoin};
 ghost use Rattle.atl_store.specs.Keeps.{Keeps, Stops, IsJoining};
 
@@ -56,15 +57,11 @@ fn put_newcomer<S: Alter>(
     campaign: &Campaign,
     arrival: &Arrival<'_>,
 ) -> Result<(), Error>
-    ensures same_reference { tx.new.conn.ghost_name ≡ tx.old.conn.ghost_name }
-    ensures put { HasCleanDisk (state S.Store tx.new.conn.now) → OnOk result (Inside HasTables (Both (PutsHead (head_of campaign.now.what) []) (Both (Puts faction_table 1 (faction_line arrival.now.number arrival.now.faction.now)) (Puts unit_table 1 (unit_line arrival.now.place arrival.now.unit.now)))) (state S.Store tx.old.conn.now) (state S.Store tx.new.conn.now)) }
-    ensures kept { HasCleanDisk (state S.Store tx.new.conn.now) → KeepsCommit (state S.Store tx.old.conn.now) (state S.Store tx.new.conn.now) }
-    ensures survives { Survives (state S.Store tx.old.conn.now) (state S.Store tx.new.conn.now) (λ _. ⊥) }
+    ensures { Writes S.Store (Inside HasTables (Both (PutsHead (head_of campaign.now.what) []) (Both (Puts faction_table 1 (faction_line arrival.now.number arrival.now.faction.now)) (Puts unit_table 1 (unit_line arrival.now.place arrival.now.unit.now))))) result tx.old.conn tx.new.conn }
 {
     put_head(tx, campaign, "")?;
     arrival.faction.put(tx, arrival.number)?;
-    arrival.unit.put(tx, arrival.place)?;
-    Ok(())
+    arrival.unit.put(tx, arrival.place)
 }
 
 /// Puts the report and what joining booked.
@@ -74,15 +71,11 @@ fn put_welcome<S: Alter>(
     arrival: &Arrival<'_>,
 ) -> Result<(), Error>
     requires { 2 ≤ length campaign.now.what.books }
-    ensures same_reference { tx.new.conn.ghost_name ≡ tx.old.conn.ghost_name }
-    ensures put { HasCleanDisk (state S.Store tx.new.conn.now) → OnOk result (Inside HasTables (Both (Puts report_table 1 (report_row arrival.now.number arrival.now.report.now)) (Both (Settles campaign.now.what Joining Money) (Settles campaign.now.what Joining People))) (state S.Store tx.old.conn.now) (state S.Store tx.new.conn.now)) }
-    ensures kept { HasCleanDisk (state S.Store tx.new.conn.now) → KeepsCommit (state S.Store tx.old.conn.now) (state S.Store tx.new.conn.now) }
-    ensures survives { Survives (state S.Store tx.old.conn.now) (state S.Store tx.new.conn.now) (λ _. ⊥) }
+    ensures { Writes S.Store (Inside HasTables (Both (Puts report_table 1 (report_row arrival.now.number arrival.now.report.now)) (Both (Settles campaign.now.what Joining Money) (Settles campaign.now.what Joining People)))) result tx.old.conn tx.new.conn }
 {
     arrival.report.put(tx, arrival.number)?;
     settle_amount(tx, campaign, Entry::Joining, Thing::Money)?;
-    settle_amount(tx, campaign, Entry::Joining, Thing::People)?;
-    Ok(())
+    settle_amount(tx, campaign, Entry::Joining, Thing::People)
 }
 
 /// Puts all rows of a joining.
@@ -92,14 +85,10 @@ fn put_joining<S: Alter>(
     arrival: &Arrival<'_>,
 ) -> Result<(), Error>
     requires { IsFound campaign.now.what arrival.now.number arrival.now.faction.now arrival.now.place arrival.now.unit.now arrival.now.report.now }
-    ensures same_reference { tx.new.conn.ghost_name ≡ tx.old.conn.ghost_name }
-    ensures put { HasCleanDisk (state S.Store tx.new.conn.now) → OnOk result (Inside HasTables (WritesJoin arrival.now.number campaign.now.what) (state S.Store tx.old.conn.now) (state S.Store tx.new.conn.now)) }
-    ensures kept { HasCleanDisk (state S.Store tx.new.conn.now) → KeepsCommit (state S.Store tx.old.conn.now) (state S.Store tx.new.conn.now) }
-    ensures survives { Survives (state S.Store tx.old.conn.now) (state S.Store tx.new.conn.now) (λ _. ⊥) }
+    ensures { Writes S.Store (Inside HasTables (WritesJoin arrival.now.number campaign.now.what)) result tx.old.conn tx.new.conn }
 {
     put_newcomer(tx, campaign, arrival)?;
-    put_welcome(tx, campaign, arrival)?;
-    Ok(())
+    put_welcome(tx, campaign, arrival)
 }
 
 /// The transaction of a joining.
@@ -110,15 +99,11 @@ fn write_joining<S: Alter>(
 ) -> Result<(), Error>
     requires idle { conn.old.in_transaction ≡ false }
     requires found { IsFound campaign.now.what arrival.now.number arrival.now.faction.now arrival.now.place arrival.now.unit.now arrival.now.report.now }
-    ensures ok { HasCleanDisk (state S.Store conn.new) → OnOk result (Commits HasTables (WritesJoin arrival.now.number campaign.now.what) (state S.Store conn.old) (state S.Store conn.new)) }
-    ensures err { HasCleanDisk (state S.Store conn.new) → OnErr result (LeavesOff (state S.Store conn.old) (state S.Store conn.new)) }
-    ensures crash { Survives (state S.Store conn.old) (state S.Store conn.new) (MayLeave HasTables (WritesJoin arrival.now.number campaign.now.what) (state S.Store conn.old)) }
-    ensures idle { conn.new.in_transaction ≡ false }
+    ensures { Transacts S.Store HasTables (WritesJoin arrival.now.number campaign.now.what) result conn.old conn.new }
 {
     let mut tx = conn.transaction();
     put_joining(&mut tx, campaign, arrival)?;
-    tx.commit()?;
-    Ok(())
+    tx.commit()
 }
 
 /// Writes a joining into a store that holds the campaign before it, in one transaction: the campaign's own row, the

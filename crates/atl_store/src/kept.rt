@@ -1,13 +1,12 @@
 //! The parts of a campaign that stand in a table of their own, each under its number.
-ghost use Rattle.std.specs.Prelude.{◌≡◌, ℕ, map, OnOk};
+ghost use Rattle.std.specs.Prelude.{ℕ};
 ghost use Rattle.std.specs.FinMap.{entries};
-ghost use Rattle.sqlite.specs.Held.{state};
 ghost use Rattle.sqlite.specs.Order.{Row as SqlRow};
 ghost use Rattle.sqlite.specs.Table.{Table};
-ghost use Rattle.sqlite.specs.State.{HasCleanDisk, Survives, KeepsCommit};
 ghost use Rattle.atl_store.specs.Tables.{faction_table, region_table, unit_table, structure_table, mail_table, report_table};
 ghost use Rattle.atl_store.specs.Shown.{mail_row, report_row};
 ghost use Rattle.atl_store.specs.Rows.{faction_line, region_line, unit_line, structure_line, lines_of};
+ghost use Rattle.atl_store.specs.Writes.{Writes};
 ghost use Rattle.atl_store.specs.Inside.{Inside, HasTables, Puts, PutsRows};
 
 use crate::rows::faction::{FactionRow, put_faction};
@@ -28,10 +27,7 @@ pub(crate) trait Kept: Sized {
 
     /// Inserts its row, or changes the one that has the number.
     fn put<S: Alter>(&self, tx: &mut Transaction<'_, S>, number: u32) -> Result<(), Error>
-        ensures same_reference { tx.new.conn.ghost_name ≡ tx.old.conn.ghost_name }
-        ensures put { HasCleanDisk (state S.Store tx.new.conn.now) → OnOk result (Inside HasTables (Puts table 1 (line number self.now)) (state S.Store tx.old.conn.now) (state S.Store tx.new.conn.now)) }
-        ensures kept { HasCleanDisk (state S.Store tx.new.conn.now) → KeepsCommit (state S.Store tx.old.conn.now) (state S.Store tx.new.conn.now) }
-        ensures survives { Survives (state S.Store tx.old.conn.now) (state S.Store tx.new.conn.now) (λ _. ⊥) };
+        ensures { Writes S.Store (Inside HasTables (Puts table 1 (line number self.now))) result tx.old.conn tx.new.conn };
 }
 
 impl Kept for Faction {
@@ -47,8 +43,7 @@ impl Kept for Faction {
             pass: self.pass.as_str(),
             gone: self.gone,
         };
-        put_faction(tx, &row)?;
-        Ok(())
+        put_faction(tx, &row)
     }
 }
 
@@ -63,8 +58,7 @@ impl Kept for Region {
             peasants: self.peasants,
             money: self.money,
         };
-        put_region(tx, &row)?;
-        Ok(())
+        put_region(tx, &row)
     }
 }
 
@@ -84,8 +78,7 @@ impl Kept for Unit {
             money: self.holding.money(),
             guard: self.holding.guard(),
         };
-        put_unit(tx, &row)?;
-        Ok(())
+        put_unit(tx, &row)
     }
 }
 
@@ -103,8 +96,7 @@ impl Kept for Structure {
             done: self.done,
             owner: self.owner,
         };
-        put_structure(tx, &row)?;
-        Ok(())
+        put_structure(tx, &row)
     }
 }
 
@@ -119,8 +111,7 @@ impl Kept for Sequence<u8> {
             faction: number,
             text: self.as_slice(),
         };
-        put_mail(tx, &row)?;
-        Ok(())
+        put_mail(tx, &row)
     }
 }
 
@@ -135,8 +126,7 @@ impl Kept for Text {
             faction: number,
             text: self.as_str(),
         };
-        put_report(tx, &row)?;
-        Ok(())
+        put_report(tx, &row)
     }
 }
 
@@ -145,10 +135,7 @@ pub(crate) fn put_each<V: Kept + Drop, S: Alter>(
     tx: &mut Transaction<'_, S>,
     values: &Numbered<V>,
 ) -> Result<(), Error>
-    ensures same_reference { tx.new.conn.ghost_name ≡ tx.old.conn.ghost_name }
-    ensures put { HasCleanDisk (state S.Store tx.new.conn.now) → OnOk result (Inside HasTables (PutsRows V.Kept.table 1 (lines_of V.Kept.line (entries values.now))) (state S.Store tx.old.conn.now) (state S.Store tx.new.conn.now)) }
-    ensures kept { HasCleanDisk (state S.Store tx.new.conn.now) → KeepsCommit (state S.Store tx.old.conn.now) (state S.Store tx.new.conn.now) }
-    ensures survives { Survives (state S.Store tx.old.conn.now) (state S.Store tx.new.conn.now) (λ _. ⊥) }
+    ensures { Writes S.Store (Inside HasTables (PutsRows V.Kept.table 1 (lines_of V.Kept.line (entries values.now)))) result tx.old.conn tx.new.conn }
 {
     for (number, value) in values.iter() {
         value.put(tx, number)?;

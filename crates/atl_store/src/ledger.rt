@@ -1,11 +1,10 @@
 //! The books, written row by row.
-ghost use Rattle.std.specs.Prelude.{◌≡◌, ◌+◌, ◌<◌, OnOk, IfSome, length};
+ghost use Rattle.std.specs.Prelude.{◌≡◌, ◌+◌, ◌<◌, IfSome, length};
 ghost use Rattle.std.specs.List.{range_with_len};
-ghost use Rattle.sqlite.specs.Held.{state};
-ghost use Rattle.sqlite.specs.State.{HasCleanDisk, Survives, KeepsCommit};
 ghost use Rattle.atl_state.specs.Books.{entry_place, thing_place};
 ghost use Rattle.atl_store.specs.Tables.{books_table};
-ghost use Rattle.atl_store.specs.Lines.{all_entries, thing_at, amount_lines, entries_lines, things_lines};
+ghost use Rattle.atl_store.specs.Lines.{thing_at, amount_lines, entries_lines, things_lines};
+ghost use Rattle.atl_store.specs.Writes.{Writes};
 ghost use Rattle.atl_store.specs.Inside.{Inside, HasTables, PutsRows};
 ghost use Rattle.atl_store.specs.Arriving.{Settles};
 
@@ -84,21 +83,18 @@ fn put_amount<S: Alter>(
     thing: Thing,
 ) -> Result<(), Error>
     requires { thing_place thing < length campaign.now.what.books }
-    ensures same_reference { tx.new.conn.ghost_name ≡ tx.old.conn.ghost_name }
-    ensures put { HasCleanDisk (state S.Store tx.new.conn.now) → OnOk result (Inside HasTables (PutsRows books_table 2 (amount_lines campaign.now.what entry thing)) (state S.Store tx.old.conn.now) (state S.Store tx.new.conn.now)) }
-    ensures kept { HasCleanDisk (state S.Store tx.new.conn.now) → KeepsCommit (state S.Store tx.old.conn.now) (state S.Store tx.new.conn.now) }
-    ensures survives { Survives (state S.Store tx.old.conn.now) (state S.Store tx.new.conn.now) (λ _. ⊥) }
+    ensures { Writes S.Store (Inside HasTables (PutsRows books_table 2 (amount_lines campaign.now.what entry thing))) result tx.old.conn tx.new.conn }
 {
     let amount = campaign.booked(entry, thing);
-    if amount != 0 {
-        let row = BooksRow {
-            entry: entry_number(entry),
-            thing: thing_number(thing),
-            amount,
-        };
-        put_books(tx, &row)?;
+    if amount == 0 {
+        return Ok(());
     }
-    Ok(())
+    let row = BooksRow {
+        entry: entry_number(entry),
+        thing: thing_number(thing),
+        amount,
+    };
+    put_books(tx, &row)
 }
 
 /// Puts the row of an amount, or takes it out where the amount is 0.
@@ -109,23 +105,18 @@ pub(crate) fn settle_amount<S: Alter>(
     thing: Thing,
 ) -> Result<(), Error>
     requires { thing_place thing < length campaign.now.what.books }
-    ensures same_reference { tx.new.conn.ghost_name ≡ tx.old.conn.ghost_name }
-    ensures put { HasCleanDisk (state S.Store tx.new.conn.now) → OnOk result (Inside HasTables (Settles campaign.now.what entry thing) (state S.Store tx.old.conn.now) (state S.Store tx.new.conn.now)) }
-    ensures kept { HasCleanDisk (state S.Store tx.new.conn.now) → KeepsCommit (state S.Store tx.old.conn.now) (state S.Store tx.new.conn.now) }
-    ensures survives { Survives (state S.Store tx.old.conn.now) (state S.Store tx.new.conn.now) (λ _. ⊥) }
+    ensures { Writes S.Store (Inside HasTables (Settles campaign.now.what entry thing)) result tx.old.conn tx.new.conn }
 {
     let amount = campaign.booked(entry, thing);
     if amount == 0 {
-        drop_books(tx, entry_number(entry), thing_number(thing))?;
-        return Ok(());
+        return drop_books(tx, entry_number(entry), thing_number(thing));
     }
     let row = BooksRow {
         entry: entry_number(entry),
         thing: thing_number(thing),
         amount,
     };
-    put_books(tx, &row)?;
-    Ok(())
+    put_books(tx, &row)
 }
 
 /// Puts the rows of a thing under these entries.
@@ -136,10 +127,7 @@ fn put_entries<S: Alter>(
     entries: &[Entry],
 ) -> Result<(), Error>
     requires { thing_place thing < length campaign.now.what.books }
-    ensures same_reference { tx.new.conn.ghost_name ≡ tx.old.conn.ghost_name }
-    ensures put { HasCleanDisk (state S.Store tx.new.conn.now) → OnOk result (Inside HasTables (PutsRows books_table 2 (entries_lines campaign.now.what thing entries.now)) (state S.Store tx.old.conn.now) (state S.Store tx.new.conn.now)) }
-    ensures kept { HasCleanDisk (state S.Store tx.new.conn.now) → KeepsCommit (state S.Store tx.old.conn.now) (state S.Store tx.new.conn.now) }
-    ensures survives { Survives (state S.Store tx.old.conn.now) (state S.Store tx.new.conn.now) (λ _. ⊥) }
+    ensures { Writes S.Store (Inside HasTables (PutsRows books_table 2 (entries_lines campaign.now.what thing entries.now))) result tx.old.conn tx.new.conn }
 {
     for entry in entries {
         put_amount(tx, campaign, *entry, thing)?;
@@ -152,10 +140,7 @@ pub(crate) fn put_all_books<S: Alter>(
     tx: &mut Transaction<'_, S>,
     campaign: &Campaign,
 ) -> Result<(), Error>
-    ensures same_reference { tx.new.conn.ghost_name ≡ tx.old.conn.ghost_name }
-    ensures put { HasCleanDisk (state S.Store tx.new.conn.now) → OnOk result (Inside HasTables (PutsRows books_table 2 (things_lines campaign.now.what (range_with_len 0 (length campaign.now.what.books)))) (state S.Store tx.old.conn.now) (state S.Store tx.new.conn.now)) }
-    ensures kept { HasCleanDisk (state S.Store tx.new.conn.now) → KeepsCommit (state S.Store tx.old.conn.now) (state S.Store tx.new.conn.now) }
-    ensures survives { Survives (state S.Store tx.old.conn.now) (state S.Store tx.new.conn.now) (λ _. ⊥) }
+    ensures { Writes S.Store (Inside HasTables (PutsRows books_table 2 (things_lines campaign.now.what (range_with_len 0 (length campaign.now.what.books))))) result tx.old.conn tx.new.conn }
 {
     for number in 0..campaign.things() {
         match thing_of(number) {

@@ -10,6 +10,7 @@ mod kept;
 mod ledger;
 mod mailing;
 pub mod rows;
+mod statement;
 pub mod tables;
 
 pub use fault::{CreateFault, ReadFault, WriteFault};

@@ -1,9 +1,10 @@
 //! A mail is written into the tables of the campaign.
 ghost use Rattle.std.specs.Prelude.{◌≡◌, ◌≤◌, false, List, ℕ, OnOk, OnErr};
 ghost use Rattle.sqlite.specs.Held.{state};
-ghost use Rattle.sqlite.specs.State.{HasCleanDisk, Survives, KeepsCommit};
+ghost use Rattle.sqlite.specs.State.{HasCleanDisk};
 ghost use Rattle.atl_state.specs.State.{State, with_mail};
-ghost use Rattle.atl_store.specs.Inside.{Inside, HasTables, Commits, LeavesOff, MayLeave};
+ghost use Rattle.atl_store.specs.Writes.{Writes, Transacts};
+ghost use Rattle.atl_store.specs.Inside.{Inside, HasTables};
 ghost use Rattle.atl_store.specs.Arriving.{WritesMail};
 ghost use Rattle.atl_store.specs.Keeps.{Keeps, Stops};
 
@@ -17,28 +18,20 @@ fn put_mailing<S: Alter>(
     faction: u32,
     text: &[u8],
 ) -> Result<(), Error>
-    ensures same_reference { tx.new.conn.ghost_name ≡ tx.old.conn.ghost_name }
-    ensures put { HasCleanDisk (state S.Store tx.new.conn.now) → OnOk result (Inside HasTables (WritesMail faction text.now) (state S.Store tx.old.conn.now) (state S.Store tx.new.conn.now)) }
-    ensures kept { HasCleanDisk (state S.Store tx.new.conn.now) → KeepsCommit (state S.Store tx.old.conn.now) (state S.Store tx.new.conn.now) }
-    ensures survives { Survives (state S.Store tx.old.conn.now) (state S.Store tx.new.conn.now) (λ _. ⊥) }
+    ensures { Writes S.Store (Inside HasTables (WritesMail faction text.now)) result tx.old.conn tx.new.conn }
 {
     let row = MailRow { faction, text };
-    put_mail(tx, &row)?;
-    Ok(())
+    put_mail(tx, &row)
 }
 
 /// The transaction of a mail.
 fn write_mailing<S: Alter>(conn: &mut Connection<S>, faction: u32, text: &[u8]) -> Result<(), Error>
     requires { conn.old.in_transaction ≡ false }
-    ensures ok { HasCleanDisk (state S.Store conn.new) → OnOk result (Commits HasTables (WritesMail faction text.now) (state S.Store conn.old) (state S.Store conn.new)) }
-    ensures err { HasCleanDisk (state S.Store conn.new) → OnErr result (LeavesOff (state S.Store conn.old) (state S.Store conn.new)) }
-    ensures crash { Survives (state S.Store conn.old) (state S.Store conn.new) (MayLeave HasTables (WritesMail faction text.now) (state S.Store conn.old)) }
-    ensures idle { conn.new.in_transaction ≡ false }
+    ensures { Transacts S.Store HasTables (WritesMail faction text.now) result conn.old conn.new }
 {
     let mut tx = conn.transaction();
     put_mailing(&mut tx, faction, text)?;
-    tx.commit()?;
-    Ok(())
+    tx.commit()
 }
 
 /// Writes the mail of a faction into a store that holds a campaign, in the place of an older one, in one transaction. With

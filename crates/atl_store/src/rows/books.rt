@@ -1,17 +1,16 @@
 //! The table of the books: signed amounts by entry and thing.
-ghost use Rattle.std.specs.Prelude.{◌≡◌, OnOk, false, map, IfOk, IfErr};
-ghost use Rattle.sqlite.specs.Held.{state};
-ghost use Rattle.sqlite.specs.State.{HasCleanDisk, Survives, KeepsCommit};
-ghost use Rattle.atl_store.specs.Tables.{books_table, nine_tables};
+ghost use Rattle.atl_store.specs.Tables.{books_table};
 ghost use Rattle.atl_store.specs.Shown.{books_key};
 ghost use Rattle.atl_store.specs.Written.{books_shown};
+ghost use Rattle.atl_store.specs.Writes.{Writes};
 ghost use Rattle.atl_store.specs.Inside.{Inside, HasTables, Puts, Drops};
 ghost use Rattle.atl_store.specs.StoredRows.{books_stored};
+ghost use Rattle.atl_store.specs.ReadsRows.{ReadsRows};
 ghost use Rattle.atl_store.specs.Reading.{ReadsPlaced, FindsOtherPlaced, placed_columns};
-ghost use Rattle.atl_store.specs.declared.fault.ReadFault.TheVariants.{OtherType};
 
 use crate::fault::ReadFault;
-use crate::rows::stored::{Stored, parse_rows};
+use crate::rows::stored::{Stored, read_all};
+use crate::statement::run;
 use sqlite::{Alter, Connection, Error, Row, Transaction, params};
 use std::alloc::Global;
 
@@ -27,16 +26,13 @@ pub struct BooksRow {
 
 /// Inserts the row, or changes the one that has its entry and thing.
 pub(crate) fn put_books<S: Alter>(tx: &mut Transaction<'_, S>, row: &BooksRow) -> Result<(), Error>
-    ensures same_reference { tx.new.conn.ghost_name ≡ tx.old.conn.ghost_name }
-    ensures put { HasCleanDisk (state S.Store tx.new.conn.now) → OnOk result (Inside HasTables (Puts books_table 2 (books_shown row.now)) (state S.Store tx.old.conn.now) (state S.Store tx.new.conn.now)) }
-    ensures kept { HasCleanDisk (state S.Store tx.new.conn.now) → KeepsCommit (state S.Store tx.old.conn.now) (state S.Store tx.new.conn.now) }
-    ensures survives { Survives (state S.Store tx.old.conn.now) (state S.Store tx.new.conn.now) (λ _. ⊥) }
+    ensures { Writes S.Store (Inside HasTables (Puts books_table 2 (books_shown row.now))) result tx.old.conn tx.new.conn }
 {
-    tx.execute(
+    run(
+        tx,
         "INSERT INTO books (entry, thing, amount) VALUES (?1, ?2, ?3) ON CONFLICT (entry, thing) DO UPDATE SET amount = ?3",
         params![row.entry, row.thing, row.amount],
-    )?;
-    Ok(())
+    )
 }
 
 /// Deletes the row of this entry and thing, where there is one.
@@ -45,16 +41,13 @@ pub(crate) fn drop_books<S: Alter>(
     entry: u32,
     thing: u32,
 ) -> Result<(), Error>
-    ensures same_reference { tx.new.conn.ghost_name ≡ tx.old.conn.ghost_name }
-    ensures dropped { HasCleanDisk (state S.Store tx.new.conn.now) → OnOk result (Inside HasTables (Drops books_table 2 (books_key entry thing)) (state S.Store tx.old.conn.now) (state S.Store tx.new.conn.now)) }
-    ensures kept { HasCleanDisk (state S.Store tx.new.conn.now) → KeepsCommit (state S.Store tx.old.conn.now) (state S.Store tx.new.conn.now) }
-    ensures survives { Survives (state S.Store tx.old.conn.now) (state S.Store tx.new.conn.now) (λ _. ⊥) }
+    ensures { Writes S.Store (Inside HasTables (Drops books_table 2 (books_key entry thing))) result tx.old.conn tx.new.conn }
 {
-    tx.execute(
+    run(
+        tx,
         "DELETE FROM books WHERE entry = ?1 AND thing = ?2",
         params![entry, thing],
-    )?;
-    Ok(())
+    )
 }
 
 /// What is booked of a thing as it stands in its table, whoever wrote it.
@@ -87,15 +80,11 @@ pub fn read_books<S: Alter>(
     alloc: Global,
     conn: &mut Connection<S>,
 ) -> Result<Vec<StoredBooks>, ReadFault>
-    ensures rows { HasCleanDisk (state S.Store conn.new) → IfOk result (λ all. ReadsPlaced books_table (map books_stored all.items) (state S.Store conn.old) (state S.Store conn.new)) }
-    ensures other { HasCleanDisk (state S.Store conn.new) → IfErr result (λ e. e ≡ OtherType → FindsOtherPlaced books_table (state S.Store conn.old)) }
-    ensures survives { conn.old.schema ≡ nine_tables → Survives (state S.Store conn.old) (state S.Store conn.new) (λ _. ⊥) }
-    ensures idle { conn.old.in_transaction ≡ false → conn.new.in_transaction ≡ false }
+    ensures { ReadsRows S.Store (ReadsPlaced books_table) (FindsOtherPlaced books_table) books_stored result conn.old conn.new }
 {
-    let rows = conn.query_all(
+    read_all(
+        alloc,
+        conn,
         "SELECT entry, thing, amount, rowid FROM books ORDER BY entry, thing",
-        &[],
-    )?;
-    let all = parse_rows(alloc, rows.as_slice())?;
-    Ok(all)
+    )
 }

@@ -1,17 +1,16 @@
 //! The table of the campaign's own row.
-ghost use Rattle.std.specs.Prelude.{◌≡◌, OnOk, false, map, IfOk, IfErr};
-ghost use Rattle.sqlite.specs.Held.{state};
-ghost use Rattle.sqlite.specs.State.{HasCleanDisk, Survives, KeepsCommit};
-ghost use Rattle.atl_store.specs.Tables.{campaign_table, nine_tables};
+ghost use Rattle.atl_store.specs.Tables.{campaign_table};
 ghost use Rattle.atl_store.specs.Written.{head_shown};
 ghost use Rattle.atl_store.specs.PutsHead.{PutsHead};
+ghost use Rattle.atl_store.specs.Writes.{Writes};
 ghost use Rattle.atl_store.specs.Inside.{Inside, HasTables};
 ghost use Rattle.atl_store.specs.StoredRows.{campaign_stored};
+ghost use Rattle.atl_store.specs.ReadsRows.{ReadsRows};
 ghost use Rattle.atl_store.specs.Reading.{Reads, FindsOther};
-ghost use Rattle.atl_store.specs.declared.fault.ReadFault.TheVariants.{OtherType};
 
 use crate::fault::ReadFault;
-use crate::rows::stored::{Stored, parse_rows};
+use crate::rows::stored::{Stored, read_all};
+use crate::statement::run;
 use sqlite::{Alter, Connection, Error, Row, Transaction, params};
 use std::alloc::Global;
 
@@ -33,12 +32,10 @@ pub(crate) fn put_campaign<S: Alter>(
     row: &CampaignRow<'_>,
     world: &str,
 ) -> Result<(), Error>
-    ensures same_reference { tx.new.conn.ghost_name ≡ tx.old.conn.ghost_name }
-    ensures put { HasCleanDisk (state S.Store tx.new.conn.now) → OnOk result (Inside HasTables (PutsHead (head_shown row.now) world.now) (state S.Store tx.old.conn.now) (state S.Store tx.new.conn.now)) }
-    ensures kept { HasCleanDisk (state S.Store tx.new.conn.now) → KeepsCommit (state S.Store tx.old.conn.now) (state S.Store tx.new.conn.now) }
-    ensures survives { Survives (state S.Store tx.old.conn.now) (state S.Store tx.new.conn.now) (λ _. ⊥) }
+    ensures { Writes S.Store (Inside HasTables (PutsHead (head_shown row.now) world.now)) result tx.old.conn tx.new.conn }
 {
-    tx.execute(
+    run(
+        tx,
         "INSERT INTO campaign (id, format, month, next_faction, next_unit, next_structure, pass, world) VALUES (1, 1, ?1, ?2, ?3, ?4, ?5, ?6) ON CONFLICT (id) DO UPDATE SET month = ?1, next_faction = ?2, next_unit = ?3, next_structure = ?4, pass = ?5",
         params![
             row.month,
@@ -48,8 +45,7 @@ pub(crate) fn put_campaign<S: Alter>(
             row.pass,
             world
         ],
-    )?;
-    Ok(())
+    )
 }
 
 /// The campaign's own row as it stands in its table, whoever wrote it.
@@ -89,15 +85,11 @@ pub fn read_campaign<S: Alter>(
     alloc: Global,
     conn: &mut Connection<S>,
 ) -> Result<Vec<StoredCampaign>, ReadFault>
-    ensures rows { HasCleanDisk (state S.Store conn.new) → IfOk result (λ all. Reads campaign_table (map campaign_stored all.items) (state S.Store conn.old) (state S.Store conn.new)) }
-    ensures other { HasCleanDisk (state S.Store conn.new) → IfErr result (λ e. e ≡ OtherType → FindsOther campaign_table (state S.Store conn.old)) }
-    ensures survives { conn.old.schema ≡ nine_tables → Survives (state S.Store conn.old) (state S.Store conn.new) (λ _. ⊥) }
-    ensures idle { conn.old.in_transaction ≡ false → conn.new.in_transaction ≡ false }
+    ensures { ReadsRows S.Store (Reads campaign_table) (FindsOther campaign_table) campaign_stored result conn.old conn.new }
 {
-    let rows = conn.query_all(
+    read_all(
+        alloc,
+        conn,
         "SELECT id, format, month, next_faction, next_unit, next_structure, pass, world FROM campaign ORDER BY id",
-        &[],
-    )?;
-    let all = parse_rows(alloc, rows.as_slice())?;
-    Ok(all)
+    )
 }

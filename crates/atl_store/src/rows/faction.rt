@@ -1,17 +1,15 @@
 //! The table of factions.
-ghost use Rattle.std.specs.Prelude.{◌≡◌, [], ◌∷◌, OnOk, false, map, IfOk, IfErr};
-ghost use Rattle.sqlite.specs.Held.{state};
-ghost use Rattle.sqlite.specs.State.{HasCleanDisk, Survives, KeepsCommit};
-ghost use Rattle.atl_store.specs.Tables.{faction_table, nine_tables};
-ghost use Rattle.atl_store.specs.Shown.{int};
+ghost use Rattle.atl_store.specs.Tables.{faction_table};
 ghost use Rattle.atl_store.specs.Written.{faction_shown};
+ghost use Rattle.atl_store.specs.Writes.{Writes};
 ghost use Rattle.atl_store.specs.Inside.{Inside, HasTables, Puts};
 ghost use Rattle.atl_store.specs.StoredRows.{faction_stored};
+ghost use Rattle.atl_store.specs.ReadsRows.{ReadsRows};
 ghost use Rattle.atl_store.specs.Reading.{Reads, FindsOther};
-ghost use Rattle.atl_store.specs.declared.fault.ReadFault.TheVariants.{OtherType};
 
 use crate::fault::ReadFault;
-use crate::rows::stored::{Stored, parse_rows};
+use crate::rows::stored::{Stored, read_all};
+use crate::statement::run;
 use sqlite::{Alter, Connection, Error, Row, Transaction, params};
 use std::alloc::Global;
 
@@ -35,16 +33,13 @@ pub(crate) fn put_faction<S: Alter>(
     tx: &mut Transaction<'_, S>,
     row: &FactionRow<'_>,
 ) -> Result<(), Error>
-    ensures same_reference { tx.new.conn.ghost_name ≡ tx.old.conn.ghost_name }
-    ensures put { HasCleanDisk (state S.Store tx.new.conn.now) → OnOk result (Inside HasTables (Puts faction_table 1 (faction_shown row.now)) (state S.Store tx.old.conn.now) (state S.Store tx.new.conn.now)) }
-    ensures kept { HasCleanDisk (state S.Store tx.new.conn.now) → KeepsCommit (state S.Store tx.old.conn.now) (state S.Store tx.new.conn.now) }
-    ensures survives { Survives (state S.Store tx.old.conn.now) (state S.Store tx.new.conn.now) (λ _. ⊥) }
+    ensures { Writes S.Store (Inside HasTables (Puts faction_table 1 (faction_shown row.now))) result tx.old.conn tx.new.conn }
 {
-    tx.execute(
+    run(
+        tx,
         "INSERT INTO faction (number, joined_as, name, pass, gone) VALUES (?1, ?2, ?3, ?4, ?5) ON CONFLICT (number) DO UPDATE SET joined_as = ?2, name = ?3, pass = ?4, gone = ?5",
         params![row.number, row.joined_as, row.name, row.pass, row.gone],
-    )?;
-    Ok(())
+    )
 }
 
 /// A faction as it stands in its table, whoever wrote it.
@@ -78,15 +73,11 @@ pub fn read_factions<S: Alter>(
     alloc: Global,
     conn: &mut Connection<S>,
 ) -> Result<Vec<StoredFaction>, ReadFault>
-    ensures rows { HasCleanDisk (state S.Store conn.new) → IfOk result (λ all. Reads faction_table (map faction_stored all.items) (state S.Store conn.old) (state S.Store conn.new)) }
-    ensures other { HasCleanDisk (state S.Store conn.new) → IfErr result (λ e. e ≡ OtherType → FindsOther faction_table (state S.Store conn.old)) }
-    ensures survives { conn.old.schema ≡ nine_tables → Survives (state S.Store conn.old) (state S.Store conn.new) (λ _. ⊥) }
-    ensures idle { conn.old.in_transaction ≡ false → conn.new.in_transaction ≡ false }
+    ensures { ReadsRows S.Store (Reads faction_table) (FindsOther faction_table) faction_stored result conn.old conn.new }
 {
-    let rows = conn.query_all(
+    read_all(
+        alloc,
+        conn,
         "SELECT number, joined_as, name, pass, gone FROM faction ORDER BY number",
-        &[],
-    )?;
-    let all = parse_rows(alloc, rows.as_slice())?;
-    Ok(all)
+    )
 }

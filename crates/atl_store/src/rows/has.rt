@@ -1,17 +1,17 @@
 //! The table of what units have: an amount of an item, or days of a skill.
-ghost use Rattle.std.specs.Prelude.{◌≡◌, OnOk, false, map, IfOk, IfErr};
-ghost use Rattle.sqlite.specs.Held.{state};
-ghost use Rattle.sqlite.specs.State.{HasCleanDisk, Survives, KeepsCommit};
-ghost use Rattle.atl_store.specs.Tables.{has_table, nine_tables};
+ghost use Rattle.std.specs.Prelude.{◌≡◌};
+ghost use Rattle.atl_store.specs.Tables.{has_table};
 ghost use Rattle.atl_store.specs.Shown.{has_key};
 ghost use Rattle.atl_store.specs.Written.{has_shown, sort_number};
+ghost use Rattle.atl_store.specs.Writes.{Writes};
 ghost use Rattle.atl_store.specs.Inside.{Inside, HasTables, Puts, Drops};
 ghost use Rattle.atl_store.specs.StoredRows.{has_stored};
+ghost use Rattle.atl_store.specs.ReadsRows.{ReadsRows};
 ghost use Rattle.atl_store.specs.Reading.{ReadsPlaced, FindsOtherPlaced, placed_columns};
-ghost use Rattle.atl_store.specs.declared.fault.ReadFault.TheVariants.{OtherType};
 
 use crate::fault::ReadFault;
-use crate::rows::stored::{Stored, parse_rows};
+use crate::rows::stored::{Stored, read_all};
+use crate::statement::run;
 use sqlite::{Alter, Connection, Error, Row, Transaction, params};
 use std::alloc::Global;
 
@@ -49,17 +49,14 @@ pub struct HasRow {
 
 /// Inserts the row, or changes the one that has its unit, sort and thing.
 pub(crate) fn put_has<S: Alter>(tx: &mut Transaction<'_, S>, row: &HasRow) -> Result<(), Error>
-    ensures same_reference { tx.new.conn.ghost_name ≡ tx.old.conn.ghost_name }
-    ensures put { HasCleanDisk (state S.Store tx.new.conn.now) → OnOk result (Inside HasTables (Puts has_table 3 (has_shown row.now)) (state S.Store tx.old.conn.now) (state S.Store tx.new.conn.now)) }
-    ensures kept { HasCleanDisk (state S.Store tx.new.conn.now) → KeepsCommit (state S.Store tx.old.conn.now) (state S.Store tx.new.conn.now) }
-    ensures survives { Survives (state S.Store tx.old.conn.now) (state S.Store tx.new.conn.now) (λ _. ⊥) }
+    ensures { Writes S.Store (Inside HasTables (Puts has_table 3 (has_shown row.now))) result tx.old.conn tx.new.conn }
 {
     let sort = row.sort.number();
-    tx.execute(
+    run(
+        tx,
         "INSERT INTO has (unit, sort, thing, amount) VALUES (?1, ?2, ?3, ?4) ON CONFLICT (unit, sort, thing) DO UPDATE SET amount = ?4",
         params![row.unit, sort, row.thing, row.amount],
-    )?;
-    Ok(())
+    )
 }
 
 /// Deletes the row of this unit, sort and thing, where there is one.
@@ -69,17 +66,14 @@ pub(crate) fn drop_has<S: Alter>(
     sort: Sort,
     thing: u32,
 ) -> Result<(), Error>
-    ensures same_reference { tx.new.conn.ghost_name ≡ tx.old.conn.ghost_name }
-    ensures dropped { HasCleanDisk (state S.Store tx.new.conn.now) → OnOk result (Inside HasTables (Drops has_table 3 (has_key unit (sort_number sort) thing)) (state S.Store tx.old.conn.now) (state S.Store tx.new.conn.now)) }
-    ensures kept { HasCleanDisk (state S.Store tx.new.conn.now) → KeepsCommit (state S.Store tx.old.conn.now) (state S.Store tx.new.conn.now) }
-    ensures survives { Survives (state S.Store tx.old.conn.now) (state S.Store tx.new.conn.now) (λ _. ⊥) }
+    ensures { Writes S.Store (Inside HasTables (Drops has_table 3 (has_key unit (sort_number sort) thing))) result tx.old.conn tx.new.conn }
 {
     let number = sort.number();
-    tx.execute(
+    run(
+        tx,
         "DELETE FROM has WHERE unit = ?1 AND sort = ?2 AND thing = ?3",
         params![unit, number, thing],
-    )?;
-    Ok(())
+    )
 }
 
 /// What a unit has of a thing as it stands in its table, whoever wrote it.
@@ -114,15 +108,11 @@ pub fn read_has<S: Alter>(
     alloc: Global,
     conn: &mut Connection<S>,
 ) -> Result<Vec<StoredHas>, ReadFault>
-    ensures rows { HasCleanDisk (state S.Store conn.new) → IfOk result (λ all. ReadsPlaced has_table (map has_stored all.items) (state S.Store conn.old) (state S.Store conn.new)) }
-    ensures other { HasCleanDisk (state S.Store conn.new) → IfErr result (λ e. e ≡ OtherType → FindsOtherPlaced has_table (state S.Store conn.old)) }
-    ensures survives { conn.old.schema ≡ nine_tables → Survives (state S.Store conn.old) (state S.Store conn.new) (λ _. ⊥) }
-    ensures idle { conn.old.in_transaction ≡ false → conn.new.in_transaction ≡ false }
+    ensures { ReadsRows S.Store (ReadsPlaced has_table) (FindsOtherPlaced has_table) has_stored result conn.old conn.new }
 {
-    let rows = conn.query_all(
+    read_all(
+        alloc,
+        conn,
         "SELECT unit, sort, thing, amount, rowid FROM has ORDER BY unit, sort, thing",
-        &[],
-    )?;
-    let all = parse_rows(alloc, rows.as_slice())?;
-    Ok(all)
+    )
 }

@@ -1,13 +1,15 @@
 //! Rows as they are read.
-ghost use Rattle.std.specs.Prelude.{◌≡◌, List, map, length, not, IsTrue, IfOk, IfErr};
+ghost use Rattle.std.specs.Prelude.{◌≡◌, List, [], map, length, false, not, IsTrue, IfOk, IfErr};
+ghost use Rattle.sqlite.specs.Held.{state};
 ghost use Rattle.sqlite.specs.Order.{Row as SqlRow};
+ghost use Rattle.sqlite.specs.State.{HasCleanDisk, Survives, Shown, CommitsShowing};
 ghost use Rattle.sqlite_schema.specs.declared.schema.Column.{Column};
 ghost use Rattle.atl_store.specs.Faults.{is_memory};
 ghost use Rattle.atl_store.specs.Stored.{first_columns, IsTyped, AreTyped};
 ghost use Rattle.atl_store.specs.declared.fault.ReadFault.TheVariants.{OtherType};
 
 use crate::fault::{ReadFault, unread};
-use sqlite::{Error, Row};
+use sqlite::{Alter, Connection, Error, Row};
 use std::alloc::Global;
 
 /// A row of a table as it stands there, whoever wrote it.
@@ -23,7 +25,7 @@ pub(crate) trait Stored: Drop + Sized {
 }
 
 /// Each row of an answer.
-pub(crate) fn parse_rows<T: Stored>(alloc: Global, rows: &[Row]) -> Result<Vec<T>, ReadFault>
+fn parse_rows<T: Stored>(alloc: Global, rows: &[Row]) -> Result<Vec<T>, ReadFault>
     ensures ok { IfOk result (λ all. map T.shown all.items ≡ map (first_columns (length T.columns)) rows.now) }
     ensures other { IfErr result (λ e. e ≡ OtherType → ¬ AreTyped T.columns rows.now) }
 {
@@ -35,4 +37,19 @@ pub(crate) fn parse_rows<T: Stored>(alloc: Global, rows: &[Row]) -> Result<Vec<T
         }
     }
     Ok(all)
+}
+
+/// All rows that a SELECT answers.
+pub(crate) fn read_all<T: Stored, S: Alter>(
+    alloc: Global,
+    conn: &mut Connection<S>,
+    sql: &str,
+) -> Result<Vec<T>, ReadFault>
+    ensures rows { HasCleanDisk (state S.Store conn.new) → IfOk result (λ all. (rows : List SqlRow) × Shown sql.now [] (state S.Store conn.old) (state S.Store conn.new) rows × (map T.Stored.shown all.items ≡ map (first_columns (length T.Stored.columns)) rows)) }
+    ensures other { HasCleanDisk (state S.Store conn.new) → IfErr result (λ e. e ≡ OtherType → (rows : List SqlRow) × Shown sql.now [] (state S.Store conn.old) (state S.Store conn.new) rows × ¬ AreTyped T.Stored.columns rows) }
+    ensures survives { Survives (state S.Store conn.old) (state S.Store conn.new) (CommitsShowing sql.now [] (state S.Store conn.old)) }
+    ensures idle { conn.old.in_transaction ≡ false → conn.new.in_transaction ≡ false }
+{
+    let rows = conn.query_all(sql, &[])?;
+    parse_rows(alloc, rows.as_slice())
 }

@@ -1,17 +1,15 @@
 //! The table of structures.
-ghost use Rattle.std.specs.Prelude.{◌≡◌, [], ◌∷◌, OnOk, false, map, IfOk, IfErr};
-ghost use Rattle.sqlite.specs.Held.{state};
-ghost use Rattle.sqlite.specs.State.{HasCleanDisk, Survives, KeepsCommit};
-ghost use Rattle.atl_store.specs.Tables.{structure_table, nine_tables};
-ghost use Rattle.atl_store.specs.Shown.{int};
+ghost use Rattle.atl_store.specs.Tables.{structure_table};
 ghost use Rattle.atl_store.specs.Written.{structure_shown};
+ghost use Rattle.atl_store.specs.Writes.{Writes};
 ghost use Rattle.atl_store.specs.Inside.{Inside, HasTables, Puts};
 ghost use Rattle.atl_store.specs.StoredRows.{structure_stored};
+ghost use Rattle.atl_store.specs.ReadsRows.{ReadsRows};
 ghost use Rattle.atl_store.specs.Reading.{Reads, FindsOther};
-ghost use Rattle.atl_store.specs.declared.fault.ReadFault.TheVariants.{OtherType};
 
 use crate::fault::ReadFault;
-use crate::rows::stored::{Stored, parse_rows};
+use crate::rows::stored::{Stored, read_all};
+use crate::statement::run;
 use sqlite::{Alter, Connection, Error, Row, Transaction, params};
 use std::alloc::Global;
 
@@ -37,18 +35,15 @@ pub(crate) fn put_structure<S: Alter>(
     tx: &mut Transaction<'_, S>,
     row: &StructureRow<'_>,
 ) -> Result<(), Error>
-    ensures same_reference { tx.new.conn.ghost_name ≡ tx.old.conn.ghost_name }
-    ensures put { HasCleanDisk (state S.Store tx.new.conn.now) → OnOk result (Inside HasTables (Puts structure_table 1 (structure_shown row.now)) (state S.Store tx.old.conn.now) (state S.Store tx.new.conn.now)) }
-    ensures kept { HasCleanDisk (state S.Store tx.new.conn.now) → KeepsCommit (state S.Store tx.old.conn.now) (state S.Store tx.new.conn.now) }
-    ensures survives { Survives (state S.Store tx.old.conn.now) (state S.Store tx.new.conn.now) (λ _. ⊥) }
+    ensures { Writes S.Store (Inside HasTables (Puts structure_table 1 (structure_shown row.now))) result tx.old.conn tx.new.conn }
 {
-    tx.execute(
+    run(
+        tx,
         "INSERT INTO structure (number, kind, name, region, done, owner) VALUES (?1, ?2, ?3, ?4, ?5, ?6) ON CONFLICT (number) DO UPDATE SET kind = ?2, name = ?3, region = ?4, done = ?5, owner = ?6",
         params![
             row.number, row.kind, row.name, row.region, row.done, row.owner
         ],
-    )?;
-    Ok(())
+    )
 }
 
 /// A structure as it stands in its table, whoever wrote it.
@@ -84,15 +79,11 @@ pub fn read_structures<S: Alter>(
     alloc: Global,
     conn: &mut Connection<S>,
 ) -> Result<Vec<StoredStructure>, ReadFault>
-    ensures rows { HasCleanDisk (state S.Store conn.new) → IfOk result (λ all. Reads structure_table (map structure_stored all.items) (state S.Store conn.old) (state S.Store conn.new)) }
-    ensures other { HasCleanDisk (state S.Store conn.new) → IfErr result (λ e. e ≡ OtherType → FindsOther structure_table (state S.Store conn.old)) }
-    ensures survives { conn.old.schema ≡ nine_tables → Survives (state S.Store conn.old) (state S.Store conn.new) (λ _. ⊥) }
-    ensures idle { conn.old.in_transaction ≡ false → conn.new.in_transaction ≡ false }
+    ensures { ReadsRows S.Store (Reads structure_table) (FindsOther structure_table) structure_stored result conn.old conn.new }
 {
-    let rows = conn.query_all(
+    read_all(
+        alloc,
+        conn,
         "SELECT number, kind, name, region, done, owner FROM structure ORDER BY number",
-        &[],
-    )?;
-    let all = parse_rows(alloc, rows.as_slice())?;
-    Ok(all)
+    )
 }

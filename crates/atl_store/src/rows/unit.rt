@@ -1,17 +1,17 @@
 //! The table of units.
-ghost use Rattle.std.specs.Prelude.{◌≡◌, [], ◌∷◌, OnOk, false, map, IfOk, IfErr};
-ghost use Rattle.sqlite.specs.Held.{state};
-ghost use Rattle.sqlite.specs.State.{HasCleanDisk, Survives, KeepsCommit};
-ghost use Rattle.atl_store.specs.Tables.{unit_table, nine_tables};
+ghost use Rattle.std.specs.Prelude.{[], ◌∷◌};
+ghost use Rattle.atl_store.specs.Tables.{unit_table};
 ghost use Rattle.atl_store.specs.Shown.{int};
 ghost use Rattle.atl_store.specs.Written.{unit_shown};
+ghost use Rattle.atl_store.specs.Writes.{Writes};
 ghost use Rattle.atl_store.specs.Inside.{Inside, HasTables, Puts, Drops};
 ghost use Rattle.atl_store.specs.StoredRows.{unit_stored};
+ghost use Rattle.atl_store.specs.ReadsRows.{ReadsRows};
 ghost use Rattle.atl_store.specs.Reading.{Reads, FindsOther};
-ghost use Rattle.atl_store.specs.declared.fault.ReadFault.TheVariants.{OtherType};
 
 use crate::fault::ReadFault;
-use crate::rows::stored::{Stored, parse_rows};
+use crate::rows::stored::{Stored, read_all};
+use crate::statement::run;
 use sqlite::{Alter, Connection, Error, Row, Transaction, params};
 use std::alloc::Global;
 
@@ -41,12 +41,10 @@ pub(crate) fn put_unit<S: Alter>(
     tx: &mut Transaction<'_, S>,
     row: &UnitRow<'_>,
 ) -> Result<(), Error>
-    ensures same_reference { tx.new.conn.ghost_name ≡ tx.old.conn.ghost_name }
-    ensures put { HasCleanDisk (state S.Store tx.new.conn.now) → OnOk result (Inside HasTables (Puts unit_table 1 (unit_shown row.now)) (state S.Store tx.old.conn.now) (state S.Store tx.new.conn.now)) }
-    ensures kept { HasCleanDisk (state S.Store tx.new.conn.now) → KeepsCommit (state S.Store tx.old.conn.now) (state S.Store tx.new.conn.now) }
-    ensures survives { Survives (state S.Store tx.old.conn.now) (state S.Store tx.new.conn.now) (λ _. ⊥) }
+    ensures { Writes S.Store (Inside HasTables (Puts unit_table 1 (unit_shown row.now))) result tx.old.conn tx.new.conn }
 {
-    tx.execute(
+    run(
+        tx,
         "INSERT INTO unit (number, faction, name, region, structure, men, money, guard) VALUES (?1, ?2, ?3, ?4, ?5, ?6, ?7, ?8) ON CONFLICT (number) DO UPDATE SET faction = ?2, name = ?3, region = ?4, structure = ?5, men = ?6, money = ?7, guard = ?8",
         params![
             row.number,
@@ -58,19 +56,14 @@ pub(crate) fn put_unit<S: Alter>(
             row.money,
             row.guard
         ],
-    )?;
-    Ok(())
+    )
 }
 
 /// Deletes the row of this number, where there is one.
 pub(crate) fn drop_unit<S: Alter>(tx: &mut Transaction<'_, S>, number: u32) -> Result<(), Error>
-    ensures same_reference { tx.new.conn.ghost_name ≡ tx.old.conn.ghost_name }
-    ensures dropped { HasCleanDisk (state S.Store tx.new.conn.now) → OnOk result (Inside HasTables (Drops unit_table 1 (int number ∷ [])) (state S.Store tx.old.conn.now) (state S.Store tx.new.conn.now)) }
-    ensures kept { HasCleanDisk (state S.Store tx.new.conn.now) → KeepsCommit (state S.Store tx.old.conn.now) (state S.Store tx.new.conn.now) }
-    ensures survives { Survives (state S.Store tx.old.conn.now) (state S.Store tx.new.conn.now) (λ _. ⊥) }
+    ensures { Writes S.Store (Inside HasTables (Drops unit_table 1 (int number ∷ []))) result tx.old.conn tx.new.conn }
 {
-    tx.execute("DELETE FROM unit WHERE number = ?1", params![number])?;
-    Ok(())
+    run(tx, "DELETE FROM unit WHERE number = ?1", params![number])
 }
 
 /// A unit as it stands in its table, whoever wrote it.
@@ -110,15 +103,11 @@ pub fn read_units<S: Alter>(
     alloc: Global,
     conn: &mut Connection<S>,
 ) -> Result<Vec<StoredUnit>, ReadFault>
-    ensures rows { HasCleanDisk (state S.Store conn.new) → IfOk result (λ all. Reads unit_table (map unit_stored all.items) (state S.Store conn.old) (state S.Store conn.new)) }
-    ensures other { HasCleanDisk (state S.Store conn.new) → IfErr result (λ e. e ≡ OtherType → FindsOther unit_table (state S.Store conn.old)) }
-    ensures survives { conn.old.schema ≡ nine_tables → Survives (state S.Store conn.old) (state S.Store conn.new) (λ _. ⊥) }
-    ensures idle { conn.old.in_transaction ≡ false → conn.new.in_transaction ≡ false }
+    ensures { ReadsRows S.Store (Reads unit_table) (FindsOther unit_table) unit_stored result conn.old conn.new }
 {
-    let rows = conn.query_all(
+    read_all(
+        alloc,
+        conn,
         "SELECT number, faction, name, region, structure, men, money, guard FROM unit ORDER BY number",
-        &[],
-    )?;
-    let all = parse_rows(alloc, rows.as_slice())?;
-    Ok(all)
+    )
 }

@@ -1,16 +1,15 @@
-use Rattle.std.proofs.Common.{arith}
-use Rattle.sqlite.specs.Held.{state}
-use Rattle.sqlite.specs.State.{HasCleanDisk}
 use Rattle.atl_store.proofs.FillLaws.{founding_done}
+use Rattle.atl_store.proofs.WriteLaws.{four_steps, stops, stops_second, stops_third}
 use Rattle.atl_store.proofs.founding.put_founding.Goals as goal
 
-pub returns-clause-put : goal.returns-clause-put
-returns-clause-put g c clean =
-    let one = state g.S.Store c.create_tables.new.tx.conn.now in
-    let two = state g.S.Store c.put_players.new.tx.conn.now in
-    let three = state g.S.Store c.put_places.new.tx.conn.now in
-    let clean_three : HasCleanDisk three = omega (arith, c.put_people.ensures.survives.clean) in
-    let clean_two : HasCleanDisk two = omega (arith, clean_three, c.put_places.ensures.survives.clean) in
-    let clean_one : HasCleanDisk one = omega (arith, clean_two, c.put_players.ensures.survives.clean) in
-    founding_done c.args.campaign.now.what c.args.text.now (state g.S.Store c.args.tx.now.conn.now) one two three (state g.S.Store c.put_people.new.tx.conn.now)
-    (c.in_ok-create_tables.ensures.made clean_one) (c.in_ok-put_players.ensures.put clean_two) (c.in_ok-put_places.ensures.put clean_three) (c.in_ok-put_people.ensures.put clean)
+pub returns : goal.returns
+returns g c = four_steps g.S.Store (founding_done c.args.campaign.now.what c.args.text.now) c.in_ok-create_tables.ensures c.in_ok-put_players.ensures c.in_ok-put_places.ensures c.put_people.ensures
+
+pub returns-in_err-create_tables : goal.returns-in_err-create_tables
+returns-in_err-create_tables g c = stops g.S.Store c.create_tables.ensures c.from_residual.ensures.0
+
+pub returns-in_err-put_players : goal.returns-in_err-put_players
+returns-in_err-put_players g c = stops_second g.S.Store c.in_ok-create_tables.ensures c.put_players.ensures c.from_residual-in_err-put_players.ensures.0
+
+pub returns-in_err-put_places : goal.returns-in_err-put_places
+returns-in_err-put_places g c = stops_third g.S.Store c.in_ok-create_tables.ensures c.in_ok-put_players.ensures c.put_places.ensures c.from_residual-in_err-put_places.ensures.0

@@ -1,17 +1,17 @@
-use Rattle.std.proofs.Common.{arith}
-use Rattle.sqlite.specs.Held.{state}
-use Rattle.sqlite.specs.State.{HasCleanDisk}
 use Rattle.atl_store.specs.Tables.{unit_table, mail_table}
 use Rattle.atl_store.specs.Shown.{mail_row}
 use Rattle.atl_store.specs.Rows.{unit_line}
 use Rattle.atl_store.proofs.FillLaws.{of_map, goods_of, people_done}
+use Rattle.atl_store.proofs.WriteLaws.{three_steps, stops, stops_second}
 use Rattle.atl_store.proofs.founding.put_people.Goals as goal
 
-pub returns-clause-put : goal.returns-clause-put
-returns-clause-put g c clean =
-    let two = state g.S.Store c.put_all_goods.new.tx.conn.now in
-    let one = state g.S.Store c.put_each.new.tx.conn.now in
-    let clean_two : HasCleanDisk two = omega (arith, c.put_each-2.ensures.survives.clean) in
-    let clean_one : HasCleanDisk one = omega (arith, clean_two, c.put_all_goods.ensures.survives.clean) in
-    people_done c.args.campaign.now.what (state g.S.Store c.args.tx.now.conn.now) one two (state g.S.Store c.put_each-2.new.tx.conn.now)
-    (of_map unit_table unit_line _ _ (state g.S.Store c.args.tx.now.conn.now) one c.units.ensures (c.in_ok-put_each.ensures.put clean_one)) (goods_of _ _ one two c.units-2.ensures (c.in_ok-put_all_goods.ensures.put clean_two)) (of_map mail_table mail_row _ _ two (state g.S.Store c.put_each-2.new.tx.conn.now) c.mail.ensures (c.in_ok-put_each-2.ensures.put clean))
+pub returns : goal.returns
+returns g c = three_steps g.S.Store (λ old one two new units goods mail. people_done c.args.campaign.now.what old one two new
+    (of_map unit_table unit_line _ _ old one c.units.ensures units) (goods_of _ _ one two c.units-2.ensures goods) (of_map mail_table mail_row _ _ two new c.mail.ensures mail))
+    c.in_ok-put_each.ensures c.in_ok-put_all_goods.ensures c.put_each-2.ensures
+
+pub returns-in_err-put_each : goal.returns-in_err-put_each
+returns-in_err-put_each g c = stops g.S.Store c.put_each.ensures c.from_residual.ensures.0
+
+pub returns-in_err-put_all_goods : goal.returns-in_err-put_all_goods
+returns-in_err-put_all_goods g c = stops_second g.S.Store c.in_ok-put_each.ensures c.put_all_goods.ensures c.from_residual-in_err-put_all_goods.ensures.0

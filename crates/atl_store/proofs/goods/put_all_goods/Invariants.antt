@@ -1,18 +1,10 @@
-use Rattle.std.proofs.Common.{◌≡◌}
 use Rattle.std.specs.FinMap.{entries}
-use Rattle.sqlite.specs.Held.{state}
-use Rattle.sqlite.specs.State.{HasCleanDisk, Survives, KeepsCommit}
 use Rattle.atl_store.specs.Tables.{has_table}
 use Rattle.atl_store.specs.Lines.{all_goods_lines}
 use Rattle.atl_store.specs.Inside.{Inside, HasTables}
 use Rattle.atl_store.proofs.PutsLaws.{Towards}
+use Rattle.atl_store.proofs.WriteLaws.{SoFar}
 use Rattle.atl_store.proofs.goods.put_all_goods.Given as goal
 
 abbrev pub invariant-loop-number : goal.invariant-loop-number
-invariant-loop-number g l =
-    let old = state g.S.Store l.fn.tx.conn.now in
-    let now = state g.S.Store l.tx.conn.now in
-    (l.tx.conn.ghost_name ≡ l.fn.tx.conn.ghost_name)
-    × Survives old now (λ _. ⊥)
-    × (HasCleanDisk now → KeepsCommit old now)
-    × (HasCleanDisk now → Inside HasTables (Towards has_table 3 (all_goods_lines l.number-iterator) (all_goods_lines (entries l.units))) old now)
+invariant-loop-number g l = SoFar g.S.Store (Inside HasTables (Towards has_table 3 (all_goods_lines l.number-iterator) (all_goods_lines (entries l.units)))) l.fn.tx.conn l.tx.conn

@@ -1,14 +1,11 @@
-use Rattle.std.proofs.Common.{[], arith}
-use Rattle.sqlite.specs.Held.{state}
-use Rattle.atl_store.proofs.KeepLaws.{keeps_more}
+use Rattle.std.proofs.Common.{[]}
 use Rattle.atl_store.proofs.JoinLaws.{joining_done}
+use Rattle.atl_store.proofs.WriteLaws.{two_steps, stops}
 use Rattle.atl_store.proofs.joining.put_joining.Goals as goal
 
-pub returns-clause-put : goal.returns-clause-put
-returns-clause-put g c clean =
-    let a = c.args.arrival.now in
-    joining_done a.number a.faction.now a.place a.unit.now a.report.now c.args.campaign.now.what [] (state g.S.Store c.args.tx.now.conn.now) (state g.S.Store c.put_newcomer.new.tx.conn.now) (state g.S.Store c.put_welcome.new.tx.conn.now)
-    c.requires (c.in_ok-put_newcomer.ensures.put (omega (arith, c.put_welcome.ensures.survives.clean))) (c.in_ok-put_welcome.ensures.put clean)
+pub returns : goal.returns
+returns g c = two_steps g.S.Store (λ old mid new. joining_done c.args.arrival.now.number c.args.arrival.now.faction.now c.args.arrival.now.place c.args.arrival.now.unit.now c.args.arrival.now.report.now c.args.campaign.now.what [] old mid new c.requires)
+    c.in_ok-put_newcomer.ensures c.put_welcome.ensures
 
-pub returns-clause-kept : goal.returns-clause-kept
-returns-clause-kept g c = keeps_more _ _ _ c.put_welcome.ensures.survives c.put_newcomer.ensures.kept c.put_welcome.ensures.kept
+pub returns-in_err-put_newcomer : goal.returns-in_err-put_newcomer
+returns-in_err-put_newcomer g c = stops g.S.Store c.put_newcomer.ensures c.from_residual.ensures.0

@@ -1,15 +1,14 @@
-use Rattle.std.proofs.Common.{[], arith}
-use Rattle.sqlite.specs.Held.{state}
-use Rattle.sqlite.specs.State.{HasCleanDisk}
+use Rattle.std.proofs.Common.{[]}
 use Rattle.atl_store.proofs.JoinLaws.{enrolling_done}
+use Rattle.atl_store.proofs.WriteLaws.{three_steps, stops, stops_second}
 use Rattle.atl_store.proofs.joining.put_newcomer.Goals as goal
 
-pub returns-clause-put : goal.returns-clause-put
-returns-clause-put g c clean =
-    let two = state g.S.Store c.put.new.tx.conn.now in
-    let one = state g.S.Store c.put_head.new.tx.conn.now in
-    let a = c.args.arrival.now in
-    let clean_two : HasCleanDisk two = omega (arith, c.put-2.ensures.survives.clean) in
-    let clean_one : HasCleanDisk one = omega (arith, clean_two, c.put.ensures.survives.clean) in
-    enrolling_done a.number a.faction.now a.place a.unit.now c.args.campaign.now.what [] (state g.S.Store c.args.tx.now.conn.now) one two (state g.S.Store c.put-2.new.tx.conn.now)
-    (c.in_ok-put_head.ensures.put clean_one) (c.in_ok-put.ensures.put clean_two) (c.in_ok-put-2.ensures.put clean)
+pub returns : goal.returns
+returns g c = three_steps g.S.Store (enrolling_done c.args.arrival.now.number c.args.arrival.now.faction.now c.args.arrival.now.place c.args.arrival.now.unit.now c.args.campaign.now.what [])
+    c.in_ok-put_head.ensures c.in_ok-put.ensures c.put-2.ensures
+
+pub returns-in_err-put_head : goal.returns-in_err-put_head
+returns-in_err-put_head g c = stops g.S.Store c.put_head.ensures c.from_residual.ensures.0
+
+pub returns-in_err-put : goal.returns-in_err-put
+returns-in_err-put g c = stops_second g.S.Store c.in_ok-put_head.ensures c.put.ensures c.from_residual-in_err-put.ensures.0

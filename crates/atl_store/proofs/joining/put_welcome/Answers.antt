@@ -1,15 +1,13 @@
-use Rattle.std.proofs.Common.{arith}
-use Rattle.sqlite.specs.Held.{state}
-use Rattle.sqlite.specs.State.{HasCleanDisk}
 use Rattle.atl_store.proofs.JoinLaws.{reporting_done}
+use Rattle.atl_store.proofs.WriteLaws.{three_steps, stops, stops_second}
 use Rattle.atl_store.proofs.joining.put_welcome.Goals as goal
 
-pub returns-clause-put : goal.returns-clause-put
-returns-clause-put g c clean =
-    let two = state g.S.Store c.settle_amount.new.tx.conn.now in
-    let one = state g.S.Store c.put.new.tx.conn.now in
-    let a = c.args.arrival.now in
-    let clean_two : HasCleanDisk two = omega (arith, c.settle_amount-2.ensures.survives.clean) in
-    let clean_one : HasCleanDisk one = omega (arith, clean_two, c.settle_amount.ensures.survives.clean) in
-    reporting_done a.number a.report.now c.args.campaign.now.what (state g.S.Store c.args.tx.now.conn.now) one two (state g.S.Store c.settle_amount-2.new.tx.conn.now)
-    (c.in_ok-put.ensures.put clean_one) (c.in_ok-settle_amount.ensures.put clean_two) (c.in_ok-settle_amount-2.ensures.put clean)
+pub returns : goal.returns
+returns g c = three_steps g.S.Store (reporting_done c.args.arrival.now.number c.args.arrival.now.report.now c.args.campaign.now.what)
+    c.in_ok-put.ensures c.in_ok-settle_amount.ensures c.settle_amount-2.ensures
+
+pub returns-in_err-put : goal.returns-in_err-put
+returns-in_err-put g c = stops g.S.Store c.put.ensures c.from_residual.ensures.0
+
+pub returns-in_err-settle_amount : goal.returns-in_err-settle_amount
+returns-in_err-settle_amount g c = stops_second g.S.Store c.in_ok-put.ensures c.settle_amount.ensures c.from_residual-in_err-settle_amount.ensures.0

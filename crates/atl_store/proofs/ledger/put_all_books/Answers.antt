@@ -1,27 +1,36 @@
-use Rattle.std.proofs.Common.{◌≡◌, ◌+◌, ◌-◌, suc, length, ◌∙◌, ap, subst, arith}
+use Rattle.std.proofs.Common.{◌≡◌, ◌+◌, ◌-◌, suc, length, refl, ap, subst, arith}
 use Rattle.std.specs.List.{range_with_len}
-use Rattle.sqlite.specs.Held.{state}
 use Rattle.atl_store.specs.Tables.{books_table}
 use Rattle.atl_store.specs.Lines.{all_entries, thing_at, entries_lines, things_lines}
 use Rattle.atl_store.specs.Inside.{Inside, HasTables, PutsRows}
-use Rattle.atl_store.proofs.KeepLaws.{survives_more, keeps_more}
-use Rattle.atl_store.proofs.PutsLaws.{Towards, inside_rows}
+use Rattle.atl_store.proofs.PutsLaws.{Towards, inside_rows, none_yet, all_put}
+use Rattle.atl_store.proofs.WriteLaws.{begins, goes_on, stops, stops_second, weaker}
 use Rattle.atl_store.proofs.ledger.put_all_books.Goals as goal
+
+pub loop-number-init : goal.loop-number-init
+loop-number-init g c =
+    let whole : length c.args.campaign.now.what.books - 0 ≡ length c.args.campaign.now.what.books = omega arith in
+    begins g.S.Store (none_yet books_table 2 _ _ (ap (λ n. things_lines c.args.campaign.now.what (range_with_len 0 n)) whole))
 
 pub loop-number-preserved : goal.loop-number-preserved
 loop-number-preserved g c =
-    let later = c.put_entries.ensures.survives in
-    let old = state g.S.Store c.args.tx.now.conn.now in
-    let mid = state g.S.Store c.loop-number.tx.conn.now in
-    let new = state g.S.Store c.put_entries.new.tx.conn.now in
+    let campaign = c.args.campaign.now.what in
     let i = c.loop-number.number in
-    let count = length c.args.campaign.now.what.books in
+    let count = length campaign.books in
     let left : count - i ≡ suc (count - (i + 1)) = omega (arith, c.loop-number-test.true, c.things-number-end.ensures) in
-    let all = things_lines c.args.campaign.now.what (range_with_len 0 count) in (
-      c.put_entries.ensures.same_reference ∙ c.loop-number.invariant.0,
-      survives_more _ _ _ c.loop-number.invariant.1 later,
-      keeps_more _ _ _ later c.loop-number.invariant.2 c.put_entries.ensures.kept,
-      λ clean. inside_rows books_table 2 (entries_lines c.args.campaign.now.what (thing_at i) all_entries) (things_lines c.args.campaign.now.what (range_with_len (i + 1) (count - (i + 1)))) all old mid new
-          (subst (λ es. Inside HasTables (Towards books_table 2 (things_lines c.args.campaign.now.what es) all) old mid) (ap (range_with_len i) left) (c.loop-number.invariant.3 (omega (arith, later.clean))))
-          (subst (λ thing. Inside HasTables (PutsRows books_table 2 (entries_lines c.args.campaign.now.what thing all_entries)) mid new) c.in-Some.ensures (c.in_ok-put_entries-in-Some.ensures.put clean)),
-    )
+    let all = things_lines campaign (range_with_len 0 count) in
+    goes_on g.S.Store (λ old mid new so_far more. inside_rows books_table 2 (entries_lines campaign (thing_at i) all_entries) (things_lines campaign (range_with_len (i + 1) (count - (i + 1)))) all old mid new
+    (subst (λ places. Inside HasTables (Towards books_table 2 (things_lines campaign places) all) old mid) (ap (range_with_len i) left) so_far)
+    (subst (λ thing. Inside HasTables (PutsRows books_table 2 (entries_lines campaign thing all_entries)) mid new) c.in-Some.ensures more))
+    c.loop-number.invariant c.in_ok-put_entries-in-Some.ensures
+
+pub returns : goal.returns
+returns g c =
+    let none : length c.args.campaign.now.what.books - c.loop-number.number ≡ 0 = omega (arith, c.loop-number-test.false, c.things-number-end.ensures) in
+    weaker g.S.Store (all_put books_table 2 _ _ (ap (λ n. things_lines c.args.campaign.now.what (range_with_len c.loop-number.number n)) none)) c.loop-number.invariant
+
+pub returns-in_err-put_entries-in-Some : goal.returns-in_err-put_entries-in-Some
+returns-in_err-put_entries-in-Some g c = stops_second g.S.Store c.loop-number.invariant c.put_entries.ensures c.from_residual.ensures.0
+
+pub returns-in-None : goal.returns-in-None
+returns-in-None g c = stops g.S.Store c.loop-number.invariant refl

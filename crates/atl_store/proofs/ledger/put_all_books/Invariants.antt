@@ -1,18 +1,11 @@
-use Rattle.std.proofs.Common.{◌≡◌, ◌-◌, length}
+use Rattle.std.proofs.Common.{◌-◌, length}
 use Rattle.std.specs.List.{range_with_len}
-use Rattle.sqlite.specs.Held.{state}
-use Rattle.sqlite.specs.State.{HasCleanDisk, Survives, KeepsCommit}
 use Rattle.atl_store.specs.Tables.{books_table}
 use Rattle.atl_store.specs.Lines.{things_lines}
 use Rattle.atl_store.specs.Inside.{Inside, HasTables}
 use Rattle.atl_store.proofs.PutsLaws.{Towards}
+use Rattle.atl_store.proofs.WriteLaws.{SoFar}
 use Rattle.atl_store.proofs.ledger.put_all_books.Given as goal
 
 abbrev pub invariant-loop-number : goal.invariant-loop-number
-invariant-loop-number g l =
-    let old = state g.S.Store l.fn.tx.conn.now in
-    let now = state g.S.Store l.tx.conn.now in
-    (l.tx.conn.ghost_name ≡ l.fn.tx.conn.ghost_name)
-    × Survives old now (λ _. ⊥)
-    × (HasCleanDisk now → KeepsCommit old now)
-    × (HasCleanDisk now → Inside HasTables (Towards books_table 2 (things_lines l.campaign.what (range_with_len l.number (length l.campaign.what.books - l.number))) (things_lines l.campaign.what (range_with_len 0 (length l.campaign.what.books)))) old now)
+invariant-loop-number g l = SoFar g.S.Store (Inside HasTables (Towards books_table 2 (things_lines l.campaign.what (range_with_len l.number (length l.campaign.what.books - l.number))) (things_lines l.campaign.what (range_with_len 0 (length l.campaign.what.books))))) l.fn.tx.conn l.tx.conn

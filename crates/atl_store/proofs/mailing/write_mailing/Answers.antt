@@ -1,23 +1,17 @@
 use Rattle.std.proofs.Common.{rules}
 use Rattle.atl_store.specs.Inside.{HasTables}
 use Rattle.atl_store.specs.Arriving.{WritesMail}
-use Rattle.atl_store.proofs.WholeLaws.{crash_after, committed_after}
+use Rattle.atl_store.proofs.WholeLaws.{committed, left_off}
 use Rattle.atl_store.proofs.mailing.write_mailing.Goals as goal
 
-pub returns-in_err-commit-clause-crash : goal.returns-in_err-commit-clause-crash
-returns-in_err-commit-clause-crash g c =
-    let whole = crash_after g.S.Store c.args.conn.now c.transaction-tx.result.conn.now c.put_mailing.new.tx.conn.now c.commit.new.self.0 c.transaction-tx.ensures.begun HasTables (WritesMail c.args.faction c.args.text.now)
-    c.put_mailing.ensures.survives c.in_ok-put_mailing.ensures.put c.commit.ensures.survives in
+pub returns : goal.returns
+returns g c =
+    let whole = committed g.S.Store c.args.conn.now c.transaction-tx.result.conn c.put_mailing.new.tx.conn c.transaction-tx.ensures.begun HasTables (WritesMail c.args.faction c.args.text.now) c.commit.new.self.0 c.commit.ensures.ended c.commit.result
+    c.in_ok-put_mailing.ensures c.commit.ensures.ok c.commit.ensures.err c.commit.ensures.survives in
     search (rules, whole)
 
-pub returns-clause-crash : goal.returns-clause-crash
-returns-clause-crash g c =
-    let whole = crash_after g.S.Store c.args.conn.now c.transaction-tx.result.conn.now c.put_mailing.new.tx.conn.now c.commit.new.self.0 c.transaction-tx.ensures.begun HasTables (WritesMail c.args.faction c.args.text.now)
-    c.put_mailing.ensures.survives c.in_ok-put_mailing.ensures.put c.commit.ensures.survives in
-    search (rules, whole)
-
-pub returns-clause-ok : goal.returns-clause-ok
-returns-clause-ok g c =
-    let whole = committed_after g.S.Store c.args.conn.now c.transaction-tx.result.conn.now c.put_mailing.new.tx.conn.now c.commit.new.self.0 c.transaction-tx.ensures.begun HasTables (WritesMail c.args.faction c.args.text.now)
-    c.in_ok-put_mailing.ensures.put c.commit.ensures.survives c.in_ok-commit.ensures.ok in
+pub returns-in_err-put_mailing : goal.returns-in_err-put_mailing
+returns-in_err-put_mailing g c =
+    let whole = left_off g.S.Store c.args.conn.now c.transaction-tx.result.conn c.put_mailing.new.tx.conn c.transaction-tx.ensures.begun HasTables (WritesMail c.args.faction c.args.text.now) c.drop-tx.new.self.0 c.drop-tx.ensures.ended c.from_residual.result
+    c.from_residual.ensures.0 c.put_mailing.ensures c.drop-tx.ensures.undone c.drop-tx.ensures.survives in
     search (rules, whole)

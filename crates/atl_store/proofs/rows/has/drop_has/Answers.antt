@@ -1,14 +1,8 @@
-use Rattle.std.proofs.Common.{inl, inr, rules}
-use Rattle.std.proofs.lemmas.Bool.{cases_Bool}
-use Rattle.sqlite.specs.Held.{state}
+use Rattle.std.proofs.Common.{rules}
 use Rattle.atl_store.proofs.HasRowLaws.{drops_has}
 use Rattle.atl_store.specs.Written.{sort_number}
+use Rattle.atl_store.proofs.WriteLaws.{weaker}
 use Rattle.atl_store.proofs.rows.has.drop_has.Goals as goal
 
-pub returns-clause-dropped : goal.returns-clause-dropped
-returns-clause-dropped g c clean =
-    elim (cases_Bool c.args.tx.now.conn.now.in_transaction) [
-      | inl inside ↦ drops_has (state g.S.Store c.args.tx.now.conn.now) (state g.S.Store c.execute.new.self.conn.now) c.args.unit (sort_number c.args.sort) c.args.thing c.in_ok-execute.field-0 _ inside
-          (c.in_ok-execute.ensures.runs clean inside) (search rules)
-      | inr outside ↦ absurd (let e = (c.in_ok-execute.ensures.ended outside).0 in cc)
-    ]
+pub returns : goal.returns
+returns g c = weaker g.S.Store (λ old new did. drops_has old new c.args.unit (sort_number c.args.sort) c.args.thing did.1 _ did.0 did.2 (search rules)) c.run.ensures
