@@ -156,10 +156,15 @@ fn fault_tells(
     Ok(())
 }
 
+fn number_tells(rt: &impl Abort, alloc: Global, row: &(u8, &str, &str)) -> Result<(), Fail> {
+    let path = Text::from_str(alloc, "rules.growth")?;
+    let fault = fault_of(row.0, path);
+    fault_tells(rt, alloc, &fault, row)
+}
+
 fn faults_tell(rt: &impl Abort, alloc: Global, rows: &[(u8, &str, &str)]) -> Result<(), Fail> {
     for row in rows.iter() {
-        let fault = fault_of(row.0, Text::from_str(alloc, "rules.growth")?);
-        fault_tells(rt, alloc, &fault, row)?;
+        number_tells(rt, alloc, row)?;
     }
     Ok(())
 }

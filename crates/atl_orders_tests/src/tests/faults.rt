@@ -200,8 +200,8 @@ const NAME_CHANGES: [Change; 13] = [
     ("wage = 12", "wage = 12\noutput = { Wood = 7 }", "none"),
 ];
 
-/// Each key that is no number with a range of its own, in each way that it may be wrong, and at its limits.
-const MORE_CHANGES: [Change; 61] = [
+/// Changes of names of things.
+const TITLE_CHANGES: [Change; 19] = [
     ("name = \"plain\"", "", "2 Missing terrain[0].name"),
     ("name = \"wood\"", "", "2 Missing item[0].name"),
     ("name = \"carpentry\"", "", "2 Missing skill[0].name"),
@@ -257,11 +257,19 @@ const MORE_CHANGES: [Change; 61] = [
     ),
     ("name = \"Vale\"", "name = \"V\"", "none"),
     ("name = \"Vale\"", "name = \"Va le\"", "none"),
+];
+
+/// Changes of truths.
+const TRUTH_CHANGES: [Change; 5] = [
     ("land = true", "", "2 Missing terrain[0].land"),
     ("land = true", "land = 1", "3 WrongType terrain[0].land"),
     ("ship = false", "", "2 Missing kind[0].ship"),
     ("ship = false", "ship = \"no\"", "3 WrongType kind[0].ship"),
     ("ship = false", "ship = true", "none"),
+];
+
+/// Changes of texts that refer to a name.
+const REFERENCE_CHANGES: [Change; 20] = [
     (
         "growth = 0",
         "growth = 0\nobservation = 1",
@@ -330,6 +338,10 @@ const MORE_CHANGES: [Change; 61] = [
         "6 UnknownName region[0].terrain",
     ),
     ("terrain = \"plain\"", "terrain = \"PLAIN\"", "none"),
+];
+
+/// Changes of the numbers of neighbours.
+const NEIGHBOUR_CHANGES: [Change; 11] = [
     (
         "money = 500",
         "money = 500\nnorth = \"x\"",
@@ -381,6 +393,10 @@ const MORE_CHANGES: [Change; 61] = [
         "7 BadNeighbour region[0].west",
     ),
     ("money = 500", "money = 500\neast = 1\nwest = 1", "none"),
+];
+
+/// Changes of what a terrain gives.
+const OUTPUT_CHANGES: [Change; 6] = [
     ("wage = 12", "wage = 12\noutput = {}", "none"),
     (
         "wage = 12",
@@ -459,9 +475,33 @@ fn faulty_names(rt: HostRuntime) -> Result<(), Fail> {
 }
 
 #[test]
-fn each_key(rt: HostRuntime) -> Result<(), Fail> {
+fn faulty_titles(rt: HostRuntime) -> Result<(), Fail> {
     let all = small_with(rt.alloc(), MORE)?;
-    changes_are(&rt, rt.alloc(), all.as_str(), &MORE_CHANGES)
+    changes_are(&rt, rt.alloc(), all.as_str(), &TITLE_CHANGES)
+}
+
+#[test]
+fn faulty_truths(rt: HostRuntime) -> Result<(), Fail> {
+    let all = small_with(rt.alloc(), MORE)?;
+    changes_are(&rt, rt.alloc(), all.as_str(), &TRUTH_CHANGES)
+}
+
+#[test]
+fn faulty_references(rt: HostRuntime) -> Result<(), Fail> {
+    let all = small_with(rt.alloc(), MORE)?;
+    changes_are(&rt, rt.alloc(), all.as_str(), &REFERENCE_CHANGES)
+}
+
+#[test]
+fn faulty_neighbours(rt: HostRuntime) -> Result<(), Fail> {
+    let all = small_with(rt.alloc(), MORE)?;
+    changes_are(&rt, rt.alloc(), all.as_str(), &NEIGHBOUR_CHANGES)
+}
+
+#[test]
+fn faulty_outputs(rt: HostRuntime) -> Result<(), Fail> {
+    let all = small_with(rt.alloc(), MORE)?;
+    changes_are(&rt, rt.alloc(), all.as_str(), &OUTPUT_CHANGES)
 }
 
 const REGION: &str = "[[region]]

@@ -51,7 +51,7 @@ fn is_item(
     rt: &impl Abort,
     item: &Item,
     name: &str,
-    numbers: [u32; 4],
+    numbers: &[u32],
     skill: Option<u16>,
     raw: Option<u16>,
 ) {
@@ -59,7 +59,7 @@ fn is_item(
     are_numbers(
         rt,
         &[item.weight, item.carry, item.level, item.raw_count],
-        &numbers,
+        numbers,
     );
     are_places(rt, &[item.skill, item.raw], &[skill, raw]);
 }
@@ -67,8 +67,8 @@ fn is_item(
 fn shows_items(rt: &impl Abort, world: &World) {
     let items = world.items();
     assert!(rt; items.len() == 2);
-    is_item(rt, &items[0], "wood", [5, 0, 1, 1], Some(0), None);
-    is_item(rt, &items[1], "cart", [50, 100, 1, 5], Some(1), Some(0));
+    is_item(rt, &items[0], "wood", &[5, 0, 1, 1], Some(0), None);
+    is_item(rt, &items[1], "cart", &[50, 100, 1, 5], Some(1), Some(0));
 }
 
 fn shows_skills(rt: &impl Abort, world: &World) {
@@ -92,20 +92,20 @@ fn is_kind(
     kind: &Kind,
     name: &str,
     ship: bool,
-    places: [Option<u16>; 3],
-    numbers: [u32; 4],
+    places: &[Option<u16>],
+    numbers: &[u32],
 ) {
     is_text(rt, kind.name.as_str(), name);
     assert!(rt; kind.ship == ship);
     are_places(
         rt,
         &[Some(kind.material), Some(kind.skill), kind.helps],
-        &places,
+        places,
     );
     are_numbers(
         rt,
         &[kind.size, kind.level, kind.capacity, kind.crew],
-        &numbers,
+        numbers,
     );
 }
 
@@ -113,9 +113,9 @@ fn shows_kinds(rt: &impl Abort, world: &World) {
     let kinds = world.kinds();
     assert!(rt; kinds.len() == 2);
     let boat = [Some(0), Some(2), None];
-    is_kind(rt, &kinds[0], "boat", true, boat, [10, 1, 200, 2]);
+    is_kind(rt, &kinds[0], "boat", true, &boat, &[10, 1, 200, 2]);
     let lodge = [Some(0), Some(1), Some(0)];
-    is_kind(rt, &kinds[1], "lodge", false, lodge, [20, 1, 0, 0]);
+    is_kind(rt, &kinds[1], "lodge", false, &lodge, &[20, 1, 0, 0]);
 }
 
 #[test]
@@ -130,8 +130,8 @@ pub(crate) fn is_region(
     rt: &impl Abort,
     region: &RegionPlan,
     name: &str,
-    numbers: [u32; 4],
-    exits: [Option<u32>; 4],
+    numbers: &[u32],
+    exits: &[Option<u32>],
 ) {
     is_text(rt, region.name.as_str(), name);
     are_numbers(
@@ -142,12 +142,12 @@ pub(crate) fn is_region(
             region.peasants,
             region.money,
         ],
-        &numbers,
+        numbers,
     );
     are_exits(
         rt,
         &[region.north, region.south, region.east, region.west],
-        &exits,
+        exits,
     );
 }
 
@@ -157,24 +157,24 @@ fn shows_regions(rt: &impl Abort, world: &World) -> Result<(), Fail> {
         rt,
         sound,
         "Sound",
-        [2, 2, 0, 0],
-        [None, None, Some(3), Some(1)],
+        &[2, 2, 0, 0],
+        &[None, None, Some(3), Some(1)],
     );
     let far = world.region(3).ok_or("no region 3")?;
     is_region(
         rt,
         far,
         "Far",
-        [3, 1, 200, 100],
-        [Some(4), None, None, Some(2)],
+        &[3, 1, 200, 100],
+        &[Some(4), None, None, Some(2)],
     );
     let wood = world.region(4).ok_or("no region 4")?;
     is_region(
         rt,
         wood,
         "Wood",
-        [4, 1, 100, 50],
-        [None, Some(3), None, None],
+        &[4, 1, 100, 50],
+        &[None, Some(3), None, None],
     );
     Ok(())
 }

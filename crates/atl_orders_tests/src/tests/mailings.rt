@@ -128,8 +128,8 @@ const NAMING: [(&str, &str); 5] = [
     ("BUILD Boat", "Build(Some(0))"),
 ];
 
-/// Bad forms, with the first fault from left to right.
-const BAD: [(&str, &str); 55] = [
+/// Bad forms, with the first fault from left to right, up to those of PROMOTE.
+const BAD_NAMES: [(&str, &str); 20] = [
     ("ATTACK 2", "2 UnknownOrder"),
     ("\"\"", "2 UnknownOrder"),
     ("#ATLANTIS 1", "2 UnknownOrder"),
@@ -153,6 +153,10 @@ const BAD: [(&str, &str); 55] = [
     ("PROMOTE 0", "3 BadNumber"),
     ("PROMOTE NEW", "5 MissingWord"),
     ("PROMOTE NEW 10000", "7 BadAlias"),
+];
+
+/// Those of GIVE to QUIT.
+const BAD_GOODS: [(&str, &str); 15] = [
     ("GIVE", "5 MissingWord"),
     ("GIVE 2", "5 MissingWord"),
     ("GIVE 2 0 wood", "3 BadNumber"),
@@ -168,6 +172,10 @@ const BAD: [(&str, &str); 55] = [
     ("RECRUIT 0", "3 BadNumber"),
     ("QUIT", "5 MissingWord"),
     ("QUIT 1x", "3 BadNumber"),
+];
+
+/// Those of STUDY to FORM, and bad bytes.
+const BAD_WORK: [(&str, &str); 20] = [
     ("STUDY", "5 MissingWord"),
     ("STUDY wood", "4 UnknownThing"),
     ("PRODUCE", "5 MissingWord"),
@@ -206,16 +214,27 @@ fn lines_tell(
     Ok(())
 }
 
-fn forms_tell(rt: &impl Abort, alloc: Global, world: &World) -> Result<(), Fail> {
+fn good_forms_tell(rt: &impl Abort, alloc: Global, world: &World) -> Result<(), Fail> {
     lines_tell(rt, alloc, world, "Number(7) ", &GOOD)?;
-    lines_tell(rt, alloc, world, "Number(7) ", &NAMING)?;
-    lines_tell(rt, alloc, world, "", &BAD)
+    lines_tell(rt, alloc, world, "Number(7) ", &NAMING)
+}
+
+fn bad_forms_tell(rt: &impl Abort, alloc: Global, world: &World) -> Result<(), Fail> {
+    lines_tell(rt, alloc, world, "", &BAD_NAMES)?;
+    lines_tell(rt, alloc, world, "", &BAD_GOODS)?;
+    lines_tell(rt, alloc, world, "", &BAD_WORK)
 }
 
 #[test]
-fn forms(rt: HostRuntime) -> Result<(), Fail> {
+fn good_forms(rt: HostRuntime) -> Result<(), Fail> {
     let world = world_with(rt.alloc(), THINGS)?;
-    forms_tell(&rt, rt.alloc(), &world)
+    good_forms_tell(&rt, rt.alloc(), &world)
+}
+
+#[test]
+fn bad_forms(rt: HostRuntime) -> Result<(), Fail> {
+    let world = world_with(rt.alloc(), THINGS)?;
+    bad_forms_tell(&rt, rt.alloc(), &world)
 }
 
 /// Whole texts, and what is told of each.
@@ -369,13 +388,8 @@ fn words_said(alloc: Global, world: &World, text: &str) -> Result<String, Fail> 
     words_of(alloc, &mailing)
 }
 
-fn words_are(
-    rt: &impl Abort,
-    alloc: Global,
-    world: &World,
-    rows: &[(&str, &str)],
-) -> Result<(), Fail> {
-    for (text, wanted) in rows.iter() {
+fn words_are(rt: &impl Abort, alloc: Global, world: &World) -> Result<(), Fail> {
+    for (text, wanted) in WORDS.iter() {
         let words = words_said(alloc, world, text)?;
         row_is(rt, wanted, words.as_str(), wanted);
     }
@@ -385,7 +399,7 @@ fn words_are(
 #[test]
 fn keywords_and_names(rt: HostRuntime) -> Result<(), Fail> {
     let world = world_with(rt.alloc(), THINGS)?;
-    words_are(&rt, rt.alloc(), &world, &WORDS)
+    words_are(&rt, rt.alloc(), &world)
 }
 
 /// Asserts the faction of a mailing, and that it keeps the text that was read.

@@ -64,8 +64,8 @@ fn shows_vale(rt: &impl Abort, world: &World) -> Result<(), Fail> {
         rt,
         vale,
         "Vale",
-        [1, 0, 1000, 500],
-        [None, None, None, None],
+        &[1, 0, 1000, 500],
+        &[None, None, None, None],
     );
     Ok(())
 }
