@@ -1,6 +1,6 @@
-//! The two readers, the look-ups, the tests of names and the containers, by their public calls alone. Of what is large (a
-//! world, a mailing, a text) each function here holds one, and lends it, and each table of cases is lent: so the proofs
-//! stay short.
+//! The two readers, the look-ups, the rules of names and the containers, by their public calls alone. A function here holds
+//! at most one thing that is large (a world, a mailing), and lends it; the tables of cases are short, and lent; and each
+//! assertion of equality stands once, in `asserts`: so the proofs stay short.
 mod asserts;
 mod containers;
 mod faults;
