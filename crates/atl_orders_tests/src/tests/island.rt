@@ -126,7 +126,7 @@ fn kinds(rt: HostRuntime) -> Result<(), Fail> {
 }
 
 /// Of a region: its name, its number, terrain, peasants and money, and its exits to the north, south, east and west.
-pub(crate) fn is_region(
+fn is_region(
     rt: &impl Abort,
     region: &RegionPlan,
     name: &str,
@@ -151,42 +151,41 @@ pub(crate) fn is_region(
     );
 }
 
-fn shows_regions(rt: &impl Abort, world: &World) -> Result<(), Fail> {
-    let sound = world.region(2).ok_or("no region 2")?;
-    is_region(
-        rt,
-        sound,
-        "Sound",
-        &[2, 2, 0, 0],
-        &[None, None, Some(3), Some(1)],
-    );
-    let far = world.region(3).ok_or("no region 3")?;
-    is_region(
-        rt,
-        far,
-        "Far",
-        &[3, 1, 200, 100],
-        &[Some(4), None, None, Some(2)],
-    );
-    let wood = world.region(4).ok_or("no region 4")?;
-    is_region(
-        rt,
-        wood,
-        "Wood",
-        &[4, 1, 100, 50],
-        &[None, Some(3), None, None],
-    );
-    Ok(())
+/// Of the region of a number.
+pub(crate) fn has_region(
+    rt: &impl Abort,
+    world: &World,
+    number: u32,
+    name: &str,
+    numbers: &[u32],
+    exits: &[Option<u32>],
+) {
+    match world.region(number) {
+        Some(region) => is_region(rt, region, name, numbers, exits),
+        None => assert!(rt; false, "no region {number}"),
+    }
 }
 
-fn shows_land(rt: &impl Abort, world: &World) -> Result<(), Fail> {
+fn shows_regions(rt: &impl Abort, world: &World) {
+    let shore = [None, None, Some(2), None];
+    has_region(rt, world, 1, "Shore", &[1, 0, 1000, 500], &shore);
+    let sound = [None, None, Some(3), Some(1)];
+    has_region(rt, world, 2, "Sound", &[2, 2, 0, 0], &sound);
+    let far = [Some(4), None, None, Some(2)];
+    has_region(rt, world, 3, "Far", &[3, 1, 200, 100], &far);
+    let wood = [None, Some(3), None, None];
+    has_region(rt, world, 4, "Wood", &[4, 1, 100, 50], &wood);
+}
+
+fn shows_land(rt: &impl Abort, world: &World) {
     is_number(rt, world.regions().len(), 4);
     are_numbers(rt, world.land(), &[1, 3, 4]);
-    shows_regions(rt, world)
+    shows_regions(rt, world);
 }
 
 #[test]
 fn regions(rt: HostRuntime) -> Result<(), Fail> {
     let world = read_world(rt.alloc(), ISLE)?;
-    shows_land(&rt, &world)
+    shows_land(&rt, &world);
+    Ok(())
 }

@@ -85,18 +85,20 @@ const NO_NAMES: [(&str, bool, &str); 10] = [
     ("Vale", true, ""),
 ];
 
+/// Adds the number of a thing of this sort, where there is one.
+fn tell(alloc: Global, told: &mut String, sort: &str, place: Option<u16>) -> Result<(), Fail> {
+    if let Some(place) = place {
+        told.push_str(&format!(in alloc; "{sort} {place};")?)?;
+    }
+    Ok(())
+}
+
 /// The item, the skill and the kind that a word names.
 fn named(alloc: Global, world: &World, word: &[u8], quoted: bool) -> Result<String, Fail> {
     let mut told = String::new(alloc);
-    if let Some(place) = world.item_named(word, quoted) {
-        told.push_str(&format!(in alloc; "item {place};")?)?;
-    }
-    if let Some(place) = world.skill_named(word, quoted) {
-        told.push_str(&format!(in alloc; "skill {place};")?)?;
-    }
-    if let Some(place) = world.kind_named(word, quoted) {
-        told.push_str(&format!(in alloc; "kind {place};")?)?;
-    }
+    tell(alloc, &mut told, "item", world.item_named(word, quoted))?;
+    tell(alloc, &mut told, "skill", world.skill_named(word, quoted))?;
+    tell(alloc, &mut told, "kind", world.kind_named(word, quoted))?;
     Ok(told)
 }
 

@@ -42,8 +42,34 @@ const OPTIONAL: [Range; 4] = [
     ("kind[0].crew", "level = 1", 0, 999_999),
 ];
 
-/// Asserts that a number is refused where it is no whole one or outside its range, and taken at both ends of it. The text has
-/// it behind `front` in the place of `from`.
+/// Asserts that a key is refused where its number is no whole one. The text has it behind `front` in the place of `from`.
+fn is_whole(
+    rt: &impl Abort,
+    alloc: Global,
+    text: &str,
+    from: &str,
+    front: &str,
+    path: &str,
+) -> Result<(), Fail> {
+    let wrong = format!(in alloc; "3 WrongType {path}")?;
+    let to = format!(in alloc; "{front}1.5")?;
+    change_is(rt, alloc, text, from, to.as_str(), wrong.as_str())
+}
+
+fn number_is(
+    rt: &impl Abort,
+    alloc: Global,
+    text: &str,
+    from: &str,
+    front: &str,
+    number: i64,
+    wanted: &str,
+) -> Result<(), Fail> {
+    let to = format!(in alloc; "{front}{number}")?;
+    change_is(rt, alloc, text, from, to.as_str(), wanted)
+}
+
+/// Asserts that a key takes the ends of its range, and not the numbers beside them.
 fn has_range(
     rt: &impl Abort,
     alloc: Global,
@@ -53,21 +79,13 @@ fn has_range(
     row: &Range,
 ) -> Result<(), Fail> {
     let (path, _, low, high) = *row;
-    let wrong = format!(in alloc; "3 WrongType {path}")?;
-    let to = format!(in alloc; "{front}1.5")?;
-    change_is(rt, alloc, text, from, to.as_str(), wrong.as_str())?;
+    is_whole(rt, alloc, text, from, front, path)?;
     let outside = format!(in alloc; "4 OutOfRange {path}")?;
-    let limits = [
-        (i64::from(low) - 1, outside.as_str()),
-        (i64::from(low), "none"),
-        (i64::from(high), "none"),
-        (i64::from(high) + 1, outside.as_str()),
-    ];
-    for (limit, wanted) in limits.iter() {
-        let to = format!(in alloc; "{front}{limit}")?;
-        change_is(rt, alloc, text, from, to.as_str(), wanted)?;
-    }
-    Ok(())
+    let (under, over) = (i64::from(low) - 1, i64::from(high) + 1);
+    number_is(rt, alloc, text, from, front, under, outside.as_str())?;
+    number_is(rt, alloc, text, from, front, low.into(), "none")?;
+    number_is(rt, alloc, text, from, front, high.into(), "none")?;
+    number_is(rt, alloc, text, from, front, over, outside.as_str())
 }
 
 /// The key that a path ends with.

@@ -1,6 +1,6 @@
 //! The small world, field by field.
 use super::asserts::{are_numbers, are_places, is_number, is_text};
-use super::island::is_region;
+use super::island::has_region;
 use super::worlds::SMALL;
 use atl_tables::{Rules, World, read_world};
 use std::process::Abort;
@@ -58,19 +58,9 @@ fn reads_small(rt: HostRuntime) -> Result<(), Fail> {
     shows_small(&rt, &world)
 }
 
-fn shows_vale(rt: &impl Abort, world: &World) -> Result<(), Fail> {
-    let vale = world.region(1).ok_or("no region 1")?;
-    is_region(
-        rt,
-        vale,
-        "Vale",
-        &[1, 0, 1000, 500],
-        &[None, None, None, None],
-    );
-    Ok(())
-}
-
-fn shows_no_more(rt: &impl Abort, world: &World) {
+fn shows_vale(rt: &impl Abort, world: &World) {
+    let exits = [None, None, None, None];
+    has_region(rt, world, 1, "Vale", &[1, 0, 1000, 500], &exits);
     assert!(rt; world.region(2).is_none());
     are_numbers(rt, world.land(), &[1]);
     is_number(rt, world.items().len(), 0);
@@ -78,13 +68,9 @@ fn shows_no_more(rt: &impl Abort, world: &World) {
     is_number(rt, world.kinds().len(), 0);
 }
 
-fn shows_the_region(rt: &impl Abort, world: &World) -> Result<(), Fail> {
-    shows_no_more(rt, world);
-    shows_vale(rt, world)
-}
-
 #[test]
 fn finds_the_region(rt: HostRuntime) -> Result<(), Fail> {
     let world = read_world(rt.alloc(), SMALL)?;
-    shows_the_region(&rt, &world)
+    shows_vale(&rt, &world);
+    Ok(())
 }
