@@ -20,6 +20,3 @@ pub use mailing::{Entry, Mailing, read_mailing};
 pub use order::{Direction, NameKind, Order, Span, UnitRef};
 pub use rules::{readings_keep_bounds, rules_are_the_reading};
 pub use verb::Verb;
-
-#[cfg(test)]
-mod tests;

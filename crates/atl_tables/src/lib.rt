@@ -33,6 +33,3 @@ pub use sequence::Sequence;
 pub use text::Text;
 pub use tracked::Tracked;
 pub use world::{Item, Kind, RegionPlan, Rules, Skill, Terrain, World};
-
-#[cfg(test)]
-mod tests;

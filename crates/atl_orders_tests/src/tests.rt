@@ -1,0 +1,14 @@
+//! The two readers, the look-ups, the rules of names and the containers, by their public calls alone. A function here holds
+//! at most one thing that is large (a world, a mailing), and lends it; the tables of cases are short, and lent; and each
+//! assertion of equality stands once, in `asserts`: so the proofs stay short.
+mod asserts;
+mod containers;
+mod faults;
+mod island;
+mod lookups;
+mod mailings;
+mod names;
+mod ranges;
+mod small;
+mod tracked;
+mod worlds;

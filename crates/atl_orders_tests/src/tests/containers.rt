@@ -1,0 +1,175 @@
+//! Texts, lists, maps by number, and the faults of worlds, call by call.
+use super::asserts::{are_numbers, is_number, is_text, row_is};
+use atl_tables::{Numbered, Sequence, Text, WorldFault};
+use std::alloc::Global;
+use std::process::Abort;
+use std::test::Fail;
+
+/// Asserts the bytes of a text, and that a copy has them too.
+fn holds(rt: &impl Abort, alloc: Global, text: &Text, wanted: &str) -> Result<(), Fail> {
+    is_text(rt, text.as_str(), wanted);
+    assert!(rt; text.as_bytes() == wanted.as_bytes());
+    is_text(rt, text.copy(alloc)?.as_str(), wanted);
+    Ok(())
+}
+
+fn made_in_each_way(rt: &impl Abort, alloc: Global, text: &str) -> Result<(), Fail> {
+    holds(rt, alloc, &Text::from_str(alloc, text)?, text)?;
+    let string = String::from_str(alloc, text)?;
+    holds(rt, alloc, &Text::from_string(string), text)?;
+    holds(rt, alloc, &Text::from_utf8(alloc, text.as_bytes())?, text)
+}
+
+const TEXTS: [&str; 4] = ["", "a", "Big Bob", "\u{e9}\u{1f600}"];
+
+#[test]
+fn texts(rt: HostRuntime) -> Result<(), Fail> {
+    for text in TEXTS.iter() {
+        made_in_each_way(&rt, rt.alloc(), text)?;
+    }
+    Ok(())
+}
+
+/// Asserts the values of a list.
+fn lists(rt: &impl Abort, list: &Sequence<u32>, wanted: &[u32]) {
+    is_number(rt, list.len(), wanted.len());
+    are_numbers(rt, list.as_slice(), wanted);
+}
+
+fn pushed(rt: &impl Abort, alloc: Global) -> Result<Vec<u32>, Fail> {
+    let mut list = Sequence::new(alloc);
+    lists(rt, &list, &[]);
+    list.push(3)?;
+    list.push(1)?;
+    lists(rt, &list, &[3, 1]);
+    Ok(list.into_vec())
+}
+
+#[test]
+fn sequences(rt: HostRuntime) -> Result<(), Fail> {
+    let mut list = Sequence::from_vec(pushed(&rt, rt.alloc())?);
+    list.push(2)?;
+    lists(&rt, &list, &[3, 1, 2]);
+    lists(&rt, &Sequence::from_slice(rt.alloc(), &[7, 7])?, &[7, 7]);
+    Ok(())
+}
+
+/// Asserts the numbers of a map, each followed by its value.
+pub(crate) fn maps(
+    rt: &impl Abort,
+    alloc: Global,
+    map: &Numbered<u32>,
+    wanted: &[u32],
+) -> Result<(), Fail> {
+    let mut entries = Vec::new(alloc);
+    for (number, value) in map.iter() {
+        entries.push(number)?;
+        entries.push(*value)?;
+    }
+    are_numbers(rt, &entries, wanted);
+    is_number(rt, map.len(), wanted.len() / 2);
+    Ok(())
+}
+
+/// A map that three values were put into.
+pub(crate) fn filled(alloc: Global) -> Result<Numbered<u32>, Fail> {
+    let mut map = Numbered::new(alloc);
+    map.insert(30, 3)?;
+    map.insert(1, 1)?;
+    map.insert(20, 2)?;
+    Ok(map)
+}
+
+/// Changes, takes out and reads entries that are there, and ones that are not.
+fn changes_entries(rt: &impl Abort, map: &mut Numbered<u32>) {
+    assert!(rt; map.get(20) == Some(&2));
+    assert!(rt; map.get(2).is_none());
+    if let Some(value) = map.get_mut(20) {
+        *value = 9;
+    }
+    assert!(rt; map.get_mut(2).is_none());
+    map.remove(1);
+    map.remove(2);
+}
+
+#[test]
+fn numbered(rt: HostRuntime) -> Result<(), Fail> {
+    let mut map = filled(rt.alloc())?;
+    maps(&rt, rt.alloc(), &map, &[1, 1, 20, 2, 30, 3])?;
+    changes_entries(&rt, &mut map);
+    maps(&rt, rt.alloc(), &map, &[20, 9, 30, 3])
+}
+
+#[test]
+fn no_entries(rt: HostRuntime) -> Result<(), Fail> {
+    maps(&rt, rt.alloc(), &Numbered::new(rt.alloc()), &[])
+}
+
+/// The numbers of the faults, their names, and what is printed of each with the path `rules.growth`.
+const FAULTS: [(u8, &str, &str); 9] = [
+    (0, "Memory", "0 Memory"),
+    (1, "NotToml", "1 NotToml"),
+    (2, "Missing", "2 Missing rules.growth"),
+    (3, "WrongType", "3 WrongType rules.growth"),
+    (4, "OutOfRange", "4 OutOfRange rules.growth"),
+    (5, "TwoNames", "5 TwoNames rules.growth"),
+    (6, "UnknownName", "6 UnknownName rules.growth"),
+    (7, "BadNeighbour", "7 BadNeighbour rules.growth"),
+    (8, "NoLand", "8 NoLand"),
+];
+
+/// The fault of a number in docs/FORMATS.md, "Faults of a world file", about a path.
+fn fault_of(number: u8, path: Text) -> WorldFault {
+    match number {
+        1 => WorldFault::NotToml,
+        2 => WorldFault::Missing(path),
+        3 => WorldFault::WrongType(path),
+        4 => WorldFault::OutOfRange(path),
+        5 => WorldFault::TwoNames(path),
+        6 => WorldFault::UnknownName(path),
+        7 => WorldFault::BadNeighbour(path),
+        8 => WorldFault::NoLand,
+        _ => WorldFault::Memory,
+    }
+}
+
+fn fault_tells(
+    rt: &impl Abort,
+    alloc: Global,
+    fault: &WorldFault,
+    row: &(u8, &str, &str),
+) -> Result<(), Fail> {
+    let (number, name, text) = *row;
+    is_number(rt, fault.number().into(), number.into());
+    row_is(rt, text, fault.name(), name);
+    row_is(rt, text, fault.text(alloc)?.as_str(), text);
+    let path = match fault.path() {
+        Some(path) => path.as_str(),
+        None => "none",
+    };
+    let wanted = if text.ends_with("growth") {
+        "rules.growth"
+    } else {
+        "none"
+    };
+    row_is(rt, text, path, wanted);
+    Ok(())
+}
+
+fn number_tells(rt: &impl Abort, alloc: Global, row: &(u8, &str, &str)) -> Result<(), Fail> {
+    let path = Text::from_str(alloc, "rules.growth")?;
+    let fault = fault_of(row.0, path);
+    fault_tells(rt, alloc, &fault, row)
+}
+
+fn faults_tell(rt: &impl Abort, alloc: Global, rows: &[(u8, &str, &str)]) -> Result<(), Fail> {
+    for row in rows.iter() {
+        number_tells(rt, alloc, row)?;
+    }
+    Ok(())
+}
+
+#[test]
+fn world_faults(rt: HostRuntime) -> Result<(), Fail> {
+    faults_tell(&rt, rt.alloc(), &FAULTS)
+}

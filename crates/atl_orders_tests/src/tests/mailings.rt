@@ -1,0 +1,441 @@
+//! Mailings: what is read of each form of order, of blocks, of line ends and of long texts.
+use super::asserts::{is_number, row_is};
+use super::worlds::{THINGS, world_with};
+use atl_orders::{
+    MailFault, Mailing, Order, read_mailing, readings_keep_bounds, rules_are_the_reading,
+};
+use atl_tables::World;
+use std::alloc::Global;
+use std::process::Abort;
+use std::test::Fail;
+
+/// Adds the orders of a mailing in the form of `Debug`, each behind its line.
+fn tell_orders(alloc: Global, mailing: &Mailing, told: &mut String) -> Result<(), Fail> {
+    for entry in mailing.entries.as_slice().iter() {
+        let order = format!(in alloc; "{}: {:?} {:?};", entry.line, entry.target, entry.order)?;
+        told.push_str(&order)?;
+    }
+    Ok(())
+}
+
+/// Adds the faults of a mailing, each behind its line.
+fn tell_faults(alloc: Global, mailing: &Mailing, told: &mut String) -> Result<(), Fail> {
+    for faulty in mailing.faults.as_slice().iter() {
+        let fault = format!(in alloc;
+            "{}: {} {};",
+            faulty.line,
+            faulty.fault.number(),
+            faulty.fault.name()
+        )?;
+        told.push_str(&fault)?;
+    }
+    Ok(())
+}
+
+/// The orders and the faults of a mailing.
+fn told_of(alloc: Global, mailing: &Mailing) -> Result<String, Fail> {
+    let mut told = String::new(alloc);
+    tell_orders(alloc, mailing, &mut told)?;
+    tell_faults(alloc, mailing, &mut told)?;
+    Ok(told)
+}
+
+/// The number of the fault of a text that is no mailing.
+fn refused(alloc: Global, fault: MailFault) -> Result<String, Fail> {
+    let number = fault.number().ok_or("no memory")?;
+    Ok(format!(in alloc; "refused {number}")?)
+}
+
+/// What is told of a text: its orders and faults, or why it is no mailing.
+fn told(alloc: Global, world: &World, text: &[u8]) -> Result<String, Fail> {
+    match read_mailing(alloc, world, text) {
+        Ok(mailing) => told_of(alloc, &mailing),
+        Err(fault) => refused(alloc, fault),
+    }
+}
+
+/// Asserts what is told of a text.
+fn text_tells(
+    rt: &impl Abort,
+    alloc: Global,
+    world: &World,
+    text: &[u8],
+    wanted: &str,
+) -> Result<(), Fail> {
+    let told = told(alloc, world, text)?;
+    row_is(rt, wanted, told.as_str(), wanted);
+    Ok(())
+}
+
+/// A good form of each order, in any case, quoted and bare, with comments, tabs and words too many.
+const GOOD: [(&str, &str); 24] = [
+    ("WORK", "Work"),
+    ("\"work\" now", "Work"),
+    ("TaX", "Tax"),
+    ("LEAVE", "Leave"),
+    (
+        "NAME UNIT Big_Bob",
+        "Name { what: Unit, name: Span { start: 29, end: 36, quoted: false } }",
+    ),
+    (
+        "name faction \"a _b\"",
+        "Name { what: Faction, name: Span { start: 33, end: 37, quoted: true } }",
+    ),
+    (
+        "NAME BUILDING x;y",
+        "Name { what: Building, name: Span { start: 33, end: 34, quoted: false } }",
+    ),
+    (
+        "NAME SHIP\tx\"y",
+        "Name { what: Ship, name: Span { start: 29, end: 30, quoted: false } }",
+    ),
+    ("GUARD 0", "Guard(false)"),
+    ("GUARD 001", "Guard(true)"),
+    ("ENTER 3", "Enter(3)"),
+    ("BOARD 3", "Enter(3)"),
+    ("PROMOTE NEW 9999", "Promote(Alias(9999))"),
+    ("PAY 2 100", "Pay { to: Number(2), amount: 100 }"),
+    (
+        "TRANSFER \"new\" \"4\" 1",
+        "Transfer { to: Alias(4), men: 1 }",
+    ),
+    ("RECRUIT 10", "Recruit(10)"),
+    ("QUIT 1", "Quit(1)"),
+    (
+        "TEACH 7 new 3 \"9\" ; 8",
+        "Teach(Sequence { items: [Number(7), Alias(3), Number(9)] })",
+    ),
+    ("BUILD ; boat", "Build(None)"),
+    ("MOVE north", "Move(North)"),
+    ("MOVE South", "Move(South)"),
+    ("SAIL EAST", "Sail(East)"),
+    ("SAIL \"west", "Sail(West)"),
+    ("FORM 5", "Form(5)"),
+];
+
+/// Orders that name things of the world.
+const NAMING: [(&str, &str); 5] = [
+    (
+        "GIVE 2 5 LONG_BOW",
+        "Give { to: Number(2), amount: 5, item: 1 }",
+    ),
+    (
+        "GIVE NEW 3 999999999 \"Long Bow\" x",
+        "Give { to: Alias(3), amount: 999999999, item: 1 }",
+    ),
+    ("STUDY Tree_Felling", "Study(1)"),
+    ("PRODUCE wood", "Produce(0)"),
+    ("BUILD Boat", "Build(Some(0))"),
+];
+
+/// Bad forms, with the first fault from left to right, up to those of PROMOTE.
+const BAD_NAMES: [(&str, &str); 20] = [
+    ("ATTACK 2", "2 UnknownOrder"),
+    ("\"\"", "2 UnknownOrder"),
+    ("#ATLANTIS 1", "2 UnknownOrder"),
+    ("WORKS", "2 UnknownOrder"),
+    ("NAME", "5 MissingWord"),
+    ("NAME HOUSE x", "4 UnknownThing"),
+    ("NAME UNIT", "5 MissingWord"),
+    ("NAME UNIT _x", "11 BadName"),
+    ("NAME UNIT \" x\"", "11 BadName"),
+    ("NAME UNIT \"\"", "11 BadName"),
+    (
+        "NAME UNIT 12345678901234567890123456789012345678901",
+        "11 BadName",
+    ),
+    ("GUARD", "5 MissingWord"),
+    ("GUARD 2", "3 BadNumber"),
+    ("ENTER", "5 MissingWord"),
+    ("ENTER 0", "3 BadNumber"),
+    ("BOARD x", "3 BadNumber"),
+    ("PROMOTE", "5 MissingWord"),
+    ("PROMOTE 0", "3 BadNumber"),
+    ("PROMOTE NEW", "5 MissingWord"),
+    ("PROMOTE NEW 10000", "7 BadAlias"),
+];
+
+/// Those of GIVE to QUIT.
+const BAD_GOODS: [(&str, &str); 15] = [
+    ("GIVE", "5 MissingWord"),
+    ("GIVE 2", "5 MissingWord"),
+    ("GIVE 2 0 wood", "3 BadNumber"),
+    ("GIVE 2 1", "5 MissingWord"),
+    ("GIVE 2 1 iron", "4 UnknownThing"),
+    ("GIVE 2 1 \"long_bow\"", "4 UnknownThing"),
+    ("GIVE NEW x 0 iron", "7 BadAlias"),
+    ("PAY 2 1000000000", "3 BadNumber"),
+    ("PAY 2", "5 MissingWord"),
+    ("TRANSFER +2 1", "3 BadNumber"),
+    ("TRANSFER 2", "5 MissingWord"),
+    ("RECRUIT", "5 MissingWord"),
+    ("RECRUIT 0", "3 BadNumber"),
+    ("QUIT", "5 MissingWord"),
+    ("QUIT 1x", "3 BadNumber"),
+];
+
+/// Those of STUDY to FORM, and bad bytes.
+const BAD_WORK: [(&str, &str); 20] = [
+    ("STUDY", "5 MissingWord"),
+    ("STUDY wood", "4 UnknownThing"),
+    ("PRODUCE", "5 MissingWord"),
+    ("PRODUCE sailing", "4 UnknownThing"),
+    ("TEACH", "5 MissingWord"),
+    ("TEACH 7 x", "3 BadNumber"),
+    ("TEACH 7 NEW", "5 MissingWord"),
+    ("TEACH 7 NEW 0", "7 BadAlias"),
+    ("BUILD hut", "4 UnknownThing"),
+    ("MOVE", "5 MissingWord"),
+    ("MOVE up", "10 BadDirection"),
+    ("SAIL", "5 MissingWord"),
+    ("SAIL n", "10 BadDirection"),
+    ("UNIT", "5 MissingWord"),
+    ("UNIT x", "3 BadNumber"),
+    ("END", "9 EndAlone"),
+    ("FORM", "5 MissingWord"),
+    ("FORM 0", "7 BadAlias"),
+    ("WORK ; \r!", "6 BadByte"),
+    ("UNIT 2 \"\x7f", "6 BadByte"),
+];
+
+/// Asserts what is told of each line for unit 7, behind its number.
+fn lines_tell(
+    rt: &impl Abort,
+    alloc: Global,
+    world: &World,
+    front: &str,
+    rows: &[(&str, &str)],
+) -> Result<(), Fail> {
+    for (line, told) in rows.iter() {
+        let text = format!(in alloc; "#ATLANTIS 1\nUNIT 7\n{line}")?;
+        let wanted = format!(in alloc; "3: {front}{told};")?;
+        text_tells(rt, alloc, world, text.as_bytes(), wanted.as_str())?;
+    }
+    Ok(())
+}
+
+fn good_forms_tell(rt: &impl Abort, alloc: Global, world: &World) -> Result<(), Fail> {
+    lines_tell(rt, alloc, world, "Number(7) ", &GOOD)?;
+    lines_tell(rt, alloc, world, "Number(7) ", &NAMING)
+}
+
+fn bad_forms_tell(rt: &impl Abort, alloc: Global, world: &World) -> Result<(), Fail> {
+    lines_tell(rt, alloc, world, "", &BAD_NAMES)?;
+    lines_tell(rt, alloc, world, "", &BAD_GOODS)?;
+    lines_tell(rt, alloc, world, "", &BAD_WORK)
+}
+
+#[test]
+fn good_forms(rt: HostRuntime) -> Result<(), Fail> {
+    let world = world_with(rt.alloc(), THINGS)?;
+    good_forms_tell(&rt, rt.alloc(), &world)
+}
+
+#[test]
+fn bad_forms(rt: HostRuntime) -> Result<(), Fail> {
+    let world = world_with(rt.alloc(), THINGS)?;
+    bad_forms_tell(&rt, rt.alloc(), &world)
+}
+
+/// Whole texts, and what is told of each.
+const TEXTS: [(&str, &str); 10] = [
+    // One faulty line.
+    (
+        "From: a club\r\n\r\n#ATLANTIS 1 secret\r\nUNIT 1 ; the first\r\nATTACK 2\r\nwork\r\n",
+        "6: Number(1) Work;5: 2 UnknownOrder;",
+    ),
+    // Blocks with each of their faults.
+    (
+        "#ATLANTIS 1\nWORK\nUNIT 1\nEND\nFORM 1\nFORM 2\nEND\nFORM 1\nTAX\nEND\nGIVE 2 0 wood\n",
+        "5: Number(1) Form(1);2: 1 NoUnit;4: 9 EndAlone;6: 8 NestedForm;8: 7 BadAlias;9: 1 NoUnit;11: 3 BadNumber;",
+    ),
+    // An alias is known before its FORM; orders in a block are the new unit's, behind it the parent's; a block without a unit
+    // outside; a UNIT line ends a block; lines behind `#END` are ignored.
+    (
+        "#END\n#atlantis \"0001\"\nFORM 2\nWORK\nEND\nEND\nUNIT 4\nPAY NEW 2 5\nFORM 2\nTAX\nEND\nFORM 3\nUNIT 4\nLEAVE\nUNIT 0\nTAX\n\"#END\" now\nTAX",
+        "8: Number(4) Pay { to: Alias(2), amount: 5 };9: Number(4) Form(2);10: Alias(2) Tax;12: Number(4) Form(3);14: Number(4) Leave;3: 1 NoUnit;4: 1 NoUnit;6: 9 EndAlone;15: 3 BadNumber;16: 1 NoUnit;",
+    ),
+    // A carriage return before a line feed and at the end of the text is dropped, another one is a bad byte.
+    (
+        "#ATLANTIS 1\r\nUNIT 1\r\n\tWORK\t\r\n\r\nTAX\r\r\nL\rEAVE\n;\nLEAVE\r",
+        "3: Number(1) Work;8: Number(1) Leave;5: 6 BadByte;6: 6 BadByte;",
+    ),
+    // No header, or a bad one.
+    ("hello", "refused 2"),
+    ("", "refused 2"),
+    ("#ATLANTIS x", "refused 3"),
+    ("#ATLANTIS", "refused 3"),
+    ("#ATLANTIS 0", "refused 3"),
+    ("#ATLANTIS 10000\n#ATLANTIS 1", "refused 3"),
+];
+
+/// Texts that are no UTF-8.
+const BYTES: [(&[u8], &str); 2] = [
+    (b"#ATLANTIS 1 \xc8", ""),
+    (
+        b"#ATLANTIS 1\nUNIT 1\n\xc8\nTAX ",
+        "4: Number(1) Tax;3: 6 BadByte;",
+    ),
+];
+
+/// Texts of a front, a piece so many times, and an end.
+const LONG: [(&str, &str, usize, &str, &str); 8] = [
+    ("#ATLANTIS 1\n", "\n", 65_524, "", ""),
+    ("#ATLANTIS 1\n", "\n", 65_525, "", "refused 1"),
+    ("#ATLANTIS 1\n", "UNIT 1\n", 20_000, "", "refused 1"),
+    ("#ATLANTIS 1\n", "UNIT 1\n", 9_360, "", ""),
+    ("#ATLANTIS 1\n", "\"", 65_524, "", "2: 2 UnknownOrder;"),
+    ("#ATLANTIS 1\nUNIT ", "9", 5_000, "", "2: 3 BadNumber;"),
+    ("#ATLANTIS ", "0", 5_000, "1\nEND", "2: 9 EndAlone;"),
+    ("", "x\n", 32_768, "", "refused 2"),
+];
+
+fn texts_tell(
+    rt: &impl Abort,
+    alloc: Global,
+    world: &World,
+    rows: &[(&str, &str)],
+) -> Result<(), Fail> {
+    for (text, wanted) in rows.iter() {
+        text_tells(rt, alloc, world, text.as_bytes(), wanted)?;
+    }
+    Ok(())
+}
+
+fn bytes_tell(
+    rt: &impl Abort,
+    alloc: Global,
+    world: &World,
+    rows: &[(&[u8], &str)],
+) -> Result<(), Fail> {
+    for (text, wanted) in rows.iter() {
+        text_tells(rt, alloc, world, text, wanted)?;
+    }
+    Ok(())
+}
+
+/// A front, a piece so many times, and an end.
+fn repeated(
+    alloc: Global,
+    front: &str,
+    piece: &str,
+    times: usize,
+    end: &str,
+) -> Result<String, Fail> {
+    let middle = piece.repeat(alloc, times)?;
+    Ok(format!(in alloc; "{front}{middle}{end}")?)
+}
+
+fn long_texts_tell(
+    rt: &impl Abort,
+    alloc: Global,
+    world: &World,
+    rows: &[(&str, &str, usize, &str, &str)],
+) -> Result<(), Fail> {
+    for (front, piece, times, end, wanted) in rows.iter() {
+        let text = repeated(alloc, front, piece, *times, end)?;
+        text_tells(rt, alloc, world, text.as_bytes(), wanted)?;
+    }
+    Ok(())
+}
+
+fn all_texts_tell(rt: &impl Abort, alloc: Global, world: &World) -> Result<(), Fail> {
+    texts_tell(rt, alloc, world, &TEXTS)?;
+    bytes_tell(rt, alloc, world, &BYTES)?;
+    long_texts_tell(rt, alloc, world, &LONG)
+}
+
+#[test]
+fn whole_texts(rt: HostRuntime) -> Result<(), Fail> {
+    let world = world_with(rt.alloc(), THINGS)?;
+    all_texts_tell(&rt, rt.alloc(), &world)
+}
+
+/// The keywords of the orders of a mailing, and the names that they give.
+fn words_of(alloc: Global, mailing: &Mailing) -> Result<String, Fail> {
+    let mut words = String::new(alloc);
+    for entry in mailing.entries.as_slice().iter() {
+        words.push_str(entry.order.verb().keyword())?;
+        if let Order::Name { name, .. } = &entry.order {
+            let name = mailing.name(alloc, *name)?;
+            words.push_str(" ")?;
+            words.push_str(name.as_str())?;
+        }
+        words.push_str("|")?;
+    }
+    Ok(words)
+}
+
+/// Mailings, and the keyword of each order with the name that it gives: a name is the part of the text that its span says,
+/// with `_` as a space where it is bare.
+const WORDS: [(&str, &str); 3] = [
+    (
+        "#ATLANTIS 1\nUNIT 7\nBOARD 1\nFORM 1\nEND\nRECRUIT 3",
+        "ENTER|FORM|RECRUIT|",
+    ),
+    (
+        "#ATLANTIS 1\nUNIT 7\nNAME UNIT Big_Bob\nNAME FACTION \"a _b\"",
+        "NAME Big Bob|NAME a _b|",
+    ),
+    (
+        "#ATLANTIS 1\nUNIT 7\nguard 1\nenter 4\nleave\ntax\nwork\npromote 12\ngive 2 5 long_bow\npay 12 100\ntransfer NEW 1 3\nrecruit 10\nquit 1\nstudy sailing\nproduce wood\nteach 4 5\nbuild boat\nmove north\nsail east\nform 1",
+        "GUARD|ENTER|LEAVE|TAX|WORK|PROMOTE|GIVE|PAY|TRANSFER|RECRUIT|QUIT|STUDY|PRODUCE|TEACH|BUILD|MOVE|SAIL|FORM|",
+    ),
+];
+
+fn words_said(alloc: Global, world: &World, text: &str) -> Result<String, Fail> {
+    let mailing = read_mailing(alloc, world, text.as_bytes())?;
+    words_of(alloc, &mailing)
+}
+
+fn words_are(rt: &impl Abort, alloc: Global, world: &World) -> Result<(), Fail> {
+    for (text, wanted) in WORDS.iter() {
+        let words = words_said(alloc, world, text)?;
+        row_is(rt, wanted, words.as_str(), wanted);
+    }
+    Ok(())
+}
+
+#[test]
+fn keywords_and_names(rt: HostRuntime) -> Result<(), Fail> {
+    let world = world_with(rt.alloc(), THINGS)?;
+    words_are(&rt, rt.alloc(), &world)
+}
+
+/// Asserts the faction of a mailing, and that it keeps the text that was read.
+fn keeps(rt: &impl Abort, mailing: &Mailing, faction: usize, text: &[u8]) {
+    is_number(rt, mailing.faction as usize, faction);
+    is_number(rt, mailing.text.len(), text.len());
+    assert!(rt; mailing.text.as_slice() == text);
+}
+
+fn is_kept(
+    rt: &impl Abort,
+    alloc: Global,
+    world: &World,
+    text: &str,
+    faction: usize,
+) -> Result<(), Fail> {
+    let mailing = read_mailing(alloc, world, text.as_bytes())?;
+    keeps(rt, &mailing, faction, text.as_bytes());
+    Ok(())
+}
+
+fn are_kept(rt: &impl Abort, alloc: Global, world: &World) -> Result<(), Fail> {
+    let most = repeated(alloc, "#ATLANTIS 1\n", "\n", 65_524, "")?;
+    is_kept(rt, alloc, world, most.as_str(), 1)?;
+    is_kept(rt, alloc, world, "#atlantis 09999 x\r\nTAX", 9_999)
+}
+
+#[test]
+fn kept_texts(rt: HostRuntime) -> Result<(), Fail> {
+    let world = world_with(rt.alloc(), THINGS)?;
+    are_kept(&rt, rt.alloc(), &world)
+}
+
+#[test]
+fn laws(rt: HostRuntime) {
+    rules_are_the_reading();
+    readings_keep_bounds();
+    assert!(rt; MailFault::Memory.number().is_none());
+}

@@ -1,0 +1,51 @@
+//! What may be a name, and what a pass text.
+use atl_tables::{name_ok, pass_ok};
+use std::process::Abort;
+
+const FORTY: &str = "1234567890123456789012345678901234567890";
+
+const SPACED: &str = "123456789 123456789 123456789 1234567890";
+
+const FORTY_ONE: &str = "12345678901234567890123456789012345678901";
+
+/// Texts, whether each may be a name, and whether it may be a pass text.
+const TEXTS: [(&str, bool, bool); 26] = [
+    ("", false, false),
+    ("a", true, true),
+    (FORTY, true, true),
+    (SPACED, true, false),
+    (FORTY_ONE, false, false),
+    (" ", false, false),
+    (" a", false, false),
+    ("a ", false, false),
+    ("a b", true, false),
+    ("a  b", true, false),
+    ("\"", false, true),
+    ("a\"b", false, true),
+    ("\"a", false, true),
+    ("!", true, true),
+    ("#", true, true),
+    ("~", true, true),
+    ("a~", true, true),
+    ("_", true, true),
+    ("\x7f", false, false),
+    ("a\x7fb", false, false),
+    ("\x1f", false, false),
+    ("a\x1fb", false, false),
+    ("a\tb", false, false),
+    ("a\n", false, false),
+    ("a\0", false, false),
+    ("\u{e9}", false, false),
+];
+
+fn texts_are(rt: &impl Abort, rows: &[(&str, bool, bool)]) {
+    for (text, name, pass) in rows.iter() {
+        assert!(rt; name_ok(text.as_bytes()) == *name, "{text}");
+        assert!(rt; pass_ok(text.as_bytes()) == *pass, "{text}");
+    }
+}
+
+#[test]
+fn names_and_pass_texts(rt: HostRuntime) {
+    texts_are(&rt, &TEXTS);
+}
