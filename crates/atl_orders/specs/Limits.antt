@@ -1,5 +1,6 @@
 -- The limits of mailings.
 use Rattle.std.specs.Prelude.{ℕ}
+use Rattle.atl_tables.specs.Limits.{most_amount}
 
 -- a mailing has at most so many bytes
 abbrev pub most_bytes : ℕ
@@ -7,7 +8,7 @@ most_bytes = 65536
 
 -- the largest number that a word of an order may write
 abbrev pub most_number : ℕ
-most_number = 999999999
+most_number = most_amount
 
 -- aliases go from 1 up to this one
 abbrev pub last_alias : ℕ

@@ -1,10 +1,11 @@
 //! The limits of mailings. See docs/RULES.md, "Limits".
+use atl_tables::limits::MOST_AMOUNT;
 
 /// The most bytes that a mailing may have.
 pub const MOST_BYTES: usize = 65_536;
 
 /// The largest number that a word of an order may write.
-pub const MOST_NUMBER: u32 = 999_999_999;
+pub const MOST_NUMBER: u32 = MOST_AMOUNT;
 
 /// The largest alias; the smallest is 1.
 pub const LAST_ALIAS: u32 = 9_999;

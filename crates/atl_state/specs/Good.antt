@@ -1,6 +1,7 @@
 -- What is true of every campaign that commands reach.
 use Rattle.std.specs.Prelude.{◌≡◌, ◌≤◌, ◌+◌, ◌*◌, ℕ, List, false, Some, None}
 use Rattle.std.specs.FinMap.{get, len}
+use Rattle.atl_tables.specs.Limits.{most_regions}
 use Rattle.atl_tables.specs.Planet.{Planet}
 use Rattle.atl_orders.specs.Limits.{last_faction}
 use Rattle.atl_orders.specs.Mailing.{IsMailingOf}
@@ -24,7 +25,7 @@ pub record IsGood (w : Planet) (c : State) : Type 0 where
   pub month : c.month ≤ last_month
   pub few_factions : len c.factions ≤ last_faction
   pub few_units : len c.units ≤ most_units
-  pub few_regions : len c.regions ≤ 2500
+  pub few_regions : len c.regions ≤ most_regions
   pub next_faction : c.next_faction ≡ len c.factions + 1
   pub next_unit_least : 1 ≤ c.next_unit
   pub next_unit_most : c.next_unit ≤ last_unit + 1

@@ -1,5 +1,6 @@
 -- The limits of a campaign.
 use Rattle.std.specs.Prelude.{ℕ}
+use Rattle.atl_tables.specs.Limits.{most_amount}
 
 -- the month last closed is at most this one
 abbrev pub last_month : ℕ
@@ -19,7 +20,7 @@ men_limit = 999999
 
 -- so much money, or of one item, in a unit
 abbrev pub holding_limit : ℕ
-holding_limit = 999999999
+holding_limit = most_amount
 
 -- so many entries of the books
 abbrev pub entry_count : ℕ

@@ -1,4 +1,4 @@
--- The limits that the rules name.
+-- The limits of worlds.
 use Rattle.std.specs.Prelude.{ℕ}
 
 -- ---- how many of each a world has at most
@@ -21,7 +21,7 @@ most_regions = 2500
 abbrev pub last_region : ℕ
 last_region = 9999
 
--- the largest amount of anything that is counted: money, one item, peasants, weight; also the largest number in an order
+-- the largest amount of money, of one item or of peasants
 abbrev pub most_amount : ℕ
 most_amount = 999999999
 

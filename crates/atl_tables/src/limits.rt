@@ -1,4 +1,4 @@
-//! The limits that the rules name.
+//! The limits of worlds. See docs/RULES.md, "Limits", and docs/FORMATS.md, "The world file".
 
 /// The most terrains of a world.
 pub const MOST_TERRAINS: usize = 20;
@@ -18,7 +18,7 @@ pub const MOST_REGIONS: usize = 2_500;
 /// The highest number of a region.
 pub const LAST_REGION: u32 = 9_999;
 
-/// The largest amount of anything that is counted: money, one item, peasants, weight. Also the largest number in an order.
+/// The largest amount of money, of one item or of peasants.
 pub const MOST_AMOUNT: u32 = 999_999_999;
 
 /// The most bytes of a name or of a pass text.

@@ -1,6 +1,7 @@
 //! How a campaign begins.
 ghost use Rattle.std.specs.Prelude.{◌≡◌, ◌≤◌, ◌+◌, IsTrue, IfOk, length, pos};
 ghost use Rattle.std.specs.FinMap as map;
+ghost use Rattle.atl_tables.specs.Limits.{most_regions};
 ghost use Rattle.atl_tables.specs.Names.{pass_ok};
 ghost use Rattle.atl_tables.specs.Sums.{sum_over, mapped};
 ghost use Rattle.atl_state.specs.declared.books.Entry.TheVariants.{Founding};
@@ -38,7 +39,7 @@ fn founding_books(
     things: usize,
     regions: &Tracked<Region>,
 ) -> Result<Books, AllocError>
-    requires few { length (map.entries regions.now.values) ≤ 2500 }
+    requires few { length (map.entries regions.now.values) ≤ most_regions }
     requires some { 2 ≤ things }
     ensures money { IfOk result (λ _. sum_over (λ r. kept Money r) regions.now.values ≤ 100000000000000) }
     ensures people { IfOk result (λ _. sum_over (λ r. kept People r) regions.now.values ≤ 100000000000000) }
