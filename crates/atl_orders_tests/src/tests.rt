@@ -2,6 +2,7 @@
 //! at most one thing that is large (a world, a mailing), and lends it; the tables of cases are short, and lent; and each
 //! assertion of equality stands once, in `asserts`: so the proofs stay short.
 mod asserts;
+mod changes;
 mod containers;
 mod faults;
 mod island;

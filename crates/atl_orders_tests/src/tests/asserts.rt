@@ -5,7 +5,7 @@ pub(crate) fn is_text(rt: &impl Abort, told: &str, wanted: &str) {
     assert_eq!(rt; told, wanted);
 }
 
-/// Of the row of a table that begins so.
+/// Of a row of a table, which the message names.
 pub(crate) fn row_is(rt: &impl Abort, row: &str, told: &str, wanted: &str) {
     assert_eq!(rt; told, wanted, "at {row}");
 }

@@ -1,0 +1,416 @@
+//! Changes of worlds, with the faults that they make.
+
+/// A piece of a text, what comes in its place, and the first fault of the text that this makes.
+pub(crate) type Change = (&'static str, &'static str, &'static str);
+
+/// Changes of the small world.
+pub(crate) const SMALL_CHANGES: [Change; 24] = [
+    ("growth = 0", "growth = \"x\"", "3 WrongType rules.growth"),
+    ("growth = 0", "growth = 101", "4 OutOfRange rules.growth"),
+    (
+        "terrain = \"plain\"",
+        "terrain = \"hill\"",
+        "6 UnknownName region[0].terrain",
+    ),
+    (
+        "money = 500",
+        "money = 500\nnorth = 2",
+        "7 BadNeighbour region[0].north",
+    ),
+    ("money = 500", "money = 500\nnorth = 1\nsouth = 1", "none"),
+    (
+        "money = 500",
+        "money = 500\neast = 1",
+        "7 BadNeighbour region[0].east",
+    ),
+    ("land = true", "land = false", "8 NoLand"),
+    ("growth = 0", "growth = 0", "none"),
+    ("growth = 0", "growth = 0\nother = 1", "none"),
+    ("[rules]", "[others]", "2 Missing rules"),
+    ("[rules]", "rules = 3\n[others]", "3 WrongType rules"),
+    ("[rules]", "[[rules]]", "3 WrongType rules"),
+    ("[[terrain]]", "[[others]]", "2 Missing terrain"),
+    ("[[terrain]]", "[terrain]", "3 WrongType terrain"),
+    ("[rules]", "item = 3\n[rules]", "3 WrongType item"),
+    ("[rules]", "item = []\n[rules]", "none"),
+    ("[rules]", "item = [1]\n[rules]", "3 WrongType item[0]"),
+    ("[rules]", "skill = true\n[rules]", "3 WrongType skill"),
+    ("[rules]", "kind = \"x\"\n[rules]", "3 WrongType kind"),
+    ("[rules]", "[kind]\n[rules]", "3 WrongType kind"),
+    (
+        "growth = 0\nincome = 1",
+        "income = true\ngrowth = 101",
+        "4 OutOfRange rules.growth",
+    ),
+    (
+        "money = 500",
+        "money = 500\n[[region]]\nnumber = 1\nname = \"Dale\"\nterrain = \"plain\"\npeasants = 0\nmoney = -1",
+        "4 OutOfRange region[1].money",
+    ),
+    (
+        "terrain = \"plain\"\npeasants = 1000",
+        "terrain = \"hill\"\npeasants = 0\nmoney = 0\n[[region]]\nnumber = 1\nname = \"Dale\"\nterrain = \"plain\"\npeasants = 0",
+        "5 TwoNames region[1].number",
+    ),
+    (
+        "terrain = \"plain\"\npeasants = 1000",
+        "terrain = \"hill\"\npeasants = 1000\nnorth = 2",
+        "6 UnknownName region[0].terrain",
+    ),
+];
+
+/// Changes of the small world before its region.
+pub(crate) const HEAD_CHANGES: [Change; 4] = [
+    ("[rules]", "region = 3\n[rules]", "3 WrongType region"),
+    ("[rules]", "region = []\n[rules]", "4 OutOfRange region"),
+    ("[rules]", "[rules]", "2 Missing region"),
+    ("[rules]", "region = [1]\n[rules]", "3 WrongType region[0]"),
+];
+
+/// Changes of the rules of the small world.
+pub(crate) const RULES_CHANGES: [Change; 4] = [
+    ("[rules]", "terrain = 3\n[rules]", "3 WrongType terrain"),
+    ("[rules]", "terrain = []\n[rules]", "4 OutOfRange terrain"),
+    ("[rules]", "[rules]", "2 Missing terrain"),
+    (
+        "[rules]",
+        "terrain = [1]\n[rules]",
+        "3 WrongType terrain[0]",
+    ),
+];
+
+/// Changes of numbers, truths and texts of a world with an item, a skill and a kind.
+pub(crate) const KEY_CHANGES: [Change; 22] = [
+    ("[rules]", "[rules]", "none"),
+    ("wage = 12", "", "2 Missing terrain[0].wage"),
+    ("wage = 12", "wage = 1.5", "3 WrongType terrain[0].wage"),
+    ("wage = 12", "wage = 0", "4 OutOfRange terrain[0].wage"),
+    ("weight = 5", "", "2 Missing item[0].weight"),
+    (
+        "weight = 5",
+        "weight = 10001",
+        "4 OutOfRange item[0].weight",
+    ),
+    (
+        "carry = 0",
+        "carry = 0\nlevel = 6",
+        "4 OutOfRange item[0].level",
+    ),
+    (
+        "carry = 0",
+        "carry = 0\nskill = 1",
+        "3 WrongType item[0].skill",
+    ),
+    ("fee = 10", "", "2 Missing skill[0].fee"),
+    ("fee = 10", "fee = \"x\"", "3 WrongType skill[0].fee"),
+    ("fee = 10", "fee = -1", "4 OutOfRange skill[0].fee"),
+    ("size = 20", "", "2 Missing kind[0].size"),
+    ("size = 20", "size = 1000000", "4 OutOfRange kind[0].size"),
+    ("ship = false", "ship = 0", "3 WrongType kind[0].ship"),
+    (
+        "level = 1",
+        "level = 1\ncrew = true",
+        "3 WrongType kind[0].crew",
+    ),
+    ("peasants = 1000", "", "2 Missing region[0].peasants"),
+    ("money = 500", "money = true", "3 WrongType region[0].money"),
+    (
+        "peasants = 1000",
+        "peasants = 1000000000",
+        "4 OutOfRange region[0].peasants",
+    ),
+    (
+        "name = \"Vale\"",
+        "name = \" Vale\"",
+        "4 OutOfRange region[0].name",
+    ),
+    (
+        "money = 500",
+        "money = 500\nwest = 10000",
+        "4 OutOfRange region[0].west",
+    ),
+    (
+        "growth = 0",
+        "growth = 0\nstealth = true",
+        "3 WrongType rules.stealth",
+    ),
+    ("growth = 0", "growth = 99999999999999999999", "1 NotToml"),
+];
+
+/// Changes of its names, and of the names that speak of other things.
+pub(crate) const NAME_CHANGES: [Change; 13] = [
+    (
+        "growth = 0",
+        "growth = 0\nsailing = \"\"",
+        "6 UnknownName rules.sailing",
+    ),
+    (
+        "[[skill]]",
+        "[[item]]\nname = \"WOOD\"\nweight = 0\ncarry = 0\n[[skill]]",
+        "5 TwoNames item[1].name",
+    ),
+    (
+        "carry = 0",
+        "carry = 0\nraw = \"Wood\"",
+        "6 UnknownName item[0].raw",
+    ),
+    ("carry = 0", "carry = 0\nskill = \"Carpentry\"", "none"),
+    (
+        "material = \"wood\"",
+        "material = \"iron\"",
+        "6 UnknownName kind[0].material",
+    ),
+    (
+        "level = 1",
+        "level = 1\nhelps = \"magic\"",
+        "6 UnknownName kind[0].helps",
+    ),
+    ("[[item]]", "[terrain.output]\nwood = 3\n[[item]]", "none"),
+    (
+        "wage = 12",
+        "wage = 12\noutput = 3",
+        "3 WrongType terrain[0].output",
+    ),
+    (
+        "wage = 12",
+        "wage = 12\noutput = { wood = -1 }",
+        "4 OutOfRange terrain[0].output.wood",
+    ),
+    (
+        "wage = 12",
+        "wage = 12\noutput = { wood = \"x\", Wood = 1000000000 }",
+        "4 OutOfRange terrain[0].output.Wood",
+    ),
+    (
+        "wage = 12",
+        "wage = 12\noutput = { wood = 1, WOOD = 2 }",
+        "5 TwoNames terrain[0].output.wood",
+    ),
+    (
+        "wage = 12",
+        "wage = 12\noutput = { iron = 1, Gold = 2 }",
+        "6 UnknownName terrain[0].output.Gold",
+    ),
+    ("wage = 12", "wage = 12\noutput = { Wood = 7 }", "none"),
+];
+
+/// Changes of names of things.
+pub(crate) const TITLE_CHANGES: [Change; 19] = [
+    ("name = \"plain\"", "", "2 Missing terrain[0].name"),
+    ("name = \"wood\"", "", "2 Missing item[0].name"),
+    ("name = \"carpentry\"", "", "2 Missing skill[0].name"),
+    ("name = \"lodge\"", "", "2 Missing kind[0].name"),
+    ("name = \"Vale\"", "", "2 Missing region[0].name"),
+    (
+        "name = \"plain\"",
+        "name = 1",
+        "3 WrongType terrain[0].name",
+    ),
+    (
+        "name = \"plain\"",
+        "name = \"\"",
+        "4 OutOfRange terrain[0].name",
+    ),
+    ("name = \"wood\"", "name = true", "3 WrongType item[0].name"),
+    (
+        "name = \"wood\"",
+        "name = \"wood \"",
+        "4 OutOfRange item[0].name",
+    ),
+    (
+        "name = \"carpentry\"",
+        "name = [\"a\"]",
+        "3 WrongType skill[0].name",
+    ),
+    (
+        "name = \"carpentry\"",
+        "name = \"é\"",
+        "4 OutOfRange skill[0].name",
+    ),
+    ("name = \"lodge\"", "name = 1.5", "3 WrongType kind[0].name"),
+    (
+        "name = \"lodge\"",
+        "name = 'lod\"ge'",
+        "4 OutOfRange kind[0].name",
+    ),
+    (
+        "name = \"lodge\"",
+        "name = \"12345678901234567890123456789012345678901\"",
+        "4 OutOfRange kind[0].name",
+    ),
+    (
+        "name = \"lodge\"",
+        "name = \"1234567890123456789012345678901234567890\"",
+        "none",
+    ),
+    ("name = \"Vale\"", "name = {}", "3 WrongType region[0].name"),
+    (
+        "name = \"Vale\"",
+        "name = \"Va\\tle\"",
+        "4 OutOfRange region[0].name",
+    ),
+    ("name = \"Vale\"", "name = \"V\"", "none"),
+    ("name = \"Vale\"", "name = \"Va le\"", "none"),
+];
+
+/// Changes of truths.
+pub(crate) const TRUTH_CHANGES: [Change; 5] = [
+    ("land = true", "", "2 Missing terrain[0].land"),
+    ("land = true", "land = 1", "3 WrongType terrain[0].land"),
+    ("ship = false", "", "2 Missing kind[0].ship"),
+    ("ship = false", "ship = \"no\"", "3 WrongType kind[0].ship"),
+    ("ship = false", "ship = true", "none"),
+];
+
+/// Changes of texts that refer to a name.
+pub(crate) const REFERENCE_CHANGES: [Change; 20] = [
+    (
+        "growth = 0",
+        "growth = 0\nobservation = 1",
+        "3 WrongType rules.observation",
+    ),
+    (
+        "growth = 0",
+        "growth = 0\nobservation = \"wood\"",
+        "6 UnknownName rules.observation",
+    ),
+    (
+        "growth = 0",
+        "growth = 0\nstealth = \"carpentr\"",
+        "6 UnknownName rules.stealth",
+    ),
+    (
+        "growth = 0",
+        "growth = 0\nsailing = []",
+        "3 WrongType rules.sailing",
+    ),
+    ("growth = 0", "growth = 0\nsailing = \"CARPENTRY\"", "none"),
+    (
+        "carry = 0",
+        "carry = 0\nskill = \"wood\"",
+        "6 UnknownName item[0].skill",
+    ),
+    ("carry = 0", "carry = 0\nraw = 1", "3 WrongType item[0].raw"),
+    (
+        "carry = 0",
+        "carry = 0\nraw = \"lodge\"",
+        "6 UnknownName item[0].raw",
+    ),
+    ("material = \"wood\"", "", "2 Missing kind[0].material"),
+    (
+        "material = \"wood\"",
+        "material = 0",
+        "3 WrongType kind[0].material",
+    ),
+    ("material = \"wood\"", "material = \"WOOD\"", "none"),
+    ("skill = \"carpentry\"", "", "2 Missing kind[0].skill"),
+    (
+        "skill = \"carpentry\"",
+        "skill = 0",
+        "3 WrongType kind[0].skill",
+    ),
+    (
+        "skill = \"carpentry\"",
+        "skill = \"wood\"",
+        "6 UnknownName kind[0].skill",
+    ),
+    (
+        "level = 1",
+        "level = 1\nhelps = 0",
+        "3 WrongType kind[0].helps",
+    ),
+    ("level = 1", "level = 1\nhelps = \"Carpentry\"", "none"),
+    ("terrain = \"plain\"", "", "2 Missing region[0].terrain"),
+    (
+        "terrain = \"plain\"",
+        "terrain = 0",
+        "3 WrongType region[0].terrain",
+    ),
+    (
+        "terrain = \"plain\"",
+        "terrain = \"\"",
+        "6 UnknownName region[0].terrain",
+    ),
+    ("terrain = \"plain\"", "terrain = \"PLAIN\"", "none"),
+];
+
+/// Changes of the numbers of neighbours.
+pub(crate) const NEIGHBOUR_CHANGES: [Change; 11] = [
+    (
+        "money = 500",
+        "money = 500\nnorth = \"x\"",
+        "3 WrongType region[0].north",
+    ),
+    (
+        "money = 500",
+        "money = 500\nnorth = 0",
+        "4 OutOfRange region[0].north",
+    ),
+    (
+        "money = 500",
+        "money = 500\nnorth = 9999",
+        "7 BadNeighbour region[0].north",
+    ),
+    (
+        "money = 500",
+        "money = 500\nsouth = true",
+        "3 WrongType region[0].south",
+    ),
+    (
+        "money = 500",
+        "money = 500\nsouth = 10000",
+        "4 OutOfRange region[0].south",
+    ),
+    (
+        "money = 500",
+        "money = 500\nsouth = 1",
+        "7 BadNeighbour region[0].south",
+    ),
+    (
+        "money = 500",
+        "money = 500\neast = 1.0",
+        "3 WrongType region[0].east",
+    ),
+    (
+        "money = 500",
+        "money = 500\neast = 0",
+        "4 OutOfRange region[0].east",
+    ),
+    (
+        "money = 500",
+        "money = 500\nwest = []",
+        "3 WrongType region[0].west",
+    ),
+    (
+        "money = 500",
+        "money = 500\nwest = 2",
+        "7 BadNeighbour region[0].west",
+    ),
+    ("money = 500", "money = 500\neast = 1\nwest = 1", "none"),
+];
+
+/// Changes of what a terrain gives.
+pub(crate) const OUTPUT_CHANGES: [Change; 6] = [
+    ("wage = 12", "wage = 12\noutput = {}", "none"),
+    (
+        "wage = 12",
+        "wage = 12\noutput = []",
+        "3 WrongType terrain[0].output",
+    ),
+    (
+        "wage = 12",
+        "wage = 12\noutput = { wood = true }",
+        "3 WrongType terrain[0].output.wood",
+    ),
+    (
+        "wage = 12",
+        "wage = 12\noutput = { wood = 1000000000 }",
+        "4 OutOfRange terrain[0].output.wood",
+    ),
+    ("wage = 12", "wage = 12\noutput = { wood = 0 }", "none"),
+    (
+        "wage = 12",
+        "wage = 12\noutput = { wood = 999999999 }",
+        "none",
+    ),
+];
