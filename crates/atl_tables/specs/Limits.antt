@@ -21,7 +21,7 @@ most_regions = 2500
 abbrev pub last_region : ℕ
 last_region = 9999
 
--- the largest amount of anything that is counted: money, one item, peasants, weight; also the largest number in an order
+-- the largest amount of money, of one item, of peasants or of weight, and the largest number in an order
 abbrev pub most_amount : ℕ
 most_amount = 999999999
 

@@ -18,7 +18,7 @@ pub const MOST_REGIONS: usize = 2_500;
 /// The highest number of a region.
 pub const LAST_REGION: u32 = 9_999;
 
-/// The largest amount of anything that is counted: money, one item, peasants, weight. Also the largest number in an order.
+/// The largest amount of money, of one item, of peasants or of weight. It is also the largest number in an order.
 pub const MOST_AMOUNT: u32 = 999_999_999;
 
 /// The most bytes of a name or of a pass text.
