@@ -44,3 +44,8 @@ reads view (Err e) fault v h = rw h refl
 pub stops_here : (e : WorldFault) (fault : Option WorldFault) (fs : Conditions) → Stops e fault → Stops e (first_fault (fault ∷ fs))
 stops_here Memory fault fs h = tt
 stops_here e fault fs h = rw h refl
+
+-- a call that reads what the last condition is about
+pub gives_last : {X Y : Type 0} (view : X → Y) (r : Result X WorldFault) (fault : Option WorldFault) (v : Y) → Gives view r fault v → Gives view r (first_fault (fault ∷ [])) v
+gives_last view r None v h = h
+gives_last view r (Some f) v h = h

@@ -15,7 +15,7 @@ use std::alloc::Global;
 use toml::value::Array;
 use toml::{Table, Value};
 
-/// What stands in an array of tables.
+/// What is read from a table: an element of an array of tables, or a part of what one table says.
 pub(crate) trait Element: Drop {
     // What its table has to fulfil, and what it then is.
     ghost conditions: { List ℕ → Members → Conditions };

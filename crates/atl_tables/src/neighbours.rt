@@ -91,6 +91,7 @@ fn neighbours_of(
     let place = indexed(alloc, "region", i)?;
     let at = place.as_str();
     let number = draft.place.number;
+    let sides = &draft.sides;
     neighbour(
         alloc,
         "north",
@@ -98,7 +99,7 @@ fn neighbours_of(
         regions,
         Side::South,
         number,
-        draft.sides.north,
+        sides.north,
     )?;
     neighbour(
         alloc,
@@ -107,26 +108,10 @@ fn neighbours_of(
         regions,
         Side::North,
         number,
-        draft.sides.south,
+        sides.south,
     )?;
-    neighbour(
-        alloc,
-        "east",
-        at,
-        regions,
-        Side::West,
-        number,
-        draft.sides.east,
-    )?;
-    neighbour(
-        alloc,
-        "west",
-        at,
-        regions,
-        Side::East,
-        number,
-        draft.sides.west,
-    )
+    neighbour(alloc, "east", at, regions, Side::West, number, sides.east)?;
+    neighbour(alloc, "west", at, regions, Side::East, number, sides.west)
 }
 
 /// That the neighbours of all regions are mutual.

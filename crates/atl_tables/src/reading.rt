@@ -36,7 +36,7 @@ pub struct Parts {
     pub regions: Sequence<RegionPlan>,
 }
 
-/// The tables that may be missing.
+/// The tables that a world file may lack.
 #[derive(Drop)]
 pub struct Things {
     pub items: Sequence<ItemDraft>,

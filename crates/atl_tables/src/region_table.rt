@@ -39,7 +39,7 @@ impl Drop for Place {
     }
 }
 
-/// The numbers of its neighbours.
+/// The numbers of a region's neighbours.
 #[derive(Drop, Debug)]
 pub struct Sides {
     pub north: Option<u32>,

@@ -62,3 +62,18 @@ unfolding keys_are_good tables_of
 returns-clause-value c =
     let t = table_view c.args.document.now in
     rw (c.in_ok-rules.ensures.value.1, c.in_ok-terrains.ensures.value.1, c.in_ok-things.ensures.value.1, c.in_ok-regions.ensures.value.1) (passes_both (rules t) (terrains t ++ (things t ++ regions t)) c.in_ok-rules.ensures.value.0 (passes_both (terrains t) (things t ++ regions t) c.in_ok-terrains.ensures.value.0 (passes_both (things t) (regions t) c.in_ok-things.ensures.value.0 c.in_ok-regions.ensures.value.0)), refl)
+
+pub returns-clause-sound : goal.returns-clause-sound
+returns-clause-sound c = record {
+  rules = c.in_ok-rules.ensures.sound;
+  terrains = c.in_ok-terrains.ensures.sound;
+  items = c.in_ok-things.ensures.sound.items;
+  skills = c.in_ok-things.ensures.sound.skills;
+  kinds = c.in_ok-things.ensures.sound.kinds;
+  regions = c.in_ok-regions.ensures.sound;
+  few_terrains = c.in_ok-terrains.ensures.most;
+  few_items = c.in_ok-things.ensures.sound.few_items;
+  few_skills = c.in_ok-things.ensures.sound.few_skills;
+  few_kinds = c.in_ok-things.ensures.sound.few_kinds;
+  few_regions = c.in_ok-regions.ensures.most;
+}
