@@ -17,7 +17,7 @@ ghost use Rattle.atl_store.specs.Keeps.{Keeps, Stops, IsJoining};
 use crate::fault::WriteFault;
 use crate::founding::put_head;
 use crate::kept::Kept;
-use crate::ledger::settle_amount;
+use crate::ledger::{FIRST_ITEM, settle_amount};
 use atl_state::{Campaign, Entry, Faction, Thing, Unit};
 use atl_tables::Text;
 use sqlite::{Alter, Connection, Error, Transaction};
@@ -38,7 +38,7 @@ fn arrival_of(campaign: &Campaign, number: u32) -> Option<Arrival<'_>>
     ensures number { IfSome result (λ a. a.number ≡ number) }
 {
     let next = campaign.next_unit();
-    if next == 0 || campaign.things() < 2 {
+    if next == 0 || campaign.things() < FIRST_ITEM {
         return None;
     }
     let place = next - 1;

@@ -12,6 +12,9 @@ use crate::rows::books::{BooksRow, drop_books, put_books};
 use atl_state::{Campaign, Entry, Thing};
 use sqlite::{Alter, Error, ErrorCode, Transaction};
 
+/// The number of the first item. Money has 0, and people have 1.
+pub(crate) const FIRST_ITEM: usize = 2;
+
 /// All entries, in the order of their numbers.
 const ENTRIES: [Entry; 13] = [
     Entry::Founding,
@@ -57,7 +60,7 @@ fn thing_number(thing: Thing) -> u32
     match thing {
         Thing::Money => 0,
         Thing::People => 1,
-        Thing::Item(item) => 2 + u32::from(item),
+        Thing::Item(item) => FIRST_ITEM as u32 + u32::from(item),
     }
 }
 
@@ -68,7 +71,7 @@ fn thing_of(number: usize) -> Option<Thing>
     match number {
         0 => Some(Thing::Money),
         1 => Some(Thing::People),
-        _ => match u16::try_from(number - 2) {
+        _ => match u16::try_from(number - FIRST_ITEM) {
             Ok(item) => Some(Thing::Item(item)),
             Err(_) => None,
         },

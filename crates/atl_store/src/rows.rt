@@ -2,6 +2,7 @@
 
 pub mod books;
 pub mod campaign;
+mod columns;
 pub mod faction;
 pub mod has;
 pub mod mail;

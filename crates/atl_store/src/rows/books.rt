@@ -9,6 +9,7 @@ ghost use Rattle.atl_store.specs.ReadsRows.{ReadsRows};
 ghost use Rattle.atl_store.specs.Reading.{ReadsPlaced, FindsOtherPlaced, placed_columns};
 
 use crate::fault::ReadFault;
+use crate::rows::columns::two_integers;
 use crate::rows::stored::{Stored, read_all};
 use crate::statement::run;
 use sqlite::{Alter, Connection, Error, Row, Transaction, params};
@@ -66,11 +67,13 @@ impl Stored for StoredBooks {
     ghost shown = { books_stored };
 
     fn from_row(row: &Row) -> Result<StoredBooks, Error> {
+        let (entry, thing) = two_integers(row, 0)?;
+        let (amount, rowid) = two_integers(row, 2)?;
         Ok(StoredBooks {
-            entry: row.get(0)?,
-            thing: row.get(1)?,
-            amount: row.get(2)?,
-            rowid: row.get(3)?,
+            entry,
+            thing,
+            amount,
+            rowid,
         })
     }
 }

@@ -9,6 +9,7 @@ ghost use Rattle.atl_store.specs.ReadsRows.{ReadsRows};
 ghost use Rattle.atl_store.specs.Reading.{Reads, FindsOther};
 
 use crate::fault::ReadFault;
+use crate::rows::columns::{three_integers, words};
 use crate::rows::stored::{Stored, read_all};
 use crate::statement::run;
 use sqlite::{Alter, Connection, Error, Row, Transaction, params};
@@ -49,7 +50,7 @@ pub(crate) fn put_campaign<S: Alter>(
 }
 
 /// The campaign's own row as it stands in its table, whoever wrote it.
-#[derive(Debug, Drop)]
+#[derive(Debug)]
 pub struct StoredCampaign {
     pub id: i64,
     pub format: i64,
@@ -61,21 +62,40 @@ pub struct StoredCampaign {
     pub world: String,
 }
 
+impl Drop for StoredCampaign {
+    fn drop(self) {
+        let StoredCampaign {
+            id: _,
+            format: _,
+            month: _,
+            next_faction: _,
+            next_unit: _,
+            next_structure: _,
+            pass: _,
+            world: _,
+        } = self;
+    }
+}
+
 impl Stored for StoredCampaign {
     ghost columns = { campaign_table.columns };
 
     ghost shown = { campaign_stored };
 
     fn from_row(row: &Row) -> Result<StoredCampaign, Error> {
+        let (id, format, month) = three_integers(row, 0)?;
+        let (next_faction, next_unit, next_structure) = three_integers(row, 3)?;
+        let pass = words(row, 6)?;
+        let world = words(row, 7)?;
         Ok(StoredCampaign {
-            id: row.get(0)?,
-            format: row.get(1)?,
-            month: row.get(2)?,
-            next_faction: row.get(3)?,
-            next_unit: row.get(4)?,
-            next_structure: row.get(5)?,
-            pass: row.get(6)?,
-            world: row.get(7)?,
+            id,
+            format,
+            month,
+            next_faction,
+            next_unit,
+            next_structure,
+            pass,
+            world,
         })
     }
 }

@@ -8,6 +8,7 @@ ghost use Rattle.atl_store.specs.ReadsRows.{ReadsRows};
 ghost use Rattle.atl_store.specs.Reading.{Reads, FindsOther};
 
 use crate::fault::ReadFault;
+use crate::rows::columns::{integer, words};
 use crate::rows::stored::{Stored, read_all};
 use crate::statement::run;
 use sqlite::{Alter, Connection, Error, Row, Transaction, params};
@@ -43,7 +44,7 @@ pub(crate) fn put_faction<S: Alter>(
 }
 
 /// A faction as it stands in its table, whoever wrote it.
-#[derive(Debug, Drop)]
+#[derive(Debug)]
 pub struct StoredFaction {
     pub number: i64,
     pub joined_as: String,
@@ -52,18 +53,35 @@ pub struct StoredFaction {
     pub gone: i64,
 }
 
+impl Drop for StoredFaction {
+    fn drop(self) {
+        let StoredFaction {
+            number: _,
+            joined_as: _,
+            name: _,
+            pass: _,
+            gone: _,
+        } = self;
+    }
+}
+
 impl Stored for StoredFaction {
     ghost columns = { faction_table.columns };
 
     ghost shown = { faction_stored };
 
     fn from_row(row: &Row) -> Result<StoredFaction, Error> {
+        let number = integer(row, 0)?;
+        let joined_as = words(row, 1)?;
+        let name = words(row, 2)?;
+        let pass = words(row, 3)?;
+        let gone = integer(row, 4)?;
         Ok(StoredFaction {
-            number: row.get(0)?,
-            joined_as: row.get(1)?,
-            name: row.get(2)?,
-            pass: row.get(3)?,
-            gone: row.get(4)?,
+            number,
+            joined_as,
+            name,
+            pass,
+            gone,
         })
     }
 }

@@ -10,6 +10,7 @@ ghost use Rattle.atl_store.specs.ReadsRows.{ReadsRows};
 ghost use Rattle.atl_store.specs.Reading.{ReadsPlaced, FindsOtherPlaced, placed_columns};
 
 use crate::fault::ReadFault;
+use crate::rows::columns::{three_integers, two_integers};
 use crate::rows::stored::{Stored, read_all};
 use crate::statement::run;
 use sqlite::{Alter, Connection, Error, Row, Transaction, params};
@@ -93,12 +94,14 @@ impl Stored for StoredHas {
     ghost shown = { has_stored };
 
     fn from_row(row: &Row) -> Result<StoredHas, Error> {
+        let (unit, sort) = two_integers(row, 0)?;
+        let (thing, amount, rowid) = three_integers(row, 2)?;
         Ok(StoredHas {
-            unit: row.get(0)?,
-            sort: row.get(1)?,
-            thing: row.get(2)?,
-            amount: row.get(3)?,
-            rowid: row.get(4)?,
+            unit,
+            sort,
+            thing,
+            amount,
+            rowid,
         })
     }
 }

@@ -10,6 +10,7 @@ ghost use Rattle.atl_store.specs.ReadsRows.{ReadsRows};
 ghost use Rattle.atl_store.specs.Reading.{Reads, FindsOther};
 
 use crate::fault::ReadFault;
+use crate::rows::columns::{bytes, integer};
 use crate::rows::stored::{Stored, read_all};
 use crate::statement::run;
 use sqlite::{Alter, Connection, Error, Row, Transaction, params};
@@ -46,10 +47,19 @@ pub(crate) fn drop_mail<S: Alter>(tx: &mut Transaction<'_, S>, faction: u32) -> 
 }
 
 /// Mail as it stands in its table, whoever wrote it.
-#[derive(Debug, Drop)]
+#[derive(Debug)]
 pub struct StoredMail {
     pub faction: i64,
     pub text: Vec<u8>,
+}
+
+impl Drop for StoredMail {
+    fn drop(self) {
+        let StoredMail {
+            faction: _,
+            text: _,
+        } = self;
+    }
 }
 
 impl Stored for StoredMail {
@@ -58,10 +68,9 @@ impl Stored for StoredMail {
     ghost shown = { mail_stored };
 
     fn from_row(row: &Row) -> Result<StoredMail, Error> {
-        Ok(StoredMail {
-            faction: row.get(0)?,
-            text: row.get(1)?,
-        })
+        let faction = integer(row, 0)?;
+        let text = bytes(row, 1)?;
+        Ok(StoredMail { faction, text })
     }
 }
 

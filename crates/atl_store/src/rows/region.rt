@@ -8,6 +8,7 @@ ghost use Rattle.atl_store.specs.ReadsRows.{ReadsRows};
 ghost use Rattle.atl_store.specs.Reading.{Reads, FindsOther};
 
 use crate::fault::ReadFault;
+use crate::rows::columns::three_integers;
 use crate::rows::stored::{Stored, read_all};
 use crate::statement::run;
 use sqlite::{Alter, Connection, Error, Row, Transaction, params};
@@ -52,10 +53,11 @@ impl Stored for StoredRegion {
     ghost shown = { region_stored };
 
     fn from_row(row: &Row) -> Result<StoredRegion, Error> {
+        let (number, peasants, money) = three_integers(row, 0)?;
         Ok(StoredRegion {
-            number: row.get(0)?,
-            peasants: row.get(1)?,
-            money: row.get(2)?,
+            number,
+            peasants,
+            money,
         })
     }
 }

@@ -8,6 +8,7 @@ ghost use Rattle.atl_store.specs.ReadsRows.{ReadsRows};
 ghost use Rattle.atl_store.specs.Reading.{Reads, FindsOther};
 
 use crate::fault::ReadFault;
+use crate::rows::columns::{integer, words};
 use crate::rows::stored::{Stored, read_all};
 use crate::statement::run;
 use sqlite::{Alter, Connection, Error, Row, Transaction, params};
@@ -37,10 +38,19 @@ pub(crate) fn put_report<S: Alter>(
 }
 
 /// A report as it stands in its table, whoever wrote it.
-#[derive(Debug, Drop)]
+#[derive(Debug)]
 pub struct StoredReport {
     pub faction: i64,
     pub text: String,
+}
+
+impl Drop for StoredReport {
+    fn drop(self) {
+        let StoredReport {
+            faction: _,
+            text: _,
+        } = self;
+    }
 }
 
 impl Stored for StoredReport {
@@ -49,10 +59,9 @@ impl Stored for StoredReport {
     ghost shown = { report_stored };
 
     fn from_row(row: &Row) -> Result<StoredReport, Error> {
-        Ok(StoredReport {
-            faction: row.get(0)?,
-            text: row.get(1)?,
-        })
+        let faction = integer(row, 0)?;
+        let text = words(row, 1)?;
+        Ok(StoredReport { faction, text })
     }
 }
 

@@ -8,6 +8,7 @@ ghost use Rattle.atl_store.specs.ReadsRows.{ReadsRows};
 ghost use Rattle.atl_store.specs.Reading.{Reads, FindsOther};
 
 use crate::fault::ReadFault;
+use crate::rows::columns::{three_integers, two_integers, words};
 use crate::rows::stored::{Stored, read_all};
 use crate::statement::run;
 use sqlite::{Alter, Connection, Error, Row, Transaction, params};
@@ -47,7 +48,7 @@ pub(crate) fn put_structure<S: Alter>(
 }
 
 /// A structure as it stands in its table, whoever wrote it.
-#[derive(Debug, Drop)]
+#[derive(Debug)]
 pub struct StoredStructure {
     pub number: i64,
     pub kind: i64,
@@ -57,19 +58,35 @@ pub struct StoredStructure {
     pub owner: i64,
 }
 
+impl Drop for StoredStructure {
+    fn drop(self) {
+        let StoredStructure {
+            number: _,
+            kind: _,
+            name: _,
+            region: _,
+            done: _,
+            owner: _,
+        } = self;
+    }
+}
+
 impl Stored for StoredStructure {
     ghost columns = { structure_table.columns };
 
     ghost shown = { structure_stored };
 
     fn from_row(row: &Row) -> Result<StoredStructure, Error> {
+        let (number, kind) = two_integers(row, 0)?;
+        let name = words(row, 2)?;
+        let (region, done, owner) = three_integers(row, 3)?;
         Ok(StoredStructure {
-            number: row.get(0)?,
-            kind: row.get(1)?,
-            name: row.get(2)?,
-            region: row.get(3)?,
-            done: row.get(4)?,
-            owner: row.get(5)?,
+            number,
+            kind,
+            name,
+            region,
+            done,
+            owner,
         })
     }
 }

@@ -10,6 +10,7 @@ ghost use Rattle.atl_store.specs.ReadsRows.{ReadsRows};
 ghost use Rattle.atl_store.specs.Reading.{Reads, FindsOther};
 
 use crate::fault::ReadFault;
+use crate::rows::columns::{three_integers, two_integers, words};
 use crate::rows::stored::{Stored, read_all};
 use crate::statement::run;
 use sqlite::{Alter, Connection, Error, Row, Transaction, params};
@@ -67,7 +68,7 @@ pub(crate) fn drop_unit<S: Alter>(tx: &mut Transaction<'_, S>, number: u32) -> R
 }
 
 /// A unit as it stands in its table, whoever wrote it.
-#[derive(Debug, Drop)]
+#[derive(Debug)]
 pub struct StoredUnit {
     pub number: i64,
     pub faction: i64,
@@ -79,21 +80,40 @@ pub struct StoredUnit {
     pub guard: i64,
 }
 
+impl Drop for StoredUnit {
+    fn drop(self) {
+        let StoredUnit {
+            number: _,
+            faction: _,
+            name: _,
+            region: _,
+            structure: _,
+            men: _,
+            money: _,
+            guard: _,
+        } = self;
+    }
+}
+
 impl Stored for StoredUnit {
     ghost columns = { unit_table.columns };
 
     ghost shown = { unit_stored };
 
     fn from_row(row: &Row) -> Result<StoredUnit, Error> {
+        let (number, faction) = two_integers(row, 0)?;
+        let name = words(row, 2)?;
+        let (region, structure) = two_integers(row, 3)?;
+        let (men, money, guard) = three_integers(row, 5)?;
         Ok(StoredUnit {
-            number: row.get(0)?,
-            faction: row.get(1)?,
-            name: row.get(2)?,
-            region: row.get(3)?,
-            structure: row.get(4)?,
-            men: row.get(5)?,
-            money: row.get(6)?,
-            guard: row.get(7)?,
+            number,
+            faction,
+            name,
+            region,
+            structure,
+            men,
+            money,
+            guard,
         })
     }
 }
