@@ -1,5 +1,5 @@
 -- The rows of the books.
-use Rattle.std.proofs.Common.{◌≡◌, ◌≢◌, ◌+◌, ◌<◌, ◌≤◌, ◌&&◌, ℕ, zero, suc, ℤ, pos, Bool, true, false, nat_lt, List, [], ◌∷◌, length, take, get_or, refl, sym, ap, ◌∙◌, subst, inl, inr, arith}
+use Rattle.std.proofs.Common.{◌≡◌, ◌≢◌, ◌+◌, ◌<◌, ◌≤◌, ◌&&◌, ℕ, zero, suc, ℤ, pos, Bool, true, false, if◌then◌else◌, nat_lt, List, [], ◌∷◌, length, take, get_or, refl, sym, ap, ◌∙◌, subst, inl, inr, arith}
 use Rattle.std.specs.List.{list_all, range_with_len}
 use Rattle.std.specs.Ordering.{int_eq}
 use Rattle.std.proofs.lemmas.Bool.{cases_Bool, cases_lt, and_parts}
@@ -64,6 +64,14 @@ differs_zero z differs same = grind (ints, arith)
 
 pub is_differing : (z : ℤ) → z ≢ pos 0 → int_eq z (pos 0) ≡ false
 is_differing z apart = elim (cases_Bool (int_eq z (pos 0))) [ inl same ↦ absurd (apart (grind (ints, arith))) | inr differs ↦ differs ]
+
+-- the one row of an amount that is not 0
+pub amount_is : (c : State) (entry : Entry) (thing : Thing) (e t : ℕ) (z : ℤ) → e ≡ entry_place entry + 1 → t ≡ thing_place thing → z ≡ amount_in c.books entry thing → z ≢ pos 0 → amount_lines c entry thing ≡ books_row e t z ∷ []
+amount_is c entry thing e t z entry_is thing_is amount some =
+    let place = entry_place entry + 1 in
+    let value = amount_in c.books entry thing in
+    ap (λ (zero : Bool). if zero then [] else books_row place (thing_place thing) value ∷ []) (is_differing value (λ zero. some (amount ∙ zero)))
+    ∙ ap (λ n. books_row n (thing_place thing) value ∷ []) (sym entry_is) ∙ ap (λ n. books_row e n value ∷ []) (sym thing_is) ∙ ap (λ n. books_row e t n ∷ []) (sym amount)
 
 pub two_same : (a b c d : ℕ) → ◌≡◌ {A = Row} (books_key a b) (books_key c d) → (a ≡ c) × (b ≡ d)
 two_same a b c d same = (cc, cc)

@@ -1,5 +1,5 @@
 -- From the rows that a SELECT answers to the rows that are read of them.
-use Rattle.std.proofs.Common.{◌≡◌, ◌<◌, ℕ, true, false, not, IsTrue, IsErrAnd, IfErr, Result, Ok, Err, if◌then◌else◌, List, [], ◌∷◌, map, length, get_or, ap, sym, ◌∙◌, refl, subst}
+use Rattle.std.proofs.Common.{◌≡◌, ◌<◌, ℕ, true, false, not, IsTrue, if◌then◌else◌, List, [], ◌∷◌, map, length, get_or, ap, ◌∙◌, refl, subst}
 use Rattle.std.specs.List.Sorted.{IsPermutation}
 use Rattle.std.proofs.lemmas.List.Sorted.{IsPermutation-map, IsPermutation-sym}
 use Rattle.sqlite.specs.Order.{Row}
@@ -33,8 +33,3 @@ refuses_row columns rows at row e within is refused told typed = refused (other_
 -- where the answer has a value of another type, so has the table
 pub finds_other : (columns : List Column) (first : Row → Row) (shown rows : List Row) → IsPermutation shown (map first rows) → ((row : Row) → IsTyped columns (first row) → IsTyped columns row) → ¬ AreTyped columns rows → ¬ AreTyped columns shown
 finds_other columns first shown rows same whole refused typed = refused (λ row there. whole row (typed (first row) (has_permuted (map first rows) shown (first row) (IsPermutation-sym shown (map first rows) same) (has_map first rows row there))))
-
--- what holds of an error holds of what `?` returns of it
-pub passed_on : {X E : Type 0} (r : Result X E) (e : E) (P : E → Type 0) → IsErrAnd r (λ f. f ≡ e) → P e → IfErr r P
-passed_on (Ok x) e P is holds = tt
-passed_on (Err f) e P is holds = subst P (sym is) holds

@@ -5,8 +5,9 @@ use Rattle.sqlite.specs.Effect.{Database}
 use Rattle.sqlite.specs.State.{State, HasCleanDisk, Survives}
 use Rattle.atl_state.specs.State.{State as Campaign}
 use Rattle.atl_store.specs.Rows.{Holds}
-use Rattle.atl_store.specs.Inside.{HasTables, Commits, LeavesOff, MayLeave}
-use Rattle.atl_store.specs.Keeps.{Keeps, Stops, Spares}
+use Rattle.atl_store.specs.Inside.{HasTables, IsBlank, Commits, LeavesOff, MayLeave}
+use Rattle.atl_store.specs.Filling.{WritesFounding}
+use Rattle.atl_store.specs.Keeps.{Keeps, Stops, Spares, MayFound}
 
 module _ (old new : State) (text : List ℕ) (settled : (db : Trees) → IsTrue new.is_open → new.may_leave db → db ≡ new.committed.trees) where
   -- committed, with these rows in the tables
@@ -44,6 +45,13 @@ module _ (old new : State) (text : List ℕ) (settled : (db : Trees) → IsTrue 
       | inr made ↦ inr (subst (λ t. Holds t text after) (sym made.2) (holds made.0 (made.1 keeps.tables).0))
     ];
   }
+
+-- what a crash after a founding leaves, where there was no table before
+pub may_found : (old new : State) (text : List ℕ) (c : Campaign) → IsBlank old.now → HasCleanDisk new → Survives old new (MayLeave IsBlank (WritesFounding text c) old) → MayFound old text c new
+may_found old new text c blank clean survives db may = elim (survives.crash clean db may) [
+  | inl was ↦ inl was
+  | inr made ↦ inr (subst (λ t. Holds t text c) (sym made.2) (made.1 blank).0)
+]
 
 -- what a founding that left off has spared, where the connection said that it was in no transaction
 pub leaves_spares : (old new : State) (auto : Bool) → LeavesOff old new → auto ≡ not old.in_transaction → IsTrue auto → (IsTrue auto → IsTrue old.is_open → old.now ≡ old.committed) → Spares old new

@@ -72,10 +72,10 @@ impl Stored for StoredFaction {
 
     fn from_row(row: &Row) -> Result<StoredFaction, Error> {
         let number = integer(row, 0)?;
+        let gone = integer(row, 4)?;
         let joined_as = words(row, 1)?;
         let name = words(row, 2)?;
         let pass = words(row, 3)?;
-        let gone = integer(row, 4)?;
         Ok(StoredFaction {
             number,
             joined_as,

@@ -78,8 +78,8 @@ impl Stored for StoredStructure {
 
     fn from_row(row: &Row) -> Result<StoredStructure, Error> {
         let (number, kind) = two_integers(row, 0)?;
-        let name = words(row, 2)?;
         let (region, done, owner) = three_integers(row, 3)?;
+        let name = words(row, 2)?;
         Ok(StoredStructure {
             number,
             kind,

@@ -102,9 +102,9 @@ impl Stored for StoredUnit {
 
     fn from_row(row: &Row) -> Result<StoredUnit, Error> {
         let (number, faction) = two_integers(row, 0)?;
-        let name = words(row, 2)?;
         let (region, structure) = two_integers(row, 3)?;
         let (men, money, guard) = three_integers(row, 5)?;
+        let name = words(row, 2)?;
         Ok(StoredUnit {
             number,
             faction,
