@@ -63,7 +63,9 @@ impl Mailing {
 
     /// The bytes that were read, the orders, and what is wrong.
     pub fn into_parts(self) -> (Sequence<u8>, Sequence<Entry>, Sequence<FaultyLine>)
-        ensures { result ≡ (self.text, self.entries, self.faults) }
+        ensures text { result.0 ≡ self.text }
+        ensures entries { result.1 ≡ self.entries }
+        ensures faults { result.2 ≡ self.faults }
     {
         let Mailing {
             faction: _,

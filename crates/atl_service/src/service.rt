@@ -26,7 +26,7 @@ pub struct Service<S: Alter> {
     is_open: bool,
 }
 
-impl<S: Alter> Drop for Service<S> {
+impl<S: Alter + Drop> Drop for Service<S> {
     fn drop(self) {
         let Service {
             alloc: _,
@@ -131,12 +131,12 @@ impl<S: Alter> Service<S> {
     {
         let Service {
             alloc: _,
-            conn,
+            conn: connection,
             world: _,
             campaign: _,
             is_open: _,
         } = self;
-        conn
+        connection
     }
 }
 

@@ -11,9 +11,9 @@ use Rattle.atl_service.proofs.answering.mail.Goals as goal
 pub returns-clause-ok : goal.returns-clause-ok
 returns-clause-ok g c =
     let old = c.args.campaign.now.what in
-    let done : c.set_mail.new.self.what ≡ with_mail old c.args.faction c.args.text.now = c.in_ok-set_mail.ensures.ok ∙ ap (with_mail old c.args.faction) c.in-Ok.ensures.text in
+    let done : c.set_mail.new.self.what ≡ with_mail old c.args.faction c.args.text.now = c.in_ok-set_mail.ensures.ok ∙ ap (with_mail old c.args.faction) (c.into_parts-kept.ensures.text ∙ c.in-Ok.ensures.text) in
     record {
-      step_is = rw (done, c.len-orders.ensures) c.in-Ok.ensures.step;
+      step_is = rw (done, c.len-orders.ensures, c.into_parts-kept.ensures.faults) c.in-Ok.ensures.step;
       sound = tt;
       same = tt;
       good = rw done (IsGood-with_mail c.args.world.now old c.args.faction c.args.text.now c.in-Ok.ensures.own c.in-Ok.ensures.active c.requires.good);
