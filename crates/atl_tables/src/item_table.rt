@@ -18,7 +18,6 @@ use std::alloc::Global;
 use toml::Table;
 
 /// What making an item takes, with its skill and its raw item by name.
-#[derive(Debug)]
 pub struct Making {
     pub skill: Option<Text>,
     pub level: u32,
@@ -38,7 +37,6 @@ impl Drop for Making {
 }
 
 /// An item, with names for what making it takes.
-#[derive(Debug)]
 pub struct ItemDraft {
     pub name: Text,
     pub weight: u32,

@@ -16,7 +16,6 @@ use std::alloc::Global;
 use toml::Table;
 
 /// What building a structure takes, with its material and its skill by name.
-#[derive(Debug)]
 pub struct Building {
     pub material: Text,
     pub size: u32,
@@ -36,7 +35,7 @@ impl Drop for Building {
 }
 
 /// What a structure is good for, with the skill that it helps by name.
-#[derive(Drop, Debug)]
+#[derive(Drop)]
 pub struct Purpose {
     pub capacity: u32,
     pub crew: u32,
@@ -44,7 +43,6 @@ pub struct Purpose {
 }
 
 /// A kind of structure, with its material and skills by name.
-#[derive(Debug)]
 pub struct KindDraft {
     pub name: Text,
     pub ship: bool,

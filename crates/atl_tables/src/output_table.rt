@@ -20,7 +20,7 @@ use std::alloc::{AllocError, Global};
 use toml::Table;
 
 /// An item by name, and how much of it is found in a month.
-#[derive(Drop, Debug)]
+#[derive(Drop)]
 pub struct Output {
     pub item: Text,
     pub amount: u32,

@@ -27,7 +27,7 @@ use std::alloc::{AllocError, Global};
 use toml::Table;
 
 /// What tables stand for, with regions in the order of the file.
-#[derive(Drop, Debug)]
+#[derive(Drop)]
 pub struct Parts {
     pub rules: Rules,
     pub terrains: Sequence<Terrain>,

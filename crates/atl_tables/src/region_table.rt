@@ -18,7 +18,6 @@ use std::alloc::Global;
 use toml::Table;
 
 /// What a region is, with its terrain by name.
-#[derive(Debug)]
 pub struct Place {
     pub number: u32,
     pub name: Text,
@@ -40,7 +39,7 @@ impl Drop for Place {
 }
 
 /// The numbers of a region's neighbours.
-#[derive(Drop, Debug)]
+#[derive(Drop)]
 pub struct Sides {
     pub north: Option<u32>,
     pub south: Option<u32>,
@@ -49,7 +48,7 @@ pub struct Sides {
 }
 
 /// A region, with its terrain by name.
-#[derive(Drop, Debug)]
+#[derive(Drop)]
 pub struct RegionDraft {
     pub place: Place,
     pub sides: Sides,

@@ -18,7 +18,7 @@ use std::alloc::Global;
 use toml::Table;
 
 /// What men cost and bring.
-#[derive(Drop, Debug)]
+#[derive(Drop)]
 pub struct Prices {
     pub maintenance: u32,
     pub tax_per_man: u32,
@@ -26,7 +26,7 @@ pub struct Prices {
 }
 
 /// What peasants do in a month.
-#[derive(Drop, Debug)]
+#[derive(Drop)]
 pub struct PeasantRules {
     pub recruit_fraction: u32,
     pub growth: u32,
@@ -34,7 +34,7 @@ pub struct PeasantRules {
 }
 
 /// What men start with, weigh and carry.
-#[derive(Drop, Debug)]
+#[derive(Drop)]
 pub struct MenRules {
     pub start_money: u32,
     pub man_weight: u32,
@@ -42,7 +42,6 @@ pub struct MenRules {
 }
 
 /// The skills that the rules speak of, by name.
-#[derive(Debug)]
 pub struct SkillNames {
     pub observation: Option<Text>,
     pub stealth: Option<Text>,
@@ -60,7 +59,7 @@ impl Drop for SkillNames {
 }
 
 /// The rules, with skills by name.
-#[derive(Drop, Debug)]
+#[derive(Drop)]
 pub struct RulesDraft {
     pub prices: Prices,
     pub peasants: PeasantRules,

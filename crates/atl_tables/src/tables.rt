@@ -17,7 +17,6 @@ use crate::world::Skill;
 use std::alloc::Global;
 
 /// What the tables of a document say, before names are looked up.
-#[derive(Debug)]
 pub struct Tables {
     pub rules: RulesDraft,
     pub terrains: Sequence<TerrainDraft>,

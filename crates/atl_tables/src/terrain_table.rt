@@ -20,7 +20,7 @@ use std::alloc::Global;
 use toml::Table;
 
 /// What a region of a terrain pays, and the most that it holds.
-#[derive(Drop, Debug)]
+#[derive(Drop)]
 pub struct Economy {
     pub wage: u32,
     pub places: u32,
@@ -29,7 +29,6 @@ pub struct Economy {
 }
 
 /// A terrain, with its output by names of items.
-#[derive(Debug)]
 pub struct TerrainDraft {
     pub name: Text,
     pub land: bool,
