@@ -5,8 +5,6 @@ mod answering;
 pub mod command;
 mod founding;
 pub mod service;
-#[cfg(test)]
-mod tests;
 
 pub use command::{Answer, Cause, Command, Fault, Refusal, Refused};
 pub use service::{Service, found};

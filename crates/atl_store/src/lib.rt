@@ -17,6 +17,3 @@ pub use fault::{CreateFault, ReadFault, WriteFault};
 pub use founding::create;
 pub use joining::write_join;
 pub use mailing::write_mail;
-
-#[cfg(test)]
-mod tests;

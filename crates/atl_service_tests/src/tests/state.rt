@@ -1,5 +1,10 @@
-//! The calls on a campaign, once each.
-use super::{FIRST_REPORT, SMALL};
+//! The calls on a campaign, once each. Of what is large (a world, a campaign) each function holds one and lends it.
+ghost use Rattle.std.specs.Prelude.{IfOk};
+ghost use Rattle.atl_state.specs.Good.{IsGood};
+
+use super::commands::FIRST_REPORT;
+use super::compare::{are_numbers, is_count, is_number, is_text, is_total};
+use super::worlds::SMALL;
 use atl_report::{report_text, view};
 use atl_state::{Campaign, Entry, Thing, founded};
 use atl_tables::{Text, World, read_world};
@@ -11,19 +16,17 @@ fn small_world(alloc: Global) -> Result<World, Fail> {
     Ok(read_world(alloc, SMALL)?)
 }
 
-fn small_campaign(alloc: Global, world: &World) -> Result<Campaign, Fail> {
+fn small_campaign(alloc: Global, world: &World) -> Result<Campaign, Fail>
+    ensures { IfOk result (λ campaign. IsGood world.now campaign.what) }
+{
     Ok(founded(alloc, world, b"gm")?)
 }
 
-/// The campaign once Avalon has joined.
-fn joined_campaign(alloc: Global, world: &World) -> Option<Campaign> {
-    match founded(alloc, world, b"gm") {
-        Ok(mut campaign) => match campaign.join(world, b"Avalon", b"pw", 5) {
-            Ok(_) => Some(campaign),
-            Err(_) => None,
-        },
-        Err(_) => None,
-    }
+fn avalon_joins(rt: &impl Abort, world: &World, campaign: &mut Campaign)
+    requires { IsGood world.now campaign.old.what }
+{
+    let done = campaign.join(world, b"Avalon", b"pw", 5);
+    assert!(rt; done.is_ok());
 }
 
 fn total(campaign: &Campaign, thing: Thing) -> Option<u64> {
@@ -34,13 +37,13 @@ fn total(campaign: &Campaign, thing: Thing) -> Option<u64> {
 }
 
 fn is_founded(rt: &impl Abort, campaign: &Campaign) {
-    assert_eq!(rt; campaign.month(), 0);
-    assert_eq!(rt; campaign.pass().as_str(), "gm");
-    assert_eq!(rt; campaign.next_faction(), 1);
-    assert_eq!(rt; campaign.next_unit(), 1);
-    assert_eq!(rt; campaign.next_structure(), 1);
-    assert_eq!(rt; total(campaign, Thing::Money), Some(500));
-    assert_eq!(rt; total(campaign, Thing::People), Some(1000));
+    is_number(rt, i64::from(campaign.month()), 0);
+    is_text(rt, campaign.pass().as_str(), "gm");
+    is_number(rt, i64::from(campaign.next_faction()), 1);
+    is_number(rt, i64::from(campaign.next_unit()), 1);
+    is_number(rt, i64::from(campaign.next_structure()), 1);
+    is_total(rt, total(campaign, Thing::Money), 500);
+    is_total(rt, total(campaign, Thing::People), 1000);
 }
 
 fn founds(rt: &impl Abort, alloc: Global, world: &World) -> Result<(), Fail> {
@@ -56,23 +59,26 @@ fn founding(rt: HostRuntime) -> Result<(), Fail> {
 }
 
 fn has_entries(rt: &impl Abort, campaign: &Campaign) {
-    assert_eq!(rt; campaign.things(), 2);
+    is_count(rt, campaign.things(), 2);
     if campaign.things() >= 2 {
-        assert_eq!(rt; campaign.booked(Entry::Founding, Thing::Money), 500);
-        assert_eq!(rt; campaign.booked(Entry::Founding, Thing::People), 1000);
-        assert_eq!(rt; campaign.booked(Entry::Joining, Thing::Money), 1000);
-        assert_eq!(rt; campaign.booked(Entry::Joining, Thing::People), 1);
+        is_number(rt, campaign.booked(Entry::Founding, Thing::Money), 500);
+        is_number(rt, campaign.booked(Entry::Founding, Thing::People), 1000);
+        is_number(rt, campaign.booked(Entry::Joining, Thing::Money), 1000);
+        is_number(rt, campaign.booked(Entry::Joining, Thing::People), 1);
     }
-    assert_eq!(rt; total(campaign, Thing::Money), Some(1500));
-    assert_eq!(rt; total(campaign, Thing::People), Some(1001));
-    assert_eq!(rt; total(campaign, Thing::Item(0)), Some(0));
+}
+
+fn has_totals(rt: &impl Abort, campaign: &Campaign) {
+    is_total(rt, total(campaign, Thing::Money), 1500);
+    is_total(rt, total(campaign, Thing::People), 1001);
+    is_total(rt, total(campaign, Thing::Item(0)), 0);
 }
 
 fn has_faction(rt: &impl Abort, campaign: &Campaign) {
     match campaign.faction(1) {
         Some(faction) => {
-            assert_eq!(rt; faction.number, 1);
-            assert_eq!(rt; faction.joined_as.as_str(), "Avalon");
+            is_number(rt, i64::from(faction.number), 1);
+            is_text(rt, faction.joined_as.as_str(), "Avalon");
             assert!(rt; !faction.gone);
         }
         None => assert!(rt; false),
@@ -82,19 +88,21 @@ fn has_faction(rt: &impl Abort, campaign: &Campaign) {
 fn has_unit(rt: &impl Abort, campaign: &Campaign) {
     match campaign.unit(1) {
         Some(unit) => {
-            assert_eq!(rt; unit.holding.name().as_str(), "Unit 1");
-            assert_eq!(rt; unit.holding.men(), 1);
-            assert_eq!(rt; unit.region, 1);
+            is_text(rt, unit.holding.name().as_str(), "Unit 1");
+            is_number(rt, i64::from(unit.holding.men()), 1);
+            is_number(rt, i64::from(unit.region), 1);
         }
         None => assert!(rt; false),
     }
-    assert_eq!(rt; campaign.in_region(1), [1].as_slice());
-    assert!(rt; campaign.in_region(2).is_empty());
+    are_numbers(rt, campaign.in_region(1), &[1]);
+    are_numbers(rt, campaign.in_region(2), &[]);
 }
 
 fn joins(rt: &impl Abort, alloc: Global, world: &World) -> Result<(), Fail> {
-    let campaign = joined_campaign(alloc, world).ok_or("joined")?;
+    let mut campaign = small_campaign(alloc, world)?;
+    avalon_joins(rt, world, &mut campaign);
     has_entries(rt, &campaign);
+    has_totals(rt, &campaign);
     has_faction(rt, &campaign);
     has_unit(rt, &campaign);
     Ok(())
@@ -110,13 +118,20 @@ fn lends(rt: &impl Abort, campaign: &mut Campaign) {
     if let Some(holding) = campaign.unit_mut(1) {
         holding.set_money(7);
     }
-    assert_eq!(rt; total(campaign, Thing::Money), Some(507));
+    is_total(rt, total(campaign, Thing::Money), 507);
 }
 
 fn report_of(alloc: Global, world: &World, campaign: &Campaign) -> Result<Text, AllocError> {
     let seen = view(alloc, world, campaign, 1)?;
     let text = report_text(alloc, world, &seen)?;
     Ok(Text::from_string(text))
+}
+
+fn has_report(rt: &impl Abort, campaign: &Campaign) {
+    match campaign.report(1) {
+        Some(stored) => is_text(rt, stored.as_str(), FIRST_REPORT),
+        None => assert!(rt; false),
+    }
 }
 
 /// Stores the first faction's report of what it sees.
@@ -128,18 +143,16 @@ fn stores(
 ) -> Result<(), Fail> {
     let text = report_of(alloc, world, campaign)?;
     campaign.set_report(1, text)?;
-    match campaign.report(1) {
-        Some(stored) => assert_eq!(rt; stored.as_str(), FIRST_REPORT),
-        None => assert!(rt; false),
-    }
+    has_report(rt, campaign);
     Ok(())
 }
 
 fn lends_and_stores(rt: &impl Abort, alloc: Global, world: &World) -> Result<(), Fail> {
-    let mut campaign = joined_campaign(alloc, world).ok_or("joined")?;
-    stores(rt, alloc, world, &mut campaign)?;
+    let mut campaign = small_campaign(alloc, world)?;
+    avalon_joins(rt, world, &mut campaign);
+    let done = stores(rt, alloc, world, &mut campaign);
     lends(rt, &mut campaign);
-    Ok(())
+    done
 }
 
 #[test]

@@ -1,0 +1,174 @@
+//! Joinings, reports, and lists of commands.
+use super::compare::{is_count, is_text};
+use super::making::{begun, told};
+use super::script::{Asked, Step, command_of, plays};
+use super::tables::{
+    AFTER_JOINING, BOOKED, FACTIONS, MAIL_BYTES, MAILINGS, MONEY, NEXT, REPORT_BYTES, UNITS, holds,
+};
+use super::worlds::{ISLE, SMALL};
+use atl_service::{Answer, Command, Service};
+use sqlite::{Alter, Connection};
+use std::alloc::Global;
+use std::process::Abort;
+use std::test::Fail;
+
+pub(crate) const FIRST_REPORT: &str = "Atlantis report, month 0, faction 1 \"Avalon\".
+Orders:
+None.
+Region 1 \"Vale\", plain: 1000 peasants, 500 money.
+Exits: none.
+* Unit 1 \"Unit 1\": 1 men, 1000 money.
+";
+
+/// What the second faction sees where two have joined.
+const SECOND_REPORT: &str = "Atlantis report, month 0, faction 2 \"Bree\".
+Orders:
+None.
+Region 1 \"Vale\", plain: 1000 peasants, 500 money.
+Exits: none.
+- Unit 1 \"Unit 1\" of faction 1 \"Avalon\": 1 men.
+* Unit 2 \"Unit 2\": 1 men, 1000 money.
+";
+
+/// What a faction sees that begins in the second land region.
+const FAR_REPORT: &str = "Atlantis report, month 0, faction 1 \"Avalon\".
+Orders:
+None.
+Region 3 \"Far\", forest: 200 peasants, 100 money.
+Exits: north 4, west 2.
+* Unit 1 \"Unit 1\": 1 men, 1000 money.
+";
+
+pub(crate) const AVALON: Asked = Asked::Join("Avalon", "pw", 0);
+
+const ONE_JOINS: [Step; 2] = [
+    Step::Joined(AVALON, 1, 1),
+    Step::Told(Asked::Report(1, "pw"), FIRST_REPORT),
+];
+
+#[test]
+fn first_report(rt: HostRuntime) -> Result<(), Fail> {
+    is_count(&rt, FIRST_REPORT.len(), 161);
+    plays(&rt, rt.alloc(), SMALL, &ONE_JOINS, &AFTER_JOINING)
+}
+
+const TWO_JOIN: [Step; 3] = [
+    Step::Told(AVALON, "joined"),
+    Step::Told(Asked::Join("Bree", "pb", 0), "joined"),
+    Step::Told(Asked::Report(2, "pb"), SECOND_REPORT),
+];
+
+const AFTER_TWO: [(&str, Option<i64>); 3] = [
+    (NEXT, Some(300003)),
+    (FACTIONS, Some(2)),
+    (UNITS, Some(2)),
+];
+
+#[test]
+fn another_faction_is_seen_without_money(rt: HostRuntime) -> Result<(), Fail> {
+    plays(&rt, rt.alloc(), SMALL, &TWO_JOIN, &AFTER_TWO)
+}
+
+const FAR_JOINS: [Step; 2] = [
+    Step::Told(Asked::Join("Avalon", "pw", 1), "joined"),
+    Step::Told(Asked::Report(1, "pw"), FAR_REPORT),
+];
+
+const AFTER_FAR: [(&str, Option<i64>); 2] = [(FACTIONS, Some(1)), (UNITS, Some(1))];
+
+#[test]
+fn the_second_land_region(rt: HostRuntime) -> Result<(), Fail> {
+    plays(&rt, rt.alloc(), ISLE, &FAR_JOINS, &AFTER_FAR)
+}
+
+/// Commands of all kinds, good ones and refused ones.
+const CLUB: [Step; 12] = [
+    Step::Told(Asked::Join(" x", "pw", 0), "bad name"),
+    Step::Told(Asked::Join("Avalon", "a b", 0), "bad pass text"),
+    Step::Told(AVALON, "joined"),
+    Step::Told(AVALON, "name taken"),
+    Step::Told(Asked::Mail(9, "no", "hello"), "no faction"),
+    Step::Told(Asked::Mail(1, "no", "hello"), "wrong pass"),
+    Step::Told(Asked::Mail(1, "pw", "hello"), "no header"),
+    Step::Told(
+        Asked::Mail(1, "pw", "#ATLANTIS 1\nUNIT 1\nWORK\n"),
+        "mailed",
+    ),
+    Step::Told(Asked::Mail(1, "pw", "#ATLANTIS 1\nUNIT 1\n"), "mailed"),
+    Step::Told(Asked::Report(1, "pw"), FIRST_REPORT),
+    Step::Told(Asked::Report(9, "pw"), "no faction"),
+    Step::Told(Asked::Report(1, "no"), "wrong pass"),
+];
+
+/// Once one faction has joined and sent its second mailing.
+const AFTER_CLUB: [(&str, Option<i64>); 8] = [
+    (NEXT, Some(200002)),
+    (FACTIONS, Some(1)),
+    (UNITS, Some(1)),
+    (REPORT_BYTES, Some(161)),
+    (BOOKED, Some(2501)),
+    (MONEY, Some(1000)),
+    (MAILINGS, Some(1)),
+    (MAIL_BYTES, Some(19)),
+];
+
+fn fill(alloc: Global, commands: &mut Vec<Command>, steps: &[Step]) -> Result<(), Fail> {
+    for step in steps {
+        if let Step::Told(asked, _) = step {
+            commands.push(command_of(alloc, asked)?)?;
+        }
+    }
+    Ok(())
+}
+
+/// The commands of these steps.
+fn commands_of(alloc: Global, steps: &[Step]) -> Result<Vec<Command>, Fail> {
+    let mut commands = Vec::new(alloc);
+    fill(alloc, &mut commands, steps)?;
+    Ok(commands)
+}
+
+fn is_told(rt: &impl Abort, answer: &Answer, step: &Step) {
+    match step {
+        Step::Told(_, words) => is_text(rt, told(answer), words),
+        _ => assert!(rt; false),
+    }
+}
+
+fn are_told(rt: &impl Abort, answers: &[Answer], steps: &[Step]) {
+    is_count(rt, answers.len(), steps.len());
+    for (answer, step) in answers.iter().zip(steps.iter()) {
+        is_told(rt, answer, step);
+    }
+}
+
+fn runs_all<S: Alter>(rt: &impl Abort, service: &mut Service<S>, commands: &[Command]) {
+    match service.run_all(commands) {
+        Ok(answers) => are_told(rt, &answers, &CLUB),
+        Err(_) => assert!(rt; false),
+    }
+}
+
+fn at_once<S: Alter + Drop>(
+    rt: &impl Abort,
+    alloc: Global,
+    conn: Connection<S>,
+    commands: &[Command],
+) -> Result<(), Fail> {
+    let mut service = begun(alloc, conn, SMALL)?;
+    runs_all(rt, &mut service, commands);
+    holds(rt, &mut service.end(), &AFTER_CLUB);
+    Ok(())
+}
+
+fn club_at_once(rt: &impl Abort, alloc: Global) -> Result<(), Fail> {
+    let conn = Connection::open_in_memory(alloc)?;
+    let commands = commands_of(alloc, &CLUB)?;
+    at_once(rt, alloc, conn, &commands)
+}
+
+#[test]
+fn a_list_is_run_as_one_by_one(rt: HostRuntime) -> Result<(), Fail> {
+    plays(&rt, rt.alloc(), SMALL, &CLUB, &AFTER_CLUB)?;
+    club_at_once(&rt, rt.alloc())
+}

@@ -1,0 +1,73 @@
+//! Why no campaign is founded.
+use super::compare::is_text;
+use super::making::begun;
+use super::worlds::SMALL;
+use atl_service::{Cause, found};
+use sqlite::{Alter, Connection};
+use std::alloc::Global;
+use std::process::Abort;
+use std::test::Fail;
+
+fn told(cause: &Cause) -> &'static str {
+    match cause {
+        Cause::World(_) => "world",
+        Cause::BadPassText => "bad pass text",
+        Cause::NotEmpty => "not empty",
+        Cause::Store => "store",
+        Cause::Memory => "memory",
+    }
+}
+
+/// Asserts why no campaign is founded in a database.
+fn is_refused<S: Alter + Drop>(
+    rt: &impl Abort,
+    alloc: Global,
+    conn: Connection<S>,
+    world: &str,
+    pass: &str,
+    words: &str,
+) {
+    match found(alloc, conn, world, pass.as_bytes()) {
+        Ok(service) => {
+            service.end();
+            assert!(rt; false);
+        }
+        Err(refused) => is_text(rt, told(&refused.why), words),
+    }
+}
+
+/// World texts and pass texts, and the first check that fails.
+const REFUSED: [(&str, &str, &str); 2] = [
+    ("a = = b", "a b", "world"),
+    (SMALL, "a b", "bad pass text"),
+];
+
+fn are_refused(rt: &impl Abort, alloc: Global) -> Result<(), Fail> {
+    for (world, pass, words) in REFUSED.iter() {
+        let conn = Connection::open_in_memory(alloc)?;
+        is_refused(rt, alloc, conn, world, pass, words);
+    }
+    Ok(())
+}
+
+#[test]
+fn the_first_check_that_fails_is_told(rt: HostRuntime) -> Result<(), Fail> {
+    are_refused(&rt, rt.alloc())
+}
+
+/// Asserts that no campaign is founded where one is.
+fn refuses_another<S: Alter + Drop>(
+    rt: &impl Abort,
+    alloc: Global,
+    conn: Connection<S>,
+) -> Result<(), Fail> {
+    let service = begun(alloc, conn, SMALL)?;
+    is_refused(rt, alloc, service.end(), SMALL, "gm", "not empty");
+    Ok(())
+}
+
+#[test]
+fn a_campaign_is_founded_once(rt: HostRuntime) -> Result<(), Fail> {
+    let conn = Connection::open_in_memory(rt.alloc())?;
+    refuses_another(&rt, rt.alloc(), conn)
+}

@@ -1,0 +1,97 @@
+//! Commands and services. Of what is large (a service, a connection, a command) each function holds one and lends it, and
+//! one that works on a service takes any store.
+use super::compare::is_text;
+use atl_service::{Answer, Command, Fault, Refusal, Service, found};
+use atl_tables::Sequence;
+use sqlite::{Alter, Connection};
+use std::alloc::Global;
+use std::process::Abort;
+use std::test::Fail;
+
+fn bytes(alloc: Global, text: &str) -> Result<Sequence<u8>, Fail> {
+    Ok(Sequence::from_slice(alloc, text.as_bytes())?)
+}
+
+pub(crate) fn join(alloc: Global, name: &str, pass: &str, word: u32) -> Result<Command, Fail> {
+    Ok(Command::Join {
+        name: bytes(alloc, name)?,
+        pass: bytes(alloc, pass)?,
+        word,
+    })
+}
+
+pub(crate) fn mail(alloc: Global, faction: u32, pass: &str, text: &str) -> Result<Command, Fail> {
+    Ok(Command::Mail {
+        faction,
+        pass: bytes(alloc, pass)?,
+        text: bytes(alloc, text)?,
+    })
+}
+
+fn header_and_feeds(alloc: Global, feeds: usize) -> Result<Sequence<u8>, Fail> {
+    let mut text = Vec::from_slice(alloc, b"#ATLANTIS 1")?;
+    text.extend_from_slice(&b"\n".repeat(alloc, feeds)?)?;
+    Ok(Sequence::from_vec(text))
+}
+
+/// A mailing of the first faction: a header of 11 bytes and so many line feeds.
+pub(crate) fn long_mail(alloc: Global, pass: &str, feeds: usize) -> Result<Command, Fail> {
+    Ok(Command::Mail {
+        faction: 1,
+        pass: bytes(alloc, pass)?,
+        text: header_and_feeds(alloc, feeds)?,
+    })
+}
+
+pub(crate) fn report(alloc: Global, faction: u32, pass: &str) -> Result<Command, Fail> {
+    Ok(Command::Report {
+        faction,
+        pass: bytes(alloc, pass)?,
+    })
+}
+
+/// A campaign of a world, in this database.
+pub(crate) fn begun<S: Alter + Drop>(
+    alloc: Global,
+    conn: Connection<S>,
+    world: &str,
+) -> Result<Service<S>, Fail> {
+    match found(alloc, conn, world, b"gm") {
+        Ok(service) => Ok(service),
+        Err(_) => Err(Fail::new("found")),
+    }
+}
+
+/// An answer in words.
+pub(crate) fn told(answer: &Answer) -> &str {
+    match answer {
+        Answer::Joined { .. } => "joined",
+        Answer::Mailed { .. } => "mailed",
+        Answer::Text(text) => text.as_str(),
+        Answer::Refused(Refusal::BadName) => "bad name",
+        Answer::Refused(Refusal::BadPassText) => "bad pass text",
+        Answer::Refused(Refusal::NameTaken) => "name taken",
+        Answer::Refused(Refusal::Full) => "full",
+        Answer::Refused(Refusal::NoFaction) => "no faction",
+        Answer::Refused(Refusal::WrongPass) => "wrong pass",
+        Answer::Refused(Refusal::Gone) => "gone",
+        Answer::Refused(Refusal::TooLong) => "too long",
+        Answer::Refused(Refusal::NoHeader) => "no header",
+        Answer::Refused(Refusal::BadHeader) => "bad header",
+        Answer::Refused(Refusal::WrongFaction) => "wrong faction",
+        Answer::Fault(Fault::Memory) => "memory",
+        Answer::Fault(Fault::Store) => "store",
+        Answer::Fault(Fault::Closed) => "closed",
+    }
+}
+
+/// Runs a command, and asserts its answer.
+pub(crate) fn tells<S: Alter>(
+    rt: &impl Abort,
+    service: &mut Service<S>,
+    command: &Command,
+    words: &str,
+) {
+    let answer = service.run(command);
+    is_text(rt, told(&answer), words);
+}

@@ -1,0 +1,45 @@
+//! What is refused changes nothing.
+use super::commands::{AVALON, FIRST_REPORT};
+use super::compare::is_number;
+use super::script::{Asked, Step, plays};
+use super::tables::AFTER_JOINING;
+use super::worlds::SMALL;
+use atl_service::Refusal;
+use std::test::Fail;
+
+const JOINS_ONCE: [Step; 1] = [Step::Told(AVALON, "joined")];
+
+const JOINS_TWICE: [Step; 5] = [
+    Step::Told(AVALON, "joined"),
+    Step::Numbers(2, 2, 1),
+    Step::Told(AVALON, "name taken"),
+    Step::Numbers(2, 2, 1),
+    Step::Told(Asked::Report(1, "pw"), FIRST_REPORT),
+];
+
+#[test]
+fn a_name_is_taken_once(rt: HostRuntime) -> Result<(), Fail> {
+    plays(&rt, rt.alloc(), SMALL, &JOINS_ONCE, &AFTER_JOINING)?;
+    plays(&rt, rt.alloc(), SMALL, &JOINS_TWICE, &AFTER_JOINING)
+}
+
+const NUMBERS: [(Refusal, u8); 11] = [
+    (Refusal::BadName, 1),
+    (Refusal::BadPassText, 2),
+    (Refusal::NameTaken, 3),
+    (Refusal::Full, 4),
+    (Refusal::NoFaction, 5),
+    (Refusal::WrongPass, 6),
+    (Refusal::Gone, 7),
+    (Refusal::TooLong, 8),
+    (Refusal::NoHeader, 9),
+    (Refusal::BadHeader, 10),
+    (Refusal::WrongFaction, 11),
+];
+
+#[test]
+fn refusals_have_their_numbers(rt: HostRuntime) {
+    for (refusal, number) in NUMBERS.iter() {
+        is_number(&rt, i64::from(refusal.number()), i64::from(*number));
+    }
+}

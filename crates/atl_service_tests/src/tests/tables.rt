@@ -1,0 +1,52 @@
+//! What the tables of a campaign hold, told in numbers.
+use super::compare::is_amount;
+use sqlite::{Alter, Connection};
+use std::process::Abort;
+
+/// The faction and the unit that come next.
+pub(crate) const NEXT: &str = "SELECT next_faction * 100000 + next_unit FROM campaign";
+
+pub(crate) const FACTIONS: &str = "SELECT count(*) FROM faction";
+
+pub(crate) const UNITS: &str = "SELECT count(*) FROM unit";
+
+pub(crate) const REPORT_BYTES: &str = "SELECT sum(length(text)) FROM report";
+
+pub(crate) const BOOKED: &str = "SELECT sum(amount) FROM books";
+
+pub(crate) const MONEY: &str = "SELECT sum(money) FROM unit";
+
+pub(crate) const MAILINGS: &str = "SELECT count(*) FROM mail";
+
+pub(crate) const MAIL_BYTES: &str = "SELECT sum(length(text)) FROM mail";
+
+/// A number that a query answers.
+pub(crate) fn number<S: Alter>(conn: &mut Connection<S>, sql: &str) -> Option<i64> {
+    match conn.query_row(sql, &[]) {
+        Ok(row) => row.get(0).ok(),
+        Err(_) => None,
+    }
+}
+
+/// Asserts what queries answer.
+pub(crate) fn holds<S: Alter>(
+    rt: &impl Abort,
+    conn: &mut Connection<S>,
+    wanted: &[(&str, Option<i64>)],
+) {
+    for (sql, amount) in wanted {
+        is_amount(rt, number(conn, sql), *amount);
+    }
+}
+
+/// Once Avalon has joined the small world.
+pub(crate) const AFTER_JOINING: [(&str, Option<i64>); 8] = [
+    (NEXT, Some(200002)),
+    (FACTIONS, Some(1)),
+    (UNITS, Some(1)),
+    (REPORT_BYTES, Some(161)),
+    (BOOKED, Some(2501)),
+    (MONEY, Some(1000)),
+    (MAILINGS, Some(0)),
+    (MAIL_BYTES, None),
+];

@@ -1,0 +1,91 @@
+//! The worlds of the tests.
+
+/// The world with one region.
+pub(crate) const SMALL: &str = "[rules]
+maintenance = 10
+tax_per_man = 10
+recruit_price = 50
+recruit_fraction = 4
+growth = 0
+income = 1
+start_money = 1000
+man_weight = 10
+man_carry = 5
+[[terrain]]
+name = \"plain\"
+land = true
+wage = 12
+places = 100
+money_limit = 5000
+peasant_limit = 2000
+[[region]]
+number = 1
+name = \"Vale\"
+terrain = \"plain\"
+peasants = 1000
+money = 500
+";
+
+/// A world with land, forest and sea, in four regions.
+pub(crate) const ISLE: &str = "[rules]
+maintenance = 10
+tax_per_man = 10
+recruit_price = 50
+recruit_fraction = 4
+growth = 0
+income = 1
+start_money = 1000
+man_weight = 10
+man_carry = 5
+[[terrain]]
+name = \"plain\"
+land = true
+wage = 12
+places = 100
+money_limit = 5000
+peasant_limit = 2000
+[[terrain]]
+name = \"forest\"
+land = true
+wage = 10
+places = 50
+money_limit = 2000
+peasant_limit = 500
+[[terrain]]
+name = \"ocean\"
+land = false
+wage = 1
+places = 0
+money_limit = 0
+peasant_limit = 0
+[[region]]
+number = 1
+name = \"Shore\"
+terrain = \"plain\"
+peasants = 1000
+money = 500
+east = 2
+[[region]]
+number = 2
+name = \"Sound\"
+terrain = \"ocean\"
+peasants = 0
+money = 0
+east = 3
+west = 1
+[[region]]
+number = 3
+name = \"Far\"
+terrain = \"forest\"
+peasants = 200
+money = 100
+north = 4
+west = 2
+[[region]]
+number = 4
+name = \"Wood\"
+terrain = \"forest\"
+peasants = 100
+money = 50
+south = 3
+";

@@ -1,0 +1,8 @@
+//! A small world's campaign in a store.
+mod compare;
+mod counts;
+mod crashes;
+mod founding;
+mod making;
+mod worlds;
+mod writes;

@@ -1,0 +1,160 @@
+//! A disk that stops at each of its calls. What works on the disk takes any disk that can crash.
+ghost use Rattle.std.specs.Prelude.{◌≡◌, false};
+
+use super::counts::{count_books, count_factions, count_units};
+use super::making::{joined, small};
+use super::worlds::SMALL;
+use atl_state::Campaign;
+use atl_store::{CreateFault, WriteFault, create, write_join};
+use sqlite::{Alter, Connection, FileStore, Options};
+use sqlite_disk::{Crash, Disk, Files, Fuse, Memory};
+use std::alloc::Global;
+use std::process::Abort;
+use std::test::Fail;
+
+/// What was answered to a creation and a joining.
+#[derive(Clone, Copy, PartialEq, Eq, Debug)]
+enum Answered {
+    Nothing,
+    Created,
+    Joined,
+    /// A disk that stopped was answered by another fault than Store.
+    Wrong,
+}
+
+fn join<S: Alter>(conn: &mut Connection<S>, joined: &Campaign) -> Answered
+    requires { conn.old.in_transaction ≡ false }
+{
+    match write_join(conn, joined, 1) {
+        Ok(()) => Answered::Joined,
+        Err(WriteFault::Store) => Answered::Created,
+        Err(WriteFault::Memory) => Answered::Wrong,
+    }
+}
+
+/// Creates a campaign and writes a joining, up to the first fault.
+fn run<S: Alter>(conn: &mut Connection<S>, founded: &Campaign, joined: &Campaign) -> Answered {
+    match create(conn, SMALL, founded) {
+        Ok(()) => join(conn, joined),
+        Err(CreateFault::Store) => Answered::Nothing,
+        Err(_) => Answered::Wrong,
+    }
+}
+
+/// How many factions the tables have, where there are tables. A part of a writing is a failure.
+fn factions<S: Alter>(alloc: Global, conn: &mut Connection<S>) -> Result<Option<usize>, Fail> {
+    if conn.schema().tables.is_empty() {
+        return Ok(None);
+    }
+    let factions = count_factions(alloc, conn)?;
+    let units = count_units(alloc, conn)?;
+    let books = count_books(alloc, conn)?;
+    if units != factions || books != (if factions == 0 { 2 } else { 4 }) {
+        return Err(Fail::new("a part of a writing"));
+    }
+    Ok(Some(factions))
+}
+
+fn open<D: Disk + Drop>(alloc: Global, files: Files<D>) -> Option<Connection<FileStore<D>>> {
+    if !files.may_be_used() {
+        return None;
+    }
+    Connection::open_files(alloc, files, Options::new(1)).ok()
+}
+
+/// What a visit to a store tells: what was answered to its writings, or how many factions are there.
+#[derive(Clone, Copy)]
+struct Told {
+    answered: Answered,
+    factions: Option<usize>,
+}
+
+/// Writes the campaigns before and after a joining; without them it counts the factions.
+fn visit<S: Alter>(
+    alloc: Global,
+    conn: &mut Connection<S>,
+    campaigns: Option<(&Campaign, &Campaign)>,
+) -> Result<Told, Fail> {
+    match campaigns {
+        Some((before, after)) => Ok(Told {
+            answered: run(conn, before, after),
+            factions: None,
+        }),
+        None => Ok(Told {
+            answered: Answered::Nothing,
+            factions: factions(alloc, conn)?,
+        }),
+    }
+}
+
+/// Opens the files for a visit. The files come back as a crash leaves them.
+fn visited<D: Crash + Drop>(
+    alloc: Global,
+    files: Files<D>,
+    campaigns: Option<(&Campaign, &Campaign)>,
+) -> Result<Option<(Told, Files<D>)>, Fail> {
+    let Some(mut conn) = open(alloc, files) else {
+        return Ok(None);
+    };
+    let told = visit(alloc, &mut conn, campaigns);
+    let Files { mut log, mut db } = conn.into_store().close();
+    log.crash();
+    db.crash();
+    Ok(Some((told?, Files { log, db })))
+}
+
+/// What was answered on these files, and the factions that an open finds after a crash.
+fn stopped<D: Crash + Drop>(
+    alloc: Global,
+    files: Files<D>,
+    before: &Campaign,
+    after: &Campaign,
+) -> Result<(Answered, Option<usize>), Fail> {
+    match visited(alloc, files, Some((before, after)))? {
+        Some((told, left)) => {
+            let (again, _) = visited(alloc, left, None)?.ok_or("reopen")?;
+            Ok((told.answered, again.factions))
+        }
+        None => Ok((Answered::Nothing, None)),
+    }
+}
+
+/// Files on a disk that passes so many calls on.
+fn stopping(alloc: Global, calls: u64) -> Files<Fuse<Memory>> {
+    Files {
+        log: Fuse::new(Memory::new(alloc), calls),
+        db: Fuse::new(Memory::new(alloc), u64::MAX),
+    }
+}
+
+/// Asserts that a crash left the campaign before or the one after.
+fn is_whole(rt: &impl Abort, answered: Answered, found: Option<usize>) {
+    match answered {
+        Answered::Nothing => assert!(rt; found.is_none() || found == Some(0)),
+        Answered::Created => assert!(rt; found == Some(0) || found == Some(1)),
+        Answered::Joined => assert!(rt; found == Some(1)),
+        Answered::Wrong => assert!(rt; false),
+    }
+}
+
+fn stops(rt: &impl Abort, alloc: Global, before: &Campaign, after: &Campaign) -> Result<(), Fail> {
+    let mut last = Answered::Nothing;
+    for calls in 0..29 {
+        let (answered, found) = stopped(alloc, stopping(alloc, calls), before, after)?;
+        is_whole(rt, answered, found);
+        last = answered;
+    }
+    assert!(rt; last == Answered::Joined);
+    Ok(())
+}
+
+fn stops_joining(rt: &impl Abort, alloc: Global, before: &Campaign) -> Result<(), Fail> {
+    let after = joined(alloc)?;
+    stops(rt, alloc, before, &after)
+}
+
+#[test]
+fn a_stopped_disk_leaves_no_part(rt: HostRuntime) -> Result<(), Fail> {
+    let before = small(rt.alloc())?;
+    stops_joining(&rt, rt.alloc(), &before)
+}

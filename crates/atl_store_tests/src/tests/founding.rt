@@ -1,0 +1,106 @@
+//! The tables of a campaign as it is founded.
+use super::compare::{is_count, is_number, is_text};
+use super::counts::{
+    count_factions, count_has, count_mail, count_reports, count_structures, count_units,
+};
+use super::making::created;
+use super::worlds::SMALL;
+use atl_store::rows::books::{StoredBooks, read_books};
+use atl_store::rows::campaign::{StoredCampaign, read_campaign};
+use atl_store::rows::region::read_regions;
+use sqlite::{Alter, Connection};
+use std::alloc::Global;
+use std::process::Abort;
+use std::test::Fail;
+
+fn is_head(rt: &impl Abort, row: &StoredCampaign) {
+    is_number(rt, row.id, 1);
+    is_number(rt, row.format, 1);
+    is_number(rt, row.month, 0);
+    is_number(rt, row.next_faction, 1);
+    is_number(rt, row.next_unit, 1);
+    is_number(rt, row.next_structure, 1);
+    is_text(rt, row.pass.as_str(), "gm");
+    is_text(rt, row.world.as_str(), SMALL);
+}
+
+fn has_head<S: Alter>(
+    rt: &impl Abort,
+    alloc: Global,
+    conn: &mut Connection<S>,
+) -> Result<(), Fail> {
+    let rows = read_campaign(alloc, conn)?;
+    is_count(rt, rows.len(), 1);
+    is_head(rt, &rows[0]);
+    Ok(())
+}
+
+#[test]
+fn the_campaign_has_its_row(rt: HostRuntime) -> Result<(), Fail> {
+    let mut conn = created(rt.alloc())?;
+    has_head(&rt, rt.alloc(), &mut conn)
+}
+
+fn has_region<S: Alter>(
+    rt: &impl Abort,
+    alloc: Global,
+    conn: &mut Connection<S>,
+) -> Result<(), Fail> {
+    let rows = read_regions(alloc, conn)?;
+    is_count(rt, rows.len(), 1);
+    is_number(rt, rows[0].number, 1);
+    is_number(rt, rows[0].peasants, 1000);
+    is_number(rt, rows[0].money, 500);
+    Ok(())
+}
+
+#[test]
+fn the_region_is_there(rt: HostRuntime) -> Result<(), Fail> {
+    let mut conn = created(rt.alloc())?;
+    has_region(&rt, rt.alloc(), &mut conn)
+}
+
+/// Asserts that the amount of a thing is booked in this row under this entry.
+pub(crate) fn is_booked(rt: &impl Abort, row: &StoredBooks, entry: i64, thing: i64, amount: i64) {
+    is_number(rt, row.entry, entry);
+    is_number(rt, row.thing, thing);
+    is_number(rt, row.amount, amount);
+}
+
+fn has_books<S: Alter>(
+    rt: &impl Abort,
+    alloc: Global,
+    conn: &mut Connection<S>,
+) -> Result<(), Fail> {
+    let rows = read_books(alloc, conn)?;
+    is_count(rt, rows.len(), 2);
+    is_booked(rt, &rows[0], 1, 0, 500);
+    is_booked(rt, &rows[1], 1, 1, 1000);
+    Ok(())
+}
+
+#[test]
+fn founding_is_booked(rt: HostRuntime) -> Result<(), Fail> {
+    let mut conn = created(rt.alloc())?;
+    has_books(&rt, rt.alloc(), &mut conn)
+}
+
+fn has_nobody<S: Alter>(
+    rt: &impl Abort,
+    alloc: Global,
+    conn: &mut Connection<S>,
+) -> Result<(), Fail> {
+    is_count(rt, count_factions(alloc, conn)?, 0);
+    is_count(rt, count_units(alloc, conn)?, 0);
+    is_count(rt, count_has(alloc, conn)?, 0);
+    is_count(rt, count_structures(alloc, conn)?, 0);
+    is_count(rt, count_mail(alloc, conn)?, 0);
+    is_count(rt, count_reports(alloc, conn)?, 0);
+    Ok(())
+}
+
+#[test]
+fn nobody_is_there_at_founding(rt: HostRuntime) -> Result<(), Fail> {
+    let mut conn = created(rt.alloc())?;
+    has_nobody(&rt, rt.alloc(), &mut conn)
+}

@@ -1,0 +1,93 @@
+//! The small world's campaign, and stores of it. Of what is large (a world, a campaign, a connection) each function holds
+//! one and lends it, and one that works on a connection takes any store.
+ghost use Rattle.std.specs.Prelude.{◌≡◌, false, IfOk, OnOk};
+ghost use Rattle.atl_state.specs.Good.{IsGood};
+
+use super::worlds::SMALL;
+use atl_state::{Campaign, founded};
+use atl_store::{create, write_join, write_mail};
+use atl_tables::{Text, World, read_world};
+use sqlite::{Alter, Connection, MemStore};
+use std::alloc::Global;
+use std::test::Fail;
+
+fn founded_in(alloc: Global, world: &World) -> Result<Campaign, Fail>
+    ensures { IfOk result (λ campaign. IsGood world.now campaign.what) }
+{
+    Ok(founded(alloc, world, b"gm")?)
+}
+
+/// The campaign as it is founded.
+pub(crate) fn small(alloc: Global) -> Result<Campaign, Fail> {
+    let world = read_world(alloc, SMALL)?;
+    founded_in(alloc, &world)
+}
+
+/// Avalon joins and gets its first report.
+fn welcome(alloc: Global, world: &World, campaign: &mut Campaign) -> Result<(), Fail>
+    requires { IsGood world.now campaign.old.what }
+{
+    campaign.join(world, b"Avalon", b"pw", 0)?;
+    let report = Text::from_str(alloc, "A report.\n")?;
+    campaign.set_report(1, report)?;
+    Ok(())
+}
+
+fn joined_in(alloc: Global, world: &World) -> Result<Campaign, Fail> {
+    let mut campaign = founded_in(alloc, world)?;
+    welcome(alloc, world, &mut campaign)?;
+    Ok(campaign)
+}
+
+/// The campaign once Avalon has joined and has its first report.
+pub(crate) fn joined(alloc: Global) -> Result<Campaign, Fail> {
+    let world = read_world(alloc, SMALL)?;
+    joined_in(alloc, &world)
+}
+
+fn creates<S: Alter>(conn: &mut Connection<S>, campaign: &Campaign) -> Result<(), Fail>
+    ensures { OnOk result (conn.new.in_transaction ≡ false) }
+{
+    create(conn, SMALL, campaign)?;
+    Ok(())
+}
+
+/// The campaign is created as it is founded.
+fn found<S: Alter>(alloc: Global, conn: &mut Connection<S>) -> Result<(), Fail>
+    ensures { OnOk result (conn.new.in_transaction ≡ false) }
+{
+    let campaign = small(alloc)?;
+    creates(conn, &campaign)
+}
+
+/// A store of the campaign as it is founded.
+pub(crate) fn created(alloc: Global) -> Result<Connection<MemStore>, Fail>
+    ensures { IfOk result (λ conn. conn.in_transaction ≡ false) }
+{
+    let mut conn = Connection::open_in_memory(alloc)?;
+    found(alloc, &mut conn)?;
+    Ok(conn)
+}
+
+/// Avalon's joining and its mail are written.
+fn arrive<S: Alter>(conn: &mut Connection<S>, campaign: &Campaign) -> Result<(), Fail>
+    requires { conn.old.in_transaction ≡ false }
+{
+    write_join(conn, campaign, 1)?;
+    write_mail(conn, 1, b"#ATLANTIS 1")?;
+    Ok(())
+}
+
+fn visit<S: Alter>(alloc: Global, conn: &mut Connection<S>) -> Result<(), Fail>
+    requires { conn.old.in_transaction ≡ false }
+{
+    let campaign = joined(alloc)?;
+    arrive(conn, &campaign)
+}
+
+/// A store in which Avalon has joined and sent a mail.
+pub(crate) fn visited(alloc: Global) -> Result<Connection<MemStore>, Fail> {
+    let mut conn = created(alloc)?;
+    visit(alloc, &mut conn)?;
+    Ok(conn)
+}

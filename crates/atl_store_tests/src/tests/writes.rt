@@ -1,0 +1,160 @@
+//! A second creation, a joining and a mail.
+use super::compare::{is_bytes, is_count, is_number, is_text};
+use super::counts::{count_books, count_factions};
+use super::founding::is_booked;
+use super::making::{created, joined, visited};
+use atl_state::Campaign;
+use atl_store::rows::books::read_books;
+use atl_store::rows::faction::{StoredFaction, read_factions};
+use atl_store::rows::mail::read_mail;
+use atl_store::rows::report::read_reports;
+use atl_store::rows::unit::{StoredUnit, read_units};
+use atl_store::{CreateFault, create};
+use sqlite::{Alter, Connection};
+use std::alloc::Global;
+use std::process::Abort;
+use std::test::Fail;
+
+/// What is answered to a creation, in words.
+fn answered<S: Alter>(conn: &mut Connection<S>, campaign: &Campaign) -> &'static str {
+    match create(conn, "another world", campaign) {
+        Ok(()) => "created",
+        Err(CreateFault::NotEmpty) => "not empty",
+        Err(CreateFault::Store) => "store",
+        Err(CreateFault::Memory) => "memory",
+    }
+}
+
+fn creates_again<S: Alter>(
+    rt: &impl Abort,
+    alloc: Global,
+    conn: &mut Connection<S>,
+) -> Result<(), Fail> {
+    let campaign = joined(alloc)?;
+    is_text(rt, answered(conn, &campaign), "not empty");
+    Ok(())
+}
+
+fn is_spared<S: Alter>(
+    rt: &impl Abort,
+    alloc: Global,
+    conn: &mut Connection<S>,
+) -> Result<(), Fail> {
+    creates_again(rt, alloc, conn)?;
+    is_count(rt, count_factions(alloc, conn)?, 0);
+    is_count(rt, count_books(alloc, conn)?, 2);
+    Ok(())
+}
+
+#[test]
+fn a_second_creation_is_refused(rt: HostRuntime) -> Result<(), Fail> {
+    let mut conn = created(rt.alloc())?;
+    is_spared(&rt, rt.alloc(), &mut conn)
+}
+
+fn is_avalon(rt: &impl Abort, row: &StoredFaction) {
+    is_number(rt, row.number, 1);
+    is_text(rt, row.joined_as.as_str(), "Avalon");
+    is_text(rt, row.name.as_str(), "Avalon");
+    is_text(rt, row.pass.as_str(), "pw");
+    is_number(rt, row.gone, 0);
+}
+
+fn has_faction<S: Alter>(
+    rt: &impl Abort,
+    alloc: Global,
+    conn: &mut Connection<S>,
+) -> Result<(), Fail> {
+    let rows = read_factions(alloc, conn)?;
+    is_count(rt, rows.len(), 1);
+    is_avalon(rt, &rows[0]);
+    Ok(())
+}
+
+#[test]
+fn a_faction_is_kept(rt: HostRuntime) -> Result<(), Fail> {
+    let mut conn = visited(rt.alloc())?;
+    has_faction(&rt, rt.alloc(), &mut conn)
+}
+
+fn has_books<S: Alter>(
+    rt: &impl Abort,
+    alloc: Global,
+    conn: &mut Connection<S>,
+) -> Result<(), Fail> {
+    let rows = read_books(alloc, conn)?;
+    is_count(rt, rows.len(), 4);
+    is_booked(rt, &rows[2], 2, 0, 1000);
+    is_booked(rt, &rows[3], 2, 1, 1);
+    Ok(())
+}
+
+#[test]
+fn joining_is_booked(rt: HostRuntime) -> Result<(), Fail> {
+    let mut conn = visited(rt.alloc())?;
+    has_books(&rt, rt.alloc(), &mut conn)
+}
+
+fn is_newcomer(rt: &impl Abort, row: &StoredUnit) {
+    is_number(rt, row.number, 1);
+    is_number(rt, row.faction, 1);
+    is_text(rt, row.name.as_str(), "Unit 1");
+    is_number(rt, row.region, 1);
+    is_number(rt, row.structure, 0);
+    is_number(rt, row.men, 1);
+    is_number(rt, row.money, 1000);
+    is_number(rt, row.guard, 0);
+}
+
+fn has_unit<S: Alter>(
+    rt: &impl Abort,
+    alloc: Global,
+    conn: &mut Connection<S>,
+) -> Result<(), Fail> {
+    let rows = read_units(alloc, conn)?;
+    is_count(rt, rows.len(), 1);
+    is_newcomer(rt, &rows[0]);
+    Ok(())
+}
+
+#[test]
+fn a_unit_is_kept(rt: HostRuntime) -> Result<(), Fail> {
+    let mut conn = visited(rt.alloc())?;
+    has_unit(&rt, rt.alloc(), &mut conn)
+}
+
+fn has_report<S: Alter>(
+    rt: &impl Abort,
+    alloc: Global,
+    conn: &mut Connection<S>,
+) -> Result<(), Fail> {
+    let rows = read_reports(alloc, conn)?;
+    is_count(rt, rows.len(), 1);
+    is_number(rt, rows[0].faction, 1);
+    is_text(rt, rows[0].text.as_str(), "A report.\n");
+    Ok(())
+}
+
+#[test]
+fn a_report_is_kept(rt: HostRuntime) -> Result<(), Fail> {
+    let mut conn = visited(rt.alloc())?;
+    has_report(&rt, rt.alloc(), &mut conn)
+}
+
+fn has_mail<S: Alter>(
+    rt: &impl Abort,
+    alloc: Global,
+    conn: &mut Connection<S>,
+) -> Result<(), Fail> {
+    let rows = read_mail(alloc, conn)?;
+    is_count(rt, rows.len(), 1);
+    is_number(rt, rows[0].faction, 1);
+    is_bytes(rt, rows[0].text.as_slice(), b"#ATLANTIS 1");
+    Ok(())
+}
+
+#[test]
+fn a_mail_is_kept(rt: HostRuntime) -> Result<(), Fail> {
+    let mut conn = visited(rt.alloc())?;
+    has_mail(&rt, rt.alloc(), &mut conn)
+}
