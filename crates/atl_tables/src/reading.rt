@@ -68,13 +68,18 @@ fn tables(alloc: Global, document: &Table) -> Result<Tables, WorldFault>
     let rules = rules(alloc, document)?;
     let terrains = list::<TerrainDraft>(alloc, MOST_TERRAINS, "terrain", document)?;
     let things = read_things(alloc, document)?;
+    let Things {
+        items,
+        skills,
+        kinds,
+    } = things;
     let regions = list::<RegionDraft>(alloc, MOST_REGIONS, "region", document)?;
     Ok(Tables {
         rules,
         terrains,
-        items: things.items,
-        skills: things.skills,
-        kinds: things.kinds,
+        items,
+        skills,
+        kinds,
         regions,
     })
 }
