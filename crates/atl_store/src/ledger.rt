@@ -9,14 +9,14 @@ ghost use Rattle.atl_store.specs.Inside.{Inside, HasTables, PutsRows};
 ghost use Rattle.atl_store.specs.Arriving.{Settles};
 
 use crate::rows::books::{BooksRow, drop_books, put_books};
-use atl_state::{Campaign, Entry, Thing};
+use atl_state::{Campaign, ENTRY_COUNT, Entry, Thing};
 use sqlite::{Alter, Error, ErrorCode, Transaction};
 
 /// The number of the first item. Money has 0, and people have 1.
 pub(crate) const FIRST_ITEM: usize = 2;
 
 /// All entries, in the order of their numbers.
-const ENTRIES: [Entry; 13] = [
+const ENTRIES: [Entry; ENTRY_COUNT] = [
     Entry::Founding,
     Entry::Joining,
     Entry::Income,

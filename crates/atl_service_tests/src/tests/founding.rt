@@ -2,7 +2,7 @@
 use super::compare::is_text;
 use super::making::begun;
 use super::worlds::SMALL;
-use atl_service::{Cause, found};
+use atl_service::{Cause, Refused, found};
 use sqlite::{Alter, Connection};
 use std::alloc::Global;
 use std::process::Abort;
@@ -32,7 +32,7 @@ fn is_refused<S: Alter + Drop>(
             service.end();
             assert!(rt; false);
         }
-        Err(refused) => is_text(rt, told(&refused.why), words),
+        Err(Refused { why, conn: _ }) => is_text(rt, told(&why), words),
     }
 }
 
