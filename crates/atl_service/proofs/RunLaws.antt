@@ -10,10 +10,11 @@ use Rattle.atl_store.proofs.WorldTextLaws.{world_text_is}
 use Rattle.atl_service.specs.declared.command.Command.{Command}
 use Rattle.atl_service.specs.declared.command.Answer.{Answer}
 use Rattle.atl_service.specs.declared.command.Answer.TheVariants.{Joined, Mailed, Text, Refused, Fault}
-use Rattle.atl_service.specs.declared.command.Fault.TheVariants.{Memory, Store}
+use Rattle.atl_store.specs.declared.fault.WriteFault.{WriteFault}
+use Rattle.atl_store.specs.declared.fault.WriteFault.TheVariants as write
 use Rattle.atl_store.specs.Keeps.{HoldsCampaign}
 use Rattle.atl_service.specs.Engine.{Engine, text_in, Stands}
-use Rattle.atl_service.specs.Answering.{Answers, GivesUp, LeavesIdle}
+use Rattle.atl_service.specs.Answering.{Answers, GivesUp, LeavesIdle, of_writing}
 use Rattle.atl_service.specs.Runs.{Runs, RunsOpen, Closes}
 
 module _ {S : Type 0} (g : Ghosts S) where
@@ -26,7 +27,7 @@ module _ {S : Type 0} (g : Ghosts S) where
     Answered = Answers g w c conn command c' conn'
 
     holding : (answer : Answer) → Stands g conn w c true → LeavesIdle g conn conn' → Answered answer → HoldsCampaign g conn' (text_in g conn) c'
-    holding answer stands leaves done clean = done.tables clean (text_in g conn) (stands.tables refl (leaves.clean clean))
+    holding answer stands leaves done clean = done.tables clean (text_in g conn) (stands.tables refl (leaves.later.clean clean))
 
     -- the service stands after a command that was answered
     stands_open : (answer : Answer) → Stands g conn w c true → LeavesIdle g conn conn' → Answered answer → Stands g conn' w c' true
@@ -35,7 +36,7 @@ module _ {S : Type 0} (g : Ghosts S) where
       good = λ up. done.good;
       balances = λ up. done.balances (stands.balances refl);
       tables = λ up clean. let kept = holding answer stands leaves done clean in subst (λ t. Keeps (state g conn') t c') (sym (world_text_is (state g conn') (text_in g conn) c' kept)) kept;
-      text = λ up clean. ap world_of (world_text_is (state g conn') (text_in g conn) c' (holding answer stands leaves done clean)) ∙ stands.text refl (leaves.clean clean);
+      text = λ up clean. ap world_of (world_text_is (state g conn') (text_in g conn) c' (holding answer stands leaves done clean)) ∙ stands.text refl (leaves.later.clean clean);
     }
 
     pub stands_after : (answer : Answer) (is_open : Bool) → is_open ≡ true → Stands g conn w c is_open → LeavesIdle g conn conn' → Answered answer → Stands g conn' w c' is_open
@@ -64,12 +65,12 @@ module _ {S : Type 0} (g : Ghosts S) where
     GaveUp = GivesUp g w c conn command conn'
 
     closes_open : Stands g conn w c true → LeavesIdle g conn conn' → GaveUp → Closes g c (shown conn w c true) command (shown conn' w c' false)
-    closes_open stands leaves gave_up = record { same = refl; tables = λ clean. gave_up clean (text_in g conn) (stands.tables refl (leaves.clean clean)) }
+    closes_open stands leaves gave_up = record { same = refl; tables = λ clean. gave_up clean (text_in g conn) (stands.tables refl (leaves.later.clean clean)) }
 
-    pub closes_for_memory : (old : Engine S) (is_open : Bool) → shown conn w c is_open ≡ old → is_open ≡ true → Stands g conn w c is_open → LeavesIdle g conn conn' → GaveUp → Runs g old command (Fault Memory) (shown conn' w c' false)
-    closes_for_memory old true seen up stands leaves gave_up = subst (λ e. Runs g e command (Fault Memory) (shown conn' w c' false)) seen (closes_open stands leaves gave_up)
-    closes_for_memory old false seen up stands leaves gave_up = cc
-
-    pub closes_for_store : (old : Engine S) (is_open : Bool) → shown conn w c is_open ≡ old → is_open ≡ true → Stands g conn w c is_open → LeavesIdle g conn conn' → GaveUp → Runs g old command (Fault Store) (shown conn' w c' false)
-    closes_for_store old true seen up stands leaves gave_up = subst (λ e. Runs g e command (Fault Store) (shown conn' w c' false)) seen (closes_open stands leaves gave_up)
-    closes_for_store old false seen up stands leaves gave_up = cc
+    pub closes_for : (old : Engine S) (fault : WriteFault) (is_open : Bool) → shown conn w c is_open ≡ old → is_open ≡ true → Stands g conn w c is_open → LeavesIdle g conn conn' → GaveUp → Runs g old command (Fault (of_writing fault)) (shown conn' w c' false)
+    closes_for old fault true seen up stands leaves gave_up = subst (λ e. Runs g e command (Fault (of_writing fault)) (shown conn' w c' false)) seen (closes fault)
+      where
+        closes : (fault : WriteFault) → RunsOpen g c (shown conn w c true) command (Fault (of_writing fault)) (shown conn' w c' false)
+        closes write.Memory = closes_open stands leaves gave_up
+        closes write.Store = closes_open stands leaves gave_up
+    closes_for old fault false seen up stands leaves gave_up = cc

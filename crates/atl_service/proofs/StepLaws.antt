@@ -1,14 +1,22 @@
 -- The step of a command Join, by what `join` answered, and what the store is to write of it.
-use Rattle.std.proofs.Common.{◌≡◌, ℕ, List, Bool, true, false, cond, not, Ok, Err, refl, sym, ap}
+use Rattle.std.proofs.Common.{◌≡◌, ◌+◌, ◌-◌, ℕ, pos, List, Bool, true, false, cond, not, Option, Some, IsSome, Ok, Err, refl, sym, ap, ◌∙◌, subst, arith}
+use Rattle.std.specs.FinMap.{get, insert}
 use Rattle.atl_tables.specs.Names.{name_ok, pass_ok}
 use Rattle.atl_tables.specs.Planet.{Planet}
 use Rattle.atl_state.specs.declared.records.JoinFault.TheVariants.{NameTaken, Full}
 use Rattle.atl_state.specs.State.{State, with_report}
 use Rattle.atl_state.specs.Good.{IsGood}
-use Rattle.atl_state.specs.Joining.{join_of, joined, name_taken, is_full}
+use Rattle.atl_state.specs.Joining.{join_of, joined, name_taken, is_full, new_faction, first_unit}
+use Rattle.atl_state.specs.Founding.{things_of}
+use Rattle.atl_state.specs.Books.{with_booked}
+use Rattle.atl_state.specs.declared.books.Entry.TheVariants.{Joining}
+use Rattle.atl_state.specs.declared.books.Thing.TheVariants.{Money, People}
+use Rattle.atl_state.proofs.BookLaws.{IsGrid-with_booked}
 use Rattle.atl_report.specs.Report.{report_of}
 use Rattle.atl_report.specs.Sight.{view_of}
 use Rattle.atl_store.specs.Keeps.{IsJoining}
+use Rattle.atl_store.specs.Arriving.{HasArrival}
+use Rattle.atl_store.proofs.ArriveLaws.{get_inserted}
 use Rattle.atl_service.specs.declared.command.Command.TheVariants.{Join}
 use Rattle.atl_service.specs.declared.command.Answer.TheVariants.{Joined, Refused}
 use Rattle.atl_service.specs.declared.command.Refusal.TheVariants as why
@@ -40,6 +48,36 @@ accepted : {S : Type 0} (taken full : Bool) (x y : S) → cond taken (Err NameTa
 accepted true full x y e = cc
 accepted false true x y e = cc
 accepted false false x y e = cc
+
+-- the faction, its unit and its report are there
+is_there : {V : Type 0} (o : Option V) (v : V) → o ≡ Some v → IsSome o
+is_there o v is = subst IsSome (sym is) tt
+
+arrival : (w : Planet) (name pass : List ℕ) (word : ℕ) (c : State) → IsGood w c → HasArrival (reported w (joined w name pass word c) c.next_faction) c.next_faction
+unfolding joined
+arrival w name pass word c good =
+    let member = new_faction c.next_faction name pass in
+    let band = first_unit w word c in
+    let start = pos w.rules.start_money in
+    let things = things_of w in
+    let grid = IsGrid-with_booked things (with_booked c.books Joining Money start) Joining People (pos 1) (IsGrid-with_booked things c.books Joining Money start good.grid) in
+    let back : c.next_unit + 1 - 1 ≡ c.next_unit = omega arith in
+    let report = report_of w (view_of (joined w name pass word c) c.next_faction) in
+    record {
+      next = omega arith;
+      things = omega (arith, grid.rows);
+      faction = is_there _ member (get_inserted c.factions c.next_faction member);
+      unit = is_there _ band (ap (get (insert c.units c.next_unit band)) back ∙ get_inserted c.units c.next_unit band);
+      report = is_there _ report (get_inserted c.reports c.next_faction report);
+    }
+
+pub arrives : (w : Planet) (name pass : List ℕ) (word : ℕ) (c d : State) (n m : ℕ) → IsGood w c → join_of w name pass word c ≡ Ok (d, (n, m)) → HasArrival (reported w d n) n
+unfolding join_of
+arrives w name pass word c d n m good e =
+    let is : (joined w name pass word c, (c.next_faction, c.next_unit)) ≡ (d, (n, m)) = accepted (name_taken c name) (is_full c) _ _ e in
+    let same : joined w name pass word c ≡ d = ap (λ p. p.0) is in
+    let number : c.next_faction ≡ n = ap (λ p. p.1.0) is in
+    subst (λ (s : State). HasArrival (reported w s n) n) same (subst (λ k. HasArrival (reported w (joined w name pass word c) k) k) number (arrival w name pass word c good))
 
 -- with its first report it is one that the store can write
 pub joining_is : (w : Planet) (name pass : List ℕ) (word : ℕ) (c d : State) (n m : ℕ) → IsGood w c → join_of w name pass word c ≡ Ok (d, (n, m)) → IsJoining c n (reported w d n)

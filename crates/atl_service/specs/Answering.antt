@@ -1,5 +1,5 @@
 -- What answering one command does while the service is open. `before` and `old` are the campaign and the connection before it, `after` and `new` those behind it.
-use Rattle.std.specs.Prelude.{◌≡◌, ◌≤◌, ℕ, List, false, ⊤}
+use Rattle.std.specs.Prelude.{◌≡◌, ℕ, List, false, ⊤}
 use Rattle.sqlite_trees.specs.declared.store.Store.{Ghosts}
 use Rattle.sqlite.specs.Held.{Held, state}
 use Rattle.sqlite.specs.State.{HasCleanDisk}
@@ -9,12 +9,16 @@ use Rattle.atl_orders.specs.declared.fault.MailFault.TheVariants as mail
 use Rattle.atl_state.specs.State.{State as Campaign}
 use Rattle.atl_state.specs.Good.{IsGood}
 use Rattle.atl_state.specs.Totals.{Balances}
-use Rattle.atl_store.specs.Keeps.{Keeps, Stops}
+use Rattle.atl_store.specs.Keeps.{Keeps, Stops, IsLater, SparesOthers}
+use Rattle.atl_store.specs.declared.fault.WriteFault.{WriteFault}
+use Rattle.atl_store.specs.declared.fault.WriteFault.TheVariants as write
 use Rattle.atl_service.specs.declared.answering.Unkept.{Unkept}
 use Rattle.atl_service.specs.declared.answering.Unkept.TheVariants as unkept
 use Rattle.atl_service.specs.declared.command.Command.{Command}
 use Rattle.atl_service.specs.declared.command.Answer.{Answer}
 use Rattle.atl_service.specs.declared.command.Answer.TheVariants.{Joined, Mailed, Text, Refused, Fault}
+use Rattle.atl_service.specs.declared.command.Fault.{Fault as Failure}
+use Rattle.atl_service.specs.declared.command.Fault.TheVariants as fault
 use Rattle.atl_service.specs.declared.command.Refusal.TheVariants as why
 use Rattle.atl_service.specs.Step.{step}
 
@@ -44,11 +48,16 @@ pub record Answers {S : Type 0} (g : Ghosts S) (w : Planet) (before : Campaign) 
 abbrev pub GivesUp : {S : Type 0} → Ghosts S → Planet → Campaign → Held S → Command → Held S → Type 0
 GivesUp g w before old command new = HasCleanDisk (state g new) → (text : List ℕ) → Keeps (state g old) text before → Stops (state g old).faults (state g new) text before (step w before command).0
 
--- answered or not, the connection is in no transaction, and a disk that is clean now was clean before
+-- answered or not, the connection is in no transaction, no failure of its disk is forgotten, and other tables stay as they are
 pub record LeavesIdle {S : Type 0} (g : Ghosts S) (old new : Held S) : Type 0 where
   pub idle : new.in_transaction ≡ false
-  pub clean : HasCleanDisk (state g new) → HasCleanDisk (state g old)
-  pub counts : (state g old).faults ≤ (state g new).faults
+  pub later : IsLater (state g old) (state g new)
+  pub others : HasCleanDisk (state g new) → SparesOthers (state g old) (state g new)
+
+-- what is told of a fault of the store
+abbrev pub of_writing : WriteFault → Failure
+of_writing write.Memory = fault.Memory
+of_writing write.Store = fault.Store
 
 -- a mailing that is not kept is refused by the step, but for want of memory
 abbrev pub Denies : Planet → Campaign → Command → Unkept → Type 0

@@ -11,20 +11,22 @@ use Rattle.atl_tables.specs.declared.fault.WorldFault.TheVariants as world
 use Rattle.atl_state.specs.State.{State as Campaign}
 use Rattle.atl_state.specs.Founding.{founded_of}
 use Rattle.atl_store.specs.Making.{has_campaign}
-use Rattle.atl_store.specs.Keeps.{HoldsCampaign, Spares, MayFound}
+use Rattle.atl_store.specs.Keeps.{HoldsCampaign, IsLater, Spares, MayFound}
 use Rattle.atl_store.specs.declared.fault.CreateFault.{CreateFault}
 use Rattle.atl_store.specs.declared.fault.CreateFault.TheVariants as create
 use Rattle.atl_service.specs.declared.command.Cause.{Cause}
 use Rattle.atl_service.specs.declared.command.Cause.TheVariants.{World as BadWorld, BadPassText, NotEmpty, Store, Memory}
 use Rattle.atl_service.specs.Engine.{Engine, text_in}
 
--- the service is open, with the world of the text and the founded campaign, and its tables hold the rows of both
-pub record Founds {S : Type 0} (g : Ghosts S) (text pass : List ℕ) (made : Engine S) : Type 0 where
+-- where no table campaign was there, the service is open, with the world of the text and the founded campaign, and its tables hold the rows of both
+pub record Founds {S : Type 0} (g : Ghosts S) (old : Held S) (text pass : List ℕ) (made : Engine S) : Type 0 where
+  pub fresh : has_campaign old.schema ≡ false
   pub world : world_of text ≡ Ok made.world
   pub pass_is_good : pass_ok pass ≡ true
   pub campaign : made.campaign ≡ Some (founded_of made.world pass)
   pub tables : HoldsCampaign g made.conn text (founded_of made.world pass)
   pub text_is : HasCleanDisk (state g made.conn) → text_in g made.conn ≡ text
+  pub later : IsLater (state g old) (state g made.conn)
 
 -- the world text has no fault
 abbrev pub IsWorldText : List ℕ → Type 0
@@ -38,11 +40,24 @@ IsCause text pass is_there NotEmpty = IsWorldText text × (pass_ok pass ≡ true
 IsCause text pass is_there Store = IsWorldText text × (pass_ok pass ≡ true) × (is_there ≡ false)
 IsCause text pass is_there Memory = ⊤
 
--- The founding is refused. The tables are as they were, and a crash leaves what it left before or the founded campaign.
-pub record RefusesFounding {S : Type 0} (g : Ghosts S) (old : Held S) (text pass : List ℕ) (why : Cause) (new : Held S) : Type 0 where
-  pub cause : IsCause text pass (has_campaign old.schema) why
+-- The database could not be written, or there was no memory: while the connection is open its tables are as they were, and a crash leaves what it left before or the founded campaign.
+pub record FailsToFound {S : Type 0} (g : Ghosts S) (old : Held S) (text pass : List ℕ) (new : Held S) : Type 0 where
   pub tables : HasCleanDisk (state g new) → Spares (state g old) (state g new)
   pub crash : HasCleanDisk (state g new) → (w : Planet) → world_of text ≡ Ok w → MayFound (state g old) text (founded_of w pass) (state g new)
+
+-- a founding that a check refuses changes nothing at all
+abbrev pub Leaves : {S : Type 0} → Ghosts S → Held S → List ℕ → List ℕ → Held S → Cause → Type 0
+Leaves g old text pass new (BadWorld fault) = new ≡ old
+Leaves g old text pass new BadPassText = new ≡ old
+Leaves g old text pass new NotEmpty = new ≡ old
+Leaves g old text pass new Store = FailsToFound g old text pass new
+Leaves g old text pass new Memory = FailsToFound g old text pass new
+
+-- The founding is refused by the first check that fails.
+pub record RefusesFounding {S : Type 0} (g : Ghosts S) (old : Held S) (text pass : List ℕ) (why : Cause) (new : Held S) : Type 0 where
+  pub cause : IsCause text pass (has_campaign old.schema) why
+  pub leaves : Leaves g old text pass new why
+  pub later : IsLater (state g old) (state g new)
 
 -- the world of the text, and the campaign that is founded in it
 pub record Prepares (text pass : List ℕ) (w : Planet) (c : Campaign) : Type 0 where

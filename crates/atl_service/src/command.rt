@@ -2,9 +2,10 @@
 ghost use Rattle.std.specs.Prelude.{◌≡◌, ◌≤◌};
 ghost use Rattle.atl_service.specs.Numbers.{number_of};
 ghost use Rattle.atl_service.specs.Found.{of_world, of_creation};
+ghost use Rattle.atl_service.specs.Answering.{of_writing};
 
 use atl_orders::FaultyLine;
-use atl_store::CreateFault;
+use atl_store::{CreateFault, WriteFault};
 use atl_tables::{Sequence, Text, WorldFault};
 use sqlite::{Alter, Connection};
 use std::alloc::AllocError;
@@ -108,6 +109,17 @@ pub enum Fault {
     Store,
     /// The service is closed.
     Closed,
+}
+
+impl From<WriteFault> for Fault {
+    ghost from_gives = { λ fault told. told ≡ of_writing fault };
+
+    fn from(fault: WriteFault) -> Fault {
+        match fault {
+            WriteFault::Memory => Fault::Memory,
+            WriteFault::Store => Fault::Store,
+        }
+    }
 }
 
 /// The answer to a command.

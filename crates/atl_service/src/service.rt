@@ -10,7 +10,7 @@ use crate::answering::answered;
 use crate::command::{Answer, Cause, Command, Fault, Refused};
 use crate::founding::prepared;
 use atl_state::Campaign;
-use atl_store::{WriteFault, create};
+use atl_store::create;
 use atl_tables::World;
 use sqlite::{Alter, Connection};
 use std::alloc::{AllocError, Global};
@@ -54,7 +54,7 @@ impl<S: Alter> Model for Service<S> {
 impl<S: Alter> Service<S> {
     ghost use Rattle.atl_state.specs.Good.{IsGood};
     ghost use Rattle.atl_state.specs.Totals.{Balances};
-    ghost use Rattle.atl_store.specs.Keeps.{HoldsCampaign};
+    ghost use Rattle.atl_store.specs.Keeps.{HoldsCampaign, IsLater, SparesOthers};
     ghost use Rattle.atl_service.specs.Engine.{text_in};
     ghost use Rattle.atl_service.specs.Runs.{Runs, RunsAll, HeadlineAt};
 
@@ -62,8 +62,8 @@ impl<S: Alter> Service<S> {
     /// Store the tables are as before, the service is closed, and every command is answered Closed and changes nothing.
     pub fn run(&mut self, command: &Command) -> Answer
         ensures runs { Runs S.Store self.old command.now result self.new }
-        ensures clean { HasCleanDisk (state S.Store self.new.conn) → HasCleanDisk (state S.Store self.old.conn) }
-        ensures counts { (state S.Store self.old.conn).faults ≤ (state S.Store self.new.conn).faults }
+        ensures later { IsLater (state S.Store self.old.conn) (state S.Store self.new.conn) }
+        ensures others { HasCleanDisk (state S.Store self.new.conn) → SparesOthers (state S.Store self.old.conn) (state S.Store self.new.conn) }
         ensures tables { IfSome self.new.campaign (λ c. HoldsCampaign S.Store self.new.conn (text_in S.Store self.new.conn) c) }
     {
         if !self.is_open {
@@ -77,13 +77,9 @@ impl<S: Alter> Service<S> {
             command,
         ) {
             Ok(answer) => answer,
-            Err(WriteFault::Memory) => {
+            Err(fault) => {
                 self.is_open = false;
-                Answer::Fault(Fault::Memory)
-            }
-            Err(WriteFault::Store) => {
-                self.is_open = false;
-                Answer::Fault(Fault::Store)
+                Answer::Fault(Fault::from(fault))
             }
         }
     }
@@ -142,14 +138,15 @@ impl<S: Alter> Service<S> {
 
 /// Founds a campaign by a world text and the moderator's pass text, in a database without tables. The cause of a refusal
 /// is the first check that fails: the world's fault, the pass text, a campaign that is there, the database; or Memory at
-/// any of them.
+/// any of them. After the first three nothing is changed; after the others the tables are as they were while the connection
+/// is open, and a crash leaves what it left before or the founded campaign.
 pub fn found<S: Alter>(
     alloc: Global,
     mut conn: Connection<S>,
     world_text: &str,
     pass: &[u8],
 ) -> Result<Service<S>, Refused<S>>
-    ensures ok { IfOk result (Founds S.Store world_text.now pass.now) }
+    ensures ok { IfOk result (Founds S.Store conn world_text.now pass.now) }
     ensures err { IfErr result (λ r. RefusesFounding S.Store conn world_text.now pass.now r.why r.conn) }
 {
     let (world, campaign) = match prepared(alloc, world_text, pass) {

@@ -1,6 +1,6 @@
 -- The limits of a campaign.
-use Rattle.std.specs.Prelude.{ℕ}
-use Rattle.atl_tables.specs.Limits.{most_amount}
+use Rattle.std.specs.Prelude.{◌+◌, ℕ}
+use Rattle.atl_tables.specs.Limits.{most_amount, most_items}
 
 -- the month last closed is at most this one
 abbrev pub last_month : ℕ
@@ -25,3 +25,7 @@ holding_limit = most_amount
 -- so many entries of the books
 abbrev pub entry_count : ℕ
 entry_count = 13
+
+-- so many things in the books: money, people and the items
+abbrev pub most_things : ℕ
+most_things = 2 + most_items

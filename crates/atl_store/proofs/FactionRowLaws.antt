@@ -1,5 +1,5 @@
 -- What the statements on the table faction mean, and what they do.
-use Rattle.std.proofs.Common.{IsTrue, ◌≡◌, ℕ, pos, Bool, if◌then◌else◌, true, List, [], ◌∷◌, codes, Ok, refl, sym, ap, ◌∙◌, subst, inl, inr}
+use Rattle.std.proofs.Common.{IsTrue, ◌≡◌, ℕ, pos, Bool, if◌then◌else◌, true, List, [], ◌∷◌, codes, Some, Ok, refl, sym, ap, ◌∙◌, subst, inl, inr}
 use Rattle.sqlite_tied.specs.Compute.{everything}
 use Rattle.sqlite.specs.declared.types.Value.TheVariants.{Null, Text}
 use Rattle.sqlite.specs.Command.TheVariants.{InsertOr}
@@ -19,11 +19,14 @@ use Rattle.sqlite_rules.specs.Edit.{with_rowid}
 use Rattle.sqlite_rules.specs.declared.error.Rowids.TheVariants.{Chosen}
 use Rattle.sqlite_rules.proofs.ListLemmas.{all_has}
 use Rattle.atl_store.specs.Sets.{visible}
-use Rattle.atl_store.specs.Tables.{faction_table, nine_tables}
+use Rattle.atl_store.specs.Tables.{faction_table, nine_and}
 use Rattle.atl_store.specs.Shown.{int, flag, faction_row}
+use Rattle.sqlite.specs.Table.{Table}
+use Rattle.sqlite_schema.specs.declared.schema.Index.{Index}
 use Rattle.atl_store.specs.Inside.{Inside, HasTables, Puts}
 use Rattle.atl_store.proofs.UpsertLaws.{Upserted, update_query, clause_on}
 use Rattle.atl_store.proofs.StatementLaws.{upserting}
+use Rattle.atl_store.proofs.CarryLaws.{unlinked, none_share, sound_under, done_with}
 use Rattle.atl_store.proofs.MakeLaws.{did, upserts_make}
 use Rattle.atl_store.proofs.Terms.{cast_null, cast_int, head_is, by_number, one_number}
 
@@ -36,13 +39,13 @@ terms = col 0 0 ∷ lit Null ∷ col 0 1 ∷ col 0 2 ∷ col 0 3 ∷ col 0 4 ∷
 abbrev project : List Term
 project = col 1 0 ∷ lit Null ∷ col 0 1 ∷ col 0 2 ∷ col 0 3 ∷ col 0 4 ∷ []
 
-put_is : command_of (understood nine_tables put_faction) ≡ InsertOr 1 Abort (Values terms 6) (clause_on (0 ∷ []) (record { lets = []; body = update_query 1 5 project }) ∷ [])
+put_is : (more : List Table) (indexes : List Index) → command_of (understood (nine_and more indexes) put_faction) ≡ InsertOr 1 Abort (Values terms 6) (clause_on (0 ∷ []) (record { lets = []; body = update_query 1 5 project }) ∷ [])
 unfolding understood everything
-put_is = refl
+put_is more indexes = refl
 
-put_plain : IsPlain (understood nine_tables put_faction)
+put_plain : (more : List Table) (indexes : List Index) → IsPlain (understood (nine_and more indexes) put_faction)
 unfolding understood everything
-put_plain = (refl, refl)
+put_plain more indexes = (refl, refl)
 
 puts_inside : (old new : State) (number : ℕ) (joined_as : List ℕ) (name : List ℕ) (pass : List ℕ) (gone : Bool) (count : ℕ) → IsTrue old.in_transaction → ExecutesInside 0 put_faction (faction_row number joined_as name pass gone) old new (Ok count)
     → Inside HasTables (Puts faction_table 1 (faction_row number joined_as name pass gone)) old new
@@ -50,23 +53,26 @@ unfolding first_key
 puts_inside old new number joined_as name pass gone count inside ran = (
   ran.1.mode ∙ sym inside,
   λ has.
+      let schema = nine_and has.nine.tables has.nine.indexes in
+      let sound = sound_under old.now has in
+      let none = unlinked has.nine.tables has.nine.indexes 1 has.nine.free in
       let v = faction_row number joined_as name pass gone in
       let src = int number ∷ Null ∷ Text joined_as ∷ Text name ∷ Text pass ∷ flag gone ∷ [] in
-      let w = runs_as put_faction v old new nine_tables has.schema _ put_is put_plain count ran.0 in
-      let keyed = has.sound.keyed faction_table (inr (inl refl)) in
-      let up = upserting nine_tables 1 _ _ _ _ _ _ 1 refl (λ olds news. refl) old.step_limit v (0 ∷ []) 5 project (λ db. refl) (statement_of put_faction (understood nine_tables put_faction)) terms 6 src
-      old.now.trees _ keyed (λ r there. refl) refl (did nine_tables old new _ _ v count has.schema w) in
+      let w = runs_as put_faction v old new schema has.nine.is _ (put_is has.nine.tables has.nine.indexes) (put_plain has.nine.tables has.nine.indexes) count ran.0 in
+      let keyed = sound.keyed faction_table (inr (inl refl)) in
+      let up = upserting schema 1 _ _ _ _ _ _ 1 refl none old.step_limit v (0 ∷ []) 5 project (λ db. refl) (statement_of put_faction (understood schema put_faction)) terms 6 src
+      old.now.trees _ keyed (λ r there. refl) refl (did schema old new _ _ v count has.nine.is w) in
       let casted : cast_row faction_table src ≡ src = rw (cast_int (pos number), cast_int (if gone then pos 1 else pos 0), cast_null) refl in
       let made : with_rowid Chosen (old.now.trees 1) (cast_row faction_table src) ≡ src = ap (with_rowid Chosen (old.now.trees 1)) casted in
       let are_ints : (x : Row) → Has (old.now.trees 1) x → is_int (rowid x) ≡ true = λ x there. all_has _ (old.now.trees 1) x keyed.ints there in
-      let makes = upserts_make nine_tables faction_table 1 (λ olds news. refl) old.step_limit v (0 ∷ []) 5 project (λ db. refl) src v old.now new.now
-      (subst (λ k. Upserted nine_tables faction_table (λ olds news. refl) old.step_limit v (0 ∷ []) 5 project (λ db. refl) k old.now.trees new.now.trees) made up.0)
+      let makes = upserts_make schema faction_table 1 none old.step_limit v (0 ∷ []) 5 project (λ db. refl) src v old.now new.now
+      (subst (λ k. Upserted schema faction_table none old.step_limit v (0 ∷ []) 5 project (λ db. refl) k old.now.trees new.now.trees) made up.0)
       (ap (visible faction_table) casted)
       (λ r there same. rw (head_is _ _ _ _ same, cast_int (pos number), cast_int (if gone then pos 1 else pos 0)) refl)
-      (λ x there. by_number (rowid x) number (are_ints x there))
+      (λ x there. by_number (rowid x) number _ (none_share faction_table (Some (0 ∷ [])) src x has.nine.indexes (λ i there. has.nine.plain i faction_table there (inr (inl refl)))) (are_ints x there))
       (λ x r one two same. one_number _ _ same)
-      (inr (inl refl)) has.sound w.sound up.1 in
-      (makes, record { schema = makes.schema_is; sound = makes.sound }),
+      (inr (inl refl)) sound w.sound up.1 in
+      done_with faction_table old.now new.now has (inr (inl refl)) _ _ (λ did. did) makes,
 )
 
 -- the parameters are shown to be the row

@@ -14,7 +14,7 @@ use Rattle.sqlite_rules.proofs.ListLemmas.{some_from}
 use Rattle.atl_state.specs.State.{State as Campaign}
 use Rattle.atl_state.specs.declared.records.Unit.{Unit}
 use Rattle.atl_store.specs.Sets.{Set, Is, put, rows_in, visible}
-use Rattle.atl_store.specs.Tables.{campaign_table, faction_table, region_table, unit_table, has_table, structure_table, mail_table, report_table, books_table, nine_tables}
+use Rattle.atl_store.specs.Tables.{campaign_table, faction_table, region_table, unit_table, has_table, structure_table, mail_table, report_table, books_table, all_tables}
 use Rattle.atl_store.specs.Shown.{mail_row, report_row}
 use Rattle.atl_store.specs.Rows.{head_of, campaign_line, faction_line, region_line, unit_line, structure_line, RowsOf, HasRowsOf, BooksRowsOf, lines_of, Holds}
 use Rattle.atl_store.specs.Lines.{all_goods_lines, things_lines}
@@ -30,7 +30,7 @@ use Rattle.atl_store.proofs.WholeLaws.{inside_then, inside_weaker}
 -- ---- one table
 
 abbrev SparesOthers : Table → Database → Database → Type 0
-SparesOthers t a b = (x : Table) → Has nine_tables.tables x → x.tree ≢ t.tree → b.trees x.tree ≡ a.trees x.tree
+SparesOthers t a b = (x : Table) → Has all_tables x → x.tree ≢ t.tree → b.trees x.tree ≡ a.trees x.tree
 
 abbrev FillsOne : Table → Set → Database → Database → Type 0
 FillsOne t S a b = rows_in t a.trees ≡ [] → Is (rows_in t b.trees) S × SparesOthers t a b
@@ -53,9 +53,9 @@ head_fills c text a b puts none = let one = puts.first none in (one_row (rows_in
 
 -- ---- three tables, one after another
 
-module _ (t u v : Table) (lt : Has nine_tables.tables t) (lu : Has nine_tables.tables u) (lv : Has nine_tables.tables v) (ut : u.tree ≢ t.tree) (vt : v.tree ≢ t.tree) (vu : v.tree ≢ u.tree) (tu : t.tree ≢ u.tree) (tv : t.tree ≢ v.tree) (uv : u.tree ≢ v.tree) where
+module _ (t u v : Table) (lt : Has all_tables t) (lu : Has all_tables u) (lv : Has all_tables v) (ut : u.tree ≢ t.tree) (vt : v.tree ≢ t.tree) (vu : v.tree ≢ u.tree) (tu : t.tree ≢ u.tree) (tv : t.tree ≢ v.tree) (uv : u.tree ≢ v.tree) where
   three_filled : (S T W : Set) (a b d e : Database) → FillsOne t S a b → FillsOne u T b d → FillsOne v W d e → rows_in t a.trees ≡ [] → rows_in u a.trees ≡ [] → rows_in v a.trees ≡ []
-      → Is (rows_in t e.trees) S × Is (rows_in u e.trees) T × Is (rows_in v e.trees) W × ((x : Table) → Has nine_tables.tables x → x.tree ≢ t.tree → x.tree ≢ u.tree → x.tree ≢ v.tree → e.trees x.tree ≡ a.trees x.tree)
+      → Is (rows_in t e.trees) S × Is (rows_in u e.trees) T × Is (rows_in v e.trees) W × ((x : Table) → Has all_tables x → x.tree ≢ t.tree → x.tree ≢ u.tree → x.tree ≢ v.tree → e.trees x.tree ≡ a.trees x.tree)
   three_filled S T W a b d e first second third none_t none_u none_v =
       let one = first none_t in
       let two = second (same_rows u a b (one.1 u lu ut) ∙ none_u) in

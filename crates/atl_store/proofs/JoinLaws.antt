@@ -24,7 +24,7 @@ use Rattle.atl_state.proofs.BookLaws.{IsGrid-with_booked}
 use Rattle.atl_store.specs.declared.rows.has.Sort.{Sort}
 use Rattle.atl_store.specs.declared.rows.has.Sort.TheVariants.{Item, Skill}
 use Rattle.atl_store.specs.Sets.{Is, Set, put, rows_in}
-use Rattle.atl_store.specs.Tables.{campaign_table, faction_table, region_table, unit_table, has_table, structure_table, mail_table, report_table, books_table, nine_tables}
+use Rattle.atl_store.specs.Tables.{campaign_table, faction_table, region_table, unit_table, has_table, structure_table, mail_table, report_table, books_table, all_tables}
 use Rattle.atl_store.specs.Shown.{mail_row, report_row}
 use Rattle.atl_store.specs.Rows.{head_of, campaign_line, faction_line, region_line, unit_line, structure_line, RowsOf, HasRowsOf, BooksRowsOf, things_of, Holds}
 use Rattle.atl_store.specs.PutsHead.{PutsHead}
@@ -135,7 +135,7 @@ Reports n report after = Both (Puts report_table 1 (report_row n report)) (Both 
 module _ (n : ℕ) (f : Faction) (m : ℕ) (u : Unit) (report : List ℕ) (after : Campaign) (world : List ℕ) (a j : Database) (enrolls : Both (PutsHead (head_of after) world) (Both (Puts faction_table 1 (faction_line n f)) (Puts unit_table 1 (unit_line m u))) a j) where
   enrolled : (text : List ℕ) (before : Campaign) → IsArrival n f m u report before after → Holds a.trees text before
       → Is (rows_in campaign_table j.trees) (λ r. r ≡ campaign_line text after) × Is (rows_in faction_table j.trees) (RowsOf faction_line after.factions) × Is (rows_in unit_table j.trees) (RowsOf unit_line after.units)
-      × ((t : Table) → Has nine_tables.tables t → t.tree ≢ 0 → t.tree ≢ 1 → t.tree ≢ 4 → j.trees t.tree ≡ a.trees t.tree)
+      × ((t : Table) → Has all_tables t → t.tree ≢ 0 → t.tree ≢ 1 → t.tree ≢ 4 → j.trees t.tree ≡ a.trees t.tree)
   enrolled text before arrival holds =
       let b = enrolls.0 in
       let d = enrolls.2.0 in
@@ -158,7 +158,7 @@ module _ (n : ℕ) (f : Faction) (m : ℕ) (u : Unit) (report : List ℕ) (after
 
 module _ (n : ℕ) (f : Faction) (m : ℕ) (u : Unit) (report : List ℕ) (after : Campaign) (a j : Database) (reports : Both (Puts report_table 1 (report_row n report)) (Both (Settles after Joining Money) (Settles after Joining People)) a j) where
   reported : (before : Campaign) → IsArrival n f m u report before after → Is (rows_in report_table a.trees) (RowsOf report_row before.reports) → Is (rows_in books_table a.trees) (BooksRowsOf before.books)
-      → Is (rows_in report_table j.trees) (RowsOf report_row after.reports) × Is (rows_in books_table j.trees) (BooksRowsOf after.books) × ((t : Table) → Has nine_tables.tables t → t.tree ≢ 9 → t.tree ≢ 10 → j.trees t.tree ≡ a.trees t.tree)
+      → Is (rows_in report_table j.trees) (RowsOf report_row after.reports) × Is (rows_in books_table j.trees) (BooksRowsOf after.books) × ((t : Table) → Has all_tables t → t.tree ≢ 9 → t.tree ≢ 10 → j.trees t.tree ≡ a.trees t.tree)
   reported before arrival was_reports was_books =
       let b = reports.0 in
       let d = reports.2.0 in
@@ -182,12 +182,12 @@ writes_join : (n : ℕ) (f : Faction) (m : ℕ) (u : Unit) (report : List ℕ) (
 writes_join n f m u report after world a b d found enrolls reports text before joining holds =
     let arrival = arrives n f m u report before after found joining in
     let one = enrolled n f m u report after world a b enrolls text before arrival holds in
-    let moved : (t : Table) → Has nine_tables.tables t → t.tree ≢ 0 → t.tree ≢ 1 → t.tree ≢ 4 → b.trees t.tree ≡ a.trees t.tree = one.3 in
+    let moved : (t : Table) → Has all_tables t → t.tree ≢ 0 → t.tree ≢ 1 → t.tree ≢ 4 → b.trees t.tree ≡ a.trees t.tree = one.3 in
     let two = reported n f m u report after b d reports before arrival
     (stays_is report_table (RowsOf report_row before.reports) a b (moved report_table (inr (inr (inr (inr (inr (inr (inr (inl refl)))))))) (λ e. absurd (omega (arith, e))) (λ e. absurd (omega (arith, e))) (λ e. absurd (omega (arith, e)))) holds.reports)
     (stays_is books_table (BooksRowsOf before.books) a b (moved books_table (inr (inr (inr (inr (inr (inr (inr (inr (inl refl))))))))) (λ e. absurd (omega (arith, e))) (λ e. absurd (omega (arith, e))) (λ e. absurd (omega (arith, e)))) holds.books) in
-    let later : (t : Table) → Has nine_tables.tables t → t.tree ≢ 9 → t.tree ≢ 10 → d.trees t.tree ≡ b.trees t.tree = two.2 in
-    let kept : (t : Table) (S : Set) → Has nine_tables.tables t → t.tree ≢ 0 → t.tree ≢ 1 → t.tree ≢ 4 → t.tree ≢ 9 → t.tree ≢ 10 → Is (rows_in t a.trees) S → Is (rows_in t d.trees) S =
+    let later : (t : Table) → Has all_tables t → t.tree ≢ 9 → t.tree ≢ 10 → d.trees t.tree ≡ b.trees t.tree = two.2 in
+    let kept : (t : Table) (S : Set) → Has all_tables t → t.tree ≢ 0 → t.tree ≢ 1 → t.tree ≢ 4 → t.tree ≢ 9 → t.tree ≢ 10 → Is (rows_in t a.trees) S → Is (rows_in t d.trees) S =
     λ t S listed h0 h1 h4 h9 h10 is. stays_is t S b d (later t listed h9 h10) (stays_is t S a b (moved t listed h0 h1 h4) is) in
     record {
       campaign = stays_is campaign_table (λ r. r ≡ campaign_line text after) b d (later campaign_table (inl refl) (λ e. absurd (omega (arith, e))) (λ e. absurd (omega (arith, e)))) one.0;

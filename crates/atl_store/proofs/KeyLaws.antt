@@ -19,7 +19,7 @@ int_by (Blob b) typed some = absurd (true≢false (sym typed))
 pub cons_is : (a b : Value) (xs ys : Row) → ◌≡◌ {A = Row} (a ∷ xs) (b ∷ ys) → (a ≡ b) × (xs ≡ ys)
 cons_is a b xs ys e = (cc, cc)
 
--- what the test of the key computes to, where the rowid is not part of it
-pub unwrapped : (b : Bool) → (b || false) ≡ b
-unwrapped true = refl
-unwrapped false = refl
+-- what the test of the key computes to, where the rowid is not part of it and no other index tests anything
+pub unwrapped : (b rest : Bool) → rest ≡ false → (b || rest) ≡ b
+unwrapped true rest none = refl
+unwrapped false rest none = none

@@ -3,6 +3,7 @@ pub mod EditLaws
 pub mod StatementLaws
 pub mod UpsertLaws
 pub mod MakeLaws
+pub mod CarryLaws
 pub mod KeepLaws
 pub mod WriteLaws
 pub mod ReadLaws

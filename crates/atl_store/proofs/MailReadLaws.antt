@@ -8,11 +8,13 @@ use Rattle.sqlite.specs.Collation.TheVariants.{Binary}
 use Rattle.sqlite.specs.Listing.{understood, reads_listing}
 use Rattle.sqlite.specs.Order.{Row}
 use Rattle.sqlite.specs.Program.{overlay}
+use Rattle.sqlite.specs.Table.{Table}
+use Rattle.sqlite_schema.specs.declared.schema.Index.{Index}
 use Rattle.sqlite.specs.State.{State, Shown, Survives, CommitsShowing}
 use Rattle.sqlite.proofs.Callers.{IsPlain, command_of, reads_as}
 use Rattle.sqlite_value.specs.Keys.{ascending}
 use Rattle.atl_store.specs.Sets.{visible}
-use Rattle.atl_store.specs.Tables.{mail_table, nine_tables}
+use Rattle.atl_store.specs.Tables.{mail_table, nine_and, HasNine}
 use Rattle.atl_store.specs.Reading.{Reads}
 use Rattle.atl_store.specs.Stored.{first_columns}
 use Rattle.atl_store.proofs.ReadLaws.{all_query, all_shown, shows_only, commits_none}
@@ -25,23 +27,23 @@ all_mail = codes "SELECT faction, text FROM mail ORDER BY faction"
 abbrev project : List Term
 project = col 1 0 ∷ col 1 2 ∷ []
 
-all_is : command_of (understood nine_tables all_mail) ≡ Select (record { lets = []; body = all_query 8 project ((col 1 0, ascending Binary) ∷ []) }) (codes "faction" ∷ codes "text" ∷ [])
+all_is : (more : List Table) (indexes : List Index) → command_of (understood (nine_and more indexes) all_mail) ≡ Select (record { lets = []; body = all_query 8 project ((col 1 0, ascending Binary) ∷ []) }) (codes "faction" ∷ codes "text" ∷ [])
 unfolding understood everything
-all_is = refl
+all_is more indexes = refl
 
-all_plain : IsPlain (understood nine_tables all_mail)
+all_plain : (more : List Table) (indexes : List Index) → IsPlain (understood (nine_and more indexes) all_mail)
 unfolding understood everything
-all_plain = (refl, refl)
+all_plain more indexes = (refl, refl)
 
-all_unlisted : reads_listing nine_tables all_mail ≡ false
+all_unlisted : (more : List Table) (indexes : List Index) → reads_listing (nine_and more indexes) all_mail ≡ false
 unfolding understood everything
-all_unlisted = refl
+all_unlisted more indexes = refl
 
 pub reads_mail : (old new : State) (rows : List Row) → Shown all_mail [] old new rows → Reads mail_table (map (first_columns 2) rows) old new
 reads_mail old new rows h has =
-    let got = reads_as all_mail [] old new nine_tables has _ all_is all_plain all_unlisted rows h in
+    let got = reads_as all_mail [] old new (nine_and has.tables has.indexes) has.is _ (all_is has.tables has.indexes) (all_plain has.tables has.indexes) (all_unlisted has.tables has.indexes) rows h in
     let shown = all_shown 8 project _ old.now.trees (overlay old.now.trees []) [] rows refl (got.answer Null) in
-    (whole_shown (visible mail_table) (first_columns 2) (λ r. refl) (old.now.trees 8) rows shown, shows_only all_mail [] old new rows nine_tables has all_plain h)
+    (whole_shown (visible mail_table) (first_columns 2) (λ r. refl) (old.now.trees 8) rows shown, shows_only all_mail [] old new rows (nine_and has.tables has.indexes) has.is (all_plain has.tables has.indexes) h)
 
-pub commits_no_mail : (old new : State) → old.now.schema ≡ nine_tables → Survives old new (CommitsShowing all_mail [] old) → Survives old new (λ _. ⊥)
-commits_no_mail old new has = commits_none all_mail [] old new nine_tables has all_plain
+pub commits_no_mail : (old new : State) → HasNine old.now.schema → Survives old new (CommitsShowing all_mail [] old) → Survives old new (λ _. ⊥)
+commits_no_mail old new has = commits_none all_mail [] old new (nine_and has.tables has.indexes) has.is (all_plain has.tables has.indexes)

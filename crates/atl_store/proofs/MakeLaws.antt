@@ -7,7 +7,7 @@ use Rattle.sqlite_value.specs.Order.{Row, value_cmp}
 use Rattle.sqlite_trees.specs.Tree.{Trees, rowid}
 use Rattle.sqlite_schema.specs.declared.schema.Table.{Table}
 use Rattle.sqlite_schema.specs.declared.schema.Schema.{Schema}
-use Rattle.sqlite_schema.specs.Rules.{Obeys}
+use Rattle.sqlite_catalog.specs.Listing.{IsSound}
 use Rattle.sqlite_schema.specs.declared.command.Command.{Command}
 use Rattle.sqlite_rules.specs.Lists.{Has}
 use Rattle.sqlite_rules.specs.Cast.{cast_row}
@@ -82,7 +82,7 @@ module _ (schema : Schema) (t : Table) (key : ℕ) where
       | inl same ↦ let e : u.tree ≡ t.tree = grind (arith, nat_tests) in subst (λ n. IsKeyed (new.trees n)) (sym e) keyed
       | inr apart ↦ let other : u.tree ≢ t.tree = λ e. grind (arith, nat_tests) in subst IsKeyed (sym (others u listed other)) (sound.keyed u listed)
     ];
-    obeys = subst (λ s. Obeys s new.trees) is base.obeys;
+    listed = subst (λ s. IsSound s new.trees) is base;
   }
 
   pub swaps_make : (p : Row → Bool) (n v : Row) (old new : Database) → Swaps schema t p n old.trees new.trees → visible t n ≡ v → Tests p (take key v) (old.trees t.tree)
@@ -141,3 +141,8 @@ module _ (schema : Schema) (t : Table) (key : ℕ) where
     pub upserts_sound : Upserted schema t unlinked limit params target place project plain new old.trees next.trees → IsSoundly schema old.trees → IsDatabase next → next.schema ≡ schema → IsSoundly schema next.trees
     upserts_sound (inl put_in) sound base is = stays_sound old next sound base is put_in.1.keyed put_in.1.others
     upserts_sound (inr over) sound base is = stays_sound old next sound base is over.3.keyed over.3.others
+
+    -- and each other table is as it was
+    pub upserts_others : Upserted schema t unlinked limit params target place project plain new old.trees next.trees → (u : Table) → Has schema.tables u → u.tree ≢ t.tree → next.trees u.tree ≡ old.trees u.tree
+    upserts_others (inl put_in) = put_in.1.others
+    upserts_others (inr over) = over.3.others

@@ -3,7 +3,6 @@ use Rattle.std.proofs.Common.{◌≡◌, ◌++◌, ◌∷◌, [], IsTrue, true, 
 use Rattle.sqlite.specs.Schema.{Schema}
 use Rattle.sqlite.specs.Table.{Table}
 use Rattle.sqlite.specs.State.{State}
-use Rattle.sqlite_schema.specs.Rules.{Obeys}
 use Rattle.sqlite_rules.specs.Lists.{Has}
 use Rattle.sqlite_rules.proofs.ListLemmas.{has_either}
 use Rattle.atl_store.specs.Sets.{IsKeyed, Creates, visible}
@@ -42,14 +41,20 @@ makes_tables a b c d one two three =
     let all = extends_three (first_tables 0 0) (first_tables 3 1) (first_tables 6 2) (first_tables 9 3) a b c d one two three in (
       all.0,
       λ blank.
-          let made = all.1 (record { schema_is = blank; empty = λ t listed. absurd listed }) in (
-            λ t listed. ap (map (visible t)) (made.0.empty t listed),
-            record {
-              schema = made.0.schema_is;
+          let made = all.1 (record { schema_is = blank; empty = λ t listed. absurd listed }) in
+          record {
+            does = λ t listed. ap (map (visible t)) (made.0.empty t listed);
+            tables = record {
+              nine = record { tables = []; indexes = []; is = made.0.schema_is; free = tt; plain = λ i t none listed. absurd none };
               sound = record {
-                keyed = λ t listed. subst IsKeyed (sym (made.0.empty t listed)) no_rows;
-                obeys = subst (λ s. Obeys s d.now.trees) made.0.schema_is made.1.obeys;
+                keyed = λ t listed. subst IsKeyed (sym (made.0.empty t (subst (λ (s : Schema). Has s.tables t) made.0.schema_is listed))) no_rows;
+                listed = made.1;
               };
-            },
-          ),
+            };
+            carries = record {
+              tables = λ t there. absurd (subst (λ (s : Schema). Has s.tables t) blank there);
+              indexes = λ i there. absurd (subst (λ (s : Schema). Has s.indexes i) blank there);
+              others = λ t there free. absurd (subst (λ (s : Schema). Has s.tables t) blank there);
+            };
+          },
     )

@@ -6,13 +6,14 @@ use Rattle.sqlite.specs.Effect.{Database}
 use Rattle.sqlite.specs.State.{State}
 use Rattle.sqlite_rules.specs.Lists.{Has}
 use Rattle.atl_store.specs.Sets.{Set, rows_in, put, puts}
-use Rattle.atl_store.specs.Tables.{nine_tables}
+use Rattle.atl_store.specs.Tables.{all_tables}
 use Rattle.atl_store.specs.Inside.{Inside, HasTables, Puts, PutsRows}
+use Rattle.atl_store.proofs.CarryLaws.{carries_then, carries_none}
 
 -- with the rest put too, all is put
 pub record Towards (table : Table) (key : ℕ) (rest all : List Row) (old now : Database) : Type 0 where
   pub rows : (r : Row) → puts key rest (Has (rows_in table now.trees)) r ↔ puts key all (Has (rows_in table old.trees)) r
-  pub others : (t : Table) → Has nine_tables.tables t → t.tree ≢ table.tree → now.trees t.tree ≡ old.trees t.tree
+  pub others : (t : Table) → Has all_tables t → t.tree ≢ table.tree → now.trees t.tree ≡ old.trees t.tree
 
 puts_same : (key : ℕ) (news : List Row) (S T : Set) → ((r : Row) → S r ↔ T r) → (r : Row) → puts key news S r ↔ puts key news T r
 puts_same key [] S T same r = same r
@@ -48,16 +49,23 @@ module _ (table : Table) (key : ℕ) where
     more.0 ∙ so_far.0,
     λ has.
         let was = so_far.1 has in
-        let now = more.1 was.1 in
-        (towards_rows xs rest all old.now mid.now new.now was.0 now.0, now.1),
+        let now = more.1 was.tables in
+        record { does = towards_rows xs rest all old.now mid.now new.now was.does now.does; tables = now.tables; carries = carries_then old.now mid.now new.now was.carries now.carries },
   )
 
   pub inside_one : (x : Row) (rest all : List Row) (old mid new : State) → Inside HasTables (Towards table key (x ∷ rest) all) old mid → Inside HasTables (Puts table key x) mid new → Inside HasTables (Towards table key rest all) old new
-  inside_one x rest all old mid new so_far more = inside_rows (x ∷ []) rest all old mid new so_far (more.0, λ has. let did = more.1 has in (puts_one x mid.now new.now did.0, did.1))
+  inside_one x rest all old mid new so_far more = inside_rows (x ∷ []) rest all old mid new so_far (more.0, λ has. let did = more.1 has in record { does = puts_one x mid.now new.now did.does; tables = did.tables; carries = did.carries })
 
   -- nothing is put yet
   pub none_yet : (rest all : List Row) → rest ≡ all → (s : State) → Inside HasTables (Towards table key rest all) s s
-  none_yet rest all same s = (refl, λ has. (record { rows = λ r. subst (λ rows. puts key rest (Has (rows_in table s.now.trees)) r ↔ puts key rows (Has (rows_in table s.now.trees)) r) same (λ h. h, λ h. h); others = λ t listed other. refl }, has))
+  none_yet rest all same s = (
+    refl,
+    λ has. record {
+      does = record { rows = λ r. subst (λ rows. puts key rest (Has (rows_in table s.now.trees)) r ↔ puts key rows (Has (rows_in table s.now.trees)) r) same (λ h. h, λ h. h); others = λ t listed other. refl };
+      tables = has;
+      carries = carries_none s.now;
+    },
+  )
 
   -- nothing is left to put
   pub all_put : (rest all : List Row) → rest ≡ [] → (old new : State) → Inside HasTables (Towards table key rest all) old new → Inside HasTables (PutsRows table key all) old new
@@ -65,7 +73,11 @@ module _ (table : Table) (key : ℕ) where
     did.0,
     λ has.
         let made = did.1 has in
-        (record { rows = λ r. subst (λ rows. puts key rows (Has (rows_in table new.now.trees)) r ↔ puts key all (Has (rows_in table old.now.trees)) r) none (made.0.rows r); others = made.0.others }, made.1),
+        record {
+          does = record { rows = λ r. subst (λ rows. puts key rows (Has (rows_in table new.now.trees)) r ↔ puts key all (Has (rows_in table old.now.trees)) r) none (made.does.rows r); others = made.does.others };
+          tables = made.tables;
+          carries = made.carries;
+        },
   )
 
   -- no row at all
@@ -74,7 +86,7 @@ module _ (table : Table) (key : ℕ) where
 
   -- one row
   pub one_put : (row : Row) (rows : List Row) → rows ≡ row ∷ [] → (old new : State) → Inside HasTables (Puts table key row) old new → Inside HasTables (PutsRows table key rows) old new
-  one_put row rows is old new did = (did.0, λ has. let made = did.1 has in (subst (λ list. PutsRows table key list old.now new.now) (sym is) (puts_one row old.now new.now made.0), made.1))
+  one_put row rows is old new did = (did.0, λ has. let made = did.1 has in record { does = subst (λ list. PutsRows table key list old.now new.now) (sym is) (puts_one row old.now new.now made.does); tables = made.tables; carries = made.carries })
 
   -- one list after another
   pub inside_both : (xs ys : List Row) (a b c : State) → Inside HasTables (PutsRows table key xs) a b → Inside HasTables (PutsRows table key ys) b c → Inside HasTables (PutsRows table key (xs ++ ys)) a c
@@ -82,15 +94,17 @@ module _ (table : Table) (key : ℕ) where
     two.0 ∙ one.0,
     λ has.
         let was = one.1 has in
-        let now = two.1 was.1 in (
-          record {
+        let now = two.1 was.tables in
+        record {
+          does = record {
             rows = λ r.
-                let same = puts_same key ys (Has (rows_in table b.now.trees)) (puts key xs (Has (rows_in table a.now.trees))) was.0.rows r in (
-                  λ there. append_puts key xs ys _ r (same.0 ((now.0.rows r).0 there)),
-                  λ h. (now.0.rows r).1 (same.1 (puts_append key xs ys _ r h)),
+                let same = puts_same key ys (Has (rows_in table b.now.trees)) (puts key xs (Has (rows_in table a.now.trees))) was.does.rows r in (
+                  λ there. append_puts key xs ys _ r (same.0 ((now.does.rows r).0 there)),
+                  λ h. (now.does.rows r).1 (same.1 (puts_append key xs ys _ r h)),
                 );
-            others = λ t listed other. now.0.others t listed other ∙ was.0.others t listed other;
-          },
-          now.1,
-        ),
+            others = λ t listed other. now.does.others t listed other ∙ was.does.others t listed other;
+          };
+          tables = now.tables;
+          carries = carries_then a.now b.now c.now was.carries now.carries;
+        },
   )

@@ -1,5 +1,5 @@
 -- What the statements on the table report mean, and what they do.
-use Rattle.std.proofs.Common.{IsTrue, ◌≡◌, ℕ, pos, true, List, [], ◌∷◌, codes, Ok, refl, sym, ap, ◌∙◌, subst, inl, inr}
+use Rattle.std.proofs.Common.{IsTrue, ◌≡◌, ℕ, pos, true, List, [], ◌∷◌, codes, Some, Ok, refl, sym, ap, ◌∙◌, subst, inl, inr}
 use Rattle.sqlite_tied.specs.Compute.{everything}
 use Rattle.sqlite.specs.declared.types.Value.TheVariants.{Null, Text}
 use Rattle.sqlite.specs.Command.TheVariants.{InsertOr}
@@ -19,11 +19,14 @@ use Rattle.sqlite_rules.specs.Edit.{with_rowid}
 use Rattle.sqlite_rules.specs.declared.error.Rowids.TheVariants.{Chosen}
 use Rattle.sqlite_rules.proofs.ListLemmas.{all_has}
 use Rattle.atl_store.specs.Sets.{visible}
-use Rattle.atl_store.specs.Tables.{report_table, nine_tables}
+use Rattle.atl_store.specs.Tables.{report_table, nine_and}
 use Rattle.atl_store.specs.Shown.{int, report_row}
+use Rattle.sqlite.specs.Table.{Table}
+use Rattle.sqlite_schema.specs.declared.schema.Index.{Index}
 use Rattle.atl_store.specs.Inside.{Inside, HasTables, Puts}
 use Rattle.atl_store.proofs.UpsertLaws.{Upserted, update_query, clause_on}
 use Rattle.atl_store.proofs.StatementLaws.{upserting}
+use Rattle.atl_store.proofs.CarryLaws.{unlinked, none_share, sound_under, done_with}
 use Rattle.atl_store.proofs.MakeLaws.{did, upserts_make}
 use Rattle.atl_store.proofs.Terms.{cast_null, cast_int, head_is, by_number, one_number}
 
@@ -36,13 +39,13 @@ terms = col 0 0 ∷ lit Null ∷ col 0 1 ∷ []
 abbrev project : List Term
 project = col 1 0 ∷ lit Null ∷ col 0 1 ∷ []
 
-put_is : command_of (understood nine_tables put_report) ≡ InsertOr 7 Abort (Values terms 3) (clause_on (0 ∷ []) (record { lets = []; body = update_query 9 2 project }) ∷ [])
+put_is : (more : List Table) (indexes : List Index) → command_of (understood (nine_and more indexes) put_report) ≡ InsertOr 7 Abort (Values terms 3) (clause_on (0 ∷ []) (record { lets = []; body = update_query 9 2 project }) ∷ [])
 unfolding understood everything
-put_is = refl
+put_is more indexes = refl
 
-put_plain : IsPlain (understood nine_tables put_report)
+put_plain : (more : List Table) (indexes : List Index) → IsPlain (understood (nine_and more indexes) put_report)
 unfolding understood everything
-put_plain = (refl, refl)
+put_plain more indexes = (refl, refl)
 
 puts_inside : (old new : State) (faction : ℕ) (text : List ℕ) (count : ℕ) → IsTrue old.in_transaction → ExecutesInside 0 put_report (report_row faction text) old new (Ok count)
     → Inside HasTables (Puts report_table 1 (report_row faction text)) old new
@@ -50,23 +53,26 @@ unfolding first_key
 puts_inside old new faction text count inside ran = (
   ran.1.mode ∙ sym inside,
   λ has.
+      let schema = nine_and has.nine.tables has.nine.indexes in
+      let sound = sound_under old.now has in
+      let none = unlinked has.nine.tables has.nine.indexes 9 has.nine.free in
       let v = report_row faction text in
       let src = int faction ∷ Null ∷ Text text ∷ [] in
-      let w = runs_as put_report v old new nine_tables has.schema _ put_is put_plain count ran.0 in
-      let keyed = has.sound.keyed report_table (inr (inr (inr (inr (inr (inr (inr (inl refl)))))))) in
-      let up = upserting nine_tables 9 _ _ _ _ _ _ 7 refl (λ olds news. refl) old.step_limit v (0 ∷ []) 2 project (λ db. refl) (statement_of put_report (understood nine_tables put_report)) terms 3 src
-      old.now.trees _ keyed (λ r there. refl) refl (did nine_tables old new _ _ v count has.schema w) in
+      let w = runs_as put_report v old new schema has.nine.is _ (put_is has.nine.tables has.nine.indexes) (put_plain has.nine.tables has.nine.indexes) count ran.0 in
+      let keyed = sound.keyed report_table (inr (inr (inr (inr (inr (inr (inr (inl refl)))))))) in
+      let up = upserting schema 9 _ _ _ _ _ _ 7 refl none old.step_limit v (0 ∷ []) 2 project (λ db. refl) (statement_of put_report (understood schema put_report)) terms 3 src
+      old.now.trees _ keyed (λ r there. refl) refl (did schema old new _ _ v count has.nine.is w) in
       let casted : cast_row report_table src ≡ src = rw (cast_int (pos faction), cast_null) refl in
       let made : with_rowid Chosen (old.now.trees 9) (cast_row report_table src) ≡ src = ap (with_rowid Chosen (old.now.trees 9)) casted in
       let are_ints : (x : Row) → Has (old.now.trees 9) x → is_int (rowid x) ≡ true = λ x there. all_has _ (old.now.trees 9) x keyed.ints there in
-      let makes = upserts_make nine_tables report_table 1 (λ olds news. refl) old.step_limit v (0 ∷ []) 2 project (λ db. refl) src v old.now new.now
-      (subst (λ k. Upserted nine_tables report_table (λ olds news. refl) old.step_limit v (0 ∷ []) 2 project (λ db. refl) k old.now.trees new.now.trees) made up.0)
+      let makes = upserts_make schema report_table 1 none old.step_limit v (0 ∷ []) 2 project (λ db. refl) src v old.now new.now
+      (subst (λ k. Upserted schema report_table none old.step_limit v (0 ∷ []) 2 project (λ db. refl) k old.now.trees new.now.trees) made up.0)
       (ap (visible report_table) casted)
       (λ r there same. rw (head_is _ _ _ _ same, cast_int (pos faction)) refl)
-      (λ x there. by_number (rowid x) faction (are_ints x there))
+      (λ x there. by_number (rowid x) faction _ (none_share report_table (Some (0 ∷ [])) src x has.nine.indexes (λ i there. has.nine.plain i report_table there (inr (inr (inr (inr (inr (inr (inr (inl refl)))))))))) (are_ints x there))
       (λ x r one two same. one_number _ _ same)
-      (inr (inr (inr (inr (inr (inr (inr (inl refl)))))))) has.sound w.sound up.1 in
-      (makes, record { schema = makes.schema_is; sound = makes.sound }),
+      (inr (inr (inr (inr (inr (inr (inr (inl refl)))))))) sound w.sound up.1 in
+      done_with report_table old.now new.now has (inr (inr (inr (inr (inr (inr (inr (inl refl)))))))) _ _ (λ did. did) makes,
 )
 
 -- the parameters are shown to be the row

@@ -1,27 +1,37 @@
 -- From what a transaction did to what the store keeps.
-use Rattle.std.proofs.Common.{◌≡◌, ℕ, Bool, true, false, not, List, IsTrue, Result, Ok, Err, OnErr, refl, sym, ap, ◌∙◌, subst, inl, inr}
+use Rattle.std.proofs.Common.{◌≡◌, ℕ, Bool, true, false, not, cond, List, IsTrue, Result, Ok, Err, OnErr, refl, sym, ap, ◌∙◌, subst, inl, inr, arith}
 use Rattle.sqlite_trees.specs.Tree.{Trees}
+use Rattle.sqlite_trees.specs.declared.store.Store.{Ghosts}
+use Rattle.sqlite.specs.declared.error.Error.{Error}
+use Rattle.sqlite.specs.Held.{Held}
 use Rattle.sqlite.specs.Effect.{Database}
 use Rattle.sqlite.specs.State.{State, HasCleanDisk, Survives}
 use Rattle.atl_state.specs.State.{State as Campaign}
 use Rattle.atl_store.specs.Rows.{Holds}
-use Rattle.atl_store.specs.Inside.{HasTables, IsBlank, Commits, LeavesOff, MayLeave}
+use Rattle.atl_store.specs.Inside.{HasTables, Carries, IsBlank, Commits, LeavesOff, MayLeave}
 use Rattle.atl_store.specs.Filling.{WritesFounding}
-use Rattle.atl_store.specs.Keeps.{Keeps, Stops, Spares, MayFound}
+use Rattle.atl_store.specs.Keeps.{Stores, Keeps, IsLater, FailsToCreate, RefusesToCreate, Stops, Spares, SparesOthers, MayFound}
+use Rattle.atl_store.specs.Faults.{is_memory, create_fault}
+use Rattle.atl_store.specs.declared.fault.CreateFault.TheVariants as create
+use Rattle.atl_store.proofs.CarryLaws.{carries_none}
+
+-- a database that holds the campaign is what a file may hold
+stored : (db : Database) (text : List ℕ) (c : Campaign) → HasTables db → Holds db.trees text c → Stores db.trees text c
+stored db text c has rows = record { schema = db.schema; nine = has.nine; sound = has.sound; rows = rows }
 
 module _ (old new : State) (text : List ℕ) (settled : (db : Trees) → IsTrue new.is_open → new.may_leave db → db ≡ new.committed.trees) where
   -- committed, with these rows in the tables
   pub commits_keeps : (Before : Database → Type 0) (Does : Database → Database → Type 0) (after : Campaign) → Commits Before Does old new → Before old.now → (Does old.now new.now → Holds new.now.trees text after) → Keeps new text after
   commits_keeps Before Does after done was holds =
       let did = done.does was in
-      let rows = holds did.0 in
+      let rows = holds did.does in
       record {
         idle = done.idle;
         is_open = done.is_open;
         settled = done.committed;
-        tables = did.1;
+        tables = did.tables;
         rows = rows;
-        crash = λ db may. subst (λ t. Holds t text after) (sym (settled db done.is_open may ∙ ap (λ (d : Database). d.trees) done.committed)) rows;
+        crash = λ db may. subst (λ t. Stores t text after) (sym (settled db done.is_open may ∙ ap (λ (d : Database). d.trees) done.committed)) (stored new.now text after did.tables rows);
       }
 
   -- left off: as before, or after a crash before or after
@@ -37,12 +47,12 @@ module _ (old new : State) (text : List ℕ) (settled : (db : Trees) → IsTrue 
           settled = back.1 ∙ sym back.0;
           tables = subst HasTables (sym same) keeps.tables;
           rows = subst (λ (d : Database). Holds d.trees text before) (sym same) keeps.rows;
-          crash = λ db may. subst (λ t. Holds t text before) (sym (settled db up may ∙ ap (λ (d : Database). d.trees) (back.1 ∙ keeps.settled))) keeps.rows;
+          crash = λ db may. subst (λ t. Stores t text before) (sym (settled db up may ∙ ap (λ (d : Database). d.trees) (back.1 ∙ keeps.settled))) (stored old.now text before keeps.tables keeps.rows);
         };
     closes = survives.closes clean keeps.is_open;
     crash = λ db may. elim (survives.crash clean db may) [
       | inl was ↦ inl (keeps.crash db was)
-      | inr made ↦ inr (subst (λ t. Holds t text after) (sym made.2) (holds made.0 (made.1 keeps.tables).0))
+      | inr made ↦ let did = made.1 keeps.tables in inr (subst (λ t. Stores t text after) (sym made.2) (stored made.0 text after did.tables (holds made.0 did.does)))
     ];
   }
 
@@ -50,19 +60,45 @@ module _ (old new : State) (text : List ℕ) (settled : (db : Trees) → IsTrue 
 pub may_found : (old new : State) (text : List ℕ) (c : Campaign) → IsBlank old.now → HasCleanDisk new → Survives old new (MayLeave IsBlank (WritesFounding text c) old) → MayFound old text c new
 may_found old new text c blank clean survives db may = elim (survives.crash clean db may) [
   | inl was ↦ inl was
-  | inr made ↦ inr (subst (λ t. Holds t text c) (sym made.2) (made.1 blank).0)
+  | inr made ↦ let did = made.1 blank in inr (subst (λ t. Stores t text c) (sym made.2) (stored made.0 text c did.tables did.does))
 ]
 
 -- what a founding that left off has spared, where the connection said that it was in no transaction
-pub leaves_spares : (old new : State) (auto : Bool) → LeavesOff old new → auto ≡ not old.in_transaction → IsTrue auto → (IsTrue auto → IsTrue old.is_open → old.now ≡ old.committed) → Spares old new
-leaves_spares old new auto off is said settled up =
-    let back = off.undone up in
-    let was = settled said (off.was_open up) in
-    (back.0 ∙ sym was, back.1, off.idle ∙ sym (not_true old.in_transaction (sym is ∙ said)))
+pub leaves_spares : (old new : State) (auto : Bool) (Commits : Trees → Type 0) → HasCleanDisk new → LeavesOff old new → Survives old new Commits → auto ≡ not old.in_transaction → IsTrue auto → (IsTrue auto → IsTrue old.is_open → old.now ≡ old.committed) → Spares old new
+leaves_spares old new auto Commits clean off survives is said settled = record {
+  same = λ up.
+      let back = off.undone up in
+      let was = settled said (off.was_open up) in
+      (back.0 ∙ sym was, back.1, off.idle ∙ sym (not_true old.in_transaction (sym is ∙ said)));
+  closes = survives.closes clean;
+}
   where
     not_true : (b : Bool) → not b ≡ true → b ≡ false
     not_true true e = cc
     not_true false e = refl
+
+-- the fault of a creation that an error of the database ended
+pub fails_for : {S : Type 0} (g : Ghosts S) (text : List ℕ) (c : Campaign) (old new : Held S) (e : Error) → FailsToCreate g text c old new → RefusesToCreate g text c old new (create_fault e)
+fails_for g text c old new e fails = go (is_memory e)
+  where
+    go : (b : Bool) → RefusesToCreate g text c old new (cond b create.Memory create.Store)
+    go true = fails
+    go false = fails
+
+-- where nothing is done, nothing is changed
+pub spares_itself : (s : State) → Spares s s
+spares_itself s = record { same = λ up. (refl, refl, refl); closes = λ up. inl up }
+
+pub later : (old new : State) (Commits : Trees → Type 0) → Survives old new Commits → IsLater old new
+later old new Commits survives = record { clean = λ clean. omega (arith, survives.clean); counts = survives.counts }
+
+-- ---- other tables
+
+pub commits_spares : (old new : State) (Before : Database → Type 0) (Does : Database → Database → Type 0) → Commits Before Does old new → (HasTables old.now → Before old.now) → SparesOthers old new
+commits_spares old new Before Does done before up has settled = (done.does (before has)).carries
+
+pub leaves_others : (old new : State) → LeavesOff old new → SparesOthers old new
+leaves_others old new off up has settled = subst (Carries old.now) (sym ((off.undone up).0 ∙ settled)) (carries_none old.now)
 
 -- what holds in any case holds where there is an error
 pub on_err : {A E : Type 0} (r : Result A E) (P : Type 0) → P → OnErr r P

@@ -1,5 +1,5 @@
 -- What the statements on the table structure mean, and what they do.
-use Rattle.std.proofs.Common.{IsTrue, ◌≡◌, ℕ, pos, true, List, [], ◌∷◌, codes, Ok, refl, sym, ap, ◌∙◌, subst, inl, inr}
+use Rattle.std.proofs.Common.{IsTrue, ◌≡◌, ℕ, pos, true, List, [], ◌∷◌, codes, Some, Ok, refl, sym, ap, ◌∙◌, subst, inl, inr}
 use Rattle.sqlite_tied.specs.Compute.{everything}
 use Rattle.sqlite.specs.declared.types.Value.TheVariants.{Null, Text}
 use Rattle.sqlite.specs.Command.TheVariants.{InsertOr}
@@ -19,11 +19,14 @@ use Rattle.sqlite_rules.specs.Edit.{with_rowid}
 use Rattle.sqlite_rules.specs.declared.error.Rowids.TheVariants.{Chosen}
 use Rattle.sqlite_rules.proofs.ListLemmas.{all_has}
 use Rattle.atl_store.specs.Sets.{visible}
-use Rattle.atl_store.specs.Tables.{structure_table, nine_tables}
+use Rattle.atl_store.specs.Tables.{structure_table, nine_and}
 use Rattle.atl_store.specs.Shown.{int, structure_row}
+use Rattle.sqlite.specs.Table.{Table}
+use Rattle.sqlite_schema.specs.declared.schema.Index.{Index}
 use Rattle.atl_store.specs.Inside.{Inside, HasTables, Puts}
 use Rattle.atl_store.proofs.UpsertLaws.{Upserted, update_query, clause_on}
 use Rattle.atl_store.proofs.StatementLaws.{upserting}
+use Rattle.atl_store.proofs.CarryLaws.{unlinked, none_share, sound_under, done_with}
 use Rattle.atl_store.proofs.MakeLaws.{did, upserts_make}
 use Rattle.atl_store.proofs.Terms.{cast_null, cast_int, head_is, by_number, one_number}
 
@@ -36,13 +39,13 @@ terms = col 0 0 ∷ lit Null ∷ col 0 1 ∷ col 0 2 ∷ col 0 3 ∷ col 0 4 ∷
 abbrev project : List Term
 project = col 1 0 ∷ lit Null ∷ col 0 1 ∷ col 0 2 ∷ col 0 3 ∷ col 0 4 ∷ col 0 5 ∷ []
 
-put_is : command_of (understood nine_tables put_structure) ≡ InsertOr 5 Abort (Values terms 7) (clause_on (0 ∷ []) (record { lets = []; body = update_query 7 6 project }) ∷ [])
+put_is : (more : List Table) (indexes : List Index) → command_of (understood (nine_and more indexes) put_structure) ≡ InsertOr 5 Abort (Values terms 7) (clause_on (0 ∷ []) (record { lets = []; body = update_query 7 6 project }) ∷ [])
 unfolding understood everything
-put_is = refl
+put_is more indexes = refl
 
-put_plain : IsPlain (understood nine_tables put_structure)
+put_plain : (more : List Table) (indexes : List Index) → IsPlain (understood (nine_and more indexes) put_structure)
 unfolding understood everything
-put_plain = (refl, refl)
+put_plain more indexes = (refl, refl)
 
 puts_inside : (old new : State) (number : ℕ) (kind : ℕ) (name : List ℕ) (region : ℕ) (done : ℕ) (owner : ℕ) (count : ℕ) → IsTrue old.in_transaction → ExecutesInside 0 put_structure (structure_row number kind name region done owner) old new (Ok count)
     → Inside HasTables (Puts structure_table 1 (structure_row number kind name region done owner)) old new
@@ -50,23 +53,26 @@ unfolding first_key
 puts_inside old new number kind name region done owner count inside ran = (
   ran.1.mode ∙ sym inside,
   λ has.
+      let schema = nine_and has.nine.tables has.nine.indexes in
+      let sound = sound_under old.now has in
+      let none = unlinked has.nine.tables has.nine.indexes 7 has.nine.free in
       let v = structure_row number kind name region done owner in
       let src = int number ∷ Null ∷ int kind ∷ Text name ∷ int region ∷ int done ∷ int owner ∷ [] in
-      let w = runs_as put_structure v old new nine_tables has.schema _ put_is put_plain count ran.0 in
-      let keyed = has.sound.keyed structure_table (inr (inr (inr (inr (inr (inl refl)))))) in
-      let up = upserting nine_tables 7 _ _ _ _ _ _ 5 refl (λ olds news. refl) old.step_limit v (0 ∷ []) 6 project (λ db. refl) (statement_of put_structure (understood nine_tables put_structure)) terms 7 src
-      old.now.trees _ keyed (λ r there. refl) refl (did nine_tables old new _ _ v count has.schema w) in
+      let w = runs_as put_structure v old new schema has.nine.is _ (put_is has.nine.tables has.nine.indexes) (put_plain has.nine.tables has.nine.indexes) count ran.0 in
+      let keyed = sound.keyed structure_table (inr (inr (inr (inr (inr (inl refl)))))) in
+      let up = upserting schema 7 _ _ _ _ _ _ 5 refl none old.step_limit v (0 ∷ []) 6 project (λ db. refl) (statement_of put_structure (understood schema put_structure)) terms 7 src
+      old.now.trees _ keyed (λ r there. refl) refl (did schema old new _ _ v count has.nine.is w) in
       let casted : cast_row structure_table src ≡ src = rw (cast_int (pos number), cast_int (pos kind), cast_int (pos region), cast_int (pos done), cast_int (pos owner), cast_null) refl in
       let made : with_rowid Chosen (old.now.trees 7) (cast_row structure_table src) ≡ src = ap (with_rowid Chosen (old.now.trees 7)) casted in
       let are_ints : (x : Row) → Has (old.now.trees 7) x → is_int (rowid x) ≡ true = λ x there. all_has _ (old.now.trees 7) x keyed.ints there in
-      let makes = upserts_make nine_tables structure_table 1 (λ olds news. refl) old.step_limit v (0 ∷ []) 6 project (λ db. refl) src v old.now new.now
-      (subst (λ k. Upserted nine_tables structure_table (λ olds news. refl) old.step_limit v (0 ∷ []) 6 project (λ db. refl) k old.now.trees new.now.trees) made up.0)
+      let makes = upserts_make schema structure_table 1 none old.step_limit v (0 ∷ []) 6 project (λ db. refl) src v old.now new.now
+      (subst (λ k. Upserted schema structure_table none old.step_limit v (0 ∷ []) 6 project (λ db. refl) k old.now.trees new.now.trees) made up.0)
       (ap (visible structure_table) casted)
       (λ r there same. rw (head_is _ _ _ _ same, cast_int (pos number), cast_int (pos kind), cast_int (pos region), cast_int (pos done), cast_int (pos owner)) refl)
-      (λ x there. by_number (rowid x) number (are_ints x there))
+      (λ x there. by_number (rowid x) number _ (none_share structure_table (Some (0 ∷ [])) src x has.nine.indexes (λ i there. has.nine.plain i structure_table there (inr (inr (inr (inr (inr (inl refl)))))))) (are_ints x there))
       (λ x r one two same. one_number _ _ same)
-      (inr (inr (inr (inr (inr (inl refl)))))) has.sound w.sound up.1 in
-      (makes, record { schema = makes.schema_is; sound = makes.sound }),
+      (inr (inr (inr (inr (inr (inl refl)))))) sound w.sound up.1 in
+      done_with structure_table old.now new.now has (inr (inr (inr (inr (inr (inl refl)))))) _ _ (λ did. did) makes,
 )
 
 -- the parameters are shown to be the row

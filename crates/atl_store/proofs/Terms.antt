@@ -27,18 +27,19 @@ pub cast_int : (n : _) → cast Integer (Int n) ≡ Int n
 unfolding unary
 cast_int n = either _ (Int n)
 
-pub bare : (b : Bool) → ((b && true) || false) ≡ b
-bare true = refl
-bare false = refl
+-- a test, where no other index tests anything
+pub bare : (b rest : Bool) → rest ≡ false → ((b && true) || rest) ≡ b
+bare true rest none = refl
+bare false rest none = none
 
 pub head_is : (a b : Value) (xs ys : Row) → ◌≡◌ {A = Row} (a ∷ xs) (b ∷ ys) → a ≡ b
 head_is a b xs ys e = cc
 
 -- the test of a key that is the row's number finds the rows with this number
-pub by_number : (a : Value) (n : ℕ) → is_int a ≡ true → (((equal Binary a (int n) && true) || false) ≡ true → ◌≡◌ {A = Row} (a ∷ []) (int n ∷ [])) × (◌≡◌ {A = Row} (a ∷ []) (int n ∷ []) → ((equal Binary a (int n) && true) || false) ≡ true)
-by_number a n integer = (
-  λ hit. ap (λ v. v ∷ []) (equal_is a (int n) integer refl (sym (bare _) ∙ hit)),
-  λ same. bare _ ∙ ap (λ v. equal Binary v (int n)) (head_is _ _ _ _ same) ∙ is_equal (int n) refl,
+pub by_number : (a : Value) (n : ℕ) (rest : Bool) → rest ≡ false → is_int a ≡ true → (((equal Binary a (int n) && true) || rest) ≡ true → ◌≡◌ {A = Row} (a ∷ []) (int n ∷ [])) × (◌≡◌ {A = Row} (a ∷ []) (int n ∷ []) → ((equal Binary a (int n) && true) || rest) ≡ true)
+by_number a n rest none integer = (
+  λ hit. ap (λ v. v ∷ []) (equal_is a (int n) integer refl (sym (bare _ rest none) ∙ hit)),
+  λ same. bare _ rest none ∙ ap (λ v. equal Binary v (int n)) (head_is _ _ _ _ same) ∙ is_equal (int n) refl,
 )
 
 -- the same in a DELETE

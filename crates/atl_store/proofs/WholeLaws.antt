@@ -9,9 +9,10 @@ use Rattle.sqlite.specs.Held.{Held, state}
 use Rattle.sqlite.specs.State.{State, HasCleanDisk, Survives, Shows, KeepsCounts, KeepsCommit, IsRolledBack}
 use Rattle.sqlite.proofs.StateLemmas.{survives_then}
 use Rattle.sqlite.proofs.Callers.{survives_begin}
-use Rattle.atl_store.specs.Inside.{HasTables, Inside, Both, Commits, LeavesOff, MayLeave}
+use Rattle.atl_store.specs.Inside.{HasTables, Done, Inside, Both, Commits, LeavesOff, MayLeave}
 use Rattle.atl_store.specs.Writes.{Writes, Transacts}
 use Rattle.atl_store.proofs.KeepLaws.{on_ok, if_err}
+use Rattle.atl_store.proofs.CarryLaws.{carries_then}
 use Rattle.atl_store.proofs.WriteLaws.{not_ok}
 
 pub inside_then : (Before : Database → Type 0) (First Second : Database → Database → Type 0) (a b c : State) → Inside Before First a b → Inside HasTables Second b c → Inside Before (Both First Second) a c
@@ -19,12 +20,12 @@ inside_then Before First Second a b c one two = (
   two.0 ∙ one.0,
   λ has.
       let was = one.1 has in
-      let now = two.1 was.1 in
-      ((b.now, was.0, now.0), now.1),
+      let now = two.1 was.tables in
+      record { does = (b.now, was.does, now.does); tables = now.tables; carries = carries_then a.now b.now c.now was.carries now.carries },
 )
 
 pub inside_weaker : (Before : Database → Type 0) (Does Less : Database → Database → Type 0) (a b : State) → (Before a.now → Does a.now b.now → Less a.now b.now) → Inside Before Does a b → Inside Before Less a b
-inside_weaker Before Does Less a b weaker h = (h.0, λ has. let did = h.1 has in (weaker has did.0, did.1))
+inside_weaker Before Does Less a b weaker h = (h.0, λ has. let did = h.1 has in record { does = weaker has did.does; tables = did.tables; carries = did.carries })
 
 module _ {S : Type 0} (g : Ghosts S) (old begun mid end : Held S) (begins : begun ≡ record old { in_transaction = true }) (Before : Database → Type 0) (Does : Database → Database → Type 0) where
   pub crash_after : Survives (state g begun) (state g mid) (λ _. ⊥) → (HasCleanDisk (state g mid) → Inside Before Does (state g begun) (state g mid)) → Survives (state g mid) (state g end) (λ db. db ≡ (state g mid).now.trees)
@@ -34,7 +35,7 @@ module _ {S : Type 0} (g : Ghosts S) (old begun mid end : Held S) (begins : begu
       survives_then (state g old) (state g mid) (state g end) _ _ (MayLeave Before Does (state g old)) (λ _ db none. absurd none)
       (λ clean db is. (
         (state g mid).now,
-        λ has. subst (λ d. Does d (state g mid).now × HasTables (state g mid).now) same ((inside (omega (arith, two.clean))).1 (subst Before (sym same) has)),
+        λ has. subst (λ d. Done Does d (state g mid).now) same ((inside (omega (arith, two.clean))).1 (subst Before (sym same) has)),
         is,
       ))
       (survives_begin g old (state g mid) _ (rw begins at one)) two
@@ -48,7 +49,7 @@ module _ {S : Type 0} (g : Ghosts S) (old begun mid end : Held S) (begins : begu
       record {
         does = λ was.
             let did = (inside (omega (arith, two.clean))).1 (subst Before (sym same) was) in
-            subst (λ db. Does (state g old).now db × HasTables db) (sym shows.now_is) (subst (λ d. Does d (state g mid).now × HasTables (state g mid).now) same did);
+            subst (λ db. Done Does (state g old).now db) (sym shows.now_is) (subst (λ d. Done Does d (state g mid).now) same did);
         committed = shows.committed_is ∙ sym shows.now_is;
         idle = shows.mode;
         is_open = shows.is_open;

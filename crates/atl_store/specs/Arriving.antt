@@ -1,7 +1,6 @@
 -- What the writing of a joining and of a mail does.
-use Rattle.std.specs.Prelude.{◌≡◌, ◌≢◌, ◌⊎◌, ◌+◌, ◌≤◌, ℕ, List, Some, length, take}
+use Rattle.std.specs.Prelude.{◌≡◌, ◌≢◌, ◌⊎◌, ◌+◌, ◌-◌, ◌≤◌, ℕ, List, Some, IsSome, length, take}
 use Rattle.std.specs.FinMap.{get}
-use Rattle.sqlite.specs.Table.{Table}
 use Rattle.sqlite.specs.Effect.{Database}
 use Rattle.sqlite_rules.specs.Lists.{Has}
 use Rattle.atl_state.specs.State.{State, with_mail}
@@ -10,12 +9,21 @@ use Rattle.atl_state.specs.declared.books.Entry.{Entry}
 use Rattle.atl_state.specs.declared.books.Thing.{Thing}
 use Rattle.atl_state.specs.declared.records.Faction.{Faction}
 use Rattle.atl_state.specs.declared.records.Unit.{Unit}
-use Rattle.atl_store.specs.Sets.{Is, rows_in}
-use Rattle.atl_store.specs.Tables.{books_table, nine_tables}
+use Rattle.atl_store.specs.Sets.{rows_in}
+use Rattle.atl_store.specs.Inside.{Alters}
+use Rattle.atl_store.specs.Tables.{books_table}
 use Rattle.atl_store.specs.Shown.{books_key}
 use Rattle.atl_store.specs.Lines.{amount_lines}
 use Rattle.atl_store.specs.Rows.{Holds}
 use Rattle.atl_store.specs.Keeps.{IsJoining}
+
+-- a faction is there with its report, a unit came last, and the books have places for money and people
+pub record HasArrival (c : State) (number : ℕ) : Type 0 where
+  pub next : 1 ≤ c.next_unit
+  pub things : 2 ≤ length c.books
+  pub faction : IsSome (get c.factions number)
+  pub unit : IsSome (get c.units (c.next_unit - 1))
+  pub report : IsSome (get c.reports number)
 
 -- the campaign has this faction, its report, and the unit that came last
 pub record IsFound (c : State) (number : ℕ) (faction : Faction) (place : ℕ) (unit : Unit) (report : List ℕ) : Type 0 where
@@ -26,9 +34,8 @@ pub record IsFound (c : State) (number : ℕ) (faction : Faction) (place : ℕ) 
   pub things : 2 ≤ length c.books
 
 -- the amount of a thing under an entry has its row, or none where it is 0, and every other row and table is as it was
-pub record Settles (c : State) (entry : Entry) (thing : Thing) (old new : Database) : Type 0 where
-  pub rows : Is (rows_in books_table new.trees) (λ r. Has (amount_lines c entry thing) r ⊎ (Has (rows_in books_table old.trees) r × (take 2 r ≢ books_key (entry_place entry + 1) (thing_place thing))))
-  pub others : (t : Table) → Has nine_tables.tables t → t.tree ≢ books_table.tree → new.trees t.tree ≡ old.trees t.tree
+abbrev pub Settles : State → Entry → Thing → Database → Database → Type 0
+Settles c entry thing old new = Alters books_table (λ r. Has (amount_lines c entry thing) r ⊎ (Has (rows_in books_table old.trees) r × (take 2 r ≢ books_key (entry_place entry + 1) (thing_place thing)))) old new
 
 -- tables that held the campaign before a joining hold the one after it
 abbrev pub WritesJoin : ℕ → State → Database → Database → Type 0

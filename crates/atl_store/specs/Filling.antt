@@ -6,13 +6,13 @@ use Rattle.sqlite.specs.Table.{Table}
 use Rattle.sqlite_rules.specs.Lists.{Has}
 use Rattle.atl_state.specs.State.{State}
 use Rattle.atl_store.specs.Sets.{Is, rows_in}
-use Rattle.atl_store.specs.Tables.{campaign_table, faction_table, region_table, unit_table, has_table, structure_table, mail_table, report_table, books_table, nine_tables}
+use Rattle.atl_store.specs.Tables.{campaign_table, faction_table, region_table, unit_table, has_table, structure_table, mail_table, report_table, books_table, all_tables}
 use Rattle.atl_store.specs.Shown.{mail_row, report_row}
 use Rattle.atl_store.specs.Rows.{campaign_line, faction_line, region_line, unit_line, structure_line, RowsOf, HasRowsOf, BooksRowsOf, Holds}
 
 -- each table but those at these trees is as it was
 abbrev pub SparesAllBut : List ℕ → Database → Database → Type 0
-SparesAllBut trees old new = (t : Table) → Has nine_tables.tables t → list_any (λ tree. nat_eq t.tree tree) trees ≡ false → new.trees t.tree ≡ old.trees t.tree
+SparesAllBut trees old new = (t : Table) → Has all_tables t → list_any (λ tree. nat_eq t.tree tree) trees ≡ false → new.trees t.tree ≡ old.trees t.tree
 
 -- ---- the campaign's own row, factions and reports
 

@@ -2,46 +2,63 @@
 use Rattle.std.specs.Prelude.{◌≡◌, ◌≢◌, ℕ, List, false, IsTrue}
 use Rattle.sqlite_value.specs.Order.{Row}
 use Rattle.sqlite_schema.specs.declared.schema.Table.{Table}
+use Rattle.sqlite_schema.specs.declared.schema.Index.{Index}
 use Rattle.sqlite_rules.specs.Lists.{Has}
 use Rattle.sqlite.specs.Effect.{Database}
 use Rattle.sqlite.specs.State.{State}
 use Rattle.sqlite_trees.specs.Tree.{Trees}
-use Rattle.atl_store.specs.Sets.{IsSoundly, Makes, Is, rows_in, put, puts, drop_key}
-use Rattle.atl_store.specs.Tables.{no_tables, nine_tables}
+use Rattle.atl_store.specs.Sets.{Set, IsSoundly, Is, rows_in, put, puts, drop_key}
+use Rattle.atl_store.specs.Tables.{no_tables, all_tables, nine_trees, HasNine}
 
--- the database has the nine tables and no other
+-- the database begins with the nine tables
 pub record HasTables (db : Database) : Type 0 where
-  pub schema : db.schema ≡ nine_tables
-  pub sound : IsSoundly nine_tables db.trees
+  pub nine : HasNine db.schema
+  pub sound : IsSoundly db.schema db.trees
 
 -- the database has no table
 abbrev pub IsBlank : Database → Type 0
 IsBlank db = db.schema ≡ no_tables
 
--- inside a transaction, which goes on: what is done to a database of this sort, which has the nine tables then
+-- no table and no index goes, and what other tables hold beside the nine stays as it was
+pub record Carries (old new : Database) : Type 0 where
+  pub tables : (t : Table) → Has old.schema.tables t → Has new.schema.tables t
+  pub indexes : (i : Index) → Has old.schema.indexes i → Has new.schema.indexes i
+  pub others : (t : Table) → Has old.schema.tables t → ¬ Has nine_trees t.tree → new.trees t.tree ≡ old.trees t.tree
+
+-- this is done, and the nine tables are there afterwards
+pub record Done (Does : Database → Database → Type 0) (old new : Database) : Type 0 where
+  pub does : Does old new
+  pub tables : HasTables new
+  pub carries : Carries old new
+
+-- inside a transaction, which goes on: what is done to a database of this sort
 abbrev pub Inside : (Database → Type 0) → (Database → Database → Type 0) → State → State → Type 0
-Inside Before Does old new = (new.in_transaction ≡ old.in_transaction) × (Before old.now → Does old.now new.now × HasTables new.now)
+Inside Before Does old new = (new.in_transaction ≡ old.in_transaction) × (Before old.now → Done Does old.now new.now)
 
 -- one after the other
 abbrev pub Both : (Database → Database → Type 0) → (Database → Database → Type 0) → Database → Database → Type 0
 Both First Second old new = (mid : Database) × First old mid × Second mid new
 
--- the row is put in the place of the one that has its key, which is so many columns, and every other table is as it was
+-- the rows of this table are these, and each other of the nine is as it was
+pub record Alters (table : Table) (S : Set) (old new : Database) : Type 0 where
+  pub rows : Is (rows_in table new.trees) S
+  pub others : (t : Table) → Has all_tables t → t.tree ≢ table.tree → new.trees t.tree ≡ old.trees t.tree
+
+-- the row is put in the place of the one that has its key, which is so many columns
 abbrev pub Puts : Table → ℕ → Row → Database → Database → Type 0
-Puts table key row old new = Makes nine_tables table old new (put key row (Has (rows_in table old.trees)))
+Puts table key row old new = Alters table (put key row (Has (rows_in table old.trees))) old new
 
--- the row that has this key is taken out, and every other table is as it was
+-- the row that has this key is taken out
 abbrev pub Drops : Table → ℕ → Row → Database → Database → Type 0
-Drops table key k old new = Makes nine_tables table old new (drop_key key k (Has (rows_in table old.trees)))
+Drops table key k old new = Alters table (drop_key key k (Has (rows_in table old.trees))) old new
 
--- all these rows are put, one after another, and every other table is as it was
-pub record PutsRows (table : Table) (key : ℕ) (news : List Row) (old new : Database) : Type 0 where
-  pub rows : Is (rows_in table new.trees) (puts key news (Has (rows_in table old.trees)))
-  pub others : (t : Table) → Has nine_tables.tables t → t.tree ≢ table.tree → new.trees t.tree ≡ old.trees t.tree
+-- all these rows are put, one after another
+abbrev pub PutsRows : Table → ℕ → List Row → Database → Database → Type 0
+PutsRows table key news old new = Alters table (puts key news (Has (rows_in table old.trees))) old new
 
 -- a transaction as a whole: what is done to the tables is committed
 pub record Commits (Before : Database → Type 0) (Does : Database → Database → Type 0) (old new : State) : Type 0 where
-  pub does : Before old.now → Does old.now new.now × HasTables new.now
+  pub does : Before old.now → Done Does old.now new.now
   pub committed : new.committed ≡ new.now
   pub idle : new.in_transaction ≡ false
   pub is_open : IsTrue new.is_open
@@ -54,4 +71,4 @@ pub record LeavesOff (old new : State) : Type 0 where
 
 -- what a crash may leave after it, beside what it could leave before
 abbrev pub MayLeave : (Database → Type 0) → (Database → Database → Type 0) → State → Trees → Type 0
-MayLeave Before Does old trees = (db : Database) × (Before old.now → Does old.now db × HasTables db) × (trees ≡ db.trees)
+MayLeave Before Does old trees = (db : Database) × (Before old.now → Done Does old.now db) × (trees ≡ db.trees)

@@ -1,5 +1,5 @@
 -- What a connection keeps between two calls: the one word that the layers above use.
-use Rattle.std.specs.Prelude.{◌≡◌, ◌⊎◌, false, IsTrue, List, ℕ}
+use Rattle.std.specs.Prelude.{◌≡◌, ◌⊎◌, ◌≤◌, false, IsTrue, List, ℕ}
 use Rattle.sqlite_trees.specs.Tree.{Trees}
 use Rattle.sqlite_trees.specs.declared.store.Store.{Ghosts}
 use Rattle.sqlite.specs.Held.{Held, state}
@@ -10,11 +10,20 @@ use Rattle.atl_tables.specs.Planet.{Planet}
 use Rattle.atl_state.specs.State.{State as Campaign, with_report}
 use Rattle.atl_state.specs.Joining.{joined}
 use Rattle.atl_state.specs.Good.{IsGood}
-use Rattle.atl_store.specs.Inside.{HasTables}
+use Rattle.atl_store.specs.Sets.{IsSoundly}
+use Rattle.atl_store.specs.Tables.{HasNine}
+use Rattle.atl_store.specs.Inside.{HasTables, Carries}
 use Rattle.atl_store.specs.Making.{has_campaign}
 use Rattle.atl_store.specs.Rows.{Holds}
 use Rattle.atl_store.specs.declared.fault.CreateFault.{CreateFault}
 use Rattle.atl_store.specs.declared.fault.CreateFault.TheVariants.{NotEmpty, Store, Memory}
+
+-- What a file holds: the nine tables, as its catalog lists them, and in them exactly the rows of the text and the campaign.
+pub record Stores (db : Trees) (text : List ℕ) (c : Campaign) : Type 0 where
+  pub schema : Schema
+  pub nine : HasNine schema
+  pub sound : IsSoundly schema db
+  pub rows : Holds db text c
 
 -- The connection is open and in no transaction, its tables hold exactly the rows of the text and the campaign, and a crash leaves just these.
 pub record Keeps (s : State) (text : List ℕ) (c : Campaign) : Type 0 where
@@ -23,7 +32,7 @@ pub record Keeps (s : State) (text : List ℕ) (c : Campaign) : Type 0 where
   pub settled : s.committed ≡ s.now
   pub tables : HasTables s.now
   pub rows : Holds s.now.trees text c
-  pub crash : (db : Trees) → s.may_leave db → Holds db text c
+  pub crash : (db : Trees) → s.may_leave db → Stores db text c
 
 -- This connection holds this campaign, on a disk that is clean so far.
 abbrev pub HoldsCampaign : {S : Type 0} → Ghosts S → Held S → List ℕ → Campaign → Type 0
@@ -34,23 +43,45 @@ HoldsCampaign g conn text c = HasCleanDisk (state g conn) → Keeps (state g con
 pub record Stops (faults : ℕ) (s : State) (text : List ℕ) (before after : Campaign) : Type 0 where
   pub still : IsTrue s.is_open → Keeps s text before
   pub closes : IsTrue s.is_open ⊎ MoreFaults faults s.faults
-  pub crash : (db : Trees) → s.may_leave db → Holds db text before ⊎ Holds db text after
+  pub crash : (db : Trees) → s.may_leave db → Stores db text before ⊎ Stores db text after
+
+-- The same connection later: no failure of its disk is forgotten.
+pub record IsLater (old new : State) : Type 0 where
+  pub clean : HasCleanDisk new → HasCleanDisk old
+  pub counts : old.faults ≤ new.faults
+
+-- What other tables hold beside the nine is as it was, while the connection is open.
+abbrev pub SparesOthers : State → State → Type 0
+SparesOthers old new = IsTrue new.is_open → HasTables old.now → old.committed ≡ old.now → Carries old.now new.now
 
 -- ---- creating
 
--- What a creation that was refused leaves: while the connection is open, the tables are as they were.
-abbrev pub Spares : State → State → Type 0
-Spares old new = IsTrue new.is_open → (new.now ≡ old.now) × (new.committed ≡ old.committed) × (new.in_transaction ≡ old.in_transaction)
+-- Nothing is created: while the connection is open its tables are as they were, and only another failure of the disk shuts it.
+pub record Spares (old new : State) : Type 0 where
+  pub same : IsTrue new.is_open → (new.now ≡ old.now) × (new.committed ≡ old.committed) × (new.in_transaction ≡ old.in_transaction)
+  pub closes : IsTrue old.is_open → IsTrue new.is_open ⊎ MoreFaults old.faults new.faults
 
 -- a crash leaves what it left before, or the campaign
 abbrev pub MayFound : State → List ℕ → Campaign → State → Type 0
-MayFound old text c new = (db : Trees) → new.may_leave db → old.may_leave db ⊎ Holds db text c
+MayFound old text c new = (db : Trees) → new.may_leave db → old.may_leave db ⊎ Stores db text c
 
--- the fault NotEmpty comes exactly where a table campaign is there
-abbrev pub IsNotEmptyOnly : Schema → CreateFault → Type 0
-IsNotEmptyOnly schema NotEmpty = IsTrue (has_campaign schema)
-IsNotEmptyOnly schema Store = has_campaign schema ≡ false
-IsNotEmptyOnly schema Memory = has_campaign schema ≡ false
+-- Where no table campaign was there, the connection holds the campaign.
+pub record Creates {S : Type 0} (g : Ghosts S) (text : List ℕ) (c : Campaign) (old new : Held S) : Type 0 where
+  pub fresh : has_campaign old.schema ≡ false
+  pub idle : new.in_transaction ≡ false
+  pub tables : HoldsCampaign g new text c
+
+-- The database could not be written.
+pub record FailsToCreate {S : Type 0} (g : Ghosts S) (text : List ℕ) (c : Campaign) (old new : Held S) : Type 0 where
+  pub fresh : has_campaign old.schema ≡ false
+  pub tables : HasCleanDisk (state g new) → Spares (state g old) (state g new)
+  pub crash : HasCleanDisk (state g new) → MayFound (state g old) text c (state g new)
+
+-- Where a table campaign is there, nothing at all is changed.
+abbrev pub RefusesToCreate : {S : Type 0} → Ghosts S → List ℕ → Campaign → Held S → Held S → CreateFault → Type 0
+RefusesToCreate g text c old new NotEmpty = IsTrue (has_campaign old.schema) × (new ≡ old)
+RefusesToCreate g text c old new Store = FailsToCreate g text c old new
+RefusesToCreate g text c old new Memory = FailsToCreate g text c old new
 
 -- ---- writing
 

@@ -8,7 +8,7 @@ use Rattle.sqlite.specs.Effect.{Database, IsDatabase}
 use Rattle.sqlite.specs.State.{State}
 use Rattle.sqlite_rules.specs.Lists.{Has}
 use Rattle.atl_store.specs.Sets.{rows_in}
-use Rattle.atl_store.specs.Tables.{nine_tables}
+use Rattle.atl_store.specs.Tables.{all_tables}
 
 -- the database has these tables, and none of them has a row
 pub record AreBare (schema : Schema) (db : Database) : Type 0 where
@@ -21,7 +21,7 @@ Extends before after old new = (new.in_transaction ≡ old.in_transaction) × (A
 
 -- none of the nine tables has a row
 abbrev pub AreEmpty : Database → Database → Type 0
-AreEmpty old new = (t : Table) → Has nine_tables.tables t → rows_in t new.trees ≡ []
+AreEmpty old new = (t : Table) → Has all_tables t → rows_in t new.trees ≡ []
 
 -- there is a table of this name
 abbrev pub has_campaign : Schema → Bool

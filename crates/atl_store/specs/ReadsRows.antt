@@ -5,7 +5,7 @@ use Rattle.sqlite_trees.specs.declared.store.Store.{Ghosts}
 use Rattle.sqlite.specs.Held.{Held, state}
 use Rattle.sqlite.specs.Order.{Row}
 use Rattle.sqlite.specs.State.{State, HasCleanDisk, Survives}
-use Rattle.atl_store.specs.Tables.{nine_tables}
+use Rattle.atl_store.specs.Tables.{HasNine}
 use Rattle.atl_store.specs.declared.fault.ReadFault.{ReadFault}
 use Rattle.atl_store.specs.declared.fault.ReadFault.TheVariants.{OtherType}
 
@@ -16,6 +16,6 @@ pub record ReadsRows {S A Z : Type 0} (g : Ghosts S) (Gives : List Row → State
   -- The fault OtherType comes only of what is in the table.
   pub other : HasCleanDisk (state g new) → IfErr result (λ e. e ≡ OtherType → FindsOther (state g old))
   -- A crash leaves only what it could have left before.
-  pub survives : old.schema ≡ nine_tables → Survives (state g old) (state g new) (λ _. ⊥)
+  pub survives : HasNine old.schema → Survives (state g old) (state g new) (λ _. ⊥)
   -- No transaction is begun.
   pub idle : old.in_transaction ≡ false → new.in_transaction ≡ false

@@ -1,5 +1,6 @@
 -- The nine tables: their columns, keys and checks, and the schema that they make together.
-use Rattle.std.specs.Prelude.{[], ◌∷◌, Some, None, codes, pos, take, List, ℕ}
+use Rattle.std.specs.Prelude.{◌≡◌, false, [], ◌∷◌, ◌++◌, Some, None, codes, pos, take, map, List, ℕ}
+use Rattle.std.specs.List.{AllByRecursion}
 use Rattle.sqlite.specs.declared.types.Value.TheVariants.{Int}
 use Rattle.sqlite.specs.Table.{Table}
 use Rattle.sqlite.specs.Schema.{Schema}
@@ -11,6 +12,8 @@ use Rattle.sqlite_schema.specs.declared.schema.Index.{Index}
 use Rattle.sqlite_sql.specs.Term.{lit, col, op2}
 use Rattle.sqlite_sql.specs.declared.ops.BinaryOp.TheVariants.{Compare}
 use Rattle.sqlite_sql.specs.declared.ops.CompareOp.TheVariants.{Eq}
+use Rattle.sqlite_schema.specs.Rules.{guards}
+use Rattle.sqlite_rules.specs.Lists.{Has}
 use Rattle.atl_store.specs.Sets.{field, table}
 
 abbrev pub number : List ℕ → Column
@@ -69,5 +72,18 @@ first_tables tables indexes = record { tables = take tables all_tables; indexes 
 abbrev pub no_tables : Schema
 no_tables = first_tables 0 0
 
-abbrev pub nine_tables : Schema
-nine_tables = record { tables = all_tables; indexes = all_indexes; views = [] }
+-- the nine tables with their indexes, and what came behind them
+abbrev pub nine_and : List Table → List Index → Schema
+nine_and tables indexes = record { tables = all_tables ++ tables; indexes = all_indexes ++ indexes; views = [] }
+
+-- The schema begins with the nine tables. Other tables without a foreign key, and indexes that make nothing of the nine unique, may have come behind them; there is no view and no trigger.
+pub record HasNine (schema : Schema) : Type 0 where
+  pub tables : List Table
+  pub indexes : List Index
+  pub is : schema ≡ nine_and tables indexes
+  pub free : AllByRecursion (λ t. t.references ≡ []) tables
+  pub plain : (i : Index) (t : Table) → Has indexes i → Has all_tables t → guards i t ≡ false
+
+-- the trees of the nine tables
+abbrev pub nine_trees : List ℕ
+nine_trees = map (λ t. t.tree) all_tables

@@ -1,43 +1,23 @@
 //! A whole campaign is written into a new store.
-ghost use Rattle.std.specs.Prelude.{◌≡◌, false, IsTrue, OnOk, OnErr, IfErr};
+ghost use Rattle.std.specs.Prelude.{◌≡◌, ◌≤◌, false, IsTrue, OnOk, IfErr, length};
 ghost use Rattle.sqlite.specs.Held.{state};
-ghost use Rattle.sqlite.specs.State.{HasCleanDisk};
 ghost use Rattle.atl_store.specs.Tables.{no_tables};
-ghost use Rattle.atl_store.specs.Rows.{head_of};
-ghost use Rattle.atl_store.specs.PutsHead.{PutsHead};
+ghost use Rattle.atl_state.specs.Limits.{most_things};
 ghost use Rattle.atl_store.specs.Writes.{Writes, Transacts};
 ghost use Rattle.atl_store.specs.Inside.{Inside, HasTables, IsBlank};
 ghost use Rattle.atl_store.specs.Making.{has_campaign};
 ghost use Rattle.atl_store.specs.Filling.{FillsPlayers, FillsPlaces, FillsPeople, WritesFounding};
-ghost use Rattle.atl_store.specs.Keeps.{Keeps, Spares, MayFound, IsNotEmptyOnly};
+ghost use Rattle.atl_store.specs.Keeps.{Creates, RefusesToCreate, IsLater};
 
 use crate::fault::CreateFault;
 use crate::goods::put_all_goods;
+use crate::head::put_head;
 use crate::kept::put_each;
 use crate::ledger::put_all_books;
-use crate::rows::campaign::{CampaignRow, put_campaign};
 use crate::tables::create_tables;
 use atl_state::Campaign;
 use sqlite::{Alter, Connection, Error, Transaction};
 use sqlite_schema::schema::Schema;
-
-/// Puts the campaign's own row with this world text. Where the row is there it keeps its own world text.
-pub(crate) fn put_head<S: Alter>(
-    tx: &mut Transaction<'_, S>,
-    campaign: &Campaign,
-    world: &str,
-) -> Result<(), Error>
-    ensures { Writes S.Store (Inside HasTables (PutsHead (head_of campaign.now.what) world.now)) result tx.old.conn tx.new.conn }
-{
-    let row = CampaignRow {
-        month: campaign.month(),
-        next_faction: campaign.next_faction(),
-        next_unit: campaign.next_unit(),
-        next_structure: campaign.next_structure(),
-        pass: campaign.pass().as_str(),
-    };
-    put_campaign(tx, &row, world)
-}
 
 /// Puts the campaign's own row, the factions and the reports.
 fn put_players<S: Alter>(
@@ -54,6 +34,7 @@ fn put_players<S: Alter>(
 
 /// Puts the regions, the structures and the books.
 fn put_places<S: Alter>(tx: &mut Transaction<'_, S>, campaign: &Campaign) -> Result<(), Error>
+    requires { length campaign.now.what.books ≤ most_things }
     ensures { Writes S.Store (Inside HasTables (FillsPlaces campaign.now.what)) result tx.old.conn tx.new.conn }
 {
     put_each(tx, campaign.regions())?;
@@ -76,6 +57,7 @@ fn put_founding<S: Alter>(
     text: &str,
     campaign: &Campaign,
 ) -> Result<(), Error>
+    requires { length campaign.now.what.books ≤ most_things }
     ensures { Writes S.Store (Inside IsBlank (WritesFounding text.now campaign.now.what)) result tx.old.conn tx.new.conn }
 {
     create_tables(tx)?;
@@ -90,7 +72,8 @@ fn write_founding<S: Alter>(
     text: &str,
     campaign: &Campaign,
 ) -> Result<(), Error>
-    requires { conn.old.in_transaction ≡ false }
+    requires idle { conn.old.in_transaction ≡ false }
+    requires things { length campaign.now.what.books ≤ most_things }
     ensures { Transacts S.Store IsBlank (WritesFounding text.now campaign.now.what) result conn.old conn.new }
 {
     let mut tx = conn.transaction();
@@ -116,19 +99,19 @@ fn is_blank(schema: &Schema) -> bool
 }
 
 /// Makes the nine tables and writes the whole campaign with its world text, in one transaction. With Ok the connection
-/// holds the campaign. NotEmpty: a table `campaign` is there. Store: the connection is in a transaction, the database has
-/// other tables, or it refuses. On a fault the tables are as they were. See docs/FORMATS.md, "Tables".
+/// holds the campaign, and no table `campaign` was there. NotEmpty: a table `campaign` is there, and nothing is changed.
+/// Store: the connection is in a transaction, the database has other tables, or it refuses. After Store and Memory the
+/// tables are as they were while the connection is open, and a crash leaves what it left before or the campaign. See
+/// docs/FORMATS.md, "Tables".
 pub fn create<S: Alter>(
     conn: &mut Connection<S>,
     world_text: &str,
     campaign: &Campaign,
 ) -> Result<(), CreateFault>
-    ensures ok { HasCleanDisk (state S.Store conn.new) → OnOk result (Keeps (state S.Store conn.new) world_text.now campaign.now.what) }
-    ensures idle { OnOk result (conn.new.in_transaction ≡ false) }
-    ensures err { HasCleanDisk (state S.Store conn.new) → OnErr result (Spares (state S.Store conn.old) (state S.Store conn.new)) }
-    ensures crash { HasCleanDisk (state S.Store conn.new) → MayFound (state S.Store conn.old) world_text.now campaign.now.what (state S.Store conn.new) }
-    ensures not_empty { IfErr result (IsNotEmptyOnly conn.old.schema) }
-    ensures clean { HasCleanDisk (state S.Store conn.new) → HasCleanDisk (state S.Store conn.old) }
+    requires { length campaign.now.what.books ≤ most_things }
+    ensures ok { OnOk result (Creates S.Store world_text.now campaign.now.what conn.old conn.new) }
+    ensures err { IfErr result (RefusesToCreate S.Store world_text.now campaign.now.what conn.old conn.new) }
+    ensures later { IsLater (state S.Store conn.old) (state S.Store conn.new) }
 {
     if is_there(conn.schema()) {
         return Err(CreateFault::NotEmpty);

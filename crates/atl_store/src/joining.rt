@@ -1,5 +1,5 @@
 //! A joining is written into the tables of the campaign.
-ghost use Rattle.std.specs.Prelude.{◌≡◌, ◌≤◌, [], false, List, ℕ, OnOk, OnErr, IfSome, length};
+ghost use Rattle.std.specs.Prelude.{◌≡◌, ◌≤◌, [], false, List, ℕ, OnOk, OnErr, length};
 ghost use Rattle.sqlite.specs.Held.{state};
 ghost use Rattle.sqlite.specs.State.{HasCleanDisk};
 ghost use Rattle.atl_state.specs.State.{State};
@@ -11,13 +11,13 @@ ghost use Rattle.atl_store.specs.Rows.{head_of, faction_line, unit_line};
 ghost use Rattle.atl_store.specs.PutsHead.{PutsHead};
 ghost use Rattle.atl_store.specs.Writes.{Writes, Transacts};
 ghost use Rattle.atl_store.specs.Inside.{Inside, HasTables, Both, Puts};
-ghost use Rattle.atl_store.specs.Arriving.{IsFound, Settles, WritesJoin};
-ghost use Rattle.atl_store.specs.Keeps.{Keeps, Stops, IsJoining};
+ghost use Rattle.atl_store.specs.Arriving.{HasArrival, IsFound, Settles, WritesJoin};
+ghost use Rattle.atl_store.specs.Keeps.{Keeps, Stops, IsLater, SparesOthers, IsJoining};
 
 use crate::fault::WriteFault;
-use crate::founding::put_head;
+use crate::head::put_head;
 use crate::kept::Kept;
-use crate::ledger::{FIRST_ITEM, settle_amount};
+use crate::ledger::settle_amount;
 use atl_state::{Campaign, Entry, Faction, Thing, Unit};
 use atl_tables::Text;
 use sqlite::{Alter, Connection, Error, Transaction};
@@ -32,23 +32,20 @@ struct Arrival<'a> {
     report: &'a Text,
 }
 
-/// The faction that joined last, where the campaign has all of it.
-fn arrival_of(campaign: &Campaign, number: u32) -> Option<Arrival<'_>>
-    ensures found { IfSome result (λ a. IsFound campaign.now.what a.number a.faction.now a.place a.unit.now a.report.now) }
-    ensures number { IfSome result (λ a. a.number ≡ number) }
+/// The faction that joined last.
+fn arrival_of(campaign: &Campaign, number: u32) -> Arrival<'_>
+    requires { HasArrival campaign.now.what number }
+    ensures found { IsFound campaign.now.what result.number result.faction.now result.place result.unit.now result.report.now }
+    ensures number { result.number ≡ number }
 {
-    let next = campaign.next_unit();
-    if next == 0 || campaign.things() < FIRST_ITEM {
-        return None;
-    }
-    let place = next - 1;
-    Some(Arrival {
+    let place = campaign.next_unit() - 1;
+    Arrival {
         number,
-        faction: campaign.faction(number)?,
+        faction: campaign.faction(number).unwrap(),
         place,
-        unit: campaign.unit(place)?,
-        report: campaign.report(number)?,
-    })
+        unit: campaign.unit(place).unwrap(),
+        report: campaign.report(number).unwrap(),
+    }
 }
 
 /// Puts the campaign's own row, the faction and its unit.
@@ -108,23 +105,22 @@ fn write_joining<S: Alter>(
 
 /// Writes a joining into a store that holds the campaign before it, in one transaction: the campaign's own row, the
 /// faction, its unit and its report, and what joining booked. The campaign is the one after the joining, with the
-/// faction's first report stored. With Ok the store holds it. Store or Memory: the store holds the one before, and a crash
-/// leaves the one before or the one after. See docs/FORMATS.md, "Tables".
+/// faction's first report stored. With Ok the store holds it. Store or Memory: the store holds the one before while the
+/// connection is open, and a crash leaves the one before or the one after. See docs/FORMATS.md, "Tables".
 pub fn write_join<S: Alter>(
     conn: &mut Connection<S>,
     campaign: &Campaign,
     faction: u32,
 ) -> Result<(), WriteFault>
     requires idle { conn.old.in_transaction ≡ false }
+    requires arrived { HasArrival campaign.now.what faction }
     ensures ok { HasCleanDisk (state S.Store conn.new) → OnOk result ((text : List ℕ) (before : State) → Keeps (state S.Store conn.old) text before → IsJoining before faction campaign.now.what → Keeps (state S.Store conn.new) text campaign.now.what) }
     ensures err { HasCleanDisk (state S.Store conn.new) → OnErr result ((text : List ℕ) (before : State) → Keeps (state S.Store conn.old) text before → IsJoining before faction campaign.now.what → Stops (state S.Store conn.old).faults (state S.Store conn.new) text before campaign.now.what) }
-    ensures clean { HasCleanDisk (state S.Store conn.new) → HasCleanDisk (state S.Store conn.old) }
-    ensures counts { (state S.Store conn.old).faults ≤ (state S.Store conn.new).faults }
+    ensures later { IsLater (state S.Store conn.old) (state S.Store conn.new) }
+    ensures others { HasCleanDisk (state S.Store conn.new) → SparesOthers (state S.Store conn.old) (state S.Store conn.new) }
     ensures idle { conn.new.in_transaction ≡ false }
 {
-    let Some(arrival) = arrival_of(campaign, faction) else {
-        return Err(WriteFault::Store);
-    };
+    let arrival = arrival_of(campaign, faction);
     write_joining(conn, campaign, &arrival)?;
     Ok(())
 }

@@ -1,6 +1,7 @@
 //! The books, written row by row.
-ghost use Rattle.std.specs.Prelude.{◌≡◌, ◌+◌, ◌<◌, IfSome, length};
+ghost use Rattle.std.specs.Prelude.{◌≡◌, ◌+◌, ◌<◌, ◌≤◌, length};
 ghost use Rattle.std.specs.List.{range_with_len};
+ghost use Rattle.atl_state.specs.Limits.{most_things};
 ghost use Rattle.atl_state.specs.Books.{entry_place, thing_place};
 ghost use Rattle.atl_store.specs.Tables.{books_table};
 ghost use Rattle.atl_store.specs.Lines.{thing_at, amount_lines, entries_lines, things_lines};
@@ -10,10 +11,10 @@ ghost use Rattle.atl_store.specs.Arriving.{Settles};
 
 use crate::rows::books::{BooksRow, drop_books, put_books};
 use atl_state::{Campaign, ENTRY_COUNT, Entry, Thing};
-use sqlite::{Alter, Error, ErrorCode, Transaction};
+use sqlite::{Alter, Error, Transaction};
 
 /// The number of the first item. Money has 0, and people have 1.
-pub(crate) const FIRST_ITEM: usize = 2;
+const FIRST_ITEM: usize = 2;
 
 /// All entries, in the order of their numbers.
 const ENTRIES: [Entry; ENTRY_COUNT] = [
@@ -64,17 +65,15 @@ fn thing_number(thing: Thing) -> u32
     }
 }
 
-/// The thing of a number, where a thing can have it.
-fn thing_of(number: usize) -> Option<Thing>
-    ensures { IfSome result (λ thing. thing ≡ thing_at number) }
+/// The thing of a number.
+fn thing_of(number: usize) -> Thing
+    requires { number < most_things }
+    ensures { result ≡ thing_at number }
 {
     match number {
-        0 => Some(Thing::Money),
-        1 => Some(Thing::People),
-        _ => match u16::try_from(number - FIRST_ITEM) {
-            Ok(item) => Some(Thing::Item(item)),
-            Err(_) => None,
-        },
+        0 => Thing::Money,
+        1 => Thing::People,
+        _ => Thing::Item((number - FIRST_ITEM) as u16),
     }
 }
 
@@ -143,13 +142,11 @@ pub(crate) fn put_all_books<S: Alter>(
     tx: &mut Transaction<'_, S>,
     campaign: &Campaign,
 ) -> Result<(), Error>
+    requires { length campaign.now.what.books ≤ most_things }
     ensures { Writes S.Store (Inside HasTables (PutsRows books_table 2 (things_lines campaign.now.what (range_with_len 0 (length campaign.now.what.books))))) result tx.old.conn tx.new.conn }
 {
     for number in 0..campaign.things() {
-        match thing_of(number) {
-            Some(thing) => put_entries(tx, campaign, thing, &ENTRIES)?,
-            None => return Err(Error::SqliteFailure(ErrorCode::TooBig)),
-        }
+        put_entries(tx, campaign, thing_of(number), &ENTRIES)?;
     }
     Ok(())
 }

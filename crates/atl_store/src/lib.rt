@@ -5,6 +5,7 @@
 pub mod fault;
 mod founding;
 mod goods;
+mod head;
 mod joining;
 mod kept;
 mod ledger;

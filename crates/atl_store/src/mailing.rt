@@ -6,7 +6,7 @@ ghost use Rattle.atl_state.specs.State.{State, with_mail};
 ghost use Rattle.atl_store.specs.Writes.{Writes, Transacts};
 ghost use Rattle.atl_store.specs.Inside.{Inside, HasTables};
 ghost use Rattle.atl_store.specs.Arriving.{WritesMail};
-ghost use Rattle.atl_store.specs.Keeps.{Keeps, Stops};
+ghost use Rattle.atl_store.specs.Keeps.{Keeps, Stops, IsLater, SparesOthers};
 
 use crate::fault::WriteFault;
 use crate::rows::mail::{MailRow, put_mail};
@@ -35,8 +35,8 @@ fn write_mailing<S: Alter>(conn: &mut Connection<S>, faction: u32, text: &[u8]) 
 }
 
 /// Writes the mail of a faction into a store that holds a campaign, in the place of an older one, in one transaction. With
-/// Ok the store holds the campaign with this mail. Store or Memory: it holds the one before, and a crash leaves the one
-/// before or the one after. See docs/FORMATS.md, "Tables".
+/// Ok the store holds the campaign with this mail. Store or Memory: it holds the one before while the connection is open,
+/// and a crash leaves the one before or the one after. See docs/FORMATS.md, "Tables".
 pub fn write_mail<S: Alter>(
     conn: &mut Connection<S>,
     faction: u32,
@@ -45,8 +45,8 @@ pub fn write_mail<S: Alter>(
     requires { conn.old.in_transaction ≡ false }
     ensures ok { HasCleanDisk (state S.Store conn.new) → OnOk result ((world : List ℕ) (before : State) → Keeps (state S.Store conn.old) world before → Keeps (state S.Store conn.new) world (with_mail before faction text.now)) }
     ensures err { HasCleanDisk (state S.Store conn.new) → OnErr result ((world : List ℕ) (before : State) → Keeps (state S.Store conn.old) world before → Stops (state S.Store conn.old).faults (state S.Store conn.new) world before (with_mail before faction text.now)) }
-    ensures clean { HasCleanDisk (state S.Store conn.new) → HasCleanDisk (state S.Store conn.old) }
-    ensures counts { (state S.Store conn.old).faults ≤ (state S.Store conn.new).faults }
+    ensures later { IsLater (state S.Store conn.old) (state S.Store conn.new) }
+    ensures others { HasCleanDisk (state S.Store conn.new) → SparesOthers (state S.Store conn.old) (state S.Store conn.new) }
     ensures idle { conn.new.in_transaction ≡ false }
 {
     write_mailing(conn, faction, text)?;

@@ -60,6 +60,7 @@ pub fn founded(alloc: Global, world: &World, pass: &[u8]) -> Result<Campaign, Al
     ensures definition { IfOk result (λ c. c.what ≡ founded_of world.now pass.now) }
     ensures good { IfOk result (λ c. IsGood world.now c.what) }
     ensures balances { IfOk result (λ c. Balances c.what) }
+    ensures things { IfOk result (λ c. length c.what.books ≤ most_things) }
 {
     let pass = Text::from_utf8(alloc, pass)?;
     let regions = regions_made(alloc, world.regions())?;

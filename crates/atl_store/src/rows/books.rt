@@ -78,7 +78,7 @@ impl Stored for StoredBooks {
     }
 }
 
-/// The books, in the order of entries and things.
+/// The books.
 pub fn read_books<S: Alter>(
     alloc: Global,
     conn: &mut Connection<S>,

@@ -106,7 +106,7 @@ impl Stored for StoredHas {
     }
 }
 
-/// What units have, in the order of units, sorts and things.
+/// What units have.
 pub fn read_has<S: Alter>(
     alloc: Global,
     conn: &mut Connection<S>,

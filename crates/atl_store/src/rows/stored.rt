@@ -1,12 +1,12 @@
 //! Rows as they are read.
-ghost use Rattle.std.specs.Prelude.{◌≡◌, List, [], map, length, false, not, IsTrue, IfOk, IfErr};
+ghost use Rattle.std.specs.Prelude.{◌≡◌, ◌≢◌, List, [], map, length, false, not, IsTrue, IfOk, IfErr};
 ghost use Rattle.sqlite.specs.Held.{state};
 ghost use Rattle.sqlite.specs.Order.{Row as SqlRow};
 ghost use Rattle.sqlite.specs.State.{HasCleanDisk, Survives, Shown, CommitsShowing};
 ghost use Rattle.sqlite_schema.specs.declared.schema.Column.{Column};
 ghost use Rattle.atl_store.specs.Faults.{is_memory};
 ghost use Rattle.atl_store.specs.Stored.{first_columns, IsTyped, AreTyped};
-ghost use Rattle.atl_store.specs.declared.fault.ReadFault.TheVariants.{OtherType};
+ghost use Rattle.atl_store.specs.declared.fault.ReadFault.TheVariants.{OtherType, Store};
 
 use crate::fault::{ReadFault, unread};
 use sqlite::{Alter, Connection, Error, Row};
@@ -28,6 +28,7 @@ pub(crate) trait Stored: Drop + Sized {
 fn parse_rows<T: Stored>(alloc: Global, rows: &[Row]) -> Result<Vec<T>, ReadFault>
     ensures ok { IfOk result (λ all. map T.shown all.items ≡ map (first_columns (length T.columns)) rows.now) }
     ensures other { IfErr result (λ e. e ≡ OtherType → ¬ AreTyped T.columns rows.now) }
+    ensures which { IfErr result (λ e. e ≢ Store) }
 {
     let mut all = Vec::new(alloc);
     for row in rows {

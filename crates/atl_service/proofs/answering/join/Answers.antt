@@ -9,7 +9,7 @@ use Rattle.atl_service.specs.Step.{reported}
 use Rattle.atl_service.specs.Answering.{GivesUp}
 use Rattle.atl_service.proofs.AnswerLaws.{is_refused}
 use Rattle.atl_service.proofs.GoodLaws.{IsGood-with_report, Balances-with_report}
-use Rattle.atl_service.proofs.StepLaws.{bad_name, bad_pass, is_taken, is_too_full, steps_on, joining_is}
+use Rattle.atl_service.proofs.StepLaws.{bad_name, bad_pass, is_taken, is_too_full, steps_on, joining_is, arrives}
 use Rattle.atl_service.proofs.answering.join.Goals as goal
 
 pub returns-then-not-name_ok-clause-ok : goal.returns-then-not-name_ok-clause-ok
@@ -63,3 +63,11 @@ returns-in_err-write_join-clause-err g c = on_err _ (GivesUp g.S.Store c.args.wo
     let steps = steps_on w old c.args.name.now c.args.pass.now c.args.word c.join.new.self.what c.in-Ok.numbers.0 c.in-Ok.numbers.1 (cc) (cc) is in
     let stops = c.in_err-write_join.ensures.err clean text old keeps (rw done (joining_is w c.args.name.now c.args.pass.now c.args.word old c.join.new.self.what c.in-Ok.numbers.0 c.in-Ok.numbers.1 c.requires.good is)) in
     subst (λ (after : Campaign). Stops (state g.S.Store c.args.conn.now).faults (state g.S.Store c.write_join.new.conn) text old after) (done ∙ sym (ap (λ p. p.0) steps)) stops)
+
+pub requires-write_join-clause-arrived : goal.requires-write_join-clause-arrived
+requires-write_join-clause-arrived g c =
+    let w = c.args.world.now in
+    let old = c.args.campaign.now.what in
+    let is = rw (c.as_slice-3.ensures, c.as_slice-4.ensures) at c.in-Ok.ensures.definition in
+    let done : c.store_report.new.campaign.what ≡ reported w c.join.new.self.what c.in-Ok.numbers.0 = c.in_ok-store_report.ensures in
+    rw done (arrives w c.args.name.now c.args.pass.now c.args.word old c.join.new.self.what c.in-Ok.numbers.0 c.in-Ok.numbers.1 c.requires.good is)

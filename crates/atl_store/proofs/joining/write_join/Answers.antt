@@ -3,7 +3,7 @@ use Rattle.sqlite.specs.Held.{state}
 use Rattle.atl_store.specs.Inside.{HasTables}
 use Rattle.atl_store.specs.Arriving.{WritesJoin}
 use Rattle.atl_store.specs.Keeps.{IsJoining}
-use Rattle.atl_store.proofs.StayLaws.{commits_keeps, leaves_stops, on_err}
+use Rattle.atl_store.proofs.StayLaws.{commits_keeps, leaves_stops, commits_spares, leaves_others, later, on_err}
 use Rattle.atl_store.proofs.joining.write_join.Goals as goal
 
 pub returns-clause-ok : goal.returns-clause-ok
@@ -11,8 +11,8 @@ returns-clause-ok g c clean text before keeps joining =
     let old = state g.S.Store c.args.conn.now in
     let new = state g.S.Store c.write_joining.new.conn in
     let after = c.args.campaign.now.what in
-    let joins = subst (λ n. IsJoining before n after) (sym c.in-Some.ensures.number) joining in
-    commits_keeps old new text (λ db up. g.met.S.Store.settled c.write_joining.new.conn.store db up) HasTables (WritesJoin c.in-Some.arrival.number after) after (c.in_ok-write_joining.ensures.ok clean) keeps.tables
+    let joins = subst (λ n. IsJoining before n after) (sym c.arrival_of-arrival.ensures.number) joining in
+    commits_keeps old new text (λ db up. g.met.S.Store.settled c.write_joining.new.conn.store db up) HasTables (WritesJoin c.arrival_of-arrival.result.number after) after (c.in_ok-write_joining.ensures.ok clean) keeps.tables
     (λ did. did text before joins keeps.rows)
 
 pub returns-in_err-write_joining-clause-err : goal.returns-in_err-write_joining-clause-err
@@ -20,6 +20,18 @@ returns-in_err-write_joining-clause-err g c clean = on_err c.from_residual.resul
     let old = state g.S.Store c.args.conn.now in
     let new = state g.S.Store c.write_joining.new.conn in
     let after = c.args.campaign.now.what in
-    let joins = subst (λ n. IsJoining before n after) (sym c.in-Some.ensures.number) joining in
-    leaves_stops old new text (λ db up. g.met.S.Store.settled c.write_joining.new.conn.store db up) (WritesJoin c.in-Some.arrival.number after) before after clean (c.in_err-write_joining.ensures.err clean) c.write_joining.ensures.crash keeps
+    let joins = subst (λ n. IsJoining before n after) (sym c.arrival_of-arrival.ensures.number) joining in
+    leaves_stops old new text (λ db up. g.met.S.Store.settled c.write_joining.new.conn.store db up) (WritesJoin c.arrival_of-arrival.result.number after) before after clean (c.in_err-write_joining.ensures.err clean) c.write_joining.ensures.crash keeps
     (λ db did. did text before joins keeps.rows))
+
+pub returns-clause-others : goal.returns-clause-others
+returns-clause-others g c clean = commits_spares (state g.S.Store c.args.conn.now) (state g.S.Store c.write_joining.new.conn) HasTables (WritesJoin c.arrival_of-arrival.result.number c.args.campaign.now.what) (c.in_ok-write_joining.ensures.ok clean) (λ has. has)
+
+pub returns-in_err-write_joining-clause-others : goal.returns-in_err-write_joining-clause-others
+returns-in_err-write_joining-clause-others g c clean = leaves_others (state g.S.Store c.args.conn.now) (state g.S.Store c.write_joining.new.conn) (c.in_err-write_joining.ensures.err clean)
+
+pub returns-clause-later : goal.returns-clause-later
+returns-clause-later g c = later (state g.S.Store c.args.conn.now) (state g.S.Store c.write_joining.new.conn) _ c.write_joining.ensures.crash
+
+pub returns-in_err-write_joining-clause-later : goal.returns-in_err-write_joining-clause-later
+returns-in_err-write_joining-clause-later g c = later (state g.S.Store c.args.conn.now) (state g.S.Store c.write_joining.new.conn) _ c.write_joining.ensures.crash

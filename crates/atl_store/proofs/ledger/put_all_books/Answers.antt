@@ -1,10 +1,10 @@
-use Rattle.std.proofs.Common.{◌≡◌, ◌+◌, ◌-◌, suc, length, refl, ap, subst, arith}
+use Rattle.std.proofs.Common.{◌≡◌, ◌+◌, ◌-◌, suc, length, ap, subst, arith}
 use Rattle.std.specs.List.{range_with_len}
 use Rattle.atl_store.specs.Tables.{books_table}
 use Rattle.atl_store.specs.Lines.{all_entries, thing_at, entries_lines, things_lines}
 use Rattle.atl_store.specs.Inside.{Inside, HasTables, PutsRows}
 use Rattle.atl_store.proofs.PutsLaws.{Towards, inside_rows, none_yet, all_put}
-use Rattle.atl_store.proofs.WriteLaws.{begins, goes_on, stops, stops_second, weaker}
+use Rattle.atl_store.proofs.WriteLaws.{begins, goes_on, stops_second, weaker}
 use Rattle.atl_store.proofs.ledger.put_all_books.Goals as goal
 
 pub loop-number-init : goal.loop-number-init
@@ -21,16 +21,13 @@ loop-number-preserved g c =
     let all = things_lines campaign (range_with_len 0 count) in
     goes_on g.S.Store (λ old mid new so_far more. inside_rows books_table 2 (entries_lines campaign (thing_at i) all_entries) (things_lines campaign (range_with_len (i + 1) (count - (i + 1)))) all old mid new
     (subst (λ places. Inside HasTables (Towards books_table 2 (things_lines campaign places) all) old mid) (ap (range_with_len i) left) so_far)
-    (subst (λ thing. Inside HasTables (PutsRows books_table 2 (entries_lines campaign thing all_entries)) mid new) c.in-Some.ensures more))
-    c.loop-number.invariant c.in_ok-put_entries-in-Some.ensures
+    (subst (λ thing. Inside HasTables (PutsRows books_table 2 (entries_lines campaign thing all_entries)) mid new) c.thing_of.ensures more))
+    c.loop-number.invariant c.in_ok-put_entries.ensures
 
 pub returns : goal.returns
 returns g c =
     let none : length c.args.campaign.now.what.books - c.loop-number.number ≡ 0 = omega (arith, c.loop-number-test.false, c.things-number-end.ensures) in
     weaker g.S.Store (all_put books_table 2 _ _ (ap (λ n. things_lines c.args.campaign.now.what (range_with_len c.loop-number.number n)) none)) c.loop-number.invariant
 
-pub returns-in_err-put_entries-in-Some : goal.returns-in_err-put_entries-in-Some
-returns-in_err-put_entries-in-Some g c = stops_second g.S.Store c.loop-number.invariant c.put_entries.ensures c.from_residual.ensures.0
-
-pub returns-in-None : goal.returns-in-None
-returns-in-None g c = stops g.S.Store c.loop-number.invariant refl
+pub returns-in_err-put_entries : goal.returns-in_err-put_entries
+returns-in_err-put_entries g c = stops_second g.S.Store c.loop-number.invariant c.put_entries.ensures c.from_residual.ensures.0

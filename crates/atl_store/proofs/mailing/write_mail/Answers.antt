@@ -2,7 +2,7 @@ use Rattle.sqlite.specs.Held.{state}
 use Rattle.atl_state.specs.State.{with_mail}
 use Rattle.atl_store.specs.Inside.{HasTables}
 use Rattle.atl_store.specs.Arriving.{WritesMail}
-use Rattle.atl_store.proofs.StayLaws.{commits_keeps, leaves_stops, on_err}
+use Rattle.atl_store.proofs.StayLaws.{commits_keeps, leaves_stops, commits_spares, leaves_others, later, on_err}
 use Rattle.atl_store.proofs.mailing.write_mail.Goals as goal
 
 pub returns-clause-ok : goal.returns-clause-ok
@@ -18,3 +18,15 @@ returns-in_err-write_mailing-clause-err g c clean = on_err c.from_residual.resul
     let new = state g.S.Store c.write_mailing.new.conn in
     leaves_stops old new text (λ db up. g.met.S.Store.settled c.write_mailing.new.conn.store db up) (WritesMail c.args.faction c.args.text.now) before (with_mail before c.args.faction c.args.text.now) clean (c.in_err-write_mailing.ensures.err clean) c.write_mailing.ensures.crash keeps
     (λ db did. did text before keeps.rows))
+
+pub returns-clause-others : goal.returns-clause-others
+returns-clause-others g c clean = commits_spares (state g.S.Store c.args.conn.now) (state g.S.Store c.write_mailing.new.conn) HasTables (WritesMail c.args.faction c.args.text.now) (c.in_ok-write_mailing.ensures.ok clean) (λ has. has)
+
+pub returns-in_err-write_mailing-clause-others : goal.returns-in_err-write_mailing-clause-others
+returns-in_err-write_mailing-clause-others g c clean = leaves_others (state g.S.Store c.args.conn.now) (state g.S.Store c.write_mailing.new.conn) (c.in_err-write_mailing.ensures.err clean)
+
+pub returns-clause-later : goal.returns-clause-later
+returns-clause-later g c = later (state g.S.Store c.args.conn.now) (state g.S.Store c.write_mailing.new.conn) _ c.write_mailing.ensures.crash
+
+pub returns-in_err-write_mailing-clause-later : goal.returns-in_err-write_mailing-clause-later
+returns-in_err-write_mailing-clause-later g c = later (state g.S.Store c.args.conn.now) (state g.S.Store c.write_mailing.new.conn) _ c.write_mailing.ensures.crash

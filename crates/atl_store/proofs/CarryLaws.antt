@@ -1,0 +1,86 @@
+-- A write of one of the nine tables under the schema that is there.
+use Rattle.std.proofs.Common.{◌≡◌, ◌≢◌, ℕ, false, List, [], ◌∷◌, ◌++◌, Option, refl, sym, ap, ◌∙◌, subst, inl, inr}
+use Rattle.std.specs.List.{AllByRecursion, flat_map, filter_map, list_any}
+use Rattle.sqlite_value.specs.Order.{Row}
+use Rattle.sqlite_trees.specs.Tree.{Trees}
+use Rattle.sqlite_schema.specs.declared.schema.Table.{Table}
+use Rattle.sqlite_schema.specs.declared.schema.Index.{Index}
+use Rattle.sqlite_schema.specs.declared.schema.Schema.{Schema}
+use Rattle.sqlite_schema.specs.declared.schema.Reference.{Reference}
+use Rattle.sqlite_schema.specs.declared.schema.Keys.TheVariants.{Enforced}
+use Rattle.sqlite_rules.specs.Lists.{Has}
+use Rattle.sqlite_rules.specs.Keys.{shares}
+use Rattle.sqlite_schema.specs.Rules.{guards}
+use Rattle.sqlite_rules.specs.Action.{works, Work, work_for}
+use Rattle.sqlite.specs.Effect.{Database}
+use Rattle.atl_store.specs.Sets.{Set, IsSoundly, Makes}
+use Rattle.atl_store.specs.Tables.{all_tables, nine_and, nine_trees, HasNine}
+use Rattle.atl_store.specs.Inside.{HasTables, Carries, Alters, Done}
+use Rattle.atl_store.proofs.ListLaws.{has_map}
+
+-- ---- tables without a foreign key refer to nothing
+
+none_refer : (tables : List Table) (f : Table → Reference → Option Work) → AllByRecursion (λ t. t.references ≡ []) tables → flat_map (λ child. filter_map (f child) child.references) tables ≡ []
+none_refer [] f free = refl
+none_refer (t ∷ tables) f free = rw (free.0) (none_refer tables f free.1)
+
+pub unlinked : (tables : List Table) (indexes : List Index) (tree : ℕ) → AllByRecursion (λ t. t.references ≡ []) tables → (olds news : List Row) → works (nine_and tables indexes) Enforced 0 tree olds news ≡ []
+unlinked tables indexes tree free olds news = none_refer tables (work_for (nine_and tables indexes) Enforced 0 tree olds news) free
+
+-- ---- indexes that make nothing unique find nothing
+
+pub none_share : (t : Table) (target : Option (List ℕ)) (new r : Row) (indexes : List Index) → ((i : Index) → Has indexes i → guards i t ≡ false) → list_any (shares target t new r) indexes ≡ false
+none_share t target new r [] plain = refl
+none_share t target new r (i ∷ indexes) plain = rw (plain i (inl refl)) (none_share t target new r indexes (λ j there. plain j (inr there)))
+
+-- ---- one of the nine is one of all
+
+pub one_of : (tables : List Table) (t : Table) (ours : List Table) → Has ours t → Has (ours ++ tables) t
+one_of tables t [] there = absurd there
+one_of tables t (x ∷ ours) (inl same) = inl same
+one_of tables t (x ∷ ours) (inr later) = inr (one_of tables t ours later)
+
+-- the trees are sound under the schema as it is known
+pub sound_under : (db : Database) (has : HasTables db) → IsSoundly (nine_and has.nine.tables has.nine.indexes) db.trees
+sound_under db has = subst (λ s. IsSoundly s db.trees) has.nine.is has.sound
+
+module _ (t : Table) (old new : Database) (has : HasTables old) (ours : Has all_tables t) where
+  abbrev schema : Schema
+  schema = nine_and has.nine.tables has.nine.indexes
+
+  abbrev OthersStay : Type 0
+  OthersStay = (u : Table) → Has schema.tables u → u.tree ≢ t.tree → new.trees u.tree ≡ old.trees u.tree
+
+  pub stays_there : new.schema ≡ schema → IsSoundly schema new.trees → HasTables new
+  stays_there is sound = record {
+    nine = record { tables = has.nine.tables; indexes = has.nine.indexes; is = is; free = has.nine.free; plain = has.nine.plain };
+    sound = subst (λ s. IsSoundly s new.trees) (sym is) sound;
+  }
+
+  -- the other tables are carried along
+  pub carried : new.schema ≡ schema → OthersStay → Carries old new
+  carried is others =
+      let same : new.schema ≡ old.schema = is ∙ sym has.nine.is in
+      record {
+        tables = λ u there. subst (λ (s : Schema). Has s.tables u) (sym same) there;
+        indexes = λ i there. subst (λ (s : Schema). Has s.indexes i) (sym same) there;
+        others = λ u there free. others u (subst (λ (s : Schema). Has s.tables u) has.nine.is there) (λ same. free (subst (Has nine_trees) (sym same) (has_map (λ (x : Table). x.tree) all_tables t ours)));
+      }
+
+  pub altered : (S : Set) → Makes schema t old new S → Alters t S old new
+  altered S makes = record { rows = makes.rows; others = λ u listed apart. makes.others u (one_of has.nine.tables u all_tables listed) apart }
+
+  pub done_with : (Does : Database → Database → Type 0) (S : Set) → (Alters t S old new → Does old new) → Makes schema t old new S → Done Does old new
+  done_with Does S is makes = record { does = is (altered S makes); tables = stays_there makes.schema_is makes.sound; carries = carried makes.schema_is makes.others }
+
+-- ---- nothing is done, and one after the other
+
+pub carries_none : (a : Database) → Carries a a
+carries_none a = record { tables = λ t there. there; indexes = λ i there. there; others = λ t there free. refl }
+
+pub carries_then : (a b c : Database) → Carries a b → Carries b c → Carries a c
+carries_then a b c one two = record {
+  tables = λ t there. two.tables t (one.tables t there);
+  indexes = λ i there. two.indexes i (one.indexes i there);
+  others = λ t there free. two.others t (one.tables t there) free ∙ one.others t there free;
+}
