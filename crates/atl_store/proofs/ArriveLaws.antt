@@ -22,7 +22,8 @@ use Rattle.atl_store.specs.Lines.{amount_lines}
 use Rattle.atl_store.specs.Arriving.{Settles}
 use Rattle.atl_store.proofs.EntryLaws.{same_number}
 use Rattle.atl_store.proofs.GoodsLaws.{optional_has, has_optional}
-use Rattle.atl_store.proofs.LedgerLaws.{two_same, differs_zero, is_differing}
+use Rattle.atl_store.proofs.LedgerLaws.{two_same, differs_zero, is_differing, amount_is}
+use Rattle.atl_store.specs.Inside.{Puts, Drops}
 
 -- ---- one entry more in a map
 
@@ -128,3 +129,29 @@ module _ (c : Campaign) (e : Entry) (t : Thing) where
             let keys = two_same (entry_place f + 1) (thing_place u) (entry_place e + 1) (thing_place t) (ap (take 2) (sym is) ∙ q) in
             elim far [ inl entries ↦ entries (omega (arith, keys.0)) | inr things ↦ things keys.1 ],
       )
+
+-- the row of an amount is put, or taken out where the amount is 0
+module _ (c : Campaign) (e : Entry) (t : Thing) (n k : ℕ) (entry : n ≡ entry_place e + 1) (thing : k ≡ thing_place t) (old new : Database) where
+  pub settles_by_put : (z : ℤ) → z ≡ amount_in c.books e t → z ≢ pos 0 → Puts books_table 2 (books_row n k z) old new → Settles c e t old new
+  settles_by_put z amount some did =
+      let lines : amount_lines c e t ≡ books_row n k z ∷ [] = amount_is c e t n k z entry thing amount some in
+      let keys : take 2 (books_row n k z) ≡ books_key (entry_place e + 1) (thing_place t) = rw (entry, thing) refl in
+      record {
+        rows = λ r. (
+          λ there. elim ((did.rows r).0 there) [ inl same ↦ inl (subst (λ l. Has l r) (sym lines) (inl same)) | inr kept ↦ inr (kept.0, λ q. kept.1 (q ∙ sym keys)) ],
+          λ h. (did.rows r).1 (elim h [ inl there ↦ elim (subst (λ l. Has l r) lines there) [ inl same ↦ inl same | inr none ↦ absurd none ] | inr kept ↦ inr (kept.0, λ q. kept.1 (q ∙ keys)) ]),
+        );
+        others = did.others;
+      }
+
+  pub settles_by_drop : amount_in c.books e t ≡ pos 0 → Drops books_table 2 (books_key n k) old new → Settles c e t old new
+  settles_by_drop none did =
+      let keys : books_key n k ≡ books_key (entry_place e + 1) (thing_place t) = rw (entry, thing) refl in
+      let lines : amount_lines c e t ≡ [] = rw none refl in
+      record {
+        rows = λ r. (
+          λ there. let kept = (did.rows r).0 there in inr (kept.0, λ q. kept.1 (q ∙ sym keys)),
+          λ h. (did.rows r).1 (elim h [ inl there ↦ absurd (subst (λ l. Has l r) lines there) | inr kept ↦ (kept.0, λ q. kept.1 (q ∙ keys)) ]),
+        );
+        others = did.others;
+      }

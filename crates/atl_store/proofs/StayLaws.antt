@@ -1,9 +1,11 @@
 -- From what a transaction did to what the store keeps.
-use Rattle.std.proofs.Common.{◌≡◌, ℕ, Bool, true, false, not, cond, List, IsTrue, Result, Ok, Err, OnErr, refl, sym, ap, ◌∙◌, subst, inl, inr, arith}
+use Rattle.std.proofs.Common.{◌≡◌, ℕ, Bool, true, false, not, cond, List, IsTrue, Result, Ok, Err, OnErr, IfErr, IsErrAnd, refl, sym, ap, ◌∙◌, subst, inl, inr, arith}
 use Rattle.sqlite_trees.specs.Tree.{Trees}
 use Rattle.sqlite_trees.specs.declared.store.Store.{Ghosts}
 use Rattle.sqlite.specs.declared.error.Error.{Error}
-use Rattle.sqlite.specs.Held.{Held}
+use Rattle.sqlite.specs.Held.{Held, state}
+use Rattle.sqlite.specs.Schema.{Schema}
+use Rattle.atl_store.specs.Making.{has_campaign}
 use Rattle.sqlite.specs.Effect.{Database}
 use Rattle.sqlite.specs.State.{State, HasCleanDisk, Survives}
 use Rattle.atl_state.specs.State.{State as Campaign}
@@ -12,6 +14,7 @@ use Rattle.atl_store.specs.Inside.{HasTables, Carries, IsBlank, Commits, LeavesO
 use Rattle.atl_store.specs.Filling.{WritesFounding}
 use Rattle.atl_store.specs.Keeps.{Stores, Keeps, IsLater, FailsToCreate, RefusesToCreate, Stops, Spares, SparesOthers, MayFound}
 use Rattle.atl_store.specs.Faults.{is_memory, create_fault}
+use Rattle.atl_store.specs.declared.fault.CreateFault.{CreateFault}
 use Rattle.atl_store.specs.declared.fault.CreateFault.TheVariants as create
 use Rattle.atl_store.proofs.CarryLaws.{carries_none}
 
@@ -84,6 +87,14 @@ fails_for g text c old new e fails = go (is_memory e)
     go : (b : Bool) → RefusesToCreate g text c old new (cond b create.Memory create.Store)
     go true = fails
     go false = fails
+
+pub refused_with : {S : Type 0} (g : Ghosts S) (text : List ℕ) (c : Campaign) (old new : Held S) (e : Error) (r : Result (Unit {0}) CreateFault) → IsErrAnd r (λ f. f ≡ create_fault e) → FailsToCreate g text c old new → IfErr r (RefusesToCreate g text c old new)
+refused_with g text c old new e (Ok a) told fails = tt
+refused_with g text c old new e (Err f) told fails = subst (RefusesToCreate g text c old new) (sym told) (fails_for g text c old new e fails)
+
+-- no table campaign is there, as the connection's schema shows
+pub not_there : {S : Type 0} (g : Ghosts S) (conn : Held S) (schema : Schema) (found : Bool) → schema ≡ (state g conn).now.schema → found ≡ has_campaign schema → found ≡ false → has_campaign conn.schema ≡ false
+not_there g conn schema found shown is none = ap has_campaign (sym shown) ∙ sym is ∙ none
 
 -- where nothing is done, nothing is changed
 pub spares_itself : (s : State) → Spares s s

@@ -6,6 +6,7 @@ ghost use Rattle.atl_tables.specs.Names.{pass_ok};
 ghost use Rattle.atl_tables.specs.Sums.{sum_over, mapped};
 ghost use Rattle.atl_state.specs.declared.books.Entry.TheVariants.{Founding};
 ghost use Rattle.atl_state.specs.declared.books.Thing.TheVariants.{Money, People};
+ghost use Rattle.atl_state.specs.Limits.{most_things};
 ghost use Rattle.atl_state.specs.Books.{no_amounts, with_booked};
 ghost use Rattle.atl_state.specs.Totals.{kept, Balances};
 ghost use Rattle.atl_state.specs.Founding.{founded_of, founded_region};

@@ -22,8 +22,10 @@ unfolding founded_of
 returns c =
     let is : ◌≡◌ {A = State} record { month = 0; pass = c.in_ok-pass.pass; next_faction = 1; next_unit = 1; next_structure = 1; factions = c.new-2.result.values; regions = c.in_ok-regions.regions.values; units = c.new-3.result.values; structures = c.new-4.result.values; mail = c.new-5.result.values; reports = c.new-6.result.values; books = c.in_ok-books.books } (founded_of c.args.world.now c.args.pass.now) =
     rw (c.in_ok-pass.ensures (pass_ok-IsUtf8 c.args.pass.now c.requires.pass), c.new-2.ensures, c.new-3.ensures, c.new-4.ensures, c.new-5.ensures, c.new-6.ensures, c.in_ok-books.ensures.value, c.in_ok-regions.ensures, c.regions.ensures.value, c.items.ensures.value) refl in
+    let good = subst (λ (s : State). IsGood c.args.world.now s) (sym is) (founded-good c.args.world.now c.args.pass.now c.regions.ensures.world (rw (← c.regions.ensures.value, ← c.in_ok-regions.ensures) c.in_ok-books.ensures.money) (rw (← c.regions.ensures.value, ← c.in_ok-regions.ensures) c.in_ok-books.ensures.people)) in
     record {
       definition = is;
-      good = subst (λ (s : State). IsGood c.args.world.now s) (sym is) (founded-good c.args.world.now c.args.pass.now c.regions.ensures.world (rw (← c.regions.ensures.value, ← c.in_ok-regions.ensures) c.in_ok-books.ensures.money) (rw (← c.regions.ensures.value, ← c.in_ok-regions.ensures) c.in_ok-books.ensures.people));
+      good = good;
       balances = subst Balances (sym is) (founded-balances c.args.world.now c.args.pass.now);
+      things = omega (arith, good.grid.rows, c.regions.ensures.world.few_items);
     }
