@@ -9,6 +9,7 @@ use Rattle.atl_store.specs.Keeps.{Keeps}
 use Rattle.atl_store.proofs.WorldTextLaws.{world_text_is}
 use Rattle.atl_service.specs.declared.command.Command.{Command}
 use Rattle.atl_service.specs.declared.command.Answer.{Answer}
+use Rattle.atl_service.specs.declared.command.Fault.{Fault as Failure}
 use Rattle.atl_service.specs.declared.command.Answer.TheVariants.{Joined, Mailed, Text, Refused, Fault}
 use Rattle.atl_store.specs.declared.fault.WriteFault.{WriteFault}
 use Rattle.atl_store.specs.declared.fault.WriteFault.TheVariants as write
@@ -67,10 +68,11 @@ module _ {S : Type 0} (g : Ghosts S) where
     closes_open : Stands g conn w c true → LeavesIdle g conn conn' → GaveUp → Closes g c (shown conn w c true) command (shown conn' w c' false)
     closes_open stands leaves gave_up = record { same = refl; tables = λ clean. gave_up clean (text_in g conn) (stands.tables refl (leaves.later.clean clean)) }
 
-    pub closes_for : (old : Engine S) (fault : WriteFault) (is_open : Bool) → shown conn w c is_open ≡ old → is_open ≡ true → Stands g conn w c is_open → LeavesIdle g conn conn' → GaveUp → Runs g old command (Fault (of_writing fault)) (shown conn' w c' false)
-    closes_for old fault true seen up stands leaves gave_up = subst (λ e. Runs g e command (Fault (of_writing fault)) (shown conn' w c' false)) seen (closes fault)
+    -- what is told is the fault of the store
+    pub closes_for : (old : Engine S) (fault : WriteFault) (told : Failure) (is_open : Bool) → told ≡ of_writing fault → shown conn w c is_open ≡ old → is_open ≡ true → Stands g conn w c is_open → LeavesIdle g conn conn' → GaveUp → Runs g old command (Fault told) (shown conn' w c' false)
+    closes_for old fault told true is seen up stands leaves gave_up = subst (λ e. Runs g e command (Fault told) (shown conn' w c' false)) seen (subst (λ t. RunsOpen g c (shown conn w c true) command (Fault t) (shown conn' w c' false)) (sym is) (closes fault))
       where
         closes : (fault : WriteFault) → RunsOpen g c (shown conn w c true) command (Fault (of_writing fault)) (shown conn' w c' false)
         closes write.Memory = closes_open stands leaves gave_up
         closes write.Store = closes_open stands leaves gave_up
-    closes_for old fault false seen up stands leaves gave_up = cc
+    closes_for old fault told false is seen up stands leaves gave_up = cc

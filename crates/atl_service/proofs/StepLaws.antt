@@ -1,5 +1,5 @@
 -- The step of a command Join, by what `join` answered, and what the store is to write of it.
-use Rattle.std.proofs.Common.{◌≡◌, ◌+◌, ◌-◌, ℕ, pos, List, Bool, true, false, cond, not, Option, Some, IsSome, Ok, Err, refl, sym, ap, ◌∙◌, subst, arith}
+use Rattle.std.proofs.Common.{◌≡◌, ◌+◌, ◌-◌, ℕ, pos, List, Bool, true, false, cond, not, Option, Some, is_some, IsSome, Ok, Err, refl, sym, ap, ◌∙◌, subst, arith}
 use Rattle.std.specs.FinMap.{get, insert}
 use Rattle.atl_tables.specs.Names.{name_ok, pass_ok}
 use Rattle.atl_tables.specs.Planet.{Planet}
@@ -51,7 +51,7 @@ accepted false false x y e = cc
 
 -- the faction, its unit and its report are there
 is_there : {V : Type 0} (o : Option V) (v : V) → o ≡ Some v → IsSome o
-is_there o v is = subst IsSome (sym is) tt
+is_there o v is = ap is_some is
 
 arrival : (w : Planet) (name pass : List ℕ) (word : ℕ) (c : State) → IsGood w c → HasArrival (reported w (joined w name pass word c) c.next_faction) c.next_faction
 unfolding joined

@@ -64,8 +64,8 @@ returns-in_err-write_join-clause-err g c = on_err _ (GivesUp g.S.Store c.args.wo
     let stops = c.in_err-write_join.ensures.err clean text old keeps (rw done (joining_is w c.args.name.now c.args.pass.now c.args.word old c.join.new.self.what c.in-Ok.numbers.0 c.in-Ok.numbers.1 c.requires.good is)) in
     subst (λ (after : Campaign). Stops (state g.S.Store c.args.conn.now).faults (state g.S.Store c.write_join.new.conn) text old after) (done ∙ sym (ap (λ p. p.0) steps)) stops)
 
-pub requires-write_join-clause-arrived : goal.requires-write_join-clause-arrived
-requires-write_join-clause-arrived g c =
+pub write_join-requires-clause-arrived : goal.write_join-requires-clause-arrived
+write_join-requires-clause-arrived g c =
     let w = c.args.world.now in
     let old = c.args.campaign.now.what in
     let is = rw (c.as_slice-3.ensures, c.as_slice-4.ensures) at c.in-Ok.ensures.definition in

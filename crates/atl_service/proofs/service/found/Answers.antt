@@ -7,12 +7,12 @@ returns-in-Err-clause-err g c = spared g.S.Store c.args.conn c.args.world_text.n
 
 pub invariant_of-result : goal.invariant_of-result
 invariant_of-result g c =
-    founded_stands g.S.Store c.create.new.conn c.in-Ok.both.0 c.in-Ok.both.1.what c.args.world_text.now c.in-Ok-create.ensures.idle c.in-Ok.ensures.good c.in-Ok.ensures.balances c.in-Ok.ensures.ok.world c.in-Ok-create.ensures.tables
+    founded_stands g.S.Store c.create.new.conn c.in-Ok.both.0 c.in-Ok.both.1.what c.args.world_text.now c.in-Ok-create.ensures.ok.idle c.in-Ok.ensures.good c.in-Ok.ensures.balances c.in-Ok.ensures.ok.world c.in-Ok-create.ensures.ok.tables
 
 pub returns-in-Ok-create-clause-ok : goal.returns-in-Ok-create-clause-ok
 returns-in-Ok-create-clause-ok g c =
-    founds_on g.S.Store c.args.conn c.create.new.conn c.in-Ok.both.0 c.in-Ok.both.1.what c.args.world_text.now c.args.pass.now c.in-Ok.ensures.ok c.in-Ok-create.ensures c.create.ensures.later
+    founds_on g.S.Store c.args.conn c.create.new.conn c.in-Ok.both.0 c.in-Ok.both.1.what c.args.world_text.now c.args.pass.now c.in-Ok.ensures.ok c.in-Ok-create.ensures.ok c.create.ensures.later
 
 pub returns-in-Err-create-clause-err : goal.returns-in-Err-create-clause-err
 returns-in-Err-create-clause-err g c =
-    rw c.from.ensures (refused_by_store g.S.Store c.args.conn c.create.new.conn c.in-Ok.both.0 c.in-Ok.both.1.what c.args.world_text.now c.args.pass.now c.in-Ok.ensures.ok c.create.ensures.later c.in-Err-create.fault c.in-Err-create.ensures)
+    rw c.from.ensures (refused_by_store g.S.Store c.args.conn c.create.new.conn c.in-Ok.both.0 c.in-Ok.both.1.what c.args.world_text.now c.args.pass.now c.in-Ok.ensures.ok c.create.ensures.later c.in-Err-create.fault c.in-Err-create.ensures.err)
