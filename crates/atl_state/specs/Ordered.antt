@@ -1,5 +1,5 @@
--- Rising lists of numbers, as numbers come.
-use Rattle.std.specs.Prelude.{ℕ, nat_le, List, ◌∷◌, ◌++◌, take, drop}
+-- For proofs alone: rising lists of numbers, as numbers come and go.
+use Rattle.std.specs.Prelude.{ℕ, ◌+◌, nat_le, List, ◌∷◌, ◌++◌, take, drop}
 use Rattle.std.specs.List.{position_or_len}
 
 -- the place of the first number that is not below another
@@ -9,3 +9,7 @@ first_above n xs = position_or_len (nat_le n) xs
 -- the list with a number at its place
 unfoldable pub put_number : ℕ → List ℕ → List ℕ
 put_number n xs = take (first_above n xs) xs ++ n ∷ drop (first_above n xs) xs
+
+-- the list without what stands at a number's place
+unfoldable pub take_number : ℕ → List ℕ → List ℕ
+take_number n xs = take (first_above n xs) xs ++ drop (first_above n xs + 1) xs
