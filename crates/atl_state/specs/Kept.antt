@@ -2,7 +2,7 @@
 use Rattle.std.specs.Prelude.{◌≡◌, ◌==◌, ◌+◌, ◌*◌, ℕ, ℤ, Bool, List, [], ◌∷◌, length, unwrap_or, if◌then◌else◌}
 use Rattle.std.specs.Ordering.{nat_cmp}
 use Rattle.std.specs.FinMap.{FinMap, get}
-use Rattle.atl_tables.specs.Changing.{NumberSet, no_numbers, with_number}
+use Rattle.std.specs.FinSet as set
 use Rattle.atl_tables.specs.Sums.{numbers_where}
 use Rattle.atl_state.specs.Limits.{entry_count}
 use Rattle.atl_state.specs.declared.records.Unit.{Unit}
@@ -16,9 +16,9 @@ abbrev pub AreLists : (Unit → ℕ) → FinMap nat_cmp Unit → FinMap nat_cmp 
 AreLists belongs_to units lists = (k : ℕ) → list_of lists k ≡ numbers_where (λ u. belongs_to u == k) units
 
 -- the places, from a number on, that are set
-abbrev pub set_from : ℕ → List Bool → NumberSet
-set_from n [] = no_numbers
-set_from n (b ∷ bs) = if b then with_number (set_from (n + 1) bs) n else set_from (n + 1) bs
+abbrev pub set_from : ℕ → List Bool → set.FinSet nat_cmp
+set_from n [] = set.empty
+set_from n (b ∷ bs) = if b then set.insert (set_from (n + 1) bs) n else set_from (n + 1) bs
 
 -- the lists of the regions and of the factions, and a place for the mark of each amount
 pub record AreKept (units : FinMap nat_cmp Unit) (by_region by_faction : FinMap nat_cmp (List ℕ)) (books : List (List ℤ)) (flags : List Bool) : Type 0 where

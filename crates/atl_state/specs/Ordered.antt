@@ -1,6 +1,6 @@
 -- For proofs alone: rising lists of numbers, as numbers come and go.
-use Rattle.std.specs.Prelude.{ℕ, ◌+◌, nat_le, List, ◌∷◌, ◌++◌, take, drop}
-use Rattle.std.specs.List.{position_or_len}
+use Rattle.std.specs.Prelude.{ℕ, nat_le, List, ◌∷◌, ◌++◌, take, drop}
+use Rattle.std.specs.List.{position_or_len, remove}
 
 -- the place of the first number that is not below another
 abbrev pub first_above : ℕ → List ℕ → ℕ
@@ -12,4 +12,4 @@ put_number n xs = take (first_above n xs) xs ++ n ∷ drop (first_above n xs) xs
 
 -- the list without what stands at a number's place
 unfoldable pub take_number : ℕ → List ℕ → List ℕ
-take_number n xs = take (first_above n xs) xs ++ drop (first_above n xs + 1) xs
+take_number n xs = remove xs (first_above n xs)

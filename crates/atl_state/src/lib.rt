@@ -5,6 +5,7 @@ pub mod books;
 pub mod campaign;
 pub mod holding;
 mod limits;
+mod lists;
 mod numbers;
 pub mod records;
 mod totals;
