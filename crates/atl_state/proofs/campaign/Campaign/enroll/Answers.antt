@@ -31,9 +31,9 @@ returns-in-Err-clause-err c =
     let same = c.self-2.view_is ∙ c.in-Err.ensures.err in
     let inserted : c.self-2.inside.factions ≡ c.insert.new.self = ap (λ (m : Marked). record { values = m.what.factions; marks = m.marks.factions }) same in
     let back : c.take_out.new.self ≡ c.self.inside.factions =
-        c.take_out.ensures ∙ ap (λ (t : Changing Faction). taken_out t c.self.inside.next_faction c.is_marked-was_marked.result) (inserted ∙ c.in_ok-insert.ensures.ok)
-        ∙ ap (taken_out (with_value c.self.inside.factions c.self.inside.next_faction c.in_ok-member.member) c.self.inside.next_faction) c.is_marked-was_marked.ensures
-        ∙ taken_out-undone c.self.inside.factions c.self.inside.next_faction c.in_ok-member.member fresh in
+    c.take_out.ensures ∙ ap (λ (t : Changing Faction). taken_out t c.self.inside.next_faction c.is_marked-was_marked.result) (inserted ∙ c.in_ok-insert.ensures.ok)
+    ∙ ap (taken_out (with_value c.self.inside.factions c.self.inside.next_faction c.in_ok-member.member) c.self.inside.next_faction) c.is_marked-was_marked.ensures
+    ∙ taken_out-undone c.self.inside.factions c.self.inside.next_faction c.in_ok-member.member fresh in
     rw back
     (ap (λ (m : Marked). record { what = record m.what { factions = c.self.inside.factions.values }; marks = record m.marks { factions = c.self.inside.factions.marks } }) same ∙ c.self.view_is)
 
@@ -45,8 +45,8 @@ returns-clause-marks c =
     let places = c.self-2.invariant.amounts in
     let rows = ap (λ (b : List (List ℤ)). length b) books ∙ c.requires.good.grid.rows in
     let marked : set_from 0 c.mark-2.new.self ≡ amount_marked (amount_marked c.args.self.now.marks.books Joining Money) Joining People =
-        ap (set_from 0) (c.mark-2.ensures ∙ ap (λ b. set b 14 true) c.mark.ensures) ∙ two_set flags 1 14 (omega (arith, places, rows)) (omega (arith, places, rows))
-        ∙ ap (λ (m : Marks). amount_marked (amount_marked m.books Joining Money) Joining People) (same ∙ refl) ∙ ap (λ (m : Marked). amount_marked (amount_marked m.marks.books Joining Money) Joining People) c.self.view_is in
+    ap (set_from 0) (c.mark-2.ensures ∙ ap (λ b. set b 14 true) c.mark.ensures) ∙ two_set flags 1 14 (omega (arith, places, rows)) (omega (arith, places, rows))
+    ∙ ap (λ (m : Marks). amount_marked (amount_marked m.books Joining Money) Joining People) (same ∙ refl) ∙ ap (λ (m : Marked). amount_marked (amount_marked m.marks.books Joining Money) Joining People) c.self.view_is in
     ap (λ (m : Marks). record m { books = set_from 0 c.mark-2.new.self; row = true }) same ∙ rw (marked, ← c.self.view_is, c.in_ok-insert.ensures.ok) refl
 
 pub returns-clause-ok : goal.returns-clause-ok
