@@ -7,6 +7,7 @@ pub mod holding;
 mod limits;
 mod lists;
 mod numbers;
+pub mod parts;
 pub mod records;
 mod totals;
 
