@@ -1,8 +1,7 @@
 -- Empty tables are filled, three and three, until they hold the campaign.
 use Rattle.std.proofs.Common.{◌≡◌, ◌≢◌, ℕ, false, true, nat_eq, List, [], map, refl, sym, ap, ◌∙◌, subst, inl, inr, true≢false, arith}
 use Rattle.std.specs.List.{list_any, range_with_len}
-use Rattle.std.specs.Ordering.{nat_cmp}
-use Rattle.std.specs.FinMap.{FinMap, entries}
+use Rattle.std.specs.FinMap.{entries}
 use Rattle.std.specs.Prelude.{length}
 use Rattle.std.proofs.lemmas.Bool.Decides.{nat_tests}
 use Rattle.sqlite.specs.Order.{Row}
