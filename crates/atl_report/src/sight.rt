@@ -1,11 +1,12 @@
 //! What a faction sees.
-ghost use Rattle.std.specs.Prelude.{◌≡◌, IfOk, Some};
-ghost use Rattle.std.specs.FinMap.{get};
+ghost use Rattle.std.specs.Prelude.{◌≡◌, IfOk, OnOk, Some, filter};
+ghost use Rattle.std.specs.FinMap.{get, entries};
 ghost use Rattle.atl_report.specs.Sight.{is_watching, side_of, unit_view, sees_region, unit_views, region_view, region_views, view_of, shown_name};
+ghost use Rattle.atl_report.specs.Gathering.{with_region};
 
 use crate::views::{RegionView, Side, UnitView, View};
 use atl_state::{Campaign, Faction, Region, Unit};
-use atl_tables::{Sequence, Text, World};
+use atl_tables::{Numbered, Sequence, Text, World};
 use std::alloc::{AllocError, Global};
 
 /// A copy of the name that a faction shows.
@@ -23,20 +24,6 @@ fn is_watching(unit: &Unit, faction: u32) -> bool
     ensures { result ≡ is_watching faction (Some unit.now) }
 {
     unit.faction == faction && unit.holding.men() > 0
-}
-
-/// Whether the faction has a unit with men in the region.
-fn sees_region(campaign: &Campaign, faction: u32, region: u32) -> bool
-    ensures { result ≡ sees_region campaign.now.what faction region }
-{
-    for number in campaign.in_region(region) {
-        if let Some(unit) = campaign.unit(*number) {
-            if is_watching(unit, faction) {
-                return true;
-            }
-        }
-    }
-    false
 }
 
 fn side_of(
@@ -110,6 +97,35 @@ fn region_view(
     })
 }
 
+/// Adds a region of the campaign to those that are seen.
+fn see(seen: &mut Numbered<Region>, campaign: &Campaign, number: u32) -> Result<(), AllocError>
+    ensures { OnOk result (seen.new ≡ with_region seen.old number (get campaign.now.what.regions number)) }
+{
+    if let Some(region) = campaign.region(number) {
+        seen.insert(number, *region)?;
+    }
+    Ok(())
+}
+
+/// The regions where the faction has a unit with men, gone to from its units.
+fn regions_seen(
+    alloc: Global,
+    campaign: &Campaign,
+    faction: u32,
+) -> Result<Numbered<Region>, AllocError>
+    ensures { IfOk result (λ seen. entries seen ≡ filter (λ e. sees_region campaign.now.what faction e.0) (entries campaign.now.what.regions)) }
+{
+    let mut seen = Numbered::new(alloc);
+    for number in campaign.of_faction(faction) {
+        if let Some(unit) = campaign.unit(*number) {
+            if is_watching(unit, faction) {
+                see(&mut seen, campaign, unit.region)?;
+            }
+        }
+    }
+    Ok(seen)
+}
+
 /// The regions that the faction sees, by number.
 fn region_views(
     alloc: Global,
@@ -118,17 +134,16 @@ fn region_views(
 ) -> Result<Sequence<RegionView>, AllocError>
     ensures { IfOk result (λ regions. regions ≡ region_views campaign.now.what faction) }
 {
+    let seen = regions_seen(alloc, campaign, faction)?;
     let mut regions = Sequence::new(alloc);
-    for (number, region) in campaign.regions().iter() {
-        if sees_region(campaign, faction, number) {
-            regions.push(region_view(alloc, campaign, faction, number, region)?)?;
-        }
+    for (number, region) in seen.iter() {
+        regions.push(region_view(alloc, campaign, faction, number, region)?)?;
     }
     Ok(regions)
 }
 
 /// What a faction sees: the regions where it has a unit with men, and there every unit. Of its own units it sees the
-/// money too. See docs/RULES.md, "Sight".
+/// money too. It goes over the faction's units and the regions seen, and no further. See docs/RULES.md, "Sight".
 #[tactic(auto, unfolding(crate::specs::Sight::view_of))]
 pub fn view(
     alloc: Global,

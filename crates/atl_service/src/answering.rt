@@ -3,6 +3,7 @@ ghost use Rattle.std.specs.Prelude.{◌≡◌, length, false, Ok, Err, Some, IfO
 ghost use Rattle.std.specs.FinMap as map;
 ghost use Rattle.atl_orders.specs.Mailing.{IsMailingOf};
 ghost use Rattle.atl_state.specs.Good.{IsGood, IsActive};
+ghost use Rattle.atl_state.specs.Marking.{mark_report};
 ghost use Rattle.atl_state.specs.State.{with_mail};
 ghost use Rattle.atl_service.specs.Step.{identified, step, reported};
 ghost use Rattle.atl_service.specs.Answering.{Answers, Denies, GivesUp, IsSound, LeavesIdle, unread};
@@ -16,14 +17,16 @@ use atl_tables::{Sequence, Text, World, name_ok, pass_ok};
 use sqlite::{Alter, Connection};
 use std::alloc::{AllocError, Global};
 
-/// Stores a new report for a faction, of what it sees.
+/// Stores a new report for a faction, of what it sees, and marks it. Without memory for it the campaign stays as it is.
 fn store_report(
     alloc: Global,
     world: &World,
     campaign: &mut Campaign,
     faction: u32,
 ) -> Result<(), AllocError>
-    ensures { OnOk result (campaign.new.what ≡ reported world.now campaign.old.what faction) }
+    ensures ok { OnOk result (campaign.new.what ≡ reported world.now campaign.old.what faction) }
+    ensures marks { OnOk result (campaign.new.marks ≡ mark_report campaign.old faction) }
+    ensures err { OnErr result (campaign.new ≡ campaign.old) }
 {
     let seen = view(alloc, world, campaign, faction)?;
     let text = report_text(alloc, world, &seen)?;

@@ -1,8 +1,8 @@
 -- A founded campaign is good, and its books balance.
 use Rattle.std.proofs.Common.{◌≡◌, ℕ, ◌+◌, ◌≤◌, ◌==◌, cond, List, [], ◌∷◌, sum_by, None, Some, sym, ap, ◌∙◌, refl, arith, false}
-use Rattle.std.specs.Prelude.{unwrap_or, ℤ, pos, ◌+ℤ◌}
+use Rattle.std.specs.Prelude.{unwrap_or, ℤ, pos, ◌+ℤ◌, ◌*◌, replicate}
 use Rattle.std.proofs.lemmas.Int.{ints}
-use Rattle.std.proofs.lemmas.List.{length-map}
+use Rattle.std.proofs.lemmas.List.{length-map, length-replicate}
 use Rattle.std.proofs.lemmas.List.Sums.{sum_by-cons}
 use Rattle.std.proofs.lemmas.Bool.Decides.{nat_tests}
 use Rattle.std.specs.Ordering.{nat_cmp}
@@ -18,15 +18,28 @@ use Rattle.atl_state.specs.declared.books.Thing.TheVariants.{Money, People, Item
 use Rattle.atl_state.specs.declared.records.Faction.{Faction}
 use Rattle.atl_state.specs.declared.records.Region.{Region}
 use Rattle.atl_state.specs.declared.records.Unit.{Unit}
-use Rattle.atl_state.specs.Books.{amount_in, booked, no_amounts, with_booked, IsWithin}
-use Rattle.atl_state.specs.State.{AreLists}
+use Rattle.atl_state.specs.Books.{amount_in, booked, no_amounts, with_booked, IsGrid, IsWithin}
+use Rattle.atl_state.specs.Kept.{AreLists, AreKept}
+use Rattle.atl_state.specs.Limits.{entry_count}
 use Rattle.atl_state.specs.Totals.{total, Balances, held, kept}
 use Rattle.atl_state.specs.Founding.{founded_of, founded_region, things_of}
 use Rattle.atl_state.specs.Good.{IsGood}
 use Rattle.atl_state.proofs.BookLaws.{booked-with_booked, booked-no_amounts, amount-no_amounts, IsGrid-no_amounts, IsGrid-with_booked, IsWithin-with_booked, share_of}
 
-pub no_lists : AreLists empty empty
-no_lists r = ap (λ o. unwrap_or o []) (get-empty nat_cmp r) ∙ sym (rw (entries-empty {X = Unit}) refl)
+no_lists : (belongs_to : Unit → ℕ) → AreLists belongs_to empty empty
+no_lists belongs_to r = ap (λ o. unwrap_or o []) (get-empty nat_cmp r) ∙ sym (rw (entries-empty {X = Unit}) refl)
+
+-- what is kept beside nobody, for so many things
+pub AreKept-nobody : (things : ℕ) (books : List (List ℤ)) → IsGrid things books → AreKept empty empty empty books (replicate (entry_count * things) false)
+AreKept-nobody things books grid = record {
+  regions = no_lists (λ u. u.region);
+  factions = no_lists (λ u. u.faction);
+  amounts = length-replicate (entry_count * things) false ∙ ap (λ n. entry_count * n) (sym grid.rows);
+}
+
+-- the books are made for so many things
+pub IsGrid-founding : (things money people : ℕ) → IsGrid things (with_booked (with_booked (no_amounts things) Founding Money (pos money)) Founding People (pos people))
+IsGrid-founding things money people = IsGrid-with_booked things (with_booked (no_amounts things) Founding Money (pos money)) Founding People (pos people) (IsGrid-with_booked things (no_amounts things) Founding Money (pos money) (IsGrid-no_amounts things))
 
 nobody : (t : Thing) → sum_over (λ (u : Unit). held t u.holding) (empty {X = Unit} {R = nat_cmp}) ≡ 0
 nobody t = rw (entries-empty {X = Unit}) refl

@@ -9,7 +9,8 @@ use Rattle.std.proofs.lemmas.Bool.{and_parts, false≢true}
 use Rattle.std.proofs.lemmas.Bool.Decides.{nat_tests}
 use Rattle.atl_tables.specs.Sums.{numbers_where}
 use Rattle.atl_tables.proofs.SumLaws.{chosen-cons}
-use Rattle.atl_state.specs.Ordered.{first_above, put_number}
+use Rattle.std.specs.List.{remove}
+use Rattle.atl_state.specs.Ordered.{first_above, put_number, take_number}
 
 -- ---- as recursions
 put_step : (t : Bool) (n x : ℕ) (xs : List ℕ) → take (cond (not t) (1 + first_above n xs) 0) (x ∷ xs) ++ n ∷ drop (cond (not t) (1 + first_above n xs) 0) (x ∷ xs) ≡ cond t (n ∷ x ∷ xs) (x ∷ put_number n xs)
@@ -25,8 +26,29 @@ put_number-nil : (n : ℕ) → put_number n [] ≡ n ∷ []
 unfolding put_number
 put_number-nil n = refl
 
+take_step : (t : Bool) (n x : ℕ) (xs : List ℕ) → remove (x ∷ xs) (cond (not t) (1 + first_above n xs) 0) ≡ cond t xs (x ∷ take_number n xs)
+unfolding take_number
+take_step true n x xs = refl
+take_step false n x xs = let e : 1 + first_above n xs ≡ suc (first_above n xs) = omega arith in ap (remove (x ∷ xs)) e
+
+take_number-cons : (n x : ℕ) (xs : List ℕ) → take_number n (x ∷ xs) ≡ cond (nat_le n x) xs (x ∷ take_number n xs)
+unfolding take_number
+take_number-cons n x xs = take_step (nat_le n x) n x xs
+
 itself : (n : ℕ) → nat_le n n ≡ true
 itself n = grind (arith, nat_tests)
+
+taken_first : (n : ℕ) (xs : List ℕ) → take_number n (n ∷ xs) ≡ xs
+taken_first n xs = take_number-cons n n xs ∙ ap (λ b. cond b xs (n ∷ take_number n xs)) (itself n)
+
+-- a number that was put is taken again
+pub taken_put : (n : ℕ) (xs : List ℕ) → take_number n (put_number n xs) ≡ xs
+taken_put n [] = ap (take_number n) (put_number-nil n) ∙ taken_first n []
+taken_put n (x ∷ xs) =
+    ap (take_number n) (put_number-cons n x xs) ∙ elim (nat_le n x) as (λ b. nat_le n x ≡ b → take_number n (cond b (n ∷ x ∷ xs) (x ∷ put_number n xs)) ≡ x ∷ xs) [
+      | true ↦ λ _. taken_first n (x ∷ xs)
+      | false ↦ λ e. take_number-cons n x (put_number n xs) ∙ ap (λ b. cond b (put_number n xs) (x ∷ take_number n (put_number n xs))) e ∙ ap (λ ys. x ∷ ys) (taken_put n xs)
+    ] refl
 
 -- ---- the numbers whose values pass a test
 below : (k q : ℕ) → is_lt (nat_cmp k q) ≡ true → k < q

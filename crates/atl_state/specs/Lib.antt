@@ -2,6 +2,7 @@ pub mod Books
 pub mod Founding
 pub mod Good
 pub mod Held
+pub mod Kept
 pub mod Limits
 pub mod Joining
 pub mod Lending

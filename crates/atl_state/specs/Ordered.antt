@@ -1,6 +1,6 @@
--- Rising lists of numbers, as numbers come.
+-- For proofs alone: rising lists of numbers, as numbers come and go.
 use Rattle.std.specs.Prelude.{ℕ, nat_le, List, ◌∷◌, ◌++◌, take, drop}
-use Rattle.std.specs.List.{position_or_len}
+use Rattle.std.specs.List.{position_or_len, remove}
 
 -- the place of the first number that is not below another
 abbrev pub first_above : ℕ → List ℕ → ℕ
@@ -9,3 +9,7 @@ first_above n xs = position_or_len (nat_le n) xs
 -- the list with a number at its place
 unfoldable pub put_number : ℕ → List ℕ → List ℕ
 put_number n xs = take (first_above n xs) xs ++ n ∷ drop (first_above n xs) xs
+
+-- the list without what stands at a number's place
+unfoldable pub take_number : ℕ → List ℕ → List ℕ
+take_number n xs = remove xs (first_above n xs)

@@ -1,8 +1,8 @@
 -- What a contract sees of a campaign.
-use Rattle.std.specs.Prelude.{◌≡◌, ◌==◌, List, [], ℕ, ℤ, refl, unwrap_or}
+use Rattle.std.specs.Prelude.{◌==◌, List, ℕ, ℤ, refl}
 use Rattle.std.specs.Ordering.{nat_cmp}
 use Rattle.std.specs.Coded.{Coded, code_by, coded×, coded_ℕ, coded_ℤ, coded_list}
-use Rattle.std.specs.FinMap.{FinMap, code, get, insert}
+use Rattle.std.specs.FinMap.{FinMap, code, insert}
 use Rattle.atl_tables.specs.Sums.{numbers_where}
 use Rattle.atl_state.specs.declared.records.Faction.{Faction}
 use Rattle.atl_state.specs.declared.records.Region.{Region}
@@ -64,12 +64,9 @@ marked_code = code_by (State × Marks) (coded× state_code marks_code) (λ m. (m
 abbrev pub numbers_in : ℕ → FinMap nat_cmp Unit → List ℕ
 numbers_in r units = numbers_where (λ u. u.region == r) units
 
-abbrev pub list_of : FinMap nat_cmp (List ℕ) → ℕ → List ℕ
-list_of lists r = unwrap_or (get lists r) []
-
--- each region's list is that of the units
-abbrev pub AreLists : FinMap nat_cmp Unit → FinMap nat_cmp (List ℕ) → Type 0
-AreLists units lists = (r : ℕ) → list_of lists r ≡ numbers_in r units
+-- the numbers of the units of a faction, in rising order
+abbrev pub numbers_of : ℕ → FinMap nat_cmp Unit → List ℕ
+numbers_of f units = numbers_where (λ u. u.faction == f) units
 
 -- ---- one entry changed
 

@@ -1,10 +1,10 @@
 //! What the books say: signed amounts by entry and thing.
-ghost use Rattle.std.specs.Prelude.{◌≡◌, ◌<◌, ◌+ℤ◌, IfOk, length, replicate, false};
+ghost use Rattle.std.specs.Prelude.{◌≡◌, ◌<◌, ◌*◌, ◌+ℤ◌, IfOk, length, replicate, slice_set, false, true};
 ghost use Rattle.std.specs.Int.{w64};
 ghost use Rattle.std.specs.Int.RustNames.{FitsSigned};
 ghost use Rattle.atl_state.specs.Limits.{entry_count};
 ghost use Rattle.atl_state.specs.Books.{entry_place, thing_place, amount_in, with_booked, no_amounts};
-ghost use Rattle.atl_state.specs.Marks.{amount_marked};
+ghost use Rattle.atl_state.specs.Marks.{amount_number};
 
 use crate::limits::ENTRY_COUNT;
 use std::alloc::{AllocError, Global};
@@ -60,13 +60,21 @@ pub(crate) fn entry_place(entry: Entry) -> usize
 
 /// The place of a thing's row.
 pub(crate) fn thing_place(thing: Thing) -> usize
-    ensures { result ≡ thing_place thing }
+    ensures place { result ≡ thing_place thing }
+    ensures small { result < 65538 }
 {
     match thing {
         Thing::Money => 0,
         Thing::People => 1,
         Thing::Item(item) => 2 + usize::from(item),
     }
+}
+
+/// The number of an amount: thing by thing, and of each thing entry by entry.
+fn amount_number(entry: Entry, thing: Thing) -> usize
+    ensures { result ≡ amount_number entry thing }
+{
+    ENTRY_COUNT * thing_place(thing) + entry_place(entry)
 }
 
 /// A row of amounts for each thing.
@@ -123,37 +131,35 @@ impl Books {
 /// For each amount whether it changed.
 #[derive(Drop)]
 pub(crate) struct AmountMarks {
-    rows: Vec<[bool; ENTRY_COUNT]>,
+    flags: Vec<bool>,
 }
 
 impl Model for AmountMarks {
     ghost use Rattle.std.specs.Prelude.{List, Bool};
 
-    ghost Value = { List (List Bool) };
+    ghost Value = { List Bool };
 
-    ghost view = { λ a. a.rows.items };
+    ghost view = { λ a. a.flags.items };
 }
 
 impl AmountMarks {
     /// Nothing marked.
     pub(crate) fn new(alloc: Global, things: usize) -> Result<AmountMarks, AllocError>
-        ensures { IfOk result (λ made. made ≡ replicate things (replicate entry_count false)) }
+        ensures { IfOk result (λ made. made ≡ replicate (entry_count * things) false) }
     {
-        let mut rows = Vec::new(alloc);
+        let mut flags = Vec::new(alloc);
         for _made in 0..things {
-            rows.push([false; ENTRY_COUNT])?;
+            flags.extend_from_slice(&[false; ENTRY_COUNT])?;
         }
-        Ok(AmountMarks { rows })
+        Ok(AmountMarks { flags })
     }
 
     /// Marks an amount. It takes no memory.
     pub(crate) fn mark(&mut self, entry: Entry, thing: Thing)
-        ensures { self.new ≡ amount_marked self.old entry thing }
+        requires { amount_number entry thing < length self.old }
+        ensures { self.new ≡ slice_set self.old (amount_number entry thing) true }
     {
-        let row = thing_place(thing);
-        let place = entry_place(entry);
-        if row < self.rows.len() {
-            self.rows[row][place] = true;
-        }
+        let number = amount_number(entry, thing);
+        self.flags[number] = true;
     }
 }

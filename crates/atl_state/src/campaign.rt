@@ -2,7 +2,7 @@
 ghost use Rattle.std.specs.Prelude.{◌≡◌, ◌<◌, OnOk, OnErr, length};
 ghost use Rattle.std.specs.Option.{option_copied};
 ghost use Rattle.std.specs.FinMap as map;
-ghost use Rattle.atl_state.specs.State.{numbers_in, with_mail, with_report};
+ghost use Rattle.atl_state.specs.State.{numbers_in, numbers_of, with_mail, with_report};
 ghost use Rattle.atl_state.specs.Books.{amount_in, thing_place};
 ghost use Rattle.atl_state.specs.Totals.{total, IsCountable};
 ghost use Rattle.atl_state.specs.Marking.{mark_mail, mark_report};
@@ -12,10 +12,11 @@ mod joining;
 
 use crate::books::{AmountMarks, Books, Entry, Thing};
 use crate::holding::Holding;
+use crate::lists::listed;
 use crate::numbers::Numbers;
 use crate::records::{Faction, Region, Structure, Unit};
 use crate::totals::{regions_total, units_total};
-use atl_tables::{Numbered, Sequence, Text, Tracked};
+use atl_tables::{Entries, Numbered, Sequence, Text, Tracked};
 pub use founding::founded;
 use std::alloc::{AllocError, Global};
 use std::marker::Model;
@@ -41,7 +42,9 @@ pub struct Campaign {
     // Whether the month or a number that comes next changed.
     row_marked: bool,
     // The numbers of the units of each region, in rising order.
-    lists: Numbered<Numbers>,
+    by_region: Numbered<Numbers>,
+    // The numbers of the units of each faction, in rising order.
+    by_faction: Numbered<Numbers>,
 }
 
 impl Drop for Campaign {
@@ -62,13 +65,15 @@ impl Drop for Campaign {
             books: _,
             amounts_marked: _,
             row_marked: _,
-            lists: _,
+            by_region: _,
+            by_faction: _,
         } = self;
     }
 }
 
 impl Model for Campaign {
-    ghost use Rattle.atl_state.specs.State.{Marked, marked_code, AreLists};
+    ghost use Rattle.atl_state.specs.State.{Marked, marked_code};
+    ghost use Rattle.atl_state.specs.Kept.{AreKept, set_from};
 
     ghost Value = { Marked };
 
@@ -96,12 +101,12 @@ impl Model for Campaign {
         structures = a.structures.marks;
         mail = a.mail.marks;
         reports = a.reports.marks;
-        books = a.amounts_marked;
+        books = set_from 0 a.amounts_marked;
         row = a.row_marked;
       };
     } };
 
-    ghost invariant = { λ a. AreLists a.units.values a.lists };
+    ghost invariant = { λ a. AreKept a.units.values a.by_region a.by_faction a.books a.amounts_marked };
 }
 
 impl Campaign {
@@ -151,11 +156,11 @@ impl Campaign {
         self.factions.get(number)
     }
 
-    /// All factions that ever joined, by their numbers.
-    pub fn factions(&self) -> &Numbered<Faction>
-        ensures { result.now ≡ self.now.what.factions }
+    /// All factions that ever joined with their numbers, in rising order.
+    pub fn factions(&self) -> Entries<'_, Faction>
+        ensures { result ≡ map.entries self.now.what.factions }
     {
-        self.factions.values()
+        self.factions.iter()
     }
 
     pub fn region(&self, number: u32) -> Option<&Region>
@@ -164,11 +169,18 @@ impl Campaign {
         self.regions.get(number)
     }
 
-    /// The regions by their numbers.
-    pub fn regions(&self) -> &Numbered<Region>
-        ensures { result.now ≡ self.now.what.regions }
+    /// The regions with their numbers, in rising order.
+    pub fn regions(&self) -> Entries<'_, Region>
+        ensures { result ≡ map.entries self.now.what.regions }
     {
-        self.regions.values()
+        self.regions.iter()
+    }
+
+    /// How many regions there are.
+    pub fn region_count(&self) -> usize
+        ensures { result ≡ map.len self.now.what.regions }
+    {
+        self.regions.len()
     }
 
     pub fn unit(&self, number: u32) -> Option<&Unit>
@@ -177,11 +189,18 @@ impl Campaign {
         self.units.get(number)
     }
 
-    /// The units by their numbers.
-    pub fn units(&self) -> &Numbered<Unit>
-        ensures { result.now ≡ self.now.what.units }
+    /// The units with their numbers, in rising order.
+    pub fn units(&self) -> Entries<'_, Unit>
+        ensures { result ≡ map.entries self.now.what.units }
     {
-        self.units.values()
+        self.units.iter()
+    }
+
+    /// How many units there are.
+    pub fn unit_count(&self) -> usize
+        ensures { result ≡ map.len self.now.what.units }
+    {
+        self.units.len()
     }
 
     pub fn structure(&self, number: u32) -> Option<&Structure>
@@ -190,18 +209,25 @@ impl Campaign {
         self.structures.get(number)
     }
 
-    /// The structures by their numbers.
-    pub fn structures(&self) -> &Numbered<Structure>
-        ensures { result.now ≡ self.now.what.structures }
+    /// The structures with their numbers, in rising order.
+    pub fn structures(&self) -> Entries<'_, Structure>
+        ensures { result ≡ map.entries self.now.what.structures }
     {
-        self.structures.values()
+        self.structures.iter()
     }
 
-    /// The mail for the month to come, by the factions' numbers.
-    pub fn mail(&self) -> &Numbered<Sequence<u8>>
-        ensures { result.now ≡ self.now.what.mail }
+    /// A faction's mail for the month to come.
+    pub fn mail_of(&self, faction: u32) -> Option<&Sequence<u8>>
+        ensures { option_copied result ≡ map.get self.now.what.mail faction }
     {
-        self.mail.values()
+        self.mail.get(faction)
+    }
+
+    /// The mail for the month to come with the factions' numbers, in rising order.
+    pub fn mail(&self) -> Entries<'_, Sequence<u8>>
+        ensures { result ≡ map.entries self.now.what.mail }
+    {
+        self.mail.iter()
     }
 
     /// The stored report of a faction.
@@ -211,11 +237,11 @@ impl Campaign {
         self.reports.get(faction)
     }
 
-    /// The stored reports by the factions' numbers.
-    pub fn reports(&self) -> &Numbered<Text>
-        ensures { result.now ≡ self.now.what.reports }
+    /// The stored reports with the factions' numbers, in rising order.
+    pub fn reports(&self) -> Entries<'_, Text>
+        ensures { result ≡ map.entries self.now.what.reports }
     {
-        self.reports.values()
+        self.reports.iter()
     }
 
     /// How many things are booked: money, people, and each item of the world.
@@ -237,10 +263,14 @@ impl Campaign {
     pub fn in_region(&self, region: u32) -> &[u32]
         ensures { result.now ≡ numbers_in region self.now.what.units }
     {
-        match self.lists.get(region) {
-            Some(list) => list.as_slice(),
-            None => &[],
-        }
+        listed(&self.by_region, region)
+    }
+
+    /// The numbers of the units of a faction, in rising order.
+    pub fn of_faction(&self, faction: u32) -> &[u32]
+        ensures { result.now ≡ numbers_of faction self.now.what.units }
+    {
+        listed(&self.by_faction, faction)
     }
 
     /// Lends a unit's holding, and marks the unit. Nothing else changes. It takes no memory.

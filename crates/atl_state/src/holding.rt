@@ -4,7 +4,7 @@ ghost use Rattle.std.specs.FinMap as map;
 ghost use Rattle.atl_state.specs.Limits.{men_limit, holding_limit};
 ghost use Rattle.atl_state.specs.Held.{amount_of, AreAmounts};
 
-use atl_tables::{Numbered, Text};
+use atl_tables::{Entries, Numbered, Text};
 use std::marker::Model;
 
 /// A unit's name, men, money, guard flag, items and days of study. It holds at most 999,999 men, 999,999,999 of money
@@ -107,18 +107,18 @@ impl Holding {
         }
     }
 
-    /// The items that are held, by their numbers.
-    pub fn items(&self) -> &Numbered<u32>
-        ensures { result.now ≡ self.now.items }
+    /// How much is held of each item, with the items' numbers in rising order.
+    pub fn items(&self) -> Entries<'_, u32>
+        ensures { result ≡ map.entries self.now.items }
     {
-        &self.items
+        self.items.iter()
     }
 
-    /// The days of study over all men, by the skills' numbers.
-    pub fn days(&self) -> &Numbered<u32>
-        ensures { result.now ≡ self.now.days }
+    /// The days of study over all men, with the skills' numbers in rising order.
+    pub fn days(&self) -> Entries<'_, u32>
+        ensures { result ≡ map.entries self.now.days }
     {
-        &self.days
+        self.days.iter()
     }
 
     /// Sets the money, at most 999,999,999.

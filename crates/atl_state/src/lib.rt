@@ -5,7 +5,9 @@ pub mod books;
 pub mod campaign;
 pub mod holding;
 mod limits;
+mod lists;
 mod numbers;
+pub mod parts;
 pub mod records;
 mod totals;
 

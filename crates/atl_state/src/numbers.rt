@@ -1,6 +1,6 @@
 //! A rising list of numbers.
 ghost use Rattle.std.specs.Prelude.{◌≡◌, ◌≤◌, OnOk, OnErr, [], length};
-ghost use Rattle.atl_state.specs.Ordered.{put_number, first_above};
+ghost use Rattle.atl_state.specs.Ordered.{put_number, take_number, first_above};
 
 use std::alloc::{AllocError, Global};
 use std::marker::Model;
@@ -49,6 +49,17 @@ impl Numbers {
         let place = first_above(&self.items, number);
         self.items.insert(place, number)?;
         Ok(())
+    }
+
+    /// Takes out what stands at a number's place. It takes no memory.
+    #[tactic(auto, unfolding(crate::specs::Ordered::take_number))]
+    pub(crate) fn take(&mut self, number: u32)
+        ensures { self.new ≡ take_number number self.old }
+    {
+        let place = first_above(&self.items, number);
+        if place < self.items.len() {
+            self.items.remove(place);
+        }
     }
 
     pub(crate) fn as_slice(&self) -> &[u32]

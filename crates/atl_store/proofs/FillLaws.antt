@@ -1,8 +1,7 @@
 -- Empty tables are filled, three and three, until they hold the campaign.
 use Rattle.std.proofs.Common.{◌≡◌, ◌≢◌, ℕ, false, true, nat_eq, List, [], map, refl, sym, ap, ◌∙◌, subst, inl, inr, true≢false, arith}
 use Rattle.std.specs.List.{list_any, range_with_len}
-use Rattle.std.specs.Ordering.{nat_cmp}
-use Rattle.std.specs.FinMap.{FinMap, entries}
+use Rattle.std.specs.FinMap.{entries}
 use Rattle.std.specs.Prelude.{length}
 use Rattle.std.proofs.lemmas.Bool.Decides.{nat_tests}
 use Rattle.sqlite.specs.Order.{Row}
@@ -71,12 +70,12 @@ other_tree a trees x there free same =
     let hit : nat_eq a x ≡ true = grind (arith, nat_tests, same) in
     true≢false (sym (some_from (λ tree. nat_eq a tree) trees x there hit) ∙ free)
 
--- what is put of a map is put of its equal
-pub of_map : {V : Type 0} (t : Table) (line : ℕ → V → Row) (m n : FinMap nat_cmp V) (a b : State) → m ≡ n → Inside HasTables (PutsRows t 1 (lines_of line (entries m))) a b → Inside HasTables (PutsRows t 1 (lines_of line (entries n))) a b
-of_map {V} t line m n a b same did = subst (λ (x : FinMap nat_cmp V). Inside HasTables (PutsRows t 1 (lines_of line (entries x))) a b) same did
+-- what is put of some entries is put of their equal
+pub of_entries : {V : Type 0} (t : Table) (line : ℕ → V → Row) (es fs : List (ℕ × V)) (a b : State) → es ≡ fs → Inside HasTables (PutsRows t 1 (lines_of line es)) a b → Inside HasTables (PutsRows t 1 (lines_of line fs)) a b
+of_entries {V} t line es fs a b same did = subst (λ (x : List (ℕ × V)). Inside HasTables (PutsRows t 1 (lines_of line x)) a b) same did
 
-pub goods_of : (m n : FinMap nat_cmp Unit) (a b : State) → m ≡ n → Inside HasTables (PutsRows has_table 3 (all_goods_lines (entries m))) a b → Inside HasTables (PutsRows has_table 3 (all_goods_lines (entries n))) a b
-goods_of m n a b same did = subst (λ (x : FinMap nat_cmp Unit). Inside HasTables (PutsRows has_table 3 (all_goods_lines (entries x))) a b) same did
+pub goods_of : (es fs : List (ℕ × Unit)) (a b : State) → es ≡ fs → Inside HasTables (PutsRows has_table 3 (all_goods_lines es)) a b → Inside HasTables (PutsRows has_table 3 (all_goods_lines fs)) a b
+goods_of es fs a b same did = subst (λ (x : List (ℕ × Unit)). Inside HasTables (PutsRows has_table 3 (all_goods_lines x)) a b) same did
 
 -- ---- the campaign's own row, factions and reports
 

@@ -2,15 +2,15 @@
 use Rattle.std.specs.Prelude.{[], ◌∷◌, string_bytes}
 use Rattle.sqlite.specs.declared.types.Value.TheVariants.{Int, Text, Blob}
 use Rattle.sqlite.specs.Order.{Row}
-use Rattle.atl_store.specs.declared.rows.campaign.StoredCampaign.{StoredCampaign}
-use Rattle.atl_store.specs.declared.rows.faction.StoredFaction.{StoredFaction}
-use Rattle.atl_store.specs.declared.rows.region.StoredRegion.{StoredRegion}
-use Rattle.atl_store.specs.declared.rows.unit.StoredUnit.{StoredUnit}
-use Rattle.atl_store.specs.declared.rows.structure.StoredStructure.{StoredStructure}
-use Rattle.atl_store.specs.declared.rows.mail.StoredMail.{StoredMail}
-use Rattle.atl_store.specs.declared.rows.report.StoredReport.{StoredReport}
-use Rattle.atl_store.specs.declared.rows.has.StoredHas.{StoredHas}
-use Rattle.atl_store.specs.declared.rows.books.StoredBooks.{StoredBooks}
+use Rattle.atl_state.specs.declared.parts.StoredCampaign.{StoredCampaign}
+use Rattle.atl_state.specs.declared.parts.StoredFaction.{StoredFaction}
+use Rattle.atl_state.specs.declared.parts.StoredRegion.{StoredRegion}
+use Rattle.atl_state.specs.declared.parts.StoredUnit.{StoredUnit}
+use Rattle.atl_state.specs.declared.parts.StoredStructure.{StoredStructure}
+use Rattle.atl_state.specs.declared.parts.StoredMail.{StoredMail}
+use Rattle.atl_state.specs.declared.parts.StoredReport.{StoredReport}
+use Rattle.atl_state.specs.declared.parts.StoredHas.{StoredHas}
+use Rattle.atl_state.specs.declared.parts.StoredBooks.{StoredBooks}
 
 abbrev pub campaign_stored : StoredCampaign → Row
 campaign_stored s = Int s.id ∷ Int s.format ∷ Int s.month ∷ Int s.next_faction ∷ Int s.next_unit ∷ Int s.next_structure ∷ Text (string_bytes s.pass) ∷ Text (string_bytes s.world) ∷ []

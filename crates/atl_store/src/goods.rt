@@ -1,5 +1,4 @@
 //! What units have, written row by row.
-ghost use Rattle.std.specs.FinMap.{entries};
 ghost use Rattle.atl_store.specs.Tables.{has_table};
 ghost use Rattle.atl_store.specs.Lines.{thing_lines, sort_lines, goods_lines, all_goods_lines};
 ghost use Rattle.atl_store.specs.Writes.{Writes};
@@ -7,7 +6,7 @@ ghost use Rattle.atl_store.specs.Inside.{Inside, HasTables, PutsRows};
 
 use crate::rows::has::{HasRow, Sort, put_has};
 use atl_state::{Holding, Unit};
-use atl_tables::Numbered;
+use atl_tables::Entries;
 use sqlite::{Alter, Error, Transaction};
 
 /// Puts the row of an amount that is not 0.
@@ -37,11 +36,11 @@ fn put_sort<S: Alter>(
     tx: &mut Transaction<'_, S>,
     unit: u32,
     sort: Sort,
-    things: &Numbered<u32>,
+    things: Entries<'_, u32>,
 ) -> Result<(), Error>
-    ensures { Writes S.Store (Inside HasTables (PutsRows has_table 3 (sort_lines unit sort (entries things.now)))) result tx.old.conn tx.new.conn }
+    ensures { Writes S.Store (Inside HasTables (PutsRows has_table 3 (sort_lines unit sort things.entry))) result tx.old.conn tx.new.conn }
 {
-    for (thing, amount) in things.iter() {
+    for (thing, amount) in things {
         put_thing(tx, unit, sort, thing, *amount)?;
     }
     Ok(())
@@ -62,11 +61,11 @@ fn put_goods<S: Alter>(
 /// Puts the rows of all that all units have.
 pub(crate) fn put_all_goods<S: Alter>(
     tx: &mut Transaction<'_, S>,
-    units: &Numbered<Unit>,
+    units: Entries<'_, Unit>,
 ) -> Result<(), Error>
-    ensures { Writes S.Store (Inside HasTables (PutsRows has_table 3 (all_goods_lines (entries units.now)))) result tx.old.conn tx.new.conn }
+    ensures { Writes S.Store (Inside HasTables (PutsRows has_table 3 (all_goods_lines units.entry))) result tx.old.conn tx.new.conn }
 {
-    for (number, unit) in units.iter() {
+    for (number, unit) in units {
         put_goods(tx, number, &unit.holding)?;
     }
     Ok(())

@@ -1,6 +1,5 @@
 //! The parts of a campaign that stand in a table of their own, each under its number.
 ghost use Rattle.std.specs.Prelude.{ℕ};
-ghost use Rattle.std.specs.FinMap.{entries};
 ghost use Rattle.sqlite.specs.Order.{Row as SqlRow};
 ghost use Rattle.sqlite.specs.Table.{Table};
 ghost use Rattle.atl_store.specs.Tables.{faction_table, region_table, unit_table, structure_table, mail_table, report_table};
@@ -16,7 +15,7 @@ use crate::rows::report::{ReportRow, put_report};
 use crate::rows::structure::{StructureRow, put_structure};
 use crate::rows::unit::{UnitRow, put_unit};
 use atl_state::{Faction, Region, Structure, Unit};
-use atl_tables::{Numbered, Sequence, Text};
+use atl_tables::{Entries, Sequence, Text};
 use sqlite::{Alter, Error, Transaction};
 
 /// What has a row under its number in a table of its own.
@@ -133,11 +132,11 @@ impl Kept for Text {
 /// Puts the rows of all entries.
 pub(crate) fn put_each<V: Kept + Drop, S: Alter>(
     tx: &mut Transaction<'_, S>,
-    values: &Numbered<V>,
+    values: Entries<'_, V>,
 ) -> Result<(), Error>
-    ensures { Writes S.Store (Inside HasTables (PutsRows V.Kept.table 1 (lines_of V.Kept.line (entries values.now)))) result tx.old.conn tx.new.conn }
+    ensures { Writes S.Store (Inside HasTables (PutsRows V.Kept.table 1 (lines_of V.Kept.line values.entry))) result tx.old.conn tx.new.conn }
 {
-    for (number, value) in values.iter() {
+    for (number, value) in values {
         value.put(tx, number)?;
     }
     Ok(())

@@ -1,25 +1,170 @@
 -- Values and their marks.
-use Rattle.std.proofs.Common.{◌≡◌, ℕ, Bool, true, false, cond, List, [], ◌∷◌, map, Option, Some, None, refl, sym, ap, ◌∙◌}
-use Rattle.std.specs.Prelude.{is_some, unwrap_or}
-use Rattle.std.proofs.lemmas.Bool.{false≢true}
-use Rattle.std.specs.Ordering.{nat_cmp, eq_by_cmp, is_eq}
+use Rattle.std.proofs.Common.{◌≡◌, ℕ, suc, ◌+◌, Bool, true, false, cond, not, ◌&&◌, ◌||◌, List, [], ◌∷◌, length, map, T, Option, Some, None, refl, sym, ap, ◌∙◌, arith}
+use Rattle.std.specs.Prelude.{is_some}
+use Rattle.std.specs.List.{list_any}
+use Rattle.std.proofs.lemmas.Bool.{false≢true, and_parts}
+use Rattle.std.specs.Ordering.{nat_cmp, eq_by_cmp, is_eq, is_lt}
 use Rattle.std.specs.declared.cmp.Ordering.TheVariants.{Less, Equal, Greater}
-use Rattle.std.specs.Cmp.{nat_cmp_total}
-use Rattle.std.specs.FinMap.{FinMap, get, get-entries, find, entries, insert, remove, empty, get-empty, get-insert, get-remove, same_map, nat_cmp-IsAntisymmetric}
-use Rattle.atl_tables.specs.Changing.{Changing, AreMarked}
-use Rattle.atl_tables.specs.Tracking.{marked_with, with_value, without_value, without_value_at, LosesNoMark}
+use Rattle.std.specs.Cmp.{nat_cmp_total, ranked}
+use Rattle.std.specs.FinMap.{FinMap, get, get-entries, find, entries, entries_sorted, insert, remove, empty, get-empty, get-insert, get-remove, same_map, is_sorted, nat_cmp-IsAntisymmetric}
+use Rattle.std.specs.FinMap.Entries.{below_all}
+use Rattle.std.specs.FinSet as set
+use Rattle.atl_tables.specs.Changing.{Changing}
+use Rattle.atl_tables.specs.Places.{marked_in, put_mark, ArePlaces}
+use Rattle.atl_tables.specs.Tracking.{marked_with, with_value, without_value_at, taken_out}
 use Rattle.atl_tables.proofs.SumLaws.{taken_back}
-use Rattle.atl_tables.specs.Sums.{mapped}
+use Rattle.atl_tables.specs.Sums.{mapped, numbers_among, numbers_where}
 use Rattle.atl_tables.proofs.MadeLaws.{entries-mapped}
 
-pub AreMarked-empty : (V : Type 0) (q : ℕ) → is_some (get (empty {X = V} {R = nat_cmp}) q) ≡ true → is_some (get (empty {X = Bool} {R = nat_cmp}) q) ≡ true
-AreMarked-empty V q h = absurd (false≢true (sym (ap is_some (get-empty nat_cmp q)) ∙ h))
+is_true : (b : Bool) → T b → b ≡ true
+is_true true h = refl
+is_true false h = absurd h
 
-each_step : {V : Type 0} (b : Bool) (x : V) (o : Option Bool) (p : Option V) → is_some o ≡ is_some p → is_some (cond b (Some false) o) ≡ is_some (cond b (Some x) p)
-each_step true x o p h = refl
-each_step false x o p h = h
+some_none : {A P : Type 0} (x : A) → None ≡ Some x → P
+some_none x e = cc
+
+true_false : {P : Type 0} → Some true ≡ Some false → P
+true_false e = absurd (false≢true (sym (ap held e)))
+  where
+    held : Option Bool → Bool
+    held None = false
+    held (Some b) = b
+
+-- ---- what is marked
+
+-- whether a place says that its number is marked
+abbrev is_set : Option Bool → Bool
+is_set None = false
+is_set (Some b) = b
+
+abbrev chosen : List (ℕ × Bool) → List ℕ
+chosen es = numbers_among (λ b. b) es
+
+chosen-cons : (b : Bool) (n : ℕ) (es : List (ℕ × Bool)) → chosen ((n, b) ∷ es) ≡ cond b (n ∷ chosen es) (chosen es)
+chosen-cons true n es = refl
+chosen-cons false n es = refl
+
+find_none : (k : ℕ) (es : List (ℕ × Bool)) → below_all nat_cmp k es ≡ true → find nat_cmp k es ≡ None
+find_none k [] h = refl
+find_none k (e ∷ es) h =
+    elim (nat_cmp k e.0) as (λ r. is_lt r ≡ true → cond (is_eq r) (Some e.1) (find nat_cmp k es) ≡ None) [
+      | Less ↦ λ _. find_none k es (and_parts _ _ h).1
+      | Equal ↦ λ g. absurd (false≢true g)
+      | Greater ↦ λ g. absurd (false≢true g)
+    ] (and_parts _ _ h).0
+
+found : (q : ℕ) (es : List (ℕ × Bool)) → is_sorted nat_cmp es ≡ true → list_any (eq_by_cmp nat_cmp q) (chosen es) ≡ is_set (find nat_cmp q es)
+found q [] h = refl
+found q (e ∷ es) h =
+    let rest = found q es (and_parts _ _ h).1 in
+    ap (list_any (eq_by_cmp nat_cmp q)) (chosen-cons e.1 e.0 es)
+    ∙ elim e.1 as (λ b. list_any (eq_by_cmp nat_cmp q) (cond b (e.0 ∷ chosen es) (chosen es)) ≡ is_set (cond (is_eq (nat_cmp q e.0)) (Some b) (find nat_cmp q es))) [
+      | true ↦ elim (nat_cmp q e.0) as (λ r. (is_eq r || list_any (eq_by_cmp nat_cmp q) (chosen es)) ≡ is_set (cond (is_eq r) (Some true) (find nat_cmp q es))) [ Less ↦ rest | Equal ↦ refl | Greater ↦ rest ]
+      | false ↦ elim (nat_cmp q e.0) as (λ r. nat_cmp q e.0 ≡ r → list_any (eq_by_cmp nat_cmp q) (chosen es) ≡ is_set (cond (is_eq r) (Some false) (find nat_cmp q es))) [
+        | Less ↦ λ _. rest
+        | Equal ↦ λ same. rest ∙ ap is_set (ap (λ k. find nat_cmp k es) (nat_cmp-IsAntisymmetric q e.0 same) ∙ find_none e.0 es (and_parts _ _ h).0)
+        | Greater ↦ λ _. rest
+      ] refl
+    ]
+
+pub contains-marked : (m : FinMap nat_cmp Bool) (q : ℕ) → set.contains (marked_in m) q ≡ is_set (get m q)
+contains-marked m q = set.contains-from_list nat_cmp_total (chosen (entries m)) q ∙ found q (entries m) (is_true _ (entries_sorted m)) ∙ ap is_set (sym (get-entries m q))
+
+counted : (es : List (ℕ × Bool)) → is_sorted nat_cmp es ≡ true → set.len {R = nat_cmp} (set.from_list (chosen es)) ≡ length (chosen es)
+counted [] h = set.len-empty nat_cmp
+counted (e ∷ es) h =
+    let rest = counted es (and_parts _ _ h).1 in
+    let new : set.contains {R = nat_cmp} (set.from_list (chosen es)) e.0 ≡ false = set.contains-from_list nat_cmp_total (chosen es) e.0 ∙ found e.0 es (and_parts _ _ h).1 ∙ ap is_set (find_none e.0 es (and_parts _ _ h).0) in
+    ap (λ ns. set.len {R = nat_cmp} (set.from_list ns)) (chosen-cons e.1 e.0 es)
+    ∙ elim e.1 as (λ b. set.len {R = nat_cmp} (set.from_list (cond b (e.0 ∷ chosen es) (chosen es))) ≡ length (cond b (e.0 ∷ chosen es) (chosen es))) [
+      | true ↦ set.len-insert nat_cmp_total (set.from_list (chosen es)) e.0 ∙ ap (λ b. cond b (set.len {R = nat_cmp} (set.from_list (chosen es))) (set.len {R = nat_cmp} (set.from_list (chosen es)) + 1)) new ∙ one_more _ _ rest
+      | false ↦ rest
+    ]
+    ∙ ap length (sym (chosen-cons e.1 e.0 es))
+  where
+    one_more : (a b : ℕ) → a ≡ b → a + 1 ≡ suc b
+    one_more a b h = omega arith
+
+pub len-marked : (m : FinMap nat_cmp Bool) → set.len (marked_in m) ≡ length (numbers_where (λ b. b) m)
+len-marked m = counted (entries m) (is_true _ (entries_sorted m))
+
+-- what a place says is what the set says
+pub marked-at : (m : FinMap nat_cmp Bool) (n : ℕ) (b : Bool) → Some b ≡ get m n → b ≡ set.contains (marked_in m) n
+marked-at m n b e = sym (contains-marked m n ∙ ap is_set (sym e))
+
+pub unmarked-at : (m : FinMap nat_cmp Bool) (n : ℕ) → None ≡ get m n → false ≡ set.contains (marked_in m) n
+unmarked-at m n e = sym (contains-marked m n ∙ ap is_set (sym e))
+
+put_cond : (b : Bool) (o : Option Bool) → is_set (cond b (Some true) o) ≡ (b || is_set o)
+put_cond true o = refl
+put_cond false o = refl
+
+gone_cond : (b : Bool) (o : Option Bool) → is_set (cond b None o) ≡ (not b && is_set o)
+gone_cond true o = refl
+gone_cond false o = refl
+
+same : (s t : set.FinSet nat_cmp) → ((q : ℕ) → set.contains s q ≡ set.contains t q) → s ≡ t
+same s t h = set.same_set nat_cmp_total nat_cmp-IsAntisymmetric s t h
+
+pub marked-empty : marked_in empty ≡ set.empty
+marked-empty = same _ _ (λ q. contains-marked empty q ∙ ap is_set (get-empty nat_cmp q) ∙ sym (set.contains-empty nat_cmp q))
+
+pub marked-insert : (m : FinMap nat_cmp Bool) (n : ℕ) → marked_in (insert m n true) ≡ set.insert (marked_in m) n
+marked-insert m n = same _ _ (λ q.
+    contains-marked (insert m n true) q ∙ ap is_set (get-insert nat_cmp_total m n true q) ∙ put_cond (eq_by_cmp nat_cmp q n) (get m q)
+    ∙ sym (set.contains-insert nat_cmp_total (marked_in m) n q ∙ ap (λ b. eq_by_cmp nat_cmp q n || b) (contains-marked m q)))
+
+pub marked-remove : (m : FinMap nat_cmp Bool) (n : ℕ) → marked_in (remove m n) ≡ set.remove (marked_in m) n
+marked-remove m n = same _ _ (λ q.
+    contains-marked (remove m n) q ∙ ap is_set (get-remove nat_cmp_total m n q) ∙ gone_cond (eq_by_cmp nat_cmp q n) (get m q)
+    ∙ sym (set.contains-remove nat_cmp_total (marked_in m) n q ∙ ap (λ b. not (eq_by_cmp nat_cmp q n) && b) (contains-marked m q)))
+
+-- ---- sets of numbers
+
+-- a number that is in a set already
+pub insert_twice : (s : set.FinSet nat_cmp) (n : ℕ) → set.contains s n ≡ true → set.insert s n ≡ s
+insert_twice s n h = same _ _ (λ q. set.contains-insert nat_cmp_total s n q ∙ elim (nat_cmp q n) as (λ r. nat_cmp q n ≡ r → (is_eq r || set.contains s q) ≡ set.contains s q) [
+  | Less ↦ λ _. refl
+  | Equal ↦ λ e. sym (ap (set.contains s) (nat_cmp-IsAntisymmetric q n e) ∙ h)
+  | Greater ↦ λ _. refl
+] refl)
+
+-- a number that is new may be taken out again
+pub insert_undone : (s : set.FinSet nat_cmp) (n : ℕ) → set.contains s n ≡ false → set.remove (set.insert s n) n ≡ s
+insert_undone s n h = same _ _ (λ q.
+    set.contains-remove nat_cmp_total (set.insert s n) n q ∙ ap (λ b. not (eq_by_cmp nat_cmp q n) && b) (set.contains-insert nat_cmp_total s n q)
+    ∙ elim (nat_cmp q n) as (λ r. nat_cmp q n ≡ r → (not (is_eq r) && (is_eq r || set.contains s q)) ≡ set.contains s q) [
+      | Less ↦ λ _. refl
+      | Equal ↦ λ e. sym (ap (set.contains s) (nat_cmp-IsAntisymmetric q n e) ∙ h)
+      | Greater ↦ λ _. refl
+    ] refl)
+
+itself : (n : ℕ) → eq_by_cmp nat_cmp n n ≡ true
+itself n = elim (nat_cmp n n) as (λ r. nat_cmp n n ≡ r → is_eq r ≡ true) [
+  | Less ↦ λ e. let l = ranked n n Less (sym e) in absurd (omega arith)
+  | Equal ↦ λ _. refl
+  | Greater ↦ λ e. let l = ranked n n Greater (sym e) in absurd (omega arith)
+] refl
+
+pub contains_inserted : (s : set.FinSet nat_cmp) (n : ℕ) → set.contains (set.insert s n) n ≡ true
+contains_inserted s n = set.contains-insert nat_cmp_total s n n ∙ ap (λ b. b || set.contains s n) (itself n)
 
 module _ {V : Type 0} where
+  pub marked-put : (m : FinMap nat_cmp Bool) (n : ℕ) (o : Option V) → marked_in (put_mark m n o) ≡ marked_with (marked_in m) n o
+  marked-put m n None = refl
+  marked-put m n (Some v) = marked-insert m n
+
+  none_set : (q : ℕ) (es : List (ℕ × V)) → is_set (find nat_cmp q (map (λ (e : ℕ × V). (e.0, false)) es)) ≡ false
+  none_set q [] = refl
+  none_set q (e ∷ es) = elim (eq_by_cmp nat_cmp q e.0) as (λ b. is_set (cond b (Some false) (find nat_cmp q (map (λ (e : ℕ × V). (e.0, false)) es))) ≡ false) [ true ↦ refl | false ↦ none_set q es ]
+
+  pub marked-of : (v : FinMap nat_cmp V) → marked_in (mapped (λ _. false) v) ≡ set.empty
+  marked-of v = same _ _ (λ q.
+      contains-marked (mapped (λ (_ : V). false) v) q ∙ ap is_set (get-entries (mapped (λ (_ : V). false) v) q) ∙ ap (λ es. is_set (find nat_cmp q es)) (entries-mapped (λ (_ : V). false) v)
+      ∙ none_set q (entries v) ∙ sym (set.contains-empty nat_cmp q))
+
+  -- ---- the places for marks
+
   both : (b : Bool) (x : V) (o : Option V) (p : Option Bool) → (is_some o ≡ true → is_some p ≡ true) → is_some (cond b (Some x) o) ≡ true → is_some (cond b (Some true) p) ≡ true
   both true x o p h s = refl
   both false x o p h s = h s
@@ -32,14 +177,48 @@ module _ {V : Type 0} where
   fewer true o p h s = refl
   fewer false o p h s = h s
 
-  pub AreMarked-insert : (v : FinMap nat_cmp V) (m : FinMap nat_cmp Bool) (n : ℕ) (x : V) → AreMarked v m → AreMarked (insert v n x) (insert m n true)
-  AreMarked-insert v m n x h q = rw (get-insert nat_cmp_total v n x q, get-insert nat_cmp_total m n true q) (both (eq_by_cmp nat_cmp q n) x (get v q) (get m q) (h q))
+  neither : (b : Bool) (o : Option V) (p : Option Bool) → (is_some o ≡ true → is_some p ≡ true) → is_some (cond b None o) ≡ true → is_some (cond b None p) ≡ true
+  neither true o p h s = s
+  neither false o p h s = h s
 
-  pub AreMarked-more : (v : FinMap nat_cmp V) (m : FinMap nat_cmp Bool) (n : ℕ) → AreMarked v m → AreMarked v (insert m n true)
-  AreMarked-more v m n h q = rw (get-insert nat_cmp_total m n true q) (more (eq_by_cmp nat_cmp q n) (get v q) (get m q) (h q))
+  -- an unmarked place after one was marked
+  still : (b : Bool) (o : Option V) (p : Option Bool) (n : Bool → Option V) → (p ≡ Some false → is_some o ≡ true) → n false ≡ o → cond b (Some true) p ≡ Some false → is_some (n b) ≡ true
+  still true o p n h same e = true_false e
+  still false o p n h same e = ap is_some same ∙ h e
 
-  pub AreMarked-fewer : (v : FinMap nat_cmp V) (m : FinMap nat_cmp Bool) (n : ℕ) → AreMarked v m → AreMarked (remove v n) (insert m n true)
-  AreMarked-fewer v m n h q = rw (get-remove nat_cmp_total v n q, get-insert nat_cmp_total m n true q) (fewer (eq_by_cmp nat_cmp q n) (get v q) (get m q) (h q))
+  left : (b : Bool) (o : Option V) (p : Option Bool) → (p ≡ Some false → is_some o ≡ true) → cond b None p ≡ Some false → is_some (cond b None o) ≡ true
+  left true o p h e = some_none false e
+  left false o p h e = h e
+
+  pub ArePlaces-empty : ArePlaces (empty {X = V} {R = nat_cmp}) empty
+  ArePlaces-empty = record {
+    placed = λ q h. absurd (false≢true (sym (ap is_some (get-empty {X = V} nat_cmp q)) ∙ h));
+    needed = λ q h. some_none false (sym (get-empty nat_cmp q) ∙ h);
+  }
+
+  pub ArePlaces-insert : (v : FinMap nat_cmp V) (m : FinMap nat_cmp Bool) (n : ℕ) (x : V) → ArePlaces v m → ArePlaces (insert v n x) (insert m n true)
+  ArePlaces-insert v m n x h = record {
+    placed = λ q. rw (get-insert nat_cmp_total v n x q, get-insert nat_cmp_total m n true q) (both (eq_by_cmp nat_cmp q n) x (get v q) (get m q) (h.placed q));
+    needed = λ q. rw (get-insert nat_cmp_total v n x q, get-insert nat_cmp_total m n true q) (still (eq_by_cmp nat_cmp q n) (get v q) (get m q) (λ b. cond b (Some x) (get v q)) (h.needed q) refl);
+  }
+
+  pub ArePlaces-more : (v : FinMap nat_cmp V) (m : FinMap nat_cmp Bool) (n : ℕ) → ArePlaces v m → ArePlaces v (insert m n true)
+  ArePlaces-more v m n h = record {
+    placed = λ q. rw (get-insert nat_cmp_total m n true q) (more (eq_by_cmp nat_cmp q n) (get v q) (get m q) (h.placed q));
+    needed = λ q. rw (get-insert nat_cmp_total m n true q) (still (eq_by_cmp nat_cmp q n) (get v q) (get m q) (λ _. get v q) (h.needed q) refl);
+  }
+
+  pub ArePlaces-fewer : (v : FinMap nat_cmp V) (m : FinMap nat_cmp Bool) (n : ℕ) → ArePlaces v m → ArePlaces (remove v n) (insert m n true)
+  ArePlaces-fewer v m n h = record {
+    placed = λ q. rw (get-remove nat_cmp_total v n q, get-insert nat_cmp_total m n true q) (fewer (eq_by_cmp nat_cmp q n) (get v q) (get m q) (h.placed q));
+    needed = λ q. rw (get-remove nat_cmp_total v n q, get-insert nat_cmp_total m n true q) (still (eq_by_cmp nat_cmp q n) (get v q) (get m q) (λ b. cond b None (get v q)) (h.needed q) refl);
+  }
+
+  pub ArePlaces-removed : (v : FinMap nat_cmp V) (m : FinMap nat_cmp Bool) (n : ℕ) → ArePlaces v m → ArePlaces (remove v n) (remove m n)
+  ArePlaces-removed v m n h = record {
+    placed = λ q. rw (get-remove nat_cmp_total v n q, get-remove nat_cmp_total m n q) (neither (eq_by_cmp nat_cmp q n) (get v q) (get m q) (h.placed q));
+    needed = λ q. rw (get-remove nat_cmp_total v n q, get-remove nat_cmp_total m n q) (left (eq_by_cmp nat_cmp q n) (get v q) (get m q) (h.needed q));
+  }
 
   -- what is not there can't be taken out
   pub remove_none : (m : FinMap nat_cmp V) (k : ℕ) → get m k ≡ None → remove m k ≡ m
@@ -50,71 +229,53 @@ module _ {V : Type 0} where
         | Greater ↦ λ _. refl
       ] refl)
 
-  -- the marks after a value was taken out, where there was one
-  pub AreMarked-without : (v : FinMap nat_cmp V) (m : FinMap nat_cmp Bool) (n : ℕ) (o : Option V) → get v n ≡ o → AreMarked v m → AreMarked (remove v n) (marked_with m n o)
-  AreMarked-without v m n None e h = rw (remove_none v n e) h
-  AreMarked-without v m n (Some x) e h = AreMarked-fewer v m n h
+  pub ArePlaces-without : (v : FinMap nat_cmp V) (m : FinMap nat_cmp Bool) (n : ℕ) (o : Option V) → get v n ≡ o → ArePlaces v m → ArePlaces (remove v n) (put_mark m n o)
+  ArePlaces-without v m n None e h = rw (remove_none v n e) h
+  ArePlaces-without v m n (Some x) e h = ArePlaces-fewer v m n h
 
-  pub AreMarked-with : (v : FinMap nat_cmp V) (m : FinMap nat_cmp Bool) (n : ℕ) (o : Option V) → AreMarked v m → AreMarked v (marked_with m n o)
-  AreMarked-with v m n None h = h
-  AreMarked-with v m n (Some x) h = AreMarked-more v m n h
+  pub ArePlaces-put : (v : FinMap nat_cmp V) (m : FinMap nat_cmp Bool) (n : ℕ) (o : Option V) → ArePlaces v m → ArePlaces v (put_mark m n o)
+  ArePlaces-put v m n None h = h
+  ArePlaces-put v m n (Some x) h = ArePlaces-more v m n h
 
-  pub AreMarked-lent : (v : FinMap nat_cmp V) (m : FinMap nat_cmp Bool) (n : ℕ) (o : Option V) (x : V) → is_some o ≡ true → AreMarked v m → AreMarked (insert v n x) (marked_with m n o)
-  AreMarked-lent v m n None x s h = absurd (false≢true s)
-  AreMarked-lent v m n (Some y) x s h = AreMarked-insert v m n x h
+  pub ArePlaces-lent : (v : FinMap nat_cmp V) (m : FinMap nat_cmp Bool) (n : ℕ) (o : Option V) (x : V) → is_some o ≡ true → ArePlaces v m → ArePlaces (insert v n x) (put_mark m n o)
+  ArePlaces-lent v m n None x s h = absurd (false≢true s)
+  ArePlaces-lent v m n (Some y) x s h = ArePlaces-insert v m n x h
 
-  pub without_value_is : (c : Changing V) (n : ℕ) (o : Option V) → get c.values n ≡ o → ◌≡◌ {A = Changing V} (record { values = remove c.values n; marks = marked_with c.marks n o }) (without_value_at c n o)
-  without_value_is c n None e = ap (λ (v : FinMap nat_cmp V). record { values = v; marks = c.marks }) (remove_none c.values n e)
-  without_value_is c n (Some x) e = refl
+  each_step : (b : Bool) (x : V) (o : Option Bool) (p : Option V) → is_some o ≡ is_some p → is_some (cond b (Some false) o) ≡ is_some (cond b (Some x) p)
+  each_step true x o p h = refl
+  each_step false x o p h = h
 
-  -- a place for a mark for each value
   find-each : (q : ℕ) (es : List (ℕ × V)) → is_some (find nat_cmp q (map (λ (e : ℕ × V). (e.0, false)) es)) ≡ is_some (find nat_cmp q es)
   find-each q [] = refl
   find-each q (e ∷ es) = each_step (eq_by_cmp nat_cmp q e.0) e.1 _ _ (find-each q es)
 
-  pub AreMarked-of : (v : FinMap nat_cmp V) → AreMarked v (mapped (λ _. false) v)
-  AreMarked-of v q h =
-      ap is_some (get-entries (mapped (λ (_ : V). false) v) q) ∙ ap (λ es. is_some (find nat_cmp q es)) (entries-mapped (λ (_ : V). false) v) ∙ find-each q (entries v) ∙ ap is_some (sym (get-entries v q)) ∙ h
+  there-of : (v : FinMap nat_cmp V) (q : ℕ) → is_some (get (mapped (λ (_ : V). false) v) q) ≡ is_some (get v q)
+  there-of v q = ap is_some (get-entries (mapped (λ (_ : V). false) v) q) ∙ ap (λ es. is_some (find nat_cmp q es)) (entries-mapped (λ (_ : V). false) v) ∙ find-each q (entries v) ∙ ap is_some (sym (get-entries v q))
 
--- ---- what is not marked is as it was
-module _ {V : Type 0} where
-  unmarked_cond : (b : Bool) (p : Option Bool) (x : V) (o : Option V) → unwrap_or (cond b (Some true) p) false ≡ false → (unwrap_or p false ≡ false) × (cond b (Some x) o ≡ o)
-  unmarked_cond true p x o h = absurd (false≢true (sym h))
-  unmarked_cond false p x o h = (h, refl)
+  pub ArePlaces-of : (v : FinMap nat_cmp V) → ArePlaces v (mapped (λ _. false) v)
+  ArePlaces-of v = record {
+    placed = λ q h. there-of v q ∙ h;
+    needed = λ q h. sym (there-of v q) ∙ ap is_some h;
+  }
 
-  gone_cond : (b : Bool) (p : Option Bool) (o : Option V) → unwrap_or (cond b (Some true) p) false ≡ false → (unwrap_or p false ≡ false) × (cond b None o ≡ o)
-  gone_cond true p o h = absurd (false≢true (sym h))
-  gone_cond false p o h = (h, refl)
+  -- ---- values taken out
 
-  pub LosesNoMark-same : (v : FinMap nat_cmp V) (m : FinMap nat_cmp Bool) → LosesNoMark v m v m
-  LosesNoMark-same v m n h = (h, refl)
+  same_parts : (v w : FinMap nat_cmp V) (m n : set.FinSet nat_cmp) → v ≡ w → m ≡ n → ◌≡◌ {A = Changing V} (record { values = v; marks = m }) (record { values = w; marks = n })
+  same_parts v w m n p q = λ i. record { values = p i; marks = q i }
 
-  pub LosesNoMark-then : (v1 v2 v3 : FinMap nat_cmp V) (m1 m2 m3 : FinMap nat_cmp Bool) → LosesNoMark v1 m1 v2 m2 → LosesNoMark v2 m2 v3 m3 → LosesNoMark v1 m1 v3 m3
-  LosesNoMark-then v1 v2 v3 m1 m2 m3 f g n h = let k = g n h in ((f n k.0).0, k.1 ∙ (f n k.0).1)
+  pub without_value_is : (c : Changing V) (n : ℕ) (o : Option V) → get c.values n ≡ o → ◌≡◌ {A = Changing V} (record { values = remove c.values n; marks = marked_with c.marks n o }) (without_value_at c n o)
+  without_value_is c n None e = same_parts _ _ _ _ (remove_none c.values n e) refl
+  without_value_is c n (Some x) e = refl
 
-  pub LosesNoMark-insert : (v : FinMap nat_cmp V) (m : FinMap nat_cmp Bool) (n : ℕ) (x : V) → LosesNoMark v m (insert v n x) (insert m n true)
-  LosesNoMark-insert v m n x q = rw (get-insert nat_cmp_total v n x q, get-insert nat_cmp_total m n true q) (unmarked_cond (eq_by_cmp nat_cmp q n) (get m q) x (get v q))
+  there_itself : (m : FinMap nat_cmp V) (n : ℕ) (x : V) → get (insert m n x) n ≡ Some x
+  there_itself m n x = get-insert nat_cmp_total m n x n ∙ ap (λ b. cond b (Some x) (get m n)) (itself n)
 
-  pub LosesNoMark-remove : (v : FinMap nat_cmp V) (m : FinMap nat_cmp Bool) (n : ℕ) → LosesNoMark v m (remove v n) (insert m n true)
-  LosesNoMark-remove v m n q = rw (get-remove nat_cmp_total v n q, get-insert nat_cmp_total m n true q) (gone_cond (eq_by_cmp nat_cmp q n) (get m q) (get v q))
-
-  values-without_at : (c : Changing V) (n : ℕ) (o : Option V) → get c.values n ≡ o → (without_value_at c n o).values ≡ remove c.values n
-  values-without_at c n None e = sym (remove_none c.values n e)
-  values-without_at c n (Some x) e = refl
-
-  LosesNoMark-without_at : (c : Changing V) (n : ℕ) (o : Option V) → get c.values n ≡ o → LosesNoMark c.values c.marks (without_value_at c n o).values (without_value_at c n o).marks
-  LosesNoMark-without_at c n None e = LosesNoMark-same c.values c.marks
-  LosesNoMark-without_at c n (Some x) e = LosesNoMark-remove c.values c.marks n
-
-  pub values-without : (c : Changing V) (n : ℕ) → (without_value c n).values ≡ remove c.values n
-  values-without c n = values-without_at c n (get c.values n) refl
-
-  pub LosesNoMark-without : (c : Changing V) (n : ℕ) → LosesNoMark c.values c.marks (without_value c n).values (without_value c n).marks
-  LosesNoMark-without c n = LosesNoMark-without_at c n (get c.values n) refl
+  undone : (c : Changing V) (n : ℕ) (x : V) (b : Bool) → get c.values n ≡ None → set.contains c.marks n ≡ b → taken_out (with_value c n x) n b ≡ c
+  undone c n x true fresh h =
+      ap (without_value_at (with_value c n x) n) (there_itself c.values n x)
+      ∙ same_parts _ _ _ _ (taken_back c.values n x fresh) (insert_twice (set.insert c.marks n) n (contains_inserted c.marks n) ∙ insert_twice c.marks n h)
+  undone c n x false fresh h = same_parts _ _ _ _ (taken_back c.values n x fresh) (insert_undone c.marks n h)
 
   -- what was put in and taken out again
-  pub values-undone : (c : Changing V) (n : ℕ) (x : V) → get c.values n ≡ None → (without_value (with_value c n x) n).values ≡ c.values
-  values-undone c n x fresh = values-without_at (with_value c n x) n (get (insert c.values n x) n) refl ∙ taken_back c.values n x fresh
-
-  pub LosesNoMark-undone : (c : Changing V) (n : ℕ) (x : V) → LosesNoMark c.values c.marks (without_value (with_value c n x) n).values (without_value (with_value c n x) n).marks
-  LosesNoMark-undone c n x = LosesNoMark-then c.values (insert c.values n x) _ c.marks (insert c.marks n true) _ (LosesNoMark-insert c.values c.marks n x) (LosesNoMark-without (with_value c n x) n)
+  pub taken_out-undone : (c : Changing V) (n : ℕ) (x : V) → get c.values n ≡ None → taken_out (with_value c n x) n (set.contains c.marks n) ≡ c
+  taken_out-undone c n x fresh = undone c n x (set.contains c.marks n) fresh refl

@@ -14,6 +14,7 @@ pub mod Names
 pub mod Neighbours
 pub mod OutputTable
 pub mod Parts
+pub mod Places
 pub mod Planet
 pub mod RegionTable
 pub mod Regions

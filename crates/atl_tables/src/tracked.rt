@@ -1,9 +1,9 @@
 //! Values under numbers, each with a mark that says whether it changed.
-ghost use Rattle.std.specs.Prelude.{◌≡◌, ℕ, Bool, true, false, IfOk, OnOk, OnErr, option_copied, None, length};
-ghost use Rattle.std.specs.Ordering.{nat_cmp};
+ghost use Rattle.std.specs.Prelude.{◌≡◌, false, IfOk, OnOk, OnErr, option_copied, None};
 ghost use Rattle.std.specs.FinMap as map;
-ghost use Rattle.atl_tables.specs.Changing.{AreMarked};
-ghost use Rattle.atl_tables.specs.Tracking.{with_value, without_value, marked_numbers, marked_with};
+ghost use Rattle.std.specs.FinSet as set;
+ghost use Rattle.atl_tables.specs.Places.{marked_in, put_mark, ArePlaces};
+ghost use Rattle.atl_tables.specs.Tracking.{with_value, without_value, taken_out};
 ghost use Rattle.atl_tables.specs.Sums.{mapped};
 
 use crate::numbered::{Entries, Numbered};
@@ -13,29 +13,30 @@ use std::marker::Model;
 /// A map from numbers to values that keeps which of them were changed, put in or taken out.
 pub struct Tracked<V> {
     values: Numbered<V>,
-    marks: Numbered<bool>,
+    // For each value, and each that is gone and marked, whether it is marked.
+    places: Numbered<bool>,
 }
 
 impl<V: Drop> Drop for Tracked<V> {
     fn drop(self) {
         let Tracked {
             values: _,
-            marks: _,
+            places: _,
         } = self;
     }
 }
 
 impl<V> Model for Tracked<V> {
-    ghost use Rattle.atl_tables.specs.Changing.{Changing, changing_code, AreMarked};
+    ghost use Rattle.atl_tables.specs.Changing.{Changing, changing_code};
+    ghost use Rattle.atl_tables.specs.Places.{marked_in, ArePlaces};
 
     ghost Value = { Changing V };
 
     ghost coded = { changing_code V.code };
 
-    ghost view = { λ a. record { values = a.values; marks = a.marks } };
+    ghost view = { λ a. record { values = a.values; marks = marked_in a.places } };
 
-    // Each value has a place for its mark.
-    ghost invariant = { λ a. AreMarked a.values a.marks };
+    ghost invariant = { λ a. ArePlaces a.values a.places };
 }
 
 impl<V: Drop> Tracked<V> {
@@ -44,11 +45,11 @@ impl<V: Drop> Tracked<V> {
     ghost use Rattle.atl_tables.specs.Tracking.{LendsMarked};
 
     pub fn new(alloc: Global) -> Self
-        ensures { result ≡ record { values = map.empty; marks = map.empty } }
+        ensures { result ≡ record { values = map.empty; marks = set.empty } }
     {
         Self {
             values: Numbered::new(alloc),
-            marks: Numbered::new(alloc),
+            places: Numbered::new(alloc),
         }
     }
 
@@ -63,7 +64,7 @@ impl<V: Drop> Tracked<V> {
         ensures* writes_back { sem 𝓛 (LendsMarked V.row self.entry number result) }
         ensures value { option_copied_mut result ≡ map.get self.old.values number }
     {
-        mark_present(&self.values, &mut self.marks, number);
+        mark_present(&self.values, &mut self.places, number);
         match self.values.get_mut(number) {
             Some(value) => Some(value),
             None => None,
@@ -77,7 +78,7 @@ impl<V: Drop> Tracked<V> {
         ensures err { OnErr result (self.new ≡ self.old) }
     {
         self.values.insert(number, value)?;
-        match self.marks.insert(number, true) {
+        match self.places.insert(number, true) {
             Ok(()) => Ok(()),
             Err(e) => {
                 self.values.remove(number);
@@ -104,16 +105,29 @@ impl<V: Drop> Tracked<V> {
     pub fn remove(&mut self, number: u32)
         ensures { self.new ≡ without_value self.old number }
     {
-        mark_present(&self.values, &mut self.marks, number);
+        mark_present(&self.values, &mut self.places, number);
         self.values.remove(number);
+    }
+
+    /// Takes out again what was inserted, where there is something. Its number is marked afterwards where it was marked
+    /// before it was inserted. It takes no memory.
+    pub fn take_out(&mut self, number: u32, was_marked: bool)
+        ensures { self.new ≡ taken_out self.old number was_marked }
+    {
+        if was_marked {
+            self.remove(number);
+        } else {
+            self.values.remove(number);
+            self.places.remove(number);
+        }
     }
 
     /// The values, with nothing marked.
     pub fn of(alloc: Global, values: Numbered<V>) -> Result<Self, AllocError>
-        ensures { IfOk result (λ made. made ≡ record { values = values; marks = mapped (λ _. false) values }) }
+        ensures { IfOk result (λ made. made ≡ record { values = values; marks = set.empty }) }
     {
-        let marks = no_marks(alloc, &values)?;
-        Ok(Self { values, marks })
+        let places = unmarked(alloc, &values)?;
+        Ok(Self { values, places })
     }
 
     pub fn values(&self) -> &Numbered<V>
@@ -135,32 +149,49 @@ impl<V: Drop> Tracked<V> {
         self.values.iter()
     }
 
+    /// Whether a number is marked.
+    pub fn is_marked(&self, number: u32) -> bool
+        ensures { result ≡ set.contains self.now.marks number }
+    {
+        is_set(&self.places, number)
+    }
+
     /// How many numbers are marked.
     pub fn marked(&self) -> usize
-        ensures { result ≡ length (marked_numbers self.now.marks) }
+        ensures { result ≡ set.len self.now.marks }
     {
-        count_marked(&self.marks)
+        count_marked(&self.places)
     }
 }
 
-/// A place for a mark for each value.
-fn no_marks<V: Drop>(alloc: Global, values: &Numbered<V>) -> Result<Numbered<bool>, AllocError>
-    ensures { IfOk result (λ marks. marks ≡ mapped (λ _. false) values.now) }
+/// A place for a mark for each value, with nothing marked.
+fn unmarked<V: Drop>(alloc: Global, values: &Numbered<V>) -> Result<Numbered<bool>, AllocError>
+    ensures { IfOk result (λ places. places ≡ mapped (λ _. false) values.now) }
 {
-    let mut marks = Numbered::new(alloc);
+    let mut places = Numbered::new(alloc);
     for (number, _) in values.iter() {
-        marks.insert(number, false)?;
+        places.insert(number, false)?;
     }
-    Ok(marks)
+    Ok(places)
 }
 
-/// How many are true.
-fn count_marked(marks: &Numbered<bool>) -> usize
-    ensures { result ≡ length (marked_numbers marks.now) }
+/// Whether there is a mark under a number.
+fn is_set(places: &Numbered<bool>, number: u32) -> bool
+    ensures { result ≡ set.contains (marked_in places.now) number }
 {
-    let most = marks.len();
+    match places.get(number) {
+        Some(mark) => *mark,
+        None => false,
+    }
+}
+
+/// How many are marked.
+fn count_marked(places: &Numbered<bool>) -> usize
+    ensures { result ≡ set.len (marked_in places.now) }
+{
+    let most = places.len();
     let mut count = 0;
-    for (_, marked) in marks.iter() {
+    for (_, marked) in places.iter() {
         if *marked {
             count += 1;
         }
@@ -169,12 +200,12 @@ fn count_marked(marks: &Numbered<bool>) -> usize
 }
 
 /// Marks a number that has a value.
-fn mark_present<V: Drop>(values: &Numbered<V>, marks: &mut Numbered<bool>, number: u32)
-    requires { AreMarked values.now marks.old }
-    ensures { marks.new ≡ marked_with marks.old number (map.get values.now number) }
+fn mark_present<V: Drop>(values: &Numbered<V>, places: &mut Numbered<bool>, number: u32)
+    requires { ArePlaces values.now places.old }
+    ensures { places.new ≡ put_mark places.old number (map.get values.now number) }
 {
     if values.get(number).is_some() {
-        if let Some(mark) = marks.get_mut(number) {
+        if let Some(mark) = places.get_mut(number) {
             *mark = true;
         }
     }

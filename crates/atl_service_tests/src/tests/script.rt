@@ -140,7 +140,7 @@ fn has_numbers<S: Alter>(
         Some(campaign) => {
             is_number(rt, i64::from(campaign.next_faction()), i64::from(faction));
             is_number(rt, i64::from(campaign.next_unit()), i64::from(unit));
-            is_count(rt, campaign.units().len(), units);
+            is_count(rt, campaign.unit_count(), units);
         }
         None => assert!(rt; false),
     }
@@ -148,7 +148,7 @@ fn has_numbers<S: Alter>(
 
 fn keeps<S: Alter>(rt: &impl Abort, service: &Service<S>, text: &Option<&str>) {
     match service.campaign() {
-        Some(campaign) => match (campaign.mail().get(1), text) {
+        Some(campaign) => match (campaign.mail_of(1), text) {
             (Some(kept), Some(text)) => assert!(rt; kept.as_slice() == text.as_bytes()),
             (None, None) => {}
             _ => assert!(rt; false),

@@ -30,7 +30,7 @@ fn avalon_joins(rt: &impl Abort, world: &World, campaign: &mut Campaign)
 }
 
 fn total(campaign: &Campaign, thing: Thing) -> Option<u64> {
-    if campaign.units().len() > 10_000 || campaign.regions().len() > 2_500 {
+    if campaign.unit_count() > 10_000 || campaign.region_count() > 2_500 {
         return None;
     }
     Some(campaign.total(thing))

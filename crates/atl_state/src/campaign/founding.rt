@@ -1,6 +1,7 @@
 //! How a campaign begins.
 ghost use Rattle.std.specs.Prelude.{◌≡◌, ◌≤◌, ◌+◌, IsTrue, IfOk, length, pos};
 ghost use Rattle.std.specs.FinMap as map;
+ghost use Rattle.std.specs.FinSet as set;
 ghost use Rattle.atl_tables.specs.Limits.{most_regions};
 ghost use Rattle.atl_tables.specs.Names.{pass_ok};
 ghost use Rattle.atl_tables.specs.Sums.{sum_over, mapped};
@@ -9,6 +10,7 @@ ghost use Rattle.atl_state.specs.declared.books.Thing.TheVariants.{Money, People
 ghost use Rattle.atl_state.specs.Limits.{most_things};
 ghost use Rattle.atl_state.specs.Books.{no_amounts, with_booked};
 ghost use Rattle.atl_state.specs.Totals.{kept, Balances};
+ghost use Rattle.atl_state.specs.Marks.{no_marks};
 ghost use Rattle.atl_state.specs.Founding.{founded_of, founded_region};
 ghost use Rattle.atl_state.specs.Good.{IsGood};
 
@@ -21,7 +23,7 @@ use std::alloc::{AllocError, Global};
 
 /// The regions as they are founded.
 fn regions_made(alloc: Global, plans: &Numbered<RegionPlan>) -> Result<Tracked<Region>, AllocError>
-    ensures { IfOk result (λ regions. regions.values ≡ mapped founded_region plans.now) }
+    ensures { IfOk result (λ regions. regions ≡ record { values = mapped founded_region plans.now; marks = set.empty }) }
 {
     let mut regions = Numbered::new(alloc);
     for (number, plan) in plans.iter() {
@@ -55,13 +57,14 @@ fn founding_books(
 }
 
 /// A campaign as it is founded: month 0 is closed, the regions are as the world has them, and nobody is there. The
-/// books say what the regions hold. See docs/RULES.md, "Founding".
+/// books say what the regions hold. Nothing is marked. See docs/RULES.md, "Founding".
 pub fn founded(alloc: Global, world: &World, pass: &[u8]) -> Result<Campaign, AllocError>
     requires pass { IsTrue (pass_ok pass.now) }
     ensures definition { IfOk result (λ c. c.what ≡ founded_of world.now pass.now) }
     ensures good { IfOk result (λ c. IsGood world.now c.what) }
     ensures balances { IfOk result (λ c. Balances c.what) }
     ensures things { IfOk result (λ c. length c.what.books ≤ most_things) }
+    ensures marks { IfOk result (λ c. c.marks ≡ no_marks) }
 {
     let pass = Text::from_utf8(alloc, pass)?;
     let regions = regions_made(alloc, world.regions())?;
@@ -84,6 +87,7 @@ pub fn founded(alloc: Global, world: &World, pass: &[u8]) -> Result<Campaign, Al
         books,
         amounts_marked,
         row_marked: false,
-        lists: Numbered::new(alloc),
+        by_region: Numbered::new(alloc),
+        by_faction: Numbered::new(alloc),
     })
 }

@@ -2,6 +2,7 @@
 ghost use Rattle.std.specs.Prelude.{◌≡◌, ◌≤◌, ◌<◌, ◌++◌, IsTrue, IfOk, OnOk, OnErr, None, codes, false, length, nat_eq, pos};
 ghost use Rattle.std.specs.Cmp.Lexicographic.{pointwise};
 ghost use Rattle.std.specs.FinMap as map;
+ghost use Rattle.std.specs.FinSet as set;
 ghost use Rattle.std.specs.Fmt.{decimal};
 ghost use Rattle.std.specs.List.{list_any};
 ghost use Rattle.std.specs.Str.{IsUtf8};
@@ -14,40 +15,18 @@ ghost use Rattle.atl_state.specs.Good.{IsGood};
 ghost use Rattle.atl_state.specs.Joining.{name_taken, is_full, home_of, new_faction, joined, Joins};
 ghost use Rattle.atl_state.specs.Limits.{holding_limit, last_unit};
 ghost use Rattle.atl_state.specs.Marking.{join_marked};
-ghost use Rattle.atl_state.specs.Ordered.{put_number};
-ghost use Rattle.atl_state.specs.State.{list_of, with_unit};
+ghost use Rattle.atl_state.specs.State.{with_unit};
 ghost use Rattle.atl_state.specs.Totals.{Balances};
-ghost use Rattle.std.specs.Prelude.{true};
 
 use super::Campaign;
 use crate::books::{Books, Entry, Thing};
 use crate::holding::Holding;
 use crate::limits::{LAST_UNIT, MOST_UNITS};
-use crate::numbers::Numbers;
+use crate::lists::{list_number, unlist_number};
 use crate::records::{Faction, JoinFault, Unit};
 use atl_orders::LAST_FACTION;
 use atl_tables::{Numbered, Text, Tracked, World};
 use std::alloc::{AllocError, Global};
-
-/// Lists a unit in a region. Without memory for it nothing changes.
-fn list_unit(
-    alloc: Global,
-    lists: &mut Numbered<Numbers>,
-    region: u32,
-    number: u32,
-) -> Result<(), AllocError>
-    ensures ok { OnOk result (lists.new ≡ map.insert lists.old region (put_number number (list_of lists.old region))) }
-    ensures err { OnErr result (lists.new ≡ lists.old) }
-{
-    match lists.get_mut(region) {
-        Some(list) => list.put(number),
-        None => {
-            let mut list = Numbers::new(alloc);
-            list.put(number)?;
-            lists.insert(region, list)
-        }
-    }
-}
 
 fn is_taken(factions: &Tracked<Faction>, name: &[u8]) -> bool
     ensures { result ≡ list_any (λ e. pointwise nat_eq e.1.joined_as name.now) (map.entries factions.now.values) }
@@ -134,19 +113,29 @@ impl Campaign {
             || self.next_unit > LAST_UNIT
     }
 
-    /// Adds a unit under a number that no unit has. Without memory for it nothing but a mark changes.
+    /// Adds a unit under a number that no unit has, and marks it. Without memory for it nothing changes.
     fn add_unit(&mut self, number: u32, unit: Unit) -> Result<(), AllocError>
         requires { map.get self.old.what.units number ≡ None }
         ensures ok { OnOk result (self.new.what ≡ with_unit self.old.what number unit) }
-        ensures err { OnErr result (self.new.what ≡ self.old.what) }
-        ensures marks { OnOk result (self.new.marks ≡ record self.old.marks { units = map.insert self.old.marks.units number true }) }
+        ensures err { OnErr result (self.new ≡ self.old) }
+        ensures marks { OnOk result (self.new.marks ≡ record self.old.marks { units = set.insert self.old.marks.units number }) }
     {
         let region = unit.region;
+        let faction = unit.faction;
+        let was_marked = self.units.is_marked(number);
         self.units.insert(number, unit)?;
-        match list_unit(self.alloc, &mut self.lists, region, number) {
+        match list_number(self.alloc, &mut self.by_region, region, number) {
+            Ok(()) => {}
+            Err(e) => {
+                self.units.take_out(number, was_marked);
+                return Err(e);
+            }
+        }
+        match list_number(self.alloc, &mut self.by_faction, faction, number) {
             Ok(()) => Ok(()),
             Err(e) => {
-                self.units.remove(number);
+                unlist_number(&mut self.by_region, region, number);
+                self.units.take_out(number, was_marked);
                 Err(e)
             }
         }
@@ -154,7 +143,7 @@ impl Campaign {
 
     /// A faction joins, with one unit: one man with the start money, in the land region that the word picks. What it
     /// brings is booked. The answer is the number of the faction and that of its unit. On a fault the campaign stays as
-    /// it is, but for marks. See docs/RULES.md, "Joining".
+    /// it is, its marks too. See docs/RULES.md, "Joining".
     #[tactic(auto, unfolding(crate::specs::Joining::join_of))]
     pub fn join(
         &mut self,
@@ -170,6 +159,7 @@ impl Campaign {
         ensures good { IsGood world.now self.new.what }
         ensures balances { Balances self.old.what → Balances self.new.what }
         ensures marks { OnOk result (self.new.marks ≡ join_marked self.old) }
+        ensures err { OnErr result (self.new ≡ self.old) }
     {
         if self.is_name_taken(name) {
             return Err(JoinFault::NameTaken);
@@ -197,7 +187,7 @@ impl Campaign {
         requires pass { IsUtf8 pass.now }
         ensures ok { OnOk result (self.new.what ≡ joined world.now name.now pass.now word self.old.what) }
         ensures numbers { IfOk result (λ numbers. numbers ≡ (self.old.what.next_faction, self.old.what.next_unit)) }
-        ensures err { OnErr result (self.new.what ≡ self.old.what) }
+        ensures err { OnErr result (self.new ≡ self.old) }
         ensures marks { OnOk result (self.new.marks ≡ join_marked self.old) }
         ensures world { IsWorld world.now }
     {
@@ -207,11 +197,12 @@ impl Campaign {
         let region = home(world, word);
         let unit = unit_made(self.alloc, number, faction, region, money)?;
         let member = faction_made(self.alloc, faction, name, pass)?;
+        let was_marked = self.factions.is_marked(faction);
         self.factions.insert(faction, member)?;
         match self.add_unit(number, unit) {
             Ok(()) => {}
             Err(e) => {
-                self.factions.remove(faction);
+                self.factions.take_out(faction, was_marked);
                 return Err(e);
             }
         }

@@ -12,6 +12,7 @@ use crate::fault::ReadFault;
 use crate::rows::columns::two_integers;
 use crate::rows::stored::{Stored, read_all};
 use crate::statement::run;
+use atl_state::parts::StoredBooks;
 use sqlite::{Alter, Connection, Error, Row, Transaction, params};
 use std::alloc::Global;
 
@@ -49,16 +50,6 @@ pub(crate) fn drop_books<S: Alter>(
         "DELETE FROM books WHERE entry = ?1 AND thing = ?2",
         params![entry, thing],
     )
-}
-
-/// What is booked of a thing as it stands in its table, whoever wrote it.
-#[derive(Debug, Drop)]
-pub struct StoredBooks {
-    pub entry: i64,
-    pub thing: i64,
-    pub amount: i64,
-    /// The place that the database keeps the row at, which differs from row to row.
-    pub rowid: i64,
 }
 
 impl Stored for StoredBooks {

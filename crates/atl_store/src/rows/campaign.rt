@@ -12,6 +12,7 @@ use crate::fault::ReadFault;
 use crate::rows::columns::{three_integers, words};
 use crate::rows::stored::{Stored, read_all};
 use crate::statement::run;
+use atl_state::parts::StoredCampaign;
 use sqlite::{Alter, Connection, Error, Row, Transaction, params};
 use std::alloc::Global;
 
@@ -47,34 +48,6 @@ pub(crate) fn put_campaign<S: Alter>(
             world
         ],
     )
-}
-
-/// The campaign's own row as it stands in its table, whoever wrote it.
-#[derive(Debug)]
-pub struct StoredCampaign {
-    pub id: i64,
-    pub format: i64,
-    pub month: i64,
-    pub next_faction: i64,
-    pub next_unit: i64,
-    pub next_structure: i64,
-    pub pass: String,
-    pub world: String,
-}
-
-impl Drop for StoredCampaign {
-    fn drop(self) {
-        let StoredCampaign {
-            id: _,
-            format: _,
-            month: _,
-            next_faction: _,
-            next_unit: _,
-            next_structure: _,
-            pass: _,
-            world: _,
-        } = self;
-    }
 }
 
 impl Stored for StoredCampaign {

@@ -11,6 +11,7 @@ use crate::fault::ReadFault;
 use crate::rows::columns::{integer, words};
 use crate::rows::stored::{Stored, read_all};
 use crate::statement::run;
+use atl_state::parts::StoredFaction;
 use sqlite::{Alter, Connection, Error, Row, Transaction, params};
 use std::alloc::Global;
 
@@ -41,28 +42,6 @@ pub(crate) fn put_faction<S: Alter>(
         "INSERT INTO faction (number, joined_as, name, pass, gone) VALUES (?1, ?2, ?3, ?4, ?5) ON CONFLICT (number) DO UPDATE SET joined_as = ?2, name = ?3, pass = ?4, gone = ?5",
         params![row.number, row.joined_as, row.name, row.pass, row.gone],
     )
-}
-
-/// A faction as it stands in its table, whoever wrote it.
-#[derive(Debug)]
-pub struct StoredFaction {
-    pub number: i64,
-    pub joined_as: String,
-    pub name: String,
-    pub pass: String,
-    pub gone: i64,
-}
-
-impl Drop for StoredFaction {
-    fn drop(self) {
-        let StoredFaction {
-            number: _,
-            joined_as: _,
-            name: _,
-            pass: _,
-            gone: _,
-        } = self;
-    }
 }
 
 impl Stored for StoredFaction {

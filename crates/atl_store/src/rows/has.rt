@@ -13,6 +13,7 @@ use crate::fault::ReadFault;
 use crate::rows::columns::{three_integers, two_integers};
 use crate::rows::stored::{Stored, read_all};
 use crate::statement::run;
+use atl_state::parts::StoredHas;
 use sqlite::{Alter, Connection, Error, Row, Transaction, params};
 use std::alloc::Global;
 
@@ -75,17 +76,6 @@ pub(crate) fn drop_has<S: Alter>(
         "DELETE FROM has WHERE unit = ?1 AND sort = ?2 AND thing = ?3",
         params![unit, number, thing],
     )
-}
-
-/// What a unit has of a thing as it stands in its table, whoever wrote it.
-#[derive(Debug, Drop)]
-pub struct StoredHas {
-    pub unit: i64,
-    pub sort: i64,
-    pub thing: i64,
-    pub amount: i64,
-    /// The place that the database keeps the row at, which differs from row to row.
-    pub rowid: i64,
 }
 
 impl Stored for StoredHas {

@@ -13,6 +13,7 @@ use crate::fault::ReadFault;
 use crate::rows::columns::{bytes, integer};
 use crate::rows::stored::{Stored, read_all};
 use crate::statement::run;
+use atl_state::parts::StoredMail;
 use sqlite::{Alter, Connection, Error, Row, Transaction, params};
 use std::alloc::Global;
 
@@ -44,22 +45,6 @@ pub(crate) fn drop_mail<S: Alter>(tx: &mut Transaction<'_, S>, faction: u32) -> 
     ensures { Writes S.Store (Inside HasTables (Drops mail_table 1 (int faction ∷ []))) result tx.old.conn tx.new.conn }
 {
     run(tx, "DELETE FROM mail WHERE faction = ?1", params![faction])
-}
-
-/// Mail as it stands in its table, whoever wrote it.
-#[derive(Debug)]
-pub struct StoredMail {
-    pub faction: i64,
-    pub text: Vec<u8>,
-}
-
-impl Drop for StoredMail {
-    fn drop(self) {
-        let StoredMail {
-            faction: _,
-            text: _,
-        } = self;
-    }
 }
 
 impl Stored for StoredMail {

@@ -11,6 +11,7 @@ use crate::fault::ReadFault;
 use crate::rows::columns::three_integers;
 use crate::rows::stored::{Stored, read_all};
 use crate::statement::run;
+use atl_state::parts::StoredRegion;
 use sqlite::{Alter, Connection, Error, Row, Transaction, params};
 use std::alloc::Global;
 
@@ -37,14 +38,6 @@ pub(crate) fn put_region<S: Alter>(
         "INSERT INTO region (number, peasants, money) VALUES (?1, ?2, ?3) ON CONFLICT (number) DO UPDATE SET peasants = ?2, money = ?3",
         params![row.number, row.peasants, row.money],
     )
-}
-
-/// A region as it stands in its table, whoever wrote it.
-#[derive(Debug, Drop)]
-pub struct StoredRegion {
-    pub number: i64,
-    pub peasants: i64,
-    pub money: i64,
 }
 
 impl Stored for StoredRegion {

@@ -11,6 +11,7 @@ use crate::fault::ReadFault;
 use crate::rows::columns::{integer, words};
 use crate::rows::stored::{Stored, read_all};
 use crate::statement::run;
+use atl_state::parts::StoredReport;
 use sqlite::{Alter, Connection, Error, Row, Transaction, params};
 use std::alloc::Global;
 
@@ -35,22 +36,6 @@ pub(crate) fn put_report<S: Alter>(
         "INSERT INTO report (faction, text) VALUES (?1, ?2) ON CONFLICT (faction) DO UPDATE SET text = ?2",
         params![row.faction, row.text],
     )
-}
-
-/// A report as it stands in its table, whoever wrote it.
-#[derive(Debug)]
-pub struct StoredReport {
-    pub faction: i64,
-    pub text: String,
-}
-
-impl Drop for StoredReport {
-    fn drop(self) {
-        let StoredReport {
-            faction: _,
-            text: _,
-        } = self;
-    }
 }
 
 impl Stored for StoredReport {

@@ -11,6 +11,7 @@ use crate::fault::ReadFault;
 use crate::rows::columns::{three_integers, two_integers, words};
 use crate::rows::stored::{Stored, read_all};
 use crate::statement::run;
+use atl_state::parts::StoredStructure;
 use sqlite::{Alter, Connection, Error, Row, Transaction, params};
 use std::alloc::Global;
 
@@ -45,30 +46,6 @@ pub(crate) fn put_structure<S: Alter>(
             row.number, row.kind, row.name, row.region, row.done, row.owner
         ],
     )
-}
-
-/// A structure as it stands in its table, whoever wrote it.
-#[derive(Debug)]
-pub struct StoredStructure {
-    pub number: i64,
-    pub kind: i64,
-    pub name: String,
-    pub region: i64,
-    pub done: i64,
-    pub owner: i64,
-}
-
-impl Drop for StoredStructure {
-    fn drop(self) {
-        let StoredStructure {
-            number: _,
-            kind: _,
-            name: _,
-            region: _,
-            done: _,
-            owner: _,
-        } = self;
-    }
 }
 
 impl Stored for StoredStructure {

@@ -13,6 +13,7 @@ use crate::fault::ReadFault;
 use crate::rows::columns::{three_integers, two_integers, words};
 use crate::rows::stored::{Stored, read_all};
 use crate::statement::run;
+use atl_state::parts::StoredUnit;
 use sqlite::{Alter, Connection, Error, Row, Transaction, params};
 use std::alloc::Global;
 
@@ -65,34 +66,6 @@ pub(crate) fn drop_unit<S: Alter>(tx: &mut Transaction<'_, S>, number: u32) -> R
     ensures { Writes S.Store (Inside HasTables (Drops unit_table 1 (int number ∷ []))) result tx.old.conn tx.new.conn }
 {
     run(tx, "DELETE FROM unit WHERE number = ?1", params![number])
-}
-
-/// A unit as it stands in its table, whoever wrote it.
-#[derive(Debug)]
-pub struct StoredUnit {
-    pub number: i64,
-    pub faction: i64,
-    pub name: String,
-    pub region: i64,
-    pub structure: i64,
-    pub men: i64,
-    pub money: i64,
-    pub guard: i64,
-}
-
-impl Drop for StoredUnit {
-    fn drop(self) {
-        let StoredUnit {
-            number: _,
-            faction: _,
-            name: _,
-            region: _,
-            structure: _,
-            men: _,
-            money: _,
-            guard: _,
-        } = self;
-    }
 }
 
 impl Stored for StoredUnit {

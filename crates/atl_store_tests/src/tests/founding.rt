@@ -5,8 +5,9 @@ use super::counts::{
 };
 use super::making::created;
 use super::worlds::SMALL;
-use atl_store::rows::books::{StoredBooks, read_books};
-use atl_store::rows::campaign::{StoredCampaign, read_campaign};
+use atl_state::parts::{StoredBooks, StoredCampaign};
+use atl_store::rows::books::read_books;
+use atl_store::rows::campaign::read_campaign;
 use atl_store::rows::region::read_regions;
 use sqlite::{Alter, Connection};
 use std::alloc::Global;

@@ -44,7 +44,7 @@ returns-clause-ok g c =
     let old = c.args.campaign.now.what in
     let is = rw (c.as_slice-3.ensures, c.as_slice-4.ensures) at c.in-Ok.ensures.definition in
     let is_joining = joining_is w c.args.name.now c.args.pass.now c.args.word old c.join.new.self.what c.in-Ok.numbers.0 c.in-Ok.numbers.1 c.requires.good is in
-    let done : c.store_report.new.campaign.what ≡ reported w c.join.new.self.what c.in-Ok.numbers.0 = c.in_ok-store_report.ensures in
+    let done : c.store_report.new.campaign.what ≡ reported w c.join.new.self.what c.in-Ok.numbers.0 = c.in_ok-store_report.ensures.ok in
     record {
       step_is = rw done (steps_on w old c.args.name.now c.args.pass.now c.args.word c.join.new.self.what c.in-Ok.numbers.0 c.in-Ok.numbers.1 (cc) (cc) is);
       sound = tt;
@@ -59,7 +59,7 @@ returns-in_err-write_join-clause-err g c = on_err _ (GivesUp g.S.Store c.args.wo
     let w = c.args.world.now in
     let old = c.args.campaign.now.what in
     let is = rw (c.as_slice-3.ensures, c.as_slice-4.ensures) at c.in-Ok.ensures.definition in
-    let done : c.store_report.new.campaign.what ≡ reported w c.join.new.self.what c.in-Ok.numbers.0 = c.in_ok-store_report.ensures in
+    let done : c.store_report.new.campaign.what ≡ reported w c.join.new.self.what c.in-Ok.numbers.0 = c.in_ok-store_report.ensures.ok in
     let steps = steps_on w old c.args.name.now c.args.pass.now c.args.word c.join.new.self.what c.in-Ok.numbers.0 c.in-Ok.numbers.1 (cc) (cc) is in
     let stops = c.in_err-write_join.ensures.err clean text old keeps (rw done (joining_is w c.args.name.now c.args.pass.now c.args.word old c.join.new.self.what c.in-Ok.numbers.0 c.in-Ok.numbers.1 c.requires.good is)) in
     subst (λ (after : Campaign). Stops (state g.S.Store c.args.conn.now).faults (state g.S.Store c.write_join.new.conn) text old after) (done ∙ sym (ap (λ p. p.0) steps)) stops)

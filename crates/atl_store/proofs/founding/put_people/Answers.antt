@@ -1,13 +1,13 @@
 use Rattle.atl_store.specs.Tables.{unit_table, mail_table}
 use Rattle.atl_store.specs.Shown.{mail_row}
 use Rattle.atl_store.specs.Rows.{unit_line}
-use Rattle.atl_store.proofs.FillLaws.{of_map, goods_of, people_done}
+use Rattle.atl_store.proofs.FillLaws.{of_entries, goods_of, people_done}
 use Rattle.atl_store.proofs.WriteLaws.{three_steps, stops, stops_second}
 use Rattle.atl_store.proofs.founding.put_people.Goals as goal
 
 pub returns : goal.returns
 returns g c = three_steps g.S.Store (λ old one two new units goods mail. people_done c.args.campaign.now.what old one two new
-    (of_map unit_table unit_line _ _ old one c.units.ensures units) (goods_of _ _ one two c.units-2.ensures goods) (of_map mail_table mail_row _ _ two new c.mail.ensures mail))
+    (of_entries unit_table unit_line _ _ old one c.units.ensures units) (goods_of _ _ one two c.units-2.ensures goods) (of_entries mail_table mail_row _ _ two new c.mail.ensures mail))
     c.in_ok-put_each.ensures c.in_ok-put_all_goods.ensures c.put_each-2.ensures
 
 pub returns-in_err-put_each : goal.returns-in_err-put_each

@@ -1,12 +1,12 @@
 use Rattle.atl_store.specs.Tables.{region_table, structure_table}
 use Rattle.atl_store.specs.Rows.{region_line, structure_line}
-use Rattle.atl_store.proofs.FillLaws.{of_map, places_done}
+use Rattle.atl_store.proofs.FillLaws.{of_entries, places_done}
 use Rattle.atl_store.proofs.WriteLaws.{three_steps, stops, stops_second}
 use Rattle.atl_store.proofs.founding.put_places.Goals as goal
 
 pub returns : goal.returns
 returns g c = three_steps g.S.Store (λ old one two new regions structures books. places_done c.args.campaign.now.what old one two new
-    (of_map region_table region_line _ _ old one c.regions.ensures regions) (of_map structure_table structure_line _ _ one two c.structures.ensures structures) books)
+    (of_entries region_table region_line _ _ old one c.regions.ensures regions) (of_entries structure_table structure_line _ _ one two c.structures.ensures structures) books)
     c.in_ok-put_each.ensures c.in_ok-put_each-2.ensures c.put_all_books.ensures
 
 pub returns-in_err-put_each : goal.returns-in_err-put_each

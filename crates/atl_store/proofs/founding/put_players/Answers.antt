@@ -1,13 +1,13 @@
 use Rattle.atl_store.specs.Tables.{faction_table, report_table}
 use Rattle.atl_store.specs.Shown.{report_row}
 use Rattle.atl_store.specs.Rows.{faction_line}
-use Rattle.atl_store.proofs.FillLaws.{of_map, players_done}
+use Rattle.atl_store.proofs.FillLaws.{of_entries, players_done}
 use Rattle.atl_store.proofs.WriteLaws.{three_steps, stops, stops_second}
 use Rattle.atl_store.proofs.founding.put_players.Goals as goal
 
 pub returns : goal.returns
 returns g c = three_steps g.S.Store (λ old one two new head factions reports. players_done c.args.campaign.now.what c.args.text.now old one two new head
-    (of_map faction_table faction_line _ _ one two c.factions.ensures factions) (of_map report_table report_row _ _ two new c.reports.ensures reports))
+    (of_entries faction_table faction_line _ _ one two c.factions.ensures factions) (of_entries report_table report_row _ _ two new c.reports.ensures reports))
     c.in_ok-put_head.ensures c.in_ok-put_each.ensures c.put_each-2.ensures
 
 pub returns-in_err-put_head : goal.returns-in_err-put_head

@@ -1,4 +1,3 @@
-use Rattle.std.specs.FinMap.{entries}
 use Rattle.atl_store.specs.Tables.{has_table}
 use Rattle.atl_store.specs.Lines.{all_goods_lines}
 use Rattle.atl_store.specs.Inside.{Inside, HasTables}
@@ -7,4 +6,4 @@ use Rattle.atl_store.proofs.WriteLaws.{SoFar}
 use Rattle.atl_store.proofs.goods.put_all_goods.Given as goal
 
 abbrev pub invariant-loop-number : goal.invariant-loop-number
-invariant-loop-number g l = SoFar g.S.Store (Inside HasTables (Towards has_table 3 (all_goods_lines l.number-iterator) (all_goods_lines (entries l.units)))) l.fn.tx.conn l.tx.conn
+invariant-loop-number g l = SoFar g.S.Store (Inside HasTables (Towards has_table 3 (all_goods_lines l.number-iterator) (all_goods_lines l.fn.units))) l.fn.tx.conn l.tx.conn

@@ -13,8 +13,8 @@ returns g c =
     let unit = c.args.unit in
     let held = c.args.holding.now in
     two_steps g.S.Store (λ old mid new items days. inside_both has_table 3 (sort_lines unit Item (entries held.items)) (sort_lines unit Skill (entries held.days)) old mid new
-    (subst (λ things. Inside HasTables (PutsRows has_table 3 (sort_lines unit Item (entries things))) old mid) c.items.ensures items)
-    (subst (λ things. Inside HasTables (PutsRows has_table 3 (sort_lines unit Skill (entries things))) mid new) c.days.ensures days))
+    (subst (λ things. Inside HasTables (PutsRows has_table 3 (sort_lines unit Item things)) old mid) c.items.ensures items)
+    (subst (λ things. Inside HasTables (PutsRows has_table 3 (sort_lines unit Skill things)) mid new) c.days.ensures days))
     c.in_ok-put_sort.ensures c.put_sort-2.ensures
 
 pub returns-in_err-put_sort : goal.returns-in_err-put_sort

@@ -1,5 +1,4 @@
-use Rattle.std.proofs.Common.{ap, ◌∙◌, subst}
-use Rattle.std.specs.FinMap.{entries}
+use Rattle.std.proofs.Common.{ap, subst}
 use Rattle.atl_store.specs.Tables.{has_table}
 use Rattle.atl_store.specs.Lines.{thing_lines, sort_lines}
 use Rattle.atl_store.specs.Inside.{Inside, HasTables}
@@ -8,13 +7,13 @@ use Rattle.atl_store.proofs.WriteLaws.{begins, goes_on, stops_second, weaker}
 use Rattle.atl_store.proofs.goods.put_sort.Goals as goal
 
 pub loop-thing-init : goal.loop-thing-init
-loop-thing-init g c = begins g.S.Store (none_yet has_table 3 _ _ (ap (sort_lines c.args.unit c.args.sort) (c.into_iter-thing-iterator.ensures.into_iter_gives ∙ c.iter-thing-items.ensures)))
+loop-thing-init g c = begins g.S.Store (none_yet has_table 3 _ _ (ap (sort_lines c.args.unit c.args.sort) c.into_iter-thing-iterator.ensures.into_iter_gives))
 
 pub loop-thing-preserved : goal.loop-thing-preserved
 loop-thing-preserved g c =
     let unit = c.args.unit in
     let sort = c.args.sort in
-    let all = sort_lines unit sort (entries c.args.things.now) in
+    let all = sort_lines unit sort c.args.things in
     goes_on g.S.Store (λ old mid new so_far more. inside_rows has_table 3 (thing_lines unit sort c.in-Some.thing c.in-Some.amount.now) (sort_lines unit sort c.next.new.self) all old mid new
     (subst (λ es. Inside HasTables (Towards has_table 3 (sort_lines unit sort es) all) old mid) c.in-Some.ensures.steps so_far) more)
     c.loop-thing.invariant c.in_ok-put_thing.ensures

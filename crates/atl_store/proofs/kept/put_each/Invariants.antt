@@ -1,4 +1,3 @@
-use Rattle.std.specs.FinMap.{entries}
 use Rattle.atl_store.specs.Rows.{lines_of}
 use Rattle.atl_store.specs.Inside.{Inside, HasTables}
 use Rattle.atl_store.proofs.PutsLaws.{Towards}
@@ -6,4 +5,4 @@ use Rattle.atl_store.proofs.WriteLaws.{SoFar}
 use Rattle.atl_store.proofs.kept.put_each.Given as goal
 
 abbrev pub invariant-loop-number : goal.invariant-loop-number
-invariant-loop-number g l = SoFar g.S.Store (Inside HasTables (Towards g.V.Kept.table 1 (lines_of g.V.Kept.line l.number-iterator) (lines_of g.V.Kept.line (entries l.values)))) l.fn.tx.conn l.tx.conn
+invariant-loop-number g l = SoFar g.S.Store (Inside HasTables (Towards g.V.Kept.table 1 (lines_of g.V.Kept.line l.number-iterator) (lines_of g.V.Kept.line l.fn.values))) l.fn.tx.conn l.tx.conn

@@ -1,16 +1,56 @@
-use Rattle.std.proofs.Common.{refl}
-use Rattle.atl_tables.proofs.TrackLaws.{values-undone}
-use Rattle.atl_state.proofs.ListLaws.{AreLists-added}
+use Rattle.std.proofs.Common.{◌≡◌, None, ap, ◌∙◌}
+use Rattle.std.specs.FinMap.{get}
+use Rattle.atl_tables.specs.Changing.{Changing}
+use Rattle.atl_tables.specs.Tracking.{with_value, taken_out}
+use Rattle.atl_tables.proofs.TrackLaws.{taken_out-undone}
+use Rattle.atl_state.specs.declared.records.Unit.{Unit}
+use Rattle.atl_state.proofs.ListLaws.{AreLists-added, AreLists-came, listed_there}
 use Rattle.atl_state.proofs.campaign.Campaign.add_unit.Goals as goal
 
-pub invariant_of-self-in-Ok : goal.invariant_of-self-in-Ok
-invariant_of-self-in-Ok c =
-    rw (c.in-Ok.ensures.ok, c.in_ok-insert.ensures.ok) (AreLists-added c.self.inside.units.values c.self.inside.lists c.args.number c.args.unit (rw (← c.self.view_is) at c.requires) c.self.invariant)
+pub invariant_of-self-in-Ok-list_number : goal.invariant_of-self-in-Ok-list_number
+invariant_of-self-in-Ok-list_number c =
+    let fresh : get c.self.inside.units.values c.args.number ≡ None = rw (← c.self.view_is) at c.requires in
+    rw (c.in_ok-insert.ensures.ok, c.in-Ok.ensures.ok, c.in-Ok-list_number.ensures.ok) record {
+      regions = AreLists-added (λ u. u.region) c.self.inside.units.values c.self.inside.by_region c.args.number c.args.unit fresh c.self.invariant.regions;
+      factions = AreLists-added (λ u. u.faction) c.self.inside.units.values c.self.inside.by_faction c.args.number c.args.unit fresh c.self.invariant.factions;
+      amounts = c.self.invariant.amounts;
+    }
+
+pub unlist_number-requires : goal.unlist_number-requires
+unlist_number-requires c = rw c.in-Ok.ensures.ok (listed_there _ _ _)
 
 pub invariant_of-self-in-Err : goal.invariant_of-self-in-Err
 invariant_of-self-in-Err c =
-    rw (c.in-Err.ensures.err, c.remove.ensures, c.in_ok-insert.ensures.ok, values-undone c.self.inside.units c.args.number c.args.unit (rw (← c.self.view_is) at c.requires)) c.self.invariant
+    let fresh : get c.self.inside.units.values c.args.number ≡ None = rw (← c.self.view_is) at c.requires in
+    let back : c.take_out.new.self ≡ c.self.inside.units =
+    c.take_out.ensures ∙ ap (λ (t : Changing Unit). taken_out t c.args.number c.is_marked-was_marked.result) c.in_ok-insert.ensures.ok
+    ∙ ap (taken_out (with_value c.self.inside.units c.args.number c.args.unit) c.args.number) c.is_marked-was_marked.ensures ∙ taken_out-undone c.self.inside.units c.args.number c.args.unit fresh in
+    rw (back, c.in-Err.ensures.err) c.self.invariant
+
+pub invariant_of-self-in-Err-list_number : goal.invariant_of-self-in-Err-list_number
+invariant_of-self-in-Err-list_number c =
+    let fresh : get c.self.inside.units.values c.args.number ≡ None = rw (← c.self.view_is) at c.requires in
+    let back : c.take_out-in-Err-list_number.new.self ≡ c.self.inside.units =
+    c.take_out-in-Err-list_number.ensures ∙ ap (λ (t : Changing Unit). taken_out t c.args.number c.is_marked-was_marked.result) c.in_ok-insert.ensures.ok
+    ∙ ap (taken_out (with_value c.self.inside.units c.args.number c.args.unit) c.args.number) c.is_marked-was_marked.ensures ∙ taken_out-undone c.self.inside.units c.args.number c.args.unit fresh in
+    rw (back, c.in-Err-list_number.ensures.err, c.unlist_number.ensures) record {
+      regions = AreLists-came (λ u. u.region) c.self.inside.units.values c.self.inside.by_region c.args.number c.args.unit fresh c.self.invariant.regions c.list_number.new.lists c.in-Ok.ensures.ok;
+      factions = c.self.invariant.factions;
+      amounts = c.self.invariant.amounts;
+    }
 
 pub returns-in-Err-clause-err : goal.returns-in-Err-clause-err
 returns-in-Err-clause-err c =
-    rw (← c.self.view_is, c.remove.ensures, c.in_ok-insert.ensures.ok, values-undone c.self.inside.units c.args.number c.args.unit (rw (← c.self.view_is) at c.requires)) refl
+    let fresh : get c.self.inside.units.values c.args.number ≡ None = rw (← c.self.view_is) at c.requires in
+    let back : c.take_out.new.self ≡ c.self.inside.units =
+    c.take_out.ensures ∙ ap (λ (t : Changing Unit). taken_out t c.args.number c.is_marked-was_marked.result) c.in_ok-insert.ensures.ok
+    ∙ ap (taken_out (with_value c.self.inside.units c.args.number c.args.unit) c.args.number) c.is_marked-was_marked.ensures ∙ taken_out-undone c.self.inside.units c.args.number c.args.unit fresh in
+    rw back c.self.view_is
+
+pub returns-in-Err-list_number-clause-err : goal.returns-in-Err-list_number-clause-err
+returns-in-Err-list_number-clause-err c =
+    let fresh : get c.self.inside.units.values c.args.number ≡ None = rw (← c.self.view_is) at c.requires in
+    let back : c.take_out-in-Err-list_number.new.self ≡ c.self.inside.units =
+    c.take_out-in-Err-list_number.ensures ∙ ap (λ (t : Changing Unit). taken_out t c.args.number c.is_marked-was_marked.result) c.in_ok-insert.ensures.ok
+    ∙ ap (taken_out (with_value c.self.inside.units c.args.number c.args.unit) c.args.number) c.is_marked-was_marked.ensures ∙ taken_out-undone c.self.inside.units c.args.number c.args.unit fresh in
+    rw back c.self.view_is

@@ -1,10 +1,13 @@
 use Rattle.std.proofs.Common.{refl}
 use Rattle.std.specs.FinMap.{get}
-use Rattle.atl_tables.proofs.TrackLaws.{AreMarked-without, without_value_is}
+use Rattle.atl_tables.specs.Places.{marked_in}
+use Rattle.atl_tables.proofs.TrackLaws.{ArePlaces-without, marked-put, without_value_is}
 use Rattle.atl_tables.proofs.tracked.Tracked.remove.Goals as goal
 
 pub invariant_of-self : goal.invariant_of-self
-invariant_of-self g c = rw (c.mark_present.ensures, c.remove.ensures) (AreMarked-without c.self.inside.values c.self.inside.marks c.args.number (get c.self.inside.values c.args.number) refl c.self.invariant)
+invariant_of-self g c = rw (c.mark_present.ensures, c.remove.ensures) (ArePlaces-without c.self.inside.values c.self.inside.places c.args.number (get c.self.inside.values c.args.number) refl c.self.invariant)
 
 pub returns : goal.returns
-returns g c = rw (← c.self.view_is, c.mark_present.ensures, c.remove.ensures) (without_value_is (record { values = c.self.inside.values; marks = c.self.inside.marks }) c.args.number (get c.self.inside.values c.args.number) refl)
+returns g c =
+    rw (← c.self.view_is, c.mark_present.ensures, c.remove.ensures, marked-put c.self.inside.places c.args.number (get c.self.inside.values c.args.number))
+    (without_value_is (record { values = c.self.inside.values; marks = marked_in c.self.inside.places }) c.args.number (get c.self.inside.values c.args.number) refl)

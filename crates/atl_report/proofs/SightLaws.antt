@@ -1,0 +1,153 @@
+-- The regions gathered from a faction's units are those that it sees.
+use Rattle.std.proofs.Common.{◌≡◌, ◌==◌, ℕ, Bool, true, false, cond, ◌&&◌, ◌||◌, nat_eq, nat_lt, List, [], ◌∷◌, T, filter, Option, Some, None, refl, sym, ap, ◌∙◌, arith}
+use Rattle.std.specs.declared.cmp.Ordering.TheVariants.{Less, Equal, Greater}
+use Rattle.std.specs.Ordering.{nat_cmp, eq_by_cmp, is_eq, is_lt, ordering_reverse}
+use Rattle.std.specs.Cmp.{nat_cmp_total, ranked, unsigned_tied}
+use Rattle.std.specs.List.{list_any}
+use Rattle.std.specs.FinMap.{FinMap, get, get-entries, get-empty, get-insert, get-from_sorted, find, empty, entries, entries_sorted, entries-from_sorted, from_sorted, is_sorted, same_map, nat_cmp-IsAntisymmetric}
+use Rattle.std.specs.FinMap.Entries.{below_all, where_key, is_sorted-where_key, find-where_key}
+use Rattle.std.proofs.lemmas.Bool.{false≢true, and_parts}
+use Rattle.std.proofs.lemmas.Bool.Decides.{nat_tests}
+use Rattle.atl_tables.specs.Sums.{numbers_among, numbers_where}
+use Rattle.atl_tables.proofs.SumLaws.{chosen-cons}
+use Rattle.atl_state.specs.declared.records.Region.{Region}
+use Rattle.atl_state.specs.declared.records.Unit.{Unit}
+use Rattle.atl_state.specs.State.{State, numbers_of}
+use Rattle.atl_report.specs.Sight.{is_watching, sees_region}
+use Rattle.atl_report.specs.Gathering.{with_region, with_watched, gathered}
+
+is_true : (b : Bool) → T b → b ≡ true
+is_true true h = refl
+is_true false h = absurd h
+
+itself : (n : ℕ) → is_eq (nat_cmp n n) ≡ true
+itself n = elim (nat_cmp n n) as (λ o. nat_cmp n n ≡ o → is_eq o ≡ true) [
+  | Less ↦ λ e. let l = ranked n n Less (sym e) in absurd (omega arith)
+  | Equal ↦ λ _. refl
+  | Greater ↦ λ e. let l = ranked n n Greater (sym e) in absurd (omega arith)
+] refl
+
+above : (k q : ℕ) → is_lt (nat_cmp k q) ≡ true → is_eq (nat_cmp q k) ≡ false
+above k q h = elim (nat_cmp q k) as (λ o. nat_cmp q k ≡ o → is_eq o ≡ false) [
+  | Less ↦ λ _. refl
+  | Equal ↦ λ e. absurd (false≢true (sym (ap is_lt (nat_cmp_total.antisymm k q ∙ ap ordering_reverse e)) ∙ h))
+  | Greater ↦ λ _. refl
+] refl
+
+-- ---- what holds of some entry
+
+module _ {X : Type 0} (p : X → Bool) (g : Option X → Bool) where
+  past : (k : ℕ) (v : X) (fs es : List (ℕ × X)) → below_all nat_cmp k es ≡ true → list_any (λ n. g (find nat_cmp n ((k, v) ∷ fs))) (numbers_among p es) ≡ list_any (λ n. g (find nat_cmp n fs)) (numbers_among p es)
+  past k v fs [] h = refl
+  past k v fs (e ∷ es) h =
+      let rest = past k v fs es (and_parts _ _ h).1 in
+      let here : g (find nat_cmp e.0 ((k, v) ∷ fs)) ≡ g (find nat_cmp e.0 fs) = ap (λ b. g (cond b (Some v) (find nat_cmp e.0 fs))) (above k e.0 (and_parts _ _ h).0) in
+      ap (list_any (λ n. g (find nat_cmp n ((k, v) ∷ fs)))) (chosen-cons p e es)
+      ∙ elim (p e.1) as (λ b. list_any (λ n. g (find nat_cmp n ((k, v) ∷ fs))) (cond b (e.0 ∷ numbers_among p es) (numbers_among p es)) ≡ list_any (λ n. g (find nat_cmp n fs)) (cond b (e.0 ∷ numbers_among p es) (numbers_among p es))) [
+        | true ↦ ap (λ b. b || list_any (λ n. g (find nat_cmp n ((k, v) ∷ fs))) (numbers_among p es)) here ∙ ap (λ b. g (find nat_cmp e.0 fs) || b) rest
+        | false ↦ rest
+      ]
+      ∙ ap (list_any (λ n. g (find nat_cmp n fs))) (sym (chosen-cons p e es))
+
+  some_found : (es : List (ℕ × X)) → is_sorted nat_cmp es ≡ true → list_any (λ n. g (find nat_cmp n es)) (numbers_among p es) ≡ list_any (λ e. p e.1 && g (Some e.1)) es
+  some_found [] h = refl
+  some_found (e ∷ es) h =
+      let rest = past e.0 e.1 es es (and_parts _ _ h).0 ∙ some_found es (and_parts _ _ h).1 in
+      let here : g (find nat_cmp e.0 (e ∷ es)) ≡ g (Some e.1) = ap (λ b. g (cond b (Some e.1) (find nat_cmp e.0 es))) (itself e.0) in
+      ap (list_any (λ n. g (find nat_cmp n (e ∷ es)))) (chosen-cons p e es)
+      ∙ elim (p e.1) as (λ b. list_any (λ n. g (find nat_cmp n (e ∷ es))) (cond b (e.0 ∷ numbers_among p es) (numbers_among p es)) ≡ ((b && g (Some e.1)) || list_any (λ e. p e.1 && g (Some e.1)) es)) [
+        | true ↦ ap (λ b. b || list_any (λ n. g (find nat_cmp n (e ∷ es))) (numbers_among p es)) here ∙ ap (λ b. g (Some e.1) || b) rest
+        | false ↦ rest
+      ]
+
+  -- a test of what stands under the numbers that pass another
+  some_where : (m : FinMap nat_cmp X) → list_any (λ n. g (get m n)) (numbers_where p m) ≡ list_any (λ e. p e.1 && g (Some e.1)) (entries m)
+  some_where m = ap (λ (f : ℕ → Option X). list_any (λ n. g (f n)) (numbers_where p m)) (λ i n. get-entries m n i) ∙ some_found (entries m) (is_true _ (entries_sorted m))
+
+-- ---- who watches where
+
+-- a unit that watches in a region
+abbrev watches_in : ℕ → ℕ → Option Unit → Bool
+watches_in f q None = false
+watches_in f q (Some u) = is_watching f (Some u) && eq_by_cmp nat_cmp q u.region
+
+regrouped : (a m e b : Bool) → e ≡ b → (a && ((a && m) && e)) ≡ (b && (a && m))
+regrouped true true e true h = h
+regrouped true true e false h = h
+regrouped true false e true h = refl
+regrouped true false e false h = refl
+regrouped false m e true h = refl
+regrouped false m e false h = refl
+
+same_region : (q r : ℕ) → eq_by_cmp nat_cmp q r ≡ (r == q)
+same_region q r = unsigned_tied q r ∙ turned q r
+  where
+    turned : (q r : ℕ) → nat_eq q r ≡ nat_eq r q
+    turned q r = grind (arith, nat_tests)
+
+-- a region is seen where one of the faction's units watches in it
+seen_by : (c : State) (f q : ℕ) → list_any (λ n. watches_in f q (get c.units n)) (numbers_of f c.units) ≡ sees_region c f q
+seen_by c f q =
+    some_where (λ (u : Unit). u.faction == f) (watches_in f q) c.units
+    ∙ ap (λ (t : ℕ × Unit → Bool). list_any t (entries c.units)) (λ i e. regrouped (e.1.faction == f) (nat_lt 0 e.1.holding.men) (eq_by_cmp nat_cmp q e.1.region) (e.1.region == q) (same_region q e.1.region) i)
+    ∙ sym (some_where (λ (u : Unit). u.region == q) (is_watching f) c.units)
+
+-- ---- the regions gathered
+
+module _ (c : State) (f q : ℕ) where
+  one_region : (seen : FinMap nat_cmp Region) (k : ℕ) (b : Bool) (o : Option Region) → get c.regions k ≡ o → get seen q ≡ cond b (get c.regions q) None → get (with_region seen k o) q ≡ cond (eq_by_cmp nat_cmp q k || b) (get c.regions q) None
+  one_region seen k b None is was = was ∙ elim (nat_cmp q k) as (λ o. nat_cmp q k ≡ o → cond b (get c.regions q) None ≡ cond (is_eq o || b) (get c.regions q) None) [
+    | Less ↦ λ _. refl
+    | Equal ↦ λ e. absent b (get c.regions q) (ap (get c.regions) (nat_cmp-IsAntisymmetric q k e) ∙ is)
+    | Greater ↦ λ _. refl
+  ] refl
+    where
+      absent : (b : Bool) (o : Option Region) → o ≡ None → cond b o None ≡ o
+      absent true o h = refl
+      absent false o h = sym h
+  one_region seen k b (Some r) is was = get-insert nat_cmp_total seen k r q ∙ elim (nat_cmp q k) as (λ o. nat_cmp q k ≡ o → cond (is_eq o) (Some r) (get seen q) ≡ cond (is_eq o || b) (get c.regions q) None) [
+    | Less ↦ λ _. was
+    | Equal ↦ λ e. sym (ap (get c.regions) (nat_cmp-IsAntisymmetric q k e) ∙ is)
+    | Greater ↦ λ _. was
+  ] refl
+
+  one_watched : (seen : FinMap nat_cmp Region) (b : Bool) (o : Option Unit) → get seen q ≡ cond b (get c.regions q) None → get (with_watched c f seen o) q ≡ cond (watches_in f q o || b) (get c.regions q) None
+  one_watched seen b None was = was
+  one_watched seen b (Some u) was =
+      elim (is_watching f (Some u)) as (λ w. get (cond w (with_region seen u.region (get c.regions u.region)) seen) q ≡ cond ((w && eq_by_cmp nat_cmp q u.region) || b) (get c.regions q) None) [
+        | true ↦ one_region seen u.region b (get c.regions u.region) refl was
+        | false ↦ was
+      ]
+
+  or_order : (a w b : Bool) → (a || (w || b)) ≡ ((w || a) || b)
+  or_order true true b = refl
+  or_order true false b = refl
+  or_order false true b = refl
+  or_order false false b = refl
+
+  all_watched : (ns : List ℕ) (seen : FinMap nat_cmp Region) (b : Bool) → get seen q ≡ cond b (get c.regions q) None
+      → get (gathered c f ns seen) q ≡ cond (list_any (λ n. watches_in f q (get c.units n)) ns || b) (get c.regions q) None
+  all_watched [] seen b was = was
+  all_watched (n ∷ ns) seen b was =
+      all_watched ns (with_watched c f seen (get c.units n)) (watches_in f q (get c.units n) || b) (one_watched seen b (get c.units n) was)
+      ∙ ap (λ t. cond t (get c.regions q) None) (or_order (list_any (λ n. watches_in f q (get c.units n)) ns) (watches_in f q (get c.units n)) b)
+
+  or_none : (a : Bool) → (a || false) ≡ a
+  or_none true = refl
+  or_none false = refl
+
+  get-gathered : get (gathered c f (numbers_of f c.units) empty) q ≡ cond (sees_region c f q) (get c.regions q) None
+  get-gathered =
+      all_watched (numbers_of f c.units) empty false (get-empty nat_cmp q)
+      ∙ ap (λ t. cond t (get c.regions q) None) (or_none (list_any (λ n. watches_in f q (get c.units n)) (numbers_of f c.units)) ∙ seen_by c f q)
+
+-- the regions gathered from the faction's units are those that it sees
+pub entries-gathered : (c : State) (f : ℕ) → entries (gathered c f (numbers_of f c.units) empty) ≡ filter (λ e. sees_region c f e.0) (entries c.regions)
+entries-gathered c f =
+    let seen = where_key nat_cmp (sees_region c f) (entries c.regions) in
+    let sorted = is_sorted-where_key nat_cmp (sees_region c f) (entries c.regions) (entries_sorted c.regions) in
+    ap entries (same_map nat_cmp_total nat_cmp-IsAntisymmetric (gathered c f (numbers_of f c.units) empty) (from_sorted seen) (λ q.
+    get-gathered c f q ∙ sym (get-from_sorted nat_cmp seen q sorted
+    ∙ find-where_key nat_cmp (sees_region c f) q (λ x e. ap (sees_region c f) (sym (nat_cmp-IsAntisymmetric q x e))) (entries c.regions)
+    ∙ ap (λ o. cond (sees_region c f q) o None) (sym (get-entries c.regions q)))))
+    ∙ entries-from_sorted nat_cmp seen sorted

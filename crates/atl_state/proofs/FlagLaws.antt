@@ -1,0 +1,50 @@
+-- The set of the places that are set.
+use Rattle.std.proofs.Common.{◌≡◌, ℕ, zero, suc, ◌+◌, ◌<◌, Bool, true, false, cond, ◌||◌, List, [], ◌∷◌, length, set, refl, sym, ap, ◌∙◌, arith}
+use Rattle.std.specs.Prelude.{replicate}
+use Rattle.std.proofs.lemmas.List.{length-set}
+use Rattle.std.specs.Ordering.{nat_cmp, eq_by_cmp}
+use Rattle.std.specs.Cmp.{nat_cmp_total}
+use Rattle.std.specs.FinMap.{nat_cmp-IsAntisymmetric}
+use Rattle.std.specs.FinSet as numbers
+use Rattle.atl_tables.proofs.TrackLaws.{insert_twice, contains_inserted}
+use Rattle.atl_state.specs.Kept.{set_from}
+
+or_swap : (a b c : Bool) → (a || (b || c)) ≡ (b || (a || c))
+or_swap true true c = refl
+or_swap true false c = refl
+or_swap false b c = refl
+
+-- two numbers may come in either order
+either_first : (s : numbers.FinSet nat_cmp) (m n : ℕ) → numbers.insert (numbers.insert s m) n ≡ numbers.insert (numbers.insert s n) m
+either_first s m n = numbers.same_set nat_cmp_total nat_cmp-IsAntisymmetric _ _ (λ q.
+    numbers.contains-insert nat_cmp_total (numbers.insert s m) n q ∙ ap (λ b. eq_by_cmp nat_cmp q n || b) (numbers.contains-insert nat_cmp_total s m q)
+    ∙ or_swap (eq_by_cmp nat_cmp q n) (eq_by_cmp nat_cmp q m) (numbers.contains s q)
+    ∙ sym (numbers.contains-insert nat_cmp_total (numbers.insert s n) m q ∙ ap (λ b. eq_by_cmp nat_cmp q m || b) (numbers.contains-insert nat_cmp_total s n q)))
+
+first_set : (n : ℕ) (b : Bool) (bs : List Bool) → set_from n (true ∷ bs) ≡ numbers.insert (set_from n (b ∷ bs)) n
+first_set n true bs = sym (insert_twice (numbers.insert (set_from (n + 1) bs) n) n (contains_inserted (set_from (n + 1) bs) n))
+first_set n false bs = refl
+
+later_set : (n k : ℕ) (b : Bool) (s t : numbers.FinSet nat_cmp) → t ≡ numbers.insert s k → cond b (numbers.insert t n) t ≡ numbers.insert (cond b (numbers.insert s n) s) k
+later_set n k true s t h = ap (λ u. numbers.insert u n) h ∙ either_first s k n
+later_set n k false s t h = h
+
+pub set_from-set : (n k : ℕ) (bs : List Bool) → k < length bs → set_from n (set bs k true) ≡ numbers.insert (set_from n bs) (n + k)
+set_from-set n k [] h = absurd (omega arith)
+set_from-set n zero (b ∷ bs) h = let e : n ≡ n + 0 = omega arith in first_set n b bs ∙ ap (numbers.insert (set_from n (b ∷ bs))) e
+set_from-set n (suc k) (b ∷ bs) h =
+    let e : (n + 1) + k ≡ n + suc k = omega arith in
+    later_set n (n + suc k) b (set_from (n + 1) bs) (set_from (n + 1) (set bs k true)) (set_from-set (n + 1) k bs (omega arith) ∙ ap (numbers.insert (set_from (n + 1) bs)) e)
+
+pub set_from-none : (n k : ℕ) → set_from n (replicate k false) ≡ numbers.empty
+set_from-none n zero = refl
+set_from-none n (suc k) = set_from-none (n + 1) k
+
+pub two_set : (flags : List Bool) (i j : ℕ) → i < length flags → j < length flags → set_from 0 (set (set flags i true) j true) ≡ numbers.insert (numbers.insert (set_from 0 flags) i) j
+two_set flags i j h k = one (set flags i true) j (omega (arith, length-set flags i true)) ∙ ap (λ s. numbers.insert s j) (one flags i h)
+  where
+    from_none : (n : ℕ) → 0 + n ≡ n
+    from_none n = omega arith
+
+    one : (bs : List Bool) (n : ℕ) → n < length bs → set_from 0 (set bs n true) ≡ numbers.insert (set_from 0 bs) n
+    one bs n h = set_from-set 0 n bs h ∙ ap (numbers.insert (set_from 0 bs)) (from_none n)
