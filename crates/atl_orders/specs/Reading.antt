@@ -11,7 +11,6 @@ use Rattle.atl_orders.specs.declared.reading.Keyword.{Keyword}
 use Rattle.atl_orders.specs.declared.reading.Keyword.TheVariants as keywords
 use Rattle.atl_orders.specs.declared.reading.Place.{Place}
 use Rattle.atl_orders.specs.declared.reading.Place.TheVariants.{Nowhere, At, Forming, Skipping}
-use Rattle.atl_orders.specs.declared.reading.Outcome.{Outcome}
 use Rattle.atl_orders.specs.declared.reading.Outcome.TheVariants as outcomes
 use Rattle.atl_orders.specs.Aliasing.{with_alias}
 use Rattle.atl_orders.specs.Words.{WordText, words, is_word}
@@ -103,9 +102,3 @@ unfoldable pub line_step : Planet → Place → (ℕ → Bool) → List ℕ → 
 line_step world place given line =
     if list_all is_plain line then words_step world place given (words line)
     else record { effect = faulty BadByte; place = place; given = given }
-
--- what the code answers, seen as an effect
-abbrev pub effect_of : List ℕ → Outcome → Effect
-effect_of text outcomes.Nothing = nothing
-effect_of text (outcomes.Faulty fault) = faulty fault
-effect_of text (outcomes.Says unit order) = says unit (said text order)

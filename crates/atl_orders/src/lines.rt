@@ -3,8 +3,9 @@
 ghost use Rattle.std.specs.Prelude.{◌≡◌, ◌≤◌, ◌∷◌, length, IfSome};
 ghost use Rattle.std.specs.List.{position_or_len};
 ghost use Rattle.std.specs.Option.{option_copied};
-ghost use Rattle.atl_orders.specs.Lines.{is_feed, without_return, lines, lines_of_rest, left_size, StartsWith};
-ghost use Rattle.atl_orders.specs.Words.{EndsWith};
+ghost use Rattle.atl_orders.specs.Lines.{is_feed, without_return, lines};
+ghost use Rattle.atl_orders.specs.Views.{lines_of_rest, left_size};
+ghost use Rattle.atl_orders.specs.Standing.{StartsWith, EndsWith};
 
 /// Where the line feed is, or the length.
 #[tactic(auto, using(std::proofs::lemmas::List::Sums::position_or_len_is))]

@@ -4,7 +4,9 @@ ghost use Rattle.std.specs.Prelude.{◌≡◌, ◌≤◌, ◌<◌, ◌∷◌, []
 ghost use Rattle.std.specs.List.{position_or_len};
 ghost use Rattle.std.specs.Str.{str_eq_ignore_ascii_case};
 ghost use Rattle.atl_orders.specs.Limits.{most_number};
-ghost use Rattle.atl_orders.specs.Words.{is_quote, is_blank, ends_word, words, word_text, begins, number_of, StandsIn, EndsWith};
+ghost use Rattle.atl_orders.specs.Words.{is_quote, is_blank, ends_word, words, begins, number_of};
+ghost use Rattle.atl_orders.specs.Views.{word_text};
+ghost use Rattle.atl_orders.specs.Standing.{StandsIn, EndsWith};
 
 /// A word of a line.
 #[derive(Drop, Clone, Copy, Debug)]

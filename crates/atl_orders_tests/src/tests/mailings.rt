@@ -4,7 +4,7 @@ use super::worlds::{THINGS, world_with};
 use atl_orders::{
     MailFault, Mailing, Order, read_mailing, readings_keep_bounds, rules_are_the_reading,
 };
-use atl_tables::World;
+use atl_tables::{Text, World};
 use std::alloc::Global;
 use std::process::Abort;
 use std::test::Fail;
@@ -357,7 +357,8 @@ fn words_of(alloc: Global, mailing: &Mailing) -> Result<String, Fail> {
     for entry in mailing.entries.as_slice().iter() {
         words.push_str(entry.order.verb().keyword())?;
         if let Order::Name { name, .. } = &entry.order {
-            let name = mailing.name(alloc, *name)?;
+            let bytes = mailing.name(alloc, *name)?;
+            let name = Text::from_utf8(alloc, bytes.as_slice())?;
             words.push_str(" ")?;
             words.push_str(name.as_str())?;
         }
