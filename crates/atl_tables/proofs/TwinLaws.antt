@@ -3,6 +3,7 @@ use Rattle.std.proofs.Common.{◌≡◌, ℕ, zero, suc, ◌+◌, Bool, true, fa
 use Rattle.std.specs.List.{list_any, slice_get, AllByRecursion}
 use Rattle.std.proofs.lemmas.Bool.{or_parts}
 use Rattle.std.proofs.lemmas.List.Folds.{list_any-append}
+use Rattle.std.proofs.lemmas.Map.Keys.{IsDistinct-from_apart, IsDistinct-cons}
 use Rattle.atl_tables.specs.Each.{each}
 use Rattle.atl_tables.specs.Faults.{Conditions, first_fault}
 use Rattle.atl_tables.specs.Keys.{path, indexed}
@@ -59,14 +60,13 @@ module _ {A : Type 0} (title : A → List ℕ) where
       (or_parts _ _ both.1).0
 
   differ_behind : (front xs : List A) → ((k : ℕ) (x : A) → slice_get xs k ≡ Some x → is_before x (front ++ take k xs) ≡ false) → NamesDiffer (map title xs)
-  differ_behind front [] h = tt
-  differ_behind front (x ∷ xs) h = (
-    head_differs x xs (λ k y e. in_middle front (take k xs) x y (h (suc k) y e)),
-    differ_behind (front ++ x ∷ []) xs (λ k y e. ap (is_before y) (append_assoc front (x ∷ []) (take k xs)) ∙ h (suc k) y e),
-  )
+  differ_behind front [] h = IsDistinct-from_apart same_name [] (λ i j d a b. absurd (omega (arith, b)))
+  differ_behind front (x ∷ xs) h =
+      IsDistinct-cons same_name (title x) (map title xs) (head_differs x xs (λ k y e. in_middle front (take k xs) x y (h (suc k) y e)))
+      (differ_behind (front ++ x ∷ []) xs (λ k y e. ap (is_before y) (append_assoc front (x ∷ []) (take k xs)) ∙ h (suc k) y e))
 
   pub differ : (key : List ℕ) (all : List A) → first_fault (twins title key all) ≡ None → NamesDiffer (map title all)
-  differ key all h = differ_behind [] all (λ k x e. no_twin key all k x (at_each (twin_at title key all) 0 all h k x e))
+  differ key all h = differ_behind [] all (λ k x e. let same : 0 + k ≡ k = omega arith in no_twin key all k x (rw same at (at_each (twin_at title key all) 0 all h k x e)))
 
 -- the names stay where a table stands for something
 pub names_kept : {A B : Type 0} (f : A → B) (n : A → List ℕ) (m : B → List ℕ) → ((x : A) → m (f x) ≡ n x) → (xs : List A) → map m (map f xs) ≡ map n xs

@@ -188,7 +188,6 @@ fn join(alloc: Global, all: Tables, parts: Parts) -> Result<World, WorldFault>
 }
 
 /// The world that tables describe, where names and numbers keep their rules.
-#[tactic(auto, using(crate::proofs::TwinLaws::have_names))]
 fn from_tables(alloc: Global, all: Tables) -> Result<World, WorldFault>
     requires { AreTables all }
     ensures { Gives (λ w. w) result (first_fault (table_conditions all)) (planet_of all) }
