@@ -51,7 +51,7 @@ fn amounts(alloc: Global, at: &str, table: &Table) -> Result<Sequence<Output>, W
 }
 
 /// The output of a terrain, or none.
-#[tactic(auto, unfolding(crate::specs::OutputTable::output_keys, crate::specs::OutputTable::output_from, crate::specs::Keys::optional_table_at))]
+#[tactic(auto, unfolding(crate::specs::OutputTable::output_keys, crate::specs::OutputTable::output_from, crate::specs::OutputTable::in_byte_order, crate::specs::Keys::optional_table_at))]
 pub(crate) fn outputs(alloc: Global, at: &str, t: &Table) -> Result<Sequence<Output>, WorldFault>
     ensures value { Gives (λ v. v) result (first_fault (output_keys at.now (table_view t.now))) (output_from at.now (table_view t.now)) }
     ensures sound { IfOk result (λ v. All IsOutput v) }

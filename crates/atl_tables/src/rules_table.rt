@@ -10,7 +10,9 @@ ghost use Rattle.atl_tables.specs.RulesTable.{price_keys, prices_from, peasant_k
 use crate::elements::Element;
 use crate::fault::WorldFault;
 use crate::keys;
-use crate::limits::{MOST_AMOUNT, MOST_FRACTION, MOST_GROWTH, MOST_PER_HEAD, MOST_PRICE, MOST_WEIGHT};
+use crate::limits::{
+    MOST_AMOUNT, MOST_FRACTION, MOST_GROWTH, MOST_PER_HEAD, MOST_PRICE, MOST_WEIGHT,
+};
 use crate::tables::Tables;
 use crate::text::Text;
 use crate::titled::known_or_absent;
