@@ -1,7 +1,8 @@
 -- The rules of a whole text and the reading are one.
-use Rattle.std.proofs.Common.{◌≡◌, ℕ, suc, ◌+◌, ◌<◌, ◌≤◌, ◌++◌, Bool, true, false, cond, List, [], ◌∷◌, length, codes, Option, Some, None, Result, Err, nat_lt, refl, ap, ◌∙◌, arith}
+use Rattle.std.proofs.Common.{◌≡◌, ℕ, suc, ◌+◌, ◌<◌, ◌≤◌, ◌++◌, Bool, true, false, cond, List, [], ◌∷◌, length, codes, Option, Some, None, Result, Err, nat_lt, refl, sym, ap, ◌∙◌, arith}
 use Rattle.std.specs.List.{All}
 use Rattle.std.proofs.lemmas.Bool.Decides.{nat_tests}
+use Rattle.std.proofs.lemmas.List.Elements.{All-nil, All-cons, All-head, All-tail}
 use Rattle.atl_tables.specs.Planet.{Planet}
 use Rattle.atl_orders.specs.declared.fault.MailFault.{MailFault}
 use Rattle.atl_orders.specs.declared.fault.MailFault.TheVariants.{TooLong, NoHeader}
@@ -31,31 +32,34 @@ data Found (n : ℕ) (all : List (List ℕ)) : Type 0 where
 later : (n k : ℕ) → k + (n + 1) ≡ suc k + n
 later n k = omega arith
 
+from_none : (n : ℕ) → 0 + n ≡ n
+from_none n = omega arith
+
 more : (n : ℕ) (line : List ℕ) (rest : List (List ℕ)) → IsOutside line → header_from n (line ∷ rest) ≡ header_from (n + 1) rest → Found (n + 1) rest → Found n (line ∷ rest)
-more n line rest h e (none a f) = none (h, a) (e ∙ f)
+more n line rest h e (none a f) = none (All-cons IsOutside line rest h a) (e ∙ f)
 more n line rest h e (one before header behind is f) =
-    one (line ∷ before) header behind (record { whole = ap (λ l. line ∷ l) is.whole; leads = is.leads; first = (h, is.first) })
+    one (line ∷ before) header behind (record { whole = ap (λ l. line ∷ l) is.whole; leads = is.leads; first = All-cons IsOutside line before h is.first })
     (e ∙ f ∙ ap (λ k. header_line k behind (faction_of (words header))) (later n (length before)))
 
 tested : (t : Bool) (n : ℕ) (line : List ℕ) (rest : List (List ℕ)) → is_header line ≡ t → header_from n (line ∷ rest) ≡ cond t (header_line n rest (faction_of (words line))) (header_from (n + 1) rest) → Found (n + 1) rest → Found n (line ∷ rest)
-tested true n line rest h e f = one [] line rest (record { whole = refl; leads = h; first = tt }) e
+tested true n line rest h e f = one [] line rest (record { whole = refl; leads = h; first = All-nil IsOutside }) (e ∙ ap (λ k. header_line k rest (faction_of (words line))) (sym (from_none n)))
 tested false n line rest h e f = more n line rest h e f
 
 found : (n : ℕ) (all : List (List ℕ)) → Found n all
 unfolding header_from
-found n [] = none tt refl
+found n [] = none (All-nil IsOutside) refl
 found n (line ∷ rest) = tested (is_header line) n line rest refl refl (found (n + 1) rest)
 
 -- no line, and the first one, give what the function gives
 no_one : (n : ℕ) (all : List (List ℕ)) → All IsOutside all → header_from n all ≡ Err NoHeader
 unfolding header_from
 no_one n [] a = refl
-no_one n (line ∷ rest) a = rw a.0 (no_one (n + 1) rest a.1)
+no_one n (line ∷ rest) a = rw (All-head IsOutside line rest a) (no_one (n + 1) rest (All-tail IsOutside line rest a))
 
 first_one : (n : ℕ) (before : List (List ℕ)) (header : List ℕ) (behind : List (List ℕ)) → All IsOutside before → is_header header ≡ true → header_from n (before ++ header ∷ behind) ≡ header_line (length before + n) behind (faction_of (words header))
 unfolding header_from
-first_one n [] header behind a h = rw h refl
-first_one n (line ∷ before) header behind a h = rw a.0 (first_one (n + 1) before header behind a.1 h ∙ ap (λ k. header_line k behind (faction_of (words header))) (later n (length before)))
+first_one n [] header behind a h = rw h (ap (λ k. header_line k behind (faction_of (words header))) (sym (from_none n)))
+first_one n (line ∷ before) header behind a h = rw (All-head IsOutside line before a) (first_one (n + 1) before header behind (All-tail IsOutside line before a) h ∙ ap (λ k. header_line k behind (faction_of (words header))) (later n (length before)))
 
 -- ---- a whole text
 
