@@ -11,7 +11,6 @@ use Rattle.atl_orders.specs.declared.reading.Keyword.{Keyword}
 use Rattle.atl_orders.specs.declared.reading.Keyword.TheVariants as keywords
 use Rattle.atl_orders.specs.declared.reading.Place.{Place}
 use Rattle.atl_orders.specs.declared.reading.Place.TheVariants.{Nowhere, At, Forming, Skipping}
-use Rattle.atl_orders.specs.declared.reading.Outcome.TheVariants as outcomes
 use Rattle.atl_orders.specs.Aliasing.{with_alias}
 use Rattle.atl_orders.specs.Words.{WordText, words, is_word}
 use Rattle.atl_orders.specs.Verbs.{verb_of}
