@@ -1,6 +1,5 @@
 -- The rules of a whole text and the reading are one.
-use Rattle.std.proofs.Common.{◌≡◌, ℕ, suc, ◌+◌, ◌<◌, ◌≤◌, ◌++◌, Bool, true, false, cond, List, [], ◌∷◌, length, codes, Option, Some, None, Result, Err, nat_lt, refl, sym, ap, ◌∙◌, arith}
-use Rattle.std.specs.List.{All}
+use Rattle.std.proofs.Common.{◌≡◌, ℕ, suc, ◌+◌, ◌<◌, ◌≤◌, ◌++◌, Bool, true, false, cond, List, [], ◌∷◌, length, Option, Some, None, Result, Err, nat_lt, refl, sym, ap, ◌∙◌, arith}
 use Rattle.std.proofs.lemmas.Bool.Decides.{nat_tests}
 use Rattle.std.proofs.lemmas.List.Elements.{All-nil, All-cons, All-head, All-tail}
 use Rattle.atl_tables.specs.Planet.{Planet}
@@ -10,13 +9,10 @@ use Rattle.atl_orders.specs.declared.reading.Place.TheVariants.{Nowhere}
 use Rattle.atl_orders.specs.Limits.{most_bytes}
 use Rattle.atl_orders.specs.Aliasing.{no_alias}
 use Rattle.atl_orders.specs.Lines.{lines}
-use Rattle.atl_orders.specs.Words.{words, begins}
+use Rattle.atl_orders.specs.Words.{words}
 use Rattle.atl_orders.specs.Mailing.{faction_of, header_line, header_from, Reading, behind_header, reading}
-use Rattle.atl_orders.specs.Rules.{IsHeader, TextSays, too_long, no_header, bad_header, mailing}
+use Rattle.atl_orders.specs.Rules.{is_header, HaveNoHeader, HaveHeader, TextSays, too_long, no_header, bad_header, mailing}
 use Rattle.atl_orders.proofs.RuleLaws.{body_fits, body_only}
-
-abbrev is_header : List ℕ → Bool
-is_header line = begins (codes "#ATLANTIS") (words line)
 
 abbrev IsOutside : List ℕ → Type 0
 IsOutside line = is_header line ≡ false
@@ -25,8 +21,8 @@ IsOutside line = is_header line ≡ false
 
 -- there is none, or the first one
 data Found (n : ℕ) (all : List (List ℕ)) : Type 0 where
-  none : All IsOutside all → header_from n all ≡ Err NoHeader → Found n all
-  one : (before : List (List ℕ)) (header : List ℕ) (behind : List (List ℕ)) → IsHeader all before header behind
+  none : HaveNoHeader all → header_from n all ≡ Err NoHeader → Found n all
+  one : (before : List (List ℕ)) (header : List ℕ) (behind : List (List ℕ)) → HaveHeader all before header behind
       → header_from n all ≡ header_line (length before + n) behind (faction_of (words header)) → Found n all
 
 later : (n k : ℕ) → k + (n + 1) ≡ suc k + n
@@ -51,12 +47,12 @@ found n [] = none (All-nil IsOutside) refl
 found n (line ∷ rest) = tested (is_header line) n line rest refl refl (found (n + 1) rest)
 
 -- no line, and the first one, give what the function gives
-no_one : (n : ℕ) (all : List (List ℕ)) → All IsOutside all → header_from n all ≡ Err NoHeader
+no_one : (n : ℕ) (all : List (List ℕ)) → HaveNoHeader all → header_from n all ≡ Err NoHeader
 unfolding header_from
 no_one n [] a = refl
 no_one n (line ∷ rest) a = rw (All-head IsOutside line rest a) (no_one (n + 1) rest (All-tail IsOutside line rest a))
 
-first_one : (n : ℕ) (before : List (List ℕ)) (header : List ℕ) (behind : List (List ℕ)) → All IsOutside before → is_header header ≡ true → header_from n (before ++ header ∷ behind) ≡ header_line (length before + n) behind (faction_of (words header))
+first_one : (n : ℕ) (before : List (List ℕ)) (header : List ℕ) (behind : List (List ℕ)) → HaveNoHeader before → is_header header ≡ true → header_from n (before ++ header ∷ behind) ≡ header_line (length before + n) behind (faction_of (words header))
 unfolding header_from
 first_one n [] header behind a h = rw h (ap (λ k. header_line k behind (faction_of (words header))) (sym (from_none n)))
 first_one n (line ∷ before) header behind a h = rw (All-head IsOutside line before a) (first_one (n + 1) before header behind (All-tail IsOutside line before a) h ∙ ap (λ k. header_line k behind (faction_of (words header))) (later n (length before)))
@@ -67,7 +63,7 @@ numbered : (k : ℕ) → k + 1 + 1 ≡ k + 2
 numbered k = omega arith
 
 module _ (world : Planet) (text : List ℕ) where
-  headed_fits : (o : Option ℕ) → length text ≤ most_bytes → (before : List (List ℕ)) (header : List ℕ) (behind : List (List ℕ)) → IsHeader (lines text) before header behind → faction_of (words header) ≡ o → TextSays world text (behind_header world (header_line (length before + 1) behind o))
+  headed_fits : (o : Option ℕ) → length text ≤ most_bytes → (before : List (List ℕ)) (header : List ℕ) (behind : List (List ℕ)) → HaveHeader (lines text) before header behind → faction_of (words header) ≡ o → TextSays world text (behind_header world (header_line (length before + 1) behind o))
   headed_fits None s before header behind is f = bad_header s before header behind is f refl
   headed_fits (Some faction) s before header behind is f =
       rw (numbered (length before)) (mailing s before header behind is faction f _ _ (body_fits world (length before + 2) Nowhere no_alias behind) refl)
@@ -90,7 +86,7 @@ module _ (world : Planet) (text : List ℕ) where
   short_is : length text ≤ most_bytes → nat_lt most_bytes (length text) ≡ false
   short_is h = grind (arith, nat_tests)
 
-  first_is : (before : List (List ℕ)) (header : List ℕ) (behind : List (List ℕ)) → IsHeader (lines text) before header behind → header_from 1 (lines text) ≡ header_line (length before + 1) behind (faction_of (words header))
+  first_is : (before : List (List ℕ)) (header : List ℕ) (behind : List (List ℕ)) → HaveHeader (lines text) before header behind → header_from 1 (lines text) ≡ header_line (length before + 1) behind (faction_of (words header))
   first_is before header behind is = ap (header_from 1) is.whole ∙ first_one 1 before header behind is.first is.leads
 
   pub text_only : (read : Result Reading MailFault) → TextSays world text read → read ≡ reading world text

@@ -96,24 +96,31 @@ pub data BodySays (world : Planet) : ℕ → Place → (ℕ → Bool) → List (
       → (entries : List EntrySaid) (faults : List FaultyLine) → BodySays world (n + 1) s.place s.given rest entries faults
       → BodySays world n place given (line ∷ rest) (entry_of (n, s.effect) ++ entries) (fault_of (n, s.effect) ++ faults)
 
--- the first of these lines whose first word is `#ATLANTIS`, with those before it and those behind it
-pub record IsHeader (lines before : List (List ℕ)) (header : List ℕ) (behind : List (List ℕ)) : Type 0 where
+-- whether a line's first word is `#ATLANTIS`
+abbrev pub is_header : List ℕ → Bool
+is_header line = begins (codes "#ATLANTIS") (words line)
+
+abbrev pub HaveNoHeader : List (List ℕ) → Type 0
+HaveNoHeader lines = All (λ line. is_header line ≡ false) lines
+
+-- the header of a text's lines is the first of them that is one
+pub record HaveHeader (lines before : List (List ℕ)) (header : List ℕ) (behind : List (List ℕ)) : Type 0 where
   pub whole : lines ≡ before ++ header ∷ behind
-  pub leads : begins (codes "#ATLANTIS") (words header) ≡ true
-  pub first : All (λ line. begins (codes "#ATLANTIS") (words line) ≡ false) before
+  pub leads : is_header header ≡ true
+  pub first : HaveNoHeader before
 
 -- a text: its header names the faction, and the lines behind it give the orders and the faults
 pub data TextSays (world : Planet) (text : List ℕ) (read : Result Reading MailFault) : Type 0 where
   too_long : most_bytes < length text
       → read ≡ Err TooLong → TextSays world text read
-  no_header : length text ≤ most_bytes → All (λ line. begins (codes "#ATLANTIS") (words line) ≡ false) (lines text)
+  no_header : length text ≤ most_bytes → HaveNoHeader (lines text)
       → read ≡ Err NoHeader → TextSays world text read
   bad_header : length text ≤ most_bytes
-      → (before : List (List ℕ)) (header : List ℕ) (behind : List (List ℕ)) → IsHeader (lines text) before header behind
+      → (before : List (List ℕ)) (header : List ℕ) (behind : List (List ℕ)) → HaveHeader (lines text) before header behind
       → faction_of (words header) ≡ None
       → read ≡ Err BadHeader → TextSays world text read
   mailing : length text ≤ most_bytes
-      → (before : List (List ℕ)) (header : List ℕ) (behind : List (List ℕ)) → IsHeader (lines text) before header behind
+      → (before : List (List ℕ)) (header : List ℕ) (behind : List (List ℕ)) → HaveHeader (lines text) before header behind
       → (faction : ℕ) → faction_of (words header) ≡ Some faction
       → (entries : List EntrySaid) (faults : List FaultyLine) → BodySays world (length before + 2) Nowhere no_alias behind entries faults
       → read ≡ Ok (record { faction = faction; entries = entries; faults = faults }) → TextSays world text read
