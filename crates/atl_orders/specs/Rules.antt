@@ -19,7 +19,8 @@ use Rattle.atl_orders.specs.Aliasing.{no_alias, with_alias}
 use Rattle.atl_orders.specs.Lines.{lines}
 use Rattle.atl_orders.specs.Words.{WordText, words, begins}
 use Rattle.atl_orders.specs.Operands.{number_at, alias_at}
-use Rattle.atl_orders.specs.Orders.{Said, form, said_by}
+use Rattle.atl_orders.specs.declared.order.Order.TheVariants as orders
+use Rattle.atl_orders.specs.Orders.{Said, said_by}
 use Rattle.atl_orders.specs.Reading.{is_plain, keyword_of, Effect, nothing, faulty, says, target, outside, Step, line_step}
 use Rattle.atl_orders.specs.Mailing.{EntrySaid, entry_of, fault_of, effects, faction_of, Reading, reading}
 
@@ -62,7 +63,7 @@ pub data WordsSay (world : Planet) (place : Place) (given : ℕ → Bool) (w : W
       → s ≡ step (faulty BadAlias) (Skipping (Some n)) given → WordsSay world place given w ws s
   form_new : Leads w keywords.Form → (n : ℕ) → place ≡ At n
       → (alias : ℕ) (rest : List WordText) → alias_at ws ≡ Ok (alias, rest) → given alias ≡ false
-      → s ≡ step (says (Number n) (form alias)) (Forming n alias) (with_alias given alias) → WordsSay world place given w ws s
+      → s ≡ step (says (Number n) (orders.Form alias)) (Forming n alias) (with_alias given alias) → WordsSay world place given w ws s
   -- an order of the table: for the unit that is named, if its words have no fault
   order_nowhere : (verb : Verb) → Leads w (keywords.Order verb) → target place ≡ None
       → s ≡ step (faulty NoUnit) place given → WordsSay world place given w ws s
