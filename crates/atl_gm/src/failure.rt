@@ -62,7 +62,9 @@ impl From<Cause> for Failure {
 }
 
 fn tell_world_fault<R: Eprint>(rt: &R, fault: &WorldFault) -> io::Result<()> {
-    let number = fault.number();
+    let Some(number) = fault.number() else {
+        return eprintln!(rt; "fault: Memory");
+    };
     let name = fault.name();
     match fault.path() {
         Some(path) => {

@@ -16,7 +16,8 @@ use Rattle.atl_orders.specs.declared.reading.Place.{Place}
 use Rattle.atl_orders.specs.declared.reading.Place.TheVariants.{Nowhere, At, Forming, Skipping}
 use Rattle.atl_orders.specs.Words.{WordText, words, begins, number_of}
 use Rattle.atl_orders.specs.Operands.{number_at, alias_at}
-use Rattle.atl_orders.specs.Orders.{Said, form, said_by}
+use Rattle.atl_orders.specs.declared.order.Order.TheVariants as orders
+use Rattle.atl_orders.specs.Orders.{Said, said_by}
 use Rattle.atl_orders.specs.Aliasing.{no_alias, with_alias}
 use Rattle.atl_orders.specs.Lines.{lines}
 use Rattle.atl_orders.specs.Reading.{is_plain, keyword_of, Effect, nothing, faulty, says, Step, target, said_for, order_effect, unit_step, end_step, block_step, form_step, keyword_step, words_step, line_step}
@@ -55,7 +56,7 @@ module _ (world : Planet) (given : ℕ → Bool) where
   end_sound (Skipping None) h = (tt, tt)
   end_sound (Skipping (Some n)) h = (tt, h)
 
-  given_sound : (t : Bool) (n alias : ℕ) → IsNumber n → IsAlias alias → IsStep world (cond t (record { effect = faulty BadAlias; place = Skipping (Some n); given = given }) (record { effect = says (Number n) (form alias); place = Forming n alias; given = with_alias given alias }))
+  given_sound : (t : Bool) (n alias : ℕ) → IsNumber n → IsAlias alias → IsStep world (cond t (record { effect = faulty BadAlias; place = Skipping (Some n); given = given }) (record { effect = says (Number n) (orders.Form alias); place = Forming n alias; given = with_alias given alias }))
   given_sound true n alias h k = (tt, h)
   given_sound false n alias h k = ((h, k), (h, k))
 

@@ -3,9 +3,9 @@ use Rattle.atl_orders.proofs.WordLaws.{ends_further}
 use Rattle.std.proofs.Common.{Option, Some, None, IfSome, ◌≡◌, ◌≢◌, ℕ, zero, suc, ◌+◌, ◌-◌, ◌<◌, ◌≤◌, Bool, true, false, not, cond, List, [], ◌∷◌, ◌++◌, length, get_or, take, drop, map, refl, sym, ap, ◌∙◌, arith}
 use Rattle.std.specs.List.{position_or_len}
 use Rattle.std.proofs.lemmas.List.{append-nil, take-append-drop, append_assoc, length-append}
-use Rattle.atl_orders.specs.Words.{EndsWith, EndsAt}
+use Rattle.atl_orders.specs.Standing.{EndsWith, EndsAt, StartsWith}
 use Rattle.std.proofs.lemmas.Bool.{eq-eqb, ne_eqb}
-use Rattle.atl_orders.specs.Lines.{is_feed, with_front, pieces, without_return, lines, StartsWith}
+use Rattle.atl_orders.specs.Lines.{is_feed, with_front, pieces, without_return, lines}
 
 -- a byte more: where the feed is, the first piece and the others
 feed_step : (t : Bool) (b : ℕ) (bs : List ℕ) (m : ℕ) → cond (not t) (1 + m) 0 < suc (length bs) → (m < length bs → pieces bs ≡ take m bs ∷ pieces (drop (m + 1) bs)) → cond t ([] ∷ pieces bs) (with_front b (pieces bs)) ≡ take (cond (not t) (1 + m) 0) (b ∷ bs) ∷ pieces (drop (cond (not t) (1 + m) 0 + 1) (b ∷ bs))

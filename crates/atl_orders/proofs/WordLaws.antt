@@ -1,14 +1,30 @@
 -- Laws of words.
-use Rattle.std.proofs.Common.{◌≡◌, ℕ, zero, suc, ◌+◌, ◌-◌, ◌<◌, ◌≤◌, Bool, ◌||◌, not, true, false, cond, eqb, List, [], ◌∷◌, ◌++◌, length, get_or, take, drop, min, refl, sym, ap, ◌∙◌, arith}
-use Rattle.std.specs.List.{slice_range, position_or_len, before_first}
+use Rattle.std.proofs.Common.{◌≡◌, ℕ, zero, suc, ◌+◌, ◌-◌, ◌<◌, ◌≤◌, Bool, ◌||◌, not, true, false, cond, eqb, List, [], ◌∷◌, ◌++◌, length, get_or, take, drop, min, Some, None, nat_lt, refl, sym, ap, ◌∙◌, arith}
+use Rattle.std.specs.List.{slice_range, position, position_or_len, before_first}
+use Rattle.std.specs.Option.{unwrap_or}
+use Rattle.std.proofs.lemmas.List.Sums.{prefix_len-le-length}
 use Rattle.std.specs.Char.{is_ascii_digit, digit_value}
 use Rattle.std.proofs.lemmas.Bool.Decides.{nat_tests}
 use Rattle.std.proofs.lemmas.Bool.{cond-true, cond-false, or_parts, true≢false}
 use Rattle.std.proofs.lemmas.List.{length-append, drop_at, take_at, drop-drop, take-append-drop, append_assoc, drop_min, take_rest, at_drop_more, at_drop_all}
 use Rattle.std.proofs.Math.Nat.{min_comm}
-use Rattle.atl_orders.specs.Words.{StandsIn, EndsWith, EndsAt, is_blank, is_quote, ends_word, words_after, words}
+use Rattle.atl_orders.specs.Words.{is_blank, is_quote, ends_word, words_after, words}
+use Rattle.atl_orders.specs.Standing.{StandsIn, EndsWith, EndsAt}
 
--- a byte that ends a word and no byte of a word
+-- ---- the place of the first that passes, or the length
+
+placed : (t : Bool) (n m : ℕ) → nat_lt n m ≡ t → n ≤ m → unwrap_or (cond t (Some n) None) m ≡ n
+placed true n m h l = refl
+placed false n m h l = grind (arith, nat_tests)
+
+pub found_within : {X : Type 0} (p : X → Bool) (xs : List X) → position_or_len p xs ≤ length xs
+found_within p xs = prefix_len-le-length (λ x. not (p x)) xs
+
+pub found_or_len : {X : Type 0} (p : X → Bool) (xs : List X) → unwrap_or (position p xs) (length xs) ≡ position_or_len p xs
+found_or_len p xs = placed (nat_lt (position_or_len p xs) (length xs)) (position_or_len p xs) (length xs) refl (found_within p xs)
+
+-- ---- words
+
 pub words_after-drop : (skip : ℕ) (line : List ℕ) → words_after skip line ≡ words (drop skip line)
 unfolding words_after
 words_after-drop zero line = refl

@@ -6,7 +6,8 @@ use Rattle.atl_tables.specs.Names.{name_ok}
 use Rattle.atl_tables.specs.Planet.{Planet}
 use Rattle.atl_orders.specs.declared.order.UnitRef.{UnitRef}
 use Rattle.atl_orders.specs.declared.order.UnitRef.TheVariants.{Number, Alias}
-use Rattle.atl_orders.specs.Orders.{Said, form, name, guard, enter, leave, promote, give, pay, transfer, tax, recruit, quit, move, sail, build, teach, study, produce, work}
+use Rattle.atl_orders.specs.declared.order.Order.TheVariants as orders
+use Rattle.atl_orders.specs.Orders.{Said}
 use Rattle.atl_orders.specs.Mailing.{EntrySaid, Reading, reading}
 
 -- from 1 up to the most
@@ -24,26 +25,26 @@ IsUnitRef (Number n) = IsNumber n
 IsUnitRef (Alias alias) = IsAlias alias
 
 abbrev pub IsOrderOf : Planet → Said → Type 0
-IsOrderOf world (form alias) = IsAlias alias
-IsOrderOf world (name what bytes) = name_ok bytes ≡ true
-IsOrderOf world (guard flag) = Unit {0}
-IsOrderOf world (enter structure) = IsNumber structure
-IsOrderOf world leave = Unit {0}
-IsOrderOf world (promote unit) = IsUnitRef unit
-IsOrderOf world (give to amount item) = IsUnitRef to × IsNumber amount × (item < length world.items)
-IsOrderOf world (pay to amount) = IsUnitRef to × IsNumber amount
-IsOrderOf world (transfer to men) = IsUnitRef to × IsNumber men
-IsOrderOf world tax = Unit {0}
-IsOrderOf world (recruit men) = IsNumber men
-IsOrderOf world (quit faction) = IsNumber faction
-IsOrderOf world (move direction) = Unit {0}
-IsOrderOf world (sail direction) = Unit {0}
-IsOrderOf world (build None) = Unit {0}
-IsOrderOf world (build (Some kind)) = kind < length world.kinds
-IsOrderOf world (teach units) = (0 < length units) × All IsUnitRef units
-IsOrderOf world (study skill) = skill < length world.skills
-IsOrderOf world (produce item) = item < length world.items
-IsOrderOf world work = Unit {0}
+IsOrderOf world (orders.Form alias) = IsAlias alias
+IsOrderOf world (orders.Name what bytes) = name_ok bytes ≡ true
+IsOrderOf world (orders.Guard flag) = Unit {0}
+IsOrderOf world (orders.Enter structure) = IsNumber structure
+IsOrderOf world orders.Leave = Unit {0}
+IsOrderOf world (orders.Promote unit) = IsUnitRef unit
+IsOrderOf world (orders.Give to amount item) = IsUnitRef to × IsNumber amount × (item < length world.items)
+IsOrderOf world (orders.Pay to amount) = IsUnitRef to × IsNumber amount
+IsOrderOf world (orders.Transfer to men) = IsUnitRef to × IsNumber men
+IsOrderOf world orders.Tax = Unit {0}
+IsOrderOf world (orders.Recruit men) = IsNumber men
+IsOrderOf world (orders.Quit faction) = IsNumber faction
+IsOrderOf world (orders.Move direction) = Unit {0}
+IsOrderOf world (orders.Sail direction) = Unit {0}
+IsOrderOf world (orders.Build None) = Unit {0}
+IsOrderOf world (orders.Build (Some kind)) = kind < length world.kinds
+IsOrderOf world (orders.Teach units) = (0 < length units) × All IsUnitRef units
+IsOrderOf world (orders.Study skill) = skill < length world.skills
+IsOrderOf world (orders.Produce item) = item < length world.items
+IsOrderOf world orders.Work = Unit {0}
 
 pub record IsEntry (world : Planet) (e : EntrySaid) : Type 0 where
   pub target : IsUnitRef e.target

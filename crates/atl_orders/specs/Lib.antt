@@ -10,3 +10,5 @@ pub mod Reading
 pub mod Mailing
 pub mod Rules
 pub mod Bounds
+pub mod Standing
+pub mod Views

@@ -1,7 +1,6 @@
 -- What a mailing says, from its lines.
 use Rattle.std.specs.Prelude.{◌≡◌, ◌≤◌, ℕ, ◌+◌, Bool, List, [], ◌∷◌, length, map, codes, Option, Some, None, Result, Ok, Err, nat_lt, if◌then◌else◌}
 use Rattle.std.specs.List.{flat_map}
-use Rattle.std.specs.Option.{option_copied}
 use Rattle.atl_orders.specs.Limits.{last_faction, most_bytes}
 use Rattle.atl_tables.specs.Planet.{Planet}
 use Rattle.atl_orders.specs.declared.order.UnitRef.{UnitRef}
@@ -12,11 +11,9 @@ use Rattle.atl_orders.specs.declared.fault.MailFault.{MailFault}
 use Rattle.atl_orders.specs.declared.fault.MailFault.TheVariants.{TooLong, NoHeader, BadHeader, Memory}
 use Rattle.atl_orders.specs.declared.mailing.Entry.{Entry}
 use Rattle.atl_orders.specs.declared.mailing.Mailing.{Mailing}
-use Rattle.atl_orders.specs.declared.mailing.Header.{Header}
-use Rattle.atl_orders.specs.declared.mailing.Body.{Body}
 use Rattle.atl_orders.specs.Aliasing.{no_alias}
 use Rattle.atl_orders.specs.Words.{WordText, words, begins, number_of}
-use Rattle.atl_orders.specs.Lines.{lines, lines_of_rest}
+use Rattle.atl_orders.specs.Lines.{lines}
 use Rattle.atl_orders.specs.Operands.{not_zero}
 use Rattle.atl_orders.specs.Orders.{Said, said}
 use Rattle.atl_orders.specs.Reading.{Effect, nothing, faulty, says, line_step}
@@ -113,10 +110,3 @@ Reads view (Err Memory) read = Unit {0}
 Reads view (Err TooLong) read = read ≡ Err TooLong
 Reads view (Err NoHeader) read = read ≡ Err NoHeader
 Reads view (Err BadHeader) read = read ≡ Err BadHeader
-
--- a header, seen as the lines behind it
-abbrev pub headed : Header → Headed
-headed h = record { faction = h.faction; next = h.next; rest = lines_of_rest (option_copied h.rest) }
-
-abbrev pub body_entries : List ℕ → Body → List EntrySaid
-body_entries text b = map (entry_said text) b.entries

@@ -1,5 +1,5 @@
 -- What the words behind a keyword are read as.
-use Rattle.std.specs.Prelude.{◌≡◌, ℕ, List, [], ◌∷◌, ◌++◌, codes, Option, Some, None, Result, Ok, Err, ◌==◌, if◌then◌else◌}
+use Rattle.std.specs.Prelude.{ℕ, List, [], ◌∷◌, codes, Option, Some, None, Result, Ok, Err, ◌==◌, if◌then◌else◌}
 use Rattle.atl_orders.specs.Limits.{last_alias, most_number}
 use Rattle.atl_tables.specs.Planet.{Planet}
 use Rattle.atl_tables.specs.Lookup.{item_named, skill_named, kind_named}
@@ -16,14 +16,6 @@ infixl 10 ◌>>=◌
 abbrev pub ◌>>=◌ : {A B : Type 0} → Result A LineFault → (A → Result B LineFault) → Result B LineFault
 (Ok x) >>= f = f x
 (Err e) >>= f = Err e
-
--- What a function returned, seen by view, is what reading gives.
-abbrev pub viewed : {X Y : Type 0} → (X → Y) → Result X LineFault → Result Y LineFault
-viewed view (Ok x) = Ok (view x)
-viewed view (Err e) = Err e
-
-abbrev pub Gives : {X Y : Type 0} → (X → Y) → Result X LineFault → Result Y LineFault → Type 0
-Gives view result read = read ≡ viewed view result
 
 -- a value that there has to be
 abbrev pub or_fault : {X : Type 0} → LineFault → Option X → Result X LineFault
@@ -112,7 +104,3 @@ units_of (w ∷ v ∷ ws) = if is_word (codes "NEW") w then and_then_units (name
 unfoldable pub some_units_at : List WordText → Result (List UnitRef) LineFault
 some_units_at [] = Err MissingWord
 some_units_at (w ∷ ws) = units_of (w ∷ ws)
-
--- units read so far, with what the others give
-abbrev pub with_units : List UnitRef → Result (List UnitRef) LineFault → Result (List UnitRef) LineFault
-with_units front units = units >>= λ us. Ok (front ++ us)

@@ -1,11 +1,9 @@
 -- What each order says.
-use Rattle.std.specs.Prelude.{ℕ, Bool, List, [], ◌∷◌, codes, Option, Some, None, Result, Ok, Err, ◌==◌, if◌then◌else◌}
+use Rattle.std.specs.Prelude.{ℕ, List, [], ◌∷◌, codes, Option, Some, None, Result, Ok, Err, ◌==◌, if◌then◌else◌}
 use Rattle.std.specs.List.{slice_range}
 use Rattle.atl_tables.specs.Names.{name_ok}
 use Rattle.atl_tables.specs.Planet.{Planet}
 use Rattle.atl_tables.specs.Lookup.{name_of}
-use Rattle.atl_orders.specs.declared.order.UnitRef.{UnitRef}
-use Rattle.atl_orders.specs.declared.order.Direction.{Direction}
 use Rattle.atl_orders.specs.declared.order.NameKind.{NameKind}
 use Rattle.atl_orders.specs.declared.order.NameKind.TheVariants as kinds
 use Rattle.atl_orders.specs.declared.order.Span.{Span}
@@ -19,33 +17,15 @@ use Rattle.atl_orders.specs.Words.{WordText, is_word, number_of}
 use Rattle.atl_orders.specs.Operands.{◌>>=◌, or_fault, word_at, number_at, alias_at, unit_at, item_at, skill_at, kind_at, direction_at, some_units_at}
 
 -- An order, with a name by its bytes; items, skills and kinds are by their numbers in the world.
-pub data Said : Type 0 where
-  form : (alias : ℕ) → Said
-  name : (what : NameKind) → (bytes : List ℕ) → Said
-  guard : Bool → Said
-  enter : (structure : ℕ) → Said
-  leave : Said
-  promote : UnitRef → Said
-  give : (to : UnitRef) → (amount item : ℕ) → Said
-  pay : (to : UnitRef) → (amount : ℕ) → Said
-  transfer : (to : UnitRef) → (men : ℕ) → Said
-  tax : Said
-  recruit : (men : ℕ) → Said
-  quit : (faction : ℕ) → Said
-  move : Direction → Said
-  sail : Direction → Said
-  build : (kind : Option ℕ) → Said
-  teach : List UnitRef → Said
-  study : (skill : ℕ) → Said
-  produce : (item : ℕ) → Said
-  work : Said
+abbrev pub Said : Type 0
+Said = Order (List ℕ)
 
 -- ---- by the words behind the verb
 
 unfoldable pub form_at : List WordText → Result Said LineFault
 form_at ws = do
   alias ← alias_at ws
-  Ok (form alias.0)
+  Ok (orders.Form alias.0)
 
 abbrev pub kind_of_name : WordText → Option NameKind
 kind_of_name w =
@@ -56,7 +36,7 @@ kind_of_name w =
     else None
 
 abbrev pub name_by : NameKind → List ℕ → Result Said LineFault
-name_by what bytes = if name_ok bytes then Ok (name what bytes) else Err BadName
+name_by what bytes = if name_ok bytes then Ok (orders.Name what bytes) else Err BadName
 
 unfoldable pub name_at : List WordText → Result Said LineFault
 name_at ws = do
@@ -69,77 +49,77 @@ unfoldable pub guard_at : List WordText → Result Said LineFault
 guard_at ws = do
   w ← word_at ws
   n ← or_fault BadNumber (number_of 1 w.0.bytes)
-  Ok (guard (n == 1))
+  Ok (orders.Guard (n == 1))
 
 unfoldable pub enter_at : List WordText → Result Said LineFault
 enter_at ws = do
   n ← number_at ws
-  Ok (enter n.0)
+  Ok (orders.Enter n.0)
 
 unfoldable pub promote_at : List WordText → Result Said LineFault
 promote_at ws = do
   unit ← unit_at ws
-  Ok (promote unit.0)
+  Ok (orders.Promote unit.0)
 
 unfoldable pub give_at : Planet → List WordText → Result Said LineFault
 give_at world ws = do
   to ← unit_at ws
   amount ← number_at to.1
   item ← item_at world amount.1
-  Ok (give to.0 amount.0 item)
+  Ok (orders.Give to.0 amount.0 item)
 
 unfoldable pub pay_at : List WordText → Result Said LineFault
 pay_at ws = do
   to ← unit_at ws
   amount ← number_at to.1
-  Ok (pay to.0 amount.0)
+  Ok (orders.Pay to.0 amount.0)
 
 unfoldable pub transfer_at : List WordText → Result Said LineFault
 transfer_at ws = do
   to ← unit_at ws
   men ← number_at to.1
-  Ok (transfer to.0 men.0)
+  Ok (orders.Transfer to.0 men.0)
 
 unfoldable pub recruit_at : List WordText → Result Said LineFault
 recruit_at ws = do
   men ← number_at ws
-  Ok (recruit men.0)
+  Ok (orders.Recruit men.0)
 
 unfoldable pub quit_at : List WordText → Result Said LineFault
 quit_at ws = do
   faction ← number_at ws
-  Ok (quit faction.0)
+  Ok (orders.Quit faction.0)
 
 unfoldable pub move_at : List WordText → Result Said LineFault
 move_at ws = do
   d ← direction_at ws
-  Ok (move d)
+  Ok (orders.Move d)
 
 unfoldable pub sail_at : List WordText → Result Said LineFault
 sail_at ws = do
   d ← direction_at ws
-  Ok (sail d)
+  Ok (orders.Sail d)
 
 unfoldable pub build_at : Planet → List WordText → Result Said LineFault
-build_at world [] = Ok (build None)
+build_at world [] = Ok (orders.Build None)
 build_at world (w ∷ ws) = do
   kind ← kind_at world (w ∷ ws)
-  Ok (build (Some kind))
+  Ok (orders.Build (Some kind))
 
 unfoldable pub teach_at : List WordText → Result Said LineFault
 teach_at ws = do
   units ← some_units_at ws
-  Ok (teach units)
+  Ok (orders.Teach units)
 
 unfoldable pub study_at : Planet → List WordText → Result Said LineFault
 study_at world ws = do
   skill ← skill_at world ws
-  Ok (study skill)
+  Ok (orders.Study skill)
 
 unfoldable pub produce_at : Planet → List WordText → Result Said LineFault
 produce_at world ws = do
   item ← item_at world ws
-  Ok (produce item)
+  Ok (orders.Produce item)
 
 -- what an order says by the words behind its verb
 abbrev pub said_by : Planet → Verb → List WordText → Result Said LineFault
@@ -147,12 +127,12 @@ said_by world verbs.Form ws = form_at ws
 said_by world verbs.Name ws = name_at ws
 said_by world verbs.Guard ws = guard_at ws
 said_by world verbs.Enter ws = enter_at ws
-said_by world verbs.Leave ws = Ok leave
+said_by world verbs.Leave ws = Ok orders.Leave
 said_by world verbs.Promote ws = promote_at ws
 said_by world verbs.Give ws = give_at world ws
 said_by world verbs.Pay ws = pay_at ws
 said_by world verbs.Transfer ws = transfer_at ws
-said_by world verbs.Tax ws = Ok tax
+said_by world verbs.Tax ws = Ok orders.Tax
 said_by world verbs.Recruit ws = recruit_at ws
 said_by world verbs.Quit ws = quit_at ws
 said_by world verbs.Move ws = move_at ws
@@ -161,7 +141,7 @@ said_by world verbs.Build ws = build_at world ws
 said_by world verbs.Teach ws = teach_at ws
 said_by world verbs.Study ws = study_at world ws
 said_by world verbs.Produce ws = produce_at world ws
-said_by world verbs.Work ws = Ok work
+said_by world verbs.Work ws = Ok orders.Work
 
 -- ---- orders of the code
 
@@ -170,29 +150,29 @@ abbrev pub name_in : List ℕ → Span → List ℕ
 name_in text span = name_of (slice_range text span.start span.end) span.quoted
 
 -- an order of the code, with the text that its name stands in
-abbrev pub said : List ℕ → Order → Said
-said text (orders.Form alias) = form alias
-said text (orders.Name what span) = name what (name_in text span)
-said text (orders.Guard flag) = guard flag
-said text (orders.Enter n) = enter n
-said text orders.Leave = leave
-said text (orders.Promote unit) = promote unit
-said text (orders.Give to amount item) = give to amount item
-said text (orders.Pay to amount) = pay to amount
-said text (orders.Transfer to men) = transfer to men
-said text orders.Tax = tax
-said text (orders.Recruit men) = recruit men
-said text (orders.Quit faction) = quit faction
-said text (orders.Move d) = move d
-said text (orders.Sail d) = sail d
-said text (orders.Build kind) = build kind
-said text (orders.Teach units) = teach units
-said text (orders.Study skill) = study skill
-said text (orders.Produce item) = produce item
-said text orders.Work = work
+abbrev pub said : List ℕ → Order Span → Said
+said text (orders.Form alias) = orders.Form alias
+said text (orders.Name what span) = orders.Name what (name_in text span)
+said text (orders.Guard flag) = orders.Guard flag
+said text (orders.Enter n) = orders.Enter n
+said text orders.Leave = orders.Leave
+said text (orders.Promote unit) = orders.Promote unit
+said text (orders.Give to amount item) = orders.Give to amount item
+said text (orders.Pay to amount) = orders.Pay to amount
+said text (orders.Transfer to men) = orders.Transfer to men
+said text orders.Tax = orders.Tax
+said text (orders.Recruit men) = orders.Recruit men
+said text (orders.Quit faction) = orders.Quit faction
+said text (orders.Move d) = orders.Move d
+said text (orders.Sail d) = orders.Sail d
+said text (orders.Build kind) = orders.Build kind
+said text (orders.Teach units) = orders.Teach units
+said text (orders.Study skill) = orders.Study skill
+said text (orders.Produce item) = orders.Produce item
+said text orders.Work = orders.Work
 
 -- the verb of an order of the code, and of what it says
-abbrev pub verb_of_order : Order → Verb
+abbrev pub verb_of_order : {N : Type 0} → Order N → Verb
 verb_of_order (orders.Form alias) = verbs.Form
 verb_of_order (orders.Name what span) = verbs.Name
 verb_of_order (orders.Guard flag) = verbs.Guard

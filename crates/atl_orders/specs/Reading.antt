@@ -11,13 +11,12 @@ use Rattle.atl_orders.specs.declared.reading.Keyword.{Keyword}
 use Rattle.atl_orders.specs.declared.reading.Keyword.TheVariants as keywords
 use Rattle.atl_orders.specs.declared.reading.Place.{Place}
 use Rattle.atl_orders.specs.declared.reading.Place.TheVariants.{Nowhere, At, Forming, Skipping}
-use Rattle.atl_orders.specs.declared.reading.Outcome.{Outcome}
-use Rattle.atl_orders.specs.declared.reading.Outcome.TheVariants as outcomes
 use Rattle.atl_orders.specs.Aliasing.{with_alias}
 use Rattle.atl_orders.specs.Words.{WordText, words, is_word}
 use Rattle.atl_orders.specs.Verbs.{verb_of}
 use Rattle.atl_orders.specs.Operands.{number_at, alias_at}
-use Rattle.atl_orders.specs.Orders.{Said, form, said, said_by}
+use Rattle.atl_orders.specs.declared.order.Order.TheVariants as orders
+use Rattle.atl_orders.specs.Orders.{Said, said, said_by}
 
 -- Tab, and the bytes from space to `~`.
 abbrev pub is_plain : ℕ → Bool
@@ -69,7 +68,7 @@ unfoldable pub block_step : ℕ → (ℕ → Bool) → Result (ℕ × List WordT
 block_step parent given (Ok n) =
     if given n.0
     then record { effect = faulty BadAlias; place = Skipping (Some parent); given = given }
-    else record { effect = says (Number parent) (form n.0); place = Forming parent n.0; given = with_alias given n.0 }
+    else record { effect = says (Number parent) (orders.Form n.0); place = Forming parent n.0; given = with_alias given n.0 }
 block_step parent given (Err fault) = record { effect = faulty fault; place = Skipping (Some parent); given = given }
 
 unfoldable pub form_step : Place → (ℕ → Bool) → List WordText → Step
@@ -103,9 +102,3 @@ unfoldable pub line_step : Planet → Place → (ℕ → Bool) → List ℕ → 
 line_step world place given line =
     if list_all is_plain line then words_step world place given (words line)
     else record { effect = faulty BadByte; place = place; given = given }
-
--- what the code answers, seen as an effect
-abbrev pub effect_of : List ℕ → Outcome → Effect
-effect_of text outcomes.Nothing = nothing
-effect_of text (outcomes.Faulty fault) = faulty fault
-effect_of text (outcomes.Says unit order) = says unit (said text order)

@@ -1,6 +1,6 @@
--- The rules of reading a mailing: of each line the first that fits says what it does.
-use Rattle.std.specs.Prelude.{◌≡◌, ℕ, ◌+◌, ◌++◌, Bool, true, false, List, [], ◌∷◌, codes, Option, Some, None, Ok, Err}
-use Rattle.std.specs.List.{list_all, flat_map}
+-- The rules of reading a mailing: which line is its header, and of each line behind that the first rule that fits says what it does.
+use Rattle.std.specs.Prelude.{◌≡◌, ℕ, ◌+◌, ◌<◌, ◌≤◌, ◌++◌, Bool, true, false, List, [], ◌∷◌, length, codes, Option, Some, None, Result, Ok, Err}
+use Rattle.std.specs.List.{All, list_all, flat_map}
 use Rattle.atl_tables.specs.Planet.{Planet}
 use Rattle.atl_orders.specs.declared.order.UnitRef.{UnitRef}
 use Rattle.atl_orders.specs.declared.order.UnitRef.TheVariants.{Number}
@@ -12,12 +12,17 @@ use Rattle.atl_orders.specs.declared.reading.Keyword.{Keyword}
 use Rattle.atl_orders.specs.declared.reading.Keyword.TheVariants as keywords
 use Rattle.atl_orders.specs.declared.reading.Place.{Place}
 use Rattle.atl_orders.specs.declared.reading.Place.TheVariants.{Nowhere, At, Forming, Skipping}
-use Rattle.atl_orders.specs.Aliasing.{with_alias}
+use Rattle.atl_orders.specs.declared.fault.MailFault.{MailFault}
+use Rattle.atl_orders.specs.declared.fault.MailFault.TheVariants.{TooLong, NoHeader, BadHeader}
+use Rattle.atl_orders.specs.Limits.{most_bytes}
+use Rattle.atl_orders.specs.Aliasing.{no_alias, with_alias}
+use Rattle.atl_orders.specs.Lines.{lines}
 use Rattle.atl_orders.specs.Words.{WordText, words, begins}
 use Rattle.atl_orders.specs.Operands.{number_at, alias_at}
-use Rattle.atl_orders.specs.Orders.{Said, form, said_by}
+use Rattle.atl_orders.specs.declared.order.Order.TheVariants as orders
+use Rattle.atl_orders.specs.Orders.{Said, said_by}
 use Rattle.atl_orders.specs.Reading.{is_plain, keyword_of, Effect, nothing, faulty, says, target, outside, Step, line_step}
-use Rattle.atl_orders.specs.Mailing.{EntrySaid, entry_of, fault_of, effects}
+use Rattle.atl_orders.specs.Mailing.{EntrySaid, entry_of, fault_of, effects, faction_of, Reading, reading}
 
 -- what a line does, where the next one stands, and the aliases given so far
 abbrev pub step : Effect → Place → (ℕ → Bool) → Step
@@ -58,7 +63,7 @@ pub data WordsSay (world : Planet) (place : Place) (given : ℕ → Bool) (w : W
       → s ≡ step (faulty BadAlias) (Skipping (Some n)) given → WordsSay world place given w ws s
   form_new : Leads w keywords.Form → (n : ℕ) → place ≡ At n
       → (alias : ℕ) (rest : List WordText) → alias_at ws ≡ Ok (alias, rest) → given alias ≡ false
-      → s ≡ step (says (Number n) (form alias)) (Forming n alias) (with_alias given alias) → WordsSay world place given w ws s
+      → s ≡ step (says (Number n) (orders.Form alias)) (Forming n alias) (with_alias given alias) → WordsSay world place given w ws s
   -- an order of the table: for the unit that is named, if its words have no fault
   order_nowhere : (verb : Verb) → Leads w (keywords.Order verb) → target place ≡ None
       → s ≡ step (faulty NoUnit) place given → WordsSay world place given w ws s
@@ -92,6 +97,35 @@ pub data BodySays (world : Planet) : ℕ → Place → (ℕ → Bool) → List (
       → (entries : List EntrySaid) (faults : List FaultyLine) → BodySays world (n + 1) s.place s.given rest entries faults
       → BodySays world n place given (line ∷ rest) (entry_of (n, s.effect) ++ entries) (fault_of (n, s.effect) ++ faults)
 
+-- whether a line's first word is `#ATLANTIS`
+abbrev pub is_header : List ℕ → Bool
+is_header line = begins (codes "#ATLANTIS") (words line)
+
+abbrev pub HaveNoHeader : List (List ℕ) → Type 0
+HaveNoHeader lines = All (λ line. is_header line ≡ false) lines
+
+-- the header of a text's lines is the first of them that is one
+pub record HaveHeader (lines before : List (List ℕ)) (header : List ℕ) (behind : List (List ℕ)) : Type 0 where
+  pub whole : lines ≡ before ++ header ∷ behind
+  pub leads : is_header header ≡ true
+  pub first : HaveNoHeader before
+
+-- a text: its header names the faction, and the lines behind it give the orders and the faults
+pub data TextSays (world : Planet) (text : List ℕ) (read : Result Reading MailFault) : Type 0 where
+  too_long : most_bytes < length text
+      → read ≡ Err TooLong → TextSays world text read
+  no_header : length text ≤ most_bytes → HaveNoHeader (lines text)
+      → read ≡ Err NoHeader → TextSays world text read
+  bad_header : length text ≤ most_bytes
+      → (before : List (List ℕ)) (header : List ℕ) (behind : List (List ℕ)) → HaveHeader (lines text) before header behind
+      → faction_of (words header) ≡ None
+      → read ≡ Err BadHeader → TextSays world text read
+  mailing : length text ≤ most_bytes
+      → (before : List (List ℕ)) (header : List ℕ) (behind : List (List ℕ)) → HaveHeader (lines text) before header behind
+      → (faction : ℕ) → faction_of (words header) ≡ Some faction
+      → (entries : List EntrySaid) (faults : List FaultyLine) → BodySays world (length before + 2) Nowhere no_alias behind entries faults
+      → read ≡ Ok (record { faction = faction; entries = entries; faults = faults }) → TextSays world text read
+
 -- what the function gives for a line fits the rules, and nothing else does
 abbrev pub LineRules : Type 0
 LineRules =
@@ -114,3 +148,9 @@ BodyRules =
     × ((world : Planet) (n : ℕ) (place : Place) (given : ℕ → Bool) (lines : List (List ℕ)) (entries : List EntrySaid) (faults : List FaultyLine)
     → BodySays world n place given lines entries faults
     → (entries ≡ entries_from world n place given lines) × (faults ≡ faults_from world n place given lines))
+
+-- and so for a whole text
+abbrev pub TextRules : Type 0
+TextRules =
+    ((world : Planet) (text : List ℕ) → TextSays world text (reading world text))
+    × ((world : Planet) (text : List ℕ) (read : Result Reading MailFault) → TextSays world text read → read ≡ reading world text)

@@ -1,11 +1,9 @@
 -- The words of a line, and the numbers that they write.
-use Rattle.std.specs.Prelude.{◌≡◌, ℕ, zero, suc, ◌+◌, ◌-◌, ◌++◌, Bool, true, false, ◌||◌, ◌&&◌, List, [], ◌∷◌, length, Option, Some, None, nat_le, nat_lt, ◌==◌, if◌then◌else◌}
+use Rattle.std.specs.Prelude.{ℕ, zero, suc, ◌+◌, ◌-◌, Bool, true, false, ◌||◌, ◌&&◌, List, [], ◌∷◌, length, Option, Some, None, nat_le, nat_lt, ◌==◌, if◌then◌else◌}
 use Rattle.std.specs.List.{position_or_len, before_first, list_all}
 use Rattle.std.specs.Char.{is_ascii_digit}
 use Rattle.std.specs.Str.{str_eq_ignore_ascii_case}
 use Rattle.std.specs.Str.Parse.{digits_value}
-use Rattle.atl_orders.specs.declared.words.Word.{Word}
-use Rattle.atl_orders.specs.declared.words.Cursor.{Cursor}
 
 -- a word: its bytes, and whether it stood in quotes
 pub record WordText : Type 0 where
@@ -36,10 +34,6 @@ words_after zero (b ∷ bs) =
 abbrev pub words : List ℕ → List WordText
 words line = words_after zero line
 
--- a word of the code, without where it lies
-abbrev pub word_text : Word → WordText
-word_text w = record { bytes = w.bytes.now; quoted = w.quoted }
-
 -- whether a word is this keyword, in any case
 abbrev pub is_word : List ℕ → WordText → Bool
 is_word name w = str_eq_ignore_ascii_case w.bytes name
@@ -54,27 +48,3 @@ abbrev pub number_of : ℕ → List ℕ → Option ℕ
 number_of most bytes =
     if nat_lt 0 (length bytes) && list_all is_ascii_digit bytes && nat_le (digits_value 10 bytes) most
     then Some (digits_value 10 bytes) else None
-
--- ---- where words stand
-
--- the bytes stand in the line, so many bytes before its end
-pub record StandsIn (line bytes : List ℕ) (behind : ℕ) : Type 0 where
-  pub front : List ℕ
-  pub back : List ℕ
-  pub whole : line ≡ front ++ (bytes ++ back)
-  pub behind_is : length (bytes ++ back) ≡ behind
-
--- the line ends with the rest
-pub record EndsWith (line rest : List ℕ) : Type 0 where
-  pub front : List ℕ
-  pub whole : line ≡ front ++ rest
-
--- the rest stands in the text, up to this place
-pub record EndsAt (text : List ℕ) (place : ℕ) (rest : List ℕ) : Type 0 where
-  pub front : List ℕ
-  pub back : List ℕ
-  pub whole : text ≡ front ++ (rest ++ back)
-  pub place_is : length (front ++ rest) ≡ place
-
-abbrev pub IsCursor : Cursor → Type 0
-IsCursor c = EndsAt c.text.now c.end c.rest.now

@@ -22,7 +22,8 @@ pub struct Aliases {
 }
 
 impl Aliases {
-    ghost use Rattle.atl_orders.specs.Aliasing.{no_alias, with_alias, given_by};
+    ghost use Rattle.atl_orders.specs.Aliasing.{no_alias, with_alias};
+    ghost use Rattle.atl_orders.specs.Views.{given_by};
 
     /// No alias.
     pub fn new(alloc: Global) -> Result<Aliases, AllocError>

@@ -35,7 +35,7 @@ impl LineFault {
     ghost use Rattle.atl_orders.specs.Faulting.{fault_number, fault_name};
 
     /// The fault's number, from 1 to 11.
-    pub fn number(self) -> u32
+    pub fn number(self) -> u8
         ensures { result ≡ fault_number self }
     {
         match self {
@@ -95,8 +95,8 @@ pub enum MailFault {
 impl MailFault {
     ghost use Rattle.atl_orders.specs.Faulting.{mail_fault_number};
 
-    /// The number of a refused text, from 1 to 3.
-    pub fn number(self) -> Option<u32>
+    /// The number of a refused text, from 1 to 3; `Memory` has none.
+    pub fn number(self) -> Option<u8>
         ensures { result ≡ mail_fault_number self }
     {
         match self {

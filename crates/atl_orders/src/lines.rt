@@ -1,23 +1,26 @@
 //! The lines of a text.
 
 ghost use Rattle.std.specs.Prelude.{◌≡◌, ◌≤◌, ◌∷◌, length, IfSome};
-ghost use Rattle.std.specs.List.{position_or_len};
+ghost use Rattle.std.specs.List.{position, position_or_len};
 ghost use Rattle.std.specs.Option.{option_copied};
-ghost use Rattle.atl_orders.specs.Lines.{is_feed, without_return, lines, lines_of_rest, left_size, StartsWith};
-ghost use Rattle.atl_orders.specs.Words.{EndsWith};
+ghost use Rattle.atl_orders.specs.Lines.{is_feed, without_return, lines};
+ghost use Rattle.atl_orders.specs.Views.{lines_of_rest, left_size};
+ghost use Rattle.atl_orders.specs.Standing.{StartsWith, EndsWith};
+
+/// Where the first line feed is.
+fn first_feed(bytes: &[u8]) -> Option<usize>
+    ensures { result ≡ position is_feed bytes.now }
+{
+    bytes.iter().position(|byte| *byte == b'\n')
+}
 
 /// Where the line feed is, or the length.
-#[tactic(auto, using(std::proofs::lemmas::List::Sums::position_or_len_is))]
+#[tactic(auto, using(crate::proofs::WordLaws::found_or_len, crate::proofs::WordLaws::found_within))]
 fn feed_at(bytes: &[u8]) -> usize
     ensures value { result ≡ position_or_len is_feed bytes.now }
     ensures within { result ≤ length bytes.now }
 {
-    for (i, byte) in bytes.iter().enumerate() {
-        if *byte == b'\n' {
-            return i;
-        }
-    }
-    bytes.len()
+    first_feed(bytes).unwrap_or(bytes.len())
 }
 
 /// A line without a carriage return at its end.

@@ -6,10 +6,11 @@ ghost use Rattle.std.specs.Option.{option_copied};
 ghost use Rattle.atl_orders.specs.declared.reading.Place.TheVariants.{Nowhere};
 ghost use Rattle.atl_orders.specs.Limits.{most_bytes};
 ghost use Rattle.atl_orders.specs.Aliasing.{no_alias};
-ghost use Rattle.atl_orders.specs.Words.{words, EndsWith};
-ghost use Rattle.atl_orders.specs.Lines.{lines, left_size};
-ghost use Rattle.atl_orders.specs.Reading.{effect_of};
-ghost use Rattle.atl_orders.specs.Mailing.{faction_of, header_from, effects, entry_of, fault_of, headed, body_entries, reading, reading_of, IsReadWith, Reads};
+ghost use Rattle.atl_orders.specs.Words.{words};
+ghost use Rattle.atl_orders.specs.Standing.{EndsWith};
+ghost use Rattle.atl_orders.specs.Lines.{lines};
+ghost use Rattle.atl_orders.specs.Views.{left_size, effect_of, headed, body_entries};
+ghost use Rattle.atl_orders.specs.Mailing.{faction_of, header_from, effects, entry_of, fault_of, reading, reading_of, IsReadWith, Reads};
 
 use crate::aliases::Aliases;
 use crate::fault::{FaultyLine, MailFault};
@@ -19,7 +20,7 @@ use crate::order::{Order, Span, UnitRef};
 use crate::reading::{Outcome, Place, read_line};
 use crate::words::{Cursor, begins, next_word, number};
 use atl_tables::lookup::letter_of;
-use atl_tables::{Sequence, Text, World};
+use atl_tables::{Sequence, World};
 use std::alloc::{AllocError, Global};
 
 /// An order for a unit.
@@ -57,8 +58,6 @@ impl Drop for Mailing {
 }
 
 impl Mailing {
-    ghost use Rattle.std.specs.Prelude.{true};
-    ghost use Rattle.atl_tables.specs.Names.{name_ok};
     ghost use Rattle.atl_orders.specs.Orders.{name_in};
 
     /// The bytes that were read, the orders, and what is wrong.
@@ -76,15 +75,14 @@ impl Mailing {
         (text, entries, faults)
     }
 
-    /// A name in an order of this mailing: the part of the text that the span says, with `_` as a space where it is bare.
-    #[tactic(auto, using(crate::proofs::NamingLaws::name_is_text))]
-    pub fn name(&self, alloc: Global, span: Span) -> Result<Text, AllocError>
-        ensures { IfOk result (λ made.
-            name_ok (name_in self.now.text span) ≡ true → made ≡ name_in self.now.text span) }
+    /// The bytes of a name in an order of this mailing: the part of the text that the span says, as far as it is there, with
+    /// `_` as a space where it is bare. Of an order that was read they are a name.
+    pub fn name(&self, alloc: Global, span: Span) -> Result<Sequence<u8>, AllocError>
+        ensures { IfOk result (λ bytes. bytes ≡ name_in self.now.text span) }
     {
         let bytes = part(self.text.as_slice(), span.start, span.end);
         let letters = letters_of(alloc, bytes, span.quoted)?;
-        Text::from_utf8(alloc, &letters)
+        Ok(Sequence::from_vec(letters))
     }
 }
 
@@ -171,7 +169,7 @@ impl Drop for Body {
 }
 
 impl Body {
-    ghost use Rattle.atl_orders.specs.Mailing.{body_entries};
+    ghost use Rattle.atl_orders.specs.Views.{body_entries};
 
     /// The mailing of a faction whose lines say this.
     fn into_mailing(self, faction: u32, text: Sequence<u8>) -> Mailing

@@ -2,8 +2,10 @@
 //! answers the first fault from left to right.
 ghost use Rattle.std.specs.Prelude.{◌≡◌, ◌≤◌, IfOk};
 ghost use Rattle.atl_orders.specs.Limits.{most_number, last_alias};
-ghost use Rattle.atl_orders.specs.Words.{words, word_text, StandsIn, EndsWith};
-ghost use Rattle.atl_orders.specs.Operands.{Gives, word_at, count_at, number_at, alias_at, unit_at, item_at, skill_at, kind_at, direction_of, direction_at, units_of};
+ghost use Rattle.atl_orders.specs.Words.{words};
+ghost use Rattle.atl_orders.specs.Views.{word_text, Gives};
+ghost use Rattle.atl_orders.specs.Standing.{StandsIn, EndsWith};
+ghost use Rattle.atl_orders.specs.Operands.{word_at, count_at, number_at, alias_at, unit_at, item_at, skill_at, kind_at, direction_of, direction_at, units_of};
 
 use crate::fault::LineFault;
 use crate::limits::{LAST_ALIAS, MOST_NUMBER};

@@ -39,13 +39,13 @@ pub struct Span {
     pub quoted: bool,
 }
 
-/// An order. Its numbers are from 1 to 999,999,999; items, skills and kinds are by their numbers in the world. See
-/// docs/RULES.md, "Orders".
+/// An order, with a name as a part of the mailing's text, or as `N` has it. Its numbers are from 1 to 999,999,999; items,
+/// skills and kinds are by their numbers in the world. See docs/RULES.md, "Orders".
 #[derive(Debug)]
-pub enum Order {
+pub enum Order<N = Span> {
     /// A new unit, by the alias that the mailing gives it.
     Form(u32),
-    Name { what: NameKind, name: Span },
+    Name { what: NameKind, name: N },
     /// Whether the guard flag is to be set.
     Guard(bool),
     /// A structure to enter.
@@ -74,7 +74,7 @@ pub enum Order {
     Work,
 }
 
-impl Drop for Order {
+impl<N: Drop> Drop for Order<N> {
     fn drop(self) {
         match self {
             Order::Form(_) => {}
@@ -104,7 +104,7 @@ impl Drop for Order {
     }
 }
 
-impl Order {
+impl<N> Order<N> {
     ghost use Rattle.atl_orders.specs.Orders.{verb_of_order};
 
     pub fn verb(&self) -> Verb

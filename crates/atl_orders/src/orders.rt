@@ -1,10 +1,8 @@
 //! What each order says by the words behind its verb.
-ghost use Rattle.std.specs.Prelude.{List, ℕ, ◌≡◌, IfOk, length};
-ghost use Rattle.std.specs.List.{list_all};
-ghost use Rattle.atl_tables.specs.Names.{is_name_byte, has_open_ends, name_ok};
-ghost use Rattle.atl_tables.specs.Lookup.{name_of};
-ghost use Rattle.atl_orders.specs.Words.{words, word_text, IsCursor};
-ghost use Rattle.atl_orders.specs.Operands.{Gives};
+ghost use Rattle.std.specs.Prelude.{List, ℕ, ◌≡◌, IfOk};
+ghost use Rattle.atl_orders.specs.Words.{words};
+ghost use Rattle.atl_orders.specs.Views.{word_text, Gives};
+ghost use Rattle.atl_orders.specs.Standing.{IsCursor};
 ghost use Rattle.atl_orders.specs.Orders.{said, kind_of_name, form_at, name_at, guard_at, enter_at, promote_at, give_at, pay_at, transfer_at, recruit_at, quit_at, move_at, sail_at, build_at, teach_at, study_at, produce_at, said_by};
 
 use crate::fault::LineFault;
@@ -14,8 +12,7 @@ use crate::operands::{
 use crate::order::{NameKind, Order, Span};
 use crate::verb::Verb;
 use crate::words::{Cursor, Word, is_same, next_word, number};
-use atl_tables::World;
-use atl_tables::lookup::letter_of;
+use atl_tables::{World, word_ok};
 use std::alloc::{AllocError, Global};
 
 /// FORM and its alias.
@@ -25,38 +22,6 @@ fn form_at(line: &[u8]) -> Result<Order, LineFault>
 {
     let (alias, _) = alias_at(line)?;
     Ok(Order::Form(alias))
-}
-
-/// Whether a word names something by bytes that a name may have.
-fn has_name_bytes(word: Word) -> bool
-    ensures { result ≡ list_all is_name_byte (name_of word.entry.bytes.now word.entry.quoted) }
-{
-    let quoted = word.quoted;
-    word.bytes
-        .iter()
-        .map(|byte| letter_of(*byte, quoted))
-        .all(|byte| 32 <= byte && byte <= 126 && byte != b'"')
-}
-
-/// Whether no space is at either end of what a word names.
-fn has_open_ends(word: Word) -> bool
-    ensures { result ≡ has_open_ends (name_of word.entry.bytes.now word.entry.quoted) }
-{
-    let bytes = word.bytes;
-    if bytes.is_empty() {
-        return true;
-    }
-    let first = letter_of(bytes[0], word.quoted);
-    let last = letter_of(bytes[bytes.len() - 1], word.quoted);
-    first != b' ' && last != b' '
-}
-
-/// Whether a word may be the name of something.
-fn is_name(word: Word) -> bool
-    ensures { result ≡ name_ok (name_of word.entry.bytes.now word.entry.quoted) }
-{
-    let len = word.bytes.len();
-    1 <= len && len <= 40 && has_open_ends(word) && has_name_bytes(word)
 }
 
 /// What the first word behind NAME says that it names.
@@ -85,7 +50,7 @@ fn name_at(cursor: Cursor) -> Result<Order, LineFault>
     let (sort, rest) = word_at(cursor.rest)?;
     let what = kind_of_name(sort).ok_or(LineFault::UnknownThing)?;
     let (word, _) = word_at(rest)?;
-    if !is_name(word) {
+    if !word_ok(word.bytes, word.quoted) {
         return Err(LineFault::BadName);
     }
     let start = cursor.end - word.behind;

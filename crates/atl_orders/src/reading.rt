@@ -1,11 +1,12 @@
 //! What a line does.
 ghost use Rattle.std.specs.Prelude.{◌≡◌, ℕ, List, IfOk};
 ghost use Rattle.std.specs.List.{list_all};
-ghost use Rattle.atl_orders.specs.Aliasing.{given_by};
-ghost use Rattle.atl_orders.specs.Words.{words, word_text, IsCursor};
+ghost use Rattle.atl_orders.specs.Views.{given_by, word_text, effect_of};
+ghost use Rattle.atl_orders.specs.Words.{words};
+ghost use Rattle.atl_orders.specs.Standing.{IsCursor};
 ghost use Rattle.atl_orders.specs.Operands.{number_at};
 ghost use Rattle.atl_orders.specs.Orders.{said_by};
-ghost use Rattle.atl_orders.specs.Reading.{is_plain, keyword_of, effect_of, unit_step, end_step, form_step, target, order_effect, line_step};
+ghost use Rattle.atl_orders.specs.Reading.{is_plain, keyword_of, unit_step, end_step, form_step, target, order_effect, line_step};
 
 use crate::aliases::Aliases;
 use crate::fault::LineFault;

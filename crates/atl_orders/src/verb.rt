@@ -1,6 +1,7 @@
 //! The verbs of orders.
 ghost use Rattle.std.specs.Prelude.{◌≡◌, find};
-ghost use Rattle.atl_orders.specs.Words.{word_text, is_word};
+ghost use Rattle.atl_orders.specs.Words.{is_word};
+ghost use Rattle.atl_orders.specs.Views.{word_text};
 
 use crate::words::{Word, is_same};
 

@@ -1,10 +1,12 @@
 //! The words of a line.
 
 ghost use Rattle.std.specs.Prelude.{◌≡◌, ◌≤◌, ◌<◌, ◌∷◌, [], MatchOption, IfSome, length, slice_index, false};
-ghost use Rattle.std.specs.List.{position_or_len};
+ghost use Rattle.std.specs.List.{position, position_or_len};
 ghost use Rattle.std.specs.Str.{str_eq_ignore_ascii_case};
 ghost use Rattle.atl_orders.specs.Limits.{most_number};
-ghost use Rattle.atl_orders.specs.Words.{is_quote, is_blank, ends_word, words, word_text, begins, number_of, StandsIn, EndsWith};
+ghost use Rattle.atl_orders.specs.Words.{is_quote, is_blank, ends_word, words, begins, number_of};
+ghost use Rattle.atl_orders.specs.Views.{word_text};
+ghost use Rattle.atl_orders.specs.Standing.{StandsIn, EndsWith};
 
 /// A word of a line.
 #[derive(Drop, Clone, Copy, Debug)]
@@ -37,18 +39,20 @@ fn is_quote(byte: u8) -> bool
     byte == b'"'
 }
 
+/// Where the first quote is.
+fn first_quote(bytes: &[u8]) -> Option<usize>
+    ensures { result ≡ position is_quote bytes.now }
+{
+    bytes.iter().position(|byte| is_quote(*byte))
+}
+
 /// Where the quote is, or the length.
-#[tactic(auto, using(std::proofs::lemmas::List::Sums::position_or_len_is))]
+#[tactic(auto, using(crate::proofs::WordLaws::found_or_len, crate::proofs::WordLaws::found_within))]
 fn quote_at(bytes: &[u8]) -> usize
     ensures value { result ≡ position_or_len is_quote bytes.now }
     ensures within { result ≤ length bytes.now }
 {
-    for (i, byte) in bytes.iter().enumerate() {
-        if is_quote(*byte) {
-            return i;
-        }
-    }
-    bytes.len()
+    first_quote(bytes).unwrap_or(bytes.len())
 }
 
 /// Space and tab.
@@ -65,18 +69,20 @@ fn ends_word(byte: u8) -> bool
     byte == b' ' || byte == b'\t' || byte == b'"' || byte == b';'
 }
 
+/// Where the first byte that ends a word is.
+fn first_end(bytes: &[u8]) -> Option<usize>
+    ensures { result ≡ position ends_word bytes.now }
+{
+    bytes.iter().position(|byte| ends_word(*byte))
+}
+
 /// Where a bare word ends.
-#[tactic(auto, using(std::proofs::lemmas::List::Sums::position_or_len_is))]
+#[tactic(auto, using(crate::proofs::WordLaws::found_or_len, crate::proofs::WordLaws::found_within))]
 fn end_at(bytes: &[u8]) -> usize
     ensures value { result ≡ position_or_len ends_word bytes.now }
     ensures within { result ≤ length bytes.now }
 {
-    for (i, byte) in bytes.iter().enumerate() {
-        if ends_word(*byte) {
-            return i;
-        }
-    }
-    bytes.len()
+    first_end(bytes).unwrap_or(bytes.len())
 }
 
 /// A word after its opening quote, and what follows its closing one.

@@ -2,8 +2,10 @@
 use Rattle.std.proofs.Common.{◌≡◌, ℕ, zero, suc, ◌+◌, ◌<◌, List, [], ◌∷◌, ◌++◌, length, map, drop, get_or, Option, None, sym, ap, ◌∙◌, subst, append_assoc}
 use Rattle.std.proofs.lemmas.List.{drop_more}
 use Rattle.atl_tables.specs.declared.fault.WorldFault.{WorldFault}
-use Rattle.atl_tables.specs.Each.{each, EachPlace}
-use Rattle.atl_tables.specs.Faults.{Conditions, first_fault, Stops}
+use Rattle.atl_tables.specs.Each.{each}
+use Rattle.atl_tables.specs.Places.{EachPlace}
+use Rattle.atl_tables.specs.Faults.{Conditions, first_fault}
+use Rattle.atl_tables.specs.Given.{Stops}
 use Rattle.atl_tables.proofs.FaultLaws.{passes, stops_on}
 
 module _ {A : Type 0} (conditions : ℕ → A → Conditions) where

@@ -5,7 +5,8 @@ use Rattle.toml.specs.View.{view, items_view}
 use Rattle.toml.specs.declared.value.Value.{Value}
 use Rattle.toml.proofs.Views.{items_view-drop}
 use Rattle.atl_tables.specs.declared.fault.WorldFault.{WorldFault}
-use Rattle.atl_tables.specs.Faults.{Conditions, first_fault, Stops}
+use Rattle.atl_tables.specs.Faults.{Conditions, first_fault}
+use Rattle.atl_tables.specs.Given.{Stops}
 use Rattle.atl_tables.specs.Keys.{indexed}
 use Rattle.atl_tables.specs.Arrays.{element_table, element_conditions, elements_conditions, elements_of}
 use Rattle.atl_tables.proofs.FaultLaws.{passes, stops_on}

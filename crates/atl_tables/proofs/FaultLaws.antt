@@ -2,7 +2,8 @@
 use Rattle.std.proofs.Common.{◌≡◌, [], ◌∷◌, ◌++◌, Option, Some, None, Result, Ok, Err, refl, sym, subst, ◌∙◌}
 use Rattle.atl_tables.specs.declared.fault.WorldFault.{WorldFault}
 use Rattle.atl_tables.specs.declared.fault.WorldFault.TheVariants.{Memory}
-use Rattle.atl_tables.specs.Faults.{Conditions, fault_of, first_fault, unless, Reads, Stops, Gives}
+use Rattle.atl_tables.specs.Faults.{Conditions, fault_of, first_fault, unless, Reads}
+use Rattle.atl_tables.specs.Given.{Stops, Gives}
 
 -- a reader that failed stops all that comes after it
 pub stops_first : {X Y : Type 0} (view : X → Y) (e : WorldFault) (r : Result Y WorldFault) (fs : Conditions) → Reads view (Err e) r → Stops e (first_fault (fault_of r ∷ fs))

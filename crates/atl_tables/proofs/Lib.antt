@@ -10,4 +10,5 @@ pub mod ElementLaws
 pub mod EachLaws
 pub mod OutputLaws
 pub mod RegionLaws
+pub mod TwinLaws
 pub mod WorldLaws

@@ -1,10 +1,11 @@
--- Names and pass texts are ASCII, and so they are UTF-8.
-use Rattle.std.proofs.Common.{◌≡◌, ℕ, zero, suc, ◌<◌, Bool, true, List, [], ◌∷◌, get_or, arith}
+-- Names and pass texts are ASCII, and so they are UTF-8; a quoted word names itself.
+use Rattle.std.proofs.Common.{◌≡◌, ℕ, zero, suc, ◌<◌, Bool, true, List, [], ◌∷◌, get_or, refl, ap, arith}
 use Rattle.std.proofs.lemmas.Bool.{and_parts}
 use Rattle.std.proofs.lemmas.Bool.Decides.{nat_tests}
 use Rattle.std.proofs.lemmas.Str.{IsUtf8-from_ascii}
 use Rattle.std.specs.List.{list_all}
 use Rattle.std.specs.Str.{IsUtf8}
+use Rattle.atl_tables.specs.Lookup.{name_of}
 use Rattle.atl_tables.specs.Names.{is_name_byte, is_pass_byte, name_ok, pass_ok}
 
 small_name : (b : ℕ) → is_name_byte b ≡ true → b < 128
@@ -23,3 +24,7 @@ name_ok-IsUtf8 bs h = IsUtf8-from_ascii bs (all_small is_name_byte small_name bs
 
 pub pass_ok-IsUtf8 : (bs : List ℕ) → pass_ok bs ≡ true → IsUtf8 bs
 pass_ok-IsUtf8 bs h = IsUtf8-from_ascii bs (all_small is_pass_byte small_pass bs (and_parts _ _ h).1)
+
+pub quoted_names_itself : (word : List ℕ) → name_of word true ≡ word
+quoted_names_itself [] = refl
+quoted_names_itself (b ∷ bs) = ap (λ l. b ∷ l) (quoted_names_itself bs)

@@ -10,7 +10,7 @@ use Rattle.std.specs.FinMap.{FinMap, get, get-entries, find, entries, entries_so
 use Rattle.std.specs.FinMap.Entries.{below_all}
 use Rattle.std.specs.FinSet as set
 use Rattle.atl_tables.specs.Changing.{Changing}
-use Rattle.atl_tables.specs.Places.{marked_in, put_mark, ArePlaces}
+use Rattle.atl_tables.specs.MarkPlaces.{marked_in, put_mark, ArePlaces}
 use Rattle.atl_tables.specs.Tracking.{marked_with, with_value, without_value_at, taken_out}
 use Rattle.atl_tables.proofs.SumLaws.{taken_back}
 use Rattle.atl_tables.specs.Sums.{mapped, numbers_among, numbers_where}

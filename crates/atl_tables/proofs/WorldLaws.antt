@@ -8,9 +8,10 @@ use Rattle.std.proofs.lemmas.Bool.Decides.{nat_tests}
 use Rattle.std.proofs.lemmas.List.{length-map}
 use Rattle.std.proofs.lemmas.Option.{get_or_from_slice_get, slice_get_within}
 use Rattle.std.proofs.lemmas.List.Elements.{All-get_or, All-head, All-tail}
-use Rattle.atl_tables.specs.Drafts.{AreTables}
-use Rattle.atl_tables.specs.Each.{EachPlace}
+use Rattle.atl_tables.specs.Drafts.{AreTables, HaveNames}
+use Rattle.atl_tables.specs.Places.{EachPlace}
 use Rattle.atl_tables.specs.ItemTable.{item_of}
+use Rattle.atl_tables.specs.Names.{NamesDiffer}
 use Rattle.atl_tables.specs.Parts.{parts_of, ArePartsOf}
 use Rattle.atl_tables.specs.Planet.{IsTerrain, IsItem, IsSkill, IsKind, IsRegionPlan, HasNeighbours, IsWorld, land_of}
 use Rattle.atl_tables.specs.RegionTable.{region_of}
@@ -20,6 +21,7 @@ use Rattle.atl_tables.specs.KindTable.{kind_of}
 use Rattle.atl_tables.specs.World.{planet_of, regions_of}
 use Rattle.atl_tables.specs.declared.tables.Tables.{Tables}
 use Rattle.atl_tables.specs.declared.world.RegionPlan.{RegionPlan}
+use Rattle.atl_tables.proofs.TwinLaws.{names_kept}
 
 -- at a place of a list of which something is true at all places
 pub at_place : {A : Type 0} (P : A → Type 0) (xs : List A) → All P xs → (i : ℕ) (x : A) → slice_get xs i ≡ Some x → P x
@@ -63,9 +65,9 @@ few [] = omega (arith, len-empty nat_cmp RegionPlan)
 few (p ∷ ps) = omega (arith, one_more (by_number ps) p.number p, few ps)
 
 -- the world of tables that were read and whose names stand for something
-pub is_world : (all : Tables) → AreTables all → ArePartsOf all (parts_of all) → All (λ d. HasNeighbours (regions_of all) d.place.number d.sides.north d.sides.south d.sides.east d.sides.west) all.regions → 0 < length (land_of (planet_of all)) → IsWorld (planet_of all)
-unfolding planet_of regions_of region_of
-is_world all tables parts back land =
+pub is_world : (all : Tables) → AreTables all → ArePartsOf all (parts_of all) → HaveNames all → All (λ d. HasNeighbours (regions_of all) d.place.number d.sides.north d.sides.south d.sides.east d.sides.west) all.regions → 0 < length (land_of (planet_of all)) → IsWorld (planet_of all)
+unfolding planet_of regions_of region_of terrain_of item_of kind_of
+is_world all tables parts names back land =
     let regions = by_number (map (region_of all) all.regions) in
     let item_count : length (map (item_of all) all.items) ≡ length all.items = length-map all.items (item_of all) in
     let terrain_count : length (map (terrain_of all) all.terrains) ≡ length all.terrains = length-map all.terrains (terrain_of all) in
@@ -80,6 +82,10 @@ is_world all tables parts back land =
       regions = at_number (λ n p. IsRegionPlan (length (map (terrain_of all) all.terrains)) n p) (map (region_of all) all.regions) (subst (λ n. EachPlace (λ i x. IsRegionPlan n x.number x) (map (region_of all) all.regions)) (sym terrain_count) parts.regions);
       neighbours = at_number (λ n p. HasNeighbours regions n p.north p.south p.east p.west) (map (region_of all) all.regions)
           (mapped_places (λ d. HasNeighbours regions d.place.number d.sides.north d.sides.south d.sides.east d.sides.west) (λ p. HasNeighbours regions p.number p.north p.south p.east p.west) (region_of all) (λ d h. h) all.regions back);
+      terrain_names = subst NamesDiffer (sym (names_kept (terrain_of all) (λ d. d.name) (λ t. t.name) (λ d. refl) all.terrains)) names.terrains;
+      item_names = subst NamesDiffer (sym (names_kept (item_of all) (λ d. d.name) (λ x. x.name) (λ d. refl) all.items)) names.items;
+      skill_names = names.skills;
+      kind_names = subst NamesDiffer (sym (names_kept (kind_of all) (λ d. d.name) (λ k. k.name) (λ d. refl) all.kinds)) names.kinds;
       few_terrains = omega (arith, terrain_count, tables.few_terrains);
       few_items = omega (arith, item_count, tables.few_items);
       few_skills = tables.few_skills;

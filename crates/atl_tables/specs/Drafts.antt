@@ -1,8 +1,8 @@
--- What is true of the tables of a world file that were read, before names are looked up.
-use Rattle.std.specs.Prelude.{◌≡◌, ◌≤◌, true, length}
+-- For the proofs alone: what is true of the tables of a world file that were read, before names are looked up.
+use Rattle.std.specs.Prelude.{◌≡◌, ◌≤◌, true, length, map}
 use Rattle.std.specs.List.{All}
-use Rattle.atl_tables.specs.Limits.{most_terrains, most_items, most_skills, most_kinds, most_regions, last_region, most_amount}
-use Rattle.atl_tables.specs.Names.{name_ok}
+use Rattle.atl_tables.specs.Limits.{most_terrains, most_items, most_skills, most_kinds, most_regions, last_region, most_amount, most_per_head, most_price, most_fraction, most_growth, most_weight, last_level, most_raw_count, most_size}
+use Rattle.atl_tables.specs.Names.{name_ok, NamesDiffer}
 use Rattle.atl_tables.specs.Planet.{IsSkill}
 use Rattle.atl_tables.specs.declared.item_table.ItemDraft.{ItemDraft}
 use Rattle.atl_tables.specs.declared.item_table.Making.{Making}
@@ -20,24 +20,25 @@ use Rattle.atl_tables.specs.declared.rules_table.RulesDraft.{RulesDraft}
 use Rattle.atl_tables.specs.declared.tables.Tables.{Tables}
 use Rattle.atl_tables.specs.declared.terrain_table.Economy.{Economy}
 use Rattle.atl_tables.specs.declared.terrain_table.TerrainDraft.{TerrainDraft}
+use Rattle.atl_tables.specs.declared.world.Skill.{Skill}
 
 pub record ArePrices (p : Prices) : Type 0 where
   pub maintenance_least : 1 ≤ p.maintenance
-  pub maintenance : p.maintenance ≤ 1000
-  pub tax_per_man : p.tax_per_man ≤ 1000
+  pub maintenance : p.maintenance ≤ most_per_head
+  pub tax_per_man : p.tax_per_man ≤ most_per_head
   pub recruit_price_least : 1 ≤ p.recruit_price
-  pub recruit_price : p.recruit_price ≤ 1000000
+  pub recruit_price : p.recruit_price ≤ most_price
 
 pub record ArePeasantRules (p : PeasantRules) : Type 0 where
   pub recruit_fraction_least : 1 ≤ p.recruit_fraction
-  pub recruit_fraction : p.recruit_fraction ≤ 1000
-  pub growth : p.growth ≤ 100
-  pub income : p.income ≤ 1000
+  pub recruit_fraction : p.recruit_fraction ≤ most_fraction
+  pub growth : p.growth ≤ most_growth
+  pub income : p.income ≤ most_per_head
 
 pub record AreMenRules (m : MenRules) : Type 0 where
   pub start_money : m.start_money ≤ most_amount
-  pub man_weight : m.man_weight ≤ 10000
-  pub man_carry : m.man_carry ≤ 10000
+  pub man_weight : m.man_weight ≤ most_weight
+  pub man_carry : m.man_carry ≤ most_weight
 
 pub record AreRulesDraft (r : RulesDraft) : Type 0 where
   pub prices : ArePrices r.prices
@@ -49,7 +50,7 @@ pub record IsOutput (o : Output) : Type 0 where
 
 pub record IsEconomy (e : Economy) : Type 0 where
   pub wage_least : 1 ≤ e.wage
-  pub wage : e.wage ≤ 1000000
+  pub wage : e.wage ≤ most_price
   pub places : e.places ≤ most_amount
   pub money_limit : e.money_limit ≤ most_amount
   pub peasant_limit : e.peasant_limit ≤ most_amount
@@ -61,25 +62,25 @@ pub record IsTerrainDraft (d : TerrainDraft) : Type 0 where
 
 pub record IsMaking (m : Making) : Type 0 where
   pub level_least : 1 ≤ m.level
-  pub level : m.level ≤ 5
+  pub level : m.level ≤ last_level
   pub raw_count_least : 1 ≤ m.raw_count
-  pub raw_count : m.raw_count ≤ 1000
+  pub raw_count : m.raw_count ≤ most_raw_count
 
 pub record IsItemDraft (d : ItemDraft) : Type 0 where
   pub name : name_ok d.name ≡ true
-  pub weight : d.weight ≤ 10000
-  pub carry : d.carry ≤ 10000
+  pub weight : d.weight ≤ most_weight
+  pub carry : d.carry ≤ most_weight
   pub making : IsMaking d.making
 
 pub record IsBuilding (b : Building) : Type 0 where
   pub size_least : 1 ≤ b.size
-  pub size : b.size ≤ 999999
+  pub size : b.size ≤ most_size
   pub level_least : 1 ≤ b.level
-  pub level : b.level ≤ 5
+  pub level : b.level ≤ last_level
 
 pub record IsPurpose (p : Purpose) : Type 0 where
   pub capacity : p.capacity ≤ most_amount
-  pub crew : p.crew ≤ 999999
+  pub crew : p.crew ≤ most_size
 
 pub record IsKindDraft (d : KindDraft) : Type 0 where
   pub name : name_ok d.name ≡ true
@@ -116,3 +117,10 @@ pub record AreTables (t : Tables) : Type 0 where
   pub few_skills : length t.skills ≤ most_skills
   pub few_kinds : length t.kinds ≤ most_kinds
   pub few_regions : length t.regions ≤ most_regions
+
+-- no two names of one sort are equal
+pub record HaveNames (t : Tables) : Type 0 where
+  pub terrains : NamesDiffer (map (λ (d : TerrainDraft). d.name) t.terrains)
+  pub items : NamesDiffer (map (λ (d : ItemDraft). d.name) t.items)
+  pub skills : NamesDiffer (map (λ (s : Skill). s.name) t.skills)
+  pub kinds : NamesDiffer (map (λ (d : KindDraft). d.name) t.kinds)

@@ -1,20 +1,19 @@
 -- The faults of a world by number, name and path.
 use Rattle.std.specs.Prelude.{ℕ, List, codes, Option, Some, None}
-use Rattle.std.specs.Fmt.{decimal}
 use Rattle.atl_tables.specs.declared.fault.WorldFault.{WorldFault}
 use Rattle.atl_tables.specs.declared.fault.WorldFault.TheVariants.{NotToml, Missing, WrongType, OutOfRange, TwoNames, UnknownName, BadNeighbour, NoLand, Memory}
-use Rattle.atl_tables.specs.Texts.{◌▸◌}
 
-abbrev pub fault_number : WorldFault → ℕ
-fault_number Memory = 0
-fault_number NotToml = 1
-fault_number (Missing p) = 2
-fault_number (WrongType p) = 3
-fault_number (OutOfRange p) = 4
-fault_number (TwoNames p) = 5
-fault_number (UnknownName p) = 6
-fault_number (BadNeighbour p) = 7
-fault_number NoLand = 8
+-- Memory is no fault of a text and has no number
+abbrev pub fault_number : WorldFault → Option ℕ
+fault_number NotToml = Some 1
+fault_number (Missing p) = Some 2
+fault_number (WrongType p) = Some 3
+fault_number (OutOfRange p) = Some 4
+fault_number (TwoNames p) = Some 5
+fault_number (UnknownName p) = Some 6
+fault_number (BadNeighbour p) = Some 7
+fault_number NoLand = Some 8
+fault_number Memory = None
 
 abbrev pub fault_name : WorldFault → List ℕ
 fault_name Memory = codes "Memory"
@@ -37,10 +36,3 @@ fault_path (TwoNames p) = Some p
 fault_path (UnknownName p) = Some p
 fault_path (BadNeighbour p) = Some p
 fault_path NoLand = None
-
-abbrev pub numbered_text : ℕ → List ℕ → Option (List ℕ) → List ℕ
-numbered_text number name None = decimal number ▸ codes " " ▸ name
-numbered_text number name (Some p) = decimal number ▸ codes " " ▸ name ▸ codes " " ▸ p
-
-abbrev pub fault_text : WorldFault → List ℕ
-fault_text f = numbered_text (fault_number f) (fault_name f) (fault_path f)

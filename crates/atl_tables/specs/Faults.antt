@@ -32,12 +32,3 @@ abbrev pub Reads : {X Y : Type 0} → (X → Y) → Result X WorldFault → Resu
 Reads view (Ok x) read = read ≡ Ok (view x)
 Reads view (Err Memory) read = Unit {0}
 Reads view (Err fault) read = read ≡ Err fault
-
--- likewise where the first broken condition and the value are told apart
-abbrev pub Stops : WorldFault → Option WorldFault → Type 0
-Stops Memory fault = Unit {0}
-Stops e fault = fault ≡ Some e
-
-abbrev pub Gives : {X Y : Type 0} → (X → Y) → Result X WorldFault → Option WorldFault → Y → Type 0
-Gives view (Ok x) fault value = (fault ≡ None) × (value ≡ view x)
-Gives view (Err e) fault value = Stops e fault

@@ -7,6 +7,10 @@ use Rattle.atl_tables.specs.Names.{name_ok}
 use Rattle.atl_tables.specs.declared.fault.WorldFault.{WorldFault}
 use Rattle.atl_tables.specs.declared.fault.WorldFault.TheVariants.{Missing, WrongType, OutOfRange}
 
+-- what stands under one key of a table at a path, or its fault
+abbrev pub Key : Type 0 → Type 0
+Key A = List ℕ → Members → Result A WorldFault
+
 -- the path of a key in a table, and of an element of an array
 abbrev pub path : List ℕ → List ℕ → List ℕ
 path at key = at ▸ codes "." ▸ key

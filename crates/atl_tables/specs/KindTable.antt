@@ -2,8 +2,8 @@
 use Rattle.std.specs.Prelude.{ℕ, List, [], ◌∷◌, codes, false, None, unwrap_or, option_and_then}
 use Rattle.toml.specs.Data.{Members}
 use Rattle.atl_tables.specs.Faults.{Conditions, fault_of, first_fault, value_or}
-use Rattle.atl_tables.specs.Keys.{path, indexed, number_at, name_at, text_at, flag_at, number_or_at, optional_text_at}
-use Rattle.atl_tables.specs.Limits.{most_amount}
+use Rattle.atl_tables.specs.Keys.{Key, path, indexed, number_at, name_at, text_at, flag_at, number_or_at, optional_text_at}
+use Rattle.atl_tables.specs.Limits.{most_amount, last_level, most_size}
 use Rattle.atl_tables.specs.Titles.{known, known_or_absent, skill_number, item_number}
 use Rattle.atl_tables.specs.declared.kind_table.Building.{Building}
 use Rattle.atl_tables.specs.declared.kind_table.KindDraft.{KindDraft}
@@ -12,34 +12,46 @@ use Rattle.atl_tables.specs.declared.tables.Tables.{Tables}
 use Rattle.atl_tables.specs.declared.world.Kind.{Kind}
 
 -- what building it takes
+abbrev pub size_at : Key ℕ
+size_at = number_at 1 most_size (codes "size")
+
+abbrev pub level_at : Key ℕ
+level_at = number_at 1 last_level (codes "level")
+
 unfoldable pub building_keys : List ℕ → Members → Conditions
 building_keys at t =
     fault_of (text_at (codes "material") at t)
-    ∷ fault_of (number_at 1 999999 (codes "size") at t)
+    ∷ fault_of (size_at at t)
     ∷ fault_of (text_at (codes "skill") at t)
-    ∷ fault_of (number_at 1 5 (codes "level") at t)
+    ∷ fault_of (level_at at t)
     ∷ []
 
 unfoldable pub building_from : List ℕ → Members → Building
 building_from at t = record {
   material = value_or [] (text_at (codes "material") at t);
-  size = value_or 0 (number_at 1 999999 (codes "size") at t);
+  size = value_or 0 (size_at at t);
   skill = value_or [] (text_at (codes "skill") at t);
-  level = value_or 0 (number_at 1 5 (codes "level") at t);
+  level = value_or 0 (level_at at t);
 }
 
 -- what it is good for
+abbrev pub capacity_at : Key ℕ
+capacity_at = number_or_at 0 0 most_amount (codes "capacity")
+
+abbrev pub crew_at : Key ℕ
+crew_at = number_or_at 0 0 most_size (codes "crew")
+
 unfoldable pub purpose_keys : List ℕ → Members → Conditions
 purpose_keys at t =
-    fault_of (number_or_at 0 0 most_amount (codes "capacity") at t)
-    ∷ fault_of (number_or_at 0 0 999999 (codes "crew") at t)
+    fault_of (capacity_at at t)
+    ∷ fault_of (crew_at at t)
     ∷ fault_of (optional_text_at (codes "helps") at t)
     ∷ []
 
 unfoldable pub purpose_from : List ℕ → Members → Purpose
 purpose_from at t = record {
-  capacity = value_or 0 (number_or_at 0 0 most_amount (codes "capacity") at t);
-  crew = value_or 0 (number_or_at 0 0 999999 (codes "crew") at t);
+  capacity = value_or 0 (capacity_at at t);
+  crew = value_or 0 (crew_at at t);
   helps = value_or None (optional_text_at (codes "helps") at t);
 }
 

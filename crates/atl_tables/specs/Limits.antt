@@ -28,3 +28,35 @@ most_amount = 999999999
 -- the most bytes of a name or of a pass text
 abbrev pub most_name_bytes : ℕ
 most_name_bytes = 40
+
+-- ---- the ranges of the world file's keys: money of a man or a peasant a month
+abbrev pub most_per_head : ℕ
+most_per_head = 1000
+
+-- a price, a wage, a fee
+abbrev pub most_price : ℕ
+most_price = 1000000
+
+-- of how many peasants one can be recruited
+abbrev pub most_fraction : ℕ
+most_fraction = 1000
+
+-- births in a hundred
+abbrev pub most_growth : ℕ
+most_growth = 100
+
+-- what a man or an item weighs or carries
+abbrev pub most_weight : ℕ
+most_weight = 10000
+
+-- the highest level of a skill
+abbrev pub last_level : ℕ
+last_level = 5
+
+-- how many raw items one item is made of
+abbrev pub most_raw_count : ℕ
+most_raw_count = 1000
+
+-- the size or the crew of a structure
+abbrev pub most_size : ℕ
+most_size = 999999

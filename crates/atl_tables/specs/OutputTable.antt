@@ -1,24 +1,38 @@
--- The table `output` of a terrain: its keys in byte order, which are names of items, and the amounts under them.
-use Rattle.std.specs.Prelude.{ℕ, List, [], ◌∷◌, codes, take, if◌then◌else◌, Some, None}
+-- The table `output` of a terrain: its keys, which are names of items, and the amounts under them.
+use Rattle.std.specs.Prelude.{ℕ, List, [], ◌∷◌, map, codes, take, if◌then◌else◌, Some, None, Result}
 use Rattle.std.specs.List.{find, list_any}
 use Rattle.std.specs.Option.{option_map_or}
-use Rattle.toml.specs.Data.{Members, no_members, member, as_integer}
+use Rattle.std.specs.Ordering.{nat_cmp, is_lt}
+use Rattle.std.specs.Cmp.Lexicographic.{slice_cmp}
+use Rattle.toml.specs.Data.{Data, Members, no_members, member, as_integer}
 use Rattle.atl_tables.specs.Faults.{Conditions, fault_of, value_or}
 use Rattle.atl_tables.specs.Keys.{path, ranged, optional_table_at}
 use Rattle.atl_tables.specs.Limits.{most_amount}
-use Rattle.atl_tables.specs.Titles.{same_name, known, item_number}
+use Rattle.atl_tables.specs.Titles.{known, item_number}
+use Rattle.atl_tables.specs.Names.{same_name}
+use Rattle.atl_tables.specs.declared.fault.WorldFault.{WorldFault}
 use Rattle.atl_tables.specs.declared.fault.WorldFault.TheVariants.{TwoNames}
 use Rattle.atl_tables.specs.declared.output_table.Output.{Output}
 use Rattle.atl_tables.specs.declared.tables.Tables.{Tables}
 
--- each key with its amount, in the table of the path at
-abbrev pub amounts_keys : List ℕ → Members → Conditions
-amounts_keys at no_members = []
-amounts_keys at (member key d ms) = fault_of (ranged (path at key) 0 most_amount (as_integer d)) ∷ amounts_keys at ms
+-- ---- the keys of a table, each with what stands under it, in byte order
+abbrev pub put_key : List ℕ → Data → List (List ℕ × Data) → List (List ℕ × Data)
+put_key key d [] = (key, d) ∷ []
+put_key key d (e ∷ es) = if is_lt (slice_cmp nat_cmp key e.0) then (key, d) ∷ e ∷ es else e ∷ put_key key d es
 
-abbrev pub amounts_from : List ℕ → Members → List Output
-amounts_from at no_members = []
-amounts_from at (member key d ms) = record { item = key; amount = value_or 0 (ranged (path at key) 0 most_amount (as_integer d)) } ∷ amounts_from at ms
+unfoldable pub in_byte_order : Members → List (List ℕ × Data)
+in_byte_order no_members = []
+in_byte_order (member key d ms) = put_key key d (in_byte_order ms)
+
+-- ---- each key with its amount, in the table of the path at
+abbrev pub amount_at : List ℕ → List ℕ × Data → Result ℕ WorldFault
+amount_at at (key, d) = ranged (path at key) 0 most_amount (as_integer d)
+
+abbrev pub amounts_keys : List ℕ → List (List ℕ × Data) → Conditions
+amounts_keys at es = map (λ e. fault_of (amount_at at e)) es
+
+abbrev pub amounts_from : List ℕ → List (List ℕ × Data) → List Output
+amounts_from at es = map (λ e. record { item = e.0; amount = value_or 0 (amount_at at e) }) es
 
 -- of the terrain at a path
 abbrev pub output_path : List ℕ → List ℕ
@@ -28,10 +42,10 @@ abbrev pub output_table : List ℕ → Members → Members
 output_table at t = value_or no_members (optional_table_at (codes "output") at t)
 
 unfoldable pub output_keys : List ℕ → Members → Conditions
-output_keys at t = fault_of (optional_table_at (codes "output") at t) ∷ amounts_keys (output_path at) (output_table at t)
+output_keys at t = fault_of (optional_table_at (codes "output") at t) ∷ amounts_keys (output_path at) (in_byte_order (output_table at t))
 
 unfoldable pub output_from : List ℕ → Members → List Output
-output_from at t = amounts_from (output_path at) (output_table at t)
+output_from at t = amounts_from (output_path at) (in_byte_order (output_table at t))
 
 -- no key before this one is equal to it, ignoring ASCII case
 unfoldable pub twin_key_at : List ℕ → List Output → ℕ → Output → Conditions

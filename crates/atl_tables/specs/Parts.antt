@@ -1,6 +1,6 @@
--- What the tables of a document stand for, with regions in the order of the file.
+-- For the proofs alone: what the tables of a document stand for, with regions in the order of the file.
 use Rattle.std.specs.Prelude.{map, length}
-use Rattle.atl_tables.specs.Each.{EachPlace}
+use Rattle.atl_tables.specs.Places.{EachPlace}
 use Rattle.atl_tables.specs.ItemTable.{item_of}
 use Rattle.atl_tables.specs.KindTable.{kind_of}
 use Rattle.atl_tables.specs.Planet.{AreRules, IsTerrain, IsItem, IsKind, IsRegionPlan}

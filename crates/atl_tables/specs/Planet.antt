@@ -1,5 +1,5 @@
 -- What a contract sees of a world.
-use Rattle.std.specs.Prelude.{◌≡◌, ◌≢◌, ◌≤◌, ◌<◌, ℕ, Bool, true, false, List, length, refl, Option, Some, IfSome, option_and_then}
+use Rattle.std.specs.Prelude.{◌≡◌, ◌≢◌, ◌≤◌, ◌<◌, ℕ, Bool, true, false, List, length, map, refl, Option, Some, IfSome, option_and_then}
 use Rattle.std.specs.List.{All, slice_get}
 use Rattle.std.specs.Option.{option_map_or}
 use Rattle.std.specs.Ordering.{nat_cmp}
@@ -17,8 +17,8 @@ use Rattle.atl_tables.specs.contracts.world.Item as item
 use Rattle.atl_tables.specs.contracts.world.Skill as skill
 use Rattle.atl_tables.specs.contracts.world.Kind as kind
 use Rattle.atl_tables.specs.contracts.world.RegionPlan as plan
-use Rattle.atl_tables.specs.Limits.{most_terrains, most_items, most_skills, most_kinds, most_regions, last_region, most_amount}
-use Rattle.atl_tables.specs.Names.{name_ok}
+use Rattle.atl_tables.specs.Limits.{most_terrains, most_items, most_skills, most_kinds, most_regions, last_region, most_amount, most_per_head, most_price, most_fraction, most_growth, most_weight, last_level, most_raw_count, most_size}
+use Rattle.atl_tables.specs.Names.{name_ok, NamesDiffer}
 use Rattle.atl_tables.specs.Sums.{numbers_where}
 
 pub record Planet : Type 0 where
@@ -48,17 +48,17 @@ land_of w = numbers_where (is_land w.terrains) w.regions
 -- ---- what is true of every world: each number in its range, and each number of another thing below their count
 pub record AreRules (skills : ℕ) (r : Rules) : Type 0 where
   pub maintenance_least : 1 ≤ r.maintenance
-  pub maintenance : r.maintenance ≤ 1000
-  pub tax_per_man : r.tax_per_man ≤ 1000
+  pub maintenance : r.maintenance ≤ most_per_head
+  pub tax_per_man : r.tax_per_man ≤ most_per_head
   pub recruit_price_least : 1 ≤ r.recruit_price
-  pub recruit_price : r.recruit_price ≤ 1000000
+  pub recruit_price : r.recruit_price ≤ most_price
   pub recruit_fraction_least : 1 ≤ r.recruit_fraction
-  pub recruit_fraction : r.recruit_fraction ≤ 1000
-  pub growth : r.growth ≤ 100
-  pub income : r.income ≤ 1000
+  pub recruit_fraction : r.recruit_fraction ≤ most_fraction
+  pub growth : r.growth ≤ most_growth
+  pub income : r.income ≤ most_per_head
   pub start_money : r.start_money ≤ most_amount
-  pub man_weight : r.man_weight ≤ 10000
-  pub man_carry : r.man_carry ≤ 10000
+  pub man_weight : r.man_weight ≤ most_weight
+  pub man_carry : r.man_carry ≤ most_weight
   pub observation : IfSome r.observation (λ s. s < skills)
   pub stealth : IfSome r.stealth (λ s. s < skills)
   pub sailing : IfSome r.sailing (λ s. s < skills)
@@ -67,7 +67,7 @@ pub record AreRules (skills : ℕ) (r : Rules) : Type 0 where
 pub record IsTerrain (items : ℕ) (t : Terrain) : Type 0 where
   pub name : name_ok t.name ≡ true
   pub wage_least : 1 ≤ t.wage
-  pub wage : t.wage ≤ 1000000
+  pub wage : t.wage ≤ most_price
   pub places : t.places ≤ most_amount
   pub money_limit : t.money_limit ≤ most_amount
   pub peasant_limit : t.peasant_limit ≤ most_amount
@@ -77,30 +77,30 @@ pub record IsTerrain (items : ℕ) (t : Terrain) : Type 0 where
 -- the i-th item, which is made of another one
 pub record IsItem (items skills i : ℕ) (x : Item) : Type 0 where
   pub name : name_ok x.name ≡ true
-  pub weight : x.weight ≤ 10000
-  pub carry : x.carry ≤ 10000
+  pub weight : x.weight ≤ most_weight
+  pub carry : x.carry ≤ most_weight
   pub skill : IfSome x.skill (λ s. s < skills)
   pub level_least : 1 ≤ x.level
-  pub level : x.level ≤ 5
+  pub level : x.level ≤ last_level
   pub raw : IfSome x.raw (λ r. r < items)
   pub raw_is_other : IfSome x.raw (λ r. r ≢ i)
   pub raw_count_least : 1 ≤ x.raw_count
-  pub raw_count : x.raw_count ≤ 1000
+  pub raw_count : x.raw_count ≤ most_raw_count
 
 pub record IsSkill (s : Skill) : Type 0 where
   pub name : name_ok s.name ≡ true
-  pub fee : s.fee ≤ 1000000
+  pub fee : s.fee ≤ most_price
 
 pub record IsKind (items skills : ℕ) (k : Kind) : Type 0 where
   pub name : name_ok k.name ≡ true
   pub material : k.material < items
   pub size_least : 1 ≤ k.size
-  pub size : k.size ≤ 999999
+  pub size : k.size ≤ most_size
   pub skill : k.skill < skills
   pub level_least : 1 ≤ k.level
-  pub level : k.level ≤ 5
+  pub level : k.level ≤ last_level
   pub capacity : k.capacity ≤ most_amount
-  pub crew : k.crew ≤ 999999
+  pub crew : k.crew ≤ most_size
   pub helps : IfSome k.helps (λ s. s < skills)
 
 pub record IsRegionPlan (terrains number : ℕ) (p : RegionPlan) : Type 0 where
@@ -131,6 +131,10 @@ pub record IsWorld (w : Planet) : Type 0 where
   pub kinds : (i : ℕ) (k : Kind) → slice_get w.kinds i ≡ Some k → IsKind (length w.items) (length w.skills) k
   pub regions : (n : ℕ) (p : RegionPlan) → get w.regions n ≡ Some p → IsRegionPlan (length w.terrains) n p
   pub neighbours : (n : ℕ) (p : RegionPlan) → get w.regions n ≡ Some p → HasNeighbours w.regions n p.north p.south p.east p.west
+  pub terrain_names : NamesDiffer (map (λ (t : Terrain). t.name) w.terrains)
+  pub item_names : NamesDiffer (map (λ (x : Item). x.name) w.items)
+  pub skill_names : NamesDiffer (map (λ (s : Skill). s.name) w.skills)
+  pub kind_names : NamesDiffer (map (λ (k : Kind). k.name) w.kinds)
   pub few_terrains : length w.terrains ≤ most_terrains
   pub few_items : length w.items ≤ most_items
   pub few_skills : length w.skills ≤ most_skills

@@ -1,8 +1,8 @@
 -- A table `[[region]]`: its keys in order, with their ranges, and the region that they give.
-use Rattle.std.specs.Prelude.{ℕ, List, [], ◌∷◌, codes, None, unwrap_or}
+use Rattle.std.specs.Prelude.{ℕ, List, [], ◌∷◌, codes, Option, None, unwrap_or}
 use Rattle.toml.specs.Data.{Members}
 use Rattle.atl_tables.specs.Faults.{Conditions, fault_of, first_fault, value_or}
-use Rattle.atl_tables.specs.Keys.{path, indexed, number_at, name_at, text_at, optional_number_at}
+use Rattle.atl_tables.specs.Keys.{Key, path, indexed, number_at, name_at, text_at, optional_number_at}
 use Rattle.atl_tables.specs.Limits.{last_region, most_amount}
 use Rattle.atl_tables.specs.Titles.{known, terrain_number}
 use Rattle.atl_tables.specs.declared.region_table.Place.{Place}
@@ -12,39 +12,60 @@ use Rattle.atl_tables.specs.declared.tables.Tables.{Tables}
 use Rattle.atl_tables.specs.declared.world.RegionPlan.{RegionPlan}
 
 -- what the region is
+abbrev pub region_number_at : Key ℕ
+region_number_at = number_at 1 last_region (codes "number")
+
+abbrev pub peasants_at : Key ℕ
+peasants_at = number_at 0 most_amount (codes "peasants")
+
+abbrev pub money_at : Key ℕ
+money_at = number_at 0 most_amount (codes "money")
+
 unfoldable pub place_keys : List ℕ → Members → Conditions
 place_keys at t =
-    fault_of (number_at 1 last_region (codes "number") at t)
+    fault_of (region_number_at at t)
     ∷ fault_of (name_at (codes "name") at t)
     ∷ fault_of (text_at (codes "terrain") at t)
-    ∷ fault_of (number_at 0 most_amount (codes "peasants") at t)
-    ∷ fault_of (number_at 0 most_amount (codes "money") at t)
+    ∷ fault_of (peasants_at at t)
+    ∷ fault_of (money_at at t)
     ∷ []
 
 unfoldable pub place_from : List ℕ → Members → Place
 place_from at t = record {
-  number = value_or 0 (number_at 1 last_region (codes "number") at t);
+  number = value_or 0 (region_number_at at t);
   name = value_or [] (name_at (codes "name") at t);
   terrain = value_or [] (text_at (codes "terrain") at t);
-  peasants = value_or 0 (number_at 0 most_amount (codes "peasants") at t);
-  money = value_or 0 (number_at 0 most_amount (codes "money") at t);
+  peasants = value_or 0 (peasants_at at t);
+  money = value_or 0 (money_at at t);
 }
 
 -- the numbers of its neighbours
+abbrev pub north_at : Key (Option ℕ)
+north_at = optional_number_at 1 last_region (codes "north")
+
+abbrev pub south_at : Key (Option ℕ)
+south_at = optional_number_at 1 last_region (codes "south")
+
+abbrev pub east_at : Key (Option ℕ)
+east_at = optional_number_at 1 last_region (codes "east")
+
+abbrev pub west_at : Key (Option ℕ)
+west_at = optional_number_at 1 last_region (codes "west")
+
 unfoldable pub side_keys : List ℕ → Members → Conditions
 side_keys at t =
-    fault_of (optional_number_at 1 last_region (codes "north") at t)
-    ∷ fault_of (optional_number_at 1 last_region (codes "south") at t)
-    ∷ fault_of (optional_number_at 1 last_region (codes "east") at t)
-    ∷ fault_of (optional_number_at 1 last_region (codes "west") at t)
+    fault_of (north_at at t)
+    ∷ fault_of (south_at at t)
+    ∷ fault_of (east_at at t)
+    ∷ fault_of (west_at at t)
     ∷ []
 
 unfoldable pub sides_from : List ℕ → Members → Sides
 sides_from at t = record {
-  north = value_or None (optional_number_at 1 last_region (codes "north") at t);
-  south = value_or None (optional_number_at 1 last_region (codes "south") at t);
-  east = value_or None (optional_number_at 1 last_region (codes "east") at t);
-  west = value_or None (optional_number_at 1 last_region (codes "west") at t);
+  north = value_or None (north_at at t);
+  south = value_or None (south_at at t);
+  east = value_or None (east_at at t);
+  west = value_or None (west_at at t);
 }
 
 -- the whole table

@@ -2,8 +2,8 @@
 use Rattle.std.specs.Prelude.{ℕ, List, [], ◌∷◌, codes, None, option_and_then}
 use Rattle.toml.specs.Data.{Members, no_members}
 use Rattle.atl_tables.specs.Faults.{Conditions, fault_of, first_fault, value_or}
-use Rattle.atl_tables.specs.Keys.{path, number_at, optional_text_at, table_at}
-use Rattle.atl_tables.specs.Limits.{most_amount}
+use Rattle.atl_tables.specs.Keys.{Key, path, number_at, optional_text_at, table_at}
+use Rattle.atl_tables.specs.Limits.{most_amount, most_per_head, most_price, most_fraction, most_growth, most_weight}
 use Rattle.atl_tables.specs.Titles.{known_or_absent, skill_number}
 use Rattle.atl_tables.specs.declared.rules_table.MenRules.{MenRules}
 use Rattle.atl_tables.specs.declared.rules_table.PeasantRules.{PeasantRules}
@@ -14,48 +14,75 @@ use Rattle.atl_tables.specs.declared.tables.Tables.{Tables}
 use Rattle.atl_tables.specs.declared.world.Rules.{Rules}
 
 -- what men cost and bring
+abbrev pub maintenance_at : Key ℕ
+maintenance_at = number_at 1 most_per_head (codes "maintenance")
+
+abbrev pub tax_per_man_at : Key ℕ
+tax_per_man_at = number_at 0 most_per_head (codes "tax_per_man")
+
+abbrev pub recruit_price_at : Key ℕ
+recruit_price_at = number_at 1 most_price (codes "recruit_price")
+
 unfoldable pub price_keys : List ℕ → Members → Conditions
 price_keys at t =
-    fault_of (number_at 1 1000 (codes "maintenance") at t)
-    ∷ fault_of (number_at 0 1000 (codes "tax_per_man") at t)
-    ∷ fault_of (number_at 1 1000000 (codes "recruit_price") at t)
+    fault_of (maintenance_at at t)
+    ∷ fault_of (tax_per_man_at at t)
+    ∷ fault_of (recruit_price_at at t)
     ∷ []
 
 unfoldable pub prices_from : List ℕ → Members → Prices
 prices_from at t = record {
-  maintenance = value_or 0 (number_at 1 1000 (codes "maintenance") at t);
-  tax_per_man = value_or 0 (number_at 0 1000 (codes "tax_per_man") at t);
-  recruit_price = value_or 0 (number_at 1 1000000 (codes "recruit_price") at t);
+  maintenance = value_or 0 (maintenance_at at t);
+  tax_per_man = value_or 0 (tax_per_man_at at t);
+  recruit_price = value_or 0 (recruit_price_at at t);
 }
 
 -- what peasants do in a month
+abbrev pub recruit_fraction_at : Key ℕ
+recruit_fraction_at = number_at 1 most_fraction (codes "recruit_fraction")
+
+abbrev pub growth_at : Key ℕ
+growth_at = number_at 0 most_growth (codes "growth")
+
+abbrev pub income_at : Key ℕ
+income_at = number_at 0 most_per_head (codes "income")
+
 unfoldable pub peasant_keys : List ℕ → Members → Conditions
 peasant_keys at t =
-    fault_of (number_at 1 1000 (codes "recruit_fraction") at t)
-    ∷ fault_of (number_at 0 100 (codes "growth") at t)
-    ∷ fault_of (number_at 0 1000 (codes "income") at t)
+    fault_of (recruit_fraction_at at t)
+    ∷ fault_of (growth_at at t)
+    ∷ fault_of (income_at at t)
     ∷ []
 
 unfoldable pub peasants_from : List ℕ → Members → PeasantRules
 peasants_from at t = record {
-  recruit_fraction = value_or 0 (number_at 1 1000 (codes "recruit_fraction") at t);
-  growth = value_or 0 (number_at 0 100 (codes "growth") at t);
-  income = value_or 0 (number_at 0 1000 (codes "income") at t);
+  recruit_fraction = value_or 0 (recruit_fraction_at at t);
+  growth = value_or 0 (growth_at at t);
+  income = value_or 0 (income_at at t);
 }
 
 -- what men start with, weigh and carry
+abbrev pub start_money_at : Key ℕ
+start_money_at = number_at 0 most_amount (codes "start_money")
+
+abbrev pub man_weight_at : Key ℕ
+man_weight_at = number_at 0 most_weight (codes "man_weight")
+
+abbrev pub man_carry_at : Key ℕ
+man_carry_at = number_at 0 most_weight (codes "man_carry")
+
 unfoldable pub men_keys : List ℕ → Members → Conditions
 men_keys at t =
-    fault_of (number_at 0 most_amount (codes "start_money") at t)
-    ∷ fault_of (number_at 0 10000 (codes "man_weight") at t)
-    ∷ fault_of (number_at 0 10000 (codes "man_carry") at t)
+    fault_of (start_money_at at t)
+    ∷ fault_of (man_weight_at at t)
+    ∷ fault_of (man_carry_at at t)
     ∷ []
 
 unfoldable pub men_from : List ℕ → Members → MenRules
 men_from at t = record {
-  start_money = value_or 0 (number_at 0 most_amount (codes "start_money") at t);
-  man_weight = value_or 0 (number_at 0 10000 (codes "man_weight") at t);
-  man_carry = value_or 0 (number_at 0 10000 (codes "man_carry") at t);
+  start_money = value_or 0 (start_money_at at t);
+  man_weight = value_or 0 (man_weight_at at t);
+  man_carry = value_or 0 (man_carry_at at t);
 }
 
 -- the skills that the rules speak of

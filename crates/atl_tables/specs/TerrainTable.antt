@@ -3,8 +3,8 @@ use Rattle.std.specs.Prelude.{ℕ, List, [], ◌∷◌, codes, false, map}
 use Rattle.toml.specs.Data.{Members}
 use Rattle.atl_tables.specs.Each.{each}
 use Rattle.atl_tables.specs.Faults.{Conditions, fault_of, first_fault, value_or}
-use Rattle.atl_tables.specs.Keys.{indexed, number_at, name_at, flag_at}
-use Rattle.atl_tables.specs.Limits.{most_amount}
+use Rattle.atl_tables.specs.Keys.{Key, indexed, number_at, name_at, flag_at}
+use Rattle.atl_tables.specs.Limits.{most_amount, most_price}
 use Rattle.atl_tables.specs.OutputTable.{output_path, output_keys, output_from, twin_key_at, known_key_at, amount_of}
 use Rattle.atl_tables.specs.declared.tables.Tables.{Tables}
 use Rattle.atl_tables.specs.declared.terrain_table.Economy.{Economy}
@@ -12,20 +12,32 @@ use Rattle.atl_tables.specs.declared.terrain_table.TerrainDraft.{TerrainDraft}
 use Rattle.atl_tables.specs.declared.world.Terrain.{Terrain}
 
 -- what a region of it pays, and the most that it holds
+abbrev pub wage_at : Key ℕ
+wage_at = number_at 1 most_price (codes "wage")
+
+abbrev pub places_at : Key ℕ
+places_at = number_at 0 most_amount (codes "places")
+
+abbrev pub money_limit_at : Key ℕ
+money_limit_at = number_at 0 most_amount (codes "money_limit")
+
+abbrev pub peasant_limit_at : Key ℕ
+peasant_limit_at = number_at 0 most_amount (codes "peasant_limit")
+
 unfoldable pub economy_keys : List ℕ → Members → Conditions
 economy_keys at t =
-    fault_of (number_at 1 1000000 (codes "wage") at t)
-    ∷ fault_of (number_at 0 most_amount (codes "places") at t)
-    ∷ fault_of (number_at 0 most_amount (codes "money_limit") at t)
-    ∷ fault_of (number_at 0 most_amount (codes "peasant_limit") at t)
+    fault_of (wage_at at t)
+    ∷ fault_of (places_at at t)
+    ∷ fault_of (money_limit_at at t)
+    ∷ fault_of (peasant_limit_at at t)
     ∷ []
 
 unfoldable pub economy_from : List ℕ → Members → Economy
 economy_from at t = record {
-  wage = value_or 0 (number_at 1 1000000 (codes "wage") at t);
-  places = value_or 0 (number_at 0 most_amount (codes "places") at t);
-  money_limit = value_or 0 (number_at 0 most_amount (codes "money_limit") at t);
-  peasant_limit = value_or 0 (number_at 0 most_amount (codes "peasant_limit") at t);
+  wage = value_or 0 (wage_at at t);
+  places = value_or 0 (places_at at t);
+  money_limit = value_or 0 (money_limit_at at t);
+  peasant_limit = value_or 0 (peasant_limit_at at t);
 }
 
 -- the whole table

@@ -1,18 +1,13 @@
 -- Names that may stand once only, and the numbers that names stand for.
-use Rattle.std.specs.Prelude.{ℕ, Bool, List, [], ◌∷◌, map, take, codes, Option, Some, None, if◌then◌else◌}
+use Rattle.std.specs.Prelude.{ℕ, List, [], ◌∷◌, take, codes, Option, Some, None, if◌then◌else◌}
 use Rattle.std.specs.List.{list_any, position_from}
-use Rattle.std.specs.Str.{bytes_eq}
-use Rattle.std.specs.Char.{to_ascii_lowercase}
 use Rattle.atl_tables.specs.declared.fault.WorldFault.{WorldFault}
 use Rattle.atl_tables.specs.declared.fault.WorldFault.TheVariants.{TwoNames, UnknownName}
 use Rattle.atl_tables.specs.declared.tables.Tables.{Tables}
 use Rattle.atl_tables.specs.Each.{each}
 use Rattle.atl_tables.specs.Faults.{Conditions}
 use Rattle.atl_tables.specs.Keys.{path, indexed}
-
--- equal, ignoring ASCII case
-unfoldable pub same_name : List ℕ → List ℕ → Bool
-same_name a b = bytes_eq (map to_ascii_lowercase a) (map to_ascii_lowercase b)
+use Rattle.atl_tables.specs.Names.{same_name}
 
 module _ {A : Type 0} (title : A → List ℕ) where
   -- no element before this one has its name

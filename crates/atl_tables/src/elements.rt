@@ -3,7 +3,8 @@ ghost use Rattle.std.specs.Prelude.{◌≡◌, ◌≤◌, ◌∷◌, ℕ, List, 
 ghost use Rattle.std.specs.List.{All};
 ghost use Rattle.toml.specs.Data.{Members};
 ghost use Rattle.toml.specs.View.{view, table_view, array_view};
-ghost use Rattle.atl_tables.specs.Faults.{Conditions, first_fault, Gives};
+ghost use Rattle.atl_tables.specs.Faults.{Conditions, first_fault};
+ghost use Rattle.atl_tables.specs.Given.{Gives};
 ghost use Rattle.atl_tables.specs.Keys.{indexed, array_at, optional_array_at};
 ghost use Rattle.atl_tables.specs.Arrays.{element_table, element_conditions, elements_conditions, elements_of, list_conditions, list_of};
 

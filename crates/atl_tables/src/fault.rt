@@ -1,11 +1,11 @@
 //! Why a world can't be read.
-ghost use Rattle.std.specs.Prelude.{◌≡◌, IfOk};
+ghost use Rattle.std.specs.Prelude.{◌≡◌};
 ghost use Rattle.std.specs.Option.{option_copied};
-ghost use Rattle.atl_tables.specs.FaultTexts.{fault_number, fault_name, fault_path, fault_text};
+ghost use Rattle.atl_tables.specs.FaultTexts.{fault_number, fault_name, fault_path};
 ghost use Rattle.atl_tables.specs.declared.fault.WorldFault.TheVariants.{Memory};
 
 use crate::text::Text;
-use std::alloc::{AllocError, AllocFailed, Global};
+use std::alloc::{AllocError, AllocFailed};
 
 /// The first fault of a world file, most with the path of the key, or that there was no memory to read it.
 #[derive(Drop, Debug)]
@@ -22,21 +22,22 @@ pub enum WorldFault {
 }
 
 impl WorldFault {
-    /// The number of the fault's sort: 1 to 8 in the order in which faults count, and 0 for `Memory`. See docs/FORMATS.md,
-    /// "Faults of a world file".
-    pub fn number(&self) -> u8
+    /// The number of the fault's sort, from 1 to 8; `Memory` has none. A lower number doesn't always count first: `Missing`,
+    /// `WrongType` and `OutOfRange` (2 to 4) count key by key, and the first key with one of them decides. See
+    /// docs/FORMATS.md, "Faults of a world file".
+    pub fn number(&self) -> Option<u8>
         ensures { result ≡ fault_number self.now }
     {
         match self {
-            WorldFault::Memory => 0,
-            WorldFault::NotToml => 1,
-            WorldFault::Missing(_) => 2,
-            WorldFault::WrongType(_) => 3,
-            WorldFault::OutOfRange(_) => 4,
-            WorldFault::TwoNames(_) => 5,
-            WorldFault::UnknownName(_) => 6,
-            WorldFault::BadNeighbour(_) => 7,
-            WorldFault::NoLand => 8,
+            WorldFault::NotToml => Some(1),
+            WorldFault::Missing(_) => Some(2),
+            WorldFault::WrongType(_) => Some(3),
+            WorldFault::OutOfRange(_) => Some(4),
+            WorldFault::TwoNames(_) => Some(5),
+            WorldFault::UnknownName(_) => Some(6),
+            WorldFault::BadNeighbour(_) => Some(7),
+            WorldFault::NoLand => Some(8),
+            WorldFault::Memory => None,
         }
     }
 
@@ -69,21 +70,6 @@ impl WorldFault {
             | WorldFault::UnknownName(path)
             | WorldFault::BadNeighbour(path) => Some(path),
             WorldFault::NotToml | WorldFault::NoLand | WorldFault::Memory => None,
-        }
-    }
-
-    /// Number, name and path, as `3 WrongType rules.growth`, or `8 NoLand` where there is no path.
-    pub fn text(&self, alloc: Global) -> Result<Text, AllocError>
-        ensures { IfOk result (λ text. text ≡ fault_text self.now) }
-    {
-        let number = self.number();
-        let name = self.name();
-        match self.path() {
-            None => Ok(Text::from_string(format!(in alloc; "{number} {name}")?)),
-            Some(path) => {
-                let path = path.as_str();
-                Ok(Text::from_string(format!(in alloc; "{number} {name} {path}")?))
-            }
         }
     }
 }

@@ -1,7 +1,7 @@
 //! The tables `[[item]]`.
 ghost use Rattle.std.specs.Prelude.{◌≡◌, ◌≢◌, ◌≤◌, ◌<◌, codes, length, IfOk, IfSome, Some, option_and_then};
 ghost use Rattle.atl_tables.specs.Drafts.{IsMaking, IsItemDraft};
-ghost use Rattle.atl_tables.specs.Faults.{Gives};
+ghost use Rattle.atl_tables.specs.Given.{Gives};
 ghost use Rattle.atl_tables.specs.ItemTable.{making_keys, making_from, item_keys, item_from, other_than, item_known, item_of};
 ghost use Rattle.atl_tables.specs.Keys.{path};
 ghost use Rattle.atl_tables.specs.Planet.{IsItem};
@@ -10,6 +10,7 @@ ghost use Rattle.atl_tables.specs.Titles.{number_of, known_or_absent};
 use crate::elements::Element;
 use crate::fault::WorldFault;
 use crate::keys::{self, indexed, path};
+use crate::limits::{LAST_LEVEL, MOST_RAW_COUNT, MOST_WEIGHT};
 use crate::tables::{Draft, Tables};
 use crate::text::Text;
 use crate::titled::{Titled, known_or_absent, number_of};
@@ -65,9 +66,9 @@ impl Element for Making {
     #[tactic(auto, unfolding(crate::specs::ItemTable::making_keys, crate::specs::ItemTable::making_from))]
     fn read(alloc: Global, at: &str, t: &Table) -> Result<Making, WorldFault> {
         let skill = keys::optional_text(alloc, "skill", at, t)?;
-        let level = keys::number_or(alloc, 1, 1, 5, "level", at, t)?;
+        let level = keys::number_or(alloc, 1, 1, LAST_LEVEL, "level", at, t)?;
         let raw = keys::optional_text(alloc, "raw", at, t)?;
-        let raw_count = keys::number_or(alloc, 1, 1, 1_000, "raw_count", at, t)?;
+        let raw_count = keys::number_or(alloc, 1, 1, MOST_RAW_COUNT, "raw_count", at, t)?;
         Ok(Making {
             skill,
             level,
@@ -87,8 +88,8 @@ impl Element for ItemDraft {
     #[tactic(auto, unfolding(crate::specs::ItemTable::item_keys, crate::specs::ItemTable::item_from))]
     fn read(alloc: Global, at: &str, t: &Table) -> Result<ItemDraft, WorldFault> {
         let name = keys::name(alloc, "name", at, t)?;
-        let weight = keys::number(alloc, 0, 10_000, "weight", at, t)?;
-        let carry = keys::number(alloc, 0, 10_000, "carry", at, t)?;
+        let weight = keys::number(alloc, 0, MOST_WEIGHT, "weight", at, t)?;
+        let carry = keys::number(alloc, 0, MOST_WEIGHT, "carry", at, t)?;
         let making = Making::read(alloc, at, t)?;
         Ok(ItemDraft {
             name,

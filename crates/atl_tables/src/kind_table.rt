@@ -7,7 +7,7 @@ ghost use Rattle.atl_tables.specs.Planet.{IsKind};
 use crate::elements::Element;
 use crate::fault::WorldFault;
 use crate::keys::{self, indexed};
-use crate::limits::MOST_AMOUNT;
+use crate::limits::{LAST_LEVEL, MOST_AMOUNT, MOST_SIZE};
 use crate::tables::{Draft, Tables};
 use crate::text::Text;
 use crate::titled::{Titled, known, known_or_absent};
@@ -71,9 +71,9 @@ impl Element for Building {
     #[tactic(auto, unfolding(crate::specs::KindTable::building_keys, crate::specs::KindTable::building_from))]
     fn read(alloc: Global, at: &str, t: &Table) -> Result<Building, WorldFault> {
         let material = keys::text(alloc, "material", at, t)?;
-        let size = keys::number(alloc, 1, 999_999, "size", at, t)?;
+        let size = keys::number(alloc, 1, MOST_SIZE, "size", at, t)?;
         let skill = keys::text(alloc, "skill", at, t)?;
-        let level = keys::number(alloc, 1, 5, "level", at, t)?;
+        let level = keys::number(alloc, 1, LAST_LEVEL, "level", at, t)?;
         Ok(Building {
             material,
             size,
@@ -93,7 +93,7 @@ impl Element for Purpose {
     #[tactic(auto, unfolding(crate::specs::KindTable::purpose_keys, crate::specs::KindTable::purpose_from))]
     fn read(alloc: Global, at: &str, t: &Table) -> Result<Purpose, WorldFault> {
         let capacity = keys::number_or(alloc, 0, 0, MOST_AMOUNT, "capacity", at, t)?;
-        let crew = keys::number_or(alloc, 0, 0, 999_999, "crew", at, t)?;
+        let crew = keys::number_or(alloc, 0, 0, MOST_SIZE, "crew", at, t)?;
         let helps = keys::optional_text(alloc, "helps", at, t)?;
         Ok(Purpose {
             capacity,

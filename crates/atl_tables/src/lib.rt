@@ -2,31 +2,31 @@
 #![tactic(auto)]
 
 mod elements;
-pub mod fault;
+mod fault;
 mod item_table;
 mod keys;
 mod kind_table;
 pub mod limits;
 pub mod lookup;
-pub mod names;
+mod names;
 mod neighbours;
-pub mod numbered;
+mod numbered;
 mod output_table;
 mod reading;
 mod region_table;
 mod regions;
 mod rules_table;
-pub mod sequence;
+mod sequence;
 mod skill_table;
 mod tables;
 mod terrain_table;
-pub mod text;
+mod text;
 mod titled;
-pub mod tracked;
-pub mod world;
+mod tracked;
+mod world;
 
 pub use fault::WorldFault;
-pub use names::{name_ok, pass_ok};
+pub use names::{name_ok, pass_ok, word_ok};
 pub use numbered::{Entries, Numbered};
 pub use reading::read_world;
 pub use sequence::Sequence;

@@ -2,8 +2,10 @@
 ghost use Rattle.std.specs.Prelude.{◌≡◌};
 ghost use Rattle.std.specs.List.{list_all};
 ghost use Rattle.atl_tables.specs.Names.{name_ok, pass_ok, is_short, is_name_byte, is_pass_byte, has_open_ends};
+ghost use Rattle.atl_tables.specs.Lookup.{name_of};
 
 use crate::limits::MOST_NAME_BYTES;
+use crate::lookup::letter_of;
 
 fn is_short(text: &[u8]) -> bool
     ensures { result ≡ is_short text.now }
@@ -23,19 +25,25 @@ fn is_pass_byte(byte: u8) -> bool
     33 <= byte && byte <= 126
 }
 
-fn has_open_ends(text: &[u8]) -> bool
-    ensures { result ≡ has_open_ends text.now }
+/// Whether no space is at either end of what a word names.
+fn has_open_ends(word: &[u8], quoted: bool) -> bool
+    ensures { result ≡ has_open_ends (name_of word.now quoted) }
 {
-    match (text.first(), text.last()) {
-        (Some(first), Some(last)) => *first != b' ' && *last != b' ',
-        _ => true,
+    if word.is_empty() {
+        return true;
     }
+    let first = letter_of(word[0], quoted);
+    let last = letter_of(word[word.len() - 1], quoted);
+    first != b' ' && last != b' '
 }
 
-fn are_name_bytes(text: &[u8]) -> bool
-    ensures { result ≡ list_all is_name_byte text.now }
+/// Whether what a word names has only bytes of names.
+fn are_name_bytes(word: &[u8], quoted: bool) -> bool
+    ensures { result ≡ list_all is_name_byte (name_of word.now quoted) }
 {
-    text.iter().all(|byte| is_name_byte(*byte))
+    word.iter()
+        .map(|byte| letter_of(*byte, quoted))
+        .all(|byte| is_name_byte(byte))
 }
 
 fn are_pass_bytes(text: &[u8]) -> bool
@@ -44,12 +52,21 @@ fn are_pass_bytes(text: &[u8]) -> bool
     text.iter().all(|byte| is_pass_byte(*byte))
 }
 
+/// Whether what a word names may be a name. In a bare word `_` stands for a space. It takes no memory. See docs/RULES.md,
+/// "Names and pass texts".
+pub fn word_ok(word: &[u8], quoted: bool) -> bool
+    ensures { result ≡ name_ok (name_of word.now quoted) }
+{
+    is_short(word) && has_open_ends(word, quoted) && are_name_bytes(word, quoted)
+}
+
 /// Whether a text may be a name: 1 to 40 bytes from 32 to 126, no quotation mark, and no space at either end. It takes
 /// no memory. See docs/RULES.md, "Names and pass texts".
+#[tactic(auto, using(crate::proofs::NameLaws::quoted_names_itself))]
 pub fn name_ok(text: &[u8]) -> bool
     ensures { result ≡ name_ok text.now }
 {
-    is_short(text) && has_open_ends(text) && are_name_bytes(text)
+    word_ok(text, true)
 }
 
 /// Whether a text may be a pass text: 1 to 40 bytes from 33 to 126. It takes no memory. See docs/RULES.md, "Names and

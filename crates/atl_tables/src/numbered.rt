@@ -48,7 +48,7 @@ impl<V: Drop> Numbered<V> {
         self.entries.get_mut(&number)
     }
 
-    /// Puts a value under a number that has none.
+    /// Puts a value under a number, in the place of the one that stood there. Without memory the map is as it was.
     pub fn insert(&mut self, number: u32, value: V) -> Result<(), AllocError>
         ensures ok { OnOk result (self.new ≡ map.insert self.old number value) }
         ensures err { OnErr result (self.new ≡ self.old) }

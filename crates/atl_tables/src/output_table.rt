@@ -4,9 +4,10 @@ ghost use Rattle.std.specs.List.{All};
 ghost use Rattle.toml.specs.View.{table_view};
 ghost use Rattle.atl_tables.specs.Drafts.{AreTables, IsOutput};
 ghost use Rattle.atl_tables.specs.Each.{each};
-ghost use Rattle.atl_tables.specs.Faults.{first_fault, Gives};
+ghost use Rattle.atl_tables.specs.Faults.{first_fault};
+ghost use Rattle.atl_tables.specs.Given.{Gives};
 ghost use Rattle.atl_tables.specs.Limits.{most_amount};
-ghost use Rattle.atl_tables.specs.OutputTable.{amounts_keys, amounts_from, output_keys, output_from, twin_key_at, known_key_at, amount_of};
+ghost use Rattle.atl_tables.specs.OutputTable.{in_byte_order, amounts_keys, amounts_from, output_keys, output_from, twin_key_at, known_key_at, amount_of};
 
 use crate::fault::WorldFault;
 use crate::item_table::ItemDraft;
@@ -36,7 +37,7 @@ impl Titled for Output {
 
 /// Each key with its amount, in byte order.
 fn amounts(alloc: Global, at: &str, table: &Table) -> Result<Sequence<Output>, WorldFault>
-    ensures value { Gives (λ v. v) result (first_fault (amounts_keys at.now (table_view table.now))) (amounts_from at.now (table_view table.now)) }
+    ensures value { Gives (λ v. v) result (first_fault (amounts_keys at.now (in_byte_order (table_view table.now)))) (amounts_from at.now (in_byte_order (table_view table.now))) }
     ensures sound { IfOk result (λ v. All IsOutput v) }
 {
     let mut outputs = Sequence::new(alloc);
@@ -50,7 +51,7 @@ fn amounts(alloc: Global, at: &str, table: &Table) -> Result<Sequence<Output>, W
 }
 
 /// The output of a terrain, or none.
-#[tactic(auto, unfolding(crate::specs::OutputTable::output_keys, crate::specs::OutputTable::output_from, crate::specs::Keys::optional_table_at))]
+#[tactic(auto, unfolding(crate::specs::OutputTable::output_keys, crate::specs::OutputTable::output_from, crate::specs::OutputTable::in_byte_order, crate::specs::Keys::optional_table_at))]
 pub(crate) fn outputs(alloc: Global, at: &str, t: &Table) -> Result<Sequence<Output>, WorldFault>
     ensures value { Gives (λ v. v) result (first_fault (output_keys at.now (table_view t.now))) (output_from at.now (table_view t.now)) }
     ensures sound { IfOk result (λ v. All IsOutput v) }

@@ -1,8 +1,9 @@
 //! The reader of world files.
 ghost use Rattle.std.specs.Prelude.{◌≡◌, ◌<◌, ◌++◌, length, IfOk};
 ghost use Rattle.toml.specs.View.{table_view};
-ghost use Rattle.atl_tables.specs.Drafts.{AreThings, AreTables};
-ghost use Rattle.atl_tables.specs.Faults.{first_fault, Reads, Gives};
+ghost use Rattle.atl_tables.specs.Drafts.{AreThings, AreTables, HaveNames};
+ghost use Rattle.atl_tables.specs.Faults.{first_fault, Reads};
+ghost use Rattle.atl_tables.specs.Given.{Gives};
 ghost use Rattle.atl_tables.specs.Parts.{ArePartsOf, parts_of};
 ghost use Rattle.atl_tables.specs.Planet.{IsWorld, is_land, land_of};
 ghost use Rattle.atl_tables.specs.Sums.{numbers_where};
@@ -168,6 +169,7 @@ fn with_land(
 #[tactic(auto, unfolding(crate::specs::World::neighbours_are_mutual))]
 fn join(alloc: Global, all: Tables, parts: Parts) -> Result<World, WorldFault>
     requires all { AreTables all }
+    requires names { HaveNames all }
     requires parts { parts ≡ parts_of all }
     requires sound { ArePartsOf all parts }
     ensures { Gives (λ w. w) result (first_fault (neighbours_are_mutual all ++ is_some_land (land_of (planet_of all)))) (planet_of all) }

@@ -2,7 +2,8 @@
 ghost use Rattle.std.specs.Prelude.{length};
 ghost use Rattle.toml.specs.View.{table_view};
 ghost use Rattle.atl_tables.specs.Drafts.{IsPlace, IsRegionDraft};
-ghost use Rattle.atl_tables.specs.Faults.{first_fault, Gives};
+ghost use Rattle.atl_tables.specs.Faults.{first_fault};
+ghost use Rattle.atl_tables.specs.Given.{Gives};
 ghost use Rattle.atl_tables.specs.RegionTable.{place_keys, place_from, side_keys, sides_from, region_keys, region_from, region_known, region_of};
 ghost use Rattle.atl_tables.specs.Planet.{IsRegionPlan};
 

@@ -1,7 +1,8 @@
 //! The regions by their numbers, of which no two are equal.
 ghost use Rattle.std.specs.Prelude.{◌≡◌, ◌≤◌, length, IfOk};
 ghost use Rattle.std.specs.FinMap.{len};
-ghost use Rattle.atl_tables.specs.Faults.{first_fault, Gives};
+ghost use Rattle.atl_tables.specs.Faults.{first_fault};
+ghost use Rattle.atl_tables.specs.Given.{Gives};
 ghost use Rattle.atl_tables.specs.Regions.{twin_numbers, by_number};
 
 use crate::fault::WorldFault;

@@ -2,14 +2,17 @@
 ghost use Rattle.std.specs.Prelude.{IfOk, length};
 ghost use Rattle.toml.specs.View.{table_view};
 ghost use Rattle.atl_tables.specs.Drafts.{ArePrices, ArePeasantRules, AreMenRules, AreRulesDraft, AreTables};
-ghost use Rattle.atl_tables.specs.Faults.{first_fault, Gives};
+ghost use Rattle.atl_tables.specs.Faults.{first_fault};
+ghost use Rattle.atl_tables.specs.Given.{Gives};
 ghost use Rattle.atl_tables.specs.Planet.{AreRules};
 ghost use Rattle.atl_tables.specs.RulesTable.{price_keys, prices_from, peasant_keys, peasants_from, men_keys, men_from, skill_name_keys, skill_names_from, rules_keys, rules_from, rules_conditions, rules_in, rules_known, rules_of};
 
 use crate::elements::Element;
 use crate::fault::WorldFault;
 use crate::keys;
-use crate::limits::MOST_AMOUNT;
+use crate::limits::{
+    MOST_AMOUNT, MOST_FRACTION, MOST_GROWTH, MOST_PER_HEAD, MOST_PRICE, MOST_WEIGHT,
+};
 use crate::tables::Tables;
 use crate::text::Text;
 use crate::titled::known_or_absent;
@@ -76,9 +79,9 @@ impl Element for Prices {
 
     #[tactic(auto, unfolding(crate::specs::RulesTable::price_keys, crate::specs::RulesTable::prices_from))]
     fn read(alloc: Global, at: &str, t: &Table) -> Result<Prices, WorldFault> {
-        let maintenance = keys::number(alloc, 1, 1_000, "maintenance", at, t)?;
-        let tax_per_man = keys::number(alloc, 0, 1_000, "tax_per_man", at, t)?;
-        let recruit_price = keys::number(alloc, 1, 1_000_000, "recruit_price", at, t)?;
+        let maintenance = keys::number(alloc, 1, MOST_PER_HEAD, "maintenance", at, t)?;
+        let tax_per_man = keys::number(alloc, 0, MOST_PER_HEAD, "tax_per_man", at, t)?;
+        let recruit_price = keys::number(alloc, 1, MOST_PRICE, "recruit_price", at, t)?;
         Ok(Prices {
             maintenance,
             tax_per_man,
@@ -96,9 +99,9 @@ impl Element for PeasantRules {
 
     #[tactic(auto, unfolding(crate::specs::RulesTable::peasant_keys, crate::specs::RulesTable::peasants_from))]
     fn read(alloc: Global, at: &str, t: &Table) -> Result<PeasantRules, WorldFault> {
-        let recruit_fraction = keys::number(alloc, 1, 1_000, "recruit_fraction", at, t)?;
-        let growth = keys::number(alloc, 0, 100, "growth", at, t)?;
-        let income = keys::number(alloc, 0, 1_000, "income", at, t)?;
+        let recruit_fraction = keys::number(alloc, 1, MOST_FRACTION, "recruit_fraction", at, t)?;
+        let growth = keys::number(alloc, 0, MOST_GROWTH, "growth", at, t)?;
+        let income = keys::number(alloc, 0, MOST_PER_HEAD, "income", at, t)?;
         Ok(PeasantRules {
             recruit_fraction,
             growth,
@@ -117,8 +120,8 @@ impl Element for MenRules {
     #[tactic(auto, unfolding(crate::specs::RulesTable::men_keys, crate::specs::RulesTable::men_from))]
     fn read(alloc: Global, at: &str, t: &Table) -> Result<MenRules, WorldFault> {
         let start_money = keys::number(alloc, 0, MOST_AMOUNT, "start_money", at, t)?;
-        let man_weight = keys::number(alloc, 0, 10_000, "man_weight", at, t)?;
-        let man_carry = keys::number(alloc, 0, 10_000, "man_carry", at, t)?;
+        let man_weight = keys::number(alloc, 0, MOST_WEIGHT, "man_weight", at, t)?;
+        let man_carry = keys::number(alloc, 0, MOST_WEIGHT, "man_carry", at, t)?;
         Ok(MenRules {
             start_money,
             man_weight,

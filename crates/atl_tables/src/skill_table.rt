@@ -5,6 +5,7 @@ ghost use Rattle.atl_tables.specs.SkillTable.{skill_keys, skill_from};
 use crate::elements::Element;
 use crate::fault::WorldFault;
 use crate::keys;
+use crate::limits::MOST_PRICE;
 use crate::text::Text;
 use crate::titled::Titled;
 use crate::world::Skill;
@@ -21,7 +22,7 @@ impl Element for Skill {
     #[tactic(auto, unfolding(crate::specs::SkillTable::skill_keys, crate::specs::SkillTable::skill_from))]
     fn read(alloc: Global, at: &str, t: &Table) -> Result<Skill, WorldFault> {
         let name = keys::name(alloc, "name", at, t)?;
-        let fee = keys::number(alloc, 0, 1_000_000, "fee", at, t)?;
+        let fee = keys::number(alloc, 0, MOST_PRICE, "fee", at, t)?;
         Ok(Skill { name, fee })
     }
 }

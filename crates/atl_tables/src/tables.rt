@@ -2,8 +2,10 @@
 ghost use Rattle.std.specs.Prelude.{◌≡◌, ℕ, IfOk, map};
 ghost use Rattle.std.specs.List.{All};
 ghost use Rattle.atl_tables.specs.Drafts.{AreTables};
-ghost use Rattle.atl_tables.specs.Each.{each, EachPlace};
-ghost use Rattle.atl_tables.specs.Faults.{Conditions, first_fault, Gives};
+ghost use Rattle.atl_tables.specs.Each.{each};
+ghost use Rattle.atl_tables.specs.Places.{EachPlace};
+ghost use Rattle.atl_tables.specs.Faults.{Conditions, first_fault};
+ghost use Rattle.atl_tables.specs.Given.{Gives};
 ghost use Rattle.atl_tables.specs.declared.tables.Tables.{Tables};
 
 use crate::fault::WorldFault;

@@ -2,14 +2,15 @@
 ghost use Rattle.std.specs.Prelude.{length};
 ghost use Rattle.atl_tables.specs.Drafts.{IsEconomy, IsTerrainDraft};
 ghost use Rattle.atl_tables.specs.Each.{each};
-ghost use Rattle.atl_tables.specs.Faults.{first_fault, Gives};
+ghost use Rattle.atl_tables.specs.Faults.{first_fault};
+ghost use Rattle.atl_tables.specs.Given.{Gives};
 ghost use Rattle.atl_tables.specs.Planet.{IsTerrain};
 ghost use Rattle.atl_tables.specs.TerrainTable.{economy_keys, economy_from, terrain_keys, terrain_from, terrain_twins, terrain_known, terrain_of};
 
 use crate::elements::Element;
 use crate::fault::WorldFault;
 use crate::keys::{self, indexed, path};
-use crate::limits::MOST_AMOUNT;
+use crate::limits::{MOST_AMOUNT, MOST_PRICE};
 use crate::output_table::{Output, amounts_of, known_keys, no_twin_keys, outputs};
 use crate::sequence::Sequence;
 use crate::tables::{Draft, Tables};
@@ -56,7 +57,7 @@ impl Element for Economy {
 
     #[tactic(auto, unfolding(crate::specs::TerrainTable::economy_keys, crate::specs::TerrainTable::economy_from))]
     fn read(alloc: Global, at: &str, t: &Table) -> Result<Economy, WorldFault> {
-        let wage = keys::number(alloc, 1, 1_000_000, "wage", at, t)?;
+        let wage = keys::number(alloc, 1, MOST_PRICE, "wage", at, t)?;
         let places = keys::number(alloc, 0, MOST_AMOUNT, "places", at, t)?;
         let money_limit = keys::number(alloc, 0, MOST_AMOUNT, "money_limit", at, t)?;
         let peasant_limit = keys::number(alloc, 0, MOST_AMOUNT, "peasant_limit", at, t)?;

@@ -1,9 +1,11 @@
 //! Names that may stand once only, and the numbers that names stand for.
 ghost use Rattle.std.specs.Prelude.{◌≡◌, ◌≤◌, ◌<◌, ℕ, List, length, IfOk, IfSome, Some, None, unwrap_or, option_and_then};
 ghost use Rattle.std.specs.List.{list_any};
-ghost use Rattle.atl_tables.specs.Faults.{first_fault, Gives};
+ghost use Rattle.atl_tables.specs.Faults.{first_fault};
+ghost use Rattle.atl_tables.specs.Given.{Gives};
 ghost use Rattle.atl_tables.specs.Keys.{path};
-ghost use Rattle.atl_tables.specs.Titles.{same_name, twins, number_of, known, known_or_absent};
+ghost use Rattle.atl_tables.specs.Titles.{twins, number_of, known, known_or_absent};
+ghost use Rattle.atl_tables.specs.Names.{same_name};
 
 use crate::fault::WorldFault;
 use crate::keys::{indexed, path};

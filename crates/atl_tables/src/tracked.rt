@@ -2,7 +2,7 @@
 ghost use Rattle.std.specs.Prelude.{◌≡◌, false, IfOk, OnOk, OnErr, option_copied, None};
 ghost use Rattle.std.specs.FinMap as map;
 ghost use Rattle.std.specs.FinSet as set;
-ghost use Rattle.atl_tables.specs.Places.{marked_in, put_mark, ArePlaces};
+ghost use Rattle.atl_tables.specs.MarkPlaces.{marked_in, put_mark, ArePlaces};
 ghost use Rattle.atl_tables.specs.Tracking.{with_value, without_value, taken_out};
 ghost use Rattle.atl_tables.specs.Sums.{mapped};
 
@@ -28,7 +28,7 @@ impl<V: Drop> Drop for Tracked<V> {
 
 impl<V> Model for Tracked<V> {
     ghost use Rattle.atl_tables.specs.Changing.{Changing, changing_code};
-    ghost use Rattle.atl_tables.specs.Places.{marked_in, ArePlaces};
+    ghost use Rattle.atl_tables.specs.MarkPlaces.{marked_in, ArePlaces};
 
     ghost Value = { Changing V };
 

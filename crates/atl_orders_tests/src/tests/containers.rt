@@ -105,17 +105,17 @@ fn no_entries(rt: HostRuntime) -> Result<(), Fail> {
     maps(&rt, rt.alloc(), &Numbered::new(rt.alloc()), &[])
 }
 
-/// The numbers of the faults, their names, and what is printed of each with the path `rules.growth`.
+/// The numbers of the faults (0 for none), their names, and their paths.
 const FAULTS: [(u8, &str, &str); 9] = [
-    (0, "Memory", "0 Memory"),
-    (1, "NotToml", "1 NotToml"),
-    (2, "Missing", "2 Missing rules.growth"),
-    (3, "WrongType", "3 WrongType rules.growth"),
-    (4, "OutOfRange", "4 OutOfRange rules.growth"),
-    (5, "TwoNames", "5 TwoNames rules.growth"),
-    (6, "UnknownName", "6 UnknownName rules.growth"),
-    (7, "BadNeighbour", "7 BadNeighbour rules.growth"),
-    (8, "NoLand", "8 NoLand"),
+    (0, "Memory", "none"),
+    (1, "NotToml", "none"),
+    (2, "Missing", "rules.growth"),
+    (3, "WrongType", "rules.growth"),
+    (4, "OutOfRange", "rules.growth"),
+    (5, "TwoNames", "rules.growth"),
+    (6, "UnknownName", "rules.growth"),
+    (7, "BadNeighbour", "rules.growth"),
+    (8, "NoLand", "none"),
 ];
 
 /// The fault of a number in docs/FORMATS.md, "Faults of a world file", about a path.
@@ -133,33 +133,22 @@ fn fault_of(number: u8, path: Text) -> WorldFault {
     }
 }
 
-fn fault_tells(
-    rt: &impl Abort,
-    alloc: Global,
-    fault: &WorldFault,
-    row: &(u8, &str, &str),
-) -> Result<(), Fail> {
-    let (number, name, text) = *row;
-    is_number(rt, fault.number().into(), number.into());
-    row_is(rt, text, fault.name(), name);
-    row_is(rt, text, fault.text(alloc)?.as_str(), text);
-    let path = match fault.path() {
+fn fault_tells(rt: &impl Abort, fault: &WorldFault, row: &(u8, &str, &str)) {
+    let (number, name, path) = *row;
+    is_number(rt, fault.number().unwrap_or(0).into(), number.into());
+    row_is(rt, name, fault.name(), name);
+    let told = match fault.path() {
         Some(path) => path.as_str(),
         None => "none",
     };
-    let wanted = if text.ends_with("growth") {
-        "rules.growth"
-    } else {
-        "none"
-    };
-    row_is(rt, text, path, wanted);
-    Ok(())
+    row_is(rt, name, told, path);
 }
 
 fn number_tells(rt: &impl Abort, alloc: Global, row: &(u8, &str, &str)) -> Result<(), Fail> {
     let path = Text::from_str(alloc, "rules.growth")?;
     let fault = fault_of(row.0, path);
-    fault_tells(rt, alloc, &fault, row)
+    fault_tells(rt, &fault, row);
+    Ok(())
 }
 
 fn faults_tell(rt: &impl Abort, alloc: Global, rows: &[(u8, &str, &str)]) -> Result<(), Fail> {

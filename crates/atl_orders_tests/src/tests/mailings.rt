@@ -2,9 +2,9 @@
 use super::asserts::{is_number, row_is};
 use super::worlds::{THINGS, world_with};
 use atl_orders::{
-    MailFault, Mailing, Order, read_mailing, readings_keep_bounds, rules_are_the_reading,
+    MailFault, Mailing, Order, Span, read_mailing, readings_keep_bounds, rules_are_the_reading,
 };
-use atl_tables::World;
+use atl_tables::{Text, World};
 use std::alloc::Global;
 use std::process::Abort;
 use std::test::Fail;
@@ -357,7 +357,8 @@ fn words_of(alloc: Global, mailing: &Mailing) -> Result<String, Fail> {
     for entry in mailing.entries.as_slice().iter() {
         words.push_str(entry.order.verb().keyword())?;
         if let Order::Name { name, .. } = &entry.order {
-            let name = mailing.name(alloc, *name)?;
+            let bytes = mailing.name(alloc, *name)?;
+            let name = Text::from_utf8(alloc, bytes.as_slice())?;
             words.push_str(" ")?;
             words.push_str(name.as_str())?;
         }
@@ -400,6 +401,43 @@ fn words_are(rt: &impl Abort, alloc: Global, world: &World) -> Result<(), Fail> 
 fn keywords_and_names(rt: HostRuntime) -> Result<(), Fail> {
     let world = world_with(rt.alloc(), THINGS)?;
     words_are(&rt, rt.alloc(), &world)
+}
+
+/// Spans of `#ATLANTIS 1`, a line feed, `_` and a byte that is no text: where each starts and ends, whether it is quoted, and
+/// its bytes as a name.
+const SPANS: [(usize, usize, bool, &[u8]); 5] = [
+    (12, 14, false, b" \xFF"),
+    (12, 14, true, b"_\xFF"),
+    (10, 900, false, b"1\n \xFF"),
+    (13, 12, false, b""),
+    (900, 901, true, b""),
+];
+
+fn span_names(
+    rt: &impl Abort,
+    alloc: Global,
+    mailing: &Mailing,
+    row: &(usize, usize, bool, &[u8]),
+) -> Result<(), Fail> {
+    let (start, end, quoted, wanted) = *row;
+    let span = Span { start, end, quoted };
+    let name = mailing.name(alloc, span)?;
+    assert!(rt; name.as_slice() == wanted);
+    Ok(())
+}
+
+fn spans_name(rt: &impl Abort, alloc: Global, mailing: &Mailing) -> Result<(), Fail> {
+    for row in SPANS.iter() {
+        span_names(rt, alloc, mailing, row)?;
+    }
+    Ok(())
+}
+
+#[test]
+fn any_span(rt: HostRuntime) -> Result<(), Fail> {
+    let world = world_with(rt.alloc(), THINGS)?;
+    let mailing = read_mailing(rt.alloc(), &world, b"#ATLANTIS 1\n_\xFF")?;
+    spans_name(&rt, rt.alloc(), &mailing)
 }
 
 /// Asserts the faction of a mailing, and that it keeps the text that was read.

@@ -2,10 +2,10 @@ use Rattle.std.proofs.Common.{IfSome, ◌≡◌, ◌+◌, ◌<◌, ◌^◌, ◌+
 use Rattle.std.specs.List.{flat_map}
 use Rattle.std.specs.Option.{option_copied}
 use Rattle.atl_orders.specs.declared.reading.Place.TheVariants.{Nowhere}
-use Rattle.atl_orders.specs.Aliasing.{no_alias, given_by}
-use Rattle.atl_orders.specs.Words.{EndsWith}
-use Rattle.atl_orders.specs.Lines.{lines_of_rest, left_size}
-use Rattle.atl_orders.specs.Mailing.{effects, entry_of, fault_of, body_entries, headed}
+use Rattle.atl_orders.specs.Aliasing.{no_alias}
+use Rattle.atl_orders.specs.Views.{given_by, lines_of_rest, left_size, body_entries, headed}
+use Rattle.atl_orders.specs.Standing.{EndsWith}
+use Rattle.atl_orders.specs.Mailing.{effects, entry_of, fault_of}
 use Rattle.atl_orders.proofs.mailing.read_body.Given as goal
 
 abbrev pub invariant-loop-rest : goal.invariant-loop-rest

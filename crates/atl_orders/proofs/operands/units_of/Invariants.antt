@@ -1,6 +1,7 @@
 use Rattle.std.proofs.Common.{◌≡◌, length}
 use Rattle.atl_orders.specs.Words.{words}
-use Rattle.atl_orders.specs.Operands.{units_of, with_units}
+use Rattle.atl_orders.specs.Operands.{units_of}
+use Rattle.atl_orders.specs.Views.{with_units}
 use Rattle.atl_orders.proofs.operands.units_of.Given as goal
 
 abbrev pub invariant-words : goal.invariant-words

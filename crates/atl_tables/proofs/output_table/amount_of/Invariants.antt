@@ -1,6 +1,6 @@
 use Rattle.std.proofs.Common.{◌≡◌, drop}
 use Rattle.std.specs.List.{find}
-use Rattle.atl_tables.specs.Titles.{same_name}
+use Rattle.atl_tables.specs.Names.{same_name}
 use Rattle.atl_tables.proofs.output_table.amount_of.Given as goal
 
 abbrev pub invariant-loop-output : goal.invariant-loop-output

@@ -1,14 +1,15 @@
 use Rattle.std.proofs.Common.{◌≡◌, ◌++◌}
 use Rattle.std.specs.List.{All}
-use Rattle.toml.specs.View.{members_view, table_view}
+use Rattle.toml.specs.View.{table_view}
 use Rattle.atl_tables.specs.Drafts.{IsOutput}
 use Rattle.atl_tables.specs.Faults.{first_fault}
-use Rattle.atl_tables.specs.OutputTable.{amounts_keys, amounts_from}
+use Rattle.atl_tables.specs.OutputTable.{in_byte_order, amounts_keys, amounts_from}
+use Rattle.atl_tables.proofs.OutputLaws.{pairs}
 use Rattle.atl_tables.proofs.output_table.amounts.Given as goal
 
 abbrev pub invariant-loop-key : goal.invariant-loop-key
 invariant-loop-key l = record {
-  faults : first_fault (amounts_keys l.at (members_view l.key-iterator)) ≡ first_fault (amounts_keys l.at (table_view l.table));
-  read : l.outputs ++ amounts_from l.at (members_view l.key-iterator) ≡ amounts_from l.at (table_view l.table);
+  faults : first_fault (amounts_keys l.at (pairs l.key-iterator)) ≡ first_fault (amounts_keys l.at (in_byte_order (table_view l.table)));
+  read : l.outputs ++ amounts_from l.at (pairs l.key-iterator) ≡ amounts_from l.at (in_byte_order (table_view l.table));
   sound : All IsOutput l.outputs;
 }

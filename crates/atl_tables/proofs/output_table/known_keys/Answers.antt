@@ -1,6 +1,7 @@
 use Rattle.std.proofs.Common.{◌≡◌, ℕ, List, [], None, refl}
 use Rattle.std.proofs.lemmas.Result.{err_from_is_err_and}
-use Rattle.atl_tables.specs.Faults.{first_fault, Stops}
+use Rattle.atl_tables.specs.Faults.{first_fault}
+use Rattle.atl_tables.specs.Given.{Stops}
 use Rattle.atl_tables.specs.Keys.{path}
 use Rattle.atl_tables.specs.OutputTable.{known_key_at}
 use Rattle.atl_tables.specs.Titles.{known, item_number}

@@ -5,6 +5,7 @@ use Rattle.atl_tables.specs.Planet.{land_of}
 use Rattle.atl_tables.specs.World.{names_differ, names_are_known, neighbours_are_mutual, is_some_land, planet_of}
 use Rattle.atl_tables.specs.declared.tables.Tables.{Tables}
 use Rattle.atl_tables.proofs.FaultLaws.{stops_on, stops_after, gives_after}
+use Rattle.atl_tables.proofs.TwinLaws.{have_names}
 use Rattle.atl_tables.proofs.reading.from_tables.Goals as goal
 
 abbrev last : Tables → Conditions
@@ -28,3 +29,6 @@ returns c =
     let all = c.args.all in
     gives_after (λ w. w) c.join.result (names_differ all) (names_are_known all ++ last all) (planet_of all) c.in_ok-names_differ.ensures.0
     (gives_after (λ w. w) c.join.result (names_are_known all) (last all) (planet_of all) c.in_ok-parts.ensures.value.0 c.join.ensures)
+
+pub join-requires-clause-names : goal.join-requires-clause-names
+join-requires-clause-names c = have_names c.args.all c.in_ok-names_differ.ensures.0

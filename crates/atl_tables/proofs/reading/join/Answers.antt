@@ -2,7 +2,8 @@ use Rattle.std.proofs.Common.{◌≡◌, ◌<◌, List, length, subst, sym, ap, 
 use Rattle.std.proofs.lemmas.Result.{err_from_is_err_and}
 use Rattle.std.specs.FinMap.{FinMap}
 use Rattle.std.specs.Ordering.{nat_cmp}
-use Rattle.atl_tables.specs.Faults.{Conditions, first_fault, Gives}
+use Rattle.atl_tables.specs.Faults.{Conditions, first_fault}
+use Rattle.atl_tables.specs.Given.{Gives}
 use Rattle.atl_tables.specs.Parts.{parts_of, ArePartsOf}
 use Rattle.atl_tables.specs.Planet.{Planet, IsWorld, land_of}
 use Rattle.atl_tables.specs.Regions.{by_number}
@@ -42,7 +43,7 @@ with_land-requires c =
     let made = c.in_ok-regions.ensures.value ∙ regions_are all c.args.parts c.into_vec.result.items c.requires.parts c.into_vec.ensures in
     let e = planet_is all c.args.parts c.in_ok-regions.regions c.requires.parts made in
     let back = rw (c.as_slice.ensures, made) at c.in_ok-mutual_neighbours.ensures.back in
-    record { world = rw c.into_skills-skills.ensures (subst (λ (w : Planet). 0 < length (land_of w) → IsWorld w) (sym e) (is_world all c.requires.all (subst (ArePartsOf all) c.requires.parts c.requires.sound) back)) }
+    record { world = rw c.into_skills-skills.ensures (subst (λ (w : Planet). 0 < length (land_of w) → IsWorld w) (sym e) (is_world all c.requires.all (subst (ArePartsOf all) c.requires.parts c.requires.sound) c.requires.names back)) }
 
 pub returns : goal.returns
 unfolding neighbours_are_mutual

@@ -1,5 +1,6 @@
 use Rattle.std.proofs.Common.{◌≡◌, ◌++◌, drop, length, map}
-use Rattle.atl_tables.specs.Each.{each, EachPlace}
+use Rattle.atl_tables.specs.Each.{each}
+use Rattle.atl_tables.specs.Places.{EachPlace}
 use Rattle.atl_tables.specs.Faults.{first_fault}
 use Rattle.atl_tables.proofs.tables.resolve_all.Given as goal
 

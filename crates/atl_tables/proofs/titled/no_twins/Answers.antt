@@ -3,7 +3,8 @@ use Rattle.std.specs.List.{list_any}
 use Rattle.atl_tables.specs.declared.fault.WorldFault.TheVariants.{TwoNames}
 use Rattle.atl_tables.specs.Faults.{first_fault}
 use Rattle.atl_tables.specs.Keys.{path, indexed}
-use Rattle.atl_tables.specs.Titles.{same_name, twin_at}
+use Rattle.atl_tables.specs.Titles.{twin_at}
+use Rattle.atl_tables.specs.Names.{same_name}
 use Rattle.atl_tables.proofs.EachLaws.{goes_on_at, ends_at}
 use Rattle.atl_tables.proofs.titled.no_twins.Goals as goal
 

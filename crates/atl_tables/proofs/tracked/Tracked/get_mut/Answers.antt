@@ -3,7 +3,7 @@ use Rattle.std.specs.Prelude.{is_some}
 use Rattle.std.specs.FinMap.{get, insert}
 use Rattle.std.specs.FinSet as set
 use Rattle.atl_tables.specs.Changing.{Changing}
-use Rattle.atl_tables.specs.Places.{marked_in}
+use Rattle.atl_tables.specs.MarkPlaces.{marked_in}
 use Rattle.atl_tables.specs.Tracking.{marked_with}
 use Rattle.atl_tables.proofs.TrackLaws.{ArePlaces-lent, marked-put}
 use Rattle.atl_tables.proofs.tracked.Tracked.get_mut.Goals as goal

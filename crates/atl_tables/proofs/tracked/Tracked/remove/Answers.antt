@@ -1,6 +1,6 @@
 use Rattle.std.proofs.Common.{refl}
 use Rattle.std.specs.FinMap.{get}
-use Rattle.atl_tables.specs.Places.{marked_in}
+use Rattle.atl_tables.specs.MarkPlaces.{marked_in}
 use Rattle.atl_tables.proofs.TrackLaws.{ArePlaces-without, marked-put, without_value_is}
 use Rattle.atl_tables.proofs.tracked.Tracked.remove.Goals as goal
 

@@ -1,0 +1,99 @@
+-- The rules of a whole text and the reading are one.
+use Rattle.std.proofs.Common.{◌≡◌, ℕ, suc, ◌+◌, ◌<◌, ◌≤◌, ◌++◌, Bool, true, false, cond, List, [], ◌∷◌, length, Option, Some, None, Result, Err, nat_lt, refl, sym, ap, ◌∙◌, arith}
+use Rattle.std.proofs.lemmas.Bool.Decides.{nat_tests}
+use Rattle.std.proofs.lemmas.List.Elements.{All-nil, All-cons, All-head, All-tail}
+use Rattle.atl_tables.specs.Planet.{Planet}
+use Rattle.atl_orders.specs.declared.fault.MailFault.{MailFault}
+use Rattle.atl_orders.specs.declared.fault.MailFault.TheVariants.{TooLong, NoHeader}
+use Rattle.atl_orders.specs.declared.reading.Place.TheVariants.{Nowhere}
+use Rattle.atl_orders.specs.Limits.{most_bytes}
+use Rattle.atl_orders.specs.Aliasing.{no_alias}
+use Rattle.atl_orders.specs.Lines.{lines}
+use Rattle.atl_orders.specs.Words.{words}
+use Rattle.atl_orders.specs.Mailing.{faction_of, header_line, header_from, Reading, behind_header, reading}
+use Rattle.atl_orders.specs.Rules.{is_header, HaveNoHeader, HaveHeader, TextSays, too_long, no_header, bad_header, mailing}
+use Rattle.atl_orders.proofs.RuleLaws.{body_fits, body_only}
+
+abbrev IsOutside : List ℕ → Type 0
+IsOutside line = is_header line ≡ false
+
+-- ---- the header of some lines, of which the first has the number n
+
+-- there is none, or the first one
+data Found (n : ℕ) (all : List (List ℕ)) : Type 0 where
+  none : HaveNoHeader all → header_from n all ≡ Err NoHeader → Found n all
+  one : (before : List (List ℕ)) (header : List ℕ) (behind : List (List ℕ)) → HaveHeader all before header behind
+      → header_from n all ≡ header_line (length before + n) behind (faction_of (words header)) → Found n all
+
+later : (n k : ℕ) → k + (n + 1) ≡ suc k + n
+later n k = omega arith
+
+from_none : (n : ℕ) → 0 + n ≡ n
+from_none n = omega arith
+
+more : (n : ℕ) (line : List ℕ) (rest : List (List ℕ)) → IsOutside line → header_from n (line ∷ rest) ≡ header_from (n + 1) rest → Found (n + 1) rest → Found n (line ∷ rest)
+more n line rest h e (none a f) = none (All-cons IsOutside line rest h a) (e ∙ f)
+more n line rest h e (one before header behind is f) =
+    one (line ∷ before) header behind (record { whole = ap (λ l. line ∷ l) is.whole; leads = is.leads; first = All-cons IsOutside line before h is.first })
+    (e ∙ f ∙ ap (λ k. header_line k behind (faction_of (words header))) (later n (length before)))
+
+tested : (t : Bool) (n : ℕ) (line : List ℕ) (rest : List (List ℕ)) → is_header line ≡ t → header_from n (line ∷ rest) ≡ cond t (header_line n rest (faction_of (words line))) (header_from (n + 1) rest) → Found (n + 1) rest → Found n (line ∷ rest)
+tested true n line rest h e f = one [] line rest (record { whole = refl; leads = h; first = All-nil IsOutside }) (e ∙ ap (λ k. header_line k rest (faction_of (words line))) (sym (from_none n)))
+tested false n line rest h e f = more n line rest h e f
+
+found : (n : ℕ) (all : List (List ℕ)) → Found n all
+unfolding header_from
+found n [] = none (All-nil IsOutside) refl
+found n (line ∷ rest) = tested (is_header line) n line rest refl refl (found (n + 1) rest)
+
+-- no line, and the first one, give what the function gives
+no_one : (n : ℕ) (all : List (List ℕ)) → HaveNoHeader all → header_from n all ≡ Err NoHeader
+unfolding header_from
+no_one n [] a = refl
+no_one n (line ∷ rest) a = rw (All-head IsOutside line rest a) (no_one (n + 1) rest (All-tail IsOutside line rest a))
+
+first_one : (n : ℕ) (before : List (List ℕ)) (header : List ℕ) (behind : List (List ℕ)) → HaveNoHeader before → is_header header ≡ true → header_from n (before ++ header ∷ behind) ≡ header_line (length before + n) behind (faction_of (words header))
+unfolding header_from
+first_one n [] header behind a h = rw h (ap (λ k. header_line k behind (faction_of (words header))) (sym (from_none n)))
+first_one n (line ∷ before) header behind a h = rw (All-head IsOutside line before a) (first_one (n + 1) before header behind (All-tail IsOutside line before a) h ∙ ap (λ k. header_line k behind (faction_of (words header))) (later n (length before)))
+
+-- ---- a whole text
+
+numbered : (k : ℕ) → k + 1 + 1 ≡ k + 2
+numbered k = omega arith
+
+module _ (world : Planet) (text : List ℕ) where
+  headed_fits : (o : Option ℕ) → length text ≤ most_bytes → (before : List (List ℕ)) (header : List ℕ) (behind : List (List ℕ)) → HaveHeader (lines text) before header behind → faction_of (words header) ≡ o → TextSays world text (behind_header world (header_line (length before + 1) behind o))
+  headed_fits None s before header behind is f = bad_header s before header behind is f refl
+  headed_fits (Some faction) s before header behind is f =
+      rw (numbered (length before)) (mailing s before header behind is faction f _ _ (body_fits world (length before + 2) Nowhere no_alias behind) refl)
+
+  found_fits : length text ≤ most_bytes → Found 1 (lines text) → TextSays world text (behind_header world (header_from 1 (lines text)))
+  found_fits s (none a e) = rw e (no_header s a refl)
+  found_fits s (one before header behind is e) = rw e (headed_fits (faction_of (words header)) s before header behind is refl)
+
+  sized_fits : (t : Bool) → nat_lt most_bytes (length text) ≡ t → TextSays world text (cond t (Err TooLong) (behind_header world (header_from 1 (lines text))))
+  sized_fits true h = too_long (grind (arith, nat_tests)) refl
+  sized_fits false h = found_fits (grind (arith, nat_tests)) (found 1 (lines text))
+
+  pub text_fits : TextSays world text (reading world text)
+  unfolding reading
+  text_fits = sized_fits (nat_lt most_bytes (length text)) refl
+
+  long_is : most_bytes < length text → nat_lt most_bytes (length text) ≡ true
+  long_is h = grind (arith, nat_tests)
+
+  short_is : length text ≤ most_bytes → nat_lt most_bytes (length text) ≡ false
+  short_is h = grind (arith, nat_tests)
+
+  first_is : (before : List (List ℕ)) (header : List ℕ) (behind : List (List ℕ)) → HaveHeader (lines text) before header behind → header_from 1 (lines text) ≡ header_line (length before + 1) behind (faction_of (words header))
+  first_is before header behind is = ap (header_from 1) is.whole ∙ first_one 1 before header behind is.first is.leads
+
+  pub text_only : (read : Result Reading MailFault) → TextSays world text read → read ≡ reading world text
+  unfolding reading
+  text_only read (too_long h e) = rw (long_is h) e
+  text_only read (no_header s a e) = rw (short_is s, no_one 1 (lines text) a) e
+  text_only read (bad_header s before header behind is f e) = rw (short_is s, first_is before header behind is, f) e
+  text_only read (mailing s before header behind is faction f entries faults b e) =
+      let only = body_only world (length before + 2) Nowhere no_alias behind entries faults b in
+      rw (short_is s, first_is before header behind is, f, numbered (length before)) (e ∙ rw (only.0, only.1) refl)

@@ -1,0 +1,60 @@
+-- For the proofs alone: what the values that the code works with stand for.
+use Rattle.std.specs.Prelude.{◌≡◌, ℕ, ◌+◌, ◌++◌, Bool, false, List, [], map, length, Option, Some, None, Result, Ok, Err, slice_index_or}
+use Rattle.std.specs.Option.{option_copied}
+use Rattle.atl_orders.specs.declared.aliases.Aliases.{Aliases}
+use Rattle.atl_orders.specs.declared.fault.LineFault.{LineFault}
+use Rattle.atl_orders.specs.declared.mailing.Body.{Body}
+use Rattle.atl_orders.specs.declared.mailing.Header.{Header}
+use Rattle.atl_orders.specs.declared.order.UnitRef.{UnitRef}
+use Rattle.atl_orders.specs.declared.reading.Outcome.{Outcome}
+use Rattle.atl_orders.specs.declared.reading.Outcome.TheVariants as outcomes
+use Rattle.atl_orders.specs.declared.words.Word.{Word}
+use Rattle.atl_orders.specs.Lines.{lines}
+use Rattle.atl_orders.specs.Mailing.{EntrySaid, entry_said, Headed}
+use Rattle.atl_orders.specs.Operands.{◌>>=◌}
+use Rattle.atl_orders.specs.Orders.{said}
+use Rattle.atl_orders.specs.Reading.{Effect, nothing, faulty, says}
+use Rattle.atl_orders.specs.Words.{WordText}
+
+-- a word of the code, without where it lies
+abbrev pub word_text : Word → WordText
+word_text w = record { bytes = w.bytes.now; quoted = w.quoted }
+
+-- the lines of what follows a line feed, if there was one
+abbrev pub lines_of_rest : Option (List ℕ) → List (List ℕ)
+lines_of_rest None = []
+lines_of_rest (Some text) = lines text
+
+-- at most how many lines are left
+abbrev pub left_size : Option (List ℕ) → ℕ
+left_size None = 0
+left_size (Some text) = length text + 1
+
+-- What a function returned, seen by view, is what reading gives.
+abbrev pub viewed : {X Y : Type 0} → (X → Y) → Result X LineFault → Result Y LineFault
+viewed view (Ok x) = Ok (view x)
+viewed view (Err e) = Err e
+
+abbrev pub Gives : {X Y : Type 0} → (X → Y) → Result X LineFault → Result Y LineFault → Type 0
+Gives view result read = read ≡ viewed view result
+
+-- units read so far, with what the others give
+abbrev pub with_units : List UnitRef → Result (List UnitRef) LineFault → Result (List UnitRef) LineFault
+with_units front units = units >>= λ us. Ok (front ++ us)
+
+-- what the code keeps, as a test of aliases
+abbrev pub given_by : Aliases → ℕ → Bool
+given_by aliases k = slice_index_or aliases.given.items k false
+
+-- what the code answers, seen as an effect
+abbrev pub effect_of : List ℕ → Outcome → Effect
+effect_of text outcomes.Nothing = nothing
+effect_of text (outcomes.Faulty fault) = faulty fault
+effect_of text (outcomes.Says unit order) = says unit (said text order)
+
+-- a header, seen as the lines behind it
+abbrev pub headed : Header → Headed
+headed h = record { faction = h.faction; next = h.next; rest = lines_of_rest (option_copied h.rest) }
+
+abbrev pub body_entries : List ℕ → Body → List EntrySaid
+body_entries text b = map (entry_said text) b.entries
