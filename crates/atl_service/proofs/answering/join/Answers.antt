@@ -69,5 +69,5 @@ write_join-requires-clause-arrived g c =
     let w = c.args.world.now in
     let old = c.args.campaign.now.what in
     let is = rw (c.as_slice-3.ensures, c.as_slice-4.ensures) at c.in-Ok.ensures.definition in
-    let done : c.store_report.new.campaign.what ≡ reported w c.join.new.self.what c.in-Ok.numbers.0 = c.in_ok-store_report.ensures in
+    let done : c.store_report.new.campaign.what ≡ reported w c.join.new.self.what c.in-Ok.numbers.0 = c.in_ok-store_report.ensures.ok in
     rw done (arrives w c.args.name.now c.args.pass.now c.args.word old c.join.new.self.what c.in-Ok.numbers.0 c.in-Ok.numbers.1 c.requires.good is)
