@@ -14,10 +14,12 @@ enum Step {
     /// Another value where there is one, by what is lent.
     Change(u32, u32),
     Remove(u32),
+    /// What was inserted is taken out again, and its number is not marked.
+    TakeOut(u32),
 }
 
 /// Steps from the map of 1, 20 and 30, with how many values and how many marks there are after each.
-const STEPS: [(Step, usize, usize); 10] = [
+const STEPS: [(Step, usize, usize); 12] = [
     (Step::Remove(2), 3, 0),
     (Step::Change(2, 5), 3, 0),
     (Step::Change(20, 5), 3, 1),
@@ -28,6 +30,8 @@ const STEPS: [(Step, usize, usize); 10] = [
     (Step::Remove(5), 4, 4),
     (Step::Remove(30), 3, 5),
     (Step::Insert(30, 7), 4, 5),
+    (Step::Insert(8, 1), 5, 6),
+    (Step::TakeOut(8), 4, 5),
 ];
 
 fn inserts(map: &mut Tracked<u32>, number: u32, value: u32) -> Result<(), Fail> {
@@ -55,6 +59,10 @@ fn does(map: &mut Tracked<u32>, step: Step) -> Result<(), Fail> {
             map.remove(number);
             Ok(())
         }
+        Step::TakeOut(number) => {
+            map.take_out(number, false);
+            Ok(())
+        }
     }
 }
 
@@ -74,6 +82,8 @@ fn steps_do(
 fn holds(rt: &impl Abort, alloc: Global, map: &Tracked<u32>) -> Result<(), Fail> {
     assert!(rt; map.get(20) == Some(&6));
     assert!(rt; map.get(5).is_none());
+    assert!(rt; map.is_marked(5));
+    assert!(rt; !map.is_marked(8));
     is_number(rt, map.iter().count(), 4);
     maps(rt, alloc, map.values(), &[1, 8, 4, 4, 20, 6, 30, 7])
 }

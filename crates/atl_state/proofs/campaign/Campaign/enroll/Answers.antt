@@ -1,15 +1,12 @@
 use Rattle.std.proofs.Common.{◌≡◌, ◌+◌, None, true, List, length, set, ap, ◌∙◌, refl, arith}
 use Rattle.std.specs.Prelude.{ℤ}
 use Rattle.std.specs.FinMap.{get}
-use Rattle.atl_tables.specs.Changing.{Changing}
-use Rattle.atl_tables.specs.Tracking.{with_value, taken_out}
-use Rattle.atl_tables.proofs.TrackLaws.{taken_out-undone}
 use Rattle.atl_state.specs.declared.books.Entry.TheVariants.{Joining}
 use Rattle.atl_state.specs.declared.books.Thing.TheVariants.{Money, People}
-use Rattle.atl_state.specs.declared.records.Faction.{Faction}
 use Rattle.atl_state.specs.Kept.{set_from}
-use Rattle.atl_state.specs.Marks.{Marks, amount_marked}
+use Rattle.atl_state.specs.Marks.{Marks, amount_number, amount_marked}
 use Rattle.atl_state.proofs.FlagLaws.{two_set}
+use Rattle.atl_state.proofs.MadeOf.{undone}
 use Rattle.atl_state.specs.State.{State, Marked}
 use Rattle.atl_state.specs.Joining.{joined}
 use Rattle.atl_state.proofs.JoinLaws.{joining_small}
@@ -30,10 +27,9 @@ returns-in-Err-clause-err c =
     let fresh : get c.self.inside.factions.values c.self.inside.next_faction ≡ None = rw (← c.self.view_is) at (c.requires.good.factions_new c.args.self.now.what.next_faction (omega arith)) in
     let same = c.self-2.view_is ∙ c.in-Err.ensures.err in
     let inserted : c.self-2.inside.factions ≡ c.insert.new.self = ap (λ (m : Marked). record { values = m.what.factions; marks = m.marks.factions }) same in
-    let back : c.take_out.new.self ≡ c.self.inside.factions =
-    c.take_out.ensures ∙ ap (λ (t : Changing Faction). taken_out t c.self.inside.next_faction c.is_marked-was_marked.result) (inserted ∙ c.in_ok-insert.ensures.ok)
-    ∙ ap (taken_out (with_value c.self.inside.factions c.self.inside.next_faction c.in_ok-member.member) c.self.inside.next_faction) c.is_marked-was_marked.ensures
-    ∙ taken_out-undone c.self.inside.factions c.self.inside.next_faction c.in_ok-member.member fresh in
+    let back =
+    undone c.self.inside.factions c.self-2.inside.factions c.take_out.new.self c.self.inside.next_faction c.in_ok-member.member c.is_marked-was_marked.result fresh c.is_marked-was_marked.ensures (inserted ∙ c.in_ok-insert.ensures.ok)
+    c.take_out.ensures in
     rw back
     (ap (λ (m : Marked). record { what = record m.what { factions = c.self.inside.factions.values }; marks = record m.marks { factions = c.self.inside.factions.marks } }) same ∙ c.self.view_is)
 
@@ -45,8 +41,8 @@ returns-clause-marks c =
     let places = c.self-2.invariant.amounts in
     let rows = ap (λ (b : List (List ℤ)). length b) books ∙ c.requires.good.grid.rows in
     let marked : set_from 0 c.mark-2.new.self ≡ amount_marked (amount_marked c.args.self.now.marks.books Joining Money) Joining People =
-    ap (set_from 0) (c.mark-2.ensures ∙ ap (λ b. set b 14 true) c.mark.ensures) ∙ two_set flags 1 14 (omega (arith, places, rows)) (omega (arith, places, rows))
-    ∙ ap (λ (m : Marks). amount_marked (amount_marked m.books Joining Money) Joining People) (same ∙ refl) ∙ ap (λ (m : Marked). amount_marked (amount_marked m.marks.books Joining Money) Joining People) c.self.view_is in
+    ap (set_from 0) (c.mark-2.ensures ∙ ap (λ b. set b (amount_number Joining People) true) c.mark.ensures) ∙ two_set flags (amount_number Joining Money) (amount_number Joining People) (omega (arith, places, rows)) (omega (arith, places, rows))
+    ∙ ap (λ (m : Marks). amount_marked (amount_marked m.books Joining Money) Joining People) same ∙ ap (λ (m : Marked). amount_marked (amount_marked m.marks.books Joining Money) Joining People) c.self.view_is in
     ap (λ (m : Marks). record m { books = set_from 0 c.mark-2.new.self; row = true }) same ∙ rw (marked, ← c.self.view_is, c.in_ok-insert.ensures.ok) refl
 
 pub returns-clause-ok : goal.returns-clause-ok
