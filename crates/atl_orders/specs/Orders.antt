@@ -171,7 +171,7 @@ said text (orders.Study skill) = orders.Study skill
 said text (orders.Produce item) = orders.Produce item
 said text orders.Work = orders.Work
 
--- the verb of an order of the code, and of what it says
+-- the verb of an order, of the code or of the definitions
 abbrev pub verb_of_order : {N : Type 0} → Order N → Verb
 verb_of_order (orders.Form alias) = verbs.Form
 verb_of_order (orders.Name what span) = verbs.Name
