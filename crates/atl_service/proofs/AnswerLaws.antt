@@ -1,7 +1,7 @@
 -- A command that is refused is answered, and changes nothing.
-use Rattle.std.proofs.Common.{◌≡◌, false, refl, arith}
+use Rattle.std.proofs.Common.{◌≡◌, refl}
 use Rattle.sqlite_trees.specs.declared.store.Store.{Ghosts}
-use Rattle.sqlite.specs.Held.{Held, state}
+use Rattle.sqlite.specs.Held.{Held}
 use Rattle.atl_tables.specs.Planet.{Planet}
 use Rattle.atl_state.specs.State.{State as Campaign}
 use Rattle.atl_state.specs.Good.{IsGood}
@@ -9,8 +9,7 @@ use Rattle.atl_service.specs.declared.command.Command.{Command}
 use Rattle.atl_service.specs.declared.command.Answer.TheVariants.{Refused}
 use Rattle.atl_service.specs.declared.command.Refusal.{Refusal}
 use Rattle.atl_service.specs.Step.{step}
-use Rattle.atl_service.specs.Answering.{Answers, LeavesIdle}
-use Rattle.atl_store.proofs.CarryLaws.{carries_none}
+use Rattle.atl_service.specs.Answering.{Answers}
 
 pub is_refused : {S : Type 0} (g : Ghosts S) (w : Planet) (c : Campaign) (conn : Held S) (command : Command) (why : Refusal) → step w c command ≡ (c, Refused why) → IsGood w c
     → Answers g w c conn command c conn (Refused why)
@@ -22,7 +21,3 @@ is_refused g w c conn command why is good = record {
   balances = λ h. h;
   tables = λ clean text keeps. keeps;
 }
-
--- where nothing is done, the connection is left as it is
-pub idle_itself : {S : Type 0} (g : Ghosts S) (conn : Held S) → conn.in_transaction ≡ false → LeavesIdle g conn conn
-idle_itself g conn idle = record { idle = idle; later = record { clean = λ clean. clean; counts = omega arith }; others = λ clean up has settled. carries_none (state g conn).now }

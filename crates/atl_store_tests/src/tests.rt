@@ -4,5 +4,6 @@ mod counts;
 mod crashes;
 mod founding;
 mod making;
+mod others;
 mod worlds;
 mod writes;

@@ -1,7 +1,8 @@
 //! Why no campaign is founded.
 use super::compare::is_text;
-use super::making::begun;
-use super::worlds::SMALL;
+use super::making::{begun, join, told as answered};
+use super::tables::{MONEY, holds};
+use super::worlds::{POOR, SMALL};
 use atl_service::{Cause, Refused, found};
 use sqlite::{Alter, Connection};
 use std::alloc::Global;
@@ -70,4 +71,37 @@ fn refuses_another<S: Alter + Drop>(
 fn a_campaign_is_founded_once(rt: HostRuntime) -> Result<(), Fail> {
     let conn = Connection::open_in_memory(rt.alloc())?;
     refuses_another(&rt, rt.alloc(), conn)
+}
+
+const JOINING_MONEY: &str = "SELECT count(*) FROM books WHERE entry = 2 AND thing = 0";
+
+const JOINING_PEOPLE: &str = "SELECT sum(amount) FROM books WHERE entry = 2 AND thing = 1";
+
+/// Asserts that a faction joins without money, and that no money is booked under joining.
+fn joins_without_money<S: Alter + Drop>(
+    rt: &impl Abort,
+    alloc: Global,
+    conn: Connection<S>,
+) -> Result<(), Fail> {
+    let join = join(alloc, "Avalon", "pw", 0)?;
+    let mut service = begun(alloc, conn, POOR)?;
+    let answer = service.run(&join);
+    is_text(rt, answered(&answer), "joined");
+    let mut conn = service.end();
+    holds(
+        rt,
+        &mut conn,
+        &[
+            (JOINING_MONEY, Some(0)),
+            (JOINING_PEOPLE, Some(1)),
+            (MONEY, Some(0)),
+        ],
+    );
+    Ok(())
+}
+
+#[test]
+fn nothing_is_booked_of_no_money(rt: HostRuntime) -> Result<(), Fail> {
+    let conn = Connection::open_in_memory(rt.alloc())?;
+    joins_without_money(&rt, rt.alloc(), conn)
 }

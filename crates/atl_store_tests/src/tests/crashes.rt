@@ -2,7 +2,7 @@
 ghost use Rattle.std.specs.Prelude.{◌≡◌, false};
 
 use super::counts::{count_books, count_factions, count_units};
-use super::making::{joined, small};
+use super::making::{has_arrived, has_few_things, joined, small};
 use super::worlds::SMALL;
 use atl_state::Campaign;
 use atl_store::{CreateFault, WriteFault, create, write_join};
@@ -25,6 +25,9 @@ enum Answered {
 fn join<S: Alter>(conn: &mut Connection<S>, joined: &Campaign) -> Answered
     requires { conn.old.in_transaction ≡ false }
 {
+    if !has_arrived(joined) {
+        return Answered::Wrong;
+    }
     match write_join(conn, joined, 1) {
         Ok(()) => Answered::Joined,
         Err(WriteFault::Store) => Answered::Created,
@@ -34,6 +37,9 @@ fn join<S: Alter>(conn: &mut Connection<S>, joined: &Campaign) -> Answered
 
 /// Creates a campaign and writes a joining, up to the first fault.
 fn run<S: Alter>(conn: &mut Connection<S>, founded: &Campaign, joined: &Campaign) -> Answered {
+    if !has_few_things(founded) {
+        return Answered::Wrong;
+    }
     match create(conn, SMALL, founded) {
         Ok(()) => join(conn, joined),
         Err(CreateFault::Store) => Answered::Nothing,

@@ -1,7 +1,9 @@
 //! The small world's campaign, and stores of it. Of what is large (a world, a campaign, a connection) each function holds
 //! one and lends it, and one that works on a connection takes any store.
-ghost use Rattle.std.specs.Prelude.{◌≡◌, false, IfOk, OnOk};
+ghost use Rattle.std.specs.Prelude.{◌≡◌, ◌≤◌, false, length, IsTrue, IfOk, OnOk};
 ghost use Rattle.atl_state.specs.Good.{IsGood};
+ghost use Rattle.atl_state.specs.Limits.{most_things};
+ghost use Rattle.atl_store.specs.Arriving.{HasArrival};
 
 use super::worlds::SMALL;
 use atl_state::{Campaign, founded};
@@ -45,9 +47,30 @@ pub(crate) fn joined(alloc: Global) -> Result<Campaign, Fail> {
     joined_in(alloc, &world)
 }
 
+/// Whether the books have no more things than a world can have, as a creation asks.
+pub(crate) fn has_few_things(campaign: &Campaign) -> bool
+    ensures { IsTrue result → length campaign.now.what.books ≤ most_things }
+{
+    campaign.things() <= 202
+}
+
+/// Whether the first faction is there with its unit and its report, as the writing of a joining asks.
+pub(crate) fn has_arrived(campaign: &Campaign) -> bool
+    ensures { IsTrue result → HasArrival campaign.now.what 1 }
+{
+    campaign.things() >= 2
+        && campaign.next_unit() >= 1
+        && campaign.faction(1).is_some()
+        && campaign.report(1).is_some()
+        && campaign.unit(campaign.next_unit() - 1).is_some()
+}
+
 fn creates<S: Alter>(conn: &mut Connection<S>, campaign: &Campaign) -> Result<(), Fail>
     ensures { OnOk result (conn.new.in_transaction ≡ false) }
 {
+    if !has_few_things(campaign) {
+        return Err(Fail::new("the books of a small world"));
+    }
     create(conn, SMALL, campaign)?;
     Ok(())
 }
@@ -73,6 +96,9 @@ pub(crate) fn created(alloc: Global) -> Result<Connection<MemStore>, Fail>
 fn arrive<S: Alter>(conn: &mut Connection<S>, campaign: &Campaign) -> Result<(), Fail>
     requires { conn.old.in_transaction ≡ false }
 {
+    if !has_arrived(campaign) {
+        return Err(Fail::new("Avalon is there"));
+    }
     write_join(conn, campaign, 1)?;
     write_mail(conn, 1, b"#ATLANTIS 1")?;
     Ok(())

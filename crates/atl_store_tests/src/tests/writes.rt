@@ -2,7 +2,7 @@
 use super::compare::{is_bytes, is_count, is_number, is_text};
 use super::counts::{count_books, count_factions};
 use super::founding::is_booked;
-use super::making::{created, joined, visited};
+use super::making::{created, has_few_things, joined, visited};
 use atl_state::Campaign;
 use atl_state::parts::{StoredFaction, StoredUnit};
 use atl_store::rows::books::read_books;
@@ -18,6 +18,9 @@ use std::test::Fail;
 
 /// What is answered to a creation, in words.
 fn answered<S: Alter>(conn: &mut Connection<S>, campaign: &Campaign) -> &'static str {
+    if !has_few_things(campaign) {
+        return "too many things";
+    }
     match create(conn, "another world", campaign) {
         Ok(()) => "created",
         Err(CreateFault::NotEmpty) => "not empty",
