@@ -1,8 +1,10 @@
 //! A mailing: its header, its lines, and what they say.
-ghost use Rattle.std.specs.Prelude.{List, ℕ, IfSome, ◌≡◌, ◌+◌, ◌<◌, ◌≤◌, ◌++◌, ◌^◌, length, IfOk, OnOk};
+ghost use Rattle.std.specs.Prelude.{List, ℕ, IfSome, ◌≡◌, ◌≢◌, ◌+◌, ◌<◌, ◌≤◌, ◌++◌, ◌^◌, length, IfOk, IfErr, OnOk};
+ghost use Rattle.std.specs.Bool.{Decides};
 ghost use Rattle.std.specs.List.{flat_map, slice_range};
 ghost use Rattle.atl_tables.specs.Lookup.{name_of};
 ghost use Rattle.std.specs.Option.{option_copied};
+ghost use Rattle.atl_orders.specs.declared.fault.MailFault.TheVariants.{Memory};
 ghost use Rattle.atl_orders.specs.declared.reading.Place.TheVariants.{Nowhere};
 ghost use Rattle.atl_orders.specs.Limits.{most_bytes};
 ghost use Rattle.atl_orders.specs.Aliasing.{no_alias};
@@ -10,7 +12,7 @@ ghost use Rattle.atl_orders.specs.Words.{words};
 ghost use Rattle.atl_orders.specs.Standing.{EndsWith};
 ghost use Rattle.atl_orders.specs.Lines.{lines};
 ghost use Rattle.atl_orders.specs.Views.{left_size, effect_of, headed, body_entries};
-ghost use Rattle.atl_orders.specs.Mailing.{faction_of, header_from, effects, entry_of, fault_of, reading, reading_of, IsReadWith, Reads};
+ghost use Rattle.atl_orders.specs.Mailing.{faction_of, header_from, effects, entry_of, fault_of, reading, reading_of, IsMailingOf, IsReadWith, Reads};
 
 use crate::aliases::Aliases;
 use crate::fault::{FaultyLine, MailFault};
@@ -132,6 +134,7 @@ fn find_header(text: &[u8]) -> Result<Header<'_>, MailFault>
     ensures exact { Reads headed result (header_from 1 (lines text.now)) }
     ensures rest { IfOk result (λ h. IfSome (option_copied h.rest) (EndsWith text.now)) }
     ensures small { IfOk result (λ h. h.next + left_size (option_copied h.rest) ≤ most_bytes + 2) }
+    ensures sure { IfErr result (λ fault. fault ≢ Memory) }
 {
     let mut rest = Some(text);
     let mut number = 1;
@@ -151,6 +154,20 @@ fn find_header(text: &[u8]) -> Result<Header<'_>, MailFault>
         number += 1;
     }
     Err(MailFault::NoHeader)
+}
+
+/// Whether a text is a mailing of a faction: it has at most 65,536 bytes, and its header names the faction. It takes no
+/// memory. See docs/RULES.md, "Reading a mailing".
+pub fn is_mailing_of(faction: u32, text: &[u8]) -> bool
+    ensures { Decides result (IsMailingOf faction text.now) }
+{
+    if MOST_BYTES < text.len() {
+        return false;
+    }
+    match find_header(text) {
+        Ok(header) => header.faction == faction,
+        Err(_) => false,
+    }
 }
 
 /// What the lines behind a header say.

@@ -1,5 +1,7 @@
 pub mod Maps
 pub mod Lent
+pub mod RetainLaws
+pub mod CountLaws
 pub mod LookupLaws
 pub mod SumLaws
 pub mod NameLaws

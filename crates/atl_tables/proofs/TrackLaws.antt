@@ -6,17 +6,17 @@ use Rattle.std.proofs.lemmas.Bool.{false≢true, and_parts}
 use Rattle.std.specs.Ordering.{nat_cmp, eq_by_cmp, is_eq, is_lt}
 use Rattle.std.specs.declared.cmp.Ordering.TheVariants.{Less, Equal, Greater}
 use Rattle.std.specs.Cmp.{nat_cmp_total, ranked}
-use Rattle.std.specs.FinMap.{FinMap, get, get-entries, find, entries, entries_sorted, insert, remove, empty, get-empty, get-insert, get-remove, same_map, is_sorted, nat_cmp-IsAntisymmetric}
+use Rattle.std.specs.FinMap.{FinMap, get, get-entries, find, entries, entries_sorted, insert, remove, empty, get-empty, get-insert, get-remove, same_map, is_sorted, keys, contains_key-keys, nat_cmp-IsAntisymmetric}
 use Rattle.std.specs.FinMap.Entries.{below_all}
 use Rattle.std.specs.FinSet as set
 use Rattle.atl_tables.specs.Changing.{Changing}
-use Rattle.atl_tables.specs.MarkPlaces.{marked_in, put_mark, ArePlaces}
+use Rattle.atl_tables.specs.MarkPlaces.{marked_in, put_mark, lowered, raised, ArePlaces}
 use Rattle.atl_tables.specs.Tracking.{marked_with, with_value, without_value_at, taken_out}
 use Rattle.atl_tables.proofs.SumLaws.{taken_back}
 use Rattle.atl_tables.specs.Sums.{mapped, numbers_among, numbers_where}
 use Rattle.atl_tables.proofs.MadeLaws.{entries-mapped}
 
-is_true : (b : Bool) → T b → b ≡ true
+pub is_true : (b : Bool) → T b → b ≡ true
 is_true true h = refl
 is_true false h = absurd h
 
@@ -279,3 +279,51 @@ module _ {V : Type 0} where
   -- what was put in and taken out again
   pub taken_out-undone : (c : Changing V) (n : ℕ) (x : V) → get c.values n ≡ None → taken_out (with_value c n x) n (set.contains c.marks n) ≡ c
   taken_out-undone c n x fresh = undone c n x (set.contains c.marks n) fresh refl
+
+  -- ---- all marks at once
+
+  lower_some : (p : Option Bool) (o : Option V) → is_some o ≡ true → is_some p ≡ true → is_some (lowered p o) ≡ true
+  lower_some None o h g = absurd (false≢true g)
+  lower_some (Some b) None h g = absurd (false≢true h)
+  lower_some (Some b) (Some v) h g = refl
+
+  lower_needed : (p : Option Bool) (o : Option V) → lowered p o ≡ Some false → is_some o ≡ true
+  lower_needed p None e = some_none false e
+  lower_needed p (Some v) e = refl
+
+  lower_unset : (p : Option Bool) (o : Option V) → is_set (lowered p o) ≡ false
+  lower_unset p None = refl
+  lower_unset None (Some v) = refl
+  lower_unset (Some b) (Some v) = refl
+
+  pub ArePlaces-lowered : (v : FinMap nat_cmp V) (m l : FinMap nat_cmp Bool) → ((q : ℕ) → get l q ≡ lowered (get m q) (get v q)) → ArePlaces v m → ArePlaces v l
+  ArePlaces-lowered v m l is h = record {
+    placed = λ q s. ap is_some (is q) ∙ lower_some (get m q) (get v q) s (h.placed q s);
+    needed = λ q s. lower_needed (get m q) (get v q) (sym (is q) ∙ s);
+  }
+
+  pub marked-lowered : (v : FinMap nat_cmp V) (m l : FinMap nat_cmp Bool) → ((q : ℕ) → get l q ≡ lowered (get m q) (get v q)) → marked_in l ≡ set.empty
+  marked-lowered v m l is = same _ _ (λ q. contains-marked l q ∙ ap is_set (is q) ∙ lower_unset (get m q) (get v q) ∙ sym (set.contains-empty nat_cmp q))
+
+  raised_set : (p : Option Bool) → raised p ≡ Some false → (o : Option V) → is_some o ≡ true
+  raised_set None e o = some_none false e
+  raised_set (Some b) e o = true_false e
+
+  pub ArePlaces-raised : (m l : FinMap nat_cmp Bool) → ((q : ℕ) → get l q ≡ raised (get m q)) → ArePlaces (empty {X = V} {R = nat_cmp}) l
+  ArePlaces-raised m l is = record {
+    placed = λ q h. absurd (false≢true (sym (ap is_some (get-empty {X = V} nat_cmp q)) ∙ h));
+    needed = λ q s. raised_set (get m q) (sym (is q) ∙ s) (get empty q);
+  }
+
+  either_set : (p : Option Bool) (o : Option V) → (is_some o ≡ true → is_some p ≡ true) → (p ≡ Some false → is_some o ≡ true) → is_set (raised p) ≡ (is_set p || is_some o)
+  either_set None None h g = refl
+  either_set None (Some v) h g = absurd (false≢true (h refl))
+  either_set (Some true) o h g = refl
+  either_set (Some false) None h g = absurd (false≢true (g refl))
+  either_set (Some false) (Some v) h g = refl
+
+  pub marked-raised : (v : FinMap nat_cmp V) (m l : FinMap nat_cmp Bool) → ((q : ℕ) → get l q ≡ raised (get m q)) → ArePlaces v m → marked_in l ≡ set.union (marked_in m) (set.from_list (keys v))
+  marked-raised v m l is h = same _ _ (λ q.
+      contains-marked l q ∙ ap is_set (is q) ∙ either_set (get m q) (get v q) (h.placed q) (h.needed q)
+      ∙ sym (set.contains-union nat_cmp_total (marked_in m) (set.from_list (keys v)) q ∙ ap (λ b. b || set.contains {R = nat_cmp} (set.from_list (keys v)) q) (contains-marked m q)
+      ∙ ap (λ b. is_set (get m q) || b) (set.contains-from_list nat_cmp_total (keys v) q ∙ sym (contains_key-keys v q))))

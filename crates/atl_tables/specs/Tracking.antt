@@ -26,6 +26,10 @@ module _ {V : Type 0} where
   abbrev pub without_value : Changing V → ℕ → Changing V
   without_value c n = without_value_at c n (map.get c.values n)
 
+  -- all values taken out, and their numbers marked
+  abbrev pub without_values : Changing V → Changing V
+  without_values c = record { values = map.empty; marks = set.union c.marks (set.from_list (map.keys c.values)) }
+
   -- a value taken out again, whose number was marked before it came, or not
   abbrev pub taken_out : Changing V → ℕ → Bool → Changing V
   taken_out c n true = without_value c n

@@ -40,7 +40,7 @@ pub(crate) const MOST_GROWTH: u32 = 100;
 pub(crate) const MOST_WEIGHT: u32 = 10_000;
 
 /// The highest level of a skill.
-pub(crate) const LAST_LEVEL: u32 = 5;
+pub const LAST_LEVEL: u32 = 5;
 
 /// The most raw items that one item is made of.
 pub(crate) const MOST_RAW_COUNT: u32 = 1_000;

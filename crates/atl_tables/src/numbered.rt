@@ -3,6 +3,7 @@ ghost use Rattle.std.specs.Prelude.{◌≡◌, ℕ, IfOk, OnOk, OnErr, IsOk, opt
 ghost use Rattle.std.specs.Ordering.{nat_cmp};
 ghost use Rattle.std.specs.FinMap as map;
 ghost use Rattle.std.specs.Coded.{coded_ℕ};
+ghost use Rattle.atl_tables.specs.MarkPlaces.{lowered, raised};
 
 use std::alloc::{AllocError, Global};
 use std::collections::{BTreeMap, btree_map};
@@ -63,6 +64,13 @@ impl<V: Drop> Numbered<V> {
         self.entries.remove(&number);
     }
 
+    /// Takes all values out. It takes no memory.
+    pub fn clear(&mut self)
+        ensures { self.new ≡ map.empty }
+    {
+        self.entries.clear();
+    }
+
     pub fn len(&self) -> usize
         ensures { result ≡ map.len self.now }
     {
@@ -76,6 +84,28 @@ impl<V: Drop> Numbered<V> {
         Entries {
             inner: self.entries.iter(),
         }
+    }
+}
+
+impl Numbered<bool> {
+    /// Lowers all flags, and takes away those whose number has no value in another map. It takes no memory.
+    pub(crate) fn lower<V: Drop>(&mut self, values: &Numbered<V>)
+        ensures { (n : ℕ) → map.get self.new n ≡ lowered (map.get self.old n) (map.get values.now n) }
+    {
+        self.entries.retain(|number, flag| {
+            *flag = false;
+            values.get(*number).is_some()
+        });
+    }
+
+    /// Raises all flags. It takes no memory.
+    pub(crate) fn raise(&mut self)
+        ensures { (n : ℕ) → map.get self.new n ≡ raised (map.get self.old n) }
+    {
+        self.entries.retain(|_, flag| {
+            *flag = true;
+            true
+        });
     }
 }
 

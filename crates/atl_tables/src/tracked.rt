@@ -1,9 +1,9 @@
 //! Values under numbers, each with a mark that says whether it changed.
-ghost use Rattle.std.specs.Prelude.{◌≡◌, false, IfOk, OnOk, OnErr, option_copied, None};
+ghost use Rattle.std.specs.Prelude.{◌≡◌, ◌≤◌, ◌+◌, false, IfOk, OnOk, OnErr, option_copied, None};
 ghost use Rattle.std.specs.FinMap as map;
 ghost use Rattle.std.specs.FinSet as set;
 ghost use Rattle.atl_tables.specs.MarkPlaces.{marked_in, put_mark, ArePlaces};
-ghost use Rattle.atl_tables.specs.Tracking.{with_value, without_value, taken_out};
+ghost use Rattle.atl_tables.specs.Tracking.{marked_with, with_value, without_value, without_values, taken_out};
 ghost use Rattle.atl_tables.specs.Sums.{mapped};
 
 use crate::numbered::{Entries, Numbered};
@@ -130,6 +130,28 @@ impl<V: Drop> Tracked<V> {
         Ok(Self { values, places })
     }
 
+    /// Marks a number that has a value. It takes no memory.
+    pub fn mark(&mut self, number: u32)
+        ensures { self.new ≡ record self.old { marks = marked_with self.old.marks number (map.get self.old.values number) } }
+    {
+        mark_present(&self.values, &mut self.places, number);
+    }
+
+    /// Leaves nothing marked. It takes no memory.
+    pub fn unmark(&mut self)
+        ensures { self.new ≡ record self.old { marks = set.empty } }
+    {
+        self.places.lower(&self.values);
+    }
+
+    /// Takes all values out, and marks their numbers. It takes no memory.
+    pub fn clear(&mut self)
+        ensures { self.new ≡ without_values self.old }
+    {
+        self.values.clear();
+        self.places.raise();
+    }
+
     pub fn values(&self) -> &Numbered<V>
         ensures { result.now ≡ self.now.values }
     {
@@ -158,7 +180,8 @@ impl<V: Drop> Tracked<V> {
 
     /// How many numbers are marked.
     pub fn marked(&self) -> usize
-        ensures { result ≡ set.len self.now.marks }
+        ensures value { result ≡ set.len self.now.marks }
+        ensures small { result ≤ 4294967296 }
     {
         count_marked(&self.places)
     }
@@ -187,16 +210,26 @@ fn is_set(places: &Numbered<bool>, number: u32) -> bool
 
 /// How many are marked.
 fn count_marked(places: &Numbered<bool>) -> usize
-    ensures { result ≡ set.len (marked_in places.now) }
+    ensures value { result ≡ set.len (marked_in places.now) }
+    ensures small { result ≤ 4294967296 }
 {
     let most = places.len();
     let mut count = 0;
-    for (_, marked) in places.iter() {
+    for (number, marked) in places.iter() {
         if *marked {
-            count += 1;
+            count = counted(count, number);
         }
     }
     count
+}
+
+/// One more than what was counted below a number.
+fn counted(below: usize, number: u32) -> usize
+    requires { below ≤ number }
+    ensures value { result ≡ below + 1 }
+    ensures small { result ≤ 4294967296 }
+{
+    below + 1
 }
 
 /// Marks a number that has a value.
