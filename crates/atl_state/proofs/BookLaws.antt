@@ -87,10 +87,10 @@ IsGrid-with_booked things books e u n g =
 get_or-replicate_same : {A : Type 0} (n i : ℕ) (a : A) → get_or (replicate n a) i a ≡ a
 get_or-replicate_same n i a = elim (cases_lt i n) [ inl h ↦ get_or-replicate n i a a h | inr h ↦ get_or_past (replicate n a) i a (rw length-replicate h) ]
 
-no_row : (i : ℕ) → get_or (replicate entry_count (pos 0)) i (pos 0) ≡ pos 0
+pub no_row : (i : ℕ) → get_or (replicate entry_count (pos 0)) i (pos 0) ≡ pos 0
 no_row i = get_or-replicate_same entry_count i (pos 0)
 
-nothing_in : (P : List ℤ → Type 0) (things i : ℕ) → P (replicate entry_count (pos 0)) → P [] → P (get_or (no_amounts things) i [])
+pub nothing_in : (P : List ℤ → Type 0) (things i : ℕ) → P (replicate entry_count (pos 0)) → P [] → P (get_or (no_amounts things) i [])
 nothing_in P things i full empty =
     elim (cases_lt i things) [
       | inl h ↦ rw (get_or-replicate things i (replicate entry_count (pos 0)) [] h) full

@@ -2,7 +2,8 @@
 use Rattle.std.proofs.Common.{◌≡◌, ℕ, zero, suc, ◌+◌, ◌<◌, Bool, true, false, cond, ◌||◌, List, [], ◌∷◌, length, set, refl, sym, ap, ◌∙◌, arith}
 use Rattle.std.specs.Prelude.{replicate}
 use Rattle.std.proofs.lemmas.List.{length-set}
-use Rattle.std.specs.Ordering.{nat_cmp, eq_by_cmp}
+use Rattle.std.specs.declared.cmp.Ordering.TheVariants.{Less, Equal, Greater}
+use Rattle.std.specs.Ordering.{nat_cmp, eq_by_cmp, is_eq}
 use Rattle.std.specs.Cmp.{nat_cmp_total}
 use Rattle.std.specs.FinMap.{nat_cmp-IsAntisymmetric}
 use Rattle.std.specs.FinSet as numbers
@@ -40,11 +41,30 @@ pub set_from-none : (n k : ℕ) → set_from n (replicate k false) ≡ numbers.e
 set_from-none n zero = refl
 set_from-none n (suc k) = set_from-none (n + 1) k
 
-pub two_set : (flags : List Bool) (i j : ℕ) → i < length flags → j < length flags → set_from 0 (set (set flags i true) j true) ≡ numbers.insert (numbers.insert (set_from 0 flags) i) j
-two_set flags i j h k = one (set flags i true) j (omega (arith, length-set flags i true)) ∙ ap (λ s. numbers.insert s j) (one flags i h)
-  where
-    from_none : (n : ℕ) → 0 + n ≡ n
-    from_none n = omega arith
+from_none : (n : ℕ) → 0 + n ≡ n
+from_none n = omega arith
 
-    one : (bs : List Bool) (n : ℕ) → n < length bs → set_from 0 (set bs n true) ≡ numbers.insert (set_from 0 bs) n
-    one bs n h = set_from-set 0 n bs h ∙ ap (numbers.insert (set_from 0 bs)) (from_none n)
+pub one_set : (flags : List Bool) (i : ℕ) → i < length flags → set_from 0 (set flags i true) ≡ numbers.insert (set_from 0 flags) i
+one_set flags i h = set_from-set 0 i flags h ∙ ap (numbers.insert (set_from 0 flags)) (from_none i)
+
+pub two_set : (flags : List Bool) (i j : ℕ) → i < length flags → j < length flags → set_from 0 (set (set flags i true) j true) ≡ numbers.insert (numbers.insert (set_from 0 flags) i) j
+two_set flags i j h k = one_set (set flags i true) j (omega (arith, length-set flags i true)) ∙ ap (λ s. numbers.insert s j) (one_set flags i h)
+
+-- ---- how many are set
+
+before_none : (n q : ℕ) (bs : List Bool) → q < n → numbers.contains (set_from n bs) q ≡ false
+before_none n q [] h = numbers.contains-empty nat_cmp q
+before_none n q (false ∷ bs) h = before_none (n + 1) q bs (omega arith)
+before_none n q (true ∷ bs) h =
+    numbers.contains-insert nat_cmp_total (set_from (n + 1) bs) n q ∙ ap (λ b. eq_by_cmp nat_cmp q n || b) (before_none (n + 1) q bs (omega arith))
+    ∙ elim (nat_cmp q n) as (λ r. nat_cmp q n ≡ r → (is_eq r || false) ≡ false) [
+      | Less ↦ λ _. refl
+      | Equal ↦ λ e. let same : q ≡ n = nat_cmp-IsAntisymmetric q n e in absurd (omega arith)
+      | Greater ↦ λ _. refl
+    ] refl
+
+-- one flag more
+pub len-set_from : (n : ℕ) (b : Bool) (bs : List Bool) → numbers.len (set_from n (b ∷ bs)) ≡ numbers.len (set_from (n + 1) bs) + cond b 1 0
+len-set_from n true bs =
+    numbers.len-insert nat_cmp_total (set_from (n + 1) bs) n ∙ ap (λ b. cond b (numbers.len (set_from (n + 1) bs)) (numbers.len (set_from (n + 1) bs) + 1)) (before_none (n + 1) n bs (omega arith))
+len-set_from n false bs = omega arith

@@ -1,13 +1,13 @@
 -- A founded campaign is good, and its books balance.
-use Rattle.std.proofs.Common.{◌≡◌, ℕ, ◌+◌, ◌≤◌, ◌==◌, cond, List, [], ◌∷◌, sum_by, None, Some, sym, ap, ◌∙◌, refl, arith, false}
-use Rattle.std.specs.Prelude.{unwrap_or, ℤ, pos, ◌+ℤ◌, ◌*◌, replicate}
+use Rattle.std.proofs.Common.{◌≡◌, ℕ, ◌+◌, ◌≤◌, ◌==◌, cond, List, [], ◌∷◌, length, sum_by, sym, ap, ◌∙◌, refl, arith, true, false}
+use Rattle.std.specs.Prelude.{ℤ, pos, ◌+ℤ◌, ◌*◌, replicate, IsTrue}
 use Rattle.std.proofs.lemmas.Int.{ints}
 use Rattle.std.proofs.lemmas.List.{length-map, length-replicate}
 use Rattle.std.proofs.lemmas.List.Sums.{sum_by-cons}
 use Rattle.std.proofs.lemmas.Bool.Decides.{nat_tests}
 use Rattle.std.specs.Ordering.{nat_cmp}
-use Rattle.std.specs.FinMap.{entries, empty, get-empty, len-empty, len-entries}
-use Rattle.atl_tables.specs.Planet.{Planet, IsWorld}
+use Rattle.std.specs.FinMap.{FinMap, entries, empty, get-empty, len-empty, len-entries}
+use Rattle.atl_tables.specs.Planet.{Planet, IsWorld, IsRegionPlan}
 use Rattle.atl_tables.specs.Sums.{sum_over, mapped}
 use Rattle.atl_tables.proofs.MadeLaws.{entries-mapped}
 use Rattle.atl_tables.proofs.Maps.{entries-empty}
@@ -15,25 +15,30 @@ use Rattle.atl_state.specs.declared.books.Entry.{Entry}
 use Rattle.atl_state.specs.declared.books.Entry.TheVariants.{Founding}
 use Rattle.atl_state.specs.declared.books.Thing.{Thing}
 use Rattle.atl_state.specs.declared.books.Thing.TheVariants.{Money, People, Item}
+use Rattle.atl_state.specs.declared.lists.UnitLists.{UnitLists}
 use Rattle.atl_state.specs.declared.records.Faction.{Faction}
 use Rattle.atl_state.specs.declared.records.Region.{Region}
+use Rattle.atl_state.specs.declared.records.Structure.{Structure}
 use Rattle.atl_state.specs.declared.records.Unit.{Unit}
 use Rattle.atl_state.specs.Books.{amount_in, booked, no_amounts, with_booked, IsGrid, IsWithin}
-use Rattle.atl_state.specs.Kept.{AreLists, AreKept}
-use Rattle.atl_state.specs.Limits.{entry_count}
+use Rattle.atl_state.specs.Kept.{AreUnitLists, AreKept}
+use Rattle.atl_tables.specs.Limits.{most_amount}
+use Rattle.atl_tables.specs.Names.{name_ok, pass_ok}
+use Rattle.atl_tables.specs.declared.world.RegionPlan.{RegionPlan}
+use Rattle.atl_orders.specs.Mailing.{IsMailingOf}
+use Rattle.atl_state.specs.Limits.{entry_count, most_days}
 use Rattle.atl_state.specs.Totals.{total, Balances, held, kept}
 use Rattle.atl_state.specs.Founding.{founded_of, founded_region, things_of}
-use Rattle.atl_state.specs.Good.{IsGood}
+use Rattle.atl_state.specs.Held.{IsHolding}
+use Rattle.atl_state.specs.State.{numbers_of}
+use Rattle.atl_state.specs.Good.{Every, IsThere, IsActive, AreInRange, AreAmountsWithin, AreNamed, IsPlaced, IsBuilt, AreKnown, IsNumbered, IsOwned, is_land_at, is_ship, IsAboard, guards, IsSteady, IsGood, size_of}
+use Rattle.atl_state.proofs.EveryLaws.{every-empty, every-mapped, there-mapped}
 use Rattle.atl_state.proofs.BookLaws.{booked-with_booked, booked-no_amounts, amount-no_amounts, IsGrid-no_amounts, IsGrid-with_booked, IsWithin-with_booked, share_of}
 
-no_lists : (belongs_to : Unit → ℕ) → AreLists belongs_to empty empty
-no_lists belongs_to r = ap (λ o. unwrap_or o []) (get-empty nat_cmp r) ∙ sym (rw (entries-empty {X = Unit}) refl)
-
 -- what is kept beside nobody, for so many things
-pub AreKept-nobody : (things : ℕ) (books : List (List ℤ)) → IsGrid things books → AreKept empty empty empty books (replicate (entry_count * things) false)
-AreKept-nobody things books grid = record {
-  regions = no_lists (λ u. u.region);
-  factions = no_lists (λ u. u.faction);
+pub AreKept-nobody : (things : ℕ) (lists : UnitLists) (books : List (List ℤ)) → AreUnitLists empty lists → IsGrid things books → AreKept empty lists books (replicate (entry_count * things) false)
+AreKept-nobody things lists books listed grid = record {
+  listed = listed;
   amounts = length-replicate (entry_count * things) false ∙ ap (λ n. entry_count * n) (sym grid.rows);
 }
 
@@ -79,34 +84,95 @@ founded-balances w pass (Item i) =
 none_within : (things : ℕ) (e : Entry) (t : Thing) → IsWithin 0 (amount_in (no_amounts things) e t)
 none_within things e t = rw (amount-no_amounts things e t) record { most = omega (arith, ints); least = omega (arith, ints) }
 
-pub founded-good : (w : Planet) (pass : List ℕ) → IsWorld w → sum_over (λ (r : Region). kept Money r) (mapped founded_region w.regions) ≤ 100000000000000 → sum_over (λ (r : Region). kept People r) (mapped founded_region w.regions) ≤ 100000000000000
-    → IsGood w (founded_of w pass)
-unfolding founded_of
-founded-good w pass world money people =
-    let f = len-empty nat_cmp Faction in
-    let u = len-empty nat_cmp Unit in
-    let things = things_of w in
-    let regions = mapped founded_region w.regions in
-    let m = sum_over (λ (r : Region). kept Money r) regions in
-    let p = sum_over (λ (r : Region). kept People r) regions in
-    let g = IsGrid-no_amounts things in
-    let one = with_booked (no_amounts things) Founding Money (pos m) in
-    let g2 = IsGrid-with_booked things (no_amounts things) Founding Money (pos m) g in
-    record {
-      month = omega arith;
-      few_factions = omega (arith, f);
-      few_units = omega (arith, u);
-      few_regions = rw (len-entries regions, entries-mapped founded_region w.regions) (simp length-map (omega (arith, len-entries w.regions, world.few_regions)));
-      next_faction = omega (arith, f);
-      next_unit_least = omega arith;
-      next_unit_most = omega arith;
-      numbered = λ n x e. none_some x (sym (get-empty nat_cmp n) ∙ e);
-      factions_new = λ n _. get-empty nat_cmp n;
-      units_new = λ n _. get-empty nat_cmp n;
-      grid = IsGrid-with_booked things one Founding People (pos p) g2;
-      amounts = IsWithin-with_booked things one Founding People p m _ g2 (omega arith) (IsWithin-with_booked things (no_amounts things) Founding Money m 0 m g (omega arith) (none_within things) (omega arith)) (omega (arith, money, people));
-      mail = λ n text e. none_some text (sym (get-empty nat_cmp n) ∙ e);
-    }
-  where
-    none_some : {A P : Type 0} (x : A) → None ≡ Some x → P
-    none_some x e = cc
+in_range : (p : RegionPlan) (terrains n : ℕ) → IsRegionPlan terrains n p → ((founded_region p).peasants ≤ most_amount) × ((founded_region p).money ≤ most_amount)
+in_range p terrains n plan = (plan.peasants, plan.money)
+
+numbered_none : {V : Type 0} → IsNumbered (empty {X = V} {R = nat_cmp}) 1
+numbered_none {V} = record { first = get-empty nat_cmp 0; count = ap (λ n. n + 1) (sym (len-empty nat_cmp V)); free = λ n _. get-empty nat_cmp n }
+
+module _ (w : Planet) (pass : List ℕ) (world : IsWorld w) where
+  abbrev regions : FinMap nat_cmp Region
+  regions = mapped founded_region w.regions
+
+  abbrev money : ℕ
+  money = sum_over (λ (r : Region). kept Money r) regions
+
+  abbrev people : ℕ
+  people = sum_over (λ (r : Region). kept People r) regions
+
+  founded-numbers : AreInRange w (founded_of w pass)
+  unfolding founded_of
+  founded-numbers = record {
+    month = omega arith;
+    few_factions = omega (arith, len-empty nat_cmp Faction);
+    few_regions = rw (len-entries regions, entries-mapped founded_region w.regions) (simp length-map (omega (arith, len-entries w.regions, world.few_regions)));
+    few_units = omega (arith, len-empty nat_cmp Unit);
+    few_structures = omega (arith, len-empty nat_cmp Structure);
+    next_unit_least = omega arith;
+    next_unit_most = omega arith;
+    factions = every-empty (λ n f. f.number ≡ n);
+    regions = every-mapped founded_region (λ n r. (r.peasants ≤ most_amount) × (r.money ≤ most_amount)) w.regions (λ n p is. in_range p (length w.terrains) n (world.regions n p is));
+    units = every-empty (λ n u. (1 ≤ n) × IsHolding u.holding);
+    structures = every-empty (λ n s. (1 ≤ s.done) × (s.done ≤ size_of w s.kind));
+    books = IsGrid-founding (things_of w) money people;
+  }
+
+  founded-names : IsTrue (pass_ok pass) → AreNamed (founded_of w pass)
+  unfolding founded_of
+  founded-names passes = record {
+    pass = passes;
+    factions = every-empty (λ n f. IsTrue (name_ok f.joined_as) × IsTrue (name_ok f.name) × IsTrue (pass_ok f.pass));
+    joined = every-empty (λ n f. Every (λ m g. f.joined_as ≡ g.joined_as → n ≡ m) empty);
+    units = every-empty (λ n u. IsTrue (name_ok u.holding.name));
+    structures = every-empty (λ n s. IsTrue (name_ok s.name));
+  }
+
+  founded-known : AreKnown w (founded_of w pass)
+  unfolding founded_of
+  founded-known = record {
+    regions = there-mapped founded_region w.regions;
+    units = every-empty (λ n u. IsPlaced w (founded_of w pass) u);
+    structures = every-empty (λ n s. IsBuilt w (founded_of w pass) s);
+    mail = every-empty (λ n text. IsThere empty n);
+    reports = every-empty (λ n text. IsThere empty n);
+  }
+
+  founded-steady : IsTrue (pass_ok pass) → IsSteady w (founded_of w pass)
+  unfolding founded_of
+  founded-steady passes = record {
+    numbers = founded-numbers;
+    names = founded-names passes;
+    known = founded-known;
+    next = record { factions = numbered_none; structures = numbered_none; units = λ n _. get-empty nat_cmp n };
+    days = every-empty (λ n u. Every (λ s days. (1 ≤ days) × (days ≤ most_days * u.holding.men)) u.holding.days);
+    gone = every-empty (λ n f. f.gone ≡ true → numbers_of n empty ≡ []);
+    owners = every-empty (λ n s. IsOwned (founded_of w pass) n s);
+    water = record {
+      units = every-empty (λ n u. is_land_at w u.region ≡ false → IsAboard w (founded_of w pass) u);
+      structures = every-empty (λ n s. is_land_at w s.region ≡ false → (is_ship w s ≡ true) × (s.done ≡ size_of w s.kind));
+    };
+    guarded = every-empty (λ n u. Every (λ m v. guards u ≡ true → guards v ≡ true → u.region ≡ v.region → u.faction ≡ v.faction) empty);
+  }
+
+  founded-amounts : money ≤ 100000000000000 → people ≤ 100000000000000 → AreAmountsWithin (founded_of w pass)
+  unfolding founded_of
+  founded-amounts few_money few_people =
+      let things = things_of w in
+      let g = IsGrid-no_amounts things in
+      let one = with_booked (no_amounts things) Founding Money (pos money) in
+      let g2 = IsGrid-with_booked things (no_amounts things) Founding Money (pos money) g in
+      IsWithin-with_booked things one Founding People people money _ g2 (omega arith) (IsWithin-with_booked things (no_amounts things) Founding Money money 0 money g (omega arith) (none_within things) (omega arith)) (omega arith)
+
+  pub founded-good : IsTrue (pass_ok pass) → money ≤ 100000000000000 → people ≤ 100000000000000 → IsGood w (founded_of w pass)
+  unfolding founded_of
+  founded-good passes few_money few_people = record {
+    sound = record {
+      steady = founded-steady passes;
+      men = every-empty (λ n u. 1 ≤ u.holding.men);
+      amounts = founded-amounts few_money few_people;
+      gone = every-empty (λ n f. numbers_of n empty ≡ [] → f.gone ≡ true);
+      balances = founded-balances w pass;
+      mail = every-empty (λ n text. IsMailingOf n text × IsActive (founded_of w pass) n);
+    };
+    reported = every-empty (λ n f. IsThere empty n);
+  }

@@ -1,26 +1,41 @@
--- Joining keeps a campaign good, and its books balanced.
-use Rattle.std.proofs.Common.{◌≡◌, ℕ, ◌+◌, ◌≤◌, ◌<◌, ◌==◌, ◌||◌, Bool, true, false, cond, List, Option, Some, None, is_some, refl, sym, ap, ◌∙◌, arith, nat_le, nat_lt}
-use Rattle.std.specs.Prelude.{unwrap_or, ℤ, pos, ◌+ℤ◌}
-use Rattle.std.specs.declared.cmp.Ordering.TheVariants.{Less, Equal, Greater}
-use Rattle.std.specs.Ordering.{nat_cmp, is_eq}
+-- Joining keeps a campaign sound: each of its rules in turn.
+use Rattle.std.proofs.Common.{◌≡◌, ◌≢◌, ℕ, ◌+◌, ◌-◌, ◌%◌, ◌≤◌, ◌<◌, ◌==◌, ◌||◌, not, true, false, cond, List, [], ◌∷◌, ◌++◌, length, get_or, codes, decimal, Some, None, is_some, take, drop, ◌*◌, ◌^◌, refl, sym, ap, ◌∙◌, arith, nat_le, nat_lt, nat_eq, length-append}
+use Rattle.std.specs.Prelude.{unwrap_or, ℤ, pos, ◌+ℤ◌, IsTrue}
+use Rattle.std.specs.List.{list_all}
+use Rattle.std.specs.Option.{option_map_or}
+use Rattle.std.specs.Ordering.{nat_cmp}
 use Rattle.std.specs.Cmp.{nat_cmp_total}
-use Rattle.std.specs.FinMap.{FinMap, get, insert, len, get-empty, get-insert, len-insert, nat_cmp-IsAntisymmetric}
+use Rattle.std.specs.Cmp.Derive.{both_true}
+use Rattle.std.specs.Cmp.Lexicographic.{pointwise}
+use Rattle.std.specs.FinMap.{FinMap, get, insert, len, get-empty, len-insert}
 use Rattle.std.proofs.lemmas.Int.{ints}
 use Rattle.std.proofs.lemmas.Bool.Decides.{nat_tests}
-use Rattle.atl_tables.specs.Planet.{Planet, IsWorld}
+use Rattle.std.proofs.lemmas.Fmt.{decimal_by_steps, length-decimal-le}
+use Rattle.std.proofs.lemmas.List.Folds.{list_all-append}
+use Rattle.std.proofs.lemmas.Slice.Eq.{bytes_eq-Decides}
+use Rattle.std.proofs.Math.Seq.{get_or-append_seam}
+use Rattle.atl_tables.specs.Names.{name_ok, pass_ok, is_name_byte, is_short, has_open_ends}
+use Rattle.atl_tables.specs.Planet.{Planet, IsWorld, land_of, is_land}
+use Rattle.atl_tables.specs.declared.world.RegionPlan.{RegionPlan}
+use Rattle.atl_tables.proofs.SumLaws.{numbers_where-insert_other}
 use Rattle.atl_orders.specs.Limits.{last_faction}
-use Rattle.atl_state.specs.Limits.{most_units, last_unit}
+use Rattle.atl_state.specs.Limits.{most_units, last_unit, most_days, holding_limit}
 use Rattle.atl_state.specs.declared.books.Entry.TheVariants.{Joining}
 use Rattle.atl_state.specs.declared.books.Thing.{Thing}
 use Rattle.atl_state.specs.declared.books.Thing.TheVariants.{Money, People, Item}
 use Rattle.atl_state.specs.declared.records.Faction.{Faction}
-use Rattle.atl_state.specs.State.{State}
-use Rattle.atl_state.specs.Books.{booked, with_booked, amount_in, IsSmall}
+use Rattle.atl_state.specs.declared.records.Unit.{Unit}
+use Rattle.atl_state.specs.Held.{IsHolding}
+use Rattle.atl_state.specs.State.{State, numbers_of}
+use Rattle.atl_state.specs.Books.{booked, with_booked, amount_in, IsGrid, IsSmall}
 use Rattle.atl_state.specs.Totals.{held, total, Balances}
 use Rattle.atl_state.specs.Founding.{things_of}
-use Rattle.atl_state.specs.Good.{IsGood, IsActive, amount_bound}
-use Rattle.atl_state.specs.Joining.{joined, new_faction, first_unit, is_full}
+use Rattle.atl_state.specs.Good.{Every, AreInRange, AreAmountsWithin, HaveMen, AreNamed, IsPlaced, AreKnown, IsNumbered, AreNumbered, AreDays, GoneHaveNone, NoneAreGone, AreOwned, is_land_at, IsAboard, AreAfloat, guards, AreOfOneFaction, IsMail, IsSteady, IsSound, amount_bound}
+use Rattle.atl_state.specs.Joining.{joined, new_faction, first_unit, home_of, is_full, name_taken}
+use Rattle.atl_state.specs.Ordered.{put_number, first_above}
 use Rattle.atl_state.proofs.BookLaws.{booked-with_booked, IsGrid-with_booked, IsWithin-with_booked, IsSmall-within, share_of}
+use Rattle.atl_state.proofs.EveryLaws.{every-empty, every-insert, every-from_none, get-insert_other, there-new, there-insert, passes-listed, none_some}
+use Rattle.atl_state.proofs.OrderedLaws.{numbers_where-insert_new}
 use Rattle.atl_state.proofs.TotalLaws.{total-with_unit}
 
 -- ---- the books
@@ -38,71 +53,28 @@ held_booked w word c Money = omega (arith, ints)
 held_booked w word c People = refl
 held_booked w word c (Item i) = none w word c i (grind (arith, nat_tests)) (grind (arith, nat_tests))
 
-pub joined-balances : (w : Planet) (name pass : List ℕ) (word : ℕ) (c : State) → IsGood w c → Balances c → Balances (joined w name pass word c)
+pub joined-balances : (w : Planet) (name pass : List ℕ) (word : ℕ) (c : State) → IsGrid (things_of w) c.books → get c.units c.next_unit ≡ None → Balances c → Balances (joined w name pass word c)
 unfolding joined total
-joined-balances w name pass word c good h t =
+joined-balances w name pass word c grid free h t =
     let one = with_booked c.books Joining Money (pos w.rules.start_money) in
-    ap pos (total-with_unit c c.next_unit (first_unit w word c) t (good.units_new c.next_unit (omega arith)))
+    ap pos (total-with_unit c c.next_unit (first_unit w word c) t free)
     ∙ two (total c t) (held t (first_unit w word c).holding) (booked c.books t) (share_of t Money (pos w.rules.start_money)) (share_of t People (pos 1)) (h t) (held_booked w word c t)
-    ∙ ap (λ z. z +ℤ share_of t People (pos 1)) (sym (booked-with_booked (things_of w) c.books Joining Money (pos w.rules.start_money) good.grid (omega arith) t))
-    ∙ sym (booked-with_booked (things_of w) one Joining People (pos 1) (IsGrid-with_booked (things_of w) c.books Joining Money (pos w.rules.start_money) good.grid) (omega arith) t)
+    ∙ ap (λ z. z +ℤ share_of t People (pos 1)) (sym (booked-with_booked (things_of w) c.books Joining Money (pos w.rules.start_money) grid (omega arith) t))
+    ∙ sym (booked-with_booked (things_of w) one Joining People (pos 1) (IsGrid-with_booked (things_of w) c.books Joining Money (pos w.rules.start_money) grid) (omega arith) t)
 
-amounts_small : (w : Planet) (c : State) → IsGood w c → amount_bound c ≤ 4000000000000000000
-amounts_small w c good = omega (arith, good.month, good.few_factions)
+amounts_small : (w : Planet) (c : State) → AreInRange w c → amount_bound c ≤ 4000000000000000000
+amounts_small w c numbers = omega (arith, numbers.month, numbers.few_factions)
 
 -- there is room in the books for what a faction brings
-pub joining_small : (w : Planet) (c : State) → IsGood w c → IsSmall (amount_in c.books Joining Money) × IsSmall (amount_in c.books Joining People)
-joining_small w c good = (IsSmall-within _ _ (good.amounts Joining Money) (amounts_small w c good), IsSmall-within _ _ (good.amounts Joining People) (amounts_small w c good))
+pub joining_small : (w : Planet) (c : State) → IsSound w c → IsSmall (amount_in c.books Joining Money) × IsSmall (amount_in c.books Joining People)
+joining_small w c sound =
+    let small = amounts_small w c sound.steady.numbers in
+    (IsSmall-within _ _ (sound.amounts Joining Money) small, IsSmall-within _ _ (sound.amounts Joining People) small)
 
 -- ---- the numbers
 
--- numbers from a bound on are still free after an insertion below it
-still_free : {V : Type 0} (m : FinMap nat_cmp V) (n k : ℕ) (v : V) → ((q : ℕ) → n ≤ q → get m q ≡ None) → k < n → (q : ℕ) → n ≤ q → get (insert m k v) q ≡ None
-still_free m n k v free below q h =
-    get-insert nat_cmp_total m k v q ∙ elim (nat_cmp q k) as (λ o. nat_cmp q k ≡ o → cond (is_eq o) (Some v) (get m q) ≡ None) [
-      | Less ↦ λ _. free q h
-      | Equal ↦ λ e. let same : q ≡ k = nat_cmp-IsAntisymmetric q k e in absurd (omega arith)
-      | Greater ↦ λ _. free q h
-    ] refl
-
 len_new : {V : Type 0} (m : FinMap nat_cmp V) (k : ℕ) (v : V) → get m k ≡ None → len (insert m k v) ≡ len m + 1
 len_new m k v h = len-insert nat_cmp_total m k v ∙ ap (λ o. cond (is_some o) (len m) (len m + 1)) h
-
--- each faction keeps its number beside it
-numbered_cond : (b : Bool) (x f : Faction) (o : Option Faction) (n : ℕ) → (b ≡ true → x.number ≡ n) → (o ≡ Some f → f.number ≡ n) → cond b (Some x) o ≡ Some f → f.number ≡ n
-numbered_cond true x f o n here old e = let same : x ≡ f = cc in ap (λ (y : Faction). y.number) (sym same) ∙ here refl
-numbered_cond false x f o n here old e = old e
-
-is_number : (q k : ℕ) → is_eq (nat_cmp q k) ≡ true → k ≡ q
-is_number q k =
-    elim (nat_cmp q k) as (λ o. nat_cmp q k ≡ o → is_eq o ≡ true → k ≡ q) [
-      | Less ↦ λ _ e. absurd_true e
-      | Equal ↦ λ e _. sym (nat_cmp-IsAntisymmetric q k e)
-      | Greater ↦ λ _ e. absurd_true e
-    ] refl
-  where
-    absurd_true : {P : Type 0} → false ≡ true → P
-    absurd_true e = cc
-
-numbered_new : (m : FinMap nat_cmp Faction) (k : ℕ) (x : Faction) → x.number ≡ k → ((n : ℕ) (f : Faction) → get m n ≡ Some f → f.number ≡ n) → (n : ℕ) (f : Faction) → get (insert m k x) n ≡ Some f → f.number ≡ n
-numbered_new m k x is old n f e =
-    numbered_cond (is_eq (nat_cmp n k)) x f (get m n) n (λ b. is ∙ is_number n k b) (old n f) (sym (get-insert nat_cmp_total m k x n) ∙ e)
-
--- what was there is still there after an insertion where nothing was
-still_there : {V : Type 0} (m : FinMap nat_cmp V) (k q : ℕ) (v x : V) → get m k ≡ None → get m q ≡ Some x → get (insert m k v) q ≡ Some x
-still_there m k q v x free is =
-    get-insert nat_cmp_total m k v q ∙ elim (nat_cmp q k) as (λ o. nat_cmp q k ≡ o → cond (is_eq o) (Some v) (get m q) ≡ Some x) [
-      | Less ↦ λ _. is
-      | Equal ↦ λ e. none_some (sym free ∙ ap (get m) (sym (nat_cmp-IsAntisymmetric q k e)) ∙ is)
-      | Greater ↦ λ _. is
-    ] refl
-  where
-    none_some : {A P : Type 0} {y : A} → None ≡ Some y → P
-    none_some e = cc
-
--- the factions of the mail are there after one more has joined
-active_joined : (c : State) (member : Faction) (n : ℕ) → get c.factions c.next_faction ≡ None → IsActive c n → (f : Faction) × (get (insert c.factions c.next_faction member) n ≡ Some f) × (f.gone ≡ false)
-active_joined c member n free (f, there, stays) = (f, still_there c.factions c.next_faction n member f free there, stays)
 
 few : (f u n : ℕ) → ((nat_le last_faction f || nat_le most_units u) || nat_lt last_unit n) ≡ false → (f < last_faction) × (u < most_units) × (n ≤ last_unit)
 few f u n h = (grind (arith, nat_tests), grind (arith, nat_tests), grind (arith, nat_tests))
@@ -110,29 +82,254 @@ few f u n h = (grind (arith, nat_tests), grind (arith, nat_tests), grind (arith,
 pub room : (c : State) → is_full c ≡ false → (len c.factions < last_faction) × (len c.units < most_units) × (c.next_unit ≤ last_unit)
 room c h = few (len c.factions) (len c.units) c.next_unit h
 
-pub joined-good : (w : Planet) (name pass : List ℕ) (word : ℕ) (c : State) → is_full c ≡ false → IsWorld w → IsGood w c → IsGood w (joined w name pass word c)
-unfolding joined
-joined-good w name pass word c full world good =
-    let r = room c full in
-    let member = new_faction c.next_faction name pass in
-    let f = len_new c.factions c.next_faction member (good.factions_new c.next_faction (omega arith)) in
-    let u = len_new c.units c.next_unit (first_unit w word c) (good.units_new c.next_unit (omega arith)) in
-    let one = with_booked c.books Joining Money (pos w.rules.start_money) in
-    let g = IsGrid-with_booked (things_of w) c.books Joining Money (pos w.rules.start_money) good.grid in
-    record {
-      month = good.month;
-      few_factions = omega (arith, f, r.0);
-      few_units = omega (arith, u, r.1);
-      few_regions = good.few_regions;
-      next_faction = omega (arith, good.next_faction, f);
-      next_unit_least = omega arith;
-      next_unit_most = omega (arith, r.2);
-      numbered = numbered_new c.factions c.next_faction member refl good.numbered;
-      factions_new = still_free c.factions (c.next_faction + 1) c.next_faction member (λ q l. good.factions_new q (omega arith)) (omega arith);
-      units_new = still_free c.units (c.next_unit + 1) c.next_unit (first_unit w word c) (λ q l. good.units_new q (omega arith)) (omega arith);
-      grid = IsGrid-with_booked (things_of w) one Joining People (pos 1) g;
-      amounts = IsWithin-with_booked (things_of w) one Joining People 1 (amount_bound c + w.rules.start_money) _ g (omega arith)
-          (IsWithin-with_booked (things_of w) c.books Joining Money w.rules.start_money (amount_bound c) (amount_bound c + w.rules.start_money) good.grid (omega arith) good.amounts (omega arith))
-          (omega (arith, f, world.rules.start_money));
-      mail = λ n text is. let sent = good.mail n text is in (sent.0, active_joined c member n (good.factions_new c.next_faction (omega arith)) sent.1);
+-- no number from a bound on is free any less after an insertion below it
+still_free : {V : Type 0} (m : FinMap nat_cmp V) (n k : ℕ) (v : V) → ((q : ℕ) → n ≤ q → get m q ≡ None) → k < n → (q : ℕ) → n ≤ q → get (insert m k v) q ≡ None
+still_free m n k v free below q h = get-insert_other m k q v (λ same. omega arith) ∙ free q h
+
+still_numbered : {V : Type 0} (m : FinMap nat_cmp V) (n : ℕ) (v : V) → IsNumbered m n → IsNumbered (insert m n v) (n + 1)
+still_numbered m n v old = record {
+  first = get-insert_other m n 0 v (λ same. omega (arith, old.count)) ∙ old.first;
+  count = ap (λ k. k + 1) (old.count ∙ sym (len_new m n v (old.free n (omega arith))));
+  free = still_free m (n + 1) n v (λ q l. old.free q (omega arith)) (omega arith);
+}
+
+-- what was there is still there after an insertion where nothing was
+still_there : {V : Type 0} (m : FinMap nat_cmp V) (k q : ℕ) (v x : V) → get m k ≡ None → get m q ≡ Some x → get (insert m k v) q ≡ Some x
+still_there m k q v x free is = get-insert_other m k q v (λ same. none_some x (sym free ∙ ap (get m) (sym same) ∙ is)) ∙ is
+
+other_key : {V : Type 0} (m : FinMap nat_cmp V) (k n : ℕ) (v : V) → get m k ≡ None → get m n ≡ Some v → (k == n) ≡ false
+other_key m k n v free is = let apart : k ≢ n = λ same. none_some v (sym free ∙ ap (get m) same ∙ is) in grind (arith, nat_tests)
+
+-- ---- the name of the first unit
+
+digit_ok : (d : ℕ) → 48 ≤ d → d ≤ 57 → is_name_byte d ≡ true
+digit_ok d h k = grind (arith, nat_tests)
+
+-- digits, of which the last is told apart
+record EndsInDigit (ds : List ℕ) : Type 0 where
+  front : List ℕ
+  last : ℕ
+  is : ds ≡ front ++ last ∷ []
+  digits : list_all is_name_byte front ≡ true
+  least : 48 ≤ last
+  most : last ≤ 57
+
+all_digits : (ds : List ℕ) → EndsInDigit ds → list_all is_name_byte ds ≡ true
+all_digits ds e =
+    ap (list_all is_name_byte) e.is ∙ list_all-append is_name_byte e.front (e.last ∷ []) ∙ both_true e.digits (both_true (digit_ok e.last e.least e.most) refl)
+
+decimal_ends : (n : ℕ) → n < 2 ^ 64 → EndsInDigit (decimal n)
+decimal_ends n h = decimal_by_steps (λ _ ds. EndsInDigit ds) one more n h
+  where
+    one : (n : ℕ) → n < 10 → EndsInDigit ((48 + n) ∷ [])
+    one n h = record { front = []; last = 48 + n; is = refl; digits = refl; least = omega arith; most = omega arith }
+
+    more : (n : ℕ) (ds : List ℕ) → 10 ≤ n → EndsInDigit ds → EndsInDigit (ds ++ (48 + n % 10) ∷ [])
+    more n ds h e = record { front = ds; last = 48 + n % 10; is = refl; digits = all_digits ds e; least = omega arith; most = omega arith }
+
+open_ends : (front : List ℕ) (last : ℕ) → 48 ≤ last → has_open_ends (codes "Unit " ++ (front ++ last ∷ [])) ≡ true
+open_ends front last h =
+    let bs = codes "Unit " ++ (front ++ last ∷ []) in
+    let place : length bs - 1 ≡ length (codes "Unit " ++ front) = omega (arith, length-append front (last ∷ [])) in
+    let other : (last == 32) ≡ false = grind (arith, nat_tests) in
+    both_true refl (ap (λ i. not (get_or bs i 0 == 32)) place ∙ ap (λ b. not (b == 32)) (get_or-append_seam (codes "Unit " ++ front) last [] 0) ∙ ap not other)
+
+short : (bs : List ℕ) → 1 ≤ length bs → length bs ≤ 40 → is_short bs ≡ true
+short bs h k = grind (arith, nat_tests)
+
+unit_name_ok : (n : ℕ) → n ≤ last_unit → name_ok (codes "Unit " ++ decimal n) ≡ true
+unit_name_ok n h =
+    let e = decimal_ends n (omega arith) in
+    let few : length (decimal n) ≤ 20 = length-decimal-le 20 n (omega arith) (omega arith) (omega arith) in
+    both_true (both_true (short (codes "Unit " ++ decimal n) (omega arith) (omega (arith, few))) (ap (λ ds. has_open_ends (codes "Unit " ++ ds)) e.is ∙ open_ends e.front e.last e.least)) (all_digits (decimal n) e)
+
+-- ---- each rule
+
+false_true : {P : Type 0} → false ≡ true → P
+false_true e = cc
+
+true_false : {P : Type 0} → true ≡ false → P
+true_false e = cc
+
+some_put : {P : Type 0} (n : ℕ) (xs : List ℕ) → put_number n xs ≡ [] → P
+unfolding put_number
+some_put n xs e = absurd (omega (arith, ap length e, length-append (take (first_above n xs) xs) (n ∷ drop (first_above n xs) xs)))
+
+untaken : (c : State) (name : List ℕ) → name_taken c name ≡ false → Every (λ n f. f.joined_as ≢ name) c.factions
+untaken c name h n f is same =
+    let differs = every-from_none (λ (g : Faction). pointwise nat_eq g.joined_as name) c.factions h n f is in
+    let equal = (bytes_eq-Decides f.joined_as name).1 same in
+    true_false (sym equal ∙ differs)
+
+module _ (w : Planet) (name pass : List ℕ) (word : ℕ) (c : State) where
+  abbrev member : Faction
+  member = new_faction c.next_faction name pass
+
+  abbrev unit : Unit
+  unit = first_unit w word c
+
+  abbrev factions : FinMap nat_cmp Faction
+  factions = insert c.factions c.next_faction member
+
+  abbrev units : FinMap nat_cmp Unit
+  units = insert c.units c.next_unit unit
+
+  joined-numbers : is_full c ≡ false → IsWorld w → AreNumbered c → AreInRange w c → AreInRange w (joined w name pass word c)
+  unfolding joined
+  joined-numbers full world next old =
+      let r = room c full in
+      let one = with_booked c.books Joining Money (pos w.rules.start_money) in
+      record {
+        month = old.month;
+        few_factions = omega (arith, len_new c.factions c.next_faction member (next.factions.free c.next_faction (omega arith)), r.0);
+        few_regions = old.few_regions;
+        few_units = omega (arith, len_new c.units c.next_unit unit (next.units c.next_unit (omega arith)), r.1);
+        few_structures = old.few_structures;
+        next_unit_least = omega arith;
+        next_unit_most = omega (arith, r.2);
+        factions = every-insert (λ n f. f.number ≡ n) c.factions c.next_faction member refl old.factions;
+        regions = old.regions;
+        units = every-insert (λ n u. (1 ≤ n) × IsHolding u.holding) c.units c.next_unit unit (old.next_unit_least, record { men = omega arith; money = world.rules.start_money; items = every-empty (λ item amount. (1 ≤ amount) × (amount ≤ holding_limit)) }) old.units;
+        structures = old.structures;
+        books = IsGrid-with_booked (things_of w) one Joining People (pos 1) (IsGrid-with_booked (things_of w) c.books Joining Money (pos w.rules.start_money) old.books);
+      }
+
+  joined-names : is_full c ≡ false → name_taken c name ≡ false → IsTrue (name_ok name) → IsTrue (pass_ok pass) → AreNamed c → AreNamed (joined w name pass word c)
+  unfolding joined
+  joined-names full free named passes old =
+      let own = untaken c name free in
+      record {
+        pass = old.pass;
+        factions = every-insert (λ n f. IsTrue (name_ok f.joined_as) × IsTrue (name_ok f.name) × IsTrue (pass_ok f.pass)) c.factions c.next_faction member (named, named, passes) old.factions;
+        joined = every-insert (λ n f. Every (λ m g. f.joined_as ≡ g.joined_as → n ≡ m) factions) c.factions c.next_faction member
+            (every-insert (λ m g. name ≡ g.joined_as → c.next_faction ≡ m) c.factions c.next_faction member (λ _. refl) (λ m g is same. absurd (own m g is (sym same))))
+            (λ n f is. every-insert (λ m g. f.joined_as ≡ g.joined_as → n ≡ m) c.factions c.next_faction member (λ same. absurd (own n f is same)) (old.joined n f is));
+        units = every-insert (λ n u. IsTrue (name_ok u.holding.name)) c.units c.next_unit unit (unit_name_ok c.next_unit (room c full).2) old.units;
+        structures = old.structures;
+      }
+
+  home_there : IsWorld w → (p : RegionPlan) × (get w.regions (home_of w word) ≡ Some p) × (is_land w.terrains p ≡ true)
+  home_there world = passes-listed (is_land w.terrains) w.regions (word % length (land_of w)) 0 (omega (arith, world.some_land))
+
+  joined-known : IsWorld w → AreKnown w c → AreKnown w (joined w name pass word c)
+  unfolding joined
+  joined-known world old =
+      let home = home_there world in
+      record {
+        regions = old.regions;
+        units = every-insert (λ n u. IsPlaced w (joined w name pass word c) u) c.units c.next_unit unit record {
+          faction = there-new c.factions c.next_faction member;
+          region = (old.regions (home_of w word)).1 (home.0, home.1);
+          structure = λ inside. absurd (inside refl);
+          items = every-empty (λ i amount. i < length w.items);
+          skills = every-empty (λ s days. s < length w.skills);
+        } (λ n u is. let p = old.units n u is in record {
+          faction = there-insert c.factions c.next_faction u.faction member p.faction;
+          region = p.region;
+          structure = p.structure;
+          items = p.items;
+          skills = p.skills;
+        });
+        structures = λ n s is. let b = old.structures n s is in record { kind = b.kind; region = b.region; owner = λ owned. there-insert c.units c.next_unit s.owner unit (b.owner owned) };
+        mail = λ n text is. there-insert c.factions c.next_faction n member (old.mail n text is);
+        reports = λ n text is. there-insert c.factions c.next_faction n member (old.reports n text is);
+      }
+
+  joined-next : AreNumbered c → AreNumbered (joined w name pass word c)
+  unfolding joined
+  joined-next old = record {
+    factions = still_numbered c.factions c.next_faction member old.factions;
+    structures = old.structures;
+    units = still_free c.units (c.next_unit + 1) c.next_unit unit (λ q l. old.units q (omega arith)) (omega arith);
+  }
+
+  joined-days : AreDays c → AreDays (joined w name pass word c)
+  unfolding joined
+  joined-days old = every-insert (λ n u. Every (λ s days. (1 ≤ days) × (days ≤ most_days * u.holding.men)) u.holding.days) c.units c.next_unit unit (every-empty (λ s days. (1 ≤ days) × (days ≤ most_days * 1))) old
+
+  module _ (next : AreNumbered c) where
+    free_faction : get c.factions c.next_faction ≡ None
+    free_faction = next.factions.free c.next_faction (omega arith)
+
+    free_unit : get c.units c.next_unit ≡ None
+    free_unit = next.units c.next_unit (omega arith)
+
+    -- the units of the factions that were there
+    same_units : (n : ℕ) (f : Faction) → get c.factions n ≡ Some f → numbers_of n units ≡ numbers_of n c.units
+    same_units n f is = numbers_where-insert_other (λ (u : Unit). u.faction == n) c.units c.next_unit unit free_unit (other_key c.factions c.next_faction n f free_faction is)
+
+    joined-gone : GoneHaveNone c → GoneHaveNone (joined w name pass word c)
+    unfolding joined
+    joined-gone old = every-insert (λ n f. f.gone ≡ true → numbers_of n units ≡ []) c.factions c.next_faction member (λ e. false_true e) (λ n f is gone. same_units n f is ∙ old n f is gone)
+
+    own_unit : numbers_of c.next_faction units ≡ [] → false ≡ true
+    own_unit none =
+        let same : (c.next_faction == c.next_faction) ≡ true = grind (arith, nat_tests) in
+        some_put c.next_unit (numbers_of c.next_faction c.units) (sym (numbers_where-insert_new (λ (u : Unit). u.faction == c.next_faction) c.units c.next_unit unit free_unit same) ∙ none)
+
+    joined-none : NoneAreGone c → NoneAreGone (joined w name pass word c)
+    unfolding joined
+    joined-none old = every-insert (λ n f. numbers_of n units ≡ [] → f.gone ≡ true) c.factions c.next_faction member own_unit (λ n f is none. old n f is (sym (same_units n f is) ∙ none))
+
+    joined-owners : AreOwned c → AreOwned (joined w name pass word c)
+    unfolding joined
+    joined-owners old n s is = let o = old n s is in record {
+      owned = λ some. let (u, there, inside) = o.owned some in (u, still_there c.units c.next_unit s.owner unit u free_unit there, inside);
+      ownerless = λ none. every-insert (λ m u. u.structure ≢ n) c.units c.next_unit unit (λ same. none_some s (sym next.structures.first ∙ ap (get c.structures) same ∙ is)) (o.ownerless none);
+    }
+
+    joined-mail : IsMail c → IsMail (joined w name pass word c)
+    unfolding joined
+    joined-mail old n text is = let (own, active) = old n text is in let (f, there, stays) = active in (own, (f, still_there c.factions c.next_faction n member f free_faction there, stays))
+
+  joined-water : IsWorld w → AreAfloat w c → AreAfloat w (joined w name pass word c)
+  unfolding joined
+  joined-water world old =
+      let home = home_there world in
+      let dry : is_land_at w (home_of w word) ≡ true = ap (λ p. option_map_or (is_land w.terrains) p false) home.1 ∙ home.2 in
+      record {
+        units = every-insert (λ n u. is_land_at w u.region ≡ false → IsAboard w (joined w name pass word c) u) c.units c.next_unit unit (λ wet. true_false (sym dry ∙ wet)) old.units;
+        structures = old.structures;
+      }
+
+  joined-guarded : AreOfOneFaction guards c → AreOfOneFaction guards (joined w name pass word c)
+  unfolding joined
+  joined-guarded old = every-insert (λ n u. Every (λ m v. guards u ≡ true → guards v ≡ true → u.region ≡ v.region → u.faction ≡ v.faction) units) c.units c.next_unit unit (λ m v is e. true_false (sym e))
+      (λ n u is. every-insert (λ m v. guards u ≡ true → guards v ≡ true → u.region ≡ v.region → u.faction ≡ v.faction) c.units c.next_unit unit (λ _ e. true_false (sym e)) (old n u is))
+
+  joined-men : HaveMen c → HaveMen (joined w name pass word c)
+  unfolding joined
+  joined-men old = every-insert (λ n u. 1 ≤ u.holding.men) c.units c.next_unit unit (omega arith) old
+
+  joined-amounts : IsWorld w → AreNumbered c → IsGrid (things_of w) c.books → AreAmountsWithin c → AreAmountsWithin (joined w name pass word c)
+  unfolding joined
+  joined-amounts world next grid old =
+      let more = len_new c.factions c.next_faction member (next.factions.free c.next_faction (omega arith)) in
+      let one = with_booked c.books Joining Money (pos w.rules.start_money) in
+      let g = IsGrid-with_booked (things_of w) c.books Joining Money (pos w.rules.start_money) grid in
+      IsWithin-with_booked (things_of w) one Joining People 1 (amount_bound c + w.rules.start_money) _ g (omega arith)
+      (IsWithin-with_booked (things_of w) c.books Joining Money w.rules.start_money (amount_bound c) (amount_bound c + w.rules.start_money) grid (omega arith) old (omega arith)) (omega (arith, more, world.rules.start_money))
+
+  module _ (full : is_full c ≡ false) (free : name_taken c name ≡ false) (named : IsTrue (name_ok name)) (passes : IsTrue (pass_ok pass)) (world : IsWorld w) where
+    joined-steady : IsSteady w c → IsSteady w (joined w name pass word c)
+    joined-steady old = record {
+      numbers = joined-numbers full world old.next old.numbers;
+      names = joined-names full free named passes old.names;
+      known = joined-known world old.known;
+      next = joined-next old.next;
+      days = joined-days old.days;
+      gone = joined-gone old.next old.gone;
+      owners = joined-owners old.next old.owners;
+      water = joined-water world old.water;
+      guarded = joined-guarded old.guarded;
+    }
+
+    pub joined-sound : IsSound w c → IsSound w (joined w name pass word c)
+    joined-sound old = let next = old.steady.next in record {
+      steady = joined-steady old.steady;
+      men = joined-men old.men;
+      amounts = joined-amounts world next old.steady.numbers.books old.amounts;
+      gone = joined-none next old.gone;
+      balances = joined-balances w name pass word c old.steady.numbers.books (next.units c.next_unit (omega arith)) old.balances;
+      mail = joined-mail next old.mail;
     }

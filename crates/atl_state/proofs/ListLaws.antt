@@ -1,22 +1,26 @@
 -- The lists of the regions and of the factions, as units come and go.
-use Rattle.std.proofs.Common.{◌≡◌, ◌≢◌, ◌==◌, ℕ, true, false, cond, Some, None, List, [], refl, sym, ap, subst, ◌∙◌, arith}
+use Rattle.std.proofs.Common.{◌≡◌, ◌≢◌, ◌==◌, ℕ, true, false, cond, Option, Some, None, List, [], map, filter, refl, sym, ap, subst, ◌∙◌, arith, inl, inr}
 use Rattle.std.specs.declared.cmp.Ordering.TheVariants.{Less, Equal, Greater}
-use Rattle.std.specs.Prelude.{unwrap_or, is_some}
+use Rattle.std.specs.Prelude.{unwrap_or}
 use Rattle.std.specs.Ordering.{nat_cmp, is_eq}
 use Rattle.std.specs.Cmp.{nat_cmp_total, ranked}
-use Rattle.std.specs.FinMap.{FinMap, get, insert, remove, get-insert, get-remove, nat_cmp-IsAntisymmetric}
+use Rattle.std.specs.FinMap.{FinMap, get, insert, remove, empty, get-empty, get-insert, get-remove, nat_cmp-IsAntisymmetric}
+use Rattle.std.proofs.lemmas.Bool.{cases_eq}
 use Rattle.std.proofs.lemmas.Bool.Decides.{nat_tests}
-use Rattle.atl_tables.proofs.SumLaws.{numbers_where-insert_other, numbers_where-insert_known, put_back}
-use Rattle.atl_tables.specs.Sums.{numbers_where}
+use Rattle.atl_tables.proofs.SumLaws.{numbers_where-insert_other, numbers_where-insert_known, put_back, taken_back}
+use Rattle.atl_tables.specs.Sums.{changed, changed_at, numbers_where}
+use Rattle.atl_tables.proofs.Maps.{entries-empty}
 use Rattle.atl_state.specs.Ordered.{put_number, take_number}
-use Rattle.atl_state.specs.Kept.{AreLists, list_of}
+use Rattle.atl_state.specs.Kept.{AreLists, AreUnitLists, SameLists, ListsUnit, UnlistsUnit, list_of, listing_of, listed_apart, unlisted_apart}
+use Rattle.atl_state.specs.declared.lists.Listing.{Listing}
+use Rattle.atl_state.specs.declared.lists.UnitLists.{UnitLists}
 use Rattle.atl_state.specs.declared.records.Unit.{Unit}
-use Rattle.atl_state.proofs.OrderedLaws.{numbers_where-insert_new, taken_put}
+use Rattle.atl_state.proofs.OrderedLaws.{numbers_where-insert_new, numbers_where-lost, numbers_where-gained, taken_put}
 
 pub same_number : (a : ℕ) → (a == a) ≡ true
 same_number a = grind (arith, nat_tests)
 
-other_number : (a b : ℕ) → a ≢ b → (a == b) ≡ false
+pub other_number : (a b : ℕ) → a ≢ b → (a == b) ≡ false
 other_number a b ne = grind (arith, nat_tests)
 
 itself : (k : ℕ) → is_eq (nat_cmp k k) ≡ true
@@ -67,12 +71,119 @@ module _ (belongs_to : Unit → ℕ) where
   AreLists-removed units lists k u is old =
       AreLists-undone (remove units k) lists k u (gone units k) (subst (λ (m : FinMap nat_cmp Unit). AreLists belongs_to m lists) (put_back units k u is) old)
 
--- a unit that came and went again
-pub AreLists-came : (belongs_to : Unit → ℕ) (units : FinMap nat_cmp Unit) (lists : FinMap nat_cmp (List ℕ)) (k : ℕ) (u : Unit) → get units k ≡ None → AreLists belongs_to units lists
-    → (mid : FinMap nat_cmp (List ℕ)) → mid ≡ insert lists (belongs_to u) (put_number k (list_of lists (belongs_to u))) → AreLists belongs_to units (insert mid (belongs_to u) (take_number k (list_of mid (belongs_to u))))
-AreLists-came belongs_to units lists k u fresh old mid is =
-    AreLists-undone belongs_to units mid k u fresh (subst (λ (m : FinMap nat_cmp (List ℕ)). AreLists belongs_to (insert units k u) m) (sym is) (AreLists-added belongs_to units lists k u fresh old))
+-- ---- lists under a key, and those of the same numbers
 
--- a list that was put is there
-pub listed_there : (lists : FinMap nat_cmp (List ℕ)) (k : ℕ) (xs : List ℕ) → is_some (get (insert lists k xs) k) ≡ true
-listed_there lists k xs = ap is_some (get-insert nat_cmp_total lists k xs k ∙ ap (λ b. cond b (Some xs) (get lists k)) (itself k))
+pub AreLists-same : (belongs_to : Unit → ℕ) (units : FinMap nat_cmp Unit) (old new : FinMap nat_cmp (List ℕ)) → SameLists new old → AreLists belongs_to units old → AreLists belongs_to units new
+AreLists-same belongs_to units old new same is k = same k ∙ is k
+
+module _ (belongs_to : Unit → ℕ) (units : FinMap nat_cmp Unit) (old new : FinMap nat_cmp (List ℕ)) (n key : ℕ) where
+  -- a unit that comes
+  pub AreLists-came : (u : Unit) → belongs_to u ≡ key → get units n ≡ None → new ≡ insert old key (put_number n (list_of old key)) → AreLists belongs_to units old → AreLists belongs_to (insert units n u) new
+  AreLists-came u own fresh put is =
+      subst (λ l. AreLists belongs_to (insert units n u) l) (sym (put ∙ ap (λ k. insert old k (put_number n (list_of old k))) (sym own))) (AreLists-added belongs_to units old n u fresh is)
+
+  -- a unit that goes
+  pub AreLists-went : (u : Unit) → belongs_to u ≡ key → get units n ≡ Some u → SameLists new (insert old key (take_number n (list_of old key))) → AreLists belongs_to units old → AreLists belongs_to (remove units n) new
+  AreLists-went u own there same is =
+      AreLists-same belongs_to (remove units n) (insert old key (take_number n (list_of old key))) new same
+      (subst (λ k. AreLists belongs_to (remove units n) (insert old k (take_number n (list_of old k)))) own (AreLists-removed belongs_to units old n u there is))
+
+-- a list that is put is there
+pub listed_there : (lists : FinMap nat_cmp (List ℕ)) (k : ℕ) (xs : List ℕ) → list_of (insert lists k xs) k ≡ xs
+listed_there lists k xs = ap (λ o. unwrap_or o []) (get-insert nat_cmp_total lists k xs k ∙ ap (λ b. cond b (Some xs) (get lists k)) (itself k))
+
+-- a number that was put and is taken again
+pub AreLists-undone_at : (belongs_to : Unit → ℕ) (units : FinMap nat_cmp Unit) (old mid new : FinMap nat_cmp (List ℕ)) (n key : ℕ) → mid ≡ insert old key (put_number n (list_of old key)) → SameLists new (insert mid key (take_number n (list_of mid key)))
+    → AreLists belongs_to units old → AreLists belongs_to units new
+AreLists-undone_at belongs_to units old mid new n key put same is =
+    AreLists-same belongs_to units (insert mid key (take_number n (list_of mid key))) new same
+    (by_key mid key (take_number n (list_of mid key)) (λ r xs. xs ≡ numbers_where (λ v. belongs_to v == r) units)
+    (ap (take_number n) (ap (λ l. list_of l key) put ∙ listed_there old key (put_number n (list_of old key))) ∙ taken_put n (list_of old key) ∙ is key)
+    (λ r ne. ap (λ l. list_of l r) put ∙ by_key old key (put_number n (list_of old key)) (λ q xs. key ≢ q → xs ≡ list_of old q) (λ apart. absurd (apart refl)) (λ q _ _. refl) r ne ∙ is r))
+
+-- a number taken where there is no list
+pub none_taken : (lists : FinMap nat_cmp (List ℕ)) (key n : ℕ) → get lists key ≡ None → SameLists lists (insert lists key (take_number n (list_of lists key)))
+unfolding take_number
+none_taken lists key n none k =
+    sym (by_key lists key (take_number n (list_of lists key)) (λ q xs. xs ≡ list_of lists q)
+    (ap (λ o. take_number n (unwrap_or o [])) none ∙ sym (ap (λ o. unwrap_or o []) none)) (λ q ne. refl) k)
+
+-- ---- nobody is listed
+nobody_listed : (belongs_to : Unit → ℕ) → AreLists belongs_to empty empty
+nobody_listed belongs_to k = ap (λ o. unwrap_or o []) (get-empty nat_cmp k) ∙ sym (ap (λ es. map (λ e. e.0) (filter (λ e. belongs_to e.1 == k) es)) entries-empty)
+
+pub AreUnitLists-nobody : AreUnitLists empty (record { by_region = empty; by_faction = empty; by_structure = empty })
+AreUnitLists-nobody = record {
+  regions = nobody_listed (λ u. u.region);
+  factions = nobody_listed (λ u. u.faction);
+  structures = nobody_listed (λ u. u.structure);
+}
+
+-- ---- units that change, or come and go again
+
+-- a unit that goes on being listed where it was
+pub AreUnitLists-kept : (units : FinMap nat_cmp Unit) (lists : UnitLists) (n : ℕ) (u v : Unit) → get units n ≡ Some u → listing_of u ≡ listing_of v → AreUnitLists units lists → AreUnitLists (insert units n v) lists
+AreUnitLists-kept units lists n u v is same old = record {
+  regions = AreLists-kept (λ w. w.region) units lists.by_region n u v is (ap (λ (l : Listing). l.region) same) old.regions;
+  factions = AreLists-kept (λ w. w.faction) units lists.by_faction n u v is (ap (λ (l : Listing). l.faction) same) old.factions;
+  structures = AreLists-kept (λ w. w.structure) units lists.by_structure n u v is (ap (λ (l : Listing). l.structure) same) old.structures;
+}
+
+put_there : (units : FinMap nat_cmp Unit) (n : ℕ) (u : Unit) → get (insert units n u) n ≡ Some u
+put_there units n u = get-insert nat_cmp_total units n u n ∙ ap (λ b. cond b (Some u) (get units n)) (itself n)
+
+-- a unit that was listed and is so no more
+pub AreUnitLists-back : (units : FinMap nat_cmp Unit) (n : ℕ) (u : Unit) (l : Listing) (old mid new : UnitLists) → get units n ≡ None → listing_of u ≡ l → ListsUnit n l old mid → UnlistsUnit n l mid new → AreUnitLists units old → AreUnitLists units new
+AreUnitLists-back units n u l old mid new fresh own puts takes is =
+    subst (λ (m : FinMap nat_cmp Unit). AreUnitLists m new) (taken_back units n u fresh) (takes (insert units n u) u own (put_there units n u) (puts units u own fresh is))
+
+-- ---- a unit that is listed elsewhere
+
+module _ (belongs_to : Unit → ℕ) where
+  -- where the two keys differ
+  AreLists-moved : (units : FinMap nat_cmp Unit) (lists : FinMap nat_cmp (List ℕ)) (k : ℕ) (u v : Unit) → get units k ≡ Some u → belongs_to u ≢ belongs_to v → AreLists belongs_to units lists
+      → AreLists belongs_to (insert units k v) (insert (insert lists (belongs_to v) (put_number k (list_of lists (belongs_to v)))) (belongs_to u) (take_number k (list_of lists (belongs_to u))))
+  AreLists-moved units lists k u v is apart old =
+      let from = belongs_to u in
+      let to = belongs_to v in
+      by_key (insert lists to (put_number k (list_of lists to))) from (take_number k (list_of lists from)) (λ r xs. xs ≡ numbers_where (λ w. belongs_to w == r) (insert units k v))
+      (ap (take_number k) (old from) ∙ sym (numbers_where-lost (λ w. belongs_to w == from) units k u v is (same_number from) (other_number to from (λ e. apart (sym e)))))
+      (λ r ne. by_key lists to (put_number k (list_of lists to)) (λ r xs. from ≢ r → xs ≡ numbers_where (λ w. belongs_to w == r) (insert units k v))
+      (λ _. ap (put_number k) (old to) ∙ sym (numbers_where-gained (λ w. belongs_to w == to) units k u v is (other_number from to apart) (same_number to)))
+      (λ q ne2 ne3. old q ∙ sym (numbers_where-insert_known (λ w. belongs_to w == q) units k u v is (other_number from q ne3 ∙ sym (other_number to q ne2)))) r ne)
+
+  stands_still : (lists : FinMap nat_cmp (List ℕ)) (n from to : ℕ) → from ≢ to → list_of (insert lists to (put_number n (list_of lists to))) from ≡ list_of lists from
+  stands_still lists n from to ne = by_key lists to (put_number n (list_of lists to)) (λ r xs. to ≢ r → xs ≡ list_of lists r) (λ apart. absurd (apart refl)) (λ r _ _. refl) from (λ e. ne (sym e))
+
+  relisted : (units : FinMap nat_cmp Unit) (lists : FinMap nat_cmp (List ℕ)) (k : ℕ) (u v : Unit) → get units k ≡ Some u → AreLists belongs_to units lists
+      → AreLists belongs_to (insert units k v) (unlisted_apart (listed_apart lists k (belongs_to v) (belongs_to u)) k (belongs_to u) (belongs_to v))
+  relisted units lists k u v is old =
+      let from = belongs_to u in
+      let to = belongs_to v in
+      elim (cases_eq from to) [
+        | inl same ↦ rw (ap (λ q. from == q) (sym same) ∙ same_number from, ap (λ q. to == q) same ∙ same_number to) (AreLists-kept belongs_to units lists k u v is same old)
+        | inr apart ↦ rw (other_number from to apart, other_number to from (λ e. apart (sym e)), stands_still lists k from to apart) (AreLists-moved units lists k u v is apart old)
+      ]
+
+  pub AreLists-relisted : (units : FinMap nat_cmp Unit) (old mid new : FinMap nat_cmp (List ℕ)) (n from to : ℕ) (u v : Unit) → get units n ≡ Some u → belongs_to u ≡ from → belongs_to v ≡ to → mid ≡ listed_apart old n to from → SameLists new (unlisted_apart mid n from to)
+      → AreLists belongs_to units old → AreLists belongs_to (insert units n v) new
+  AreLists-relisted units old mid new n from to u v is own goes put same lists =
+      AreLists-same belongs_to (insert units n v) (unlisted_apart mid n from to) new same
+      (subst (λ m. AreLists belongs_to (insert units n v) (unlisted_apart m n from to)) (sym put)
+      (subst (λ q. AreLists belongs_to (insert units n v) (unlisted_apart (listed_apart old n to q) n q to)) own
+      (subst (λ q. AreLists belongs_to (insert units n v) (unlisted_apart (listed_apart old n q (belongs_to u)) n (belongs_to u) q)) goes (relisted units old n u v is lists))))
+
+  pub AreLists-apart : (units : FinMap nat_cmp Unit) (old mid new : FinMap nat_cmp (List ℕ)) (n key other : ℕ) → mid ≡ listed_apart old n key other → SameLists new (unlisted_apart mid n key other) → AreLists belongs_to units old → AreLists belongs_to units new
+  AreLists-apart units old mid new n key other put same is =
+      elim (key == other) as (λ b. mid ≡ cond b old (insert old key (put_number n (list_of old key))) → SameLists new (cond b mid (insert mid key (take_number n (list_of mid key)))) → AreLists belongs_to units new) [
+        | true ↦ λ p s. AreLists-same belongs_to units mid new s (subst (λ m. AreLists belongs_to units m) (sym p) is)
+        | false ↦ λ p s. AreLists-undone_at belongs_to units old mid new n key p s is
+      ] put same
+
+-- a unit that may have changed, and goes on being listed where it was
+pub AreUnitLists-changed : (f : Unit → Unit) → ((u : Unit) → listing_of u ≡ listing_of (f u)) → (units : FinMap nat_cmp Unit) (lists : UnitLists) (n : ℕ) → AreUnitLists units lists → AreUnitLists (changed f units n) lists
+AreUnitLists-changed f stays units lists n is = by_unit (get units n) refl
+  where
+    by_unit : (o : Option Unit) → get units n ≡ o → AreUnitLists (changed_at f units n o) lists
+    by_unit None e = is
+    by_unit (Some u) e = AreUnitLists-kept units lists n u (f u) e (stays u) is

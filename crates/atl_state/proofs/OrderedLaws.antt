@@ -3,12 +3,13 @@ use Rattle.std.proofs.Common.{◌≡◌, ℕ, suc, ◌+◌, T, not, ◌<◌, Boo
 use Rattle.std.specs.declared.cmp.Ordering.TheVariants.{Less, Equal, Greater}
 use Rattle.std.specs.Ordering.{nat_cmp, is_lt, is_eq}
 use Rattle.std.specs.Cmp.{nat_cmp_total, ranked}
-use Rattle.std.specs.FinMap.{FinMap, get, insert, find, put, entries, entries_sorted, entries-insert, get-entries, is_sorted}
+use Rattle.std.specs.FinMap.{FinMap, get, insert, find, put, entries, entries_sorted, entries-insert, get-entries, get-remove, is_sorted}
+use Rattle.std.specs.FinMap as keyed
 use Rattle.std.specs.FinMap.Entries.{by_order, below_all}
 use Rattle.std.proofs.lemmas.Bool.{and_parts, false≢true}
 use Rattle.std.proofs.lemmas.Bool.Decides.{nat_tests}
 use Rattle.atl_tables.specs.Sums.{numbers_where}
-use Rattle.atl_tables.proofs.SumLaws.{chosen-cons}
+use Rattle.atl_tables.proofs.SumLaws.{chosen-cons, numbers_where-insert_other, put_back, put_over}
 use Rattle.std.specs.List.{remove}
 use Rattle.atl_state.specs.Ordered.{first_above, put_number, take_number}
 
@@ -74,6 +75,13 @@ later_step : (n x : ℕ) (t : Bool) (ys zs : List ℕ) → x < n → zs ≡ put_
 later_step n x true ys zs l h = let e : nat_le n x ≡ false = grind (arith, nat_tests) in ap (λ q. x ∷ q) h ∙ sym (put_number-cons n x ys ∙ ap (λ b. cond b (n ∷ x ∷ ys) (x ∷ put_number n ys)) e)
 later_step n x false ys zs l h = h
 
+ties : (k : ℕ) → is_eq (nat_cmp k k) ≡ true
+ties k = elim (nat_cmp k k) as (λ o. nat_cmp k k ≡ o → is_eq o ≡ true) [
+  | Less ↦ λ e. let l = ranked k k Less (sym e) in absurd (omega arith)
+  | Equal ↦ λ _. refl
+  | Greater ↦ λ e. let l = ranked k k Greater (sym e) in absurd (omega arith)
+] refl
+
 module _ {X : Type 0} (p : X → Bool) where
   abbrev chosen : List (ℕ × X) → List ℕ
   chosen es = map (λ e. e.0) (filter (λ e. p e.1) es)
@@ -98,3 +106,21 @@ module _ {X : Type 0} (p : X → Bool) where
   pub numbers_where-insert_new : (m : FinMap nat_cmp X) (k : ℕ) (v : X) → get m k ≡ None → p v ≡ true → numbers_where p (insert m k v) ≡ put_number k (numbers_where p m)
   numbers_where-insert_new m k v fresh h =
       ap chosen (entries-insert nat_cmp_total m k v) ∙ chosen-put_new k v h (entries m) (is_true _ (entries_sorted m)) (sym (get-entries m k) ∙ fresh)
+
+  removed : (m : FinMap nat_cmp X) (k : ℕ) → get (keyed.remove m k) k ≡ None
+  removed m k = get-remove nat_cmp_total m k k ∙ ap (λ b. cond b None (get m k)) (ties k)
+
+  -- a value that passed, and then doesn't
+  pub numbers_where-lost : (m : FinMap nat_cmp X) (k : ℕ) (u v : X) → get m k ≡ Some u → p u ≡ true → p v ≡ false → numbers_where p (insert m k v) ≡ take_number k (numbers_where p m)
+  numbers_where-lost m k u v is passed fails =
+      let base = keyed.remove m k in
+      let before : numbers_where p m ≡ put_number k (numbers_where p base) = ap (numbers_where p) (put_back m k u is) ∙ numbers_where-insert_new base k u (removed m k) passed in
+      let after : numbers_where p (insert m k v) ≡ numbers_where p base = ap (numbers_where p) (put_over m k v) ∙ numbers_where-insert_other p base k v (removed m k) fails in
+      after ∙ sym (taken_put k (numbers_where p base)) ∙ ap (take_number k) (sym before)
+
+  -- a value that did not pass, and then does
+  pub numbers_where-gained : (m : FinMap nat_cmp X) (k : ℕ) (u v : X) → get m k ≡ Some u → p u ≡ false → p v ≡ true → numbers_where p (insert m k v) ≡ put_number k (numbers_where p m)
+  numbers_where-gained m k u v is failed passes =
+      let base = keyed.remove m k in
+      let before : numbers_where p m ≡ numbers_where p base = ap (numbers_where p) (put_back m k u is) ∙ numbers_where-insert_other p base k u (removed m k) failed in
+      ap (numbers_where p) (put_over m k v) ∙ numbers_where-insert_new base k v (removed m k) passes ∙ ap (put_number k) (sym before)

@@ -1,37 +1,197 @@
--- What is true of every campaign that commands reach.
-use Rattle.std.specs.Prelude.{◌≡◌, ◌≤◌, ◌+◌, ◌*◌, ℕ, List, false, Some, None}
-use Rattle.std.specs.FinMap.{get, len}
-use Rattle.atl_tables.specs.Limits.{most_regions}
-use Rattle.atl_tables.specs.Planet.{Planet}
+-- What is true of every campaign that commands reach, and of one within a month. Each record is one of the rules.
+use Rattle.std.specs.Prelude.{◌≡◌, ◌≢◌, ◌≤◌, ◌<◌, ◌+◌, ◌*◌, ◌&&◌, ◌↔◌, ℕ, Bool, [], IsTrue, true, false, nat_lt, length, Some, None}
+use Rattle.std.specs.List.{slice_get}
+use Rattle.std.specs.Option.{option_map_or}
+use Rattle.std.specs.Ordering.{nat_cmp}
+use Rattle.std.specs.FinMap.{FinMap, get, len}
+use Rattle.atl_tables.specs.Limits.{most_amount, most_regions, most_size}
+use Rattle.atl_tables.specs.Names.{name_ok, pass_ok}
+use Rattle.atl_tables.specs.Planet.{Planet, is_land}
 use Rattle.atl_orders.specs.Limits.{last_faction}
 use Rattle.atl_orders.specs.Mailing.{IsMailingOf}
-use Rattle.atl_state.specs.Limits.{last_month, most_units, last_unit}
+use Rattle.atl_state.specs.Limits.{last_month, most_units, last_unit, most_structures, most_days}
 use Rattle.atl_state.specs.declared.books.Entry.{Entry}
 use Rattle.atl_state.specs.declared.books.Thing.{Thing}
 use Rattle.atl_state.specs.declared.records.Faction.{Faction}
+use Rattle.atl_state.specs.declared.records.Structure.{Structure}
+use Rattle.atl_state.specs.declared.records.Unit.{Unit}
 use Rattle.atl_state.specs.Books.{amount_in, IsGrid, IsWithin}
 use Rattle.atl_state.specs.Founding.{things_of}
-use Rattle.atl_state.specs.State.{State}
+use Rattle.atl_state.specs.Held.{IsHolding}
+use Rattle.atl_state.specs.State.{State, numbers_of}
+use Rattle.atl_state.specs.Totals.{Balances}
 
--- no amount of the books is greater in size
-abbrev pub amount_bound : State → ℕ
-amount_bound c = 200000000000000 * (c.month + 1) + 1000000000 * len c.factions
+-- each value is so, under its number
+abbrev pub Every : {V : Type 0} → (ℕ → V → Type 0) → FinMap nat_cmp V → Type 0
+Every P m = (n : ℕ) → (v : _) → get m n ≡ Some v → P n v
+
+-- something stands under the number
+abbrev pub IsThere : {V : Type 0} → FinMap nat_cmp V → ℕ → Type 0
+IsThere {V} m n = (v : V) × (get m n ≡ Some v)
 
 -- this faction is there, and not gone
 abbrev pub IsActive : State → ℕ → Type 0
 IsActive c n = (f : Faction) × (get c.factions n ≡ Some f) × (f.gone ≡ false)
 
-pub record IsGood (w : Planet) (c : State) : Type 0 where
+-- ---- of numbers: each is in its range, and there are not too many things
+
+-- the full size of a kind; where there is no such kind, the largest
+abbrev pub size_of : Planet → ℕ → ℕ
+size_of w kind = option_map_or (λ k. k.size) (slice_get w.kinds kind) most_size
+
+-- no amount of the books is greater in size
+abbrev pub amount_bound : State → ℕ
+amount_bound c = 200000000000000 * (c.month + 1) + 1000000000 * len c.factions
+
+-- men from 0
+pub record AreInRange (w : Planet) (c : State) : Type 0 where
   pub month : c.month ≤ last_month
   pub few_factions : len c.factions ≤ last_faction
-  pub few_units : len c.units ≤ most_units
   pub few_regions : len c.regions ≤ most_regions
-  pub next_faction : c.next_faction ≡ len c.factions + 1
+  pub few_units : len c.units ≤ most_units
+  pub few_structures : len c.structures ≤ most_structures
   pub next_unit_least : 1 ≤ c.next_unit
   pub next_unit_most : c.next_unit ≤ last_unit + 1
-  pub numbered : (n : ℕ) (f : Faction) → get c.factions n ≡ Some f → f.number ≡ n
-  pub factions_new : (n : ℕ) → c.next_faction ≤ n → get c.factions n ≡ None
-  pub units_new : (n : ℕ) → c.next_unit ≤ n → get c.units n ≡ None
-  pub grid : IsGrid (things_of w) c.books
-  pub amounts : (e : Entry) (t : Thing) → IsWithin (amount_bound c) (amount_in c.books e t)
-  pub mail : (n : ℕ) (text : List ℕ) → get c.mail n ≡ Some text → IsMailingOf n text × IsActive c n
+  pub factions : Every (λ n f. f.number ≡ n) c.factions
+  pub regions : Every (λ n r. (r.peasants ≤ most_amount) × (r.money ≤ most_amount)) c.regions
+  pub units : Every (λ n u. (1 ≤ n) × IsHolding u.holding) c.units
+  pub structures : Every (λ n s. (1 ≤ s.done) × (s.done ≤ size_of w s.kind)) c.structures
+  pub books : IsGrid (things_of w) c.books
+
+abbrev pub AreAmountsWithin : State → Type 0
+AreAmountsWithin c = (e : Entry) (t : Thing) → IsWithin (amount_bound c) (amount_in c.books e t)
+
+abbrev pub HaveMen : State → Type 0
+HaveMen c = Every (λ n u. 1 ≤ u.holding.men) c.units
+
+-- ---- of names
+
+pub record AreNamed (c : State) : Type 0 where
+  pub pass : IsTrue (pass_ok c.pass)
+  pub factions : Every (λ n f. IsTrue (name_ok f.joined_as) × IsTrue (name_ok f.name) × IsTrue (pass_ok f.pass)) c.factions
+  pub joined : Every (λ n f. Every (λ m g. f.joined_as ≡ g.joined_as → n ≡ m) c.factions) c.factions
+  pub units : Every (λ n u. IsTrue (name_ok u.holding.name)) c.units
+  pub structures : Every (λ n s. IsTrue (name_ok s.name)) c.structures
+
+-- ---- of what is named by its number: all of it is there
+
+-- a unit's faction and region, its structure, which stands in the region, and what it holds and studied
+pub record IsPlaced (w : Planet) (c : State) (u : Unit) : Type 0 where
+  pub faction : IsThere c.factions u.faction
+  pub region : IsThere c.regions u.region
+  pub structure : u.structure ≢ 0 → (s : Structure) × (get c.structures u.structure ≡ Some s) × (s.region ≡ u.region)
+  pub items : Every (λ i amount. i < length w.items) u.holding.items
+  pub skills : Every (λ s days. s < length w.skills) u.holding.days
+
+pub record IsBuilt (w : Planet) (c : State) (s : Structure) : Type 0 where
+  pub kind : s.kind < length w.kinds
+  pub region : IsThere c.regions s.region
+  pub owner : s.owner ≢ 0 → IsThere c.units s.owner
+
+-- and the regions are the world's
+pub record AreKnown (w : Planet) (c : State) : Type 0 where
+  pub regions : (n : ℕ) → IsThere c.regions n ↔ IsThere w.regions n
+  pub units : Every (λ n u. IsPlaced w c u) c.units
+  pub structures : Every (λ n s. IsBuilt w c s) c.structures
+  pub mail : Every (λ n text. IsThere c.factions n) c.mail
+  pub reports : Every (λ n text. IsThere c.factions n) c.reports
+
+-- ---- of the numbers that come next
+
+-- numbered from 1 without a gap, so that this number is next
+pub record IsNumbered {V : Type 0} (m : FinMap nat_cmp V) (next : ℕ) : Type 0 where
+  pub first : get m 0 ≡ None
+  pub count : next ≡ len m + 1
+  pub free : (n : ℕ) → next ≤ n → get m n ≡ None
+
+pub record AreNumbered (c : State) : Type 0 where
+  pub factions : IsNumbered c.factions c.next_faction
+  pub structures : IsNumbered c.structures c.next_structure
+  pub units : (n : ℕ) → c.next_unit ≤ n → get c.units n ≡ None
+
+-- ---- of days: 1 to 450 for each man
+abbrev pub AreDays : State → Type 0
+AreDays c = Every (λ n u. Every (λ s days. (1 ≤ days) × (days ≤ most_days * u.holding.men)) u.holding.days) c.units
+
+-- ---- of factions that are gone: they have no unit, and no other faction is without
+abbrev pub GoneHaveNone : State → Type 0
+GoneHaveNone c = Every (λ n f. f.gone ≡ true → numbers_of n c.units ≡ []) c.factions
+
+abbrev pub NoneAreGone : State → Type 0
+NoneAreGone c = Every (λ n f. numbers_of n c.units ≡ [] → f.gone ≡ true) c.factions
+
+-- ---- of owners
+
+-- nobody owns a structure without units; else one of them does
+pub record IsOwned (c : State) (n : ℕ) (s : Structure) : Type 0 where
+  pub owned : s.owner ≢ 0 → (u : Unit) × (get c.units s.owner ≡ Some u) × (u.structure ≡ n)
+  pub ownerless : s.owner ≡ 0 → Every (λ m u. u.structure ≢ n) c.units
+
+abbrev pub AreOwned : State → Type 0
+AreOwned c = Every (λ n s. IsOwned c n s) c.structures
+
+-- ---- of water: a unit is inside a ship there, and a structure is a complete ship
+
+abbrev pub is_land_at : Planet → ℕ → Bool
+is_land_at w region = option_map_or (is_land w.terrains) (get w.regions region) false
+
+abbrev pub is_ship : Planet → Structure → Bool
+is_ship w s = option_map_or (λ k. k.ship) (slice_get w.kinds s.kind) false
+
+abbrev pub IsAboard : Planet → State → Unit → Type 0
+IsAboard w c u = (s : Structure) × (get c.structures u.structure ≡ Some s) × (is_ship w s ≡ true)
+
+pub record AreAfloat (w : Planet) (c : State) : Type 0 where
+  pub units : Every (λ n u. is_land_at w u.region ≡ false → IsAboard w c u) c.units
+  pub structures : Every (λ n s. is_land_at w s.region ≡ false → (is_ship w s ≡ true) × (s.done ≡ size_of w s.kind)) c.structures
+
+-- ---- of guards
+
+-- a unit on guard has the flag set, and men
+abbrev pub guards : Unit → Bool
+guards u = u.holding.guard && nat_lt 0 u.holding.men
+
+-- all units of a region that pass the test are of one faction
+abbrev pub AreOfOneFaction : (Unit → Bool) → State → Type 0
+AreOfOneFaction test c = Every (λ n u. Every (λ m v. test u ≡ true → test v ≡ true → u.region ≡ v.region → u.faction ≡ v.faction) c.units) c.units
+
+-- ---- of mail and reports
+
+abbrev pub IsMail : State → Type 0
+IsMail c = Every (λ n text. IsMailingOf n text × IsActive c n) c.mail
+
+abbrev pub AreReported : State → Type 0
+AreReported c = Every (λ n f. IsThere c.reports n) c.factions
+
+-- ---- the campaigns
+
+-- within a month: a unit may be left without men, and a faction without units
+pub record IsSteady (w : Planet) (c : State) : Type 0 where
+  pub numbers : AreInRange w c
+  pub names : AreNamed c
+  pub known : AreKnown w c
+  pub next : AreNumbered c
+  pub days : AreDays c
+  pub gone : GoneHaveNone c
+  pub owners : AreOwned c
+  pub water : AreAfloat w c
+  pub guarded : AreOfOneFaction guards c
+
+-- and all flags that are set in a region are of one faction, men or no men
+pub record IsEarly (w : Planet) (c : State) : Type 0 where
+  pub steady : IsSteady w c
+  pub flags : AreOfOneFaction (λ u. u.holding.guard) c
+
+-- between commands, but for the report of a faction that has just joined
+pub record IsSound (w : Planet) (c : State) : Type 0 where
+  pub steady : IsSteady w c
+  pub men : HaveMen c
+  pub amounts : AreAmountsWithin c
+  pub gone : NoneAreGone c
+  pub balances : Balances c
+  pub mail : IsMail c
+
+-- between commands
+pub record IsGood (w : Planet) (c : State) : Type 0 where
+  pub sound : IsSound w c
+  pub reported : AreReported c

@@ -1,8 +1,8 @@
 -- What a contract sees of a holding.
-use Rattle.std.specs.Prelude.{◌≡◌, ◌≤◌, List, ℕ, Bool, refl, unwrap_or, Some}
+use Rattle.std.specs.Prelude.{◌≡◌, ◌≤◌, ◌==◌, List, ℕ, Bool, refl, unwrap_or, Some, if◌then◌else◌}
 use Rattle.std.specs.Ordering.{nat_cmp}
 use Rattle.std.specs.Coded.{Coded, code_by, coded×, coded_ℕ, coded_list, coded_bool}
-use Rattle.std.specs.FinMap.{FinMap, code, get}
+use Rattle.std.specs.FinMap.{FinMap, code, get, insert, remove}
 use Rattle.atl_state.specs.Limits.{men_limit, holding_limit}
 
 pub record Held : Type 0 where
@@ -24,6 +24,10 @@ held_code =
 -- how much of an item is held
 abbrev pub amount_of : FinMap nat_cmp ℕ → ℕ → ℕ
 amount_of items item = unwrap_or (get items item) 0
+
+-- the amounts with another of an item; what there is 0 of is not listed
+abbrev pub with_amount_of : FinMap nat_cmp ℕ → ℕ → ℕ → FinMap nat_cmp ℕ
+with_amount_of items item amount = if amount == 0 then remove items item else insert items item amount
 
 -- an item that is listed is held, up to the holding limit
 abbrev pub AreAmounts : FinMap nat_cmp ℕ → Type 0

@@ -1,11 +1,14 @@
 -- For proofs alone: what a campaign keeps beside its parts, so that a look-up need not go over all units, and marking takes no memory.
-use Rattle.std.specs.Prelude.{◌≡◌, ◌==◌, ◌+◌, ◌*◌, ℕ, ℤ, Bool, List, [], ◌∷◌, length, unwrap_or, if◌then◌else◌}
+use Rattle.std.specs.Prelude.{◌≡◌, ◌==◌, ◌+◌, ◌*◌, ℕ, ℤ, Bool, List, [], ◌∷◌, length, unwrap_or, Some, None, if◌then◌else◌}
 use Rattle.std.specs.Ordering.{nat_cmp}
-use Rattle.std.specs.FinMap.{FinMap, get}
+use Rattle.std.specs.FinMap.{FinMap, get, insert, remove}
 use Rattle.std.specs.FinSet as set
 use Rattle.atl_tables.specs.Sums.{numbers_where}
 use Rattle.atl_state.specs.Limits.{entry_count}
 use Rattle.atl_state.specs.declared.records.Unit.{Unit}
+use Rattle.atl_state.specs.Ordered.{put_number, take_number}
+use Rattle.atl_state.specs.declared.lists.Listing.{Listing}
+use Rattle.atl_state.specs.declared.lists.UnitLists.{UnitLists}
 
 -- the list under a number; one that is absent is empty
 abbrev pub list_of : FinMap nat_cmp (List ℕ) → ℕ → List ℕ
@@ -20,8 +23,49 @@ abbrev pub set_from : ℕ → List Bool → set.FinSet nat_cmp
 set_from n [] = set.empty
 set_from n (b ∷ bs) = if b then set.insert (set_from (n + 1) bs) n else set_from (n + 1) bs
 
--- the lists of the regions and of the factions, and a place for the mark of each amount
-pub record AreKept (units : FinMap nat_cmp Unit) (by_region by_faction : FinMap nat_cmp (List ℕ)) (books : List (List ℤ)) (flags : List Bool) : Type 0 where
-  pub regions : AreLists (λ u. u.region) units by_region
-  pub factions : AreLists (λ u. u.faction) units by_faction
+-- the same numbers under each key
+abbrev pub SameLists : FinMap nat_cmp (List ℕ) → FinMap nat_cmp (List ℕ) → Type 0
+SameLists new old = (k : ℕ) → list_of new k ≡ list_of old k
+
+-- the lists with a number under a key, where that is another than a second one
+abbrev pub listed_apart : FinMap nat_cmp (List ℕ) → ℕ → ℕ → ℕ → FinMap nat_cmp (List ℕ)
+listed_apart lists n key other = if key == other then lists else insert lists key (put_number n (list_of lists key))
+
+-- the lists without a number under a key, where that is another than a second one
+abbrev pub unlisted_apart : FinMap nat_cmp (List ℕ) → ℕ → ℕ → ℕ → FinMap nat_cmp (List ℕ)
+unlisted_apart lists n key other = if key == other then lists else insert lists key (take_number n (list_of lists key))
+
+-- each number stands in the list of its region, of its faction and of its structure
+pub record AreUnitLists (units : FinMap nat_cmp Unit) (lists : UnitLists) : Type 0 where
+  pub regions : AreLists (λ u. u.region) units lists.by_region
+  pub factions : AreLists (λ u. u.faction) units lists.by_faction
+  pub structures : AreLists (λ u. u.structure) units lists.by_structure
+
+-- where a unit is listed
+abbrev pub listing_of : Unit → Listing
+listing_of u = record { faction = u.faction; region = u.region; structure = u.structure }
+
+-- a unit that comes is listed
+abbrev pub ListsUnit : ℕ → Listing → UnitLists → UnitLists → Type 0
+ListsUnit n l old new = (units : FinMap nat_cmp Unit) (u : Unit) → listing_of u ≡ l → get units n ≡ None → AreUnitLists units old → AreUnitLists (insert units n u) new
+
+-- as before, where no unit has this number
+abbrev pub KeepsLists : ℕ → UnitLists → UnitLists → Type 0
+KeepsLists n old new = (units : FinMap nat_cmp Unit) → get units n ≡ None → AreUnitLists units old → AreUnitLists units new
+
+-- a unit that goes is listed no more
+abbrev pub UnlistsUnit : ℕ → Listing → UnitLists → UnitLists → Type 0
+UnlistsUnit n l old new = (units : FinMap nat_cmp Unit) (u : Unit) → listing_of u ≡ l → get units n ≡ Some u → AreUnitLists units old → AreUnitLists (remove units n) new
+
+-- as before, whatever units there are
+abbrev pub KeepsAll : UnitLists → UnitLists → Type 0
+KeepsAll old new = (units : FinMap nat_cmp Unit) → AreUnitLists units old → AreUnitLists units new
+
+-- a unit that is listed in one place is then listed in another
+abbrev pub RelistsUnit : ℕ → Listing → Listing → UnitLists → UnitLists → Type 0
+RelistsUnit n from to old new = (units : FinMap nat_cmp Unit) (u v : Unit) → listing_of u ≡ from → listing_of v ≡ to → get units n ≡ Some u → AreUnitLists units old → AreUnitLists (insert units n v) new
+
+-- the lists of the units, and a place for the mark of each amount
+pub record AreKept (units : FinMap nat_cmp Unit) (lists : UnitLists) (books : List (List ℤ)) (flags : List Bool) : Type 0 where
+  pub listed : AreUnitLists units lists
   pub amounts : length flags ≡ entry_count * length books

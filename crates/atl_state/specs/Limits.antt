@@ -29,3 +29,11 @@ entry_count = 13
 -- so many things in the books: money, people and the items
 abbrev pub most_things : ℕ
 most_things = 2 + most_items
+
+-- so many structures ever, numbered from 1
+abbrev pub most_structures : ℕ
+most_structures = 10000
+
+-- so many days of a skill for each man
+abbrev pub most_days : ℕ
+most_days = 450

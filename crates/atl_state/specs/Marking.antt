@@ -1,16 +1,86 @@
 -- What each change of a campaign marks.
-use Rattle.std.specs.Prelude.{ℕ, true}
-use Rattle.std.specs.FinMap.{get}
-use Rattle.std.specs.FinSet.{insert}
+use Rattle.std.specs.Prelude.{◌==◌, ℕ, true, Option, Some, None, if◌then◌else◌}
+use Rattle.std.specs.FinMap.{get, remove, keys}
+use Rattle.std.specs.FinSet.{insert, union, from_list}
 use Rattle.atl_tables.specs.Tracking.{marked_with}
 use Rattle.atl_state.specs.declared.books.Entry.TheVariants.{Joining}
 use Rattle.atl_state.specs.declared.books.Thing.TheVariants.{Money, People}
+use Rattle.atl_state.specs.declared.books.Entry.{Entry}
+use Rattle.atl_state.specs.declared.books.Thing.{Thing}
+use Rattle.atl_state.specs.declared.records.Unit.{Unit}
 use Rattle.atl_state.specs.Marks.{Marks, amount_marked}
-use Rattle.atl_state.specs.State.{Marked}
+use Rattle.atl_state.specs.Owners.{heir, is_owned_by, placed}
+use Rattle.atl_state.specs.State.{Marked, with_owner}
 
--- a unit that was lent, where it is there
+-- a unit that was lent, with its goods, where it is there
 abbrev pub mark_unit : Marked → ℕ → Marks
-mark_unit c n = record c.marks { units = marked_with c.marks.units n (get c.what.units n) }
+mark_unit c n = record c.marks { units = marked_with c.marks.units n (get c.what.units n); goods = marked_with c.marks.goods n (get c.what.units n) }
+
+-- a unit that came, with its goods
+abbrev pub mark_unit_added : Marked → ℕ → Marks
+mark_unit_added c n = record c.marks { units = insert c.marks.units n; goods = insert c.marks.goods n }
+
+-- a unit that came under the number that comes next
+abbrev pub mark_unit_begun : Marked → Marks
+mark_unit_begun c = record (mark_unit_added c c.what.next_unit) { row = true }
+
+-- a unit's row, and none of its goods
+abbrev pub mark_unit_row : Marked → ℕ → Marks
+mark_unit_row c n = record c.marks { units = marked_with c.marks.units n (get c.what.units n) }
+
+abbrev pub mark_faction : Marked → ℕ → Marks
+mark_faction c n = record c.marks { factions = marked_with c.marks.factions n (get c.what.factions n) }
+
+abbrev pub mark_region : Marked → ℕ → Marks
+mark_region c n = record c.marks { regions = marked_with c.marks.regions n (get c.what.regions n) }
+
+abbrev pub mark_structure : Marked → ℕ → Marks
+mark_structure c n = record c.marks { structures = marked_with c.marks.structures n (get c.what.structures n) }
+
+-- the campaign's own row
+abbrev pub mark_row : Marked → Marks
+mark_row c = record c.marks { row = true }
+
+-- a structure that was begun
+abbrev pub mark_structure_begun : Marked → Marks
+mark_structure_begun c = record c.marks { structures = insert c.marks.structures c.what.next_structure; row = true }
+
+-- an amount of the books
+abbrev pub mark_amount : Marked → Entry → Thing → Marks
+mark_amount c e t = record c.marks { books = amount_marked c.marks.books e t }
+
+-- all mail that was taken away
+abbrev pub mark_all_mail : Marked → Marks
+mark_all_mail c = record c.marks { mail = union c.marks.mail (from_list (keys c.what.mail)) }
+
+-- ---- places: each step with what it marks
+
+abbrev pub handed_marked : Marked → ℕ → ℕ → ℕ → Marked
+handed_marked c s from to = if is_owned_by (get c.what.structures s) from then record { what = with_owner c.what s to; marks = mark_structure c s } else c
+
+abbrev pub put_marked : Marked → ℕ → ℕ → ℕ → Marked
+put_marked c n r s = record { what = placed c.what n r s; marks = mark_unit_row c n }
+
+abbrev pub place_marked_at : Marked → ℕ → ℕ → ℕ → Option Unit → Marked
+place_marked_at c n r s None = c
+place_marked_at c n r s (Some u) = if u.structure == s then put_marked c n r s else handed_marked (handed_marked (put_marked c n r s) u.structure n (heir c.what u.structure n)) s 0 n
+
+-- a unit in another place: its row, and each structure that gets another owner
+unfoldable pub place_marked : Marked → ℕ → ℕ → ℕ → Marked
+place_marked c n r s = place_marked_at c n r s (get c.what.units n)
+
+abbrev pub taken_marked : Marked → ℕ → Marked
+taken_marked c n = record { what = record c.what { units = remove c.what.units n }; marks = mark_unit c n }
+
+abbrev pub gone_marked_at : Marked → ℕ → Option Unit → Marked
+gone_marked_at c n None = c
+gone_marked_at c n (Some u) = handed_marked (taken_marked c n) u.structure n (heir c.what u.structure n)
+
+-- a unit that went: its row, its goods, and its structure, where that gets another owner
+unfoldable pub gone_marked : Marked → ℕ → Marked
+gone_marked c n = gone_marked_at c n (get c.what.units n)
+
+-- ---- mail, reports and joining
 
 -- a report that was set
 abbrev pub mark_report : Marked → ℕ → Marks
@@ -25,6 +95,7 @@ abbrev pub join_marked : Marked → Marks
 join_marked c = record c.marks {
   factions = insert c.marks.factions c.what.next_faction;
   units = insert c.marks.units c.what.next_unit;
+  goods = insert c.marks.goods c.what.next_unit;
   books = amount_marked (amount_marked c.marks.books Joining Money) Joining People;
   row = true;
 }

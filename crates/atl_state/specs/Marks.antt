@@ -1,18 +1,19 @@
 -- What a contract sees of a campaign's change marks.
-use Rattle.std.specs.Prelude.{ℕ, ◌+◌, ◌*◌, refl, Bool, false}
+use Rattle.std.specs.Prelude.{ℕ, ◌+◌, ◌*◌, refl, Bool, false, if◌then◌else◌}
 use Rattle.std.specs.Ordering.{nat_cmp}
 use Rattle.std.specs.Coded.{Coded, code_by, coded×, coded_ℕ, coded_bool}
-use Rattle.std.specs.FinSet.{FinSet, code, empty, insert}
+use Rattle.std.specs.FinSet.{FinSet, code, empty, insert, len}
 use Rattle.atl_state.specs.Limits.{entry_count}
 use Rattle.atl_state.specs.declared.books.Entry.{Entry}
 use Rattle.atl_state.specs.declared.books.Thing.{Thing}
 use Rattle.atl_state.specs.Books.{entry_place, thing_place}
 
--- the numbers that are marked of factions, regions, units, structures, and of the factions of mail and reports; those of the amounts of the books; and whether the campaign's own row is marked
+-- the numbers that are marked of factions, regions, units, the units' goods (their items and days), structures, and of the factions of mail and reports; those of the amounts of the books; and whether the campaign's own row is marked
 pub record Marks : Type 0 where
   pub factions : FinSet nat_cmp
   pub regions : FinSet nat_cmp
   pub units : FinSet nat_cmp
+  pub goods : FinSet nat_cmp
   pub structures : FinSet nat_cmp
   pub mail : FinSet nat_cmp
   pub reports : FinSet nat_cmp
@@ -22,10 +23,10 @@ pub record Marks : Type 0 where
 abbrev pub marks_code : Coded Marks
 marks_code =
     let numbers = code coded_ℕ in
-    code_by (FinSet nat_cmp × (FinSet nat_cmp × (FinSet nat_cmp × (FinSet nat_cmp × (FinSet nat_cmp × (FinSet nat_cmp × (FinSet nat_cmp × Bool)))))))
-    (coded× numbers (coded× numbers (coded× numbers (coded× numbers (coded× numbers (coded× numbers (coded× numbers coded_bool)))))))
-    (λ m. (m.factions, (m.regions, (m.units, (m.structures, (m.mail, (m.reports, (m.books, m.row))))))))
-    (λ p. record { factions = p.0; regions = p.1.0; units = p.1.1.0; structures = p.1.1.1.0; mail = p.1.1.1.1.0; reports = p.1.1.1.1.1.0; books = p.1.1.1.1.1.1.0; row = p.1.1.1.1.1.1.1 })
+    code_by (FinSet nat_cmp × (FinSet nat_cmp × (FinSet nat_cmp × (FinSet nat_cmp × (FinSet nat_cmp × (FinSet nat_cmp × (FinSet nat_cmp × (FinSet nat_cmp × Bool))))))))
+    (coded× numbers (coded× numbers (coded× numbers (coded× numbers (coded× numbers (coded× numbers (coded× numbers (coded× numbers coded_bool))))))))
+    (λ m. (m.factions, (m.regions, (m.units, (m.goods, (m.structures, (m.mail, (m.reports, (m.books, m.row)))))))))
+    (λ p. record { factions = p.0; regions = p.1.0; units = p.1.1.0; goods = p.1.1.1.0; structures = p.1.1.1.1.0; mail = p.1.1.1.1.1.0; reports = p.1.1.1.1.1.1.0; books = p.1.1.1.1.1.1.1.0; row = p.1.1.1.1.1.1.1.1 })
     (λ _. refl)
 
 -- nothing is marked
@@ -34,12 +35,17 @@ no_marks = record {
   factions = empty;
   regions = empty;
   units = empty;
+  goods = empty;
   structures = empty;
   mail = empty;
   reports = empty;
   books = empty;
   row = false;
 }
+
+-- how many things are marked; the campaign's row is one, and so is a unit with its goods
+abbrev pub marks_in : Marks → ℕ
+marks_in m = len m.factions + len m.regions + len m.units + len m.structures + len m.mail + len m.reports + len m.books + (if m.row then 1 else 0)
 
 -- the number of an amount: thing by thing, and of each thing entry by entry
 abbrev pub amount_number : Entry → Thing → ℕ

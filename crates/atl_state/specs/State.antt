@@ -1,9 +1,9 @@
 -- What a contract sees of a campaign.
-use Rattle.std.specs.Prelude.{◌==◌, List, ℕ, ℤ, refl}
+use Rattle.std.specs.Prelude.{◌==◌, ◌+◌, List, ℕ, ℤ, Bool, true, refl}
 use Rattle.std.specs.Ordering.{nat_cmp}
 use Rattle.std.specs.Coded.{Coded, code_by, coded×, coded_ℕ, coded_ℤ, coded_list}
-use Rattle.std.specs.FinMap.{FinMap, code, insert}
-use Rattle.atl_tables.specs.Sums.{numbers_where}
+use Rattle.std.specs.FinMap.{FinMap, code, empty, insert}
+use Rattle.atl_tables.specs.Sums.{changed, numbers_where}
 use Rattle.atl_state.specs.declared.records.Faction.{Faction}
 use Rattle.atl_state.specs.declared.records.Region.{Region}
 use Rattle.atl_state.specs.declared.records.Structure.{Structure}
@@ -12,6 +12,9 @@ use Rattle.atl_state.specs.contracts.records.Faction as faction
 use Rattle.atl_state.specs.contracts.records.Region as region
 use Rattle.atl_state.specs.contracts.records.Structure as structure
 use Rattle.atl_state.specs.contracts.records.Unit as unit
+use Rattle.atl_state.specs.declared.books.Entry.{Entry}
+use Rattle.atl_state.specs.declared.books.Thing.{Thing}
+use Rattle.atl_state.specs.Books.{with_booked}
 use Rattle.atl_state.specs.Marks.{Marks, marks_code}
 
 -- The month last closed, the moderator's pass text, the numbers that come next; factions, regions, units and structures by their numbers; mail and reports by the factions' numbers; and the books.
@@ -68,11 +71,79 @@ numbers_in r units = numbers_where (λ u. u.region == r) units
 abbrev pub numbers_of : ℕ → FinMap nat_cmp Unit → List ℕ
 numbers_of f units = numbers_where (λ u. u.faction == f) units
 
--- ---- one entry changed
+-- the numbers of the units inside a structure, in rising order; of those inside none, where it is 0
+abbrev pub numbers_inside : ℕ → FinMap nat_cmp Unit → List ℕ
+numbers_inside s units = numbers_where (λ u. u.structure == s) units
+
+-- ---- one entry changed. Where there is none under the number nothing is
+
+-- the campaign with f at a faction, a region, a unit, a structure
+abbrev pub faction_changed : (Faction → Faction) → State → ℕ → State
+faction_changed f c n = record c { factions = changed f c.factions n }
+
+abbrev pub region_changed : (Region → Region) → State → ℕ → State
+region_changed f c n = record c { regions = changed f c.regions n }
+
+abbrev pub unit_changed : (Unit → Unit) → State → ℕ → State
+unit_changed f c n = record c { units = changed f c.units n }
+
+abbrev pub structure_changed : (Structure → Structure) → State → ℕ → State
+structure_changed f c n = record c { structures = changed f c.structures n }
+
+abbrev pub with_faction_name : State → ℕ → List ℕ → State
+with_faction_name c n name = faction_changed (λ f. record f { name = name }) c n
+
+-- a faction that has left the campaign
+abbrev pub with_gone : State → ℕ → State
+with_gone c n = faction_changed (λ f. record f { gone = true }) c n
+
+abbrev pub with_peasants : State → ℕ → ℕ → State
+with_peasants c n peasants = region_changed (λ r. record r { peasants = peasants }) c n
+
+abbrev pub with_region_money : State → ℕ → ℕ → State
+with_region_money c n money = region_changed (λ r. record r { money = money }) c n
+
+abbrev pub with_money : State → ℕ → ℕ → State
+with_money c n money = unit_changed (λ u. record u { holding = record u.holding { money = money } }) c n
+
+abbrev pub with_guard : State → ℕ → Bool → State
+with_guard c n guard = unit_changed (λ u. record u { holding = record u.holding { guard = guard } }) c n
+
+abbrev pub with_done : State → ℕ → ℕ → State
+with_done c n done = structure_changed (λ s. record s { done = done }) c n
+
+abbrev pub with_structure_name : State → ℕ → List ℕ → State
+with_structure_name c n name = structure_changed (λ s. record s { name = name }) c n
+
+abbrev pub with_structure_region : State → ℕ → ℕ → State
+with_structure_region c n region = structure_changed (λ s. record s { region = region }) c n
+
+abbrev pub with_owner : State → ℕ → ℕ → State
+with_owner c n owner = structure_changed (λ s. record s { owner = owner }) c n
+
+-- this month as the one last closed
+abbrev pub with_month : State → ℕ → State
+with_month c n = record c { month = n }
+
+-- so much more of a thing under an entry of the books
+abbrev pub with_amount : State → Entry → Thing → ℤ → State
+with_amount c e t n = record c { books = with_booked c.books e t n }
+
+-- the campaign without mail
+abbrev pub without_mail : State → State
+without_mail c = record c { mail = empty }
+
+-- the campaign with one structure more, under the number that comes next
+abbrev pub with_structure_begun : State → Structure → State
+with_structure_begun c s = record c { next_structure = c.next_structure + 1; structures = insert c.structures c.next_structure s }
 
 -- the campaign with one unit more
 abbrev pub with_unit : State → ℕ → Unit → State
 with_unit c n u = record c { units = insert c.units n u }
+
+-- the campaign with one unit more, under the number that comes next
+abbrev pub with_unit_begun : State → Unit → State
+with_unit_begun c u = record c { next_unit = c.next_unit + 1; units = insert c.units c.next_unit u }
 
 -- the campaign with this report for a faction
 abbrev pub with_report : State → ℕ → List ℕ → State

@@ -1,10 +1,15 @@
 //! What the books say: signed amounts by entry and thing.
-ghost use Rattle.std.specs.Prelude.{◌≡◌, ◌<◌, ◌*◌, ◌+ℤ◌, IfOk, length, replicate, slice_set, false, true};
+ghost use Rattle.std.specs.Prelude.{◌≡◌, ◌<◌, ◌≤◌, ◌*◌, ◌+ℤ◌, All, IfOk, length, replicate, slice_set, false, true};
+ghost use Rattle.std.specs.Bool.{Decides};
 ghost use Rattle.std.specs.Int.{w64};
 ghost use Rattle.std.specs.Int.RustNames.{FitsSigned};
+ghost use Rattle.std.specs.FinSet as set;
+ghost use Rattle.atl_state.specs.Kept.{set_from};
 ghost use Rattle.atl_state.specs.Limits.{entry_count};
-ghost use Rattle.atl_state.specs.Books.{entry_place, thing_place, amount_in, with_booked, no_amounts};
+ghost use Rattle.atl_state.specs.Books.{entry_place, thing_place, added_up, amount_in, booked, with_booked, no_amounts, IsWithin};
 ghost use Rattle.atl_state.specs.Marks.{amount_number};
+ghost use Rattle.atl_state.specs.FromRows.{with_amount};
+ghost use Rattle.atl_state.specs.Rows.{amount_at};
 
 use crate::limits::ENTRY_COUNT;
 use std::alloc::{AllocError, Global};
@@ -77,6 +82,29 @@ fn amount_number(entry: Entry, thing: Thing) -> usize
     ENTRY_COUNT * thing_place(thing) + entry_place(entry)
 }
 
+/// The sum of a row of amounts.
+fn added_up(row: &[i64; ENTRY_COUNT]) -> i128
+    ensures { result ≡ added_up row.now }
+{
+    let mut sum = 0i128;
+    for amount in row {
+        sum += i128::from(*amount);
+    }
+    sum
+}
+
+/// Whether no amount of a row is greater in size than a bound.
+fn are_within(row: &[i64; ENTRY_COUNT], bound: u64) -> bool
+    ensures { Decides result (All (λ amount. IsWithin bound amount) row.now) }
+{
+    for amount in row {
+        if amount.unsigned_abs() > bound {
+            return false;
+        }
+    }
+    true
+}
+
 /// A row of amounts for each thing.
 #[derive(Drop)]
 pub struct Books {
@@ -84,16 +112,19 @@ pub struct Books {
 }
 
 impl Model for Books {
-    ghost use Rattle.std.specs.Prelude.{List, ℤ};
+    ghost use Rattle.std.specs.Prelude.{◌≤◌, List, ℤ, length};
 
     ghost Value = { List (List ℤ) };
 
     ghost view = { λ a. a.rows.items };
+
+    ghost invariant = { λ a. length a.rows.items ≤ 65538 };
 }
 
 impl Books {
-    /// Books of so many things, all 0.
+    /// Books of so many things, all 0. There are at most two things and one for each number that an item can have.
     pub fn new(alloc: Global, things: usize) -> Result<Books, AllocError>
+        requires { things ≤ 65538 }
         ensures { IfOk result (λ made. made ≡ no_amounts things) }
     {
         let mut rows = Vec::new(alloc);
@@ -104,7 +135,8 @@ impl Books {
     }
 
     pub fn len(&self) -> usize
-        ensures { result ≡ length self.now }
+        ensures value { result ≡ length self.now }
+        ensures few { length self.now ≤ 65538 }
     {
         self.rows.len()
     }
@@ -114,6 +146,44 @@ impl Books {
         ensures { result ≡ amount_in self.now entry thing }
     {
         self.rows[thing_place(thing)][entry_place(entry)]
+    }
+
+    /// The amount at the places of an entry and a thing.
+    pub(crate) fn amount_at(&self, entry: usize, thing: usize) -> i64
+        requires entry { entry < entry_count }
+        requires thing { thing < length self.now }
+        ensures { result ≡ amount_at self.now entry thing }
+    {
+        self.rows[thing][entry]
+    }
+
+    /// Puts an amount at the places of an entry and a thing. It takes no memory.
+    pub(crate) fn put_at(&mut self, entry: usize, thing: usize, amount: i64)
+        requires entry { entry < entry_count }
+        requires thing { thing < length self.old }
+        ensures { self.new ≡ with_amount self.old entry thing amount }
+    {
+        self.rows[thing][entry] = amount;
+    }
+
+    /// All that is booked of a thing.
+    pub(crate) fn sum(&self, thing: Thing) -> i128
+        requires { thing_place thing < length self.now }
+        ensures { result ≡ booked self.now thing }
+    {
+        added_up(&self.rows[thing_place(thing)])
+    }
+
+    /// Whether no amount is greater in size than a bound.
+    pub(crate) fn are_within(&self, bound: u64) -> bool
+        ensures { Decides result (All (λ row. All (λ amount. IsWithin bound amount) row) self.now) }
+    {
+        for row in self.rows.iter() {
+            if !are_within(row, bound) {
+                return false;
+            }
+        }
+        true
     }
 
     /// Adds an amount under an entry. It takes no memory.
@@ -126,6 +196,21 @@ impl Books {
         let place = entry_place(entry);
         self.rows[row][place] += amount;
     }
+}
+
+/// How many flags are set.
+fn count_set(flags: &[bool]) -> usize
+    ensures value { result ≡ set.len (set_from 0 flags.now) }
+    ensures small { result ≤ 9223372036854775808 }
+{
+    let most = flags.len();
+    let mut count = 0;
+    for flag in flags.iter() {
+        if *flag {
+            count += 1;
+        }
+    }
+    count
 }
 
 /// For each amount whether it changed.
@@ -152,6 +237,21 @@ impl AmountMarks {
             flags.extend_from_slice(&[false; ENTRY_COUNT])?;
         }
         Ok(AmountMarks { flags })
+    }
+
+    /// How many amounts are marked.
+    pub(crate) fn marked(&self) -> usize
+        ensures value { result ≡ set.len (set_from 0 self.now) }
+        ensures small { result ≤ 9223372036854775808 }
+    {
+        count_set(&self.flags)
+    }
+
+    /// Leaves nothing marked. It takes no memory.
+    pub(crate) fn unmark(&mut self)
+        ensures { self.new ≡ replicate (length self.old) false }
+    {
+        self.flags.fill(false);
     }
 
     /// Marks an amount. It takes no memory.

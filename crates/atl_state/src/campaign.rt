@@ -2,21 +2,27 @@
 ghost use Rattle.std.specs.Prelude.{◌≡◌, ◌<◌, OnOk, OnErr, length};
 ghost use Rattle.std.specs.Option.{option_copied};
 ghost use Rattle.std.specs.FinMap as map;
-ghost use Rattle.atl_state.specs.State.{numbers_in, numbers_of, with_mail, with_report};
+ghost use Rattle.atl_state.specs.State.{numbers_in, numbers_of, numbers_inside, with_mail, with_report};
 ghost use Rattle.atl_state.specs.Books.{amount_in, thing_place};
 ghost use Rattle.atl_state.specs.Totals.{total, IsCountable};
 ghost use Rattle.atl_state.specs.Marking.{mark_mail, mark_report};
 
+mod assembling;
+mod coming;
 mod founding;
 mod joining;
+mod marking;
+mod placing;
+mod setting;
 
 use crate::books::{AmountMarks, Books, Entry, Thing};
 use crate::holding::Holding;
-use crate::lists::listed;
-use crate::numbers::Numbers;
+use crate::lists::{UnitLists, listed};
 use crate::records::{Faction, Region, Structure, Unit};
 use crate::totals::{regions_total, units_total};
-use atl_tables::{Entries, Numbered, Sequence, Text, Tracked};
+use crate::units::Units;
+pub(crate) use assembling::assembled;
+use atl_tables::{Entries, Sequence, Text, Tracked};
 pub use founding::founded;
 use std::alloc::{AllocError, Global};
 use std::marker::Model;
@@ -32,7 +38,7 @@ pub struct Campaign {
     next_structure: u32,
     factions: Tracked<Faction>,
     regions: Tracked<Region>,
-    units: Tracked<Unit>,
+    units: Units,
     structures: Tracked<Structure>,
     mail: Tracked<Sequence<u8>>,
     reports: Tracked<Text>,
@@ -41,10 +47,8 @@ pub struct Campaign {
     amounts_marked: AmountMarks,
     // Whether the month or a number that comes next changed.
     row_marked: bool,
-    // The numbers of the units of each region, in rising order.
-    by_region: Numbered<Numbers>,
-    // The numbers of the units of each faction, in rising order.
-    by_faction: Numbered<Numbers>,
+    // The numbers of the units by what they belong to.
+    lists: UnitLists,
 }
 
 impl Drop for Campaign {
@@ -65,8 +69,7 @@ impl Drop for Campaign {
             books: _,
             amounts_marked: _,
             row_marked: _,
-            by_region: _,
-            by_faction: _,
+            lists: _,
         } = self;
     }
 }
@@ -98,6 +101,7 @@ impl Model for Campaign {
         factions = a.factions.marks;
         regions = a.regions.marks;
         units = a.units.marks;
+        goods = a.units.goods;
         structures = a.structures.marks;
         mail = a.mail.marks;
         reports = a.reports.marks;
@@ -106,7 +110,7 @@ impl Model for Campaign {
       };
     } };
 
-    ghost invariant = { λ a. AreKept a.units.values a.by_region a.by_faction a.books a.amounts_marked };
+    ghost invariant = { λ a. AreKept a.units.values a.lists a.books a.amounts_marked };
 }
 
 impl Campaign {
@@ -163,6 +167,13 @@ impl Campaign {
         self.factions.iter()
     }
 
+    /// How many factions ever joined.
+    pub fn faction_count(&self) -> usize
+        ensures { result ≡ map.len self.now.what.factions }
+    {
+        self.factions.len()
+    }
+
     pub fn region(&self, number: u32) -> Option<&Region>
         ensures { option_copied result ≡ map.get self.now.what.regions number }
     {
@@ -216,6 +227,13 @@ impl Campaign {
         self.structures.iter()
     }
 
+    /// How many structures there are.
+    pub fn structure_count(&self) -> usize
+        ensures { result ≡ map.len self.now.what.structures }
+    {
+        self.structures.len()
+    }
+
     /// A faction's mail for the month to come.
     pub fn mail_of(&self, faction: u32) -> Option<&Sequence<u8>>
         ensures { option_copied result ≡ map.get self.now.what.mail faction }
@@ -251,6 +269,13 @@ impl Campaign {
         self.books.len()
     }
 
+    /// All that is booked.
+    pub(crate) fn books(&self) -> &Books
+        ensures { result.now ≡ self.now.what.books }
+    {
+        &self.books
+    }
+
     /// What is booked of a thing under an entry.
     pub fn booked(&self, entry: Entry, thing: Thing) -> i64
         requires { thing_place thing < length self.now.what.books }
@@ -259,21 +284,32 @@ impl Campaign {
         self.books.amount(entry, thing)
     }
 
+    pub(crate) fn alloc(&self) -> Global {
+        self.alloc
+    }
+
     /// The numbers of the units of a region, in rising order.
     pub fn in_region(&self, region: u32) -> &[u32]
         ensures { result.now ≡ numbers_in region self.now.what.units }
     {
-        listed(&self.by_region, region)
+        listed(&self.lists.by_region, region)
     }
 
     /// The numbers of the units of a faction, in rising order.
     pub fn of_faction(&self, faction: u32) -> &[u32]
         ensures { result.now ≡ numbers_of faction self.now.what.units }
     {
-        listed(&self.by_faction, faction)
+        listed(&self.lists.by_faction, faction)
     }
 
-    /// Lends a unit's holding, and marks the unit. Nothing else changes. It takes no memory.
+    /// The numbers of the units inside a structure, in rising order; of those inside none, where it is 0.
+    pub fn inside(&self, structure: u32) -> &[u32]
+        ensures { result.now ≡ numbers_inside structure self.now.what.units }
+    {
+        listed(&self.lists.by_structure, structure)
+    }
+
+    /// Lends a unit's holding, and marks the unit and its goods. Nothing else changes. It takes no memory.
     pub fn unit_mut(&mut self, number: u32) -> Option<&mut Holding>
         ensures* writes_back { sem 𝓛 (LendsHolding self.entry number result) }
         ensures value { option_copied_mut result ≡ option_map (λ u. u.holding) (map.get self.old.what.units number) }

@@ -1,10 +1,11 @@
 //! What a unit holds.
-ghost use Rattle.std.specs.Prelude.{◌≡◌, ◌≤◌, ℕ, false};
+ghost use Rattle.std.specs.Prelude.{◌≡◌, ◌≤◌, ℕ, OnOk, OnErr, IsOk, false};
 ghost use Rattle.std.specs.FinMap as map;
 ghost use Rattle.atl_state.specs.Limits.{men_limit, holding_limit};
-ghost use Rattle.atl_state.specs.Held.{amount_of, AreAmounts};
+ghost use Rattle.atl_state.specs.Held.{amount_of, with_amount_of, AreAmounts};
 
 use atl_tables::{Entries, Numbered, Text};
+use std::alloc::AllocError;
 use std::marker::Model;
 
 /// A unit's name, men, money, guard flag, items and days of study. It holds at most 999,999 men, 999,999,999 of money
@@ -44,6 +45,20 @@ impl Model for Holding {
     ghost view = { λ a. record { name = a.name; men = a.men; money = a.money; guard = a.guard; items = a.items; days = a.days } };
 
     ghost invariant = { λ a. IsHolding (record { name = a.name; men = a.men; money = a.money; guard = a.guard; items = a.items; days = a.days }) };
+}
+
+/// Puts an amount under a number, or takes away what stood there, where it is 0, which takes no memory. Without memory
+/// nothing changes.
+fn put_amount(amounts: &mut Numbered<u32>, number: u32, amount: u32) -> Result<(), AllocError>
+    ensures ok { OnOk result (amounts.new ≡ with_amount_of amounts.old number amount) }
+    ensures err { OnErr result (amounts.new ≡ amounts.old) }
+    ensures none { amount ≡ 0 → IsOk result }
+{
+    if amount == 0 {
+        amounts.remove(number);
+        return Ok(());
+    }
+    amounts.insert(number, amount)
 }
 
 impl Holding {
@@ -121,11 +136,63 @@ impl Holding {
         self.days.iter()
     }
 
+    /// The days of study of a skill over all men.
+    pub fn days_of(&self, skill: u32) -> u32
+        ensures { result ≡ amount_of self.now.days skill }
+    {
+        match self.days.get(skill) {
+            Some(days) => *days,
+            None => 0,
+        }
+    }
+
+    pub fn set_name(&mut self, name: Text)
+        ensures { self.new ≡ record self.old { name = name } }
+    {
+        self.name = name;
+    }
+
+    /// Sets the number of men, at most 999,999.
+    pub fn set_men(&mut self, men: u32)
+        requires { men ≤ men_limit }
+        ensures { self.new ≡ record self.old { men = men } }
+    {
+        self.men = men;
+    }
+
+    /// Sets how much of an item is held, at most 999,999,999. Where it is 0 the item is listed no more, which takes no
+    /// memory. Without memory nothing changes.
+    pub fn set_amount(&mut self, item: u32, amount: u32) -> Result<(), AllocError>
+        requires { amount ≤ holding_limit }
+        ensures ok { OnOk result (self.new ≡ record self.old { items = with_amount_of self.old.items item amount }) }
+        ensures err { OnErr result (self.new ≡ self.old) }
+        ensures none { amount ≡ 0 → IsOk result }
+    {
+        put_amount(&mut self.items, item, amount)
+    }
+
+    /// Sets the days of study of a skill over all men. Where they are 0 the skill is listed no more, which takes no
+    /// memory. Without memory nothing changes.
+    pub fn set_days(&mut self, skill: u32, days: u32) -> Result<(), AllocError>
+        ensures ok { OnOk result (self.new ≡ record self.old { days = with_amount_of self.old.days skill days }) }
+        ensures err { OnErr result (self.new ≡ self.old) }
+        ensures none { days ≡ 0 → IsOk result }
+    {
+        put_amount(&mut self.days, skill, days)
+    }
+
     /// Sets the money, at most 999,999,999.
     pub fn set_money(&mut self, money: u32)
         requires { money ≤ holding_limit }
         ensures { self.new ≡ record self.old { money = money } }
     {
         self.money = money;
+    }
+
+    /// Sets or clears the guard flag.
+    pub fn set_guard(&mut self, guard: bool)
+        ensures { self.new ≡ record self.old { guard = guard } }
+    {
+        self.guard = guard;
     }
 }

@@ -1,18 +1,26 @@
 //! The state of a campaign: factions, units, regions, structures, mail, reports and books.
 #![tactic(auto)]
 
+mod assembly;
 pub mod books;
 pub mod campaign;
+pub mod check;
 pub mod holding;
+mod levels;
 mod limits;
 mod lists;
 mod numbers;
 pub mod parts;
 pub mod records;
+mod row_rules;
+mod rows;
+mod rules;
 mod totals;
+mod units;
 
 pub use books::{Books, Entry, Thing};
 pub use campaign::{Campaign, founded};
 pub use holding::Holding;
-pub use limits::{ENTRY_COUNT, LAST_UNIT, MOST_UNITS};
+pub use levels::{carry, goods, level, load};
+pub use limits::{ENTRY_COUNT, LAST_UNIT, MOST_STRUCTURES, MOST_UNITS};
 pub use records::{Faction, JoinFault, Region, Structure, Unit};

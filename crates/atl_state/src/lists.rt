@@ -1,12 +1,157 @@
 //! Rising lists of numbers, each under a number that they belong to.
-ghost use Rattle.std.specs.Prelude.{◌≡◌, OnOk, OnErr, is_some, true};
+ghost use Rattle.std.specs.Prelude.{◌≡◌, OnOk, OnErr};
 ghost use Rattle.std.specs.FinMap as map;
-ghost use Rattle.atl_state.specs.Kept.{list_of};
+ghost use Rattle.atl_state.specs.Kept.{list_of, listing_of, listed_apart, unlisted_apart, AreUnitLists, SameLists, ListsUnit, KeepsLists, KeepsAll, UnlistsUnit, RelistsUnit};
 ghost use Rattle.atl_state.specs.Ordered.{put_number, take_number};
 
 use crate::numbers::Numbers;
+use crate::records::Unit;
 use atl_tables::Numbered;
 use std::alloc::{AllocError, Global};
+
+/// The numbers of the units of each region, of each faction and of each structure, in rising order. Those inside no
+/// structure stand under 0.
+pub(crate) struct UnitLists {
+    pub(crate) by_region: Numbered<Numbers>,
+    pub(crate) by_faction: Numbered<Numbers>,
+    pub(crate) by_structure: Numbered<Numbers>,
+}
+
+impl Drop for UnitLists {
+    fn drop(self) {
+        let UnitLists {
+            by_region: _,
+            by_faction: _,
+            by_structure: _,
+        } = self;
+    }
+}
+
+/// Where a unit is listed.
+#[derive(Drop, Clone, Copy)]
+pub(crate) struct Listing {
+    pub(crate) faction: u32,
+    pub(crate) region: u32,
+    pub(crate) structure: u32,
+}
+
+pub(crate) fn listing_of(unit: &Unit) -> Listing
+    ensures { result ≡ listing_of unit.now }
+{
+    Listing {
+        faction: unit.faction,
+        region: unit.region,
+        structure: unit.structure,
+    }
+}
+
+impl UnitLists {
+    /// The lists of nobody.
+    pub(crate) fn new(alloc: Global) -> UnitLists
+        ensures { AreUnitLists map.empty result }
+    {
+        UnitLists {
+            by_region: Numbered::new(alloc),
+            by_faction: Numbered::new(alloc),
+            by_structure: Numbered::new(alloc),
+        }
+    }
+
+    /// Lists a unit. Without memory for it nothing changes.
+    pub(crate) fn add(
+        &mut self,
+        alloc: Global,
+        number: u32,
+        listing: Listing,
+    ) -> Result<(), AllocError>
+        ensures ok { OnOk result (ListsUnit number listing self.old self.new) }
+        ensures err { OnErr result (KeepsLists number self.old self.new) }
+    {
+        list_number(alloc, &mut self.by_region, listing.region, number)?;
+        match list_number(alloc, &mut self.by_faction, listing.faction, number) {
+            Ok(()) => {}
+            Err(e) => {
+                unlist_number(&mut self.by_region, listing.region, number);
+                return Err(e);
+            }
+        }
+        match list_number(alloc, &mut self.by_structure, listing.structure, number) {
+            Ok(()) => Ok(()),
+            Err(e) => {
+                unlist_number(&mut self.by_region, listing.region, number);
+                unlist_number(&mut self.by_faction, listing.faction, number);
+                Err(e)
+            }
+        }
+    }
+
+    /// Takes a unit off its lists. It takes no memory.
+    pub(crate) fn remove(&mut self, number: u32, listing: Listing)
+        ensures { UnlistsUnit number listing self.old self.new }
+    {
+        unlist_number(&mut self.by_region, listing.region, number);
+        unlist_number(&mut self.by_faction, listing.faction, number);
+        unlist_number(&mut self.by_structure, listing.structure, number);
+    }
+
+    /// Lists a unit in another region and structure. Without memory for it nothing changes.
+    pub(crate) fn relist(
+        &mut self,
+        alloc: Global,
+        number: u32,
+        from: Listing,
+        to: Listing,
+    ) -> Result<(), AllocError>
+        requires { to.faction ≡ from.faction }
+        ensures ok { OnOk result (RelistsUnit number from to self.old self.new) }
+        ensures err { OnErr result (KeepsAll self.old self.new) }
+    {
+        list_apart(alloc, &mut self.by_region, number, to.region, from.region)?;
+        match list_apart(
+            alloc,
+            &mut self.by_structure,
+            number,
+            to.structure,
+            from.structure,
+        ) {
+            Ok(()) => {}
+            Err(e) => {
+                unlist_apart(&mut self.by_region, number, to.region, from.region);
+                return Err(e);
+            }
+        }
+        unlist_apart(&mut self.by_region, number, from.region, to.region);
+        unlist_apart(&mut self.by_structure, number, from.structure, to.structure);
+        Ok(())
+    }
+}
+
+/// Puts a number into the list under a key, where that is another than a second one. Without memory for it nothing
+/// changes.
+fn list_apart(
+    alloc: Global,
+    lists: &mut Numbered<Numbers>,
+    number: u32,
+    key: u32,
+    other: u32,
+) -> Result<(), AllocError>
+    ensures ok { OnOk result (lists.new ≡ listed_apart lists.old number key other) }
+    ensures err { OnErr result (lists.new ≡ lists.old) }
+{
+    if key == other {
+        return Ok(());
+    }
+    list_number(alloc, lists, key, number)
+}
+
+/// Takes a number out of the list under a key, where that is another than a second one. It takes no memory.
+fn unlist_apart(lists: &mut Numbered<Numbers>, number: u32, key: u32, other: u32)
+    ensures { SameLists lists.new (unlisted_apart lists.old number key other) }
+{
+    if key != other {
+        unlist_number(lists, key, number);
+    }
+}
 
 /// Puts a number into the list under a key. Without memory for it nothing changes.
 pub(crate) fn list_number(
@@ -28,10 +173,9 @@ pub(crate) fn list_number(
     }
 }
 
-/// Takes a number out of the list under a key that has one. It takes no memory.
+/// Takes a number out of the list under a key. It takes no memory.
 pub(crate) fn unlist_number(lists: &mut Numbered<Numbers>, key: u32, number: u32)
-    requires { is_some (map.get lists.old key) ≡ true }
-    ensures { lists.new ≡ map.insert lists.old key (take_number number (list_of lists.old key)) }
+    ensures { SameLists lists.new (map.insert lists.old key (take_number number (list_of lists.old key))) }
 {
     if let Some(list) = lists.get_mut(key) {
         list.take(number);

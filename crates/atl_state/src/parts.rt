@@ -1,21 +1,55 @@
 //! The parts of a campaign as tables hold them, whoever wrote them: rows of 64-bit numbers, texts and bytes.
 
-/// The campaign's own row as it stands in its table, whoever wrote it.
+use atl_tables::{Sequence, Text};
+
+/// The rows of a campaign's tables, whoever wrote them. See docs/FORMATS.md, "Tables".
 #[derive(Debug)]
-pub struct StoredCampaign {
+pub struct Parts {
+    /// The campaign's own row. A table in order has one.
+    pub campaign: Sequence<StoredHead>,
+    pub factions: Sequence<StoredFaction>,
+    pub regions: Sequence<StoredRegion>,
+    pub units: Sequence<StoredUnit>,
+    /// What units have of items and skills.
+    pub has: Sequence<StoredHas>,
+    pub structures: Sequence<StoredStructure>,
+    pub mail: Sequence<StoredMail>,
+    pub reports: Sequence<StoredReport>,
+    /// The amounts of the books.
+    pub books: Sequence<StoredBooks>,
+}
+
+impl Drop for Parts {
+    fn drop(self) {
+        let Parts {
+            campaign: _,
+            factions: _,
+            regions: _,
+            units: _,
+            has: _,
+            structures: _,
+            mail: _,
+            reports: _,
+            books: _,
+        } = self;
+    }
+}
+
+/// The campaign's own row as it stands in its table but for the world text, whoever wrote it.
+#[derive(Debug)]
+pub struct StoredHead {
     pub id: i64,
     pub format: i64,
     pub month: i64,
     pub next_faction: i64,
     pub next_unit: i64,
     pub next_structure: i64,
-    pub pass: String,
-    pub world: String,
+    pub pass: Sequence<u8>,
 }
 
-impl Drop for StoredCampaign {
+impl Drop for StoredHead {
     fn drop(self) {
-        let StoredCampaign {
+        let StoredHead {
             id: _,
             format: _,
             month: _,
@@ -23,7 +57,6 @@ impl Drop for StoredCampaign {
             next_unit: _,
             next_structure: _,
             pass: _,
-            world: _,
         } = self;
     }
 }
@@ -32,9 +65,9 @@ impl Drop for StoredCampaign {
 #[derive(Debug)]
 pub struct StoredFaction {
     pub number: i64,
-    pub joined_as: String,
-    pub name: String,
-    pub pass: String,
+    pub joined_as: Sequence<u8>,
+    pub name: Sequence<u8>,
+    pub pass: Sequence<u8>,
     pub gone: i64,
 }
 
@@ -63,7 +96,7 @@ pub struct StoredRegion {
 pub struct StoredUnit {
     pub number: i64,
     pub faction: i64,
-    pub name: String,
+    pub name: Sequence<u8>,
     pub region: i64,
     pub structure: i64,
     pub men: i64,
@@ -91,7 +124,7 @@ impl Drop for StoredUnit {
 pub struct StoredStructure {
     pub number: i64,
     pub kind: i64,
-    pub name: String,
+    pub name: Sequence<u8>,
     pub region: i64,
     pub done: i64,
     pub owner: i64,
@@ -114,7 +147,7 @@ impl Drop for StoredStructure {
 #[derive(Debug)]
 pub struct StoredMail {
     pub faction: i64,
-    pub text: Vec<u8>,
+    pub text: Sequence<u8>,
 }
 
 impl Drop for StoredMail {
@@ -130,7 +163,7 @@ impl Drop for StoredMail {
 #[derive(Debug)]
 pub struct StoredReport {
     pub faction: i64,
-    pub text: String,
+    pub text: Text,
 }
 
 impl Drop for StoredReport {
@@ -149,8 +182,6 @@ pub struct StoredHas {
     pub sort: i64,
     pub thing: i64,
     pub amount: i64,
-    /// The place that the database keeps the row at, which differs from row to row.
-    pub rowid: i64,
 }
 
 /// What is booked of a thing as it stands in its table, whoever wrote it.
@@ -159,6 +190,4 @@ pub struct StoredBooks {
     pub entry: i64,
     pub thing: i64,
     pub amount: i64,
-    /// The place that the database keeps the row at, which differs from row to row.
-    pub rowid: i64,
 }

@@ -6,7 +6,8 @@ ghost use Rattle.atl_state.specs.Totals.{held, kept};
 
 use crate::books::Thing;
 use crate::holding::Holding;
-use crate::records::{Region, Unit};
+use crate::records::Region;
+use crate::units::Units;
 use atl_tables::Tracked;
 
 fn held(thing: Thing, holding: &Holding) -> u32
@@ -30,7 +31,7 @@ fn kept(thing: Thing, region: &Region) -> u32
 }
 
 /// What the units hold of a thing.
-pub(crate) fn units_total(units: &Tracked<Unit>, thing: Thing) -> u64
+pub(crate) fn units_total(units: &Units, thing: Thing) -> u64
     requires { length (map.entries units.now.values) ≤ 1000000 }
     ensures value { result ≡ sum_over (λ u. held thing u.holding) units.now.values }
     ensures fits { result ≤ length (map.entries units.now.values) * 4294967295 }

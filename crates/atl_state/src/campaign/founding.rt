@@ -9,15 +9,17 @@ ghost use Rattle.atl_state.specs.declared.books.Entry.TheVariants.{Founding};
 ghost use Rattle.atl_state.specs.declared.books.Thing.TheVariants.{Money, People};
 ghost use Rattle.atl_state.specs.Limits.{most_things};
 ghost use Rattle.atl_state.specs.Books.{no_amounts, with_booked};
-ghost use Rattle.atl_state.specs.Totals.{kept, Balances};
+ghost use Rattle.atl_state.specs.Totals.{kept};
 ghost use Rattle.atl_state.specs.Marks.{no_marks};
 ghost use Rattle.atl_state.specs.Founding.{founded_of, founded_region};
 ghost use Rattle.atl_state.specs.Good.{IsGood};
 
 use super::Campaign;
 use crate::books::{AmountMarks, Books, Entry, Thing};
+use crate::lists::UnitLists;
 use crate::records::Region;
 use crate::totals::regions_total;
+use crate::units::Units;
 use atl_tables::{Numbered, RegionPlan, Text, Tracked, World};
 use std::alloc::{AllocError, Global};
 
@@ -44,6 +46,7 @@ fn founding_books(
 ) -> Result<Books, AllocError>
     requires few { length (map.entries regions.now.values) ≤ most_regions }
     requires some { 2 ≤ things }
+    requires possible { things ≤ 65538 }
     ensures money { IfOk result (λ _. sum_over (λ r. kept Money r) regions.now.values ≤ 100000000000000) }
     ensures people { IfOk result (λ _. sum_over (λ r. kept People r) regions.now.values ≤ 100000000000000) }
     ensures value { IfOk result (λ books. books ≡ with_booked (with_booked (no_amounts things) Founding Money (pos (sum_over (λ r. kept Money r) regions.now.values))) Founding People (pos (sum_over (λ r. kept People r) regions.now.values))) }
@@ -62,7 +65,6 @@ pub fn founded(alloc: Global, world: &World, pass: &[u8]) -> Result<Campaign, Al
     requires pass { IsTrue (pass_ok pass.now) }
     ensures definition { IfOk result (λ c. c.what ≡ founded_of world.now pass.now) }
     ensures good { IfOk result (λ c. IsGood world.now c.what) }
-    ensures balances { IfOk result (λ c. Balances c.what) }
     ensures things { IfOk result (λ c. length c.what.books ≤ most_things) }
     ensures marks { IfOk result (λ c. c.marks ≡ no_marks) }
 {
@@ -80,14 +82,13 @@ pub fn founded(alloc: Global, world: &World, pass: &[u8]) -> Result<Campaign, Al
         next_structure: 1,
         factions: Tracked::new(alloc),
         regions,
-        units: Tracked::new(alloc),
+        units: Units::new(alloc),
         structures: Tracked::new(alloc),
         mail: Tracked::new(alloc),
         reports: Tracked::new(alloc),
         books,
         amounts_marked,
         row_marked: false,
-        by_region: Numbered::new(alloc),
-        by_faction: Numbered::new(alloc),
+        lists: UnitLists::new(alloc),
     })
 }

@@ -1,8 +1,7 @@
 //! How a faction joins.
-ghost use Rattle.std.specs.Prelude.{◌≡◌, ◌≤◌, ◌<◌, ◌++◌, IsTrue, IfOk, OnOk, OnErr, None, codes, false, length, nat_eq, pos};
+ghost use Rattle.std.specs.Prelude.{◌≡◌, ◌≤◌, ◌<◌, ◌++◌, IsTrue, IfOk, OnOk, OnErr, codes, false, length, nat_eq, pos};
 ghost use Rattle.std.specs.Cmp.Lexicographic.{pointwise};
 ghost use Rattle.std.specs.FinMap as map;
-ghost use Rattle.std.specs.FinSet as set;
 ghost use Rattle.std.specs.Fmt.{decimal};
 ghost use Rattle.std.specs.List.{list_any};
 ghost use Rattle.std.specs.Str.{IsUtf8};
@@ -11,18 +10,15 @@ ghost use Rattle.atl_tables.specs.Planet.{IsWorld};
 ghost use Rattle.atl_state.specs.declared.books.Entry.TheVariants.{Joining};
 ghost use Rattle.atl_state.specs.declared.books.Thing.TheVariants.{Money, People};
 ghost use Rattle.atl_state.specs.Books.{amount_in, with_booked, IsSmall};
-ghost use Rattle.atl_state.specs.Good.{IsGood};
+ghost use Rattle.atl_state.specs.Good.{IsGood, IsSound};
 ghost use Rattle.atl_state.specs.Joining.{name_taken, is_full, home_of, new_faction, joined, Joins};
 ghost use Rattle.atl_state.specs.Limits.{holding_limit, last_unit};
 ghost use Rattle.atl_state.specs.Marking.{join_marked};
-ghost use Rattle.atl_state.specs.State.{with_unit};
-ghost use Rattle.atl_state.specs.Totals.{Balances};
 
 use super::Campaign;
 use crate::books::{Books, Entry, Thing};
 use crate::holding::Holding;
 use crate::limits::{LAST_UNIT, MOST_UNITS};
-use crate::lists::{list_number, unlist_number};
 use crate::records::{Faction, JoinFault, Unit};
 use atl_orders::LAST_FACTION;
 use atl_tables::{Numbered, Text, Tracked, World};
@@ -113,34 +109,6 @@ impl Campaign {
             || self.next_unit > LAST_UNIT
     }
 
-    /// Adds a unit under a number that no unit has, and marks it. Without memory for it nothing changes.
-    fn add_unit(&mut self, number: u32, unit: Unit) -> Result<(), AllocError>
-        requires { map.get self.old.what.units number ≡ None }
-        ensures ok { OnOk result (self.new.what ≡ with_unit self.old.what number unit) }
-        ensures err { OnErr result (self.new ≡ self.old) }
-        ensures marks { OnOk result (self.new.marks ≡ record self.old.marks { units = set.insert self.old.marks.units number }) }
-    {
-        let region = unit.region;
-        let faction = unit.faction;
-        let was_marked = self.units.is_marked(number);
-        self.units.insert(number, unit)?;
-        match list_number(self.alloc, &mut self.by_region, region, number) {
-            Ok(()) => {}
-            Err(e) => {
-                self.units.take_out(number, was_marked);
-                return Err(e);
-            }
-        }
-        match list_number(self.alloc, &mut self.by_faction, faction, number) {
-            Ok(()) => Ok(()),
-            Err(e) => {
-                unlist_number(&mut self.by_region, region, number);
-                self.units.take_out(number, was_marked);
-                Err(e)
-            }
-        }
-    }
-
     /// A faction joins, with one unit: one man with the start money, in the land region that the word picks. What it
     /// brings is booked. The answer is the number of the faction and that of its unit. On a fault the campaign stays as
     /// it is, its marks too. See docs/RULES.md, "Joining".
@@ -156,8 +124,7 @@ impl Campaign {
         requires name { IsTrue (name_ok name.now) }
         requires pass { IsTrue (pass_ok pass.now) }
         ensures definition { Joins world.now name.now pass.now word self.old.what result self.new.what }
-        ensures good { IsGood world.now self.new.what }
-        ensures balances { Balances self.old.what → Balances self.new.what }
+        ensures sound { IsSound world.now self.new.what }
         ensures marks { OnOk result (self.new.marks ≡ join_marked self.old) }
         ensures err { OnErr result (self.new ≡ self.old) }
     {
@@ -181,7 +148,7 @@ impl Campaign {
         pass: &[u8],
         word: u32,
     ) -> Result<(u32, u32), AllocError>
-        requires good { IsGood world.now self.old.what }
+        requires sound { IsSound world.now self.old.what }
         requires room { self.old.what.next_unit ≤ last_unit }
         requires name { IsUtf8 name.now }
         requires pass { IsUtf8 pass.now }
@@ -199,19 +166,17 @@ impl Campaign {
         let member = faction_made(self.alloc, faction, name, pass)?;
         let was_marked = self.factions.is_marked(faction);
         self.factions.insert(faction, member)?;
-        match self.add_unit(number, unit) {
-            Ok(()) => {}
+        match self.begin_unit(unit) {
+            Ok(_) => {}
             Err(e) => {
                 self.factions.take_out(faction, was_marked);
                 return Err(e);
             }
         }
         self.next_faction = faction + 1;
-        self.next_unit = number + 1;
         book_joining(&mut self.books, money);
         self.amounts_marked.mark(Entry::Joining, Thing::Money);
         self.amounts_marked.mark(Entry::Joining, Thing::People);
-        self.row_marked = true;
         Ok((faction, number))
     }
 }

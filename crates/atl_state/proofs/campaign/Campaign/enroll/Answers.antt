@@ -15,16 +15,16 @@ use Rattle.atl_state.proofs.campaign.Campaign.enroll.Goals as goal
 pub book_joining-requires : goal.book_joining-requires
 book_joining-requires c =
     let books : c.self-2.inside.books ≡ c.args.self.now.what.books = ap (λ (m : Marked). m.what.books) c.self-2.view_is ∙ ap (λ (s : State). s.books) c.in-Ok.ensures.ok ∙ ap (λ (m : Marked). m.what.books) c.self.view_is in
-    let small = joining_small c.args.world.now c.args.self.now.what c.requires.good in
+    let small = joining_small c.args.world.now c.args.self.now.what c.requires.sound in
     rw books record {
-      rows = omega (arith, c.requires.good.grid.rows);
+      rows = omega (arith, c.requires.sound.steady.numbers.books.rows);
       money = small.0;
       people = small.1;
     }
 
 pub returns-in-Err-clause-err : goal.returns-in-Err-clause-err
 returns-in-Err-clause-err c =
-    let fresh : get c.self.inside.factions.values c.self.inside.next_faction ≡ None = rw (← c.self.view_is) at (c.requires.good.factions_new c.args.self.now.what.next_faction (omega arith)) in
+    let fresh : get c.self.inside.factions.values c.self.inside.next_faction ≡ None = rw (← c.self.view_is) at (c.requires.sound.steady.next.factions.free c.args.self.now.what.next_faction (omega arith)) in
     let same = c.self-2.view_is ∙ c.in-Err.ensures.err in
     let inserted : c.self-2.inside.factions ≡ c.insert.new.self = ap (λ (m : Marked). record { values = m.what.factions; marks = m.marks.factions }) same in
     let back =
@@ -39,15 +39,15 @@ returns-clause-marks c =
     let books : c.self-2.inside.books ≡ c.args.self.now.what.books = ap (λ (m : Marked). m.what.books) c.self-2.view_is ∙ ap (λ (s : State). s.books) c.in-Ok.ensures.ok ∙ ap (λ (m : Marked). m.what.books) c.self.view_is in
     let flags = c.self-2.inside.amounts_marked in
     let places = c.self-2.invariant.amounts in
-    let rows = ap (λ (b : List (List ℤ)). length b) books ∙ c.requires.good.grid.rows in
+    let rows = ap (λ (b : List (List ℤ)). length b) books ∙ c.requires.sound.steady.numbers.books.rows in
     let marked : set_from 0 c.mark-2.new.self ≡ amount_marked (amount_marked c.args.self.now.marks.books Joining Money) Joining People =
     ap (set_from 0) (c.mark-2.ensures ∙ ap (λ b. set b (amount_number Joining People) true) c.mark.ensures) ∙ two_set flags (amount_number Joining Money) (amount_number Joining People) (omega (arith, places, rows)) (omega (arith, places, rows))
     ∙ ap (λ (m : Marks). amount_marked (amount_marked m.books Joining Money) Joining People) same ∙ ap (λ (m : Marked). amount_marked (amount_marked m.marks.books Joining Money) Joining People) c.self.view_is in
-    ap (λ (m : Marks). record m { books = set_from 0 c.mark-2.new.self; row = true }) same ∙ rw (marked, ← c.self.view_is, c.in_ok-insert.ensures.ok) refl
+    ap (λ (m : Marks). record m { books = set_from 0 c.mark-2.new.self }) same ∙ rw (marked, ← c.self.view_is, c.in_ok-insert.ensures.ok) refl
 
 pub returns-clause-ok : goal.returns-clause-ok
 unfolding joined
 returns-clause-ok c =
     let back = ap (λ (m : Marked). m.what) c.self-2.view_is ∙ c.in-Ok.ensures.ok in
-    ap (λ (s : State). record s { next_faction = c.self.inside.next_faction + 1; next_unit = c.self.inside.next_unit + 1; books = c.book_joining.new.books }) back
+    ap (λ (s : State). record s { next_faction = c.self.inside.next_faction + 1; books = c.book_joining.new.books }) back
     ∙ rw (← c.self.view_is, c.book_joining.ensures, ap (λ (s : State). s.books) back, c.in_ok-insert.ensures.ok, c.in_ok-member.ensures, c.in_ok-unit.ensures, c.home-region.ensures, c.rules.ensures.value) refl

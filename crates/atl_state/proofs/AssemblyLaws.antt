@@ -1,0 +1,156 @@
+-- A campaign as it is made of rows, one after another.
+use Rattle.std.proofs.Common.{◌≡◌, ◌≢◌, ◌==◌, ℕ, zero, suc, ◌≤◌, ◌<◌, ◌&&◌, ◌||◌, List, [], ◌∷◌, Bool, true, false, cond, filter, length, get_or, Some, None, nat_le, refl, sym, ap, subst, ◌∙◌, arith, inl, inr}
+use Rattle.std.specs.Prelude.{ℤ, pos, negsuc, unwrap_or, min, Result, Ok, Err, IfOk, IsUtf8}
+use Rattle.std.specs.List.{list_all}
+use Rattle.std.specs.declared.cmp.Ordering.TheVariants.{Less, Equal, Greater}
+use Rattle.std.specs.Ordering.{nat_cmp, is_eq, eq_by_cmp}
+use Rattle.std.specs.Cmp.{nat_cmp_total, eq_by_cmp_equiv}
+use Rattle.std.specs.FinMap.{FinMap, get, insert, empty, get-insert, get-empty, nat_cmp-IsAntisymmetric}
+use Rattle.std.proofs.lemmas.Bool.{cases_eq, and_parts, false≢true}
+use Rattle.std.proofs.lemmas.Bool.Decides.{nat_tests}
+use Rattle.atl_state.specs.declared.parts.StoredHas.{StoredHas}
+use Rattle.atl_state.specs.FromRows.{as_u32, is_of, put_rows, things_had, group_of}
+use Rattle.atl_state.specs.Held.{AreAmounts}
+use Rattle.atl_state.specs.Limits.{holding_limit}
+use Rattle.atl_state.specs.RowRules.{is_from, has_in_range}
+
+-- ---- what stands under a number after an insertion
+
+pub get_same : {V : Type 0} (m : FinMap nat_cmp V) (k : ℕ) (v : V) → get (insert m k v) k ≡ Some v
+get_same m k v = get-insert nat_cmp_total m k v k ∙ ap (λ b. cond b (Some v) (get m k)) ((eq_by_cmp_equiv nat_cmp_total).refl k)
+
+other_key : (n k : ℕ) → n ≢ k → eq_by_cmp nat_cmp n k ≡ false
+other_key n k h = elim (nat_cmp n k) as (λ r. nat_cmp n k ≡ r → is_eq r ≡ false) [
+  | Less ↦ λ _. refl
+  | Equal ↦ λ e. absurd (h (nat_cmp-IsAntisymmetric n k e))
+  | Greater ↦ λ _. refl
+] refl
+
+pub get_other : {V : Type 0} (m : FinMap nat_cmp V) (k n : ℕ) (v : V) → n ≢ k → get (insert m k v) n ≡ get m n
+get_other m k n v h = get-insert nat_cmp_total m k v n ∙ ap (λ b. cond b (Some v) (get m n)) (other_key n k h)
+
+-- ---- what units have
+
+abbrev thing_of : StoredHas → ℕ
+thing_of r = as_u32 r.thing
+
+abbrev amount_of : StoredHas → ℕ
+amount_of r = as_u32 r.amount
+
+-- what is left to put
+abbrev pub left : ℕ → ℕ → List StoredHas → FinMap nat_cmp (FinMap nat_cmp ℕ) → FinMap nat_cmp ℕ
+left n sort rows groups = put_rows thing_of amount_of (filter (is_of n sort) rows) (group_of groups n)
+
+pub left_none : (n sort : ℕ) (rows : List StoredHas) → left n sort rows empty ≡ things_had n sort rows
+left_none n sort rows = ap (λ o. put_rows thing_of amount_of (filter (is_of n sort) rows) (unwrap_or o empty)) (get-empty nat_cmp n)
+
+taken_or_not : (n sort : ℕ) (r : StoredHas) (rows : List StoredHas) (b : Bool) (m : FinMap nat_cmp ℕ) → is_of n sort r ≡ b → put_rows thing_of amount_of (filter (is_of n sort) (r ∷ rows)) m ≡ put_rows thing_of amount_of (filter (is_of n sort) rows) (cond b (insert m (thing_of r) (amount_of r)) m)
+taken_or_not n sort r rows true m h = ap (λ b. put_rows thing_of amount_of (cond b (r ∷ filter (is_of n sort) rows) (filter (is_of n sort) rows)) m) h
+taken_or_not n sort r rows false m h = ap (λ b. put_rows thing_of amount_of (cond b (r ∷ filter (is_of n sort) rows) (filter (is_of n sort) rows)) m) h
+
+never : (b : Bool) → (b && false) ≡ false
+never true = refl
+never false = refl
+
+-- a row of another sort
+pub left_other : (n sort : ℕ) (r : StoredHas) (rows : List StoredHas) (groups : FinMap nat_cmp (FinMap nat_cmp ℕ)) → (as_u32 r.sort == sort) ≡ false → left n sort rows groups ≡ left n sort (r ∷ rows) groups
+left_other n sort r rows groups not_it =
+    sym (taken_or_not n sort r rows false (group_of groups n) (ap (λ b. (as_u32 r.unit == n) && b) not_it ∙ never (as_u32 r.unit == n)))
+
+-- a row of this sort, put beside what its unit has
+pub left_more : (n sort : ℕ) (r : StoredHas) (rows : List StoredHas) (groups : FinMap nat_cmp (FinMap nat_cmp ℕ)) → (as_u32 r.sort == sort) ≡ true
+    → left n sort rows (insert groups (as_u32 r.unit) (insert (group_of groups (as_u32 r.unit)) (thing_of r) (amount_of r))) ≡ left n sort (r ∷ rows) groups
+left_more n sort r rows groups it =
+    let unit = as_u32 r.unit in
+    let put = λ (m : FinMap nat_cmp ℕ). put_rows thing_of amount_of (filter (is_of n sort) rows) m in
+    let group = insert (group_of groups unit) (thing_of r) (amount_of r) in
+    elim (cases_eq unit n) [
+      | inl same ↦
+          let mine : (unit == n) ≡ true = grind (arith, nat_tests) in
+          let own : group_of (insert groups unit group) n ≡ insert (group_of groups n) (thing_of r) (amount_of r) =
+          ap (λ k. unwrap_or (get (insert groups unit group) k) empty) (sym same) ∙ ap (λ o. unwrap_or o empty) (get_same groups unit group) ∙ ap (λ k. insert (group_of groups k) (thing_of r) (amount_of r)) same in
+          ap put own ∙ sym (taken_or_not n sort r rows true (group_of groups n) (ap (λ b. b && (as_u32 r.sort == sort)) mine ∙ it))
+      | inr apart ↦
+          let other : (unit == n) ≡ false = grind (arith, nat_tests) in
+          let own : group_of (insert groups unit group) n ≡ group_of groups n = ap (λ o. unwrap_or o empty) (get_other groups unit n group (λ e. apart (sym e))) in
+          ap put own ∙ sym (taken_or_not n sort r rows false (group_of groups n) (ap (λ b. b && (as_u32 r.sort == sort)) other))
+    ]
+
+-- ---- what is said of rows in their ranges
+
+min_small : (n most : ℕ) → n ≤ most → min n most ≡ n
+min_small n most h = grind arith
+
+-- a number in its range is read as it is
+pub from_range : (low high : ℕ) (z : ℤ) → high ≤ 4294967295 → is_from low high z ≡ true → (z ≡ pos (as_u32 z)) × (low ≤ as_u32 z) × (as_u32 z ≤ high)
+from_range low high (pos n) h e =
+    let parts = and_parts (nat_le low n) (nat_le n high) e in
+    let least : low ≤ n = grind (arith, nat_tests, parts.0) in
+    let most : n ≤ high = grind (arith, nat_tests, parts.1) in
+    let same = min_small n 4294967295 (omega arith) in
+    (ap pos (sym same), rw same least, rw same most)
+from_range low high (negsuc n) h e = absurd (false≢true e)
+
+is_skill : (z : ℤ) → as_u32 z ≡ 0 → is_from 1 1 z ≡ false
+is_skill (pos zero) h = refl
+is_skill (pos (suc n)) h = absurd (grind arith)
+is_skill (negsuc n) h = refl
+
+or_right : (b c : Bool) → b ≡ false → (b || c) ≡ true → c ≡ true
+or_right true c h e = absurd (false≢true (sym h))
+or_right false c h e = e
+
+is_same : (m n : ℕ) → (m == n) ≡ true → m ≡ n
+is_same m n h = grind (arith, nat_tests)
+
+good_amount : (n : ℕ) (r : StoredHas) → has_in_range r ≡ true → is_of n 0 r ≡ true → (1 ≤ amount_of r) × (amount_of r ≤ holding_limit)
+good_amount n r h of =
+    let sort = is_same (as_u32 r.sort) 0 (and_parts (as_u32 r.unit == n) (as_u32 r.sort == 0) of).1 in
+    let item = or_right (is_from 1 1 r.sort) (is_from 0 0 r.sort && is_from 1 holding_limit r.amount) (is_skill r.sort sort) h in
+    let range = from_range 1 holding_limit r.amount (omega arith) (and_parts (is_from 0 0 r.sort) (is_from 1 holding_limit r.amount) item).1 in
+    (range.1, range.2)
+
+some_same : (a b : ℕ) → Some a ≡ Some b → a ≡ b
+some_same a b e = cc
+
+AreAmounts-insert : (m : FinMap nat_cmp ℕ) (k v : ℕ) → (1 ≤ v) × (v ≤ holding_limit) → AreAmounts m → AreAmounts (insert m k v)
+AreAmounts-insert m k v h old item amount e =
+    elim (cases_eq item k) [
+      | inl same ↦
+          let is = some_same v amount (sym (ap (get (insert m k v)) same ∙ get_same m k v) ∙ e) in
+          (omega (arith, is, h.0), omega (arith, is, h.1))
+      | inr apart ↦ old item amount (sym (get_other m k item v apart) ∙ e)
+    ]
+
+chosen : (n : ℕ) (r : StoredHas) (m : FinMap nat_cmp ℕ) (b : Bool) → is_of n 0 r ≡ b → has_in_range r ≡ true → AreAmounts m → AreAmounts (cond b (insert m (thing_of r) (amount_of r)) m)
+chosen n r m true of h old = AreAmounts-insert m (thing_of r) (amount_of r) (good_amount n r h of) old
+chosen n r m false of h old = old
+
+put_good : (n : ℕ) (rows : List StoredHas) (m : FinMap nat_cmp ℕ) → list_all has_in_range rows ≡ true → AreAmounts m → AreAmounts (put_rows thing_of amount_of (filter (is_of n 0) rows) m)
+put_good n [] m h old = old
+put_good n (r ∷ rows) m h old =
+    let parts = and_parts (has_in_range r) (list_all has_in_range rows) h in
+    subst AreAmounts (sym (taken_or_not n 0 r rows (is_of n 0 r) m refl)) (put_good n rows (cond (is_of n 0 r) (insert m (thing_of r) (amount_of r)) m) parts.1 (chosen n r m (is_of n 0 r) refl parts.0 old))
+
+no_some : (x : ℕ) → None ≡ Some x → ⊥
+no_some x e = cc
+
+none_held : (item amount : ℕ) → get (empty {X = ℕ} {R = nat_cmp}) item ≡ Some amount → (1 ≤ amount) × (amount ≤ holding_limit)
+none_held item amount e = absurd (no_some amount (sym (get-empty nat_cmp item) ∙ e))
+
+-- what units hold is within the limits
+pub AreAmounts-had : (n : ℕ) (rows : List StoredHas) → list_all has_in_range rows ≡ true → AreAmounts (things_had n 0 rows)
+AreAmounts-had n rows h = put_good n rows empty h none_held
+
+-- ---- texts
+
+pub IfOk-text : {E : Type 0} (r : Result (List ℕ) E) (some bytes : List ℕ) → some ≡ bytes → IsUtf8 bytes → IfOk r (λ made. IsUtf8 some → made ≡ some) → IfOk r (λ made. made ≡ bytes)
+IfOk-text (Ok made) some bytes e h f = f (subst IsUtf8 (sym e) h) ∙ e
+IfOk-text (Err x) some bytes e h f = tt
+
+-- ---- what is so of each row
+
+pub at_row : {R : Type 0} (p : R → Bool) (rows : List R) (i : ℕ) (r : R) → i < length rows → r ≡ get_or rows i r → list_all p rows ≡ true → p r ≡ true
+at_row p [] i r h is all = absurd (omega arith)
+at_row p (x ∷ rows) zero r h is all = ap p is ∙ (and_parts (p x) (list_all p rows) all).0
+at_row p (x ∷ rows) (suc i) r h is all = at_row p rows i r (omega arith) is (and_parts (p x) (list_all p rows) all).1

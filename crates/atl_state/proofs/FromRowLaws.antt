@@ -1,0 +1,236 @@
+-- What is so of the campaign that rows say.
+use Rattle.std.proofs.Common.{◌≡◌, ℕ, ◌≤◌, ◌<◌, ◌+◌, ◌-◌, ◌&&◌, List, [], ◌∷◌, Bool, true, false, cond, length, get_or, set, nat_le, refl, ap, ◌∙◌, arith, inl, inr}
+use Rattle.std.specs.Prelude.{ℤ, pos, negsuc, min}
+use Rattle.std.specs.List.{list_all}
+use Rattle.std.specs.Ordering.{nat_cmp}
+use Rattle.std.specs.Cmp.{nat_cmp_total}
+use Rattle.std.specs.FinMap.{FinMap, insert, empty, len, len-insert, len-empty, contains_key}
+use Rattle.std.proofs.lemmas.Bool.{cases_eq, and_parts, false≢true}
+use Rattle.std.proofs.lemmas.Bool.Decides.{nat_tests}
+use Rattle.std.proofs.lemmas.List.{get_or-set_same, get_or-set_other, length-set}
+use Rattle.atl_tables.specs.Limits.{most_amount, most_regions}
+use Rattle.atl_tables.specs.Planet.{Planet}
+use Rattle.atl_orders.specs.Limits.{last_faction}
+use Rattle.atl_state.specs.declared.parts.Parts.{Parts}
+use Rattle.atl_state.specs.declared.parts.StoredHead.{StoredHead}
+use Rattle.atl_state.specs.declared.parts.StoredFaction.{StoredFaction}
+use Rattle.atl_state.specs.declared.parts.StoredRegion.{StoredRegion}
+use Rattle.atl_state.specs.declared.parts.StoredUnit.{StoredUnit}
+use Rattle.atl_state.specs.declared.parts.StoredHas.{StoredHas}
+use Rattle.atl_state.specs.declared.parts.StoredStructure.{StoredStructure}
+use Rattle.atl_state.specs.declared.parts.StoredBooks.{StoredBooks}
+use Rattle.atl_state.specs.Books.{no_amounts, IsGrid}
+use Rattle.atl_state.specs.Founding.{things_of}
+use Rattle.atl_state.specs.FromRows.{clamped, as_u32, as_u16, is_entry, put_rows, by_number, faction_of, region_of, structure_of, unit_of, with_amount, with_row, put_amounts, head_of, state_of}
+use Rattle.atl_state.specs.Good.{Every, size_of, AreInRange, HaveMen}
+use Rattle.atl_state.specs.Held.{IsHolding}
+use Rattle.atl_state.specs.Limits.{last_month, most_units, last_unit, men_limit, holding_limit, most_structures, entry_count}
+use Rattle.atl_state.specs.RowRules.{is_from, head_in_range, faction_in_range, region_in_range, unit_in_range, has_in_range, structure_in_range, books_in_range, books_bound, are_few, people_in_range, numbers_in_range, AreRowsInRange}
+use Rattle.atl_state.proofs.AssemblyLaws.{AreAmounts-had}
+use Rattle.atl_state.proofs.BookLaws.{IsGrid-no_amounts}
+use Rattle.atl_state.proofs.EveryLaws.{every-empty, every-insert}
+
+-- ---- maps of rows
+
+module _ {R V : Type 0} (number : R → ℕ) (value : R → V) where
+  put-every : (P : ℕ → V → Type 0) (p : R → Bool) → ((r : R) → p r ≡ true → P (number r) (value r)) → (rows : List R) (m : FinMap nat_cmp V) → list_all p rows ≡ true → Every P m → Every P (put_rows number value rows m)
+  put-every P p each [] m all old = old
+  put-every P p each (r ∷ rows) m all old =
+      let parts = and_parts (p r) (list_all p rows) all in
+      put-every P p each rows (insert m (number r) (value r)) parts.1 (every-insert P m (number r) (value r) (each r parts.0) old)
+
+  -- what is so of each row is so of every value
+  pub by_number-every : (P : ℕ → V → Type 0) (p : R → Bool) → ((r : R) → p r ≡ true → P (number r) (value r)) → (rows : List R) → list_all p rows ≡ true → Every P (by_number number value rows)
+  by_number-every P p each rows all = put-every P p each rows empty all (every-empty P)
+
+  at_most : (b : Bool) (n : ℕ) → cond b n (n + 1) ≤ n + 1
+  at_most true n = omega arith
+  at_most false n = omega arith
+
+  put-len : (rows : List R) (m : FinMap nat_cmp V) → len (put_rows number value rows m) ≤ length rows + len m
+  put-len [] m = omega arith
+  put-len (r ∷ rows) m =
+      let more : len (insert m (number r) (value r)) ≤ len m + 1 = rw (len-insert nat_cmp_total m (number r) (value r)) (at_most (contains_key m (number r)) (len m)) in
+      omega (arith, put-len rows (insert m (number r) (value r)), more)
+
+  -- there are no more values than rows
+  pub by_number-len : (rows : List R) → len (by_number number value rows) ≤ length rows
+  by_number-len rows = omega (arith, put-len rows empty, len-empty nat_cmp V)
+
+-- ---- numbers
+
+min_low : (low n most : ℕ) → low ≤ n → low ≤ most → low ≤ min n most
+min_low low n most h k = grind arith
+
+min_high : (n high most : ℕ) → n ≤ high → min n most ≤ high
+min_high n high most h = grind arith
+
+-- a number in its range stays in it as it is read
+pub in_range : (low high most : ℕ) (z : ℤ) → low ≤ most → is_from low high z ≡ true → (low ≤ clamped most z) × (clamped most z ≤ high)
+in_range low high most (pos n) h e =
+    let parts = and_parts (nat_le low n) (nat_le n high) e in
+    let least : low ≤ n = grind (arith, nat_tests, parts.0) in
+    let highest : n ≤ high = grind (arith, nat_tests, parts.1) in
+    (min_low low n most least h, min_high n high most highest)
+in_range low high most (negsuc n) h e = absurd (false≢true e)
+
+pub from_le : (m n : ℕ) → nat_le m n ≡ true → m ≤ n
+from_le m n h = grind (arith, nat_tests)
+
+-- ---- the books
+
+row_kept : (xs : List ℤ) (i : ℕ) (z : ℤ) (n : ℕ) → length xs ≡ n → length (set xs i z) ≡ n
+row_kept xs i z n h = length-set xs i z ∙ h
+
+pub IsGrid-with_amount : (things : ℕ) (books : List (List ℤ)) (entry thing : ℕ) (z : ℤ) → IsGrid things books → IsGrid things (with_amount books entry thing z)
+IsGrid-with_amount things books entry thing z g =
+    record {
+      rows = length-set books thing (set (get_or books thing []) entry z) ∙ g.rows;
+      wide = λ k d h.
+          let new = set (get_or books thing []) entry z in
+          let lt : k < length books = omega (arith, h, length-set books thing new) in
+          elim (cases_eq k thing) [
+            | inl same ↦
+                let inside : thing < length books = omega arith in
+                ap (λ i. length (get_or (set books thing new) i d)) same ∙ ap length (get_or-set_same books thing new d inside) ∙ row_kept (get_or books thing []) entry z entry_count (g.wide thing [] inside)
+            | inr apart ↦ ap length (get_or-set_other books thing k new d apart) ∙ g.wide k d lt
+          ];
+    }
+
+either_grid : (things : ℕ) (b : Bool) (some other : List (List ℤ)) → IsGrid things some → IsGrid things other → IsGrid things (cond b some other)
+either_grid things true some other h k = h
+either_grid things false some other h k = k
+
+pub put-grid : (things : ℕ) (rows : List StoredBooks) (books : List (List ℤ)) → IsGrid things books → IsGrid things (put_amounts rows books)
+put-grid things [] books g = g
+put-grid things (r ∷ rows) books g =
+    put-grid things rows (with_row books r) (either_grid things (is_entry (as_u32 r.entry)) (with_amount books (as_u32 r.entry - 1) (as_u32 r.thing) r.amount) books (IsGrid-with_amount things books (as_u32 r.entry - 1) (as_u32 r.thing) r.amount g) g)
+
+-- ---- the ranges
+
+region_good : (r : StoredRegion) → region_in_range r ≡ true → ((region_of r).peasants ≤ most_amount) × ((region_of r).money ≤ most_amount)
+region_good r h =
+    let parts = and_parts (is_from 0 most_amount r.peasants) (is_from 0 most_amount r.money) h in
+    ((in_range 0 most_amount 4294967295 r.peasants (omega arith) parts.0).1, (in_range 0 most_amount 4294967295 r.money (omega arith) parts.1).1)
+
+structure_good : (w : Planet) (r : StoredStructure) → structure_in_range w r ≡ true → (1 ≤ (structure_of r).done) × ((structure_of r).done ≤ size_of w (structure_of r).kind)
+structure_good w r h =
+    let size = size_of w (as_u16 r.kind) in
+    in_range 1 size 4294967295 r.done (omega arith) (and_parts (is_from 1 most_structures r.number) (is_from 1 size r.done) h).1
+
+pub record UnitRanges (r : StoredUnit) : Type 0 where
+  pub number : is_from 1 last_unit r.number ≡ true
+  pub men : is_from 1 men_limit r.men ≡ true
+  pub money : is_from 0 holding_limit r.money ≡ true
+  pub guard : is_from 0 1 r.guard ≡ true
+
+pub unit_ranges : (r : StoredUnit) → unit_in_range r ≡ true → UnitRanges r
+unit_ranges r h =
+    let number = is_from 1 last_unit r.number in
+    let men = is_from 1 men_limit r.men in
+    let money = is_from 0 holding_limit r.money in
+    let outer = and_parts ((number && men) && money) (is_from 0 1 r.guard) h in
+    let middle = and_parts (number && men) money outer.0 in
+    let inner = and_parts number men middle.0 in
+    record { number = inner.0; men = inner.1; money = middle.1; guard = outer.1 }
+
+unit_good : (has : List StoredHas) (r : StoredUnit) → list_all has_in_range has ≡ true → unit_in_range r ≡ true → (1 ≤ as_u32 r.number) × IsHolding (unit_of has r).holding
+unit_good has r all h =
+    let ranges = unit_ranges r h in (
+      (in_range 1 last_unit 4294967295 r.number (omega arith) ranges.number).0,
+      record {
+        men = (in_range 1 men_limit 4294967295 r.men (omega arith) ranges.men).1;
+        money = (in_range 0 holding_limit 4294967295 r.money (omega arith) ranges.money).1;
+        items = AreAmounts-had (as_u32 r.number) has all;
+      },
+    )
+
+pub record NumberRanges (w : Planet) (p : Parts) : Type 0 where
+  pub head : head_in_range (head_of p) ≡ true
+  pub factions : list_all faction_in_range p.factions ≡ true
+  pub regions : list_all region_in_range p.regions ≡ true
+  pub units : list_all unit_in_range p.units ≡ true
+  pub has : list_all has_in_range p.has ≡ true
+  pub structures : list_all (structure_in_range w) p.structures ≡ true
+  pub books : list_all (books_in_range (books_bound p)) p.books ≡ true
+
+pub number_ranges : (w : Planet) (p : Parts) → numbers_in_range w p ≡ true → NumberRanges w p
+number_ranges w p h =
+    let head = head_in_range (head_of p) in
+    let people = people_in_range p in
+    let structures = list_all (structure_in_range w) p.structures in
+    let books = list_all (books_in_range (books_bound p)) p.books in
+    let factions = list_all faction_in_range p.factions in
+    let regions = list_all region_in_range p.regions in
+    let units = list_all unit_in_range p.units in
+    let has = list_all has_in_range p.has in
+    let last = and_parts ((head && people) && structures) books h in
+    let third = and_parts (head && people) structures last.0 in
+    let first = and_parts head people third.0 in
+    let fourth = and_parts ((factions && regions) && units) has first.1 in
+    let second = and_parts (factions && regions) units fourth.0 in
+    let start = and_parts factions regions second.0 in
+    record { head = first.0; factions = start.0; regions = start.1; units = second.1; has = fourth.1; structures = third.1; books = last.1 }
+
+pub record HeadRanges (h : StoredHead) : Type 0 where
+  pub month : is_from 0 last_month h.month ≡ true
+  pub next_faction : is_from 1 (last_faction + 1) h.next_faction ≡ true
+  pub next_unit : is_from 1 (last_unit + 1) h.next_unit ≡ true
+  pub next_structure : is_from 1 (most_structures + 1) h.next_structure ≡ true
+
+pub head_ranges : (h : StoredHead) → head_in_range h ≡ true → HeadRanges h
+head_ranges h e =
+    let month = is_from 0 last_month h.month in
+    let faction = is_from 1 (last_faction + 1) h.next_faction in
+    let unit = is_from 1 (last_unit + 1) h.next_unit in
+    let structure = is_from 1 (most_structures + 1) h.next_structure in
+    let outer = and_parts ((month && faction) && unit) structure e in
+    let middle = and_parts (month && faction) unit outer.0 in
+    let inner = and_parts month faction middle.0 in
+    record { month = inner.0; next_faction = inner.1; next_unit = middle.1; next_structure = outer.1 }
+
+pub record Counts (p : Parts) : Type 0 where
+  pub factions : length p.factions ≤ last_faction
+  pub regions : length p.regions ≤ most_regions
+  pub units : length p.units ≤ most_units
+  pub structures : length p.structures ≤ most_structures
+
+pub counts : (p : Parts) → are_few p ≡ true → Counts p
+counts p h =
+    let factions = nat_le (length p.factions) last_faction in
+    let regions = nat_le (length p.regions) most_regions in
+    let units = nat_le (length p.units) most_units in
+    let structures = nat_le (length p.structures) most_structures in
+    let outer = and_parts ((factions && regions) && units) structures h in
+    let middle = and_parts (factions && regions) units outer.0 in
+    let inner = and_parts factions regions middle.0 in
+    record { factions = from_le _ _ inner.0; regions = from_le _ _ inner.1; units = from_le _ _ middle.1; structures = from_le _ _ outer.1 }
+
+module _ (w : Planet) (p : Parts) (h : AreRowsInRange w p) where
+  pub HaveMen-said : HaveMen (state_of w p)
+  unfolding state_of
+  HaveMen-said =
+      let ranges = number_ranges w p h.numbers in
+      by_number-every (λ r. as_u32 r.number) (unit_of p.has) (λ n u. 1 ≤ u.holding.men) unit_in_range (λ r good. (in_range 1 men_limit 4294967295 r.men (omega arith) (unit_ranges r good).men).0) p.units ranges.units
+
+  pub AreInRange-said : AreInRange w (state_of w p)
+  unfolding state_of
+  AreInRange-said =
+      let ranges = number_ranges w p h.numbers in
+      let head = head_ranges (head_of p) ranges.head in
+      let few = counts p h.few in
+      let unit = in_range 1 (last_unit + 1) 4294967295 (head_of p).next_unit (omega arith) head.next_unit in
+      record {
+        month = (in_range 0 last_month 4294967295 (head_of p).month (omega arith) head.month).1;
+        few_factions = omega (arith, by_number-len (λ (r : StoredFaction). as_u32 r.number) faction_of p.factions, few.factions);
+        few_regions = omega (arith, by_number-len (λ (r : StoredRegion). as_u32 r.number) region_of p.regions, few.regions);
+        few_units = omega (arith, by_number-len (λ (r : StoredUnit). as_u32 r.number) (unit_of p.has) p.units, few.units);
+        few_structures = omega (arith, by_number-len (λ (r : StoredStructure). as_u32 r.number) structure_of p.structures, few.structures);
+        next_unit_least = unit.0;
+        next_unit_most = unit.1;
+        factions = by_number-every (λ r. as_u32 r.number) faction_of (λ n f. f.number ≡ n) faction_in_range (λ r good. refl) p.factions ranges.factions;
+        regions = by_number-every (λ r. as_u32 r.number) region_of (λ n r. (r.peasants ≤ most_amount) × (r.money ≤ most_amount)) region_in_range (λ r good. region_good r good) p.regions ranges.regions;
+        units = by_number-every (λ r. as_u32 r.number) (unit_of p.has) (λ n u. (1 ≤ n) × IsHolding u.holding) unit_in_range (λ r good. unit_good p.has r ranges.has good) p.units ranges.units;
+        structures = by_number-every (λ r. as_u32 r.number) structure_of (λ n s. (1 ≤ s.done) × (s.done ≤ size_of w s.kind)) (structure_in_range w) (λ r good. structure_good w r good) p.structures ranges.structures;
+        books = put-grid (things_of w) p.books (no_amounts (things_of w)) (IsGrid-no_amounts (things_of w));
+      }

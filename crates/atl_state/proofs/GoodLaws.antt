@@ -1,0 +1,132 @@
+-- A report, and a mailing, keep a campaign good; and what else is true of a good campaign.
+use Rattle.std.proofs.Common.{◌≡◌, ◌≤◌, ◌&&◌, ℕ, Bool, true, false, cond, nat_lt, List, Result, Ok, Err, subst, arith}
+use Rattle.std.proofs.lemmas.Bool.Decides.{nat_tests}
+use Rattle.std.specs.Cmp.Derive.{both_true}
+use Rattle.std.specs.Ordering.{nat_cmp}
+use Rattle.std.specs.FinMap.{FinMap, insert}
+use Rattle.atl_tables.specs.Planet.{Planet}
+use Rattle.atl_orders.specs.Mailing.{IsMailingOf}
+use Rattle.atl_state.specs.declared.records.JoinFault.{JoinFault}
+use Rattle.atl_state.specs.declared.records.JoinFault.TheVariants.{NameTaken, Full}
+use Rattle.atl_state.specs.State.{State, with_mail, with_report}
+use Rattle.atl_state.specs.Totals.{total}
+use Rattle.atl_state.specs.Good.{Every, IsThere, IsActive, AreInRange, AreNamed, IsPlaced, IsBuilt, AreKnown, AreOwned, IsSteady, IsEarly, IsSound, IsGood}
+use Rattle.atl_state.specs.Joining.{joined, join_of, name_taken, is_full, new_faction}
+use Rattle.atl_state.proofs.EveryLaws.{every-insert, there-new, there-insert}
+
+-- ---- mail and reports
+
+module _ (w : Planet) (c : State) (mail reports : FinMap nat_cmp (List ℕ)) where
+  -- the campaign with other mail and other reports
+  abbrev posted : State
+  posted = record c { mail = mail; reports = reports }
+
+  posted-numbers : AreInRange w c → AreInRange w posted
+  posted-numbers old = record {
+    month = old.month;
+    few_factions = old.few_factions;
+    few_regions = old.few_regions;
+    few_units = old.few_units;
+    few_structures = old.few_structures;
+    next_unit_least = old.next_unit_least;
+    next_unit_most = old.next_unit_most;
+    factions = old.factions;
+    regions = old.regions;
+    units = old.units;
+    structures = old.structures;
+    books = old.books;
+  }
+
+  posted-names : AreNamed c → AreNamed posted
+  posted-names old = record { pass = old.pass; factions = old.factions; joined = old.joined; units = old.units; structures = old.structures }
+
+  posted-placed : AreKnown w c → Every (λ n u. IsPlaced w posted u) c.units
+  posted-placed old n u is = let p = old.units n u is in record { faction = p.faction; region = p.region; structure = p.structure; items = p.items; skills = p.skills }
+
+  posted-built : AreKnown w c → Every (λ n s. IsBuilt w posted s) c.structures
+  posted-built old n s is = let b = old.structures n s is in record { kind = b.kind; region = b.region; owner = b.owner }
+
+  posted-owned : AreOwned c → AreOwned posted
+  posted-owned old n s is = let o = old n s is in record { owned = o.owned; ownerless = o.ownerless }
+
+  module _ (senders : Every (λ n text. IsThere c.factions n) mail) (readers : Every (λ n text. IsThere c.factions n) reports) where
+    posted-known : AreKnown w c → AreKnown w posted
+    posted-known old = record { regions = old.regions; units = posted-placed old; structures = posted-built old; mail = senders; reports = readers }
+
+    posted-steady : IsSteady w c → IsSteady w posted
+    posted-steady old = record {
+      numbers = posted-numbers old.numbers;
+      names = posted-names old.names;
+      known = posted-known old.known;
+      next = record { factions = old.next.factions; structures = old.next.structures; units = old.next.units };
+      days = old.days;
+      gone = old.gone;
+      owners = posted-owned old.owners;
+      water = record { units = old.water.units; structures = old.water.structures };
+      guarded = old.guarded;
+    }
+
+    posted-sound : Every (λ n text. IsMailingOf n text × IsActive c n) mail → IsSound w c → IsSound w posted
+    unfolding total
+    posted-sound sent old = record {
+      steady = posted-steady old.steady;
+      men = old.men;
+      amounts = old.amounts;
+      gone = old.gone;
+      balances = old.balances;
+      mail = sent;
+    }
+
+-- a report of a faction that is there keeps a campaign sound
+pub IsSound-with_report : (w : Planet) (c : State) (faction : ℕ) (text : List ℕ) → IsThere c.factions faction → IsSound w c → IsSound w (with_report c faction text)
+IsSound-with_report w c faction text there old =
+    let known = old.steady.known in
+    posted-sound w c c.mail (insert c.reports faction text) known.mail (every-insert (λ n text. IsThere c.factions n) c.reports faction text there known.reports) old.mail old
+
+pub IsGood-with_report : (w : Planet) (c : State) (faction : ℕ) (text : List ℕ) → IsThere c.factions faction → IsGood w c → IsGood w (with_report c faction text)
+IsGood-with_report w c faction text there good = record {
+  sound = IsSound-with_report w c faction text there good.sound;
+  reported = λ n f is. there-insert c.reports faction n text (good.reported n f is);
+}
+
+-- a mailing of a faction that is not gone keeps a campaign good
+pub IsGood-with_mail : (w : Planet) (c : State) (faction : ℕ) (text : List ℕ) → IsMailingOf faction text → IsActive c faction → IsGood w c → IsGood w (with_mail c faction text)
+IsGood-with_mail w c faction text sent active good =
+    let known = good.sound.steady.known in
+    let (f, there, stays) = active in
+    record {
+      sound = posted-sound w c (insert c.mail faction text) c.reports (every-insert (λ n text. IsThere c.factions n) c.mail faction text (f, there) known.mail) known.reports
+          (every-insert (λ n text. IsMailingOf n text × IsActive c n) c.mail faction text (sent, active) good.sound.mail) good.sound;
+      reported = good.reported;
+    }
+
+-- where a faction was let in, it joined
+let_in : (taken full : Bool) (x y : State × (ℕ × ℕ)) → ◌≡◌ {A = Result (State × (ℕ × ℕ)) JoinFault} (cond taken (Err NameTaken) (cond full (Err Full) (Ok x))) (Ok y) → x ≡ y
+let_in true full x y e = cc
+let_in false true x y e = cc
+let_in false false x y e = cc
+
+-- a good campaign that a faction joined is good once the faction has its report
+pub IsGood-joined : (w : Planet) (name pass : List ℕ) (word : ℕ) (c d : State) (faction unit : ℕ) (text : List ℕ) → join_of w name pass word c ≡ Ok (d, (faction, unit)) → IsGood w c → IsSound w d → IsGood w (with_report d faction text)
+unfolding join_of joined
+IsGood-joined w name pass word c d faction unit text is good sound =
+    let same = let_in (name_taken c name) (is_full c) (joined w name pass word c, (c.next_faction, c.next_unit)) (d, (faction, unit)) is in
+    let member = new_faction c.next_faction name pass in
+    let whole : IsSound w d → IsGood w (with_report d faction text) = subst (λ (p : State × (ℕ × ℕ)). IsSound w p.0 → IsGood w (with_report p.0 p.1.0 text)) same (λ new. record {
+      sound = IsSound-with_report w (joined w name pass word c) c.next_faction text (there-new c.factions c.next_faction member) new;
+      reported = every-insert (λ n f. IsThere (insert c.reports c.next_faction text) n) c.factions c.next_faction member (there-new c.reports c.next_faction text) (λ n f is. there-insert c.reports c.next_faction n text (good.reported n f is));
+    }) in
+    whole sound
+
+-- ---- a good campaign is early
+
+set_guards : (flag : Bool) (men : ℕ) → 1 ≤ men → flag ≡ true → (flag && nat_lt 0 men) ≡ true
+set_guards flag men h set = let some : nat_lt 0 men ≡ true = grind (arith, nat_tests) in both_true set some
+
+pub IsEarly-good : (w : Planet) (c : State) → IsGood w c → IsEarly w c
+IsEarly-good w c good =
+    let sound = good.sound in
+    record {
+      steady = sound.steady;
+      flags = λ n u is m v there e f. sound.steady.guarded n u is m v there (set_guards u.holding.guard u.holding.men (sound.men n u is) e) (set_guards v.holding.guard v.holding.men (sound.men m v there) f);
+    }

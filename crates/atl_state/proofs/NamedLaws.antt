@@ -1,0 +1,140 @@
+-- The campaign that rows say has good names where they have, and amounts within their bound.
+use Rattle.std.proofs.Common.{◌≡◌, ℕ, suc, ◌≤◌, ◌+◌, ◌*◌, ◌&&◌, List, [], ◌∷◌, Bool, true, false, not, map, Some, refl, sym, ap, subst, ◌∙◌, arith, inl, inr}
+use Rattle.std.specs.Prelude.{ℤ, pos, negsuc}
+use Rattle.std.specs.List.{list_all, AllByRecursion, IsDistinct}
+use Rattle.std.specs.Ordering.{nat_cmp, eq_by_cmp}
+use Rattle.std.specs.Cmp.{eq_by_cmp_equiv}
+use Rattle.std.specs.Cmp.Lexicographic.{slice_cmp, nat_list_cmp_total}
+use Rattle.std.specs.FinMap.{FinMap, get}
+use Rattle.std.proofs.lemmas.Bool.{and_parts, cases_eq, false≢true}
+use Rattle.std.proofs.lemmas.Int.{ints}
+use Rattle.atl_tables.specs.Names.{name_ok, pass_ok}
+use Rattle.atl_tables.specs.Planet.{Planet}
+use Rattle.atl_state.specs.declared.parts.Parts.{Parts}
+use Rattle.atl_state.specs.declared.parts.StoredFaction.{StoredFaction}
+use Rattle.atl_state.specs.declared.parts.StoredUnit.{StoredUnit}
+use Rattle.atl_state.specs.declared.parts.StoredStructure.{StoredStructure}
+use Rattle.atl_state.specs.declared.parts.StoredBooks.{StoredBooks}
+use Rattle.atl_state.specs.declared.records.Faction.{Faction}
+use Rattle.atl_state.specs.Books.{no_amounts, IsGrid, IsWithin, entry_place, thing_place}
+use Rattle.atl_state.specs.Founding.{things_of}
+use Rattle.atl_state.specs.FromRows.{as_u32, faction_of, structure_of, unit_of, by_number, with_amount, put_amounts, head_of, state_of}
+use Rattle.atl_state.specs.Good.{AreNamed, AreAmountsWithin, amount_bound}
+use Rattle.atl_state.specs.RowRules.{faction_named, books_in_range, books_bound, is_within, HaveJoined, AreRowsNamed}
+use Rattle.atl_state.specs.Rows.{is_zero, amount_at}
+use Rattle.atl_state.proofs.BookLaws.{IsGrid-no_amounts, no_row, nothing_in}
+use Rattle.atl_state.proofs.BooksRowLaws.{IsBooked, its_amount, other_thing, other_entry, with_booked_row, entry_small, entry_of, thing_of}
+use Rattle.atl_state.proofs.FromRowLaws.{by_number-every, from_le, IsGrid-with_amount}
+use Rattle.atl_state.proofs.OrderLaws.{HasNumber, row_of, rows_found, same_count, each_passes}
+use Rattle.atl_state.proofs.SaidLaws.{RowsKeep, factions_apart, all_booked, ranges}
+
+-- ---- joined names
+
+abbrev same_text : List ℕ → List ℕ → Bool
+same_text a b = eq_by_cmp (slice_cmp nat_cmp) a b
+
+text_itself : (a : List ℕ) → same_text a a ≡ true
+text_itself a = (eq_by_cmp_equiv nat_list_cmp_total).refl a
+
+some_same : (f g : Faction) → Some f ≡ Some g → f ≡ g
+some_same f g e = cc
+
+module _ (m : FinMap nat_cmp Faction) where
+  abbrev number : StoredFaction → ℕ
+  number r = as_u32 r.number
+
+  abbrev Found : StoredFaction → Type 0
+  Found r = get m (number r) ≡ Some (faction_of r)
+
+  its_name : (r : StoredFaction) (n : ℕ) (f : Faction) → Found r → number r ≡ n → get m n ≡ Some f → r.joined_as ≡ f.joined_as
+  its_name r n f found e is = ap (λ (x : Faction). x.joined_as) (some_same (faction_of r) f (sym found ∙ ap (get m) e ∙ is))
+
+  later_differs : (name : List ℕ) (rows : List StoredFaction) (n : ℕ) (f : Faction) → AllByRecursion (λ y. same_text name y ≡ false) (map (λ r. r.joined_as) rows) → AllByRecursion Found rows → HasNumber number faction_of rows n → get m n ≡ Some f
+      → same_text name f.joined_as ≡ false
+  later_differs name [] n f d all there is = absurd there
+  later_differs name (r ∷ rows) n f d all (inl e) is = ap (same_text name) (sym (its_name r n f all.0 e is)) ∙ d.0
+  later_differs name (r ∷ rows) n f d all (inr there) is = later_differs name rows n f d.1 all.1 there is
+
+  clash : (a b : List ℕ) → a ≡ b → same_text a b ≡ false → ⊥
+  clash a b e d = false≢true (sym (ap (same_text a) e ∙ d) ∙ text_itself a)
+
+  one_name : (rows : List StoredFaction) (n k : ℕ) (f g : Faction) → HaveJoined rows → AllByRecursion Found rows → HasNumber number faction_of rows n → HasNumber number faction_of rows k → get m n ≡ Some f → get m k ≡ Some g → f.joined_as ≡ g.joined_as → n ≡ k
+  unfolding IsDistinct
+  one_name [] n k f g d all a b is at e = absurd a
+  one_name (r ∷ rows) n k f g d all (inl x) (inl y) is at e = sym x ∙ y
+  one_name (r ∷ rows) n k f g d all (inl x) (inr y) is at e = absurd (clash r.joined_as g.joined_as (its_name r n f all.0 x is ∙ e) (later_differs r.joined_as rows k g d.0 all.1 y at))
+  one_name (r ∷ rows) n k f g d all (inr x) (inl y) is at e = absurd (clash r.joined_as f.joined_as (its_name r k g all.0 y at ∙ sym e) (later_differs r.joined_as rows n f d.0 all.1 x is))
+  one_name (r ∷ rows) n k f g d all (inr x) (inr y) is at e = one_name rows n k f g d.1 all.1 x y is at e
+
+-- ---- amounts
+
+is_in : (bound : ℕ) (z : ℤ) → is_within bound z ≡ true → IsWithin bound z
+is_in bound (pos n) h = let most : n ≤ bound = from_le n bound h in record { most = omega (arith, ints); least = omega (arith, ints) }
+is_in bound (negsuc n) h = let most : suc n ≤ bound = from_le (suc n) bound h in record { most = omega (arith, ints); least = omega (arith, ints) }
+
+abbrev AreCells : ℕ → List (List ℤ) → Type 0
+AreCells bound books = (entry thing : ℕ) → IsWithin bound (amount_at books entry thing)
+
+cells-with : (things bound : ℕ) (books : List (List ℤ)) (r : StoredBooks) → IsGrid things books → IsBooked things r → IsWithin bound r.amount → AreCells bound books → AreCells bound (with_amount books (entry_of r) (thing_of r) r.amount)
+cells-with things bound books r g booked here old f u =
+    let small = entry_small things r booked in
+    elim (cases_eq u (thing_of r)) [
+      | inl t ↦
+          elim (cases_eq f (entry_of r)) [
+            | inl e ↦
+                subst (IsWithin bound) (sym (ap (λ k. amount_at (with_amount books (entry_of r) (thing_of r) r.amount) f k) t ∙ ap (λ k. amount_at (with_amount books (entry_of r) (thing_of r) r.amount) k (thing_of r)) e ∙ its_amount things books g (entry_of r) (thing_of r) r.amount small booked.there)) here
+            | inr apart ↦ subst (IsWithin bound) (sym (other_entry things books g (entry_of r) (thing_of r) r.amount small booked.there f u apart)) (old f u)
+          ]
+      | inr apart ↦ subst (IsWithin bound) (sym (other_thing things books g (entry_of r) (thing_of r) r.amount small booked.there f u apart)) (old f u)
+    ]
+
+cells-put : (things bound : ℕ) (rows : List StoredBooks) (books : List (List ℤ)) → IsGrid things books → AllByRecursion (IsBooked things) rows → AllByRecursion (λ r. IsWithin bound r.amount) rows → AreCells bound books → AreCells bound (put_amounts rows books)
+cells-put things bound [] books g booked here old = old
+cells-put things bound (r ∷ rows) books g booked here old =
+    subst (λ b. AreCells bound (put_amounts rows b)) (sym (with_booked_row things books r booked.0))
+    (cells-put things bound rows (with_amount books (entry_of r) (thing_of r) r.amount) (IsGrid-with_amount things books (entry_of r) (thing_of r) r.amount g) booked.1 here.1 (cells-with things bound books r g booked.0 here.0 old))
+
+no_cells : (things bound : ℕ) → AreCells bound (no_amounts things)
+no_cells things bound f u =
+    let none : amount_at (no_amounts things) f u ≡ pos 0 = nothing_in (λ row. amount_at (row ∷ []) f 0 ≡ pos 0) things u (no_row f) refl in
+    subst (IsWithin bound) (sym none) (record { most = omega (arith, ints); least = omega (arith, ints) })
+
+module _ (w : Planet) (p : Parts) (k : RowsKeep w p) where
+  factions : FinMap nat_cmp Faction
+  factions = by_number (λ r. as_u32 r.number) faction_of p.factions
+
+  pub AreNamed-said : AreRowsNamed p → AreNamed (state_of w p)
+  unfolding state_of
+  AreNamed-said h =
+      let pass = pass_ok (head_of p).pass in
+      let people = list_all faction_named p.factions in
+      let units = list_all (λ (r : StoredUnit). name_ok r.name) p.units in
+      let structures = list_all (λ (r : StoredStructure). name_ok r.name) p.structures in
+      let outer = and_parts ((pass && people) && units) structures h.texts in
+      let middle = and_parts (pass && people) units outer.0 in
+      let inner = and_parts pass people middle.0 in
+      let found = rows_found (λ r. as_u32 r.number) faction_of p.factions (factions_apart w p k) in
+      record {
+        pass = inner.0;
+        factions = by_number-every (λ r. as_u32 r.number) faction_of (λ n f. (name_ok f.joined_as ≡ true) × (name_ok f.name ≡ true) × (pass_ok f.pass ≡ true)) faction_named
+            (λ r e. let last = and_parts (name_ok r.joined_as && name_ok r.name) (pass_ok r.pass) e in let first = and_parts (name_ok r.joined_as) (name_ok r.name) last.0 in (first.0, first.1, last.1)) p.factions inner.1;
+        joined = λ n f is m g at e.
+            one_name (by_number (λ r. as_u32 r.number) faction_of p.factions) p.factions n m f g h.joined found (row_of (λ r. as_u32 r.number) faction_of p.factions n (f, is)) (row_of (λ r. as_u32 r.number) faction_of p.factions m (g, at)) is at e;
+        units = by_number-every (λ r. as_u32 r.number) (unit_of p.has) (λ n u. name_ok u.holding.name ≡ true) (λ r. name_ok r.name) (λ r e. e) p.units middle.1;
+        structures = by_number-every (λ r. as_u32 r.number) structure_of (λ n s. name_ok s.name ≡ true) (λ r. name_ok r.name) (λ r e. e) p.structures outer.1;
+      }
+
+  same_bound : amount_bound (state_of w p) ≡ books_bound p
+  unfolding state_of
+  same_bound = ap (λ n. 200000000000000 * (as_u32 (head_of p).month + 1) + 1000000000 * n) (same_count (λ r. as_u32 r.number) faction_of p.factions (factions_apart w p k))
+
+  cells : AreCells (books_bound p) (put_amounts p.books (no_amounts (things_of w)))
+  cells =
+      cells-put (things_of w) (books_bound p) p.books (no_amounts (things_of w)) (IsGrid-no_amounts (things_of w)) (all_booked w p k)
+      (each_passes (books_in_range (books_bound p)) (λ r. IsWithin (books_bound p) r.amount) (λ r h. is_in (books_bound p) r.amount (and_parts (not (is_zero r.amount)) (is_within (books_bound p) r.amount) h).1) p.books (ranges w p k).books)
+      (no_cells (things_of w) (books_bound p))
+
+  pub AreAmountsWithin-said : AreAmountsWithin (state_of w p)
+  unfolding state_of
+  AreAmountsWithin-said e t =
+      subst (λ bound. IsWithin bound (amount_at (put_amounts p.books (no_amounts (things_of w))) (entry_place e) (thing_place t))) (sym same_bound) (cells (entry_place e) (thing_place t))

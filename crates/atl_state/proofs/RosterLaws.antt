@@ -1,0 +1,53 @@
+-- Units and their lists as they are made of rows.
+use Rattle.std.proofs.Common.{◌≡◌, ℕ, Bool, true, false, T, List, [], ◌∷◌, ◌++◌, Option, Some, None, refl, sym, ap, subst, ◌∙◌}
+use Rattle.std.specs.Prelude.{is_some, option_map, cond}
+use Rattle.std.specs.declared.cmp.Ordering.TheVariants.{Less, Equal, Greater}
+use Rattle.std.specs.Ordering.{nat_cmp, is_eq, is_lt, ordering_reverse}
+use Rattle.std.specs.declared.cmp.Ordering.{Ordering}
+use Rattle.std.specs.Cmp.{nat_cmp_total}
+use Rattle.std.specs.FinMap.{FinMap, get, entries, find, is_sorted, entries_sorted, get-entries}
+use Rattle.std.specs.FinMap.Entries.{below_all}
+use Rattle.std.specs.FinSet as set
+use Rattle.std.proofs.lemmas.Bool.{and_parts, false≢true}
+use Rattle.atl_tables.specs.Sums.{mapped}
+use Rattle.atl_state.specs.declared.records.Unit.{Unit}
+use Rattle.atl_state.specs.UnitPlaces.{AreUnits}
+use Rattle.atl_state.proofs.EveryLaws.{get-mapped}
+
+there_either : {V W : Type 0} (f : V → W) (o : Option V) → is_some (option_map f o) ≡ is_some o
+there_either f None = refl
+there_either f (Some v) = refl
+
+-- units with nothing marked
+pub AreUnits-of : (units : FinMap nat_cmp Unit) → AreUnits (record { values = units; marks = set.empty }) (record { values = mapped (λ _. tt {0}) units; marks = set.empty })
+AreUnits-of units = record {
+  same = λ n. ap is_some (get-mapped (λ (_ : Unit). tt {0}) units n) ∙ there_either (λ (_ : Unit). tt {0}) (get units n);
+  within = λ n e. absurd (false≢true (sym (set.contains-empty nat_cmp n) ∙ e));
+}
+
+-- ---- a map whose entries come one after another
+
+is_true : (b : Bool) → T b → b ≡ true
+is_true true h = refl
+is_true false h = absurd h
+
+is_less : (o : Ordering) → is_lt o ≡ true → o ≡ Less
+is_less Less h = refl
+is_less Equal h = absurd (false≢true h)
+is_less Greater h = absurd (false≢true h)
+
+above : (k q : ℕ) → is_lt (nat_cmp q k) ≡ true → is_eq (nat_cmp k q) ≡ false
+above k q h = ap is_eq (nat_cmp_total.antisymm k q) ∙ ap (λ o. is_eq (ordering_reverse o)) (is_less (nat_cmp q k) h)
+
+module _ {W : Type 0} where
+  is_below : (q : ℕ) (es fs : List (ℕ × W)) (k : ℕ) (w : W) → below_all nat_cmp q (es ++ (k, w) ∷ fs) ≡ true → is_lt (nat_cmp q k) ≡ true
+  is_below q [] fs k w h = (and_parts _ _ h).0
+  is_below q (e ∷ es) fs k w h = is_below q es fs k w (and_parts _ _ h).1
+
+  not_in_front : (es fs : List (ℕ × W)) (k : ℕ) (w : W) → is_sorted nat_cmp (es ++ (k, w) ∷ fs) ≡ true → find nat_cmp k es ≡ None
+  not_in_front [] fs k w h = refl
+  not_in_front (e ∷ es) fs k w h = ap (λ b. cond b (Some e.1) (find nat_cmp k es)) (above k e.0 (is_below e.0 es fs k w (and_parts _ _ h).0)) ∙ not_in_front es fs k w (and_parts _ _ h).1
+
+  -- the entry that comes next has a number of its own
+  pub comes_new : (m n : FinMap nat_cmp W) (k : ℕ) (w : W) (fs : List (ℕ × W)) → entries m ++ (k, w) ∷ fs ≡ entries n → get m k ≡ None
+  comes_new m n k w fs h = get-entries m k ∙ not_in_front (entries m) fs k w (is_true _ (subst (λ es. T (is_sorted nat_cmp es)) (sym h) (entries_sorted n)))

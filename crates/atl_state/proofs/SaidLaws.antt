@@ -1,0 +1,450 @@
+-- Rows that keep the rules are those of the campaign that they say.
+use Rattle.std.proofs.Common.{◌≡◌, ◌≢◌, ◌==◌, ℕ, zero, suc, ◌≤◌, ◌<◌, ◌+◌, ◌&&◌, ◌||◌, ◌⊎◌, List, [], ◌∷◌, Bool, true, false, not, cond, Some, None, Option, nat_le, nat_lt, refl, sym, ap, subst, ◌∙◌, arith, inl, inr}
+use Rattle.std.specs.Prelude.{ℤ, pos, negsuc, min, is_some, filter, slice_index_or}
+use Rattle.std.specs.List.{list_all, slice_get, AllByRecursion}
+use Rattle.std.specs.List.Sorted.{IsPermutation}
+use Rattle.std.specs.Option.{option_map_or}
+use Rattle.std.specs.Ordering.{nat_cmp}
+use Rattle.std.specs.FinMap.{FinMap, get, entries}
+use Rattle.std.proofs.lemmas.Bool.{and_parts, false≢true}
+use Rattle.std.proofs.lemmas.Bool.Decides.{nat_tests}
+use Rattle.std.proofs.lemmas.List.Sorted.{IsPermutation-refl}
+use Rattle.atl_tables.specs.Limits.{most_amount, last_region}
+use Rattle.atl_tables.specs.Planet.{Planet, IsWorld}
+use Rattle.atl_tables.specs.declared.world.Kind.{Kind}
+use Rattle.atl_orders.specs.Limits.{last_faction}
+use Rattle.atl_state.specs.declared.parts.Parts.{Parts}
+use Rattle.atl_state.specs.declared.parts.StoredHead.{StoredHead}
+use Rattle.atl_state.specs.declared.parts.StoredFaction.{StoredFaction}
+use Rattle.atl_state.specs.declared.parts.StoredRegion.{StoredRegion}
+use Rattle.atl_state.specs.declared.parts.StoredUnit.{StoredUnit}
+use Rattle.atl_state.specs.declared.parts.StoredHas.{StoredHas}
+use Rattle.atl_state.specs.declared.parts.StoredStructure.{StoredStructure}
+use Rattle.atl_state.specs.declared.parts.StoredBooks.{StoredBooks}
+use Rattle.atl_state.specs.declared.records.Unit.{Unit}
+use Rattle.atl_state.specs.Books.{no_amounts}
+use Rattle.atl_state.specs.Founding.{things_of}
+use Rattle.atl_state.specs.FromRows.{as_u32, as_u16, is_set, is_of, is_entry, faction_of, region_of, structure_of, unit_of, things_had, by_number, put_amounts, no_head, head_of, state_of}
+use Rattle.atl_state.specs.Good.{Every, IsThere, IsPlaced, IsBuilt, AreKnown, AreDays, size_of}
+use Rattle.atl_state.specs.Limits.{last_month, last_unit, men_limit, holding_limit, most_structures, entry_count}
+use Rattle.atl_state.specs.RowRules.{one_key, is_from, is_one_head, head_in_range, faction_in_range, region_in_range, unit_in_range, has_in_range, structure_in_range, books_in_range, books_bound, is_within, faction_key, region_key, unit_key, structure_key, mail_key, report_key, AreRowsInRange, is_of_unit, is_booked}
+use Rattle.atl_state.specs.Rows.{flag, is_zero, rows_by, faction_row, region_row, unit_row, structure_row, mail_row, report_row, has_rows, books_rows, AreRowsOf, rows_of}
+use Rattle.atl_state.proofs.AssemblyLaws.{from_range}
+use Rattle.atl_state.proofs.BooksRowLaws.{IsBooked, books_order}
+use Rattle.atl_state.proofs.FromRowLaws.{in_range, from_le, by_number-every, unit_ranges, number_ranges, head_ranges, NumberRanges}
+use Rattle.atl_state.proofs.HasLaws.{IsWhole, IsKeyed, IsExact, IsOfUnits, Has, same, ties_itself, things_apart, has_order}
+use Rattle.atl_state.proofs.OrderLaws.{Apart, Apart-keys, rows_order, rows_there, rows_found, each_row, row_of, HasNumber, each_passes, each_with, each_so}
+
+-- ---- numbers that are read as they are
+
+min_less : (n m : ℕ) → min n m < m → min n m ≡ n
+min_less n m h = grind arith
+
+pub whole_below : (z : ℤ) → as_u32 z < 4294967295 → IsWhole z
+whole_below (pos n) h = ap pos (sym (min_less n 4294967295 h))
+whole_below (negsuc n) h = absurd (omega arith)
+
+whole16 : (z : ℤ) → as_u16 z < 65535 → z ≡ pos (as_u16 z)
+whole16 (pos n) h = ap pos (sym (min_less n 65535 h))
+whole16 (negsuc n) h = absurd (omega arith)
+
+flag_whole : (z : ℤ) → is_from 0 1 z ≡ true → flag (is_set z) ≡ z
+flag_whole (pos zero) h = refl
+flag_whole (pos (suc zero)) h = refl
+flag_whole (pos (suc (suc n))) h = let most = from_le (suc (suc n)) 1 (and_parts (nat_le 0 (suc (suc n))) (nat_le (suc (suc n)) 1) h).1 in absurd (omega arith)
+flag_whole (negsuc n) h = absurd (false≢true h)
+
+-- two rows with one key that is a number
+one_apart : (x y : ℤ) → IsWhole x → IsWhole y → same (one_key x) (one_key y) ≡ false → as_u32 y ≢ as_u32 x
+one_apart x y a b d e =
+    let one : x ≡ y = a ∙ ap pos (sym e) ∙ sym b in
+    false≢true (sym (ap (λ z. same (one_key x) (one_key z)) one ∙ d) ∙ ties_itself (one_key x))
+
+there_below : {V : Type 0} (m : FinMap nat_cmp V) (n most : ℕ) → Every (λ k v. k ≤ most) m → IsThere m n → n ≤ most
+there_below m n most every there = every n there.0 there.1
+
+-- 0, or the number of something that is there
+none_or_below : {V : Type 0} (m : FinMap nat_cmp V) (n most : ℕ) → Every (λ k v. k ≤ most) m → (n ≢ 0 → IsThere m n) → n ≤ most
+none_or_below m zero most every there = omega arith
+none_or_below m (suc n) most every there = there_below m (suc n) most every (there (λ e. absurd (omega arith)))
+
+-- ---- the rules that are needed
+pub record RowsKeep (w : Planet) (p : Parts) : Type 0 where
+  pub world : IsWorld w
+  pub one : is_one_head p.campaign ≡ true
+  pub range : AreRowsInRange w p
+  pub known : AreKnown w (state_of w p)
+  pub held : list_all (is_of_unit (state_of w p)) p.has ≡ true
+  pub days : AreDays (state_of w p)
+  pub booked : list_all (is_booked w) p.books ≡ true
+
+-- ---- the campaign's own row
+
+exactly_one : (z : ℤ) → is_from 1 1 z ≡ true → z ≡ pos 1
+exactly_one z h = let range = from_range 1 1 z (omega arith) h in let n : as_u32 z ≡ 1 = omega (arith, range.1, range.2) in range.0 ∙ ap pos n
+
+abbrev head_as_read : StoredHead → StoredHead
+head_as_read h = record { id = pos 1; format = pos 1; month = pos (as_u32 h.month); next_faction = pos (as_u32 h.next_faction); next_unit = pos (as_u32 h.next_unit); next_structure = pos (as_u32 h.next_structure); pass = h.pass }
+
+one_head : (rows : List StoredHead) → is_one_head rows ≡ true → head_in_range (slice_index_or rows 0 no_head) ≡ true → head_as_read (slice_index_or rows 0 no_head) ∷ [] ≡ rows
+one_head [] e r = absurd (false≢true e)
+one_head (h ∷ []) e r =
+    let both = and_parts (is_from 1 1 h.id) (is_from 1 1 h.format) e in
+    let parts = head_ranges h r in
+    let id = exactly_one h.id both.0 in
+    let format = exactly_one h.format both.1 in
+    let month = (from_range 0 last_month h.month (omega arith) parts.month).0 in
+    let faction = (from_range 1 (last_faction + 1) h.next_faction (omega arith) parts.next_faction).0 in
+    let unit = (from_range 1 (last_unit + 1) h.next_unit (omega arith) parts.next_unit).0 in
+    let structure = (from_range 1 (most_structures + 1) h.next_structure (omega arith) parts.next_structure).0 in
+    λ i. record { id = sym id i; format = sym format i; month = sym month i; next_faction = sym faction i; next_unit = sym unit i; next_structure = sym structure i; pass = h.pass } ∷ []
+one_head (h ∷ other ∷ rows) e r = absurd (false≢true e)
+
+-- ---- lists of facts
+
+all_forall : {R : Type 0} (P : ℕ → R → Type 0) (rows : List R) → ((n : ℕ) → AllByRecursion (P n) rows) → AllByRecursion (λ r. (n : ℕ) → P n r) rows
+all_forall P [] h = tt
+all_forall P (r ∷ rows) h = (λ n. (h n).0, all_forall P rows (λ n. (h n).1))
+
+first_kept : (n sort : ℕ) (Q : StoredHas → Type 0) (h : StoredHas) (rows : List StoredHas) (b : Bool) → is_of n sort h ≡ b → AllByRecursion Q (cond b (h ∷ rows) rows) → (is_of n sort h ≡ true → Q h) × AllByRecursion Q rows
+first_kept n sort Q h rows true e all = (λ _. all.0, all.1)
+first_kept n sort Q h rows false e all = (λ of. absurd (false≢true (sym e ∙ of)), all)
+
+unfiltered : (n sort : ℕ) (Q : StoredHas → Type 0) (has : List StoredHas) → AllByRecursion Q (filter (is_of n sort) has) → AllByRecursion (λ h. is_of n sort h ≡ true → Q h) has
+unfiltered n sort Q [] all = tt
+unfiltered n sort Q (h ∷ has) all =
+    let first = first_kept n sort Q h (filter (is_of n sort) has) (is_of n sort h) refl all in
+    (first.0, unfiltered n sort Q has first.1)
+
+some_there : {V : Type 0} (o : Option V) → is_some o ≡ true → (v : V) × (o ≡ Some v)
+some_there None h = absurd (false≢true h)
+some_there (Some v) h = (v, refl)
+
+or_cases : (b c : Bool) → (b || c) ≡ true → (b ≡ true) ⊎ (c ≡ true)
+or_cases true c h = inl refl
+or_cases false c h = inr h
+
+not_zero : (z : ℤ) → IsWhole z → 1 ≤ as_u32 z → is_zero z ≡ false
+not_zero (pos n) whole h = let apart : n ≢ 0 = λ e. let zero_read : as_u32 (pos n) ≡ 0 = ap (λ m. as_u32 (pos m)) e in omega arith in grind (arith, nat_tests)
+not_zero (negsuc n) whole h = refl
+
+is_of_itself : (h : StoredHas) → is_of (as_u32 h.unit) (as_u32 h.sort) h ≡ true
+is_of_itself h =
+    let unit : (as_u32 h.unit == as_u32 h.unit) ≡ true = grind (arith, nat_tests) in
+    let sort : (as_u32 h.sort == as_u32 h.sort) ≡ true = grind (arith, nat_tests) in
+    ap (λ b. b && (as_u32 h.sort == as_u32 h.sort)) unit ∙ sort
+
+module _ (w : Planet) (p : Parts) (k : RowsKeep w p) where
+  pub ranges : NumberRanges w p
+  ranges = number_ranges w p k.range.numbers
+
+  -- ---- factions
+  faction_number : (r : StoredFaction) → faction_in_range r ≡ true → (IsWhole r.number) × (as_u32 r.number ≤ last_faction)
+  faction_number r h = let range = from_range 1 last_faction r.number (omega arith) (and_parts (is_from 1 last_faction r.number) (is_from 0 1 r.gone) h).0 in (range.0, range.2)
+
+  pub factions_apart : Apart (λ r. as_u32 r.number) p.factions
+  factions_apart = Apart-keys faction_key (λ r. as_u32 r.number) same (λ r. IsWhole r.number) (λ r s. one_apart r.number s.number) p.factions (each_passes faction_in_range (λ r. IsWhole r.number) (λ r h. (faction_number r h).0) p.factions ranges.factions) k.range.keys.factions
+
+  few_factions : Every (λ n f. n ≤ last_faction) (by_number (λ r. as_u32 r.number) faction_of p.factions)
+  few_factions = by_number-every (λ r. as_u32 r.number) faction_of (λ n f. n ≤ last_faction) faction_in_range (λ r h. (faction_number r h).1) p.factions ranges.factions
+
+  same_faction : (r : StoredFaction) → faction_in_range r ≡ true → faction_row (as_u32 r.number) (faction_of r) ≡ r
+  same_faction r h =
+      let gone = flag_whole r.gone (and_parts (is_from 1 last_faction r.number) (is_from 0 1 r.gone) h).1 in
+      λ i. record { number = sym (faction_number r h).0 i; joined_as = r.joined_as; name = r.name; pass = r.pass; gone = gone i }
+
+  factions_said : IsPermutation (rows_by faction_row (entries (by_number (λ r. as_u32 r.number) faction_of p.factions))) p.factions
+  factions_said = rows_order (λ r. as_u32 r.number) faction_of faction_row p.factions factions_apart (each_passes faction_in_range (λ r. faction_row (as_u32 r.number) (faction_of r) ≡ r) same_faction p.factions ranges.factions)
+
+  -- ---- regions
+  few_regions : (n : ℕ) → IsThere (by_number (λ r. as_u32 r.number) region_of p.regions) n → n ≤ last_region
+  unfolding state_of
+  few_regions n there = let known = (k.known.regions n).0 there in (k.world.regions n known.0 known.1).number_most
+
+  regions_whole : AllByRecursion (λ r. IsWhole r.number) p.regions
+  regions_whole =
+      each_so (λ r. IsThere (by_number (λ r. as_u32 r.number) region_of p.regions) (as_u32 r.number)) (λ r. IsWhole r.number) (λ r there. let few = few_regions (as_u32 r.number) there in whole_below r.number (omega arith)) p.regions
+      (rows_there (λ r. as_u32 r.number) region_of p.regions)
+
+  regions_apart : Apart (λ r. as_u32 r.number) p.regions
+  regions_apart = Apart-keys region_key (λ r. as_u32 r.number) same (λ r. IsWhole r.number) (λ r s. one_apart r.number s.number) p.regions regions_whole k.range.keys.regions
+
+  same_region : (r : StoredRegion) → IsWhole r.number → region_in_range r ≡ true → region_row (as_u32 r.number) (region_of r) ≡ r
+  same_region r number h =
+      let parts = and_parts (is_from 0 most_amount r.peasants) (is_from 0 most_amount r.money) h in
+      let peasants = (from_range 0 most_amount r.peasants (omega arith) parts.0).0 in
+      let money = (from_range 0 most_amount r.money (omega arith) parts.1).0 in
+      λ i. record { number = sym number i; peasants = sym peasants i; money = sym money i }
+
+  regions_said : IsPermutation (rows_by region_row (entries (by_number (λ r. as_u32 r.number) region_of p.regions))) p.regions
+  regions_said =
+      rows_order (λ r. as_u32 r.number) region_of region_row p.regions regions_apart
+      (each_with (λ r. IsWhole r.number) (λ r. region_in_range r ≡ true) (λ r. region_row (as_u32 r.number) (region_of r) ≡ r) same_region p.regions regions_whole (each_passes region_in_range (λ r. region_in_range r ≡ true) (λ r h. h) p.regions ranges.regions))
+
+  -- ---- units and structures: their numbers
+  unit_number : (r : StoredUnit) → unit_in_range r ≡ true → (IsWhole r.number) × (as_u32 r.number ≤ last_unit)
+  unit_number r h = let range = from_range 1 last_unit r.number (omega arith) (unit_ranges r h).number in (range.0, range.2)
+
+  units_apart : Apart (λ r. as_u32 r.number) p.units
+  units_apart = Apart-keys unit_key (λ r. as_u32 r.number) same (λ r. IsWhole r.number) (λ r s. one_apart r.number s.number) p.units (each_passes unit_in_range (λ r. IsWhole r.number) (λ r h. (unit_number r h).0) p.units ranges.units) k.range.keys.units
+
+  few_units : Every (λ n u. n ≤ last_unit) (by_number (λ r. as_u32 r.number) (unit_of p.has) p.units)
+  few_units = by_number-every (λ r. as_u32 r.number) (unit_of p.has) (λ n u. n ≤ last_unit) unit_in_range (λ r h. (unit_number r h).1) p.units ranges.units
+
+  structure_number : (r : StoredStructure) → structure_in_range w r ≡ true → (IsWhole r.number) × (as_u32 r.number ≤ most_structures)
+  structure_number r h = let range = from_range 1 most_structures r.number (omega arith) (and_parts (is_from 1 most_structures r.number) (is_from 1 (size_of w (as_u16 r.kind)) r.done) h).0 in (range.0, range.2)
+
+  structures_apart : Apart (λ r. as_u32 r.number) p.structures
+  structures_apart =
+      Apart-keys structure_key (λ r. as_u32 r.number) same (λ r. IsWhole r.number) (λ r s. one_apart r.number s.number) p.structures (each_passes (structure_in_range w) (λ r. IsWhole r.number) (λ r h. (structure_number r h).0) p.structures ranges.structures)
+      k.range.keys.structures
+
+  few_structures : Every (λ n s. n ≤ most_structures) (by_number (λ r. as_u32 r.number) structure_of p.structures)
+  few_structures = by_number-every (λ r. as_u32 r.number) structure_of (λ n s. n ≤ most_structures) (structure_in_range w) (λ r h. (structure_number r h).1) p.structures ranges.structures
+
+  -- ---- units
+  same_unit : (r : StoredUnit) → unit_in_range r ≡ true → IsPlaced w (state_of w p) (unit_of p.has r) → unit_row (as_u32 r.number) (unit_of p.has r) ≡ r
+  unfolding state_of
+  same_unit r h placed =
+      let parts = unit_ranges r h in
+      let faction_few = there_below (by_number (λ r. as_u32 r.number) faction_of p.factions) (as_u32 r.faction) last_faction few_factions placed.faction in
+      let region_few = few_regions (as_u32 r.region) placed.region in
+      let structure_few = none_or_below (by_number (λ r. as_u32 r.number) structure_of p.structures) (as_u32 r.structure) most_structures few_structures (λ apart. let there = placed.structure apart in (there.0, there.1)) in
+      let faction = whole_below r.faction (omega arith) in
+      let region = whole_below r.region (omega arith) in
+      let structure = whole_below r.structure (omega arith) in
+      let men = (from_range 1 men_limit r.men (omega arith) parts.men).0 in
+      let money = (from_range 0 holding_limit r.money (omega arith) parts.money).0 in
+      let guard = flag_whole r.guard parts.guard in
+      λ i. record { number = sym (unit_number r h).0 i; faction = sym faction i; name = r.name; region = sym region i; structure = sym structure i; men = sym men i; money = sym money i; guard = guard i }
+
+  units_placed : AllByRecursion (λ r. IsPlaced w (state_of w p) (unit_of p.has r)) p.units
+  unfolding state_of
+  units_placed = each_row (λ r. as_u32 r.number) (unit_of p.has) (λ n u. IsPlaced w (state_of w p) u) p.units units_apart k.known.units
+
+  units_said : IsPermutation (rows_by unit_row (entries (by_number (λ r. as_u32 r.number) (unit_of p.has) p.units))) p.units
+  units_said =
+      rows_order (λ r. as_u32 r.number) (unit_of p.has) unit_row p.units units_apart
+      (each_with (λ r. unit_in_range r ≡ true) (λ r. IsPlaced w (state_of w p) (unit_of p.has r)) (λ r. unit_row (as_u32 r.number) (unit_of p.has r) ≡ r) same_unit p.units (each_passes unit_in_range (λ r. unit_in_range r ≡ true) (λ r h. h) p.units ranges.units) units_placed)
+
+  -- ---- structures
+  size_small : (o : Option Kind) → ((x : Kind) → o ≡ Some x → x.size ≤ 999999) → option_map_or (λ (x : Kind). x.size) o 999999 ≤ 999999
+  size_small None h = omega arith
+  size_small (Some x) h = h x refl
+
+  small_size : (kind : ℕ) → size_of w kind ≤ 999999
+  small_size kind = size_small (slice_get w.kinds kind) (λ x is. (k.world.kinds kind x is).size)
+
+  same_structure : (r : StoredStructure) → structure_in_range w r ≡ true → IsBuilt w (state_of w p) (structure_of r) → structure_row (as_u32 r.number) (structure_of r) ≡ r
+  unfolding state_of
+  same_structure r h built =
+      let small = small_size (as_u16 r.kind) in
+      let few_kinds = k.world.few_kinds in
+      let kind_few = built.kind in
+      let region_few = few_regions (as_u32 r.region) built.region in
+      let owner_few = none_or_below (by_number (λ r. as_u32 r.number) (unit_of p.has) p.units) (as_u32 r.owner) last_unit few_units built.owner in
+      let kind = whole16 r.kind (omega arith) in
+      let region = whole_below r.region (omega arith) in
+      let owner = whole_below r.owner (omega arith) in
+      let done = (from_range 1 (size_of w (as_u16 r.kind)) r.done (omega arith) (and_parts (is_from 1 most_structures r.number) (is_from 1 (size_of w (as_u16 r.kind)) r.done) h).1).0 in
+      λ i. record { number = sym (structure_number r h).0 i; kind = sym kind i; name = r.name; region = sym region i; done = sym done i; owner = sym owner i }
+
+  structures_built : AllByRecursion (λ r. IsBuilt w (state_of w p) (structure_of r)) p.structures
+  unfolding state_of
+  structures_built = each_row (λ r. as_u32 r.number) structure_of (λ n s. IsBuilt w (state_of w p) s) p.structures structures_apart k.known.structures
+
+  structures_said : IsPermutation (rows_by structure_row (entries (by_number (λ r. as_u32 r.number) structure_of p.structures))) p.structures
+  structures_said =
+      rows_order (λ r. as_u32 r.number) structure_of structure_row p.structures structures_apart
+      (each_with (λ r. structure_in_range w r ≡ true) (λ r. IsBuilt w (state_of w p) (structure_of r)) (λ r. structure_row (as_u32 r.number) (structure_of r) ≡ r) same_structure p.structures
+      (each_passes (structure_in_range w) (λ r. structure_in_range w r ≡ true) (λ r h. h) p.structures ranges.structures) structures_built)
+
+  -- ---- mail and reports
+  mail_whole : AllByRecursion (λ r. IsWhole r.faction) p.mail
+  unfolding state_of
+  mail_whole =
+      each_so (λ r. IsThere (by_number (λ r. as_u32 r.faction) (λ r. r.text) p.mail) (as_u32 r.faction)) (λ r. IsWhole r.faction)
+      (λ r there. let few = there_below (by_number (λ r. as_u32 r.number) faction_of p.factions) (as_u32 r.faction) last_faction few_factions (k.known.mail (as_u32 r.faction) there.0 there.1) in whole_below r.faction (omega arith)) p.mail
+      (rows_there (λ r. as_u32 r.faction) (λ r. r.text) p.mail)
+
+  mail_said : IsPermutation (rows_by mail_row (entries (by_number (λ r. as_u32 r.faction) (λ r. r.text) p.mail))) p.mail
+  mail_said =
+      rows_order (λ r. as_u32 r.faction) (λ r. r.text) mail_row p.mail
+      (Apart-keys mail_key (λ r. as_u32 r.faction) same (λ r. IsWhole r.faction) (λ r s. one_apart r.faction s.faction) p.mail mail_whole k.range.keys.mail)
+      (each_so (λ r. IsWhole r.faction) (λ r. mail_row (as_u32 r.faction) r.text ≡ r) (λ r whole. λ i. record { faction = sym whole i; text = r.text }) p.mail mail_whole)
+
+  reports_whole : AllByRecursion (λ r. IsWhole r.faction) p.reports
+  unfolding state_of
+  reports_whole =
+      each_so (λ r. IsThere (by_number (λ r. as_u32 r.faction) (λ r. r.text) p.reports) (as_u32 r.faction)) (λ r. IsWhole r.faction)
+      (λ r there. let few = there_below (by_number (λ r. as_u32 r.number) faction_of p.factions) (as_u32 r.faction) last_faction few_factions (k.known.reports (as_u32 r.faction) there.0 there.1) in whole_below r.faction (omega arith)) p.reports
+      (rows_there (λ r. as_u32 r.faction) (λ r. r.text) p.reports)
+
+  reports_said : IsPermutation (rows_by report_row (entries (by_number (λ r. as_u32 r.faction) (λ r. r.text) p.reports))) p.reports
+  reports_said =
+      rows_order (λ r. as_u32 r.faction) (λ r. r.text) report_row p.reports
+      (Apart-keys report_key (λ r. as_u32 r.faction) same (λ r. IsWhole r.faction) (λ r s. one_apart r.faction s.faction) p.reports reports_whole k.range.keys.reports)
+      (each_so (λ r. IsWhole r.faction) (λ r. report_row (as_u32 r.faction) r.text ≡ r) (λ r whole. λ i. record { faction = sym whole i; text = r.text }) p.reports reports_whole)
+
+  -- ---- what units have
+  abbrev units : FinMap nat_cmp Unit
+  units = by_number (λ r. as_u32 r.number) (unit_of p.has) p.units
+
+  abbrev SortOf : StoredHas → Type 0
+  SortOf h = (as_u32 h.sort ≡ 1) ⊎ ((as_u32 h.sort ≡ 0) × (is_from 1 holding_limit h.amount ≡ true))
+
+  sort_of : (h : StoredHas) → has_in_range h ≡ true → IsWhole h.sort × SortOf h
+  sort_of h e =
+      elim (or_cases (is_from 1 1 h.sort) (is_from 0 0 h.sort && is_from 1 holding_limit h.amount) e) [
+        | inl skill ↦ let range = from_range 1 1 h.sort (omega arith) skill in (range.0, inl (omega (arith, range.1, range.2)))
+        | inr item ↦
+            let parts = and_parts (is_from 0 0 h.sort) (is_from 1 holding_limit h.amount) item in
+            let range = from_range 0 0 h.sort (omega arith) parts.0 in
+            (range.0, inr (omega (arith, range.1, range.2), parts.1))
+      ]
+
+  -- what a unit that is there holds is what its rows say
+  their_items : Every (λ n u. u.holding.items ≡ things_had n 0 p.has) units
+  their_items = by_number-every (λ r. as_u32 r.number) (unit_of p.has) (λ n u. u.holding.items ≡ things_had n 0 p.has) unit_in_range (λ r h. refl) p.units ranges.units
+
+  their_days : Every (λ n u. u.holding.days ≡ things_had n 1 p.has) units
+  their_days = by_number-every (λ r. as_u32 r.number) (unit_of p.has) (λ n u. u.holding.days ≡ things_had n 1 p.has) unit_in_range (λ r h. refl) p.units ranges.units
+
+  their_men : Every (λ n u. u.holding.men ≤ men_limit) units
+  their_men = by_number-every (λ r. as_u32 r.number) (unit_of p.has) (λ n u. u.holding.men ≤ men_limit) unit_in_range (λ r h. (in_range 1 men_limit 4294967295 r.men (omega arith) (unit_ranges r h).men).1) p.units ranges.units
+
+  abbrev ThingThere : ℕ → ℕ → StoredHas → Type 0
+  ThingThere n sort h = IsThere (things_had n sort p.has) (as_u32 h.thing)
+
+  things_there : AllByRecursion (λ h. (n : ℕ) → (sort : ℕ) → is_of n sort h ≡ true → ThingThere n sort h) p.has
+  things_there = all_forall (λ n h. (sort : ℕ) → is_of n sort h ≡ true → ThingThere n sort h) p.has (λ n. all_forall (λ sort h. is_of n sort h ≡ true → ThingThere n sort h) p.has (λ sort.
+      unfiltered n sort (ThingThere n sort) p.has (rows_there (λ h. as_u32 h.thing) (λ h. as_u32 h.amount) (filter (is_of n sort) p.has))))
+
+  held_units : AllByRecursion (λ h. IsThere units (as_u32 h.unit)) p.has
+  unfolding state_of
+  held_units = each_passes (is_of_unit (state_of w p)) (λ h. IsThere units (as_u32 h.unit)) (λ h e. some_there (get units (as_u32 h.unit)) e) p.has k.held
+
+  few_things : (n sort thing : ℕ) → IsThere units n → (sort ≡ 1) ⊎ (sort ≡ 0) → IsThere (things_had n sort p.has) thing → thing < 4294967295
+  unfolding state_of
+  few_things n sort thing there (inl skill) (v, is) =
+      let placed = k.known.units n there.0 there.1 in
+      let few = k.world.few_skills in
+      let at = ap (λ (m : FinMap nat_cmp ℕ). get m thing) (their_days n there.0 there.1) ∙ ap (λ s. get (things_had n s p.has) thing) (sym skill) ∙ is in
+      let below = placed.skills thing v at in
+      omega arith
+  few_things n sort thing there (inr item) (v, is) =
+      let placed = k.known.units n there.0 there.1 in
+      let few = k.world.few_items in
+      let at = ap (λ (m : FinMap nat_cmp ℕ). get m thing) (their_items n there.0 there.1) ∙ ap (λ s. get (things_had n s p.has) thing) (sym item) ∙ is in
+      let below = placed.items thing v at in
+      omega arith
+
+  either_sort : (h : StoredHas) → SortOf h → (as_u32 h.sort ≡ 1) ⊎ (as_u32 h.sort ≡ 0)
+  either_sort h (inl skill) = inl skill
+  either_sort h (inr item) = inr item.0
+
+  keyed : (h : StoredHas) → (IsThere units (as_u32 h.unit)) × (has_in_range h ≡ true) → ((n : ℕ) → (sort : ℕ) → is_of n sort h ≡ true → ThingThere n sort h) → IsKeyed h
+  keyed h (there, range) thing =
+      let unit_few = there_below units (as_u32 h.unit) last_unit few_units there in
+      let sort = sort_of h range in
+      let thing_few = few_things (as_u32 h.unit) (as_u32 h.sort) (as_u32 h.thing) there (either_sort h sort.1) (thing (as_u32 h.unit) (as_u32 h.sort) (is_of_itself h)) in
+      record { unit = whole_below h.unit (omega arith); sort = sort.0; thing = whole_below h.thing thing_few }
+
+  abbrev Placed : StoredHas → Type 0
+  Placed h = (IsThere units (as_u32 h.unit)) × (has_in_range h ≡ true)
+
+  all_placed : AllByRecursion Placed p.has
+  all_placed = each_with (λ h. IsThere units (as_u32 h.unit)) (λ h. has_in_range h ≡ true) Placed (λ h a b. (a, b)) p.has held_units (each_passes has_in_range (λ h. has_in_range h ≡ true) (λ h e. e) p.has ranges.has)
+
+  all_keyed : AllByRecursion IsKeyed p.has
+  all_keyed = each_with Placed (λ h. (n : ℕ) → (sort : ℕ) → is_of n sort h ≡ true → ThingThere n sort h) IsKeyed keyed p.has all_placed things_there
+
+  abbrev IsFound : ℕ → ℕ → StoredHas → Type 0
+  IsFound n sort h = get (things_had n sort p.has) (as_u32 h.thing) ≡ Some (as_u32 h.amount)
+
+  all_found : AllByRecursion (λ h. (n : ℕ) → (sort : ℕ) → is_of n sort h ≡ true → IsFound n sort h) p.has
+  all_found = all_forall (λ n h. (sort : ℕ) → is_of n sort h ≡ true → IsFound n sort h) p.has (λ n. all_forall (λ sort h. is_of n sort h ≡ true → IsFound n sort h) p.has (λ sort.
+      unfiltered n sort (IsFound n sort) p.has (rows_found (λ h. as_u32 h.thing) (λ h. as_u32 h.amount) (filter (is_of n sort) p.has) (things_apart n sort p.has all_keyed k.range.keys.has))))
+
+  exact_of : (h : StoredHas) → IsThere units (as_u32 h.unit) → SortOf h → ((n : ℕ) → (sort : ℕ) → is_of n sort h ≡ true → IsFound n sort h) → IsWhole h.amount × (is_zero h.amount ≡ false)
+  unfolding state_of
+  exact_of h there (inl skill) found =
+      let n = as_u32 h.unit in
+      let men = their_men n there.0 there.1 in
+      let at = ap (λ (m : FinMap nat_cmp ℕ). get m (as_u32 h.thing)) (their_days n there.0 there.1) ∙ ap (λ s. get (things_had n s p.has) (as_u32 h.thing)) (sym skill) ∙ found n (as_u32 h.sort) (is_of_itself h) in
+      let range = k.days n there.0 there.1 (as_u32 h.thing) (as_u32 h.amount) at in
+      let whole = whole_below h.amount (omega (arith, range.0, range.1, men)) in
+      (whole, not_zero h.amount whole range.0)
+  exact_of h there (inr item) found =
+      let range = from_range 1 holding_limit h.amount (omega arith) item.1 in
+      (range.0, not_zero h.amount range.0 range.1)
+
+  abbrev KeyedPlaced : StoredHas → Type 0
+  KeyedPlaced h = IsKeyed h × Placed h
+
+  exact : (h : StoredHas) → KeyedPlaced h → ((n : ℕ) → (sort : ℕ) → is_of n sort h ≡ true → IsFound n sort h) → IsExact h
+  exact h (keys, (there, range)) found = let amount = exact_of h there (sort_of h range).1 found in record { keys = keys; amount = amount.0; some = amount.1 }
+
+  all_exact : AllByRecursion IsExact p.has
+  all_exact = each_with KeyedPlaced (λ h. (n : ℕ) → (sort : ℕ) → is_of n sort h ≡ true → IsFound n sort h) IsExact exact p.has (each_with IsKeyed Placed KeyedPlaced (λ h a b. (a, b)) p.has all_keyed all_placed) all_found
+
+  numbered : (rows : List StoredUnit) (n : ℕ) → HasNumber (λ r. as_u32 r.number) (unit_of p.has) rows n → Has rows n
+  numbered [] n h = h
+  numbered (r ∷ rows) n (inl e) = inl e
+  numbered (r ∷ rows) n (inr there) = inr (numbered rows n there)
+
+  of_units : (h : StoredHas) → Placed h → IsOfUnits p.units h
+  of_units h (there, range) = (numbered p.units (as_u32 h.unit) (row_of (λ r. as_u32 r.number) (unit_of p.has) p.units (as_u32 h.unit) there), turned h (sort_of h range).1)
+    where
+      turned : (h : StoredHas) → SortOf h → (as_u32 h.sort ≡ 0) ⊎ (as_u32 h.sort ≡ 1)
+      turned h (inl skill) = inr skill
+      turned h (inr item) = inl item.0
+
+  has_said : IsPermutation (has_rows (entries units)) p.has
+  has_said = has_order p.has p.units units_apart (each_so Placed (IsOfUnits p.units) of_units p.has all_placed) all_exact k.range.keys.has
+
+  -- ---- the books
+  not_false : (b : Bool) → not b ≡ true → b ≡ false
+  not_false true h = sym h
+  not_false false h = refl
+
+  below_of : (m n : ℕ) → nat_lt m n ≡ true → m < n
+  below_of m n h = grind (arith, nat_tests)
+
+  booked_row : (r : StoredBooks) → is_booked w r ≡ true → books_in_range (books_bound p) r ≡ true → IsBooked (things_of w) r
+  booked_row r h range =
+      let parts = and_parts (is_entry (as_u32 r.entry)) (nat_lt (as_u32 r.thing) (things_of w)) h in
+      let entry_few = from_le (as_u32 r.entry) entry_count (and_parts (nat_le 1 (as_u32 r.entry)) (nat_le (as_u32 r.entry) entry_count) parts.0).1 in
+      let there = below_of (as_u32 r.thing) (things_of w) parts.1 in
+      let few = k.world.few_items in
+      record {
+        entry = whole_below r.entry (omega arith);
+        thing = whole_below r.thing (omega arith);
+        named = parts.0;
+        there = there;
+        some = not_false (is_zero r.amount) (and_parts (not (is_zero r.amount)) (is_within (books_bound p) r.amount) range).0;
+      }
+
+  pub all_booked : AllByRecursion (IsBooked (things_of w)) p.books
+  all_booked =
+      each_with (λ r. is_booked w r ≡ true) (λ r. books_in_range (books_bound p) r ≡ true) (IsBooked (things_of w)) booked_row p.books (each_passes (is_booked w) (λ r. is_booked w r ≡ true) (λ r h. h) p.books k.booked)
+      (each_passes (books_in_range (books_bound p)) (λ r. books_in_range (books_bound p) r ≡ true) (λ r h. h) p.books ranges.books)
+
+  books_said : IsPermutation (books_rows (put_amounts p.books (no_amounts (things_of w)))) p.books
+  books_said =
+      books_order (things_of w) p.books all_booked k.range.keys.books
+
+  -- the rows are those of the campaign, each once
+  pub rows_said : AreRowsOf (state_of w p) p
+  unfolding state_of rows_of
+  rows_said = record {
+    campaign = subst (λ rows. IsPermutation (head_as_read (head_of p) ∷ []) rows) (one_head p.campaign k.one ranges.head) (IsPermutation-refl (head_as_read (head_of p) ∷ []));
+    factions = factions_said;
+    regions = regions_said;
+    units = units_said;
+    has = has_said;
+    structures = structures_said;
+    mail = mail_said;
+    reports = reports_said;
+    books = books_said;
+  }

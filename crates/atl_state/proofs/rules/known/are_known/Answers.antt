@@ -1,0 +1,11 @@
+use Rattle.std.proofs.Common.{rules}
+use Rattle.atl_state.proofs.rules.known.are_known.Goals as goal
+
+pub returns-then-are_things_known : goal.returns-then-are_things_known
+returns-then-are_things_known c = (
+  λ r.
+      let things = c.are_things_known.ensures.0 (search rules) in
+      let posts = c.are_posts_known.ensures.0 r in
+      record { regions = things.0; units = things.1.0; structures = things.1.1; mail = posts.0; reports = posts.1 },
+  λ known. c.are_posts_known.ensures.1 (known.mail, known.reports),
+)

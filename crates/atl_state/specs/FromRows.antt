@@ -1,0 +1,124 @@
+-- The campaign that rows say, whatever they are.
+use Rattle.std.specs.Prelude.{◌-◌, ℕ, ℤ, pos, negsuc, Bool, not, ◌==◌, ◌&&◌, nat_le, min, List, [], ◌∷◌, filter, slice_index_or, slice_set, unwrap_or, if◌then◌else◌}
+use Rattle.std.specs.Ordering.{nat_cmp}
+use Rattle.std.specs.FinMap.{FinMap, empty, insert, get}
+use Rattle.atl_tables.specs.Planet.{Planet}
+use Rattle.atl_state.specs.Limits.{entry_count}
+use Rattle.atl_state.specs.declared.parts.Parts.{Parts}
+use Rattle.atl_state.specs.declared.parts.StoredHead.{StoredHead}
+use Rattle.atl_state.specs.declared.parts.StoredFaction.{StoredFaction}
+use Rattle.atl_state.specs.declared.parts.StoredRegion.{StoredRegion}
+use Rattle.atl_state.specs.declared.parts.StoredUnit.{StoredUnit}
+use Rattle.atl_state.specs.declared.parts.StoredHas.{StoredHas}
+use Rattle.atl_state.specs.declared.parts.StoredStructure.{StoredStructure}
+use Rattle.atl_state.specs.declared.parts.StoredBooks.{StoredBooks}
+use Rattle.atl_state.specs.declared.records.Faction.{Faction}
+use Rattle.atl_state.specs.declared.records.Region.{Region}
+use Rattle.atl_state.specs.declared.records.Structure.{Structure}
+use Rattle.atl_state.specs.declared.records.Unit.{Unit}
+use Rattle.atl_state.specs.Books.{no_amounts}
+use Rattle.atl_state.specs.Founding.{things_of}
+use Rattle.atl_state.specs.Rows.{is_zero}
+use Rattle.atl_state.specs.State.{State}
+
+-- ---- one value
+
+-- a number from 0 to the most; any other is read as the most
+abbrev pub clamped : ℕ → ℤ → ℕ
+clamped most (pos n) = min n most
+clamped most (negsuc n) = most
+
+-- of 32 bits: what doesn't fit is greater than all limits, and so stands for nothing
+abbrev pub as_u32 : ℤ → ℕ
+as_u32 z = clamped 4294967295 z
+
+abbrev pub as_u16 : ℤ → ℕ
+as_u16 z = clamped 65535 z
+
+abbrev pub is_set : ℤ → Bool
+is_set z = not (is_zero z)
+
+-- ---- one row
+
+abbrev pub faction_of : StoredFaction → Faction
+faction_of r = record { number = as_u32 r.number; joined_as = r.joined_as; name = r.name; pass = r.pass; gone = is_set r.gone }
+
+abbrev pub region_of : StoredRegion → Region
+region_of r = record { peasants = as_u32 r.peasants; money = as_u32 r.money }
+
+abbrev pub structure_of : StoredStructure → Structure
+structure_of r = record { kind = as_u16 r.kind; name = r.name; region = as_u32 r.region; done = as_u32 r.done; owner = as_u32 r.owner }
+
+-- ---- the rows of a table
+
+-- the map with each row's value put under its number, one after another
+abbrev pub put_rows : {R V : Type 0} → (R → ℕ) → (R → V) → List R → FinMap nat_cmp V → FinMap nat_cmp V
+put_rows number value [] m = m
+put_rows number value (r ∷ rs) m = put_rows number value rs (insert m (number r) (value r))
+
+abbrev pub by_number : {R V : Type 0} → (R → ℕ) → (R → V) → List R → FinMap nat_cmp V
+by_number number value rows = put_rows number value rows empty
+
+-- of a unit, and of one sort
+abbrev pub is_of : ℕ → ℕ → StoredHas → Bool
+is_of n sort r = (as_u32 r.unit == n) && (as_u32 r.sort == sort)
+
+abbrev pub things_had : ℕ → ℕ → List StoredHas → FinMap nat_cmp ℕ
+things_had n sort has = by_number (λ r. as_u32 r.thing) (λ r. as_u32 r.amount) (filter (is_of n sort) has)
+
+-- a unit with these items and days of study
+abbrev pub unit_with : StoredUnit → FinMap nat_cmp ℕ → FinMap nat_cmp ℕ → Unit
+unit_with r items days = record {
+  faction = as_u32 r.faction;
+  region = as_u32 r.region;
+  structure = as_u32 r.structure;
+  holding = record { name = r.name; men = as_u32 r.men; money = as_u32 r.money; guard = is_set r.guard; items = items; days = days };
+}
+
+abbrev pub unit_of : List StoredHas → StoredUnit → Unit
+unit_of has r = unit_with r (things_had (as_u32 r.number) 0 has) (things_had (as_u32 r.number) 1 has)
+
+-- For proofs alone: what stands for a unit; where nothing does, it has nothing.
+abbrev pub group_of : FinMap nat_cmp (FinMap nat_cmp ℕ) → ℕ → FinMap nat_cmp ℕ
+group_of groups n = unwrap_or (get groups n) empty
+
+-- entries are counted from 1
+abbrev pub is_entry : ℕ → Bool
+is_entry n = nat_le 1 n && nat_le n entry_count
+
+-- the books with an amount at its places; where there is no such thing they stay
+abbrev pub with_amount : List (List ℤ) → ℕ → ℕ → ℤ → List (List ℤ)
+with_amount books entry thing amount = slice_set books thing (slice_set (slice_index_or books thing []) entry amount)
+
+abbrev pub with_row : List (List ℤ) → StoredBooks → List (List ℤ)
+with_row books r = if is_entry (as_u32 r.entry) then with_amount books (as_u32 r.entry - 1) (as_u32 r.thing) r.amount else books
+
+-- the books with the amount of each row, one after another
+abbrev pub put_amounts : List StoredBooks → List (List ℤ) → List (List ℤ)
+put_amounts [] books = books
+put_amounts (r ∷ rs) books = put_amounts rs (with_row books r)
+
+-- ---- all of them
+
+-- what counts where there is no row of the campaign's own
+abbrev pub no_head : StoredHead
+no_head = record { id = pos 0; format = pos 0; month = pos 0; next_faction = pos 0; next_unit = pos 0; next_structure = pos 0; pass = [] }
+
+abbrev pub head_of : Parts → StoredHead
+head_of p = slice_index_or p.campaign 0 no_head
+
+unfoldable pub state_of : Planet → Parts → State
+state_of w p = record {
+  month = as_u32 (head_of p).month;
+  pass = (head_of p).pass;
+  next_faction = as_u32 (head_of p).next_faction;
+  next_unit = as_u32 (head_of p).next_unit;
+  next_structure = as_u32 (head_of p).next_structure;
+  factions = by_number (λ r. as_u32 r.number) faction_of p.factions;
+  regions = by_number (λ r. as_u32 r.number) region_of p.regions;
+  units = by_number (λ r. as_u32 r.number) (unit_of p.has) p.units;
+  structures = by_number (λ r. as_u32 r.number) structure_of p.structures;
+  mail = by_number (λ r. as_u32 r.faction) (λ r. r.text) p.mail;
+  reports = by_number (λ r. as_u32 r.faction) (λ r. r.text) p.reports;
+  books = put_amounts p.books (no_amounts (things_of w));
+}

@@ -1,0 +1,48 @@
+-- Levels of skills, and what units weigh and carry.
+use Rattle.std.specs.Prelude.{◌==◌, ◌+◌, ◌*◌, ℕ, zero, suc, Bool, nat_le, sum_by, if◌then◌else◌}
+use Rattle.std.specs.List.{slice_get}
+use Rattle.std.specs.Option.{option_map_or}
+use Rattle.std.specs.FinMap.{entries}
+use Rattle.atl_tables.specs.Limits.{last_level}
+use Rattle.atl_tables.specs.Planet.{Planet}
+use Rattle.atl_state.specs.Held.{Held}
+
+-- ---- levels
+
+-- the greatest number up to n that passes a test, or 0
+abbrev pub greatest : (ℕ → Bool) → ℕ → ℕ
+greatest passes zero = 0
+greatest passes (suc n) = if passes (suc n) then suc n else greatest passes n
+
+-- the days of study that so many men need for a level: 30 for the first, 60 more for the second, and so on
+abbrev pub days_for : ℕ → ℕ → ℕ
+days_for level men = 15 * level * (level + 1) * men
+
+-- the greatest level for which the days of so many men are enough
+unfoldable pub level_of : ℕ → ℕ → ℕ
+level_of days men = if men == 0 then 0 else greatest (λ level. nat_le (days_for level men) days) last_level
+
+-- ---- loads
+
+-- what one of an item weighs, and what it carries
+abbrev pub weight_of : Planet → ℕ → ℕ
+weight_of w item = option_map_or (λ x. x.weight) (slice_get w.items item) 0
+
+abbrev pub carry_of : Planet → ℕ → ℕ
+carry_of w item = option_map_or (λ x. x.carry) (slice_get w.items item) 0
+
+-- the sum of amount times weight over the items held
+abbrev pub goods_of : Planet → Held → ℕ
+goods_of w h = sum_by (λ e. e.1 * weight_of w e.0) (entries h.items)
+
+-- the sum of amount times carry over the items held
+abbrev pub carried_by_goods : Planet → Held → ℕ
+carried_by_goods w h = sum_by (λ e. e.1 * carry_of w e.0) (entries h.items)
+
+-- what a unit weighs
+abbrev pub load_of : Planet → Held → ℕ
+load_of w h = h.men * w.rules.man_weight + goods_of w h
+
+-- what a unit can carry
+abbrev pub carried_by : Planet → Held → ℕ
+carried_by w h = h.men * w.rules.man_carry + carried_by_goods w h

@@ -1,0 +1,166 @@
+-- The rules that are said of rows, before a campaign is made of them: one row of the campaign's own, numbers in their ranges, names.
+use Rattle.std.specs.Prelude.{◌+◌, ◌*◌, ℕ, ℤ, pos, negsuc, Bool, false, not, ◌&&◌, ◌||◌, nat_le, nat_lt, nat_abs, is_some, IsTrue, List, [], ◌∷◌, length, map}
+use Rattle.std.specs.List.{list_all, IsDistinct}
+use Rattle.std.specs.declared.cmp.Ordering.{Ordering}
+use Rattle.std.specs.Ordering.{int_cmp, eq_by_cmp, ordering_then, nat_cmp}
+use Rattle.std.specs.Cmp.Lexicographic.{slice_cmp}
+use Rattle.atl_tables.specs.Limits.{most_amount, most_regions}
+use Rattle.atl_tables.specs.Names.{name_ok, pass_ok}
+use Rattle.atl_tables.specs.Planet.{Planet}
+use Rattle.atl_orders.specs.Limits.{last_faction}
+use Rattle.atl_state.specs.Limits.{last_month, most_units, last_unit, men_limit, holding_limit, most_structures}
+use Rattle.atl_state.specs.declared.parts.Parts.{Parts}
+use Rattle.atl_state.specs.declared.parts.StoredHead.{StoredHead}
+use Rattle.atl_state.specs.declared.parts.StoredFaction.{StoredFaction}
+use Rattle.atl_state.specs.declared.parts.StoredRegion.{StoredRegion}
+use Rattle.atl_state.specs.declared.parts.StoredUnit.{StoredUnit}
+use Rattle.atl_state.specs.declared.parts.StoredHas.{StoredHas}
+use Rattle.atl_state.specs.declared.parts.StoredStructure.{StoredStructure}
+use Rattle.atl_state.specs.declared.parts.StoredMail.{StoredMail}
+use Rattle.atl_state.specs.declared.parts.StoredReport.{StoredReport}
+use Rattle.atl_state.specs.declared.parts.StoredBooks.{StoredBooks}
+use Rattle.atl_state.specs.Good.{size_of}
+use Rattle.atl_state.specs.FromRows.{as_u32, as_u16, is_entry, head_of}
+use Rattle.atl_state.specs.Founding.{things_of}
+use Rattle.atl_state.specs.State.{State}
+use Rattle.std.specs.FinMap.{get}
+use Rattle.atl_state.specs.Rows.{is_zero}
+
+-- a number from low to high
+abbrev pub is_from : ℕ → ℕ → ℤ → Bool
+is_from low high (pos n) = nat_le low n && nat_le n high
+is_from low high (negsuc n) = false
+
+-- ---- the campaign's own row
+
+-- there is one, and its id and its format are 1
+abbrev pub is_one_head : List StoredHead → Bool
+is_one_head [] = false
+is_one_head (h ∷ []) = is_from 1 1 h.id && is_from 1 1 h.format
+is_one_head (h ∷ other ∷ rows) = false
+
+-- ---- numbers in their ranges
+
+-- a number from -bound to bound
+abbrev pub is_within : ℕ → ℤ → Bool
+is_within bound z = nat_le (nat_abs z) bound
+
+abbrev pub head_in_range : StoredHead → Bool
+head_in_range h = ((is_from 0 last_month h.month && is_from 1 (last_faction + 1) h.next_faction) && is_from 1 (last_unit + 1) h.next_unit) && is_from 1 (most_structures + 1) h.next_structure
+
+abbrev pub faction_in_range : StoredFaction → Bool
+faction_in_range r = is_from 1 last_faction r.number && is_from 0 1 r.gone
+
+abbrev pub region_in_range : StoredRegion → Bool
+region_in_range r = is_from 0 most_amount r.peasants && is_from 0 most_amount r.money
+
+abbrev pub unit_in_range : StoredUnit → Bool
+unit_in_range r = ((is_from 1 last_unit r.number && is_from 1 men_limit r.men) && is_from 0 holding_limit r.money) && is_from 0 1 r.guard
+
+-- days of study have a rule of their own
+abbrev pub has_in_range : StoredHas → Bool
+has_in_range r = is_from 1 1 r.sort || (is_from 0 0 r.sort && is_from 1 holding_limit r.amount)
+
+abbrev pub structure_in_range : Planet → StoredStructure → Bool
+structure_in_range w r = is_from 1 most_structures r.number && is_from 1 (size_of w (as_u16 r.kind)) r.done
+
+-- no amount of the books is greater in size
+abbrev pub books_bound : Parts → ℕ
+books_bound p = 200000000000000 * (as_u32 (head_of p).month + 1) + 1000000000 * length p.factions
+
+abbrev pub books_in_range : ℕ → StoredBooks → Bool
+books_in_range bound r = not (is_zero r.amount) && is_within bound r.amount
+
+-- ---- keys
+
+-- the key of a row: up to three numbers
+abbrev pub Key : Type 0
+Key = ℤ × ℤ × ℤ
+
+abbrev pub key_cmp : Key → Key → Ordering
+key_cmp a b = ordering_then (ordering_then (int_cmp a.0 b.0) (int_cmp a.1 b.1)) (int_cmp a.2 b.2)
+
+abbrev pub one_key : ℤ → Key
+one_key n = (n, pos 0, pos 0)
+
+abbrev pub faction_key : StoredFaction → Key
+faction_key r = one_key r.number
+
+abbrev pub region_key : StoredRegion → Key
+region_key r = one_key r.number
+
+abbrev pub unit_key : StoredUnit → Key
+unit_key r = one_key r.number
+
+abbrev pub has_key : StoredHas → Key
+has_key r = (r.unit, r.sort, r.thing)
+
+abbrev pub structure_key : StoredStructure → Key
+structure_key r = one_key r.number
+
+abbrev pub mail_key : StoredMail → Key
+mail_key r = one_key r.faction
+
+abbrev pub report_key : StoredReport → Key
+report_key r = one_key r.faction
+
+abbrev pub books_key : StoredBooks → Key
+books_key r = (r.entry, r.thing, pos 0)
+
+-- no two rows have one key
+abbrev pub HaveKeys : {R : Type 0} → (R → Key) → List R → Type 0
+HaveKeys key rows = IsDistinct (eq_by_cmp key_cmp) (map key rows)
+
+pub record AreKeyed (p : Parts) : Type 0 where
+  pub factions : HaveKeys faction_key p.factions
+  pub regions : HaveKeys region_key p.regions
+  pub units : HaveKeys unit_key p.units
+  pub has : HaveKeys has_key p.has
+  pub structures : HaveKeys structure_key p.structures
+  pub mail : HaveKeys mail_key p.mail
+  pub reports : HaveKeys report_key p.reports
+  pub books : HaveKeys books_key p.books
+
+-- ---- all of them
+
+abbrev pub are_few : Parts → Bool
+are_few p = ((nat_le (length p.factions) last_faction && nat_le (length p.regions) most_regions) && nat_le (length p.units) most_units) && nat_le (length p.structures) most_structures
+
+-- factions, regions, units with what they have
+abbrev pub people_in_range : Parts → Bool
+people_in_range p = ((list_all faction_in_range p.factions && list_all region_in_range p.regions) && list_all unit_in_range p.units) && list_all has_in_range p.has
+
+abbrev pub numbers_in_range : Planet → Parts → Bool
+numbers_in_range w p = ((head_in_range (head_of p) && people_in_range p) && list_all (structure_in_range w) p.structures) && list_all (books_in_range (books_bound p)) p.books
+
+pub record AreRowsInRange (w : Planet) (p : Parts) : Type 0 where
+  pub keys : AreKeyed p
+  pub few : IsTrue (are_few p)
+  pub numbers : IsTrue (numbers_in_range w p)
+
+-- ---- names
+
+abbrev pub faction_named : StoredFaction → Bool
+faction_named r = (name_ok r.joined_as && name_ok r.name) && pass_ok r.pass
+
+-- each is a name or a pass text
+abbrev pub are_named : Parts → Bool
+are_named p = ((pass_ok (head_of p).pass && list_all faction_named p.factions) && list_all (λ r. name_ok r.name) p.units) && list_all (λ r. name_ok r.name) p.structures
+
+-- no two factions joined under one name
+abbrev pub HaveJoined : List StoredFaction → Type 0
+HaveJoined rows = IsDistinct (eq_by_cmp (slice_cmp nat_cmp)) (map (λ r. r.joined_as) rows)
+
+pub record AreRowsNamed (p : Parts) : Type 0 where
+  pub texts : IsTrue (are_named p)
+  pub joined : HaveJoined p.factions
+
+-- ---- what rows say of other rows
+
+-- of a unit that is there
+abbrev pub is_of_unit : State → StoredHas → Bool
+is_of_unit c r = is_some (get c.units (as_u32 r.unit))
+
+-- of an entry and a thing that are there
+abbrev pub is_booked : Planet → StoredBooks → Bool
+is_booked w r = is_entry (as_u32 r.entry) && nat_lt (as_u32 r.thing) (things_of w)

@@ -1,0 +1,123 @@
+-- The rows of a campaign: of each table those that stand for it, in the order of their keys.
+use Rattle.std.specs.Prelude.{◌+◌, ◌++◌, ℕ, ℤ, pos, negsuc, Bool, true, false, not, ◌==◌, List, [], ◌∷◌, length, map, filter, slice_index_or}
+use Rattle.std.specs.List.{range_with_len, flat_map}
+use Rattle.std.specs.List.Sorted.{IsPermutation}
+use Rattle.std.specs.FinMap.{entries}
+use Rattle.atl_state.specs.Limits.{entry_count}
+use Rattle.atl_state.specs.declared.parts.Parts.{Parts}
+use Rattle.atl_state.specs.declared.parts.StoredHead.{StoredHead}
+use Rattle.atl_state.specs.declared.parts.StoredFaction.{StoredFaction}
+use Rattle.atl_state.specs.declared.parts.StoredRegion.{StoredRegion}
+use Rattle.atl_state.specs.declared.parts.StoredUnit.{StoredUnit}
+use Rattle.atl_state.specs.declared.parts.StoredHas.{StoredHas}
+use Rattle.atl_state.specs.declared.parts.StoredStructure.{StoredStructure}
+use Rattle.atl_state.specs.declared.parts.StoredMail.{StoredMail}
+use Rattle.atl_state.specs.declared.parts.StoredReport.{StoredReport}
+use Rattle.atl_state.specs.declared.parts.StoredBooks.{StoredBooks}
+use Rattle.atl_state.specs.declared.records.Faction.{Faction}
+use Rattle.atl_state.specs.declared.records.Region.{Region}
+use Rattle.atl_state.specs.declared.records.Structure.{Structure}
+use Rattle.atl_state.specs.declared.records.Unit.{Unit}
+use Rattle.atl_state.specs.Held.{Held}
+use Rattle.atl_state.specs.State.{State}
+
+-- 1 where a flag is set
+abbrev pub flag : Bool → ℤ
+flag true = pos 1
+flag false = pos 0
+
+-- ---- one row
+
+-- the campaign's own row: its id is 1, and its format 1
+abbrev pub head_row : State → StoredHead
+head_row c = record { id = pos 1; format = pos 1; month = pos c.month; next_faction = pos c.next_faction; next_unit = pos c.next_unit; next_structure = pos c.next_structure; pass = c.pass }
+
+abbrev pub faction_row : ℕ → Faction → StoredFaction
+faction_row n f = record { number = pos n; joined_as = f.joined_as; name = f.name; pass = f.pass; gone = flag f.gone }
+
+abbrev pub region_row : ℕ → Region → StoredRegion
+region_row n r = record { number = pos n; peasants = pos r.peasants; money = pos r.money }
+
+abbrev pub unit_row : ℕ → Unit → StoredUnit
+unit_row n u = record { number = pos n; faction = pos u.faction; name = u.holding.name; region = pos u.region; structure = pos u.structure; men = pos u.holding.men; money = pos u.holding.money; guard = flag u.holding.guard }
+
+abbrev pub structure_row : ℕ → Structure → StoredStructure
+structure_row n s = record { number = pos n; kind = pos s.kind; name = s.name; region = pos s.region; done = pos s.done; owner = pos s.owner }
+
+abbrev pub mail_row : ℕ → List ℕ → StoredMail
+mail_row n text = record { faction = pos n; text = text }
+
+abbrev pub report_row : ℕ → List ℕ → StoredReport
+report_row n text = record { faction = pos n; text = text }
+
+-- of a unit, and of sort 0 for items or 1 for skills
+abbrev pub has_row : ℕ → ℕ → ℕ → ℕ → StoredHas
+has_row n sort thing amount = record { unit = pos n; sort = pos sort; thing = pos thing; amount = pos amount }
+
+-- of an entry and a thing by their places, entries being counted from 1
+abbrev pub books_row : ℕ → ℕ → ℤ → StoredBooks
+books_row entry thing amount = record { entry = pos (entry + 1); thing = pos thing; amount = amount }
+
+-- ---- the rows of a table
+
+-- a row for each entry of a map
+abbrev pub rows_by : {V R : Type 0} → (ℕ → V → R) → List (ℕ × V) → List R
+rows_by row es = map (λ e. row e.0 e.1) es
+
+abbrev pub is_zero : ℤ → Bool
+is_zero (pos n) = n == 0
+is_zero (negsuc n) = false
+
+-- what a unit has of a sort, where it is not 0
+abbrev pub sort_rows : ℕ → ℕ → List (ℕ × ℕ) → List StoredHas
+sort_rows n sort es = filter (λ r. not (is_zero r.amount)) (rows_by (has_row n sort) es)
+
+-- what a unit has: items, then days of study
+abbrev pub held_rows : ℕ → Held → List StoredHas
+held_rows n h = sort_rows n 0 (entries h.items) ++ sort_rows n 1 (entries h.days)
+
+abbrev pub has_rows : List (ℕ × Unit) → List StoredHas
+has_rows es = flat_map (λ e. held_rows e.0 e.1.holding) es
+
+-- the amount of the books at these places, 0 where nothing is
+abbrev pub amount_at : List (List ℤ) → ℕ → ℕ → ℤ
+amount_at books entry thing = slice_index_or (slice_index_or books thing []) entry (pos 0)
+
+-- the amounts of an entry for so many things, where they are not 0
+abbrev pub entry_rows : List (List ℤ) → ℕ → ℕ → List StoredBooks
+entry_rows books things entry = filter (λ r. not (is_zero r.amount)) (map (λ thing. books_row entry thing (amount_at books entry thing)) (range_with_len 0 things))
+
+abbrev pub books_rows : List (List ℤ) → List StoredBooks
+books_rows books = flat_map (entry_rows books (length books)) (range_with_len 0 entry_count)
+
+-- ---- all of them
+
+-- the rows of a campaign, each once
+unfoldable pub rows_of : State → Parts
+rows_of c = record {
+  campaign = head_row c ∷ [];
+  factions = rows_by faction_row (entries c.factions);
+  regions = rows_by region_row (entries c.regions);
+  units = rows_by unit_row (entries c.units);
+  has = has_rows (entries c.units);
+  structures = rows_by structure_row (entries c.structures);
+  mail = rows_by mail_row (entries c.mail);
+  reports = rows_by report_row (entries c.reports);
+  books = books_rows c.books;
+}
+
+-- the same rows, table by table, in any order
+pub record AreSameRows (some others : Parts) : Type 0 where
+  pub campaign : IsPermutation some.campaign others.campaign
+  pub factions : IsPermutation some.factions others.factions
+  pub regions : IsPermutation some.regions others.regions
+  pub units : IsPermutation some.units others.units
+  pub has : IsPermutation some.has others.has
+  pub structures : IsPermutation some.structures others.structures
+  pub mail : IsPermutation some.mail others.mail
+  pub reports : IsPermutation some.reports others.reports
+  pub books : IsPermutation some.books others.books
+
+-- the rows of a campaign, each once, in any order
+abbrev pub AreRowsOf : State → Parts → Type 0
+AreRowsOf c parts = AreSameRows (rows_of c) parts

@@ -1,0 +1,11 @@
+-- For proofs alone: how the marks on units and on their goods are kept.
+use Rattle.std.specs.Prelude.{ℕ, Option}
+use Rattle.std.specs.Borrow.{LendsIf, MutBor, Fml}
+use Rattle.atl_state.specs.declared.records.Unit.{Unit}
+use Rattle.atl_state.specs.contracts.records.Unit as unit
+use Rattle.atl_state.specs.contracts.units.Units.{the_row}
+use Rattle.atl_state.specs.Roster.{Roster, with_unit_at}
+
+-- r ends with the last value behind u under the number, or as it was
+abbrev pub LendsUnit : MutBor Roster → ℕ → Option (MutBor Unit) → Fml
+LendsUnit r n u = LendsIf the_row unit.the_row r u (with_unit_at r.now n) r.now

@@ -1,0 +1,58 @@
+//! How a campaign is made of rows.
+ghost use Rattle.std.specs.Prelude.{◌≡◌, IfOk, true};
+ghost use Rattle.atl_tables.specs.Planet.{IsWorld};
+ghost use Rattle.atl_state.specs.FromRows.{state_of};
+ghost use Rattle.atl_state.specs.Marks.{no_marks};
+ghost use Rattle.atl_state.specs.RowRules.{is_one_head, are_named, people_in_range};
+
+use super::Campaign;
+use crate::assembly::{Tables, books_of, lists_of, pass_of, roster_of, tables_of};
+use crate::books::AmountMarks;
+use crate::parts::Parts;
+use crate::row_rules::{as_u32, head_of};
+use atl_tables::World;
+use std::alloc::{AllocError, Global};
+
+/// The campaign that rows say, with nothing marked.
+#[tactic(auto, unfolding(crate::specs::FromRows::state_of))]
+pub(crate) fn assembled(alloc: Global, world: &World, parts: &Parts) -> Result<Campaign, AllocError>
+    requires one { is_one_head parts.now.campaign ≡ true }
+    requires named { are_named parts.now ≡ true }
+    requires people { people_in_range parts.now ≡ true }
+    ensures what { IfOk result (λ c. c.what ≡ state_of world.now parts.now) }
+    ensures marks { IfOk result (λ c. c.marks ≡ no_marks) }
+    ensures world { IsWorld world.now }
+{
+    let head = head_of(parts);
+    let things = 2 + world.items().len();
+    let pass = pass_of(alloc, &head.pass)?;
+    let units = roster_of(alloc, parts)?;
+    let lists = lists_of(alloc, &units)?;
+    let books = books_of(alloc, things, parts.books.as_slice())?;
+    let amounts_marked = AmountMarks::new(alloc, things)?;
+    let Tables {
+        factions,
+        regions,
+        structures,
+        mail,
+        reports,
+    } = tables_of(alloc, parts)?;
+    Ok(Campaign {
+        alloc,
+        month: as_u32(head.month),
+        pass,
+        next_faction: as_u32(head.next_faction),
+        next_unit: as_u32(head.next_unit),
+        next_structure: as_u32(head.next_structure),
+        factions,
+        regions,
+        units,
+        structures,
+        mail,
+        reports,
+        books,
+        amounts_marked,
+        row_marked: false,
+        lists,
+    })
+}

@@ -1,0 +1,66 @@
+//! How units and structures come.
+ghost use Rattle.std.specs.Prelude.{◌≡◌, ◌≤◌, IfOk, OnOk, OnErr, None};
+ghost use Rattle.std.specs.FinMap as map;
+ghost use Rattle.atl_state.specs.Limits.{last_unit, most_structures};
+ghost use Rattle.atl_state.specs.Marking.{mark_unit_added, mark_unit_begun, mark_structure_begun};
+ghost use Rattle.atl_state.specs.State.{with_unit, with_unit_begun, with_structure_begun};
+
+use super::Campaign;
+use crate::lists::listing_of;
+use crate::records::{Structure, Unit};
+use std::alloc::AllocError;
+
+impl Campaign {
+    /// Adds a unit under a number that no unit has, and marks it and its goods. Without memory for it nothing changes.
+    fn add_unit(&mut self, number: u32, unit: Unit) -> Result<(), AllocError>
+        requires { map.get self.old.what.units number ≡ None }
+        ensures ok { OnOk result (self.new ≡ record { what = with_unit self.old.what number unit; marks = mark_unit_added self.old number }) }
+        ensures err { OnErr result (self.new ≡ self.old) }
+    {
+        let listing = listing_of(&unit);
+        self.lists.add(self.alloc, number, listing)?;
+        match self.units.insert(number, unit) {
+            Ok(()) => Ok(()),
+            Err(e) => {
+                self.lists.remove(number, listing);
+                Err(e)
+            }
+        }
+    }
+
+    /// A unit comes. It gets the number that comes next for units, which is at most 999,999,999, and rises by one. The
+    /// answer is its number. The unit, its goods and the campaign's row are marked. Without memory for it nothing
+    /// changes. See docs/RULES.md, "Limits".
+    pub fn begin_unit(&mut self, unit: Unit) -> Result<u32, AllocError>
+        requires fresh { map.get self.old.what.units self.old.what.next_unit ≡ None }
+        requires room { self.old.what.next_unit ≤ last_unit }
+        ensures ok { OnOk result (self.new.what ≡ with_unit_begun self.old.what unit) }
+        ensures number { IfOk result (λ number. number ≡ self.old.what.next_unit) }
+        ensures err { OnErr result (self.new ≡ self.old) }
+        ensures marks { OnOk result (self.new.marks ≡ mark_unit_begun self.old) }
+    {
+        let number = self.next_unit;
+        self.add_unit(number, unit)?;
+        self.next_unit = number + 1;
+        self.row_marked = true;
+        Ok(number)
+    }
+
+    /// A structure is begun. It gets the number that comes next for structures, which is at most 10,000, and rises by one.
+    /// The answer is its number. The structure and the campaign's row are marked. Without memory for it nothing changes.
+    /// See docs/RULES.md, "Limits".
+    pub fn begin_structure(&mut self, structure: Structure) -> Result<u32, AllocError>
+        requires fresh { map.get self.old.what.structures self.old.what.next_structure ≡ None }
+        requires room { self.old.what.next_structure ≤ most_structures }
+        ensures ok { OnOk result (self.new.what ≡ with_structure_begun self.old.what structure) }
+        ensures number { IfOk result (λ number. number ≡ self.old.what.next_structure) }
+        ensures err { OnErr result (self.new ≡ self.old) }
+        ensures marks { OnOk result (self.new.marks ≡ mark_structure_begun self.old) }
+    {
+        let number = self.next_structure;
+        self.structures.insert(number, structure)?;
+        self.next_structure = number + 1;
+        self.row_marked = true;
+        Ok(number)
+    }
+}

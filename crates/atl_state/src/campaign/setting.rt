@@ -1,0 +1,140 @@
+//! Calls that set one entry of a campaign. None of them takes memory. Where nothing stands under the number, nothing
+//! changes.
+ghost use Rattle.std.specs.Prelude.{◌≡◌, ◌≤◌, ◌<◌, ◌+ℤ◌, length};
+ghost use Rattle.std.specs.Int.{w64};
+ghost use Rattle.std.specs.Int.RustNames.{FitsSigned};
+ghost use Rattle.atl_state.specs.Books.{amount_in, thing_place};
+ghost use Rattle.atl_state.specs.Limits.{holding_limit};
+ghost use Rattle.atl_state.specs.Marking.{mark_row, mark_faction, mark_region, mark_structure, mark_unit_row, mark_amount, mark_all_mail};
+ghost use Rattle.atl_state.specs.State.{with_month, with_faction_name, with_gone, with_peasants, with_region_money, with_money, with_guard, with_done, with_structure_name, with_structure_region, with_owner, with_amount, without_mail};
+
+use super::Campaign;
+use crate::books::{Entry, Thing};
+use atl_tables::Text;
+
+impl Campaign {
+    /// Sets the month last closed, and marks the campaign's row.
+    pub fn set_month(&mut self, month: u32)
+        ensures what { self.new.what ≡ with_month self.old.what month }
+        ensures marks { self.new.marks ≡ mark_row self.old }
+    {
+        self.month = month;
+        self.row_marked = true;
+    }
+
+    /// Sets the name that a faction shows, and marks the faction.
+    pub fn set_faction_name(&mut self, number: u32, name: Text)
+        ensures what { self.new.what ≡ with_faction_name self.old.what number name }
+        ensures marks { self.new.marks ≡ mark_faction self.old number }
+    {
+        if let Some(faction) = self.factions.get_mut(number) {
+            faction.name = name;
+        }
+    }
+
+    /// A faction leaves the campaign, and is marked.
+    pub fn set_gone(&mut self, number: u32)
+        ensures what { self.new.what ≡ with_gone self.old.what number }
+        ensures marks { self.new.marks ≡ mark_faction self.old number }
+    {
+        if let Some(faction) = self.factions.get_mut(number) {
+            faction.gone = true;
+        }
+    }
+
+    /// Sets how many peasants a region has, and marks the region.
+    pub fn set_peasants(&mut self, region: u32, peasants: u32)
+        ensures what { self.new.what ≡ with_peasants self.old.what region peasants }
+        ensures marks { self.new.marks ≡ mark_region self.old region }
+    {
+        if let Some(found) = self.regions.get_mut(region) {
+            found.peasants = peasants;
+        }
+    }
+
+    /// Sets how much money a region has, and marks the region.
+    pub fn set_region_money(&mut self, region: u32, money: u32)
+        ensures what { self.new.what ≡ with_region_money self.old.what region money }
+        ensures marks { self.new.marks ≡ mark_region self.old region }
+    {
+        if let Some(found) = self.regions.get_mut(region) {
+            found.money = money;
+        }
+    }
+
+    /// Sets a unit's money, at most 999,999,999, and marks its row; its goods stay unmarked.
+    pub fn set_money(&mut self, unit: u32, money: u32)
+        requires { money ≤ holding_limit }
+        ensures what { self.new.what ≡ with_money self.old.what unit money }
+        ensures marks { self.new.marks ≡ mark_unit_row self.old unit }
+    {
+        self.units.set_money(unit, money);
+    }
+
+    /// Sets or clears a unit's guard flag, and marks its row; its goods stay unmarked.
+    pub fn set_guard(&mut self, unit: u32, guard: bool)
+        ensures what { self.new.what ≡ with_guard self.old.what unit guard }
+        ensures marks { self.new.marks ≡ mark_unit_row self.old unit }
+    {
+        self.units.set_guard(unit, guard);
+    }
+
+    /// Sets how much of a structure is done, and marks the structure.
+    pub fn set_done(&mut self, structure: u32, done: u32)
+        ensures what { self.new.what ≡ with_done self.old.what structure done }
+        ensures marks { self.new.marks ≡ mark_structure self.old structure }
+    {
+        if let Some(found) = self.structures.get_mut(structure) {
+            found.done = done;
+        }
+    }
+
+    /// Sets a structure's name, and marks the structure.
+    pub fn set_structure_name(&mut self, structure: u32, name: Text)
+        ensures what { self.new.what ≡ with_structure_name self.old.what structure name }
+        ensures marks { self.new.marks ≡ mark_structure self.old structure }
+    {
+        if let Some(found) = self.structures.get_mut(structure) {
+            found.name = name;
+        }
+    }
+
+    /// Sets the region where a structure stands, and marks the structure. The units inside stay where they are.
+    pub fn set_structure_region(&mut self, structure: u32, region: u32)
+        ensures what { self.new.what ≡ with_structure_region self.old.what structure region }
+        ensures marks { self.new.marks ≡ mark_structure self.old structure }
+    {
+        if let Some(found) = self.structures.get_mut(structure) {
+            found.region = region;
+        }
+    }
+
+    /// Sets a structure's owner, a unit's number or 0, and marks the structure.
+    pub fn set_owner(&mut self, structure: u32, owner: u32)
+        ensures what { self.new.what ≡ with_owner self.old.what structure owner }
+        ensures marks { self.new.marks ≡ mark_structure self.old structure }
+    {
+        if let Some(found) = self.structures.get_mut(structure) {
+            found.owner = owner;
+        }
+    }
+
+    /// Books so much more of a thing under an entry, and marks that amount. See docs/RULES.md, "Books".
+    pub fn book(&mut self, entry: Entry, thing: Thing, amount: i64)
+        requires there { thing_place thing < length self.old.what.books }
+        requires fits { FitsSigned w64 (amount_in self.old.what.books entry thing +ℤ amount) }
+        ensures what { self.new.what ≡ with_amount self.old.what entry thing amount }
+        ensures marks { self.new.marks ≡ mark_amount self.old entry thing }
+    {
+        self.books.book(entry, thing, amount);
+        self.amounts_marked.mark(entry, thing);
+    }
+
+    /// Takes all mail away, and marks the mail of each faction that had some.
+    pub fn clear_mail(&mut self)
+        ensures what { self.new.what ≡ without_mail self.old.what }
+        ensures marks { self.new.marks ≡ mark_all_mail self.old }
+    {
+        self.mail.clear();
+    }
+}

@@ -1,0 +1,210 @@
+//! The rules of the tables, by which the rows of a campaign are judged.
+ghost use Rattle.std.specs.Prelude.{◌≡◌, true};
+ghost use Rattle.std.specs.Bool.{Decides};
+ghost use Rattle.std.specs.List.{list_all};
+ghost use Rattle.atl_tables.specs.Planet.{IsWorld};
+ghost use Rattle.atl_state.specs.declared.check.Rule.TheVariants as rule;
+ghost use Rattle.atl_state.specs.Checking.{rule_number, Keeps, KeepsBelow, Passes, Checks};
+ghost use Rattle.atl_state.specs.FromRows.{state_of};
+ghost use Rattle.atl_state.specs.RowRules.{is_of_unit, is_booked};
+
+use crate::campaign::{Campaign, assembled};
+use crate::limits::ENTRY_COUNT;
+use crate::parts::{Parts, StoredBooks};
+use crate::row_rules::{as_u32, is_one_head, rows_in_range, rows_named};
+use crate::rules::{
+    are_afloat, are_balanced, are_days, are_gone, are_guarded, are_known, are_mailings,
+    are_numbered, are_owned, are_reported,
+};
+use atl_tables::World;
+use std::alloc::Global;
+
+/// A rule that the rows of a campaign's tables keep. Each is read of rows that keep the rules before it. See
+/// docs/FORMATS.md, "Rules of the tables".
+#[derive(Drop, Clone, Copy, Debug, PartialEq, Eq)]
+pub enum Rule {
+    /// There is one row of the campaign's own, whose id and format are 1.
+    OneRow,
+    /// Keys differ, each number is in its range, and there are not too many rows.
+    Ranges,
+    /// Names and pass texts keep their rules, and joined names differ.
+    Names,
+    /// The regions are the world's, and all that a row names is there.
+    Known,
+    /// The numbers that come next are those after the last.
+    Next,
+    /// Days of study are from 1 to 450 for each man.
+    Days,
+    /// The factions that are gone are those without units.
+    Gone,
+    /// A structure is owned by a unit inside, or by nobody where there is none.
+    Owners,
+    /// On water units are inside ships, and structures are complete ships.
+    Water,
+    /// At most one faction guards a region.
+    Guards,
+    /// The amounts of the books are of entries and things that are there, and the books balance.
+    Books,
+    /// Mail is of factions that are not gone, and every faction has a report.
+    Mail,
+}
+
+impl Rule {
+    /// The rule's number, from 1.
+    pub fn number(self) -> u8
+        ensures { result ≡ rule_number self }
+    {
+        match self {
+            Rule::OneRow => 1,
+            Rule::Ranges => 2,
+            Rule::Names => 3,
+            Rule::Known => 4,
+            Rule::Next => 5,
+            Rule::Days => 6,
+            Rule::Gone => 7,
+            Rule::Owners => 8,
+            Rule::Water => 9,
+            Rule::Guards => 10,
+            Rule::Books => 11,
+            Rule::Mail => 12,
+        }
+    }
+}
+
+/// Why rows are not those of a good campaign.
+#[derive(Drop, Clone, Copy, Debug, PartialEq, Eq)]
+pub enum CheckFault {
+    /// The first rule that the rows break.
+    Damaged(Rule),
+    Memory,
+}
+
+/// The rules that are judged before a campaign is made of the rows.
+fn check_rows(alloc: Global, world: &World, parts: &Parts) -> Result<(), CheckFault>
+    ensures { Passes world.now parts.now 4 result }
+{
+    if !is_one_head(parts.campaign.as_slice()) {
+        return Err(CheckFault::Damaged(Rule::OneRow));
+    }
+    match rows_in_range(alloc, world, parts) {
+        Ok(true) => {}
+        Ok(false) => return Err(CheckFault::Damaged(Rule::Ranges)),
+        Err(_) => return Err(CheckFault::Memory),
+    }
+    match rows_named(alloc, parts) {
+        Ok(true) => Ok(()),
+        Ok(false) => Err(CheckFault::Damaged(Rule::Names)),
+        Err(_) => Err(CheckFault::Memory),
+    }
+}
+
+/// Whether what units have is of units that are there.
+fn are_of_units(parts: &Parts, campaign: &Campaign) -> bool
+    ensures { result ≡ list_all (is_of_unit campaign.now.what) parts.now.has }
+{
+    parts
+        .has
+        .as_slice()
+        .iter()
+        .all(|row| campaign.unit(as_u32(row.unit)).is_some())
+}
+
+fn is_booked(world: &World, row: &StoredBooks) -> bool
+    ensures { result ≡ is_booked world.now row.now }
+{
+    let entry = as_u32(row.entry) as usize;
+    let things = 2 + world.items().len();
+    1 <= entry && entry <= ENTRY_COUNT && (as_u32(row.thing) as usize) < things
+}
+
+fn are_booked(world: &World, parts: &Parts) -> bool
+    ensures { result ≡ list_all (is_booked world.now) parts.now.books }
+{
+    parts
+        .books
+        .as_slice()
+        .iter()
+        .all(|row| is_booked(world, row))
+}
+
+fn keeps_known(world: &World, parts: &Parts, campaign: &Campaign) -> bool
+    requires { campaign.now.what ≡ state_of world.now parts.now }
+    ensures { Decides result (Keeps world.now parts.now rule.Known) }
+{
+    are_known(world, campaign) && are_of_units(parts, campaign)
+}
+
+fn keeps_books(world: &World, parts: &Parts, campaign: &Campaign) -> bool
+    requires what { campaign.now.what ≡ state_of world.now parts.now }
+    requires before { KeepsBelow world.now parts.now 11 }
+    ensures { Decides result (Keeps world.now parts.now rule.Books) }
+{
+    are_booked(world, parts) && are_balanced(world, campaign)
+}
+
+fn keeps_mail(world: &World, parts: &Parts, campaign: &Campaign) -> bool
+    requires { campaign.now.what ≡ state_of world.now parts.now }
+    ensures { Decides result (Keeps world.now parts.now rule.Mail) }
+{
+    are_mailings(campaign) && are_reported(campaign)
+}
+
+/// What is there, and whose numbers and days are right.
+fn check_places(world: &World, parts: &Parts, campaign: &Campaign) -> Result<(), CheckFault>
+    requires what { campaign.now.what ≡ state_of world.now parts.now }
+    requires before { KeepsBelow world.now parts.now 4 }
+    ensures { Passes world.now parts.now 8 result }
+{
+    if !keeps_known(world, parts, campaign) {
+        return Err(CheckFault::Damaged(Rule::Known));
+    }
+    if !are_numbered(campaign) {
+        return Err(CheckFault::Damaged(Rule::Next));
+    }
+    if !are_days(campaign) {
+        return Err(CheckFault::Damaged(Rule::Days));
+    }
+    if !are_gone(campaign) {
+        return Err(CheckFault::Damaged(Rule::Gone));
+    }
+    Ok(())
+}
+
+/// Who owns and guards, what floats, what is booked and what is sent.
+fn check_holders(world: &World, parts: &Parts, campaign: &Campaign) -> Result<(), CheckFault>
+    requires what { campaign.now.what ≡ state_of world.now parts.now }
+    requires before { KeepsBelow world.now parts.now 8 }
+    ensures { Passes world.now parts.now 13 result }
+{
+    if !are_owned(campaign) {
+        return Err(CheckFault::Damaged(Rule::Owners));
+    }
+    if !are_afloat(world, campaign) {
+        return Err(CheckFault::Damaged(Rule::Water));
+    }
+    if !are_guarded(campaign) {
+        return Err(CheckFault::Damaged(Rule::Guards));
+    }
+    if !keeps_books(world, parts, campaign) {
+        return Err(CheckFault::Damaged(Rule::Books));
+    }
+    if !keeps_mail(world, parts, campaign) {
+        return Err(CheckFault::Damaged(Rule::Mail));
+    }
+    Ok(())
+}
+
+/// The campaign of these rows, each of which counts once, in any order, with nothing marked; it is good. Damaged tells the
+/// first rule that the rows break. See docs/FORMATS.md, "Rules of the tables".
+pub fn check(alloc: Global, world: &World, parts: Parts) -> Result<Campaign, CheckFault>
+    ensures { Checks world.now parts result }
+{
+    check_rows(alloc, world, &parts)?;
+    let campaign = match assembled(alloc, world, &parts) {
+        Ok(campaign) => campaign,
+        Err(_) => return Err(CheckFault::Memory),
+    };
+    check_places(world, &parts, &campaign)?;
+    check_holders(world, &parts, &campaign)?;
+    Ok(campaign)
+}

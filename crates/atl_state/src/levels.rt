@@ -1,0 +1,107 @@
+//! Levels of skills, and what units weigh and carry.
+ghost use Rattle.std.specs.Prelude.{◌≡◌, ◌≤◌, ◌*◌, nat_le};
+ghost use Rattle.atl_tables.specs.Limits.{last_level, most_items, most_weight};
+ghost use Rattle.atl_state.specs.Levels.{days_for, level_of, weight_of, carry_of, goods_of, carried_by_goods, load_of, carried_by};
+
+use crate::holding::Holding;
+use atl_tables::World;
+use atl_tables::limits::LAST_LEVEL;
+
+/// Whether the days of study of so many men are enough for a level, which is at most 5.
+fn is_reached(level: u32, days: u32, men: u32) -> bool
+    requires { level ≤ last_level }
+    ensures { result ≡ nat_le (days_for level men) days }
+{
+    u64::from(15 * level * (level + 1)) * u64::from(men) <= u64::from(days)
+}
+
+/// The level of so many men with so many days of study among them: the greatest number `n` from 0 to 5 with
+/// `15 * n * (n + 1) * men` at most the days, and 0 without men. It takes no memory. See docs/RULES.md, "Levels and
+/// loads".
+#[tactic(auto, unfolding(crate::specs::Levels::level_of))]
+pub fn level(days: u32, men: u32) -> u32
+    ensures value { result ≡ level_of days men }
+    ensures small { result ≤ last_level }
+{
+    if men == 0 {
+        return 0;
+    }
+    let mut level = LAST_LEVEL;
+    while !is_reached(level, days, men) {
+        level -= 1;
+    }
+    level
+}
+
+/// What one of an item weighs; an item that the world has not weighs nothing.
+fn weight(world: &World, item: u32) -> u32
+    ensures value { result ≡ weight_of world.now item }
+    ensures small { result ≤ most_weight }
+    ensures far { most_items ≤ item → result ≡ 0 }
+{
+    match world.items().get(item as usize) {
+        Some(found) => found.weight,
+        None => 0,
+    }
+}
+
+/// What one of an item carries; an item that the world has not carries nothing.
+fn carriage(world: &World, item: u32) -> u32
+    ensures value { result ≡ carry_of world.now item }
+    ensures small { result ≤ most_weight }
+    ensures far { most_items ≤ item → result ≡ 0 }
+{
+    match world.items().get(item as usize) {
+        Some(found) => found.carry,
+        None => 0,
+    }
+}
+
+/// What so many of an item weigh or carry.
+fn times(amount: u32, each: u32) -> u64
+    requires { each ≤ most_weight }
+    ensures value { result ≡ amount * each }
+    ensures small { result ≤ 4294967295 * most_weight }
+{
+    u64::from(amount) * u64::from(each)
+}
+
+/// The weight of a unit's goods: the sum of amount times weight over the items that it holds. Money weighs nothing. It
+/// takes no memory. See docs/RULES.md, "Levels and loads".
+pub fn goods(world: &World, holding: &Holding) -> u64
+    ensures value { result ≡ goods_of world.now holding.now }
+    ensures small { result ≤ 4294967295 * most_weight * most_items }
+{
+    let mut sum = 0;
+    for (item, amount) in holding.items() {
+        sum += times(*amount, weight(world, item));
+    }
+    sum
+}
+
+/// What a unit's goods carry: the sum of amount times carry over the items that it holds.
+fn carried_by_goods(world: &World, holding: &Holding) -> u64
+    ensures value { result ≡ carried_by_goods world.now holding.now }
+    ensures small { result ≤ 4294967295 * most_weight * most_items }
+{
+    let mut sum = 0;
+    for (item, amount) in holding.items() {
+        sum += times(*amount, carriage(world, item));
+    }
+    sum
+}
+
+/// The weight of a unit: that of its men and of its goods. It takes no memory. See docs/RULES.md, "Levels and loads".
+pub fn load(world: &World, holding: &Holding) -> u64
+    ensures { result ≡ load_of world.now holding.now }
+{
+    u64::from(holding.men()) * u64::from(world.rules().man_weight) + goods(world, holding)
+}
+
+/// The weight of goods that a unit can carry: what its men and its goods carry. It takes no memory. See docs/RULES.md,
+/// "Levels and loads".
+pub fn carry(world: &World, holding: &Holding) -> u64
+    ensures { result ≡ carried_by world.now holding.now }
+{
+    u64::from(holding.men()) * u64::from(world.rules().man_carry) + carried_by_goods(world, holding)
+}

@@ -1,0 +1,303 @@
+//! The rows of a campaign.
+ghost use Rattle.std.specs.Prelude.{◌≡◌, ◌≤◌, ◌<◌, ◌++◌, ◌∷◌, [], IfOk, OnOk, length};
+ghost use Rattle.std.specs.FinMap as map;
+ghost use Rattle.atl_state.specs.Limits.{entry_count};
+ghost use Rattle.atl_state.specs.Rows.{flag, rows_by, head_row, faction_row, region_row, unit_row, structure_row, mail_row, report_row, has_row, books_row, sort_rows, held_rows, has_rows, amount_at, entry_rows, books_rows, rows_of};
+
+use crate::books::Books;
+use crate::campaign::Campaign;
+use crate::holding::Holding;
+use crate::limits::ENTRY_COUNT;
+use crate::parts::{
+    Parts, StoredBooks, StoredFaction, StoredHas, StoredHead, StoredMail, StoredRegion,
+    StoredReport, StoredStructure, StoredUnit,
+};
+use crate::records::{Faction, Structure, Unit};
+use atl_tables::{Entries, Sequence, Text};
+use std::alloc::{AllocError, Global};
+
+/// The sort of a row that is of an item.
+pub(crate) const ITEM_SORT: u32 = 0;
+
+/// The sort of a row that is of a skill.
+pub(crate) const SKILL_SORT: u32 = 1;
+
+/// The id of a campaign's own row, and its format.
+const CAMPAIGN_ID: i64 = 1;
+
+const CAMPAIGN_FORMAT: i64 = 1;
+
+fn bytes_of(alloc: Global, text: &Text) -> Result<Sequence<u8>, AllocError>
+    ensures { IfOk result (λ bytes. bytes ≡ text.now) }
+{
+    Sequence::from_slice(alloc, text.as_bytes())
+}
+
+fn flag(set: bool) -> i64
+    ensures { result ≡ flag set }
+{
+    if set { 1 } else { 0 }
+}
+
+fn head_row(alloc: Global, campaign: &Campaign) -> Result<StoredHead, AllocError>
+    ensures { IfOk result (λ row. row ≡ head_row campaign.now.what) }
+{
+    let pass = bytes_of(alloc, campaign.pass())?;
+    Ok(StoredHead {
+        id: CAMPAIGN_ID,
+        format: CAMPAIGN_FORMAT,
+        month: i64::from(campaign.month()),
+        next_faction: i64::from(campaign.next_faction()),
+        next_unit: i64::from(campaign.next_unit()),
+        next_structure: i64::from(campaign.next_structure()),
+        pass,
+    })
+}
+
+fn faction_row(alloc: Global, number: u32, faction: &Faction) -> Result<StoredFaction, AllocError>
+    ensures { IfOk result (λ row. row ≡ faction_row number faction.now) }
+{
+    let joined_as = bytes_of(alloc, &faction.joined_as)?;
+    let name = bytes_of(alloc, &faction.name)?;
+    let pass = bytes_of(alloc, &faction.pass)?;
+    Ok(StoredFaction {
+        number: i64::from(number),
+        joined_as,
+        name,
+        pass,
+        gone: flag(faction.gone),
+    })
+}
+
+fn unit_row(alloc: Global, number: u32, unit: &Unit) -> Result<StoredUnit, AllocError>
+    ensures { IfOk result (λ row. row ≡ unit_row number unit.now) }
+{
+    let name = bytes_of(alloc, unit.holding.name())?;
+    Ok(StoredUnit {
+        number: i64::from(number),
+        faction: i64::from(unit.faction),
+        name,
+        region: i64::from(unit.region),
+        structure: i64::from(unit.structure),
+        men: i64::from(unit.holding.men()),
+        money: i64::from(unit.holding.money()),
+        guard: flag(unit.holding.guard()),
+    })
+}
+
+fn structure_row(
+    alloc: Global,
+    number: u32,
+    structure: &Structure,
+) -> Result<StoredStructure, AllocError>
+    ensures { IfOk result (λ row. row ≡ structure_row number structure.now) }
+{
+    let name = bytes_of(alloc, &structure.name)?;
+    Ok(StoredStructure {
+        number: i64::from(number),
+        kind: i64::from(structure.kind),
+        name,
+        region: i64::from(structure.region),
+        done: i64::from(structure.done),
+        owner: i64::from(structure.owner),
+    })
+}
+
+fn head_rows(alloc: Global, campaign: &Campaign) -> Result<Sequence<StoredHead>, AllocError>
+    ensures { IfOk result (λ rows. rows ≡ head_row campaign.now.what ∷ []) }
+{
+    let mut rows = Sequence::new(alloc);
+    rows.push(head_row(alloc, campaign)?)?;
+    Ok(rows)
+}
+
+fn faction_rows(alloc: Global, campaign: &Campaign) -> Result<Sequence<StoredFaction>, AllocError>
+    ensures { IfOk result (λ rows. rows ≡ rows_by faction_row (map.entries campaign.now.what.factions)) }
+{
+    let mut rows = Sequence::new(alloc);
+    for (number, faction) in campaign.factions() {
+        rows.push(faction_row(alloc, number, faction)?)?;
+    }
+    Ok(rows)
+}
+
+fn region_rows(alloc: Global, campaign: &Campaign) -> Result<Sequence<StoredRegion>, AllocError>
+    ensures { IfOk result (λ rows. rows ≡ rows_by region_row (map.entries campaign.now.what.regions)) }
+{
+    let mut rows = Sequence::new(alloc);
+    for (number, region) in campaign.regions() {
+        rows.push(StoredRegion {
+            number: i64::from(number),
+            peasants: i64::from(region.peasants),
+            money: i64::from(region.money),
+        })?;
+    }
+    Ok(rows)
+}
+
+fn unit_rows(alloc: Global, campaign: &Campaign) -> Result<Sequence<StoredUnit>, AllocError>
+    ensures { IfOk result (λ rows. rows ≡ rows_by unit_row (map.entries campaign.now.what.units)) }
+{
+    let mut rows = Sequence::new(alloc);
+    for (number, unit) in campaign.units() {
+        rows.push(unit_row(alloc, number, unit)?)?;
+    }
+    Ok(rows)
+}
+
+fn structure_rows(
+    alloc: Global,
+    campaign: &Campaign,
+) -> Result<Sequence<StoredStructure>, AllocError>
+    ensures { IfOk result (λ rows. rows ≡ rows_by structure_row (map.entries campaign.now.what.structures)) }
+{
+    let mut rows = Sequence::new(alloc);
+    for (number, structure) in campaign.structures() {
+        rows.push(structure_row(alloc, number, structure)?)?;
+    }
+    Ok(rows)
+}
+
+fn mail_rows(alloc: Global, campaign: &Campaign) -> Result<Sequence<StoredMail>, AllocError>
+    ensures { IfOk result (λ rows. rows ≡ rows_by mail_row (map.entries campaign.now.what.mail)) }
+{
+    let mut rows = Sequence::new(alloc);
+    for (number, mail) in campaign.mail() {
+        let text = Sequence::from_slice(alloc, mail.as_slice())?;
+        let faction = i64::from(number);
+        rows.push(StoredMail { faction, text })?;
+    }
+    Ok(rows)
+}
+
+fn report_rows(alloc: Global, campaign: &Campaign) -> Result<Sequence<StoredReport>, AllocError>
+    ensures { IfOk result (λ rows. rows ≡ rows_by report_row (map.entries campaign.now.what.reports)) }
+{
+    let mut rows = Sequence::new(alloc);
+    for (number, report) in campaign.reports() {
+        let text = report.copy(alloc)?;
+        let faction = i64::from(number);
+        rows.push(StoredReport { faction, text })?;
+    }
+    Ok(rows)
+}
+
+fn has_row(number: u32, sort: u32, thing: u32, amount: u32) -> StoredHas
+    ensures { result ≡ has_row number sort thing amount }
+{
+    StoredHas {
+        unit: i64::from(number),
+        sort: i64::from(sort),
+        thing: i64::from(thing),
+        amount: i64::from(amount),
+    }
+}
+
+/// Adds what a unit has of a sort.
+fn add_sort(
+    rows: &mut Sequence<StoredHas>,
+    number: u32,
+    sort: u32,
+    things: Entries<'_, u32>,
+) -> Result<(), AllocError>
+    ensures { OnOk result (rows.new ≡ rows.old ++ sort_rows number sort things.entry) }
+{
+    for (thing, amount) in things {
+        if *amount != 0 {
+            rows.push(has_row(number, sort, thing, *amount))?;
+        }
+    }
+    Ok(())
+}
+
+/// Adds what a unit has.
+fn add_held(
+    rows: &mut Sequence<StoredHas>,
+    number: u32,
+    holding: &Holding,
+) -> Result<(), AllocError>
+    ensures { OnOk result (rows.new ≡ rows.old ++ held_rows number holding.now) }
+{
+    add_sort(rows, number, ITEM_SORT, holding.items())?;
+    add_sort(rows, number, SKILL_SORT, holding.days())
+}
+
+fn has_rows(alloc: Global, campaign: &Campaign) -> Result<Sequence<StoredHas>, AllocError>
+    ensures { IfOk result (λ rows. rows ≡ has_rows (map.entries campaign.now.what.units)) }
+{
+    let mut rows = Sequence::new(alloc);
+    for (number, unit) in campaign.units() {
+        add_held(&mut rows, number, &unit.holding)?;
+    }
+    Ok(rows)
+}
+
+fn books_row(entry: usize, thing: usize, amount: i64) -> StoredBooks
+    requires entry { entry < entry_count }
+    requires thing { thing < 65538 }
+    ensures { result ≡ books_row entry thing amount }
+{
+    StoredBooks {
+        entry: entry as i64 + 1,
+        thing: thing as i64,
+        amount,
+    }
+}
+
+/// Adds the amounts of an entry.
+fn add_entry(
+    rows: &mut Sequence<StoredBooks>,
+    books: &Books,
+    entry: usize,
+) -> Result<(), AllocError>
+    requires { entry < entry_count }
+    ensures { OnOk result (rows.new ≡ rows.old ++ entry_rows books.now (length books.now) entry) }
+{
+    for thing in 0..books.len() {
+        let amount = books.amount_at(entry, thing);
+        if amount != 0 {
+            rows.push(books_row(entry, thing, amount))?;
+        }
+    }
+    Ok(())
+}
+
+fn books_rows(alloc: Global, books: &Books) -> Result<Sequence<StoredBooks>, AllocError>
+    ensures { IfOk result (λ rows. rows ≡ books_rows books.now) }
+{
+    let mut rows = Sequence::new(alloc);
+    for entry in 0..ENTRY_COUNT {
+        add_entry(&mut rows, books, entry)?;
+    }
+    Ok(rows)
+}
+
+impl Campaign {
+    /// The rows that stand for the campaign, in the order of their keys. See docs/FORMATS.md, "Tables".
+    #[tactic(auto, unfolding(crate::specs::Rows::rows_of))]
+    pub fn parts(&self) -> Result<Parts, AllocError>
+        ensures { IfOk result (λ parts. parts ≡ rows_of self.now.what) }
+    {
+        let alloc = self.alloc();
+        let campaign = head_rows(alloc, self)?;
+        let factions = faction_rows(alloc, self)?;
+        let regions = region_rows(alloc, self)?;
+        let units = unit_rows(alloc, self)?;
+        let has = has_rows(alloc, self)?;
+        let structures = structure_rows(alloc, self)?;
+        let mail = mail_rows(alloc, self)?;
+        let reports = report_rows(alloc, self)?;
+        let books = books_rows(alloc, self.books())?;
+        Ok(Parts {
+            campaign,
+            factions,
+            regions,
+            units,
+            has,
+            structures,
+            mail,
+            reports,
+            books,
+        })
+    }
+}

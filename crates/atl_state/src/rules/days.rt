@@ -1,0 +1,34 @@
+//! Days of study.
+ghost use Rattle.std.specs.Prelude.{◌≤◌, ◌*◌};
+ghost use Rattle.std.specs.Bool.{Decides};
+ghost use Rattle.atl_state.specs.Good.{Every, AreDays};
+ghost use Rattle.atl_state.specs.Limits.{most_days};
+
+use crate::campaign::Campaign;
+use crate::holding::Holding;
+use crate::limits::MOST_DAYS;
+
+/// Whether the days of each skill that is studied are from 1 to 450 for each man.
+fn has_days(holding: &Holding) -> bool
+    ensures { Decides result (Every (λ s days. (1 ≤ days) × (days ≤ most_days * holding.now.men)) holding.now.days) }
+{
+    let most = MOST_DAYS * holding.men();
+    for (_, days) in holding.days() {
+        if *days < 1 || *days > most {
+            return false;
+        }
+    }
+    true
+}
+
+/// Whether each unit has 1 to 450 days for each man in each skill that it studied. It takes no memory.
+pub(crate) fn are_days(campaign: &Campaign) -> bool
+    ensures { Decides result (AreDays campaign.now.what) }
+{
+    for (_, unit) in campaign.units() {
+        if !has_days(&unit.holding) {
+            return false;
+        }
+    }
+    true
+}

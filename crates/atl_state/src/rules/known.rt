@@ -1,0 +1,209 @@
+//! What is named by its number: all of it is there.
+ghost use Rattle.std.specs.Prelude.{◌≡◌, ◌≢◌, ◌<◌, ◌↔◌, ℕ, Some, length};
+ghost use Rattle.std.specs.Bool.{Decides};
+ghost use Rattle.std.specs.FinMap as map;
+ghost use Rattle.atl_state.specs.declared.records.Structure as builds;
+ghost use Rattle.atl_state.specs.Deciding.{EachOf};
+ghost use Rattle.atl_state.specs.Good.{Every, IsThere, IsPlaced, IsBuilt, AreKnown};
+
+use crate::campaign::Campaign;
+use crate::holding::Holding;
+use crate::records::{Structure, Unit};
+use atl_tables::{Entries, World};
+
+fn is_faction(campaign: &Campaign, number: u32) -> bool
+    ensures { Decides result (IsThere campaign.now.what.factions number) }
+{
+    campaign.faction(number).is_some()
+}
+
+fn is_region(campaign: &Campaign, number: u32) -> bool
+    ensures { Decides result (IsThere campaign.now.what.regions number) }
+{
+    campaign.region(number).is_some()
+}
+
+fn is_unit(campaign: &Campaign, number: u32) -> bool
+    ensures { Decides result (IsThere campaign.now.what.units number) }
+{
+    campaign.unit(number).is_some()
+}
+
+/// Whether each region is one of the world's.
+fn are_of_world(world: &World, campaign: &Campaign) -> bool
+    ensures { Decides result (Every (λ n r. IsThere world.now.regions n) campaign.now.what.regions) }
+{
+    for (number, _) in campaign.regions() {
+        if world.region(number).is_none() {
+            return false;
+        }
+    }
+    true
+}
+
+/// Whether each of the world's regions is there.
+fn are_all_there(world: &World, campaign: &Campaign) -> bool
+    ensures { Decides result (Every (λ n p. IsThere campaign.now.what.regions n) world.now.regions) }
+{
+    for (number, _) in world.regions().iter() {
+        if !is_region(campaign, number) {
+            return false;
+        }
+    }
+    true
+}
+
+/// Whether the regions are exactly the world's.
+fn are_regions_known(world: &World, campaign: &Campaign) -> bool
+    ensures { Decides result ((n : ℕ) → IsThere campaign.now.what.regions n ↔ IsThere world.now.regions n) }
+{
+    are_of_world(world, campaign) && are_all_there(world, campaign)
+}
+
+/// Whether all numbers are below a count.
+fn are_below(entries: Entries<'_, u32>, count: usize) -> bool
+    ensures { Decides result (EachOf (λ n amount. n < count) entries.entry) }
+{
+    for (number, _) in entries {
+        if number as usize >= count {
+            return false;
+        }
+    }
+    true
+}
+
+/// Whether the items held and the skills studied are the world's.
+fn holds_known(world: &World, holding: &Holding) -> bool
+    ensures { Decides result (Every (λ i amount. i < length world.now.items) holding.now.items × Every (λ s days. s < length world.now.skills) holding.now.days) }
+{
+    are_below(holding.items(), world.items().len())
+        && are_below(holding.days(), world.skills().len())
+}
+
+/// Whether a unit is inside nothing, or inside a structure of its region.
+fn is_inside_here(campaign: &Campaign, unit: &Unit) -> bool
+    ensures { Decides result (unit.now.structure ≢ 0 → (s : builds.Structure) × (map.get campaign.now.what.structures unit.now.structure ≡ Some s) × (s.region ≡ unit.now.region)) }
+{
+    if unit.structure == 0 {
+        return true;
+    }
+    match campaign.structure(unit.structure) {
+        Some(structure) => structure.region == unit.region,
+        None => false,
+    }
+}
+
+/// Whether a unit's faction and region are there.
+fn is_somewhere(campaign: &Campaign, unit: &Unit) -> bool
+    ensures { Decides result (IsThere campaign.now.what.factions unit.now.faction × IsThere campaign.now.what.regions unit.now.region) }
+{
+    is_faction(campaign, unit.faction) && is_region(campaign, unit.region)
+}
+
+/// Whether a unit's structure, and what it holds and studied, are there.
+fn is_at_home(world: &World, campaign: &Campaign, unit: &Unit) -> bool
+    ensures { Decides result ((unit.now.structure ≢ 0 → (s : builds.Structure) × (map.get campaign.now.what.structures unit.now.structure ≡ Some s) × (s.region ≡ unit.now.region))
+        × (Every (λ i amount. i < length world.now.items) unit.now.holding.items × Every (λ s days. s < length world.now.skills) unit.now.holding.days)) }
+{
+    is_inside_here(campaign, unit) && holds_known(world, &unit.holding)
+}
+
+/// Whether all that a unit names is there.
+fn is_placed(world: &World, campaign: &Campaign, unit: &Unit) -> bool
+    ensures { Decides result (IsPlaced world.now campaign.now.what unit.now) }
+{
+    is_somewhere(campaign, unit) && is_at_home(world, campaign, unit)
+}
+
+/// Whether all that the units name is there.
+fn are_placed(world: &World, campaign: &Campaign) -> bool
+    ensures { Decides result (Every (λ n u. IsPlaced world.now campaign.now.what u) campaign.now.what.units) }
+{
+    for (_, unit) in campaign.units() {
+        if !is_placed(world, campaign, unit) {
+            return false;
+        }
+    }
+    true
+}
+
+/// Whether a structure's kind and region are there.
+fn is_standing(world: &World, campaign: &Campaign, structure: &Structure) -> bool
+    ensures { Decides result ((structure.now.kind < length world.now.kinds) × IsThere campaign.now.what.regions structure.now.region) }
+{
+    usize::from(structure.kind) < world.kinds().len() && is_region(campaign, structure.region)
+}
+
+/// Whether nobody owns a structure, or a unit that is there.
+fn is_owner_there(campaign: &Campaign, structure: &Structure) -> bool
+    ensures { Decides result (structure.now.owner ≢ 0 → IsThere campaign.now.what.units structure.now.owner) }
+{
+    structure.owner == 0 || is_unit(campaign, structure.owner)
+}
+
+/// Whether all that a structure names is there.
+fn is_built(world: &World, campaign: &Campaign, structure: &Structure) -> bool
+    ensures { Decides result (IsBuilt world.now campaign.now.what structure.now) }
+{
+    is_standing(world, campaign, structure) && is_owner_there(campaign, structure)
+}
+
+/// Whether all that the structures name is there.
+fn are_built(world: &World, campaign: &Campaign) -> bool
+    ensures { Decides result (Every (λ n s. IsBuilt world.now campaign.now.what s) campaign.now.what.structures) }
+{
+    for (_, structure) in campaign.structures() {
+        if !is_built(world, campaign, structure) {
+            return false;
+        }
+    }
+    true
+}
+
+/// Whether all mail is of factions that are there.
+fn are_mail_known(campaign: &Campaign) -> bool
+    ensures { Decides result (Every (λ n text. IsThere campaign.now.what.factions n) campaign.now.what.mail) }
+{
+    for (number, _) in campaign.mail() {
+        if !is_faction(campaign, number) {
+            return false;
+        }
+    }
+    true
+}
+
+/// Whether all reports are of factions that are there.
+fn are_reports_known(campaign: &Campaign) -> bool
+    ensures { Decides result (Every (λ n text. IsThere campaign.now.what.factions n) campaign.now.what.reports) }
+{
+    for (number, _) in campaign.reports() {
+        if !is_faction(campaign, number) {
+            return false;
+        }
+    }
+    true
+}
+
+/// Whether the regions, and all that units and structures name, are there.
+fn are_things_known(world: &World, campaign: &Campaign) -> bool
+    ensures { Decides result (((n : ℕ) → IsThere campaign.now.what.regions n ↔ IsThere world.now.regions n)
+        × (Every (λ n u. IsPlaced world.now campaign.now.what u) campaign.now.what.units × Every (λ n s. IsBuilt world.now campaign.now.what s) campaign.now.what.structures)) }
+{
+    are_regions_known(world, campaign)
+        && (are_placed(world, campaign) && are_built(world, campaign))
+}
+
+/// Whether the factions of mail and reports are there.
+fn are_posts_known(campaign: &Campaign) -> bool
+    ensures { Decides result (Every (λ n text. IsThere campaign.now.what.factions n) campaign.now.what.mail × Every (λ n text. IsThere campaign.now.what.factions n) campaign.now.what.reports) }
+{
+    are_mail_known(campaign) && are_reports_known(campaign)
+}
+
+/// Whether the regions are exactly the world's, all that is named by its number is there, and each unit's structure is in
+/// the unit's region. It takes no memory.
+pub(crate) fn are_known(world: &World, campaign: &Campaign) -> bool
+    ensures { Decides result (AreKnown world.now campaign.now.what) }
+{
+    are_things_known(world, campaign) && are_posts_known(campaign)
+}

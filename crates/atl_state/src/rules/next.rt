@@ -1,0 +1,61 @@
+//! The numbers that come next.
+ghost use Rattle.std.specs.Prelude.{◌≡◌, ◌≤◌, ◌<◌, ◌+◌, ℕ, None};
+ghost use Rattle.std.specs.Bool.{Decides};
+ghost use Rattle.std.specs.FinMap as map;
+ghost use Rattle.atl_state.specs.Deciding.{EachOf};
+ghost use Rattle.atl_state.specs.Good.{AreNumbered, IsNumbered};
+
+use crate::campaign::Campaign;
+use atl_tables::Entries;
+
+/// Whether all numbers are from the least one on and before the next.
+fn are_between<V>(entries: Entries<'_, V>, least: u32, next: u32) -> bool
+    ensures { Decides result (EachOf (λ n v. (least ≤ n) × (n < next)) entries.entry) }
+{
+    for (number, _) in entries {
+        if number < least || next <= number {
+            return false;
+        }
+    }
+    true
+}
+
+/// Whether a number is the next one behind so many, numbered from 1.
+fn is_behind(next: u32, count: usize) -> bool
+    ensures { Decides result (next ≡ count + 1) }
+{
+    1 <= next && (next - 1) as usize == count
+}
+
+/// Whether the factions are numbered from 1 without a gap, and the next number is the one behind.
+fn are_factions_numbered(campaign: &Campaign) -> bool
+    ensures { Decides result (IsNumbered campaign.now.what.factions campaign.now.what.next_faction) }
+{
+    let next = campaign.next_faction();
+    are_between(campaign.factions(), 1, next) && is_behind(next, campaign.faction_count())
+}
+
+/// Whether the structures are numbered from 1 without a gap, and the next number is the one behind.
+fn are_structures_numbered(campaign: &Campaign) -> bool
+    ensures { Decides result (IsNumbered campaign.now.what.structures campaign.now.what.next_structure) }
+{
+    let next = campaign.next_structure();
+    are_between(campaign.structures(), 1, next) && is_behind(next, campaign.structure_count())
+}
+
+/// Whether no unit has the number that comes next, or a later one.
+fn are_units_before(campaign: &Campaign) -> bool
+    ensures { Decides result ((n : ℕ) → campaign.now.what.next_unit ≤ n → map.get campaign.now.what.units n ≡ None) }
+{
+    are_between(campaign.units(), 0, campaign.next_unit())
+}
+
+/// Whether the numbers that come next are greater than all of their sort, and no faction and no structure is missing
+/// before them. It takes no memory.
+pub(crate) fn are_numbered(campaign: &Campaign) -> bool
+    ensures { Decides result (AreNumbered campaign.now.what) }
+{
+    are_factions_numbered(campaign)
+        && are_structures_numbered(campaign)
+        && are_units_before(campaign)
+}

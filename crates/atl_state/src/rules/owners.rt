@@ -1,0 +1,64 @@
+//! Owners of structures.
+ghost use Rattle.std.specs.Prelude.{◌≡◌, ◌≢◌, Some};
+ghost use Rattle.std.specs.Bool.{Decides};
+ghost use Rattle.std.specs.FinMap as map;
+ghost use Rattle.atl_state.specs.declared.records.Unit as records;
+ghost use Rattle.atl_state.specs.declared.records.Structure as builds;
+ghost use Rattle.atl_state.specs.Good.{Every, AreOwned};
+
+use crate::campaign::Campaign;
+use crate::records::{Structure, Unit};
+
+/// Whether nobody owns a structure, or a unit inside.
+fn is_owner_inside(campaign: &Campaign, number: u32, structure: &Structure) -> bool
+    ensures { Decides result (structure.now.owner ≢ 0 → (u : records.Unit) × (map.get campaign.now.what.units structure.now.owner ≡ Some u) × (u.structure ≡ number)) }
+{
+    if structure.owner == 0 {
+        return true;
+    }
+    match campaign.unit(structure.owner) {
+        Some(owner) => owner.structure == number,
+        None => false,
+    }
+}
+
+/// Whether each structure that has an owner has one inside.
+fn are_owners_inside(campaign: &Campaign) -> bool
+    ensures { Decides result (Every (λ n s. s.owner ≢ 0 → (u : records.Unit) × (map.get campaign.now.what.units s.owner ≡ Some u) × (u.structure ≡ n)) campaign.now.what.structures) }
+{
+    for (number, structure) in campaign.structures() {
+        if !is_owner_inside(campaign, number, structure) {
+            return false;
+        }
+    }
+    true
+}
+
+/// Whether the structure that a unit is inside, where it is there, has an owner.
+fn is_with_owner(campaign: &Campaign, unit: &Unit) -> bool
+    ensures { Decides result ((s : builds.Structure) → map.get campaign.now.what.structures unit.now.structure ≡ Some s → s.owner ≢ 0) }
+{
+    match campaign.structure(unit.structure) {
+        Some(structure) => structure.owner != 0,
+        None => true,
+    }
+}
+
+/// Whether no unit is inside a structure without an owner.
+fn are_with_owners(campaign: &Campaign) -> bool
+    ensures { Decides result (Every (λ m u. (s : builds.Structure) → map.get campaign.now.what.structures u.structure ≡ Some s → s.owner ≢ 0) campaign.now.what.units) }
+{
+    for (_, unit) in campaign.units() {
+        if !is_with_owner(campaign, unit) {
+            return false;
+        }
+    }
+    true
+}
+
+/// Whether each structure is owned by a unit inside, or by nobody where none is inside. It takes no memory.
+pub(crate) fn are_owned(campaign: &Campaign) -> bool
+    ensures { Decides result (AreOwned campaign.now.what) }
+{
+    are_owners_inside(campaign) && are_with_owners(campaign)
+}

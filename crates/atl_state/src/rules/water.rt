@@ -1,0 +1,90 @@
+//! What stands on water.
+ghost use Rattle.std.specs.Prelude.{◌≡◌, false, true};
+ghost use Rattle.std.specs.Bool.{Decides};
+ghost use Rattle.atl_state.specs.Good.{Every, AreAfloat, IsAboard, is_land_at, is_ship, size_of};
+
+use crate::campaign::Campaign;
+use crate::limits::MOST_SIZE;
+use crate::records::{Structure, Unit};
+use atl_tables::World;
+
+/// Whether a region is there and has land.
+fn is_land_at(world: &World, region: u32) -> bool
+    ensures { result ≡ is_land_at world.now region }
+{
+    match world.region(region) {
+        Some(plan) => match world.terrains().get(usize::from(plan.terrain)) {
+            Some(terrain) => terrain.land,
+            None => false,
+        },
+        None => false,
+    }
+}
+
+/// Whether a structure is a ship.
+fn is_ship(world: &World, structure: &Structure) -> bool
+    ensures { result ≡ is_ship world.now structure.now }
+{
+    match world.kinds().get(usize::from(structure.kind)) {
+        Some(kind) => kind.ship,
+        None => false,
+    }
+}
+
+/// The full size of a kind; where there is no such kind, the largest.
+pub(crate) fn size_of(world: &World, kind: u16) -> u32
+    ensures { result ≡ size_of world.now kind }
+{
+    match world.kinds().get(usize::from(kind)) {
+        Some(kind) => kind.size,
+        None => MOST_SIZE,
+    }
+}
+
+/// Whether a unit is inside a ship.
+fn is_aboard(world: &World, campaign: &Campaign, unit: &Unit) -> bool
+    ensures { Decides result (IsAboard world.now campaign.now.what unit.now) }
+{
+    match campaign.structure(unit.structure) {
+        Some(structure) => is_ship(world, structure),
+        None => false,
+    }
+}
+
+/// Whether each unit on water is inside a ship.
+fn are_units_afloat(world: &World, campaign: &Campaign) -> bool
+    ensures { Decides result (Every (λ n u. is_land_at world.now u.region ≡ false → IsAboard world.now campaign.now.what u) campaign.now.what.units) }
+{
+    for (_, unit) in campaign.units() {
+        if !is_land_at(world, unit.region) && !is_aboard(world, campaign, unit) {
+            return false;
+        }
+    }
+    true
+}
+
+/// Whether a structure is a complete ship.
+fn is_complete_ship(world: &World, structure: &Structure) -> bool
+    ensures { Decides result ((is_ship world.now structure.now ≡ true) × (structure.now.done ≡ size_of world.now structure.now.kind)) }
+{
+    is_ship(world, structure) && structure.done == size_of(world, structure.kind)
+}
+
+/// Whether each structure on water is a complete ship.
+fn are_ships_afloat(world: &World, campaign: &Campaign) -> bool
+    ensures { Decides result (Every (λ n s. is_land_at world.now s.region ≡ false → (is_ship world.now s ≡ true) × (s.done ≡ size_of world.now s.kind)) campaign.now.what.structures) }
+{
+    for (_, structure) in campaign.structures() {
+        if !is_land_at(world, structure.region) && !is_complete_ship(world, structure) {
+            return false;
+        }
+    }
+    true
+}
+
+/// Whether each unit on water is inside a ship, and each structure there is a complete ship. It takes no memory.
+pub(crate) fn are_afloat(world: &World, campaign: &Campaign) -> bool
+    ensures { Decides result (AreAfloat world.now campaign.now.what) }
+{
+    are_units_afloat(world, campaign) && are_ships_afloat(world, campaign)
+}

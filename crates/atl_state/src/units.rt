@@ -1,0 +1,176 @@
+//! The units of a campaign.
+ghost use Rattle.std.specs.Prelude.{◌≡◌, ◌≤◌, ℕ, IfOk, OnOk, OnErr, IsTrue, option_copied, None};
+ghost use Rattle.std.specs.FinMap as map;
+ghost use Rattle.std.specs.FinSet as set;
+ghost use Rattle.atl_tables.specs.Sums.{mapped};
+ghost use Rattle.atl_state.specs.Limits.{holding_limit};
+ghost use Rattle.atl_state.specs.Roster.{no_units, with_unit_at, with_row, without_unit_at};
+
+use crate::records::Unit;
+use atl_tables::{Entries, Numbered, Tracked};
+use std::alloc::{AllocError, Global};
+use std::marker::Model;
+
+/// The units by their numbers. Each has a mark on its row and one on its goods; the latter stands only with the former.
+pub(crate) struct Units {
+    rows: Tracked<Unit>,
+    // The same numbers; what is marked are the goods.
+    goods: Tracked<()>,
+}
+
+impl Drop for Units {
+    fn drop(self) {
+        let Units { rows: _, goods: _ } = self;
+    }
+}
+
+impl Model for Units {
+    ghost use Rattle.atl_state.specs.Roster.{Roster, roster_code};
+    ghost use Rattle.atl_state.specs.UnitPlaces.{AreUnits};
+
+    ghost Value = { Roster };
+
+    ghost coded = { roster_code };
+
+    ghost view = { λ a. record { values = a.rows.values; marks = a.rows.marks; goods = a.goods.marks } };
+
+    ghost invariant = { λ a. AreUnits a.rows a.goods };
+}
+
+impl Units {
+    ghost use Rattle.std.specs.Option.{option_copied_mut};
+    ghost use Rattle.std.specs.Borrow.{sem};
+    ghost use Rattle.atl_state.specs.UnitMarks.{LendsUnit};
+
+    pub(crate) fn new(alloc: Global) -> Units
+        ensures { result ≡ no_units }
+    {
+        Units {
+            rows: Tracked::new(alloc),
+            goods: Tracked::new(alloc),
+        }
+    }
+
+    /// These units, with nothing marked.
+    pub(crate) fn of(alloc: Global, values: Numbered<Unit>) -> Result<Units, AllocError>
+        ensures { IfOk result (λ units. units ≡ record { values = values; marks = set.empty; goods = set.empty }) }
+    {
+        let places = places_of(alloc, &values)?;
+        let goods = Tracked::of(alloc, places)?;
+        let rows = Tracked::of(alloc, values)?;
+        Ok(Units { rows, goods })
+    }
+
+    pub(crate) fn get(&self, number: u32) -> Option<&Unit>
+        ensures { option_copied result ≡ map.get self.now.values number }
+    {
+        self.rows.get(number)
+    }
+
+    /// The units with their numbers, in rising order.
+    pub(crate) fn iter(&self) -> Entries<'_, Unit>
+        ensures { result ≡ map.entries self.now.values }
+    {
+        self.rows.iter()
+    }
+
+    pub(crate) fn len(&self) -> usize
+        ensures { result ≡ map.len self.now.values }
+    {
+        self.rows.len()
+    }
+
+    /// How many units are marked.
+    pub(crate) fn marked(&self) -> usize
+        ensures value { result ≡ set.len self.now.marks }
+        ensures small { result ≤ 4294967296 }
+        ensures goods { (n : ℕ) → IsTrue (set.contains self.now.goods n) → IsTrue (set.contains self.now.marks n) }
+    {
+        self.rows.marked()
+    }
+
+    /// Lends a unit, and marks its row and its goods. It takes no memory.
+    pub(crate) fn get_mut(&mut self, number: u32) -> Option<&mut Unit>
+        ensures* writes_back { sem 𝓛 (LendsUnit self.entry number result) }
+        ensures value { option_copied_mut result ≡ map.get self.old.values number }
+    {
+        self.goods.mark(number);
+        match self.rows.get_mut(number) {
+            Some(unit) => Some(unit),
+            None => None,
+        }
+    }
+
+    /// Sets a unit's money, at most 999,999,999, and marks its row. It takes no memory.
+    pub(crate) fn set_money(&mut self, number: u32, money: u32)
+        requires { money ≤ holding_limit }
+        ensures { self.new ≡ with_row (λ u. record u { holding = record u.holding { money = money } }) self.old number }
+    {
+        if let Some(unit) = self.rows.get_mut(number) {
+            unit.holding.set_money(money);
+        }
+    }
+
+    /// Sets or clears a unit's guard flag, and marks its row. It takes no memory.
+    pub(crate) fn set_guard(&mut self, number: u32, guard: bool)
+        ensures { self.new ≡ with_row (λ u. record u { holding = record u.holding { guard = guard } }) self.old number }
+    {
+        if let Some(unit) = self.rows.get_mut(number) {
+            unit.holding.set_guard(guard);
+        }
+    }
+
+    /// Puts a unit in a region and a structure, and marks its row. It takes no memory.
+    pub(crate) fn set_place(&mut self, number: u32, region: u32, structure: u32)
+        ensures { self.new ≡ with_row (λ u. record u { region = region; structure = structure }) self.old number }
+    {
+        if let Some(unit) = self.rows.get_mut(number) {
+            unit.region = region;
+            unit.structure = structure;
+        }
+    }
+
+    /// Puts a unit under a number that has none, and marks its row and its goods. Without memory for it nothing changes.
+    pub(crate) fn insert(&mut self, number: u32, unit: Unit) -> Result<(), AllocError>
+        requires { map.get self.old.values number ≡ None }
+        ensures ok { OnOk result (self.new ≡ with_unit_at self.old number unit) }
+        ensures err { OnErr result (self.new ≡ self.old) }
+    {
+        let was_marked = self.goods.is_marked(number);
+        self.goods.insert(number, ())?;
+        match self.rows.insert(number, unit) {
+            Ok(()) => Ok(()),
+            Err(e) => {
+                self.goods.take_out(number, was_marked);
+                Err(e)
+            }
+        }
+    }
+
+    /// Takes a unit out, where there is one, and marks its row and its goods. It takes no memory.
+    pub(crate) fn remove(&mut self, number: u32)
+        ensures { self.new ≡ without_unit_at self.old number }
+    {
+        self.goods.remove(number);
+        self.rows.remove(number);
+    }
+
+    /// Leaves nothing marked. It takes no memory.
+    pub(crate) fn unmark(&mut self)
+        ensures { self.new ≡ record { values = self.old.values; marks = set.empty; goods = set.empty } }
+    {
+        self.goods.unmark();
+        self.rows.unmark();
+    }
+}
+
+/// A place for the mark on each unit's goods.
+fn places_of(alloc: Global, units: &Numbered<Unit>) -> Result<Numbered<()>, AllocError>
+    ensures { IfOk result (λ places. places ≡ mapped (λ _. tt {0}) units.now) }
+{
+    let mut places = Numbered::new(alloc);
+    for (number, _) in units.iter() {
+        places.insert(number, ())?;
+    }
+    Ok(places)
+}
