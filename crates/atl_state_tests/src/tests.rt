@@ -1,0 +1,14 @@
+//! The calls on campaigns and on holdings, with answers worked out by hand. Of what is large (a world, a campaign) each
+//! function holds one and lends it.
+mod books;
+mod checks;
+mod coming;
+mod compare;
+mod holdings;
+mod levels;
+mod making;
+mod owners;
+mod parts;
+mod setting;
+mod walks;
+mod worlds;

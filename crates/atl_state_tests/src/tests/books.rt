@@ -1,0 +1,94 @@
+//! Books by themselves, and those of a campaign.
+use super::compare::{is_count, is_number};
+use super::making::founded_in;
+use super::worlds::ISLE;
+use atl_state::{Books, Campaign, Entry, Thing};
+use atl_tables::{World, read_world};
+use std::alloc::Global;
+use std::process::Abort;
+use std::test::Fail;
+
+/// Money, people, wood and carts.
+const THINGS: usize = 4;
+
+fn books_some(books: &mut Books) -> Result<(), Fail> {
+    if books.len() != THINGS || books.amount(Entry::Wages, Thing::Money) != 0 {
+        return Err(Fail::new("empty books"));
+    }
+    books.book(Entry::Wages, Thing::Money, -7);
+    Ok(())
+}
+
+fn has_some(rt: &impl Abort, books: &Books) -> Result<(), Fail> {
+    if books.len() != THINGS {
+        return Err(Fail::new("four things"));
+    }
+    is_number(rt, books.amount(Entry::Wages, Thing::Money), -7);
+    is_number(rt, books.amount(Entry::Study, Thing::Money), 0);
+    is_number(rt, books.amount(Entry::Wages, Thing::People), 0);
+    is_number(rt, books.amount(Entry::Wages, Thing::Item(1)), 0);
+    Ok(())
+}
+
+#[test]
+fn books_of_four_things(rt: HostRuntime) -> Result<(), Fail> {
+    let mut books = Books::new(rt.alloc(), THINGS)?;
+    books_some(&mut books)?;
+    has_some(&rt, &books)
+}
+
+/// Amounts of carts by their entries; of income two after each other.
+const BOOKED: [(Entry, i64); 6] = [
+    (Entry::Income, 5),
+    (Entry::Income, 6),
+    (Entry::Lost, -8),
+    (Entry::Left, -9),
+    (Entry::Made, 10),
+    (Entry::Used, -11),
+];
+
+fn books_carts(campaign: &mut Campaign, entry: Entry, amount: i64) -> Result<(), Fail> {
+    if campaign.things() != THINGS {
+        return Err(Fail::new("four things"));
+    }
+    let booked = campaign.booked(entry, Thing::Item(1));
+    if booked.checked_add(amount).is_none() {
+        return Err(Fail::new("an amount that fits"));
+    }
+    campaign.book(entry, Thing::Item(1), amount);
+    Ok(())
+}
+
+fn books_all(campaign: &mut Campaign) -> Result<(), Fail> {
+    for (entry, amount) in BOOKED.iter() {
+        books_carts(campaign, *entry, *amount)?;
+    }
+    Ok(())
+}
+
+/// What each amount is then; those that changed are marked.
+fn has_all(rt: &impl Abort, campaign: &Campaign) -> Result<(), Fail> {
+    if campaign.things() != THINGS {
+        return Err(Fail::new("four things"));
+    }
+    is_number(rt, campaign.booked(Entry::Income, Thing::Item(1)), 11);
+    is_number(rt, campaign.booked(Entry::Lost, Thing::Item(1)), -8);
+    is_number(rt, campaign.booked(Entry::Used, Thing::Item(1)), -11);
+    is_number(rt, campaign.booked(Entry::Income, Thing::Item(0)), 0);
+    is_number(rt, campaign.booked(Entry::Founding, Thing::Money), 650);
+    is_number(rt, campaign.booked(Entry::Founding, Thing::People), 1300);
+    is_count(rt, campaign.marks(), 5);
+    Ok(())
+}
+
+fn books(rt: &impl Abort, alloc: Global, world: &World) -> Result<(), Fail> {
+    let mut campaign = founded_in(alloc, world)?;
+    books_all(&mut campaign)?;
+    has_all(rt, &campaign)
+}
+
+#[test]
+fn booking_in_a_campaign(rt: HostRuntime) -> Result<(), Fail> {
+    let world = read_world(rt.alloc(), ISLE)?;
+    books(&rt, rt.alloc(), &world)
+}

@@ -1,0 +1,80 @@
+//! Campaigns, people and structures to work on.
+ghost use Rattle.std.specs.Prelude.{IfOk};
+ghost use Rattle.atl_state.specs.Good.{IsGood};
+
+use atl_state::{Campaign, Holding, LAST_UNIT, MOST_STRUCTURES, Structure, Unit, founded};
+use atl_tables::{Numbered, Text, World};
+use std::alloc::Global;
+use std::test::Fail;
+
+/// The region of the island's forest by the sea.
+pub(crate) const FAR: u32 = 3;
+
+/// The number of the kind `boat`.
+pub(crate) const BOAT: u16 = 0;
+
+/// The number of the kind `lodge`.
+pub(crate) const LODGE: u16 = 1;
+
+/// The campaign as it is founded.
+pub(crate) fn founded_in(alloc: Global, world: &World) -> Result<Campaign, Fail>
+    ensures { IfOk result (λ campaign. IsGood world.now campaign.what) }
+{
+    Ok(founded(alloc, world, b"gm")?)
+}
+
+/// Avalon joins, in the region that the word 1 names.
+pub(crate) fn avalon_joins(world: &World, campaign: &mut Campaign) -> Result<(u32, u32), Fail>
+    requires { IsGood world.now campaign.old.what }
+{
+    Ok(campaign.join(world, b"Avalon", b"pw", 1)?)
+}
+
+/// The campaign once Avalon has joined.
+pub(crate) fn joined_in(alloc: Global, world: &World) -> Result<Campaign, Fail> {
+    let mut campaign = founded_in(alloc, world)?;
+    avalon_joins(world, &mut campaign)?;
+    Ok(campaign)
+}
+
+/// One man with nothing.
+pub(crate) fn one_man(alloc: Global) -> Result<Holding, Fail> {
+    let name = Text::from_str(alloc, "A man")?;
+    Ok(Holding::new(name, 1, 0, Numbered::new(alloc), Numbered::new(alloc)))
+}
+
+/// One man of a faction comes, in the forest by the sea and inside no structure.
+pub(crate) fn man_comes(alloc: Global, campaign: &mut Campaign, faction: u32) -> Result<u32, Fail> {
+    let holding = one_man(alloc)?;
+    if campaign.next_unit() > LAST_UNIT || campaign.unit(campaign.next_unit()).is_some() {
+        return Err(Fail::new("a free number"));
+    }
+    Ok(campaign.begin_unit(Unit {
+        faction,
+        region: FAR,
+        structure: 0,
+        holding,
+    })?)
+}
+
+/// A structure of a kind is begun in the forest by the sea, of size 2 and with an owner.
+pub(crate) fn is_begun(
+    alloc: Global,
+    campaign: &mut Campaign,
+    kind: u16,
+    owner: u32,
+) -> Result<u32, Fail> {
+    let name = Text::from_str(alloc, "A structure")?;
+    if campaign.next_structure() > MOST_STRUCTURES
+        || campaign.structure(campaign.next_structure()).is_some()
+    {
+        return Err(Fail::new("a free number"));
+    }
+    Ok(campaign.begin_structure(Structure {
+        kind,
+        name,
+        region: FAR,
+        done: 2,
+        owner,
+    })?)
+}
