@@ -143,8 +143,8 @@ puts_inside old new entry thing amount count inside ran = (
       (ap (visible books_table) again)
       (λ r there same. let k = key_is r _ _ same in rw (k.0, k.1, cast_int (pos entry), cast_int (pos thing), cast_int amount) refl)
       (λ x there. let ints = key_ints has.nine.tables has.nine.indexes db sound x there in (
-        λ hit. let k = agree_is _ _ _ _ ints.one ints.two refl refl (sym (unwrapped _ _ (none_share books_table (Some target) new_row x has.nine.indexes (λ i there. has.nine.plain i books_table there (inr (inr (inr (inr (inr (inr (inr (inr (inl refl)))))))))))) ∙ hit) in rw (k.0, k.1) refl,
-        λ same. let k = key_is x _ _ same in unwrapped _ _ (none_share books_table (Some target) new_row x has.nine.indexes (λ i there. has.nine.plain i books_table there (inr (inr (inr (inr (inr (inr (inr (inr (inl refl))))))))))) ∙ rw (k.0, k.1) (agree_same _ _ refl refl),
+        λ hit. let k = agree_is _ _ _ _ ints.one ints.two refl refl (sym (unwrapped _ _ (none_share books_table (Some target) new_row x has.nine.indexes (λ i there. has.nine.plain i there books_table (inr (inr (inr (inr (inr (inr (inr (inr (inl refl)))))))))))) ∙ hit) in rw (k.0, k.1) refl,
+        λ same. let k = key_is x _ _ same in unwrapped _ _ (none_share books_table (Some target) new_row x has.nine.indexes (λ i there. has.nine.plain i there books_table (inr (inr (inr (inr (inr (inr (inr (inr (inl refl))))))))))) ∙ rw (k.0, k.1) (agree_same _ _ refl refl),
       ))
       (λ x r one two same. alone has.nine.tables has.nine.indexes db sound x r one two same)
       (inr (inr (inr (inr (inr (inr (inr (inr (inl refl))))))))) sound w.sound up.1 in

@@ -1,8 +1,7 @@
 -- A write of one of the nine tables under the schema that is there.
-use Rattle.std.proofs.Common.{◌≡◌, ◌≢◌, ℕ, false, List, [], ◌∷◌, ◌++◌, Option, refl, sym, ap, ◌∙◌, subst, inl, inr}
+use Rattle.std.proofs.Common.{◌≡◌, ◌≢◌, ℕ, false, List, [], ◌∷◌, ◌++◌, Option, refl, sym, ◌∙◌, subst, inl, inr}
 use Rattle.std.specs.List.{AllByRecursion, flat_map, filter_map, list_any}
 use Rattle.sqlite_value.specs.Order.{Row}
-use Rattle.sqlite_trees.specs.Tree.{Trees}
 use Rattle.sqlite_schema.specs.declared.schema.Table.{Table}
 use Rattle.sqlite_schema.specs.declared.schema.Index.{Index}
 use Rattle.sqlite_schema.specs.declared.schema.Schema.{Schema}
@@ -14,7 +13,7 @@ use Rattle.sqlite_schema.specs.Rules.{guards}
 use Rattle.sqlite_rules.specs.Action.{works, Work, work_for}
 use Rattle.sqlite.specs.Effect.{Database}
 use Rattle.atl_store.specs.Sets.{Set, IsSoundly, Makes}
-use Rattle.atl_store.specs.Tables.{all_tables, nine_and, nine_trees, HasNine}
+use Rattle.atl_store.specs.Tables.{all_tables, nine_and, nine_trees}
 use Rattle.atl_store.specs.Inside.{HasTables, Carries, Alters, Done}
 use Rattle.atl_store.proofs.ListLaws.{has_map}
 

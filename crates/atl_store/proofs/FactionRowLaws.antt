@@ -69,7 +69,7 @@ puts_inside old new number joined_as name pass gone count inside ran = (
       (subst (λ k. Upserted schema faction_table none old.step_limit v (0 ∷ []) 5 project (λ db. refl) k old.now.trees new.now.trees) made up.0)
       (ap (visible faction_table) casted)
       (λ r there same. rw (head_is _ _ _ _ same, cast_int (pos number), cast_int (if gone then pos 1 else pos 0)) refl)
-      (λ x there. by_number (rowid x) number _ (none_share faction_table (Some (0 ∷ [])) src x has.nine.indexes (λ i there. has.nine.plain i faction_table there (inr (inl refl)))) (are_ints x there))
+      (λ x there. by_number (rowid x) number _ (none_share faction_table (Some (0 ∷ [])) src x has.nine.indexes (λ i there. has.nine.plain i there faction_table (inr (inl refl)))) (are_ints x there))
       (λ x r one two same. one_number _ _ same)
       (inr (inl refl)) sound w.sound up.1 in
       done_with faction_table old.now new.now has (inr (inl refl)) _ _ (λ did. did) makes,

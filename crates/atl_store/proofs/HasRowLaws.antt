@@ -149,8 +149,8 @@ puts_inside old new unit sort thing amount count inside ran = (
       (ap (visible has_table) again)
       (λ r there same. let k = key_is r _ _ _ same in rw (k.0, k.1, k.2, cast_int (pos unit), cast_int (pos sort), cast_int (pos thing), cast_int (pos amount)) refl)
       (λ x there. let ints = key_ints has.nine.tables has.nine.indexes db sound x there in (
-        λ hit. let k = agree_is _ _ _ _ _ _ ints.one ints.two ints.three refl refl refl (sym (unwrapped _ _ (none_share has_table (Some target) new_row x has.nine.indexes (λ i there. has.nine.plain i has_table there (inr (inr (inr (inr (inl refl)))))))) ∙ hit) in rw (k.0, k.1, k.2) refl,
-        λ same. let k = key_is x _ _ _ same in unwrapped _ _ (none_share has_table (Some target) new_row x has.nine.indexes (λ i there. has.nine.plain i has_table there (inr (inr (inr (inr (inl refl))))))) ∙ rw (k.0, k.1, k.2) (agree_same _ _ _ refl refl refl),
+        λ hit. let k = agree_is _ _ _ _ _ _ ints.one ints.two ints.three refl refl refl (sym (unwrapped _ _ (none_share has_table (Some target) new_row x has.nine.indexes (λ i there. has.nine.plain i there has_table (inr (inr (inr (inr (inl refl)))))))) ∙ hit) in rw (k.0, k.1, k.2) refl,
+        λ same. let k = key_is x _ _ _ same in unwrapped _ _ (none_share has_table (Some target) new_row x has.nine.indexes (λ i there. has.nine.plain i there has_table (inr (inr (inr (inr (inl refl))))))) ∙ rw (k.0, k.1, k.2) (agree_same _ _ _ refl refl refl),
       ))
       (λ x r one two same. alone has.nine.tables has.nine.indexes db sound x r one two same)
       (inr (inr (inr (inr (inl refl))))) sound w.sound up.1 in

@@ -76,7 +76,7 @@ puts_head old new head world count has ran =
     let made : with_rowid Chosen (old.now.trees 0) (cast_row campaign_table src) ≡ src = ap (with_rowid Chosen (old.now.trees 0)) casted in
     let are_ints : (x : Row) → Has (old.now.trees 0) x → is_int (rowid x) ≡ true = λ x there. all_has _ (old.now.trees 0) x keyed.ints there in
     let upserted = subst (λ k. Upserted schema campaign_table none old.step_limit v (0 ∷ []) 6 project (λ db. refl) k old.now.trees new.now.trees) made up.0 in
-    let tests : Tests schema campaign_table 1 (hits schema campaign_table none old.step_limit v (0 ∷ []) 6 project (λ db. refl) src) (int 1 ∷ []) (old.now.trees 0) = λ x there. by_number (rowid x) 1 _ (none_share campaign_table (Some (0 ∷ [])) src x has.nine.indexes (λ i there. has.nine.plain i campaign_table there (inl refl))) (are_ints x there) in
+    let tests : Tests schema campaign_table 1 (hits schema campaign_table none old.step_limit v (0 ∷ []) 6 project (λ db. refl) src) (int 1 ∷ []) (old.now.trees 0) = λ x there. by_number (rowid x) 1 _ (none_share campaign_table (Some (0 ∷ [])) src x has.nine.indexes (λ i there. has.nine.plain i there campaign_table (inl refl))) (are_ints x there) in
     let first : rows_in campaign_table old.now.trees ≡ [] → Puts campaign_table 1 (head_row head world) old.now new.now = λ bare.
     altered campaign_table old.now new.now has (inl refl) _ (upserts_make schema campaign_table 1 none old.step_limit v (0 ∷ []) 6 project (λ db. refl) src (head_row head world) old.now new.now upserted
     (ap (visible campaign_table) casted)

@@ -98,7 +98,7 @@ arrives n f m u report before after found joining =
     let member_is : member ≡ f = found_is before.factions after.factions before.next_faction n member f factions number found.faction_is in
     let band_is : band ≡ u = found_is before.units after.units before.next_unit m band u units place found.unit_is in
     let report_is : joining.4 ≡ report = found_is before.reports after.reports n n joining.4 report reports refl found.report_is in
-    let half_grid = IsGrid-with_booked things before.books Joining Money start good.grid in
+    let half_grid = IsGrid-with_booked things before.books Joining Money start good.sound.steady.numbers.books in
     record {
       factions = factions ∙ ap (λ k. insert before.factions k member) (sym number) ∙ ap (insert before.factions n) member_is;
       units = units ∙ ap (λ k. insert before.units k band) (sym place) ∙ ap (insert before.units m) band_is;
@@ -106,11 +106,11 @@ arrives n f m u report before after found joining =
       regions = ap (λ (c : Campaign). c.regions) is;
       structures = ap (λ (c : Campaign). c.structures) is;
       mail = ap (λ (c : Campaign). c.mail) is;
-      fresh = good.units_new m (omega (arith, place));
+      fresh = good.sound.steady.next.units m (omega (arith, place));
       bare = λ sort. subst (λ (x : Unit). things_of sort x.holding ≡ empty) band_is (nothing sort);
       half = half;
       money = sym (ap (λ (b : List (List ℤ)). amount_in b Joining Money) books ∙ beside_booked things half Joining People (pos 1) half_grid (omega arith) Joining Money (inr (λ e. absurd (omega (arith, e)))));
-      first = λ e t far. beside_booked things before.books Joining Money start good.grid (omega arith) e t far;
+      first = λ e t far. beside_booked things before.books Joining Money start good.sound.steady.numbers.books (omega arith) e t far;
       second = λ e t far. ap (λ (b : List (List ℤ)). amount_in b e t) books ∙ beside_booked things half Joining People (pos 1) half_grid (omega arith) e t far;
     }
   where

@@ -45,7 +45,7 @@ makes_tables a b c d one two three =
           record {
             does = λ t listed. ap (map (visible t)) (made.0.empty t listed);
             tables = record {
-              nine = record { tables = []; indexes = []; is = made.0.schema_is; free = tt; plain = λ i t none listed. absurd none };
+              nine = record { tables = []; indexes = []; is = made.0.schema_is; free = tt; plain = λ i none. absurd none };
               sound = record {
                 keyed = λ t listed. subst IsKeyed (sym (made.0.empty t (subst (λ (s : Schema). Has s.tables t) made.0.schema_is listed))) no_rows;
                 listed = made.1;

@@ -69,7 +69,7 @@ puts_inside old new number peasants money count inside ran = (
       (subst (λ k. Upserted schema region_table none old.step_limit v (0 ∷ []) 3 project (λ db. refl) k old.now.trees new.now.trees) made up.0)
       (ap (visible region_table) casted)
       (λ r there same. rw (head_is _ _ _ _ same, cast_int (pos number), cast_int (pos peasants), cast_int (pos money)) refl)
-      (λ x there. by_number (rowid x) number _ (none_share region_table (Some (0 ∷ [])) src x has.nine.indexes (λ i there. has.nine.plain i region_table there (inr (inr (inl refl))))) (are_ints x there))
+      (λ x there. by_number (rowid x) number _ (none_share region_table (Some (0 ∷ [])) src x has.nine.indexes (λ i there. has.nine.plain i there region_table (inr (inr (inl refl))))) (are_ints x there))
       (λ x r one two same. one_number _ _ same)
       (inr (inr (inl refl))) sound w.sound up.1 in
       done_with region_table old.now new.now has (inr (inr (inl refl))) _ _ (λ did. did) makes,

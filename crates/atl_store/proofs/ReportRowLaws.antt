@@ -69,7 +69,7 @@ puts_inside old new faction text count inside ran = (
       (subst (λ k. Upserted schema report_table none old.step_limit v (0 ∷ []) 2 project (λ db. refl) k old.now.trees new.now.trees) made up.0)
       (ap (visible report_table) casted)
       (λ r there same. rw (head_is _ _ _ _ same, cast_int (pos faction)) refl)
-      (λ x there. by_number (rowid x) faction _ (none_share report_table (Some (0 ∷ [])) src x has.nine.indexes (λ i there. has.nine.plain i report_table there (inr (inr (inr (inr (inr (inr (inr (inl refl)))))))))) (are_ints x there))
+      (λ x there. by_number (rowid x) faction _ (none_share report_table (Some (0 ∷ [])) src x has.nine.indexes (λ i there. has.nine.plain i there report_table (inr (inr (inr (inr (inr (inr (inr (inl refl)))))))))) (are_ints x there))
       (λ x r one two same. one_number _ _ same)
       (inr (inr (inr (inr (inr (inr (inr (inl refl)))))))) sound w.sound up.1 in
       done_with report_table old.now new.now has (inr (inr (inr (inr (inr (inr (inr (inl refl)))))))) _ _ (λ did. did) makes,

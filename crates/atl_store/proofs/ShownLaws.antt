@@ -1,15 +1,12 @@
 -- From the rows that a SELECT answers to the rows that are read of them.
 use Rattle.std.proofs.Common.{◌≡◌, ◌<◌, ℕ, true, false, not, IsTrue, if◌then◌else◌, List, [], ◌∷◌, map, length, get_or, ap, ◌∙◌, refl, subst}
 use Rattle.std.specs.List.Sorted.{IsPermutation}
-use Rattle.std.proofs.lemmas.List.Sorted.{IsPermutation-map, IsPermutation-sym}
+use Rattle.std.proofs.lemmas.List.Sorted.{IsPermutation-map}
 use Rattle.sqlite.specs.Order.{Row}
 use Rattle.sqlite.specs.declared.error.Error.{Error}
-use Rattle.sqlite_schema.specs.declared.schema.Column.{Column}
 use Rattle.sqlite_rules.proofs.ListLemmas.{has_at}
 use Rattle.atl_store.specs.Faults.{is_memory, value_fault}
-use Rattle.atl_store.specs.Stored.{IsTyped, AreTyped}
-use Rattle.atl_store.proofs.ListLaws.{has_map}
-use Rattle.atl_store.proofs.EditLaws.{has_permuted}
+use Rattle.atl_store.specs.Stored.{Form, IsTyped, AreTyped}
 use Rattle.atl_store.specs.declared.fault.ReadFault.TheVariants.{Memory, OtherType}
 
 -- each row of the answer is whole, so its first columns are all that it has
@@ -27,9 +24,5 @@ other_only e is = elim (is_memory e) as (λ b. (if b then Memory else OtherType)
   | false ↦ λ _. refl
 ] is
 
-pub refuses_row : (columns : List Column) (rows : List Row) (at : ℕ) (row : Row) (e : Error) → at < length rows → row ≡ get_or rows at row → (IsTrue (not (is_memory e)) → ¬ IsTyped columns row) → value_fault e ≡ OtherType → ¬ AreTyped columns rows
-refuses_row columns rows at row e within is refused told typed = refused (other_only e told) (typed row (has_at rows at row within is))
-
--- where the answer has a value of another type, so has the table
-pub finds_other : (columns : List Column) (first : Row → Row) (shown rows : List Row) → IsPermutation shown (map first rows) → ((row : Row) → IsTyped columns (first row) → IsTyped columns row) → ¬ AreTyped columns rows → ¬ AreTyped columns shown
-finds_other columns first shown rows same whole refused typed = refused (λ row there. whole row (typed (first row) (has_permuted (map first rows) shown (first row) (IsPermutation-sym shown (map first rows) same) (has_map first rows row there))))
+pub refuses_row : (forms : List Form) (rows : List Row) (at : ℕ) (row : Row) (e : Error) → at < length rows → row ≡ get_or rows at row → (IsTrue (not (is_memory e)) → ¬ IsTyped forms row) → value_fault e ≡ OtherType → ¬ AreTyped forms rows
+refuses_row forms rows at row e within is refused told typed = refused (other_only e told) (typed row (has_at rows at row within is))

@@ -69,7 +69,7 @@ puts_inside old new number kind name region done owner count inside ran = (
       (subst (λ k. Upserted schema structure_table none old.step_limit v (0 ∷ []) 6 project (λ db. refl) k old.now.trees new.now.trees) made up.0)
       (ap (visible structure_table) casted)
       (λ r there same. rw (head_is _ _ _ _ same, cast_int (pos number), cast_int (pos kind), cast_int (pos region), cast_int (pos done), cast_int (pos owner)) refl)
-      (λ x there. by_number (rowid x) number _ (none_share structure_table (Some (0 ∷ [])) src x has.nine.indexes (λ i there. has.nine.plain i structure_table there (inr (inr (inr (inr (inr (inl refl)))))))) (are_ints x there))
+      (λ x there. by_number (rowid x) number _ (none_share structure_table (Some (0 ∷ [])) src x has.nine.indexes (λ i there. has.nine.plain i there structure_table (inr (inr (inr (inr (inr (inl refl)))))))) (are_ints x there))
       (λ x r one two same. one_number _ _ same)
       (inr (inr (inr (inr (inr (inl refl)))))) sound w.sound up.1 in
       done_with structure_table old.now new.now has (inr (inr (inr (inr (inr (inl refl)))))) _ _ (λ did. did) makes,

@@ -74,7 +74,7 @@ puts_inside old new number faction name region structure men money guard count i
       (subst (λ k. Upserted schema unit_table none old.step_limit v (0 ∷ []) 8 project (λ db. refl) k old.now.trees new.now.trees) made up.0)
       (ap (visible unit_table) casted)
       (λ r there same. rw (head_is _ _ _ _ same, cast_int (pos number), cast_int (pos faction), cast_int (pos region), cast_int (pos structure), cast_int (pos men), cast_int (pos money), cast_int (if guard then pos 1 else pos 0)) refl)
-      (λ x there. by_number (rowid x) number _ (none_share unit_table (Some (0 ∷ [])) src x has.nine.indexes (λ i there. has.nine.plain i unit_table there (inr (inr (inr (inl refl)))))) (are_ints x there))
+      (λ x there. by_number (rowid x) number _ (none_share unit_table (Some (0 ∷ [])) src x has.nine.indexes (λ i there. has.nine.plain i there unit_table (inr (inr (inr (inl refl)))))) (are_ints x there))
       (λ x r one two same. one_number _ _ same)
       (inr (inr (inr (inl refl)))) sound w.sound up.1 in
       done_with unit_table old.now new.now has (inr (inr (inr (inl refl)))) _ _ (λ did. did) makes,

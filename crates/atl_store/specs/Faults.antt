@@ -14,6 +14,16 @@ abbrev pub is_memory : Error → Bool
 is_memory (SqliteFailure code.OutOfMemory) = true
 is_memory _ = false
 
+-- the database could not go on: its disk failed, something is too big, or it takes too many steps
+abbrev pub is_failure : Error → Bool
+is_failure (SqliteFailure code.SystemIoFailure) = true
+is_failure (SqliteFailure code.DatabaseCorrupt) = true
+is_failure (SqliteFailure code.DiskFull) = true
+is_failure (SqliteFailure code.Closed) = true
+is_failure (SqliteFailure code.TooBig) = true
+is_failure (SqliteFailure code.OperationInterrupted) = true
+is_failure _ = false
+
 abbrev pub write_fault : Error → WriteFault
 write_fault e = if is_memory e then write.Memory else write.Store
 
@@ -21,7 +31,7 @@ abbrev pub create_fault : Error → CreateFault
 create_fault e = if is_memory e then create.Memory else create.Store
 
 abbrev pub read_fault : Error → ReadFault
-read_fault e = if is_memory e then read.Memory else read.Store
+read_fault e = if is_memory e then read.Memory else (if is_failure e then read.Store else read.Refused)
 
 -- of a value in a row that was answered
 abbrev pub value_fault : Error → ReadFault

@@ -8,8 +8,8 @@ pub mod PutsHead
 pub mod Written
 pub mod Faults
 pub mod Stored
+pub mod Selects
 pub mod Reading
-pub mod ReadsRows
 pub mod StoredRows
 pub mod Rows
 pub mod Lines

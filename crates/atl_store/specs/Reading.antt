@@ -1,33 +1,62 @@
 -- What reading all rows of a table gives.
-use Rattle.std.specs.Prelude.{◌≡◌, ◌++◌, List, [], ◌∷◌, map, codes, IsPermutation}
-use Rattle.sqlite.specs.Order.{Row}
-use Rattle.sqlite.specs.Table.{Table}
-use Rattle.sqlite.specs.Kind.TheVariants.{Integer}
-use Rattle.sqlite.specs.State.{State, IsUnchanged}
-use Rattle.sqlite_schema.specs.declared.schema.Column.{Column}
+use Rattle.std.specs.Prelude.{◌≡◌, ◌≢◌, ◌++◌, ℕ, List, [], ◌∷◌, length, map, IsTrue, IsPermutation, true, false, Result, IfOk, IfErr}
+use Rattle.std.specs.declared.vec.Vec.{Vec}
+use Rattle.sqlite_trees.specs.declared.store.Store.{Ghosts}
 use Rattle.sqlite_trees.specs.Tree.{Trees, rowid}
-use Rattle.atl_store.specs.Sets.{rows_in, visible, field}
+use Rattle.sqlite.specs.declared.error.Error.{Error}
+use Rattle.sqlite.specs.Held.{Held, state}
+use Rattle.sqlite.specs.Order.{Row}
+use Rattle.sqlite.specs.State.{State, HasCleanDisk, Survives, Shown, FailsToQuery}
+use Rattle.sqlite.specs.Table.{Table}
+use Rattle.atl_store.specs.Sets.{visible}
 use Rattle.atl_store.specs.Tables.{HasNine}
-use Rattle.atl_store.specs.Stored.{AreTyped}
+use Rattle.atl_store.specs.Faults.{read_fault}
+use Rattle.atl_store.specs.Stored.{Form, first_columns, AreTyped}
+use Rattle.atl_store.specs.declared.fault.ReadFault.{ReadFault}
+use Rattle.atl_store.specs.declared.fault.ReadFault.TheVariants.{OtherType, Memory}
 
--- these are all rows of the table, each once, and nothing is changed
-abbrev pub Reads : Table → List Row → State → State → Type 0
-Reads table rows old new = HasNine old.now.schema → IsPermutation (rows_in table old.now.trees) rows × IsUnchanged old new
+-- Nothing is changed: while the connection is open its tables are those of the last commit.
+pub record Rests (old new : State) : Type 0 where
+  pub was_open : IsTrue new.is_open → IsTrue old.is_open
+  pub same : IsTrue new.is_open → (new.now ≡ old.committed) × (new.committed ≡ old.committed)
 
--- some row of the table has a value of another type than its column
-abbrev pub FindsOther : Table → State → Type 0
-FindsOther table old = HasNine old.now.schema → ¬ AreTyped table.columns (rows_in table old.now.trees)
+module _ {S : Type 0} (g : Ghosts S) (sql : List ℕ) (old : Held S) where
+  -- the connection once a transaction is begun for the SELECT
+  abbrev begun : State
+  begun = state g (record old { in_transaction = true })
 
--- ---- a table whose key is not the row's number: each row with the place that the database keeps it at
+  -- what the SELECT shows
+  abbrev pub Selects : List Row → Type 0
+  Selects rows = (during : Held S) × Shown sql [] begun (state g during) rows
 
+  -- the SELECT was refused, and this is told of it
+  abbrev pub RefusesToSelect : ReadFault → Type 0
+  RefusesToSelect fault = (during : Held S) × (e : Error) × FailsToQuery sql [] begun (state g during) e × (fault ≡ read_fault e)
+
+  -- The SELECT is asked, whatever schema the database has. It runs in a transaction of its own, which is rolled back.
+  pub record Asks {Z : Type 0} (result : Result (Vec Row Z) ReadFault) (new : Held S) : Type 0 where
+    pub rows : HasCleanDisk (state g new) → IfOk result (λ rows. Selects rows.items)
+    pub refused : HasCleanDisk (state g new) → IfErr result RefusesToSelect
+    pub rests : HasCleanDisk (state g new) → Rests (state g old) (state g new)
+    -- A crash leaves only what it could have left before, and no transaction goes on.
+    pub survives : Survives (state g old) (state g new) (λ _. ⊥)
+    pub idle : new.in_transaction ≡ false
+
+  -- All rows that the SELECT shows are read.
+  pub record ReadsRows {A Z : Type 0} (forms : List Form) (shown : A → Row) (result : Result (Vec A Z) ReadFault) (new : Held S) : Type 0 where
+    -- With Ok it gives these rows, on a disk that is clean.
+    pub rows : HasCleanDisk (state g new) → IfOk result (λ all. (rows : List Row) × Selects rows × (map shown all.items ≡ map (first_columns (length forms)) rows))
+    -- A value of another form is told as OtherType; all else but want of memory is the SELECT's refusal.
+    pub other : HasCleanDisk (state g new) → IfErr result (λ fault. fault ≡ OtherType → (rows : List Row) × Selects rows × ¬ AreTyped forms rows)
+    pub refused : HasCleanDisk (state g new) → IfErr result (λ fault. fault ≢ OtherType → fault ≢ Memory → RefusesToSelect fault)
+    pub rests : HasCleanDisk (state g new) → Rests (state g old) (state g new)
+    pub survives : Survives (state g old) (state g new) (λ _. ⊥)
+    pub idle : new.in_transaction ≡ false
+
+-- these are all rows of the table, each once, where the schema begins with the nine tables
+abbrev pub GivesTable : {S A Z : Type 0} → Ghosts S → (Trees → List Row) → (A → Row) → Result (Vec A Z) ReadFault → Held S → Held S → Type 0
+GivesTable g in_table shown result old new = HasCleanDisk (state g new) → HasNine old.schema → IfOk result (λ all. IsPermutation (in_table (state g old).now.trees) (map shown all.items))
+
+-- of a table whose key is not the row's number: each row with the place that the database keeps it at
 abbrev pub placed_rows_in : Table → Trees → List Row
 placed_rows_in table db = map (λ r. visible table r ++ rowid r ∷ []) (db table.tree)
-
-abbrev pub placed_columns : Table → List Column
-placed_columns table = table.columns ++ field (codes "rowid") Integer ∷ []
-
-abbrev pub ReadsPlaced : Table → List Row → State → State → Type 0
-ReadsPlaced table rows old new = HasNine old.now.schema → IsPermutation (placed_rows_in table old.now.trees) rows × IsUnchanged old new
-
-abbrev pub FindsOtherPlaced : Table → State → Type 0
-FindsOtherPlaced table old = HasNine old.now.schema → ¬ AreTyped (placed_columns table) (placed_rows_in table old.now.trees)

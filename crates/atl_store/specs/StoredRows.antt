@@ -1,8 +1,8 @@
--- The rows that are read, as SQL shows them.
-use Rattle.std.specs.Prelude.{[], ◌∷◌, string_bytes}
+-- The rows that are read, as SQL shows them, and what their columns are read as.
+use Rattle.std.specs.Prelude.{[], ◌∷◌, ◌++◌, List, string_bytes}
 use Rattle.sqlite.specs.declared.types.Value.TheVariants.{Int, Text, Blob}
 use Rattle.sqlite.specs.Order.{Row}
-use Rattle.atl_state.specs.declared.parts.StoredCampaign.{StoredCampaign}
+use Rattle.atl_state.specs.declared.parts.StoredHead.{StoredHead}
 use Rattle.atl_state.specs.declared.parts.StoredFaction.{StoredFaction}
 use Rattle.atl_state.specs.declared.parts.StoredRegion.{StoredRegion}
 use Rattle.atl_state.specs.declared.parts.StoredUnit.{StoredUnit}
@@ -11,30 +11,68 @@ use Rattle.atl_state.specs.declared.parts.StoredMail.{StoredMail}
 use Rattle.atl_state.specs.declared.parts.StoredReport.{StoredReport}
 use Rattle.atl_state.specs.declared.parts.StoredHas.{StoredHas}
 use Rattle.atl_state.specs.declared.parts.StoredBooks.{StoredBooks}
+use Rattle.atl_store.specs.declared.rows.campaign.StoredCampaign.{StoredCampaign}
+use Rattle.atl_store.specs.declared.rows.stored.Placed.{Placed}
+use Rattle.atl_store.specs.Stored.{Form, Number, Words, Letters, Bytes}
+
+-- the campaign's own row but for its world text, and with it
+abbrev pub head_stored : StoredHead → Row
+head_stored s = Int s.id ∷ Int s.format ∷ Int s.month ∷ Int s.next_faction ∷ Int s.next_unit ∷ Int s.next_structure ∷ Text s.pass ∷ []
+
+abbrev pub head_forms : List Form
+head_forms = Number ∷ Number ∷ Number ∷ Number ∷ Number ∷ Number ∷ Letters ∷ []
 
 abbrev pub campaign_stored : StoredCampaign → Row
-campaign_stored s = Int s.id ∷ Int s.format ∷ Int s.month ∷ Int s.next_faction ∷ Int s.next_unit ∷ Int s.next_structure ∷ Text (string_bytes s.pass) ∷ Text (string_bytes s.world) ∷ []
+campaign_stored s = head_stored s.head ++ Text (string_bytes s.world) ∷ []
+
+abbrev pub campaign_forms : List Form
+campaign_forms = head_forms ++ Words ∷ []
 
 abbrev pub faction_stored : StoredFaction → Row
-faction_stored s = Int s.number ∷ Text (string_bytes s.joined_as) ∷ Text (string_bytes s.name) ∷ Text (string_bytes s.pass) ∷ Int s.gone ∷ []
+faction_stored s = Int s.number ∷ Text s.joined_as ∷ Text s.name ∷ Text s.pass ∷ Int s.gone ∷ []
+
+abbrev pub faction_forms : List Form
+faction_forms = Number ∷ Letters ∷ Letters ∷ Letters ∷ Number ∷ []
 
 abbrev pub region_stored : StoredRegion → Row
 region_stored s = Int s.number ∷ Int s.peasants ∷ Int s.money ∷ []
 
+abbrev pub region_forms : List Form
+region_forms = Number ∷ Number ∷ Number ∷ []
+
 abbrev pub unit_stored : StoredUnit → Row
-unit_stored s = Int s.number ∷ Int s.faction ∷ Text (string_bytes s.name) ∷ Int s.region ∷ Int s.structure ∷ Int s.men ∷ Int s.money ∷ Int s.guard ∷ []
+unit_stored s = Int s.number ∷ Int s.faction ∷ Text s.name ∷ Int s.region ∷ Int s.structure ∷ Int s.men ∷ Int s.money ∷ Int s.guard ∷ []
+
+abbrev pub unit_forms : List Form
+unit_forms = Number ∷ Number ∷ Letters ∷ Number ∷ Number ∷ Number ∷ Number ∷ Number ∷ []
 
 abbrev pub structure_stored : StoredStructure → Row
-structure_stored s = Int s.number ∷ Int s.kind ∷ Text (string_bytes s.name) ∷ Int s.region ∷ Int s.done ∷ Int s.owner ∷ []
+structure_stored s = Int s.number ∷ Int s.kind ∷ Text s.name ∷ Int s.region ∷ Int s.done ∷ Int s.owner ∷ []
+
+abbrev pub structure_forms : List Form
+structure_forms = Number ∷ Number ∷ Letters ∷ Number ∷ Number ∷ Number ∷ []
 
 abbrev pub mail_stored : StoredMail → Row
-mail_stored s = Int s.faction ∷ Blob s.text.items ∷ []
+mail_stored s = Int s.faction ∷ Blob s.text ∷ []
+
+abbrev pub mail_forms : List Form
+mail_forms = Number ∷ Bytes ∷ []
 
 abbrev pub report_stored : StoredReport → Row
-report_stored s = Int s.faction ∷ Text (string_bytes s.text) ∷ []
+report_stored s = Int s.faction ∷ Text s.text ∷ []
 
-abbrev pub has_stored : StoredHas → Row
-has_stored s = Int s.unit ∷ Int s.sort ∷ Int s.thing ∷ Int s.amount ∷ Int s.rowid ∷ []
+abbrev pub report_forms : List Form
+report_forms = Number ∷ Words ∷ []
 
-abbrev pub books_stored : StoredBooks → Row
-books_stored s = Int s.entry ∷ Int s.thing ∷ Int s.amount ∷ Int s.rowid ∷ []
+-- with the place that the database keeps the row at
+abbrev pub has_stored : Placed StoredHas → Row
+has_stored s = Int s.row.unit ∷ Int s.row.sort ∷ Int s.row.thing ∷ Int s.row.amount ∷ Int s.rowid ∷ []
+
+abbrev pub has_forms : List Form
+has_forms = Number ∷ Number ∷ Number ∷ Number ∷ Number ∷ []
+
+abbrev pub books_stored : Placed StoredBooks → Row
+books_stored s = Int s.row.entry ∷ Int s.row.thing ∷ Int s.row.amount ∷ Int s.rowid ∷ []
+
+abbrev pub books_forms : List Form
+books_forms = Number ∷ Number ∷ Number ∷ Number ∷ []

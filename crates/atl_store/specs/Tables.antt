@@ -76,13 +76,29 @@ no_tables = first_tables 0 0
 abbrev pub nine_and : List Table → List Index → Schema
 nine_and tables indexes = record { tables = all_tables ++ tables; indexes = all_indexes ++ indexes; views = [] }
 
--- The schema begins with the nine tables. Other tables without a foreign key, and indexes that make nothing of the nine unique, may have come behind them; there is no view and no trigger.
+-- an index that makes nothing of the nine tables unique
+abbrev pub IsHarmless : Index → Type 0
+IsHarmless i = (t : Table) → Has all_tables t → guards i t ≡ false
+
+-- The nine tables come first. Other tables without a foreign key may have come behind them,
+pub record AreTables (all : List Table) : Type 0 where
+  pub others : List Table
+  pub is : all ≡ all_tables ++ others
+  pub free : AllByRecursion (λ t. t.references ≡ []) others
+
+-- and indexes that make nothing of the nine unique.
+pub record AreIndexes (all : List Index) : Type 0 where
+  pub others : List Index
+  pub is : all ≡ all_indexes ++ others
+  pub plain : AllByRecursion IsHarmless others
+
+-- The schema begins with the nine tables, and there is no view and no trigger.
 pub record HasNine (schema : Schema) : Type 0 where
   pub tables : List Table
   pub indexes : List Index
   pub is : schema ≡ nine_and tables indexes
   pub free : AllByRecursion (λ t. t.references ≡ []) tables
-  pub plain : (i : Index) (t : Table) → Has indexes i → Has all_tables t → guards i t ≡ false
+  pub plain : (i : Index) → Has indexes i → IsHarmless i
 
 -- the trees of the nine tables
 abbrev pub nine_trees : List ℕ

@@ -25,14 +25,16 @@ pub enum CreateFault {
     Memory,
 }
 
-/// Why the rows of a table are not read.
+/// Why the rows of a table are not read. The database is as it was.
 #[derive(Drop, Clone, Copy, Debug, PartialEq, Eq)]
 pub enum ReadFault {
-    /// The database refuses for another cause than memory.
+    /// The disk fails, something is too big, or it would take too many steps.
     Store,
+    /// The database refuses for another cause: there is no such table, or it lacks a column.
+    Refused,
     /// There is no memory for them.
     Memory,
-    /// A value is of another type than its column, or is a text that is not UTF-8.
+    /// A value is of another type than its column, or is a text that is not UTF-8 where it has to be.
     OtherType,
 }
 
@@ -74,7 +76,15 @@ impl From<Error> for ReadFault {
     fn from(error: Error) -> ReadFault {
         match error {
             Error::SqliteFailure(ErrorCode::OutOfMemory) => ReadFault::Memory,
-            _ => ReadFault::Store,
+            Error::SqliteFailure(
+                ErrorCode::SystemIoFailure
+                | ErrorCode::DatabaseCorrupt
+                | ErrorCode::DiskFull
+                | ErrorCode::Closed
+                | ErrorCode::TooBig
+                | ErrorCode::OperationInterrupted,
+            ) => ReadFault::Store,
+            _ => ReadFault::Refused,
         }
     }
 }

@@ -1,8 +1,9 @@
 //! A whole campaign is written into a new store.
-ghost use Rattle.std.specs.Prelude.{◌≡◌, ◌≤◌, false, IsTrue, OnOk, IfErr, length};
+ghost use Rattle.std.specs.Prelude.{◌≡◌, ◌≤◌, false, IsTrue, OnOk, OnErr, IfErr, length};
 ghost use Rattle.sqlite.specs.Held.{state};
 ghost use Rattle.atl_store.specs.Tables.{no_tables};
 ghost use Rattle.atl_state.specs.Limits.{most_things};
+ghost use Rattle.atl_state.specs.Marks.{no_marks};
 ghost use Rattle.atl_store.specs.Writes.{Writes, Transacts};
 ghost use Rattle.atl_store.specs.Inside.{Inside, HasTables, IsBlank};
 ghost use Rattle.atl_store.specs.Making.{has_campaign};
@@ -99,19 +100,21 @@ fn is_blank(schema: &Schema) -> bool
 }
 
 /// Makes the nine tables and writes the whole campaign with its world text, in one transaction. With Ok the connection
-/// holds the campaign, and no table `campaign` was there. NotEmpty: a table `campaign` is there, and nothing is changed.
+/// holds the campaign, of which nothing is marked any more, and no table `campaign` was there. NotEmpty: a table `campaign` is there, and nothing is changed.
 /// Store: the connection is in a transaction, the database has other tables, or it refuses. After Store and Memory the
-/// tables are as they were while the connection is open, and a crash leaves what it left before or the campaign. See
-/// docs/FORMATS.md, "Tables".
+/// tables are as they were while the connection is open, and a crash leaves what it left before or the campaign. After any
+/// fault the marks are as they were. See docs/FORMATS.md, "Tables".
 pub fn create<S: Alter>(
     conn: &mut Connection<S>,
     world_text: &str,
-    campaign: &Campaign,
+    campaign: &mut Campaign,
 ) -> Result<(), CreateFault>
-    requires { length campaign.now.what.books ≤ most_things }
-    ensures ok { OnOk result (Creates S.Store world_text.now campaign.now.what conn.old conn.new) }
-    ensures err { IfErr result (RefusesToCreate S.Store world_text.now campaign.now.what conn.old conn.new) }
+    requires { length campaign.old.what.books ≤ most_things }
+    ensures ok { OnOk result (Creates S.Store world_text.now campaign.old.what conn.old conn.new) }
+    ensures err { IfErr result (RefusesToCreate S.Store world_text.now campaign.old.what conn.old conn.new) }
     ensures later { IsLater (state S.Store conn.old) (state S.Store conn.new) }
+    ensures unmarked { OnOk result (campaign.new ≡ record campaign.old { marks = no_marks }) }
+    ensures spared { OnErr result (campaign.new ≡ campaign.old) }
 {
     if is_there(conn.schema()) {
         return Err(CreateFault::NotEmpty);
@@ -120,5 +123,6 @@ pub fn create<S: Alter>(
         return Err(CreateFault::Store);
     }
     write_founding(conn, world_text, campaign)?;
+    campaign.unmark();
     Ok(())
 }

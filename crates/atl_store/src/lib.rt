@@ -11,6 +11,7 @@ mod kept;
 mod ledger;
 mod mailing;
 pub mod rows;
+pub mod schema;
 mod statement;
 pub mod tables;
 

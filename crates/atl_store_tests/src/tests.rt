@@ -1,9 +1,11 @@
 //! A small world's campaign in a store.
+mod changed;
 mod compare;
 mod counts;
 mod crashes;
 mod founding;
 mod making;
 mod others;
+mod schemas;
 mod worlds;
 mod writes;

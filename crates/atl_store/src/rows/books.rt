@@ -1,16 +1,17 @@
 //! The table of the books: signed amounts by entry and thing.
+ghost use Rattle.std.specs.Prelude.{◌≡◌, false};
 ghost use Rattle.atl_store.specs.Tables.{books_table};
 ghost use Rattle.atl_store.specs.Shown.{books_key};
 ghost use Rattle.atl_store.specs.Written.{books_shown};
 ghost use Rattle.atl_store.specs.Writes.{Writes};
 ghost use Rattle.atl_store.specs.Inside.{Inside, HasTables, Puts, Drops};
-ghost use Rattle.atl_store.specs.StoredRows.{books_stored};
-ghost use Rattle.atl_store.specs.ReadsRows.{ReadsRows};
-ghost use Rattle.atl_store.specs.Reading.{ReadsPlaced, FindsOtherPlaced, placed_columns};
+ghost use Rattle.atl_store.specs.Selects.{all_books};
+ghost use Rattle.atl_store.specs.StoredRows.{books_stored, books_forms};
+ghost use Rattle.atl_store.specs.Reading.{ReadsRows, GivesTable, placed_rows_in};
 
 use crate::fault::ReadFault;
 use crate::rows::columns::two_integers;
-use crate::rows::stored::{Stored, read_all};
+use crate::rows::stored::{Placed, Stored, read_all};
 use crate::statement::run;
 use atl_state::parts::StoredBooks;
 use sqlite::{Alter, Connection, Error, Row, Transaction, params};
@@ -52,20 +53,20 @@ pub(crate) fn drop_books<S: Alter>(
     )
 }
 
-impl Stored for StoredBooks {
-    ghost columns = { placed_columns books_table };
+impl Stored for Placed<StoredBooks> {
+    ghost forms = { books_forms };
 
     ghost shown = { books_stored };
 
-    fn from_row(row: &Row) -> Result<StoredBooks, Error> {
+    fn from_row(_alloc: Global, row: &Row) -> Result<Placed<StoredBooks>, Error> {
         let (entry, thing) = two_integers(row, 0)?;
         let (amount, rowid) = two_integers(row, 2)?;
-        Ok(StoredBooks {
+        let row = StoredBooks {
             entry,
             thing,
             amount,
-            rowid,
-        })
+        };
+        Ok(Placed { row, rowid })
     }
 }
 
@@ -73,8 +74,10 @@ impl Stored for StoredBooks {
 pub fn read_books<S: Alter>(
     alloc: Global,
     conn: &mut Connection<S>,
-) -> Result<Vec<StoredBooks>, ReadFault>
-    ensures { ReadsRows S.Store (ReadsPlaced books_table) (FindsOtherPlaced books_table) books_stored result conn.old conn.new }
+) -> Result<Vec<Placed<StoredBooks>>, ReadFault>
+    requires { conn.old.in_transaction ≡ false }
+    ensures select { ReadsRows S.Store all_books conn.old books_forms books_stored result conn.new }
+    ensures table { GivesTable S.Store (placed_rows_in books_table) books_stored result conn.old conn.new }
 {
     read_all(
         alloc,

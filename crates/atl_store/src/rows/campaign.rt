@@ -1,18 +1,22 @@
 //! The table of the campaign's own row.
+ghost use Rattle.std.specs.Prelude.{◌≡◌, false, not, IsTrue, IfOk, IfErr};
+ghost use Rattle.atl_store.specs.Faults.{is_memory};
+ghost use Rattle.atl_store.specs.Stored.{first_columns, IsTyped};
 ghost use Rattle.atl_store.specs.Tables.{campaign_table};
 ghost use Rattle.atl_store.specs.Written.{head_shown};
 ghost use Rattle.atl_store.specs.PutsHead.{PutsHead};
 ghost use Rattle.atl_store.specs.Writes.{Writes};
 ghost use Rattle.atl_store.specs.Inside.{Inside, HasTables};
-ghost use Rattle.atl_store.specs.StoredRows.{campaign_stored};
-ghost use Rattle.atl_store.specs.ReadsRows.{ReadsRows};
-ghost use Rattle.atl_store.specs.Reading.{Reads, FindsOther};
+ghost use Rattle.atl_store.specs.Selects.{all_campaign};
+ghost use Rattle.atl_store.specs.StoredRows.{head_stored, head_forms, campaign_stored, campaign_forms};
+ghost use Rattle.atl_store.specs.Sets.{rows_in};
+ghost use Rattle.atl_store.specs.Reading.{ReadsRows, GivesTable};
 
 use crate::fault::ReadFault;
-use crate::rows::columns::{three_integers, words};
+use crate::rows::columns::{letters, three_integers, words};
 use crate::rows::stored::{Stored, read_all};
 use crate::statement::run;
-use atl_state::parts::StoredCampaign;
+use atl_state::parts::StoredHead;
 use sqlite::{Alter, Connection, Error, Row, Transaction, params};
 use std::alloc::Global;
 
@@ -50,26 +54,47 @@ pub(crate) fn put_campaign<S: Alter>(
     )
 }
 
+/// The campaign's own row with its world text as it stands in its table, whoever wrote it.
+#[derive(Debug)]
+pub struct StoredCampaign {
+    pub head: StoredHead,
+    pub world: String,
+}
+
+impl Drop for StoredCampaign {
+    fn drop(self) {
+        let StoredCampaign { head: _, world: _ } = self;
+    }
+}
+
+/// The row but for its world text.
+fn head(alloc: Global, row: &Row) -> Result<StoredHead, Error>
+    ensures ok { IfOk result (λ head. head_stored head ≡ first_columns 7 row.now) }
+    ensures other { IfErr result (λ e. IsTrue (not (is_memory e)) → ¬ IsTyped head_forms row.now) }
+{
+    let (id, format, month) = three_integers(row, 0)?;
+    let (next_faction, next_unit, next_structure) = three_integers(row, 3)?;
+    let pass = letters(alloc, row, 6)?;
+    Ok(StoredHead {
+        id,
+        format,
+        month,
+        next_faction,
+        next_unit,
+        next_structure,
+        pass,
+    })
+}
+
 impl Stored for StoredCampaign {
-    ghost columns = { campaign_table.columns };
+    ghost forms = { campaign_forms };
 
     ghost shown = { campaign_stored };
 
-    fn from_row(row: &Row) -> Result<StoredCampaign, Error> {
-        let (id, format, month) = three_integers(row, 0)?;
-        let (next_faction, next_unit, next_structure) = three_integers(row, 3)?;
-        let pass = words(row, 6)?;
+    fn from_row(alloc: Global, row: &Row) -> Result<StoredCampaign, Error> {
+        let head = head(alloc, row)?;
         let world = words(row, 7)?;
-        Ok(StoredCampaign {
-            id,
-            format,
-            month,
-            next_faction,
-            next_unit,
-            next_structure,
-            pass,
-            world,
-        })
+        Ok(StoredCampaign { head, world })
     }
 }
 
@@ -78,7 +103,9 @@ pub fn read_campaign<S: Alter>(
     alloc: Global,
     conn: &mut Connection<S>,
 ) -> Result<Vec<StoredCampaign>, ReadFault>
-    ensures { ReadsRows S.Store (Reads campaign_table) (FindsOther campaign_table) campaign_stored result conn.old conn.new }
+    requires { conn.old.in_transaction ≡ false }
+    ensures select { ReadsRows S.Store all_campaign conn.old campaign_forms campaign_stored result conn.new }
+    ensures table { GivesTable S.Store (rows_in campaign_table) campaign_stored result conn.old conn.new }
 {
     read_all(
         alloc,

@@ -1,45 +1,61 @@
-//! The values of a row, each of the type that its column has.
+//! The values of a row, each in the form that its column is read as.
 ghost use Rattle.std.specs.Prelude.{◌≡◌, ◌+◌, ◌≤◌, IsTrue, not, IfOk, IfErr, string_bytes};
-ghost use Rattle.sqlite.specs.declared.types.Value.TheVariants.{Int, Text as Words, Blob as Bytes};
-ghost use Rattle.sqlite.specs.Kind.TheVariants.{Integer, Text, Blob};
+ghost use Rattle.sqlite.specs.declared.types.Value.TheVariants.{Int, Text, Blob};
 ghost use Rattle.sqlite.specs.Order.{column};
 ghost use Rattle.atl_store.specs.Faults.{is_memory};
-ghost use Rattle.atl_store.specs.Stored.{IsOf};
+ghost use Rattle.atl_store.specs.Stored.{IsOf, Number, Words, Letters, Bytes};
 
-use sqlite::{Error, Row};
+use atl_tables::Sequence;
+use sqlite::types::{Type, ValueRef};
+use sqlite::{Error, ErrorCode, Row};
+use std::alloc::Global;
 
 /// A whole number.
 pub(crate) fn integer(row: &Row, at: usize) -> Result<i64, Error>
     ensures ok { IfOk result (λ n. column row.now at ≡ Int n) }
-    ensures other { IfErr result (λ e. IsTrue (not (is_memory e)) → ¬ IsOf Integer (column row.now at)) }
+    ensures other { IfErr result (λ e. IsTrue (not (is_memory e)) → ¬ IsOf Number (column row.now at)) }
 {
     let number = row.get(at)?;
     Ok(number)
 }
 
-/// A text.
+/// A text of UTF-8.
 pub(crate) fn words(row: &Row, at: usize) -> Result<String, Error>
-    ensures ok { IfOk result (λ s. column row.now at ≡ Words (string_bytes s)) }
-    ensures other { IfErr result (λ e. IsTrue (not (is_memory e)) → ¬ IsOf Text (column row.now at)) }
+    ensures ok { IfOk result (λ s. column row.now at ≡ Text (string_bytes s)) }
+    ensures other { IfErr result (λ e. IsTrue (not (is_memory e)) → ¬ IsOf Words (column row.now at)) }
 {
     let text = row.get(at)?;
     Ok(text)
 }
 
+/// The bytes of a text, whatever they are.
+pub(crate) fn letters(alloc: Global, row: &Row, at: usize) -> Result<Sequence<u8>, Error>
+    ensures ok { IfOk result (λ b. column row.now at ≡ Text b) }
+    ensures other { IfErr result (λ e. IsTrue (not (is_memory e)) → ¬ IsOf Letters (column row.now at)) }
+{
+    match row.get_ref(at)? {
+        ValueRef::Text(text) => match Sequence::from_slice(alloc, text) {
+            Ok(copy) => Ok(copy),
+            Err(_) => Err(Error::SqliteFailure(ErrorCode::OutOfMemory)),
+        },
+        other => Err(Error::InvalidColumnType(at, Type::of(other))),
+    }
+}
+
 /// Bytes.
-pub(crate) fn bytes(row: &Row, at: usize) -> Result<Vec<u8>, Error>
-    ensures ok { IfOk result (λ b. column row.now at ≡ Bytes b.items) }
-    ensures other { IfErr result (λ e. IsTrue (not (is_memory e)) → ¬ IsOf Blob (column row.now at)) }
+pub(crate) fn bytes(row: &Row, at: usize) -> Result<Sequence<u8>, Error>
+    ensures ok { IfOk result (λ b. column row.now at ≡ Blob b) }
+    ensures other { IfErr result (λ e. IsTrue (not (is_memory e)) → ¬ IsOf Bytes (column row.now at)) }
 {
     let bytes = row.get(at)?;
-    Ok(bytes)
+    Ok(Sequence::from_vec(bytes))
 }
 
 /// Two whole numbers, from this column on.
 pub(crate) fn two_integers(row: &Row, first: usize) -> Result<(i64, i64), Error>
     requires { first ≤ 8 }
     ensures ok { IfOk result (λ n. (column row.now first ≡ Int n.0) × (column row.now (first + 1) ≡ Int n.1)) }
-    ensures other { IfErr result (λ e. IsTrue (not (is_memory e)) → ¬ (IsOf Integer (column row.now first) × IsOf Integer (column row.now (first + 1)))) }
+    ensures other { IfErr result (λ e. IsTrue (not (is_memory e)) → ¬ (IsOf Number (column row.now first) × IsOf Number (column row.now (first + 1)))) }
 {
     let one = integer(row, first)?;
     let two = integer(row, first + 1)?;
@@ -50,7 +66,7 @@ pub(crate) fn two_integers(row: &Row, first: usize) -> Result<(i64, i64), Error>
 pub(crate) fn three_integers(row: &Row, first: usize) -> Result<(i64, i64, i64), Error>
     requires { first ≤ 8 }
     ensures ok { IfOk result (λ n. (column row.now first ≡ Int n.0) × (column row.now (first + 1) ≡ Int n.1) × (column row.now (first + 2) ≡ Int n.2)) }
-    ensures other { IfErr result (λ e. IsTrue (not (is_memory e)) → ¬ (IsOf Integer (column row.now first) × IsOf Integer (column row.now (first + 1)) × IsOf Integer (column row.now (first + 2)))) }
+    ensures other { IfErr result (λ e. IsTrue (not (is_memory e)) → ¬ (IsOf Number (column row.now first) × IsOf Number (column row.now (first + 1)) × IsOf Number (column row.now (first + 2)))) }
 {
     let one = integer(row, first)?;
     let two = integer(row, first + 1)?;

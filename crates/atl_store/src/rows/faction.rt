@@ -1,14 +1,16 @@
 //! The table of factions.
+ghost use Rattle.std.specs.Prelude.{◌≡◌, false};
 ghost use Rattle.atl_store.specs.Tables.{faction_table};
 ghost use Rattle.atl_store.specs.Written.{faction_shown};
 ghost use Rattle.atl_store.specs.Writes.{Writes};
 ghost use Rattle.atl_store.specs.Inside.{Inside, HasTables, Puts};
-ghost use Rattle.atl_store.specs.StoredRows.{faction_stored};
-ghost use Rattle.atl_store.specs.ReadsRows.{ReadsRows};
-ghost use Rattle.atl_store.specs.Reading.{Reads, FindsOther};
+ghost use Rattle.atl_store.specs.Selects.{all_factions};
+ghost use Rattle.atl_store.specs.StoredRows.{faction_stored, faction_forms};
+ghost use Rattle.atl_store.specs.Sets.{rows_in};
+ghost use Rattle.atl_store.specs.Reading.{ReadsRows, GivesTable};
 
 use crate::fault::ReadFault;
-use crate::rows::columns::{integer, words};
+use crate::rows::columns::{integer, letters};
 use crate::rows::stored::{Stored, read_all};
 use crate::statement::run;
 use atl_state::parts::StoredFaction;
@@ -45,16 +47,16 @@ pub(crate) fn put_faction<S: Alter>(
 }
 
 impl Stored for StoredFaction {
-    ghost columns = { faction_table.columns };
+    ghost forms = { faction_forms };
 
     ghost shown = { faction_stored };
 
-    fn from_row(row: &Row) -> Result<StoredFaction, Error> {
+    fn from_row(alloc: Global, row: &Row) -> Result<StoredFaction, Error> {
         let number = integer(row, 0)?;
         let gone = integer(row, 4)?;
-        let joined_as = words(row, 1)?;
-        let name = words(row, 2)?;
-        let pass = words(row, 3)?;
+        let joined_as = letters(alloc, row, 1)?;
+        let name = letters(alloc, row, 2)?;
+        let pass = letters(alloc, row, 3)?;
         Ok(StoredFaction {
             number,
             joined_as,
@@ -70,7 +72,9 @@ pub fn read_factions<S: Alter>(
     alloc: Global,
     conn: &mut Connection<S>,
 ) -> Result<Vec<StoredFaction>, ReadFault>
-    ensures { ReadsRows S.Store (Reads faction_table) (FindsOther faction_table) faction_stored result conn.old conn.new }
+    requires { conn.old.in_transaction ≡ false }
+    ensures select { ReadsRows S.Store all_factions conn.old faction_forms faction_stored result conn.new }
+    ensures table { GivesTable S.Store (rows_in faction_table) faction_stored result conn.old conn.new }
 {
     read_all(
         alloc,

@@ -1,17 +1,17 @@
 //! The table of what units have: an amount of an item, or days of a skill.
-ghost use Rattle.std.specs.Prelude.{◌≡◌};
+ghost use Rattle.std.specs.Prelude.{◌≡◌, false};
 ghost use Rattle.atl_store.specs.Tables.{has_table};
 ghost use Rattle.atl_store.specs.Shown.{has_key};
 ghost use Rattle.atl_store.specs.Written.{has_shown, sort_number};
 ghost use Rattle.atl_store.specs.Writes.{Writes};
 ghost use Rattle.atl_store.specs.Inside.{Inside, HasTables, Puts, Drops};
-ghost use Rattle.atl_store.specs.StoredRows.{has_stored};
-ghost use Rattle.atl_store.specs.ReadsRows.{ReadsRows};
-ghost use Rattle.atl_store.specs.Reading.{ReadsPlaced, FindsOtherPlaced, placed_columns};
+ghost use Rattle.atl_store.specs.Selects.{all_has};
+ghost use Rattle.atl_store.specs.StoredRows.{has_stored, has_forms};
+ghost use Rattle.atl_store.specs.Reading.{ReadsRows, GivesTable, placed_rows_in};
 
 use crate::fault::ReadFault;
 use crate::rows::columns::{three_integers, two_integers};
-use crate::rows::stored::{Stored, read_all};
+use crate::rows::stored::{Placed, Stored, read_all};
 use crate::statement::run;
 use atl_state::parts::StoredHas;
 use sqlite::{Alter, Connection, Error, Row, Transaction, params};
@@ -78,21 +78,21 @@ pub(crate) fn drop_has<S: Alter>(
     )
 }
 
-impl Stored for StoredHas {
-    ghost columns = { placed_columns has_table };
+impl Stored for Placed<StoredHas> {
+    ghost forms = { has_forms };
 
     ghost shown = { has_stored };
 
-    fn from_row(row: &Row) -> Result<StoredHas, Error> {
+    fn from_row(_alloc: Global, row: &Row) -> Result<Placed<StoredHas>, Error> {
         let (unit, sort) = two_integers(row, 0)?;
         let (thing, amount, rowid) = three_integers(row, 2)?;
-        Ok(StoredHas {
+        let row = StoredHas {
             unit,
             sort,
             thing,
             amount,
-            rowid,
-        })
+        };
+        Ok(Placed { row, rowid })
     }
 }
 
@@ -100,8 +100,10 @@ impl Stored for StoredHas {
 pub fn read_has<S: Alter>(
     alloc: Global,
     conn: &mut Connection<S>,
-) -> Result<Vec<StoredHas>, ReadFault>
-    ensures { ReadsRows S.Store (ReadsPlaced has_table) (FindsOtherPlaced has_table) has_stored result conn.old conn.new }
+) -> Result<Vec<Placed<StoredHas>>, ReadFault>
+    requires { conn.old.in_transaction ≡ false }
+    ensures select { ReadsRows S.Store all_has conn.old has_forms has_stored result conn.new }
+    ensures table { GivesTable S.Store (placed_rows_in has_table) has_stored result conn.old conn.new }
 {
     read_all(
         alloc,

@@ -1,13 +1,14 @@
 //! The table of mail.
-ghost use Rattle.std.specs.Prelude.{[], ◌∷◌};
+ghost use Rattle.std.specs.Prelude.{◌≡◌, false, [], ◌∷◌};
 ghost use Rattle.atl_store.specs.Tables.{mail_table};
 ghost use Rattle.atl_store.specs.Shown.{int};
 ghost use Rattle.atl_store.specs.Written.{mail_shown};
 ghost use Rattle.atl_store.specs.Writes.{Writes};
 ghost use Rattle.atl_store.specs.Inside.{Inside, HasTables, Puts, Drops};
-ghost use Rattle.atl_store.specs.StoredRows.{mail_stored};
-ghost use Rattle.atl_store.specs.ReadsRows.{ReadsRows};
-ghost use Rattle.atl_store.specs.Reading.{Reads, FindsOther};
+ghost use Rattle.atl_store.specs.Selects.{all_mail};
+ghost use Rattle.atl_store.specs.StoredRows.{mail_stored, mail_forms};
+ghost use Rattle.atl_store.specs.Sets.{rows_in};
+ghost use Rattle.atl_store.specs.Reading.{ReadsRows, GivesTable};
 
 use crate::fault::ReadFault;
 use crate::rows::columns::{bytes, integer};
@@ -48,11 +49,11 @@ pub(crate) fn drop_mail<S: Alter>(tx: &mut Transaction<'_, S>, faction: u32) -> 
 }
 
 impl Stored for StoredMail {
-    ghost columns = { mail_table.columns };
+    ghost forms = { mail_forms };
 
     ghost shown = { mail_stored };
 
-    fn from_row(row: &Row) -> Result<StoredMail, Error> {
+    fn from_row(_alloc: Global, row: &Row) -> Result<StoredMail, Error> {
         let faction = integer(row, 0)?;
         let text = bytes(row, 1)?;
         Ok(StoredMail { faction, text })
@@ -64,7 +65,9 @@ pub fn read_mail<S: Alter>(
     alloc: Global,
     conn: &mut Connection<S>,
 ) -> Result<Vec<StoredMail>, ReadFault>
-    ensures { ReadsRows S.Store (Reads mail_table) (FindsOther mail_table) mail_stored result conn.old conn.new }
+    requires { conn.old.in_transaction ≡ false }
+    ensures select { ReadsRows S.Store all_mail conn.old mail_forms mail_stored result conn.new }
+    ensures table { GivesTable S.Store (rows_in mail_table) mail_stored result conn.old conn.new }
 {
     read_all(
         alloc,

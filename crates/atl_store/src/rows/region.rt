@@ -1,11 +1,13 @@
 //! The table of regions.
+ghost use Rattle.std.specs.Prelude.{◌≡◌, false};
 ghost use Rattle.atl_store.specs.Tables.{region_table};
 ghost use Rattle.atl_store.specs.Written.{region_shown};
 ghost use Rattle.atl_store.specs.Writes.{Writes};
 ghost use Rattle.atl_store.specs.Inside.{Inside, HasTables, Puts};
-ghost use Rattle.atl_store.specs.StoredRows.{region_stored};
-ghost use Rattle.atl_store.specs.ReadsRows.{ReadsRows};
-ghost use Rattle.atl_store.specs.Reading.{Reads, FindsOther};
+ghost use Rattle.atl_store.specs.Selects.{all_regions};
+ghost use Rattle.atl_store.specs.StoredRows.{region_stored, region_forms};
+ghost use Rattle.atl_store.specs.Sets.{rows_in};
+ghost use Rattle.atl_store.specs.Reading.{ReadsRows, GivesTable};
 
 use crate::fault::ReadFault;
 use crate::rows::columns::three_integers;
@@ -41,11 +43,11 @@ pub(crate) fn put_region<S: Alter>(
 }
 
 impl Stored for StoredRegion {
-    ghost columns = { region_table.columns };
+    ghost forms = { region_forms };
 
     ghost shown = { region_stored };
 
-    fn from_row(row: &Row) -> Result<StoredRegion, Error> {
+    fn from_row(_alloc: Global, row: &Row) -> Result<StoredRegion, Error> {
         let (number, peasants, money) = three_integers(row, 0)?;
         Ok(StoredRegion {
             number,
@@ -60,7 +62,9 @@ pub fn read_regions<S: Alter>(
     alloc: Global,
     conn: &mut Connection<S>,
 ) -> Result<Vec<StoredRegion>, ReadFault>
-    ensures { ReadsRows S.Store (Reads region_table) (FindsOther region_table) region_stored result conn.old conn.new }
+    requires { conn.old.in_transaction ≡ false }
+    ensures select { ReadsRows S.Store all_regions conn.old region_forms region_stored result conn.new }
+    ensures table { GivesTable S.Store (rows_in region_table) region_stored result conn.old conn.new }
 {
     read_all(
         alloc,

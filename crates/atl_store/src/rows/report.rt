@@ -1,17 +1,20 @@
 //! The table of reports.
+ghost use Rattle.std.specs.Prelude.{◌≡◌, false};
 ghost use Rattle.atl_store.specs.Tables.{report_table};
 ghost use Rattle.atl_store.specs.Written.{report_shown};
 ghost use Rattle.atl_store.specs.Writes.{Writes};
 ghost use Rattle.atl_store.specs.Inside.{Inside, HasTables, Puts};
-ghost use Rattle.atl_store.specs.StoredRows.{report_stored};
-ghost use Rattle.atl_store.specs.ReadsRows.{ReadsRows};
-ghost use Rattle.atl_store.specs.Reading.{Reads, FindsOther};
+ghost use Rattle.atl_store.specs.Selects.{all_reports};
+ghost use Rattle.atl_store.specs.StoredRows.{report_stored, report_forms};
+ghost use Rattle.atl_store.specs.Sets.{rows_in};
+ghost use Rattle.atl_store.specs.Reading.{ReadsRows, GivesTable};
 
 use crate::fault::ReadFault;
 use crate::rows::columns::{integer, words};
 use crate::rows::stored::{Stored, read_all};
 use crate::statement::run;
 use atl_state::parts::StoredReport;
+use atl_tables::Text;
 use sqlite::{Alter, Connection, Error, Row, Transaction, params};
 use std::alloc::Global;
 
@@ -39,14 +42,17 @@ pub(crate) fn put_report<S: Alter>(
 }
 
 impl Stored for StoredReport {
-    ghost columns = { report_table.columns };
+    ghost forms = { report_forms };
 
     ghost shown = { report_stored };
 
-    fn from_row(row: &Row) -> Result<StoredReport, Error> {
+    fn from_row(_alloc: Global, row: &Row) -> Result<StoredReport, Error> {
         let faction = integer(row, 0)?;
         let text = words(row, 1)?;
-        Ok(StoredReport { faction, text })
+        Ok(StoredReport {
+            faction,
+            text: Text::from_string(text),
+        })
     }
 }
 
@@ -55,7 +61,9 @@ pub fn read_reports<S: Alter>(
     alloc: Global,
     conn: &mut Connection<S>,
 ) -> Result<Vec<StoredReport>, ReadFault>
-    ensures { ReadsRows S.Store (Reads report_table) (FindsOther report_table) report_stored result conn.old conn.new }
+    requires { conn.old.in_transaction ≡ false }
+    ensures select { ReadsRows S.Store all_reports conn.old report_forms report_stored result conn.new }
+    ensures table { GivesTable S.Store (rows_in report_table) report_stored result conn.old conn.new }
 {
     read_all(
         alloc,

@@ -1,12 +1,10 @@
 //! Rows as they are read.
-ghost use Rattle.std.specs.Prelude.{◌≡◌, ◌≢◌, List, [], map, length, false, not, IsTrue, IfOk, IfErr};
-ghost use Rattle.sqlite.specs.Held.{state};
+ghost use Rattle.std.specs.Prelude.{◌≡◌, ◌≢◌, List, map, length, false, not, IsTrue, IfOk, IfErr};
 ghost use Rattle.sqlite.specs.Order.{Row as SqlRow};
-ghost use Rattle.sqlite.specs.State.{HasCleanDisk, Survives, Shown, CommitsShowing};
-ghost use Rattle.sqlite_schema.specs.declared.schema.Column.{Column};
 ghost use Rattle.atl_store.specs.Faults.{is_memory};
-ghost use Rattle.atl_store.specs.Stored.{first_columns, IsTyped, AreTyped};
-ghost use Rattle.atl_store.specs.declared.fault.ReadFault.TheVariants.{OtherType, Store};
+ghost use Rattle.atl_store.specs.Reading.{Asks, ReadsRows};
+ghost use Rattle.atl_store.specs.Stored.{Form, first_columns, IsTyped, AreTyped};
+ghost use Rattle.atl_store.specs.declared.fault.ReadFault.TheVariants.{Memory, OtherType};
 
 use crate::fault::{ReadFault, unread};
 use sqlite::{Alter, Connection, Error, Row};
@@ -14,25 +12,32 @@ use std::alloc::Global;
 
 /// A row of a table as it stands there, whoever wrote it.
 pub(crate) trait Stored: Drop + Sized {
-    // The columns of the answer that it is read from, and the row as SQL shows it.
-    ghost columns: { List Column };
+    // What the columns of the answer are read as, and the row as SQL shows it.
+    ghost forms: { List Form };
 
     ghost shown: { Self → SqlRow };
 
-    fn from_row(row: &Row) -> Result<Self, Error>
-        ensures ok { IfOk result (λ stored. shown stored ≡ first_columns (length columns) row.now) }
-        ensures other { IfErr result (λ e. IsTrue (not (is_memory e)) → ¬ IsTyped columns row.now) };
+    fn from_row(alloc: Global, row: &Row) -> Result<Self, Error>
+        ensures ok { IfOk result (λ stored. shown stored ≡ first_columns (length forms) row.now) }
+        ensures other { IfErr result (λ e. IsTrue (not (is_memory e)) → ¬ IsTyped forms row.now) };
+}
+
+/// A row with the place that the database keeps it at, which differs from row to row of a table.
+#[derive(Debug, Drop)]
+pub struct Placed<T> {
+    pub row: T,
+    pub rowid: i64,
 }
 
 /// Each row of an answer.
 fn parse_rows<T: Stored>(alloc: Global, rows: &[Row]) -> Result<Vec<T>, ReadFault>
-    ensures ok { IfOk result (λ all. map T.shown all.items ≡ map (first_columns (length T.columns)) rows.now) }
-    ensures other { IfErr result (λ e. e ≡ OtherType → ¬ AreTyped T.columns rows.now) }
-    ensures which { IfErr result (λ e. e ≢ Store) }
+    ensures ok { IfOk result (λ all. map T.shown all.items ≡ map (first_columns (length T.forms)) rows.now) }
+    ensures other { IfErr result (λ fault. fault ≡ OtherType → ¬ AreTyped T.forms rows.now) }
+    ensures which { IfErr result (λ fault. fault ≢ OtherType → fault ≡ Memory) }
 {
     let mut all = Vec::new(alloc);
     for row in rows {
-        match T::from_row(row) {
+        match T::from_row(alloc, row) {
             Ok(stored) => all.push(stored)?,
             Err(error) => return Err(unread(error)),
         }
@@ -40,17 +45,27 @@ fn parse_rows<T: Stored>(alloc: Global, rows: &[Row]) -> Result<Vec<T>, ReadFaul
     Ok(all)
 }
 
-/// All rows that a SELECT answers.
+/// The rows that a SELECT shows. It runs in a transaction of its own, which is rolled back, so that it changes nothing
+/// whatever it means.
+fn select<S: Alter>(conn: &mut Connection<S>, sql: &str) -> Result<Vec<Row>, ReadFault>
+    requires { conn.old.in_transaction ≡ false }
+    ensures { Asks S.Store sql.now conn.old result conn.new }
+{
+    let mut tx = conn.transaction();
+    let rows = tx.query_all(sql, &[])?;
+    tx.rollback();
+    Ok(rows)
+}
+
+/// All rows that a SELECT shows, each read.
 pub(crate) fn read_all<T: Stored, S: Alter>(
     alloc: Global,
     conn: &mut Connection<S>,
     sql: &str,
 ) -> Result<Vec<T>, ReadFault>
-    ensures rows { HasCleanDisk (state S.Store conn.new) → IfOk result (λ all. (rows : List SqlRow) × Shown sql.now [] (state S.Store conn.old) (state S.Store conn.new) rows × (map T.Stored.shown all.items ≡ map (first_columns (length T.Stored.columns)) rows)) }
-    ensures other { HasCleanDisk (state S.Store conn.new) → IfErr result (λ e. e ≡ OtherType → (rows : List SqlRow) × Shown sql.now [] (state S.Store conn.old) (state S.Store conn.new) rows × ¬ AreTyped T.Stored.columns rows) }
-    ensures survives { Survives (state S.Store conn.old) (state S.Store conn.new) (CommitsShowing sql.now [] (state S.Store conn.old)) }
-    ensures idle { conn.old.in_transaction ≡ false → conn.new.in_transaction ≡ false }
+    requires { conn.old.in_transaction ≡ false }
+    ensures { ReadsRows S.Store sql.now conn.old T.Stored.forms T.Stored.shown result conn.new }
 {
-    let rows = conn.query_all(sql, &[])?;
+    let rows = select(conn, sql)?;
     parse_rows(alloc, rows.as_slice())
 }

@@ -1,14 +1,16 @@
 //! The table of structures.
+ghost use Rattle.std.specs.Prelude.{◌≡◌, false};
 ghost use Rattle.atl_store.specs.Tables.{structure_table};
 ghost use Rattle.atl_store.specs.Written.{structure_shown};
 ghost use Rattle.atl_store.specs.Writes.{Writes};
 ghost use Rattle.atl_store.specs.Inside.{Inside, HasTables, Puts};
-ghost use Rattle.atl_store.specs.StoredRows.{structure_stored};
-ghost use Rattle.atl_store.specs.ReadsRows.{ReadsRows};
-ghost use Rattle.atl_store.specs.Reading.{Reads, FindsOther};
+ghost use Rattle.atl_store.specs.Selects.{all_structures};
+ghost use Rattle.atl_store.specs.StoredRows.{structure_stored, structure_forms};
+ghost use Rattle.atl_store.specs.Sets.{rows_in};
+ghost use Rattle.atl_store.specs.Reading.{ReadsRows, GivesTable};
 
 use crate::fault::ReadFault;
-use crate::rows::columns::{three_integers, two_integers, words};
+use crate::rows::columns::{letters, three_integers, two_integers};
 use crate::rows::stored::{Stored, read_all};
 use crate::statement::run;
 use atl_state::parts::StoredStructure;
@@ -49,14 +51,14 @@ pub(crate) fn put_structure<S: Alter>(
 }
 
 impl Stored for StoredStructure {
-    ghost columns = { structure_table.columns };
+    ghost forms = { structure_forms };
 
     ghost shown = { structure_stored };
 
-    fn from_row(row: &Row) -> Result<StoredStructure, Error> {
+    fn from_row(alloc: Global, row: &Row) -> Result<StoredStructure, Error> {
         let (number, kind) = two_integers(row, 0)?;
         let (region, done, owner) = three_integers(row, 3)?;
-        let name = words(row, 2)?;
+        let name = letters(alloc, row, 2)?;
         Ok(StoredStructure {
             number,
             kind,
@@ -73,7 +75,9 @@ pub fn read_structures<S: Alter>(
     alloc: Global,
     conn: &mut Connection<S>,
 ) -> Result<Vec<StoredStructure>, ReadFault>
-    ensures { ReadsRows S.Store (Reads structure_table) (FindsOther structure_table) structure_stored result conn.old conn.new }
+    requires { conn.old.in_transaction ≡ false }
+    ensures select { ReadsRows S.Store all_structures conn.old structure_forms structure_stored result conn.new }
+    ensures table { GivesTable S.Store (rows_in structure_table) structure_stored result conn.old conn.new }
 {
     read_all(
         alloc,

@@ -1,16 +1,17 @@
 //! The table of units.
-ghost use Rattle.std.specs.Prelude.{[], ◌∷◌};
+ghost use Rattle.std.specs.Prelude.{◌≡◌, false, [], ◌∷◌};
 ghost use Rattle.atl_store.specs.Tables.{unit_table};
 ghost use Rattle.atl_store.specs.Shown.{int};
 ghost use Rattle.atl_store.specs.Written.{unit_shown};
 ghost use Rattle.atl_store.specs.Writes.{Writes};
 ghost use Rattle.atl_store.specs.Inside.{Inside, HasTables, Puts, Drops};
-ghost use Rattle.atl_store.specs.StoredRows.{unit_stored};
-ghost use Rattle.atl_store.specs.ReadsRows.{ReadsRows};
-ghost use Rattle.atl_store.specs.Reading.{Reads, FindsOther};
+ghost use Rattle.atl_store.specs.Selects.{all_units};
+ghost use Rattle.atl_store.specs.StoredRows.{unit_stored, unit_forms};
+ghost use Rattle.atl_store.specs.Sets.{rows_in};
+ghost use Rattle.atl_store.specs.Reading.{ReadsRows, GivesTable};
 
 use crate::fault::ReadFault;
-use crate::rows::columns::{three_integers, two_integers, words};
+use crate::rows::columns::{letters, three_integers, two_integers};
 use crate::rows::stored::{Stored, read_all};
 use crate::statement::run;
 use atl_state::parts::StoredUnit;
@@ -69,15 +70,15 @@ pub(crate) fn drop_unit<S: Alter>(tx: &mut Transaction<'_, S>, number: u32) -> R
 }
 
 impl Stored for StoredUnit {
-    ghost columns = { unit_table.columns };
+    ghost forms = { unit_forms };
 
     ghost shown = { unit_stored };
 
-    fn from_row(row: &Row) -> Result<StoredUnit, Error> {
+    fn from_row(alloc: Global, row: &Row) -> Result<StoredUnit, Error> {
         let (number, faction) = two_integers(row, 0)?;
         let (region, structure) = two_integers(row, 3)?;
         let (men, money, guard) = three_integers(row, 5)?;
-        let name = words(row, 2)?;
+        let name = letters(alloc, row, 2)?;
         Ok(StoredUnit {
             number,
             faction,
@@ -96,7 +97,9 @@ pub fn read_units<S: Alter>(
     alloc: Global,
     conn: &mut Connection<S>,
 ) -> Result<Vec<StoredUnit>, ReadFault>
-    ensures { ReadsRows S.Store (Reads unit_table) (FindsOther unit_table) unit_stored result conn.old conn.new }
+    requires { conn.old.in_transaction ≡ false }
+    ensures select { ReadsRows S.Store all_units conn.old unit_forms unit_stored result conn.new }
+    ensures table { GivesTable S.Store (rows_in unit_table) unit_stored result conn.old conn.new }
 {
     read_all(
         alloc,

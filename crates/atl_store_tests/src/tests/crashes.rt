@@ -36,7 +36,7 @@ fn join<S: Alter>(conn: &mut Connection<S>, joined: &Campaign) -> Answered
 }
 
 /// Creates a campaign and writes a joining, up to the first fault.
-fn run<S: Alter>(conn: &mut Connection<S>, founded: &Campaign, joined: &Campaign) -> Answered {
+fn run<S: Alter>(conn: &mut Connection<S>, founded: &mut Campaign, joined: &Campaign) -> Answered {
     if !has_few_things(founded) {
         return Answered::Wrong;
     }
@@ -51,6 +51,9 @@ fn run<S: Alter>(conn: &mut Connection<S>, founded: &Campaign, joined: &Campaign
 fn factions<S: Alter>(alloc: Global, conn: &mut Connection<S>) -> Result<Option<usize>, Fail> {
     if conn.schema().tables.is_empty() {
         return Ok(None);
+    }
+    if !conn.is_autocommit() {
+        return Err(Fail::new("a transaction is open"));
     }
     let factions = count_factions(alloc, conn)?;
     let units = count_units(alloc, conn)?;
@@ -68,6 +71,15 @@ fn open<D: Disk + Drop>(alloc: Global, files: Files<D>) -> Option<Connection<Fil
     Connection::open_files(alloc, files, Options::new(1)).ok()
 }
 
+/// What a visit to a store is for.
+#[derive(Clone, Copy, PartialEq, Eq, Debug)]
+enum Aim {
+    /// Writes the campaigns before and after a joining.
+    Write,
+    /// Counts the factions.
+    Count,
+}
+
 /// What a visit to a store tells: what was answered to its writings, or how many factions are there.
 #[derive(Clone, Copy)]
 struct Told {
@@ -75,18 +87,19 @@ struct Told {
     factions: Option<usize>,
 }
 
-/// Writes the campaigns before and after a joining; without them it counts the factions.
 fn visit<S: Alter>(
     alloc: Global,
     conn: &mut Connection<S>,
-    campaigns: Option<(&Campaign, &Campaign)>,
+    before: &mut Campaign,
+    after: &Campaign,
+    aim: Aim,
 ) -> Result<Told, Fail> {
-    match campaigns {
-        Some((before, after)) => Ok(Told {
+    match aim {
+        Aim::Write => Ok(Told {
             answered: run(conn, before, after),
             factions: None,
         }),
-        None => Ok(Told {
+        Aim::Count => Ok(Told {
             answered: Answered::Nothing,
             factions: factions(alloc, conn)?,
         }),
@@ -97,12 +110,14 @@ fn visit<S: Alter>(
 fn visited<D: Crash + Drop>(
     alloc: Global,
     files: Files<D>,
-    campaigns: Option<(&Campaign, &Campaign)>,
+    before: &mut Campaign,
+    after: &Campaign,
+    aim: Aim,
 ) -> Result<Option<(Told, Files<D>)>, Fail> {
     let Some(mut conn) = open(alloc, files) else {
         return Ok(None);
     };
-    let told = visit(alloc, &mut conn, campaigns);
+    let told = visit(alloc, &mut conn, before, after, aim);
     let Files { mut log, mut db } = conn.into_store().close();
     log.crash();
     db.crash();
@@ -113,23 +128,23 @@ fn visited<D: Crash + Drop>(
 fn stopped<D: Crash + Drop>(
     alloc: Global,
     files: Files<D>,
-    before: &Campaign,
+    before: &mut Campaign,
     after: &Campaign,
 ) -> Result<(Answered, Option<usize>), Fail> {
-    match visited(alloc, files, Some((before, after)))? {
+    match visited(alloc, files, before, after, Aim::Write)? {
         Some((told, left)) => {
-            let (again, _) = visited(alloc, left, None)?.ok_or("reopen")?;
+            let (again, _) = visited(alloc, left, before, after, Aim::Count)?.ok_or("reopen")?;
             Ok((told.answered, again.factions))
         }
         None => Ok((Answered::Nothing, None)),
     }
 }
 
-/// Files on a disk that passes so many calls on.
-fn stopping(alloc: Global, calls: u64) -> Files<Fuse<Memory>> {
+/// A log and a database on disks that pass so many calls on.
+fn stopping(alloc: Global, log: u64, db: u64) -> Files<Fuse<Memory>> {
     Files {
-        log: Fuse::new(Memory::new(alloc), calls),
-        db: Fuse::new(Memory::new(alloc), u64::MAX),
+        log: Fuse::new(Memory::new(alloc), log),
+        db: Fuse::new(Memory::new(alloc), db),
     }
 }
 
@@ -143,10 +158,16 @@ fn is_whole(rt: &impl Abort, answered: Answered, found: Option<usize>) {
     }
 }
 
-fn stops(rt: &impl Abort, alloc: Global, before: &Campaign, after: &Campaign) -> Result<(), Fail> {
+/// The disk of the log stops at each of its calls, up to one that is past the last.
+fn stops_log(
+    rt: &impl Abort,
+    alloc: Global,
+    before: &mut Campaign,
+    after: &Campaign,
+) -> Result<(), Fail> {
     let mut last = Answered::Nothing;
     for calls in 0..29 {
-        let (answered, found) = stopped(alloc, stopping(alloc, calls), before, after)?;
+        let (answered, found) = stopped(alloc, stopping(alloc, calls, u64::MAX), before, after)?;
         is_whole(rt, answered, found);
         last = answered;
     }
@@ -154,13 +175,31 @@ fn stops(rt: &impl Abort, alloc: Global, before: &Campaign, after: &Campaign) ->
     Ok(())
 }
 
-fn stops_joining(rt: &impl Abort, alloc: Global, before: &Campaign) -> Result<(), Fail> {
+/// The disk of the database stops at each of its calls, up to one that is past the last.
+fn stops_db(
+    rt: &impl Abort,
+    alloc: Global,
+    before: &mut Campaign,
+    after: &Campaign,
+) -> Result<(), Fail> {
+    let mut last = Answered::Nothing;
+    for calls in 0..40 {
+        let (answered, found) = stopped(alloc, stopping(alloc, u64::MAX, calls), before, after)?;
+        is_whole(rt, answered, found);
+        last = answered;
+    }
+    assert!(rt; last == Answered::Joined);
+    Ok(())
+}
+
+fn stops_joining(rt: &impl Abort, alloc: Global, before: &mut Campaign) -> Result<(), Fail> {
     let after = joined(alloc)?;
-    stops(rt, alloc, before, &after)
+    stops_log(rt, alloc, before, &after)?;
+    stops_db(rt, alloc, before, &after)
 }
 
 #[test]
 fn a_stopped_disk_leaves_no_part(rt: HostRuntime) -> Result<(), Fail> {
-    let before = small(rt.alloc())?;
-    stops_joining(&rt, rt.alloc(), &before)
+    let mut before = small(rt.alloc())?;
+    stops_joining(&rt, rt.alloc(), &mut before)
 }

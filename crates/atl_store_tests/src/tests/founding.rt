@@ -1,13 +1,15 @@
 //! The tables of a campaign as it is founded.
-use super::compare::{is_count, is_number, is_text};
+ghost use Rattle.std.specs.Prelude.{◌≡◌, false};
+
+use super::compare::{is_bytes, is_count, is_number, is_text};
 use super::counts::{
     count_factions, count_has, count_mail, count_reports, count_structures, count_units,
 };
 use super::making::created;
 use super::worlds::SMALL;
-use atl_state::parts::{StoredBooks, StoredCampaign};
+use atl_state::parts::StoredBooks;
 use atl_store::rows::books::read_books;
-use atl_store::rows::campaign::read_campaign;
+use atl_store::rows::campaign::{StoredCampaign, read_campaign};
 use atl_store::rows::region::read_regions;
 use sqlite::{Alter, Connection};
 use std::alloc::Global;
@@ -15,21 +17,20 @@ use std::process::Abort;
 use std::test::Fail;
 
 fn is_head(rt: &impl Abort, row: &StoredCampaign) {
-    is_number(rt, row.id, 1);
-    is_number(rt, row.format, 1);
-    is_number(rt, row.month, 0);
-    is_number(rt, row.next_faction, 1);
-    is_number(rt, row.next_unit, 1);
-    is_number(rt, row.next_structure, 1);
-    is_text(rt, row.pass.as_str(), "gm");
+    let head = &row.head;
+    is_number(rt, head.id, 1);
+    is_number(rt, head.format, 1);
+    is_number(rt, head.month, 0);
+    is_number(rt, head.next_faction, 1);
+    is_number(rt, head.next_unit, 1);
+    is_number(rt, head.next_structure, 1);
+    is_bytes(rt, head.pass.as_slice(), b"gm");
     is_text(rt, row.world.as_str(), SMALL);
 }
 
-fn has_head<S: Alter>(
-    rt: &impl Abort,
-    alloc: Global,
-    conn: &mut Connection<S>,
-) -> Result<(), Fail> {
+fn has_head<S: Alter>(rt: &impl Abort, alloc: Global, conn: &mut Connection<S>) -> Result<(), Fail>
+    requires { conn.old.in_transaction ≡ false }
+{
     let rows = read_campaign(alloc, conn)?;
     is_count(rt, rows.len(), 1);
     is_head(rt, &rows[0]);
@@ -46,7 +47,9 @@ fn has_region<S: Alter>(
     rt: &impl Abort,
     alloc: Global,
     conn: &mut Connection<S>,
-) -> Result<(), Fail> {
+) -> Result<(), Fail>
+    requires { conn.old.in_transaction ≡ false }
+{
     let rows = read_regions(alloc, conn)?;
     is_count(rt, rows.len(), 1);
     is_number(rt, rows[0].number, 1);
@@ -68,15 +71,13 @@ pub(crate) fn is_booked(rt: &impl Abort, row: &StoredBooks, entry: i64, thing: i
     is_number(rt, row.amount, amount);
 }
 
-fn has_books<S: Alter>(
-    rt: &impl Abort,
-    alloc: Global,
-    conn: &mut Connection<S>,
-) -> Result<(), Fail> {
+fn has_books<S: Alter>(rt: &impl Abort, alloc: Global, conn: &mut Connection<S>) -> Result<(), Fail>
+    requires { conn.old.in_transaction ≡ false }
+{
     let rows = read_books(alloc, conn)?;
     is_count(rt, rows.len(), 2);
-    is_booked(rt, &rows[0], 1, 0, 500);
-    is_booked(rt, &rows[1], 1, 1, 1000);
+    is_booked(rt, &rows[0].row, 1, 0, 500);
+    is_booked(rt, &rows[1].row, 1, 1, 1000);
     Ok(())
 }
 
@@ -90,7 +91,9 @@ fn has_nobody<S: Alter>(
     rt: &impl Abort,
     alloc: Global,
     conn: &mut Connection<S>,
-) -> Result<(), Fail> {
+) -> Result<(), Fail>
+    requires { conn.old.in_transaction ≡ false }
+{
     is_count(rt, count_factions(alloc, conn)?, 0);
     is_count(rt, count_units(alloc, conn)?, 0);
     is_count(rt, count_has(alloc, conn)?, 0);

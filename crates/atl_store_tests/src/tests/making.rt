@@ -65,7 +65,7 @@ pub(crate) fn has_arrived(campaign: &Campaign) -> bool
         && campaign.unit(campaign.next_unit() - 1).is_some()
 }
 
-fn creates<S: Alter>(conn: &mut Connection<S>, campaign: &Campaign) -> Result<(), Fail>
+fn creates<S: Alter>(conn: &mut Connection<S>, campaign: &mut Campaign) -> Result<(), Fail>
     ensures { OnOk result (conn.new.in_transaction ≡ false) }
 {
     if !has_few_things(campaign) {
@@ -79,8 +79,8 @@ fn creates<S: Alter>(conn: &mut Connection<S>, campaign: &Campaign) -> Result<()
 fn found<S: Alter>(alloc: Global, conn: &mut Connection<S>) -> Result<(), Fail>
     ensures { OnOk result (conn.new.in_transaction ≡ false) }
 {
-    let campaign = small(alloc)?;
-    creates(conn, &campaign)
+    let mut campaign = small(alloc)?;
+    creates(conn, &mut campaign)
 }
 
 /// A store of the campaign as it is founded.
@@ -95,6 +95,7 @@ pub(crate) fn created(alloc: Global) -> Result<Connection<MemStore>, Fail>
 /// Avalon's joining and its mail are written.
 fn arrive<S: Alter>(conn: &mut Connection<S>, campaign: &Campaign) -> Result<(), Fail>
     requires { conn.old.in_transaction ≡ false }
+    ensures { conn.new.in_transaction ≡ false }
 {
     if !has_arrived(campaign) {
         return Err(Fail::new("Avalon is there"));
@@ -106,13 +107,16 @@ fn arrive<S: Alter>(conn: &mut Connection<S>, campaign: &Campaign) -> Result<(),
 
 fn visit<S: Alter>(alloc: Global, conn: &mut Connection<S>) -> Result<(), Fail>
     requires { conn.old.in_transaction ≡ false }
+    ensures { conn.new.in_transaction ≡ false }
 {
     let campaign = joined(alloc)?;
     arrive(conn, &campaign)
 }
 
 /// A store in which Avalon has joined and sent a mail.
-pub(crate) fn visited(alloc: Global) -> Result<Connection<MemStore>, Fail> {
+pub(crate) fn visited(alloc: Global) -> Result<Connection<MemStore>, Fail>
+    ensures { IfOk result (λ conn. conn.in_transaction ≡ false) }
+{
     let mut conn = created(alloc)?;
     visit(alloc, &mut conn)?;
     Ok(conn)

@@ -1,5 +1,5 @@
 //! A table and an index of a person's own, behind the nine.
-ghost use Rattle.std.specs.Prelude.{◌≡◌, false};
+ghost use Rattle.std.specs.Prelude.{◌≡◌, false, OnOk};
 
 use super::compare::{is_bytes, is_count, is_number, is_text};
 use super::making::created;
@@ -24,7 +24,9 @@ fn notes<S: Alter>(conn: &mut Connection<S>) -> Result<(), Fail> {
     Ok(())
 }
 
-fn mails<S: Alter>(conn: &mut Connection<S>) -> Result<(), Fail> {
+fn mails<S: Alter>(conn: &mut Connection<S>) -> Result<(), Fail>
+    ensures { OnOk result (conn.new.in_transaction ≡ false) }
+{
     if !conn.is_autocommit() {
         return Err(Fail::new("a transaction is open"));
     }
@@ -32,11 +34,9 @@ fn mails<S: Alter>(conn: &mut Connection<S>) -> Result<(), Fail> {
     Ok(())
 }
 
-fn has_mail<S: Alter>(
-    rt: &impl Abort,
-    alloc: Global,
-    conn: &mut Connection<S>,
-) -> Result<(), Fail> {
+fn has_mail<S: Alter>(rt: &impl Abort, alloc: Global, conn: &mut Connection<S>) -> Result<(), Fail>
+    requires { conn.old.in_transaction ≡ false }
+{
     let rows = read_mail(alloc, conn)?;
     is_count(rt, rows.len(), 1);
     is_bytes(rt, rows[0].text.as_slice(), b"#ATLANTIS 1");

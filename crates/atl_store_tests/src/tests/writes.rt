@@ -1,4 +1,6 @@
 //! A second creation, a joining and a mail.
+ghost use Rattle.std.specs.Prelude.{◌≡◌, false};
+
 use super::compare::{is_bytes, is_count, is_number, is_text};
 use super::counts::{count_books, count_factions};
 use super::founding::is_booked;
@@ -17,7 +19,7 @@ use std::process::Abort;
 use std::test::Fail;
 
 /// What is answered to a creation, in words.
-fn answered<S: Alter>(conn: &mut Connection<S>, campaign: &Campaign) -> &'static str {
+fn answered<S: Alter>(conn: &mut Connection<S>, campaign: &mut Campaign) -> &'static str {
     if !has_few_things(campaign) {
         return "too many things";
     }
@@ -34,8 +36,20 @@ fn creates_again<S: Alter>(
     alloc: Global,
     conn: &mut Connection<S>,
 ) -> Result<(), Fail> {
-    let campaign = joined(alloc)?;
-    is_text(rt, answered(conn, &campaign), "not empty");
+    let mut campaign = joined(alloc)?;
+    is_text(rt, answered(conn, &mut campaign), "not empty");
+    Ok(())
+}
+
+fn has_nobody<S: Alter>(
+    rt: &impl Abort,
+    alloc: Global,
+    conn: &mut Connection<S>,
+) -> Result<(), Fail>
+    requires { conn.old.in_transaction ≡ false }
+{
+    is_count(rt, count_factions(alloc, conn)?, 0);
+    is_count(rt, count_books(alloc, conn)?, 2);
     Ok(())
 }
 
@@ -45,9 +59,10 @@ fn is_spared<S: Alter>(
     conn: &mut Connection<S>,
 ) -> Result<(), Fail> {
     creates_again(rt, alloc, conn)?;
-    is_count(rt, count_factions(alloc, conn)?, 0);
-    is_count(rt, count_books(alloc, conn)?, 2);
-    Ok(())
+    if !conn.is_autocommit() {
+        return Err(Fail::new("a transaction is open"));
+    }
+    has_nobody(rt, alloc, conn)
 }
 
 #[test]
@@ -58,9 +73,9 @@ fn a_second_creation_is_refused(rt: HostRuntime) -> Result<(), Fail> {
 
 fn is_avalon(rt: &impl Abort, row: &StoredFaction) {
     is_number(rt, row.number, 1);
-    is_text(rt, row.joined_as.as_str(), "Avalon");
-    is_text(rt, row.name.as_str(), "Avalon");
-    is_text(rt, row.pass.as_str(), "pw");
+    is_bytes(rt, row.joined_as.as_slice(), b"Avalon");
+    is_bytes(rt, row.name.as_slice(), b"Avalon");
+    is_bytes(rt, row.pass.as_slice(), b"pw");
     is_number(rt, row.gone, 0);
 }
 
@@ -68,7 +83,9 @@ fn has_faction<S: Alter>(
     rt: &impl Abort,
     alloc: Global,
     conn: &mut Connection<S>,
-) -> Result<(), Fail> {
+) -> Result<(), Fail>
+    requires { conn.old.in_transaction ≡ false }
+{
     let rows = read_factions(alloc, conn)?;
     is_count(rt, rows.len(), 1);
     is_avalon(rt, &rows[0]);
@@ -81,15 +98,13 @@ fn a_faction_is_kept(rt: HostRuntime) -> Result<(), Fail> {
     has_faction(&rt, rt.alloc(), &mut conn)
 }
 
-fn has_books<S: Alter>(
-    rt: &impl Abort,
-    alloc: Global,
-    conn: &mut Connection<S>,
-) -> Result<(), Fail> {
+fn has_books<S: Alter>(rt: &impl Abort, alloc: Global, conn: &mut Connection<S>) -> Result<(), Fail>
+    requires { conn.old.in_transaction ≡ false }
+{
     let rows = read_books(alloc, conn)?;
     is_count(rt, rows.len(), 4);
-    is_booked(rt, &rows[2], 2, 0, 1000);
-    is_booked(rt, &rows[3], 2, 1, 1);
+    is_booked(rt, &rows[2].row, 2, 0, 1000);
+    is_booked(rt, &rows[3].row, 2, 1, 1);
     Ok(())
 }
 
@@ -102,7 +117,7 @@ fn joining_is_booked(rt: HostRuntime) -> Result<(), Fail> {
 fn is_newcomer(rt: &impl Abort, row: &StoredUnit) {
     is_number(rt, row.number, 1);
     is_number(rt, row.faction, 1);
-    is_text(rt, row.name.as_str(), "Unit 1");
+    is_bytes(rt, row.name.as_slice(), b"Unit 1");
     is_number(rt, row.region, 1);
     is_number(rt, row.structure, 0);
     is_number(rt, row.men, 1);
@@ -110,11 +125,9 @@ fn is_newcomer(rt: &impl Abort, row: &StoredUnit) {
     is_number(rt, row.guard, 0);
 }
 
-fn has_unit<S: Alter>(
-    rt: &impl Abort,
-    alloc: Global,
-    conn: &mut Connection<S>,
-) -> Result<(), Fail> {
+fn has_unit<S: Alter>(rt: &impl Abort, alloc: Global, conn: &mut Connection<S>) -> Result<(), Fail>
+    requires { conn.old.in_transaction ≡ false }
+{
     let rows = read_units(alloc, conn)?;
     is_count(rt, rows.len(), 1);
     is_newcomer(rt, &rows[0]);
@@ -131,7 +144,9 @@ fn has_report<S: Alter>(
     rt: &impl Abort,
     alloc: Global,
     conn: &mut Connection<S>,
-) -> Result<(), Fail> {
+) -> Result<(), Fail>
+    requires { conn.old.in_transaction ≡ false }
+{
     let rows = read_reports(alloc, conn)?;
     is_count(rt, rows.len(), 1);
     is_number(rt, rows[0].faction, 1);
@@ -145,11 +160,9 @@ fn a_report_is_kept(rt: HostRuntime) -> Result<(), Fail> {
     has_report(&rt, rt.alloc(), &mut conn)
 }
 
-fn has_mail<S: Alter>(
-    rt: &impl Abort,
-    alloc: Global,
-    conn: &mut Connection<S>,
-) -> Result<(), Fail> {
+fn has_mail<S: Alter>(rt: &impl Abort, alloc: Global, conn: &mut Connection<S>) -> Result<(), Fail>
+    requires { conn.old.in_transaction ≡ false }
+{
     let rows = read_mail(alloc, conn)?;
     is_count(rt, rows.len(), 1);
     is_number(rt, rows[0].faction, 1);

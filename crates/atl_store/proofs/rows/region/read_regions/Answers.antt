@@ -1,10 +1,9 @@
-use Rattle.atl_store.specs.Sets.{rows_in}
 use Rattle.atl_store.specs.Tables.{region_table}
-use Rattle.atl_store.proofs.RowsLaws.{reads_table}
-use Rattle.atl_store.proofs.RegionReadLaws.{reads_region, commits_no_region}
+use Rattle.atl_store.specs.Sets.{rows_in}
+use Rattle.atl_store.specs.StoredRows.{region_forms}
+use Rattle.atl_store.proofs.RowsLaws.{gives_table}
+use Rattle.atl_store.proofs.SelectLaws.{reads_region}
 use Rattle.atl_store.proofs.rows.region.read_regions.Goals as goal
 
-pub returns : goal.returns
-returns g c =
-    let read = c.read_all.ensures in
-    reads_table g.S.Store _ _ _ region_table.columns _ _ (rows_in region_table) reads_region commits_no_region (λ row typed. typed) read.rows read.other read.survives read.idle
+pub returns-clause-table : goal.returns-clause-table
+returns-clause-table g c = gives_table g.S.Store _ _ _ region_forms _ _ (rows_in region_table) reads_region c.read_all.ensures

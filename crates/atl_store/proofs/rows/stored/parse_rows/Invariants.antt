@@ -3,4 +3,4 @@ use Rattle.atl_store.specs.Stored.{first_columns}
 use Rattle.atl_store.proofs.rows.stored.parse_rows.Given as goal
 
 abbrev pub invariant-loop-row : goal.invariant-loop-row
-invariant-loop-row g l = map g.T.Stored.shown l.all.items ≡ map (first_columns (length g.T.Stored.columns)) (take l.row-index l.rows)
+invariant-loop-row g l = map g.T.Stored.shown l.all.items ≡ map (first_columns (length g.T.Stored.forms)) (take l.row-index l.rows)

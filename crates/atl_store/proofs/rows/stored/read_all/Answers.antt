@@ -1,12 +1,8 @@
-use Rattle.std.proofs.Common.{length, map, ap, subst, ◌∙◌}
-use Rattle.atl_store.specs.Stored.{first_columns, AreTyped}
-use Rattle.atl_store.proofs.KeepLaws.{if_ok, if_err}
+use Rattle.atl_store.proofs.SelectingLaws.{unasked, parsed}
 use Rattle.atl_store.proofs.rows.stored.read_all.Goals as goal
 
-pub returns-clause-rows : goal.returns-clause-rows
-returns-clause-rows g c clean =
-    if_ok c.parse_rows.result (λ all told. (c.in_ok-rows.rows.items, c.in_ok-rows.ensures.ok clean, told ∙ ap (map (first_columns (length g.T.Stored.columns))) c.as_slice.ensures.value)) c.parse_rows.ensures.ok
+pub returns : goal.returns
+returns g c = parsed g.S.Store c.args.sql.now c.args.conn.now c.select.new.conn g.T.Stored.forms g.T.Stored.shown c.in_ok-rows.rows c.as_slice.result.now c.parse_rows.result c.in_ok-rows.ensures c.as_slice.ensures.value c.parse_rows.ensures.ok c.parse_rows.ensures.other c.parse_rows.ensures.which
 
-pub returns-clause-other : goal.returns-clause-other
-returns-clause-other g c clean =
-    if_err c.parse_rows.result (λ e told is. (c.in_ok-rows.rows.items, c.in_ok-rows.ensures.ok clean, subst (λ rows. ¬ AreTyped g.T.Stored.columns rows) c.as_slice.ensures.value (told is))) c.parse_rows.ensures.other
+pub returns-in_err-rows : goal.returns-in_err-rows
+returns-in_err-rows g c = unasked g.S.Store c.args.sql.now c.args.conn.now c.select.new.conn g.T.Stored.forms g.T.Stored.shown c.in_err-rows.field-0.0 c.from_residual.result c.in_err-rows.ensures c.from_residual.ensures.1

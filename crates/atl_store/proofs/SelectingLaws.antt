@@ -1,0 +1,129 @@
+-- What a SELECT inside a transaction leaves, whatever it means, and what is left once the transaction is rolled back.
+use Rattle.std.proofs.Common.{◌≡◌, ◌≢◌, ◌⊎◌, ℕ, Bool, List, [], true, false, cond, IsTrue, Option, Some, None, Result, Ok, Err, IsErrAnd, IfOk, IfErr, map, length, sym, ap, ◌∙◌, subst, inl, inr, arith}
+use Rattle.std.specs.declared.vec.Vec.{Vec}
+use Rattle.sqlite_trees.specs.declared.store.Store.{Ghosts}
+use Rattle.sqlite_schema.specs.declared.command.Returning.{Returning}
+use Rattle.sqlite.specs.declared.error.Error.{Error}
+use Rattle.sqlite.specs.Held.{Held, state}
+use Rattle.sqlite.specs.Order.{Row}
+use Rattle.sqlite.specs.State.{State, HasCleanDisk, Survives, KeepsCommit, IsRolledBack, Writes, Shown, ShowsRows, FailsToQuery, FailsToShow, IsNotRun, IsTooLate}
+use Rattle.sqlite.proofs.InsideLemmas.{unchanged_keeps}
+use Rattle.sqlite.proofs.Callers.{survives_begin}
+use Rattle.atl_store.specs.Faults.{is_memory, is_failure, read_fault}
+use Rattle.atl_store.specs.Reading.{Rests, Asks, ReadsRows, RefusesToSelect}
+use Rattle.atl_store.specs.Stored.{Form, first_columns, AreTyped}
+use Rattle.atl_store.specs.declared.fault.ReadFault.{ReadFault}
+use Rattle.atl_store.specs.declared.fault.ReadFault.TheVariants.{Store, Refused, Memory, OtherType}
+use Rattle.atl_store.proofs.KeepLaws.{survives_more, if_ok, if_err}
+
+module _ (old new : State) (inside : IsTrue old.in_transaction) (sql : List ℕ) (params : Row) where
+  writes_keep : (what : Option Returning) (command : _) (text : List ℕ) (row : Row) (count : ℕ) → Writes old new what command text row count → KeepsCommit old new
+  writes_keep what command text row count w = record { was_open = λ _. w.shown.was_open; committed = λ _. w.shown.committed_is ∙ ap (λ b. cond b old.committed new.now) inside }
+
+  shows_keep : (c : _) (row : Row) (rows : List Row) (what : Option Returning) → ShowsRows old new sql c row rows what → KeepsCommit old new
+  shows_keep c row rows None h = unchanged_keeps old new (inl h.3)
+  shows_keep c row rows (Some what) h = writes_keep (Some what) _ _ row h.0 h.1
+
+  -- where it shows rows, nothing is committed
+  pub shown_keeps : (rows : List Row) → Shown sql params old new rows → KeepsCommit old new
+  unfolding Shown
+  shown_keeps rows h = shows_keep h.0 _ rows h.0.returning h.2
+
+  fails_keep : (c : _) (row : Row) (e : Error) (what : Option Returning) → FailsToShow old new sql c row e what → KeepsCommit old new
+  fails_keep c row e None h = unchanged_keeps old new (inl h.3)
+  fails_keep c row e (Some what) (inl h) = unchanged_keeps old new (inl h.1)
+  fails_keep c row e (Some what) (inr h) = unchanged_keeps old new (inr h.3)
+
+  -- nor where it is refused
+  pub refused_keeps : (e : Error) → FailsToQuery sql params old new e ⊎ IsTooLate sql params old new e → KeepsCommit old new
+  unfolding FailsToQuery IsNotRun
+  refused_keeps e (inl (inl (inl h))) = unchanged_keeps old new (inl h.1)
+  refused_keeps e (inl (inl (inr h))) = unchanged_keeps old new (inr h.3)
+  refused_keeps e (inl (inr h)) = fails_keep h.0 _ e h.0.returning h.2
+  refused_keeps e (inr h) = unchanged_keeps old new (inl h.5)
+
+-- ---- once the transaction is rolled back
+
+module _ {S : Type 0} (g : Ghosts S) (sql : List ℕ) (old begun mid end : Held S) (begins : begun ≡ record old { in_transaction = true }) (ended : end.in_transaction ≡ false)
+    (one : Survives (state g begun) (state g mid) (λ _. ⊥)) (back : HasCleanDisk (state g end) → IsRolledBack (state g mid) (state g end)) (two : Survives (state g mid) (state g end) (λ _. ⊥)) where
+  begun_inside : IsTrue (state g begun).in_transaction
+  begun_inside = ap (λ (h : Held S). h.in_transaction) begins
+
+  survived : Survives (state g old) (state g end) (λ _. ⊥)
+  survived = survives_begin g old (state g end) _ (subst (λ h. Survives (state g h) (state g end) (λ _. ⊥)) begins (survives_more (state g begun) (state g mid) (state g end) one two))
+
+  -- the tables are those of the last commit
+  rests : (HasCleanDisk (state g mid) → KeepsCommit (state g begun) (state g mid)) → HasCleanDisk (state g end) → Rests (state g old) (state g end)
+  rests keeps clean =
+      let kept = subst (λ h. KeepsCommit (state g h) (state g mid)) begins (keeps (omega (arith, two.clean))) in
+      let rolled = back clean in
+      record {
+        was_open = λ up. kept.was_open (rolled.was_open up);
+        same = λ up. let was = rolled.undone up in let same = kept.committed (rolled.was_open up) in (was.0 ∙ same, was.1 ∙ same);
+      }
+
+  -- it showed rows
+  pub showed : {Z : Type 0} (rows : Vec Row Z) → (HasCleanDisk (state g mid) → Shown sql [] (state g begun) (state g mid) rows.items) → Asks g sql old {Z = Z} (Ok rows) end
+  showed rows ok = record {
+    rows = λ clean. (mid, subst (λ h. Shown sql [] (state g h) (state g mid) rows.items) begins (ok (omega (arith, two.clean))));
+    refused = λ _. tt;
+    rests = rests (λ before. shown_keeps _ _ begun_inside sql [] rows.items (ok before));
+    survives = survived;
+    idle = ended;
+  }
+
+  not_late : (e : Error) → FailsToQuery sql [] (state g begun) (state g mid) e ⊎ IsTooLate sql [] (state g begun) (state g mid) e → FailsToQuery sql [] (state g begun) (state g mid) e
+  not_late e (inl failed) = failed
+  not_late e (inr late) = absurd (let no = sym begun_inside ∙ late.3 in cc)
+
+  -- it was refused
+  was_refused : {Z : Type 0} (e : Error) (fault : ReadFault) → fault ≡ read_fault e → (HasCleanDisk (state g mid) → FailsToQuery sql [] (state g begun) (state g mid) e ⊎ IsTooLate sql [] (state g begun) (state g mid) e) → Asks g sql old {Z = Z} (Err fault) end
+  was_refused e fault is err = record {
+    rows = λ _. tt;
+    refused = λ clean. (mid, e, subst (λ h. FailsToQuery sql [] (state g h) (state g mid) e) begins (not_late e (err (omega (arith, two.clean)))), is);
+    rests = rests (λ before. refused_keeps _ _ begun_inside sql [] e (err before));
+    survives = survived;
+    idle = ended;
+  }
+
+  pub told : {Z : Type 0} (e : Error) (r : Result (Vec Row Z) ReadFault) → IsErrAnd r (λ fault. fault ≡ read_fault e) → (HasCleanDisk (state g mid) → FailsToQuery sql [] (state g begun) (state g mid) e ⊎ IsTooLate sql [] (state g begun) (state g mid) e) → Asks g sql old {Z = Z} r end
+  told e (Ok rows) is err = absurd is
+  told e (Err fault) is err = was_refused e fault is err
+
+-- ---- each row read
+
+module _ {S A Z : Type 0} (g : Ghosts S) (sql : List ℕ) (old new : Held S) (forms : List Form) (shown : A → Row) where
+  -- the SELECT was refused
+  pub unasked : {Y : Type 0} (fault : ReadFault) (r : Result (Vec A Z) ReadFault) → Asks g sql old {Z = Y} (Err fault) new → IsErrAnd r (λ told. told ≡ fault) → ReadsRows g sql old forms shown r new
+  unasked fault (Ok all) asks is = absurd is
+  unasked fault (Err told) asks is = record {
+    rows = λ _. tt;
+    other = λ clean same. absurd (never_other told (subst (RefusesToSelect g sql old) (sym is) (asks.refused clean)) same);
+    refused = λ clean _ _. subst (RefusesToSelect g sql old) (sym is) (asks.refused clean);
+    rests = asks.rests;
+    survives = asks.survives;
+    idle = asks.idle;
+  }
+    where
+      not_other : (e : Error) → read_fault e ≡ OtherType → ⊥
+      not_other e same = by_memory (is_memory e) (is_failure e) same
+        where
+          by_memory : (a b : Bool) → cond a Memory (cond b Store Refused) ≡ OtherType → ⊥
+          by_memory true b is = cc
+          by_memory false true is = cc
+          by_memory false false is = cc
+
+      never_other : (fault : ReadFault) → RefusesToSelect g sql old fault → fault ≡ OtherType → ⊥
+      never_other fault told same = not_other told.1 (sym told.3 ∙ same)
+
+  -- it was answered, and its rows were read
+  pub parsed : {Y : Type 0} (rows : Vec Row Y) (lent : List Row) (r : Result (Vec A Z) ReadFault) → Asks g sql old (Ok rows) new → lent ≡ rows.items
+      → IfOk r (λ all. map shown all.items ≡ map (first_columns (length forms)) lent) → IfErr r (λ fault. fault ≡ OtherType → ¬ AreTyped forms lent) → IfErr r (λ fault. fault ≢ OtherType → fault ≡ Memory) → ReadsRows g sql old forms shown r new
+  parsed rows lent r asks same ok other which = record {
+    rows = λ clean. if_ok r (λ all told. (rows.items, asks.rows clean, told ∙ ap (map (first_columns (length forms))) same)) ok;
+    other = λ clean. if_err r (λ fault told is. (rows.items, asks.rows clean, subst (λ l. ¬ AreTyped forms l) same (told is))) other;
+    refused = λ clean. if_err r (λ fault told no never. absurd (never (told no))) which;
+    rests = asks.rests;
+    survives = asks.survives;
+    idle = asks.idle;
+  }
