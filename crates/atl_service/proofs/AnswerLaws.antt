@@ -18,6 +18,5 @@ is_refused g w c conn command why is good = record {
   sound = tt;
   same = (refl, refl);
   good = good;
-  balances = λ h. h;
   tables = λ clean text keeps. keeps;
 }

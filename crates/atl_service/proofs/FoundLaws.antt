@@ -8,7 +8,6 @@ use Rattle.atl_tables.specs.Planet.{Planet}
 use Rattle.atl_state.specs.State.{State as Campaign}
 use Rattle.atl_state.specs.Founding.{founded_of}
 use Rattle.atl_state.specs.Good.{IsGood}
-use Rattle.atl_state.specs.Totals.{Balances}
 use Rattle.atl_store.specs.Making.{has_campaign}
 use Rattle.atl_store.specs.Keeps.{Keeps, IsLater, MayFound, Creates, FailsToCreate, RefusesToCreate}
 use Rattle.atl_store.proofs.StayLaws.{spares_itself}
@@ -41,11 +40,10 @@ module _ {S : Type 0} (g : Ghosts S) where
       leaves none.Memory = nothing_done conn text pass
 
   -- the service that is founded stands
-  pub founded_stands : (conn : Held S) (w : Planet) (c : Campaign) (text : List ℕ) → conn.in_transaction ≡ false → IsGood w c → Balances c → world_of text ≡ Ok w → HoldsCampaign g conn text c → Stands g conn w c true
-  founded_stands conn w c text idle good balances is holds = record {
+  pub founded_stands : (conn : Held S) (w : Planet) (c : Campaign) (text : List ℕ) → conn.in_transaction ≡ false → IsGood w c → world_of text ≡ Ok w → HoldsCampaign g conn text c → Stands g conn w c true
+  founded_stands conn w c text idle good is holds = record {
     idle = idle;
     good = λ up. good;
-    balances = λ up. balances;
     tables = λ up clean. let kept = holds clean in subst (λ t. Keeps (state g conn) t c) (sym (world_text_is (state g conn) text c kept)) kept;
     text = λ up clean. ap world_of (world_text_is (state g conn) text c (holds clean)) ∙ is;
   }

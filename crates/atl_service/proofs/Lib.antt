@@ -1,6 +1,5 @@
 pub mod AnswerLaws
 pub mod FoundLaws
-pub mod GoodLaws
 pub mod ListLaws
 pub mod RunLaws
 pub mod StepLaws

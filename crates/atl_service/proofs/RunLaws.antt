@@ -1,5 +1,6 @@
 -- From the answer to one command to what `run` promises.
 use Rattle.std.proofs.Common.{◌≡◌, Bool, true, false, cond, Some, None, IfSome, refl, sym, ap, ap₂, ◌∙◌, subst}
+use Rattle.std.proofs.lemmas.Bool.{false≢true}
 use Rattle.sqlite_trees.specs.declared.store.Store.{Ghosts}
 use Rattle.sqlite.specs.Held.{Held, state}
 use Rattle.atl_tables.specs.World.{world_of}
@@ -35,20 +36,19 @@ module _ {S : Type 0} (g : Ghosts S) where
     stands_open answer stands leaves done = record {
       idle = leaves.idle;
       good = λ up. done.good;
-      balances = λ up. done.balances (stands.balances refl);
       tables = λ up clean. let kept = holding answer stands leaves done clean in subst (λ t. Keeps (state g conn') t c') (sym (world_text_is (state g conn') (text_in g conn) c' kept)) kept;
       text = λ up clean. ap world_of (world_text_is (state g conn') (text_in g conn) c' (holding answer stands leaves done clean)) ∙ stands.text refl (leaves.later.clean clean);
     }
 
     pub stands_after : (answer : Answer) (is_open : Bool) → is_open ≡ true → Stands g conn w c is_open → LeavesIdle g conn conn' → Answered answer → Stands g conn' w c' is_open
     stands_after answer true up stands leaves done = stands_open answer stands leaves done
-    stands_after answer false up stands leaves done = cc
+    stands_after answer false up stands leaves done = absurd (false≢true up)
 
     -- the tables of an open service
     pub tables_after : (answer : Answer) (is_open : Bool) → is_open ≡ true → Stands g conn w c is_open → LeavesIdle g conn conn' → Answered answer
         → IfSome (shown conn' w c' is_open).campaign (λ d. HoldsCampaign g conn' (text_in g conn') d)
     tables_after answer true up stands leaves done = (stands_open answer stands leaves done).tables refl
-    tables_after answer false up stands leaves done = cc
+    tables_after answer false up stands leaves done = absurd (false≢true up)
 
     runs_open : (answer : Answer) → Stands g conn w c true → LeavesIdle g conn conn' → Answered answer → RunsOpen g c (shown conn w c true) command answer (shown conn' w c' true)
     runs_open (Joined f u) stands leaves done = record { after = c'; step = done.step_is; same = refl; tables = holding (Joined f u) stands leaves done }
@@ -59,7 +59,7 @@ module _ {S : Type 0} (g : Ghosts S) where
 
     pub runs_on : (old : Engine S) (answer : Answer) (is_open : Bool) → shown conn w c is_open ≡ old → is_open ≡ true → Stands g conn w c is_open → LeavesIdle g conn conn' → Answered answer → Runs g old command answer (shown conn' w c' is_open)
     runs_on old answer true seen up stands leaves done = subst (λ e. Runs g e command answer (shown conn' w c' true)) seen (runs_open answer stands leaves done)
-    runs_on old answer false seen up stands leaves done = cc
+    runs_on old answer false seen up stands leaves done = absurd (false≢true up)
 
     -- the call gave up
     abbrev pub GaveUp : Type 0
@@ -75,4 +75,4 @@ module _ {S : Type 0} (g : Ghosts S) where
         closes : (fault : WriteFault) → RunsOpen g c (shown conn w c true) command (Fault (of_writing fault)) (shown conn' w c' false)
         closes write.Memory = closes_open stands leaves gave_up
         closes write.Store = closes_open stands leaves gave_up
-    closes_for old fault told false is seen up stands leaves gave_up = cc
+    closes_for old fault told false is seen up stands leaves gave_up = absurd (false≢true up)

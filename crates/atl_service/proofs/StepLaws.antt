@@ -60,7 +60,7 @@ arrival w name pass word c good =
     let band = first_unit w word c in
     let start = pos w.rules.start_money in
     let things = things_of w in
-    let grid = IsGrid-with_booked things (with_booked c.books Joining Money start) Joining People (pos 1) (IsGrid-with_booked things c.books Joining Money start good.grid) in
+    let grid = IsGrid-with_booked things (with_booked c.books Joining Money start) Joining People (pos 1) (IsGrid-with_booked things c.books Joining Money start good.sound.steady.numbers.books) in
     let back : c.next_unit + 1 - 1 ≡ c.next_unit = omega arith in
     let report = report_of w (view_of (joined w name pass word c) c.next_faction) in
     record {

@@ -8,7 +8,6 @@ use Rattle.atl_orders.specs.declared.fault.MailFault.{MailFault}
 use Rattle.atl_orders.specs.declared.fault.MailFault.TheVariants as mail
 use Rattle.atl_state.specs.State.{State as Campaign}
 use Rattle.atl_state.specs.Good.{IsGood}
-use Rattle.atl_state.specs.Totals.{Balances}
 use Rattle.atl_store.specs.Keeps.{Keeps, Stops, IsLater, SparesOthers}
 use Rattle.atl_store.specs.declared.fault.WriteFault.{WriteFault}
 use Rattle.atl_store.specs.declared.fault.WriteFault.TheVariants as write
@@ -35,13 +34,12 @@ IfIdle (Text _) P = P
 IfIdle (Refused _) P = P
 IfIdle (Fault _) P = ⊤
 
--- The answer and the campaign are the step's. The campaign is good, its books balance, and tables that held the one before hold it.
+-- The answer and the campaign are the step's. The campaign is good, and tables that held the one before hold it.
 pub record Answers {S : Type 0} (g : Ghosts S) (w : Planet) (before : Campaign) (old : Held S) (command : Command) (after : Campaign) (new : Held S) (answer : Answer) : Type 0 where
   pub step_is : step w before command ≡ (after, answer)
   pub sound : IsSound answer
   pub same : IfIdle answer ((after ≡ before) × (new ≡ old))
   pub good : IsGood w after
-  pub balances : Balances before → Balances after
   pub tables : HasCleanDisk (state g new) → (text : List ℕ) → Keeps (state g old) text before → Keeps (state g new) text after
 
 -- There is no answer. Tables that held the campaign before stop at it, and a crash leaves it or the step's.

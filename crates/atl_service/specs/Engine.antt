@@ -6,9 +6,9 @@ use Rattle.sqlite.specs.Held.{Held, held_code, state}
 use Rattle.sqlite.specs.State.{HasCleanDisk}
 use Rattle.atl_tables.specs.Planet.{Planet, planet_code}
 use Rattle.atl_tables.specs.World.{world_of}
-use Rattle.atl_state.specs.State.{State as Campaign, state_code}
+use Rattle.atl_state.specs.State.{State as Campaign, Marked, state_code}
+use Rattle.atl_state.specs.Marks.{no_marks}
 use Rattle.atl_state.specs.Good.{IsGood}
-use Rattle.atl_state.specs.Totals.{Balances}
 use Rattle.atl_store.specs.Keeps.{HoldsCampaign}
 use Rattle.atl_store.specs.WorldText.{world_text}
 
@@ -29,10 +29,14 @@ engine_code {S} store =
 abbrev pub text_in : {S : Type 0} → Ghosts S → Held S → List ℕ
 text_in g conn = world_text (state g conn)
 
--- What is true of every service. While it is open, its campaign is good and its books balance, and its tables hold the rows of the campaign and of a text of its world.
+-- While a service is open, its campaign is good, and its tables hold the rows of the campaign and of a text of its world.
 pub record Stands {S : Type 0} (g : Ghosts S) (conn : Held S) (w : Planet) (c : Campaign) (is_open : Bool) : Type 0 where
   pub idle : conn.in_transaction ≡ false
   pub good : is_open ≡ true → IsGood w c
-  pub balances : is_open ≡ true → Balances c
   pub tables : is_open ≡ true → HoldsCampaign g conn (text_in g conn) c
   pub text : is_open ≡ true → HasCleanDisk (state g conn) → world_of (text_in g conn) ≡ Ok w
+
+-- What is true of every service: it stands, and while it is open nothing of its campaign is marked.
+pub record IsService {S : Type 0} (g : Ghosts S) (conn : Held S) (w : Planet) (c : Marked) (is_open : Bool) : Type 0 where
+  pub stands : Stands g conn w c.what is_open
+  pub unmarked : is_open ≡ true → c.marks ≡ no_marks

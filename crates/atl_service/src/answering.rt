@@ -3,6 +3,7 @@ ghost use Rattle.std.specs.Prelude.{◌≡◌, length, false, Ok, Err, Some, IfO
 ghost use Rattle.std.specs.FinMap as map;
 ghost use Rattle.atl_orders.specs.Mailing.{IsMailingOf};
 ghost use Rattle.atl_state.specs.Good.{IsGood, IsActive};
+ghost use Rattle.atl_state.specs.Marks.{no_marks};
 ghost use Rattle.atl_state.specs.Marking.{mark_report};
 ghost use Rattle.atl_state.specs.State.{with_mail};
 ghost use Rattle.atl_service.specs.Step.{identified, step, reported};
@@ -49,6 +50,7 @@ fn join<S: Alter>(
     ensures ok { IfOk result (Answers S.Store world.now campaign.old.what conn.old (Command.Join name.now pass.now word) campaign.new.what conn.new) }
     ensures err { OnErr result (GivesUp S.Store world.now campaign.old.what conn.old (Command.Join name.now pass.now word) conn.new) }
     ensures leaves { LeavesIdle S.Store conn.old conn.new }
+    ensures unmarked { campaign.old.marks ≡ no_marks → OnOk result (campaign.new.marks ≡ no_marks) }
 {
     if !name_ok(name.as_slice()) {
         return Ok(Answer::Refused(Refusal::BadName));
@@ -64,6 +66,7 @@ fn join<S: Alter>(
     };
     store_report(alloc, world, campaign, faction)?;
     write_join(conn, campaign, faction)?;
+    campaign.unmark();
     Ok(Answer::Joined { faction, unit })
 }
 
@@ -156,6 +159,7 @@ fn mail<S: Alter>(
     ensures ok { IfOk result (Answers S.Store world.now campaign.old.what conn.old (Command.Mail faction pass.now text.now) campaign.new.what conn.new) }
     ensures err { OnErr result (GivesUp S.Store world.now campaign.old.what conn.old (Command.Mail faction pass.now text.now) conn.new) }
     ensures leaves { LeavesIdle S.Store conn.old conn.new }
+    ensures unmarked { campaign.old.marks ≡ no_marks → OnOk result (campaign.new.marks ≡ no_marks) }
 {
     let mailing = match received(alloc, world, campaign, faction, pass, text) {
         Ok(mailing) => mailing,
@@ -166,6 +170,7 @@ fn mail<S: Alter>(
     let (kept, _, faults) = mailing.into_parts();
     campaign.set_mail(faction, kept)?;
     write_mail(conn, faction, text.as_slice())?;
+    campaign.unmark();
     Ok(Answer::Mailed { orders, faults })
 }
 
@@ -204,6 +209,7 @@ pub(crate) fn answered<S: Alter>(
     ensures ok { IfOk result (Answers S.Store world.now campaign.old.what conn.old command.now campaign.new.what conn.new) }
     ensures err { OnErr result (GivesUp S.Store world.now campaign.old.what conn.old command.now conn.new) }
     ensures leaves { LeavesIdle S.Store conn.old conn.new }
+    ensures unmarked { campaign.old.marks ≡ no_marks → OnOk result (campaign.new.marks ≡ no_marks) }
 {
     match command {
         Command::Join { name, pass, word } => {

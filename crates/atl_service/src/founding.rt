@@ -2,7 +2,6 @@
 ghost use Rattle.std.specs.Prelude.{◌≤◌, Bool, IfOk, IfErr, length};
 ghost use Rattle.atl_state.specs.Limits.{most_things};
 ghost use Rattle.atl_state.specs.Good.{IsGood};
-ghost use Rattle.atl_state.specs.Totals.{Balances};
 ghost use Rattle.atl_service.specs.Found.{Prepares, IsCause};
 
 use crate::command::Cause;
@@ -18,7 +17,6 @@ pub(crate) fn prepared(
 ) -> Result<(World, Campaign), Cause>
     ensures ok { IfOk result (λ made. Prepares world_text.now pass.now made.0 made.1.what) }
     ensures good { IfOk result (λ made. IsGood made.0 made.1.what) }
-    ensures balances { IfOk result (λ made. Balances made.1.what) }
     ensures things { IfOk result (λ made. length made.1.what.books ≤ most_things) }
     ensures err { IfErr result (λ why. (is_there : Bool) → IsCause world_text.now pass.now is_there why) }
 {

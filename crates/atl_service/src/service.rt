@@ -40,7 +40,7 @@ impl<S: Alter + Drop> Drop for Service<S> {
 
 impl<S: Alter> Model for Service<S> {
     ghost use Rattle.std.specs.Prelude.{Some, None, cond};
-    ghost use Rattle.atl_service.specs.Engine.{Engine, engine_code, Stands};
+    ghost use Rattle.atl_service.specs.Engine.{Engine, engine_code, IsService};
 
     ghost Value = { Engine S };
 
@@ -48,12 +48,12 @@ impl<S: Alter> Model for Service<S> {
 
     ghost view = { λ a. record { conn = a.conn; world = a.world; campaign = cond a.is_open (Some a.campaign.what) None } };
 
-    ghost invariant = { λ a. Stands S.Store a.conn a.world a.campaign.what a.is_open };
+    ghost invariant = { λ a. IsService S.Store a.conn a.world a.campaign a.is_open };
 }
 
 impl<S: Alter> Service<S> {
     ghost use Rattle.atl_state.specs.Good.{IsGood};
-    ghost use Rattle.atl_state.specs.Totals.{Balances};
+    ghost use Rattle.atl_state.specs.Marks.{no_marks};
     ghost use Rattle.atl_store.specs.Keeps.{HoldsCampaign, IsLater, SparesOthers};
     ghost use Rattle.atl_service.specs.Engine.{text_in};
     ghost use Rattle.atl_service.specs.Runs.{Runs, RunsAll, HeadlineAt};
@@ -99,11 +99,11 @@ impl<S: Alter> Service<S> {
         Ok(answers)
     }
 
-    /// The campaign, while the service is open.
+    /// The campaign, while the service is open. Nothing of it is marked: all that changed has been written.
     pub fn campaign(&self) -> Option<&Campaign>
         ensures value { option_map (λ c. c.what) (option_copied result) ≡ self.now.campaign }
         ensures good { IfSome self.now.campaign (IsGood self.now.world) }
-        ensures balances { IfSome self.now.campaign Balances }
+        ensures unmarked { IfSome (option_copied result) (λ c. c.marks ≡ no_marks) }
         ensures tables { IfSome self.now.campaign (λ c. HoldsCampaign S.Store self.now.conn (text_in S.Store self.now.conn) c) }
     {
         if self.is_open {
@@ -149,11 +149,11 @@ pub fn found<S: Alter>(
     ensures ok { IfOk result (Founds S.Store conn world_text.now pass.now) }
     ensures err { IfErr result (λ r. RefusesFounding S.Store conn world_text.now pass.now r.why r.conn) }
 {
-    let (world, campaign) = match prepared(alloc, world_text, pass) {
+    let (world, mut campaign) = match prepared(alloc, world_text, pass) {
         Ok(both) => both,
         Err(why) => return Err(Refused { why, conn }),
     };
-    match create(&mut conn, world_text, &campaign) {
+    match create(&mut conn, world_text, &mut campaign) {
         Ok(()) => Ok(Service {
             alloc,
             conn,

@@ -1,6 +1,6 @@
 use Rattle.std.proofs.Common.{◌≡◌, ap, sym, ◌∙◌, subst}
 use Rattle.sqlite.specs.Held.{state}
-use Rattle.atl_state.specs.State.{State as Campaign}
+use Rattle.atl_state.specs.State.{State as Campaign, Marked}
 use Rattle.atl_store.specs.Keeps.{Stops}
 use Rattle.atl_store.proofs.StayLaws.{on_err}
 use Rattle.atl_service.specs.declared.command.Command.TheVariants.{Join}
@@ -8,7 +8,7 @@ use Rattle.atl_service.specs.declared.command.Refusal.TheVariants as why
 use Rattle.atl_service.specs.Step.{reported}
 use Rattle.atl_service.specs.Answering.{GivesUp}
 use Rattle.atl_service.proofs.AnswerLaws.{is_refused}
-use Rattle.atl_service.proofs.GoodLaws.{IsGood-with_report, Balances-with_report}
+use Rattle.atl_state.proofs.GoodLaws.{IsGood-joined}
 use Rattle.atl_service.proofs.StepLaws.{bad_name, bad_pass, is_taken, is_too_full, steps_on, joining_is, arrives}
 use Rattle.atl_service.proofs.answering.join.Goals as goal
 
@@ -45,13 +45,13 @@ returns-clause-ok g c =
     let is = rw (c.as_slice-3.ensures, c.as_slice-4.ensures) at c.in-Ok.ensures.definition in
     let is_joining = joining_is w c.args.name.now c.args.pass.now c.args.word old c.join.new.self.what c.in-Ok.numbers.0 c.in-Ok.numbers.1 c.requires.good is in
     let done : c.store_report.new.campaign.what ≡ reported w c.join.new.self.what c.in-Ok.numbers.0 = c.in_ok-store_report.ensures.ok in
+    let same : c.unmark.new.self.what ≡ c.store_report.new.campaign.what = ap (λ (m : Marked). m.what) c.unmark.ensures in
     record {
-      step_is = rw done (steps_on w old c.args.name.now c.args.pass.now c.args.word c.join.new.self.what c.in-Ok.numbers.0 c.in-Ok.numbers.1 (cc) (cc) is);
+      step_is = rw (same, done) (steps_on w old c.args.name.now c.args.pass.now c.args.word c.join.new.self.what c.in-Ok.numbers.0 c.in-Ok.numbers.1 (cc) (cc) is);
       sound = tt;
       same = tt;
-      good = rw done (IsGood-with_report w c.join.new.self.what c.in-Ok.numbers.0 _ c.join.ensures.good);
-      balances = λ h. rw done (Balances-with_report c.join.new.self.what c.in-Ok.numbers.0 _ (c.join.ensures.balances h));
-      tables = λ clean text keeps. c.in_ok-write_join.ensures.ok clean text old keeps (rw done is_joining);
+      good = rw (same, done) (IsGood-joined w c.args.name.now c.args.pass.now c.args.word old c.join.new.self.what c.in-Ok.numbers.0 c.in-Ok.numbers.1 _ is c.requires.good c.join.ensures.sound);
+      tables = λ clean text keeps. rw same (c.in_ok-write_join.ensures.ok clean text old keeps (rw done is_joining));
     }
 
 pub returns-in_err-write_join-clause-err : goal.returns-in_err-write_join-clause-err

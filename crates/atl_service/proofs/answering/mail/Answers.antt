@@ -1,23 +1,22 @@
 use Rattle.std.proofs.Common.{◌≡◌, sym, ap, ◌∙◌, subst}
 use Rattle.sqlite.specs.Held.{state}
-use Rattle.atl_state.specs.State.{State as Campaign, with_mail}
+use Rattle.atl_state.specs.State.{State as Campaign, Marked, with_mail}
 use Rattle.atl_store.specs.Keeps.{Stops}
 use Rattle.atl_store.proofs.StayLaws.{on_err}
 use Rattle.atl_service.specs.declared.command.Command.TheVariants.{Mail}
 use Rattle.atl_service.specs.Answering.{GivesUp}
-use Rattle.atl_service.proofs.GoodLaws.{IsGood-with_mail, Balances-with_mail}
+use Rattle.atl_state.proofs.GoodLaws.{IsGood-with_mail}
 use Rattle.atl_service.proofs.answering.mail.Goals as goal
 
 pub returns-clause-ok : goal.returns-clause-ok
 returns-clause-ok g c =
     let old = c.args.campaign.now.what in
-    let done : c.set_mail.new.self.what ≡ with_mail old c.args.faction c.args.text.now = c.in_ok-set_mail.ensures.ok ∙ ap (with_mail old c.args.faction) (c.into_parts-kept.ensures.text ∙ c.in-Ok.ensures.text) in
+    let done : c.unmark.new.self.what ≡ with_mail old c.args.faction c.args.text.now = ap (λ (m : Marked). m.what) c.unmark.ensures ∙ c.in_ok-set_mail.ensures.ok ∙ ap (with_mail old c.args.faction) (c.into_parts-kept.ensures.text ∙ c.in-Ok.ensures.text) in
     record {
       step_is = rw (done, c.len-orders.ensures, c.into_parts-kept.ensures.faults) c.in-Ok.ensures.step;
       sound = tt;
       same = tt;
       good = rw done (IsGood-with_mail c.args.world.now old c.args.faction c.args.text.now c.in-Ok.ensures.own c.in-Ok.ensures.active c.requires.good);
-      balances = λ h. rw done (Balances-with_mail old c.args.faction c.args.text.now h);
       tables = λ clean text keeps. rw done (rw c.as_slice.ensures at (c.in_ok-write_mail.ensures.ok clean text old keeps));
     }
 
