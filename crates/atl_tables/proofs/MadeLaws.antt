@@ -32,7 +32,7 @@ module _ {V W : Type 0} (f : V → W) where
   pub sum_over-mapped : (g : W → ℕ) (m : FinMap nat_cmp V) → sum_over g (mapped f m) ≡ sum_over (λ v. g (f v)) m
   sum_over-mapped g m = ap (sum_by (λ e. g e.1)) (entries-mapped m) ∙ weighed g (entries m)
 
-is_less : (o : Ordering) → is_lt o ≡ true → o ≡ Less
+pub is_less : (o : Ordering) → is_lt o ≡ true → o ≡ Less
 is_less Less h = refl
 is_less Equal h = absurd (false≢true h)
 is_less Greater h = absurd (false≢true h)

@@ -1,7 +1,8 @@
 -- Values and their marks.
-use Rattle.std.proofs.Common.{◌≡◌, ℕ, suc, ◌+◌, Bool, true, false, cond, not, ◌&&◌, ◌||◌, List, [], ◌∷◌, length, map, T, Option, Some, None, refl, sym, ap, ◌∙◌, arith}
+use Rattle.std.proofs.Common.{◌≡◌, ℕ, suc, ◌+◌, Bool, true, false, cond, not, ◌&&◌, ◌||◌, List, [], ◌∷◌, length, map, T, Option, Some, None, refl, sym, ap, subst, ◌∙◌, arith}
 use Rattle.std.specs.Prelude.{is_some}
-use Rattle.std.specs.List.{list_any}
+use Rattle.std.specs.List.{list_any, AllByRecursion}
+use Rattle.std.specs.List.Sorted.{IsStrictlySortedBy}
 use Rattle.std.proofs.lemmas.Bool.{false≢true, and_parts}
 use Rattle.std.specs.Ordering.{nat_cmp, eq_by_cmp, is_eq, is_lt}
 use Rattle.std.specs.declared.cmp.Ordering.TheVariants.{Less, Equal, Greater}
@@ -11,10 +12,10 @@ use Rattle.std.specs.FinMap.Entries.{below_all}
 use Rattle.std.specs.FinSet as set
 use Rattle.atl_tables.specs.Changing.{Changing}
 use Rattle.atl_tables.specs.MarkPlaces.{marked_in, put_mark, lowered, raised, ArePlaces}
-use Rattle.atl_tables.specs.Tracking.{marked_with, with_value, without_value_at, taken_out}
+use Rattle.atl_tables.specs.Tracking.{marked_with, with_value, without_value_at, taken_out, Lists}
 use Rattle.atl_tables.proofs.SumLaws.{taken_back}
 use Rattle.atl_tables.specs.Sums.{mapped, numbers_among, numbers_where}
-use Rattle.atl_tables.proofs.MadeLaws.{entries-mapped}
+use Rattle.atl_tables.proofs.MadeLaws.{entries-mapped, is_less}
 
 pub is_true : (b : Bool) → T b → b ≡ true
 is_true true h = refl
@@ -84,6 +85,31 @@ counted (e ∷ es) h =
   where
     one_more : (a b : ℕ) → a ≡ b → a + 1 ≡ suc b
     one_more a b h = omega arith
+
+-- ---- the marked numbers as a list
+
+below_chosen : (k : ℕ) (es : List (ℕ × Bool)) → below_all nat_cmp k es ≡ true → AllByRecursion (λ n. nat_cmp k n ≡ Less) (chosen es)
+below_chosen k [] h = tt
+below_chosen k (e ∷ es) h =
+    let rest = below_chosen k es (and_parts _ _ h).1 in
+    subst (AllByRecursion (λ n. nat_cmp k n ≡ Less)) (sym (chosen-cons e.1 e.0 es)) (elim e.1 as (λ b. AllByRecursion (λ n. nat_cmp k n ≡ Less) (cond b (e.0 ∷ chosen es) (chosen es))) [
+      | true ↦ (is_less (nat_cmp k e.0) (and_parts _ _ h).0, rest)
+      | false ↦ rest
+    ])
+
+rising : (es : List (ℕ × Bool)) → is_sorted nat_cmp es ≡ true → IsStrictlySortedBy nat_cmp (chosen es)
+unfolding IsStrictlySortedBy
+rising [] h = tt
+rising (e ∷ es) h =
+    let rest = rising es (and_parts _ _ h).1 in
+    subst (IsStrictlySortedBy nat_cmp) (sym (chosen-cons e.1 e.0 es)) (elim e.1 as (λ b. IsStrictlySortedBy nat_cmp (cond b (e.0 ∷ chosen es) (chosen es))) [
+      | true ↦ (below_chosen e.0 es (and_parts _ _ h).0, rest)
+      | false ↦ rest
+    ])
+
+-- the numbers whose mark is set
+pub lists-marked : (m : FinMap nat_cmp Bool) → Lists (marked_in m) (numbers_where (λ b. b) m)
+lists-marked m = record { rising = rising (entries m) (is_true _ (entries_sorted m)); all = refl }
 
 pub len-marked : (m : FinMap nat_cmp Bool) → set.len (marked_in m) ≡ length (numbers_where (λ b. b) m)
 len-marked m = counted (entries m) (is_true _ (entries_sorted m))

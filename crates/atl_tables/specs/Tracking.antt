@@ -1,6 +1,7 @@
 -- Values with change marks, as they change.
-use Rattle.std.specs.Prelude.{ℕ, Bool, true, false, Option, Some, None}
+use Rattle.std.specs.Prelude.{◌≡◌, ℕ, List, Bool, true, false, Option, Some, None}
 use Rattle.std.specs.Ordering.{nat_cmp}
+use Rattle.std.specs.List.Sorted.{IsStrictlySortedBy}
 use Rattle.std.specs.FinMap as map
 use Rattle.std.specs.FinSet as set
 use Rattle.std.specs.Borrow.{LendsIf, MutBor, Fml}
@@ -12,6 +13,11 @@ use Rattle.atl_tables.specs.contracts.tracked.Tracked.{the_row}
 abbrev pub marked_with : {V : Type 0} → set.FinSet nat_cmp → ℕ → Option V → set.FinSet nat_cmp
 marked_with marks n None = marks
 marked_with marks n (Some v) = set.insert marks n
+
+-- the numbers of a set, in rising order
+pub record Lists (marks : set.FinSet nat_cmp) (numbers : List ℕ) : Type 0 where
+  pub rising : IsStrictlySortedBy nat_cmp numbers
+  pub all : set.from_list numbers ≡ marks
 
 module _ {V : Type 0} where
   -- a value put in or changed, and marked

@@ -8,6 +8,7 @@ mod keys;
 mod kind_table;
 pub mod limits;
 pub mod lookup;
+mod marked;
 mod names;
 mod neighbours;
 mod numbered;
@@ -26,6 +27,7 @@ mod tracked;
 mod world;
 
 pub use fault::WorldFault;
+pub use marked::MarkedNumbers;
 pub use names::{name_ok, pass_ok, word_ok};
 pub use numbered::{Entries, Numbered};
 pub use reading::read_world;

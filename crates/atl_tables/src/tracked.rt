@@ -3,9 +3,10 @@ ghost use Rattle.std.specs.Prelude.{◌≡◌, ◌≤◌, ◌+◌, false, IfOk, 
 ghost use Rattle.std.specs.FinMap as map;
 ghost use Rattle.std.specs.FinSet as set;
 ghost use Rattle.atl_tables.specs.MarkPlaces.{marked_in, put_mark, ArePlaces};
-ghost use Rattle.atl_tables.specs.Tracking.{marked_with, with_value, without_value, without_values, taken_out};
+ghost use Rattle.atl_tables.specs.Tracking.{marked_with, with_value, without_value, without_values, taken_out, Lists};
 ghost use Rattle.atl_tables.specs.Sums.{mapped};
 
+use crate::marked::MarkedNumbers;
 use crate::numbered::{Entries, Numbered};
 use std::alloc::{AllocError, Global};
 use std::marker::Model;
@@ -176,6 +177,15 @@ impl<V: Drop> Tracked<V> {
         ensures { result ≡ set.contains self.now.marks number }
     {
         is_set(&self.places, number)
+    }
+
+    /// The marked numbers, in rising order. It takes no memory.
+    pub fn marked_numbers(&self) -> MarkedNumbers<'_>
+        ensures { Lists self.now.marks result }
+    {
+        MarkedNumbers {
+            places: self.places.iter(),
+        }
     }
 
     /// How many numbers are marked.
