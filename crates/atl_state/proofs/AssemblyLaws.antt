@@ -78,7 +78,7 @@ left_more n sort r rows groups it =
 
 -- ---- what is said of rows in their ranges
 
-min_small : (n most : ℕ) → n ≤ most → min n most ≡ n
+pub min_small : (n most : ℕ) → n ≤ most → min n most ≡ n
 min_small n most h = grind arith
 
 -- a number in its range is read as it is

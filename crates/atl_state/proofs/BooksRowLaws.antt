@@ -47,14 +47,14 @@ nowhere f h a (suc n) = ap (λ xs. xs ++ flat_map f (range_with_len (a + 1) n)) 
 
 -- ---- an amount at its places
 
-abbrev cell : List (List ℤ) → ℕ → ℕ → List StoredBooks
+abbrev pub cell : List (List ℤ) → ℕ → ℕ → List StoredBooks
 cell books entry thing = filter (λ r. not (is_zero r.amount)) (books_row entry thing (amount_at books entry thing) ∷ [])
 
 one_line : {A : Type 0} (b : Bool) (x : A) (xs : List A) → cond b (x ∷ []) [] ++ xs ≡ cond b (x ∷ xs) xs
 one_line true x xs = refl
 one_line false x xs = refl
 
-cells : (books : List (List ℤ)) (entry : ℕ) (things : List ℕ) → flat_map (cell books entry) things ≡ filter (λ r. not (is_zero r.amount)) (map (λ thing. books_row entry thing (amount_at books entry thing)) things)
+pub cells : (books : List (List ℤ)) (entry : ℕ) (things : List ℕ) → flat_map (cell books entry) things ≡ filter (λ r. not (is_zero r.amount)) (map (λ thing. books_row entry thing (amount_at books entry thing)) things)
 cells books entry [] = refl
 cells books entry (t ∷ things) =
     ap (λ xs. cell books entry t ++ xs) (cells books entry things)

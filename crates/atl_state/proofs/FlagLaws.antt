@@ -1,10 +1,10 @@
 -- The set of the places that are set.
 use Rattle.std.proofs.Common.{◌≡◌, ℕ, zero, suc, ◌+◌, ◌<◌, Bool, true, false, cond, ◌||◌, List, [], ◌∷◌, length, set, refl, sym, ap, ◌∙◌, arith}
-use Rattle.std.specs.Prelude.{replicate}
+use Rattle.std.specs.Prelude.{replicate, slice_index_or}
 use Rattle.std.proofs.lemmas.List.{length-set}
 use Rattle.std.specs.declared.cmp.Ordering.TheVariants.{Less, Equal, Greater}
 use Rattle.std.specs.Ordering.{nat_cmp, eq_by_cmp, is_eq}
-use Rattle.std.specs.Cmp.{nat_cmp_total}
+use Rattle.std.specs.Cmp.{nat_cmp_total, ranked}
 use Rattle.std.specs.FinMap.{nat_cmp-IsAntisymmetric}
 use Rattle.std.specs.FinSet as numbers
 use Rattle.atl_tables.proofs.TrackLaws.{insert_twice, contains_inserted}
@@ -50,7 +50,7 @@ one_set flags i h = set_from-set 0 i flags h ∙ ap (numbers.insert (set_from 0 
 pub two_set : (flags : List Bool) (i j : ℕ) → i < length flags → j < length flags → set_from 0 (set (set flags i true) j true) ≡ numbers.insert (numbers.insert (set_from 0 flags) i) j
 two_set flags i j h k = one_set (set flags i true) j (omega (arith, length-set flags i true)) ∙ ap (λ s. numbers.insert s j) (one_set flags i h)
 
--- ---- how many are set
+-- ---- whether one is set
 
 before_none : (n q : ℕ) (bs : List Bool) → q < n → numbers.contains (set_from n bs) q ≡ false
 before_none n q [] h = numbers.contains-empty nat_cmp q
@@ -62,6 +62,40 @@ before_none n q (true ∷ bs) h =
       | Equal ↦ λ e. let same : q ≡ n = nat_cmp-IsAntisymmetric q n e in absurd (omega arith)
       | Greater ↦ λ _. refl
     ] refl
+
+itself : (n : ℕ) → eq_by_cmp nat_cmp n n ≡ true
+itself n = elim (nat_cmp n n) as (λ r. nat_cmp n n ≡ r → is_eq r ≡ true) [
+  | Less ↦ λ e. let l = ranked n n Less (sym e) in absurd (omega arith)
+  | Equal ↦ λ _. refl
+  | Greater ↦ λ e. let l = ranked n n Greater (sym e) in absurd (omega arith)
+] refl
+
+other : (n k : ℕ) → eq_by_cmp nat_cmp (n + suc k) n ≡ false
+other n k = elim (nat_cmp (n + suc k) n) as (λ r. nat_cmp (n + suc k) n ≡ r → is_eq r ≡ false) [
+  | Less ↦ λ _. refl
+  | Equal ↦ λ e. let same : n + suc k ≡ n = nat_cmp-IsAntisymmetric (n + suc k) n e in absurd (omega arith)
+  | Greater ↦ λ _. refl
+] refl
+
+-- a place is in the set where its flag is set
+contains-set_from : (n k : ℕ) (bs : List Bool) → k < length bs → numbers.contains (set_from n bs) (n + k) ≡ slice_index_or bs k false
+contains-set_from n k [] h = absurd (omega arith)
+contains-set_from n zero (true ∷ bs) h =
+    let e : n + 0 ≡ n = omega arith in
+    numbers.contains-insert nat_cmp_total (set_from (n + 1) bs) n (n + 0) ∙ ap (λ q. eq_by_cmp nat_cmp q n || numbers.contains (set_from (n + 1) bs) (n + 0)) e ∙ ap (λ b. b || numbers.contains (set_from (n + 1) bs) (n + 0)) (itself n)
+contains-set_from n zero (false ∷ bs) h = before_none (n + 1) (n + 0) bs (omega arith)
+contains-set_from n (suc k) (true ∷ bs) h =
+    let e : n + suc k ≡ (n + 1) + k = omega arith in
+    numbers.contains-insert nat_cmp_total (set_from (n + 1) bs) n (n + suc k) ∙ ap (λ b. b || numbers.contains (set_from (n + 1) bs) (n + suc k)) (other n k)
+    ∙ ap (numbers.contains (set_from (n + 1) bs)) e ∙ contains-set_from (n + 1) k bs (omega arith)
+contains-set_from n (suc k) (false ∷ bs) h =
+    let e : n + suc k ≡ (n + 1) + k = omega arith in
+    ap (numbers.contains (set_from (n + 1) bs)) e ∙ contains-set_from (n + 1) k bs (omega arith)
+
+pub is_flag : (bs : List Bool) (k : ℕ) → k < length bs → numbers.contains (set_from 0 bs) k ≡ slice_index_or bs k false
+is_flag bs k h = let e : k ≡ 0 + k = omega arith in ap (numbers.contains (set_from 0 bs)) e ∙ contains-set_from 0 k bs h
+
+-- ---- how many are set
 
 -- one flag more
 pub len-set_from : (n : ℕ) (b : Bool) (bs : List Bool) → numbers.len (set_from n (b ∷ bs)) ≡ numbers.len (set_from (n + 1) bs) + cond b 1 0

@@ -1,5 +1,11 @@
 pub mod OrderedLaws
+pub mod RisingLaws
 pub mod AssemblyLaws
+pub mod BackLaws
+pub mod BackBooksLaws
+pub mod BackHasLaws
+pub mod GoodRowLaws
+pub mod GoodRuleLaws
 pub mod BookLaws
 pub mod TotalLaws
 pub mod MadeOf

@@ -23,7 +23,7 @@ pub put_number-cons : (n x : ℕ) (xs : List ℕ) → put_number n (x ∷ xs) �
 unfolding put_number
 put_number-cons n x xs = put_step (nat_le n x) n x xs
 
-put_number-nil : (n : ℕ) → put_number n [] ≡ n ∷ []
+pub put_number-nil : (n : ℕ) → put_number n [] ≡ n ∷ []
 unfolding put_number
 put_number-nil n = refl
 
@@ -32,9 +32,13 @@ unfolding take_number
 take_step true n x xs = refl
 take_step false n x xs = let e : 1 + first_above n xs ≡ suc (first_above n xs) = omega arith in ap (remove (x ∷ xs)) e
 
-take_number-cons : (n x : ℕ) (xs : List ℕ) → take_number n (x ∷ xs) ≡ cond (nat_le n x) xs (x ∷ take_number n xs)
+pub take_number-cons : (n x : ℕ) (xs : List ℕ) → take_number n (x ∷ xs) ≡ cond (nat_le n x) xs (x ∷ take_number n xs)
 unfolding take_number
 take_number-cons n x xs = take_step (nat_le n x) n x xs
+
+pub take_number-nil : (n : ℕ) → take_number n [] ≡ []
+unfolding take_number
+take_number-nil n = refl
 
 itself : (n : ℕ) → nat_le n n ≡ true
 itself n = grind (arith, nat_tests)
@@ -52,7 +56,7 @@ taken_put n (x ∷ xs) =
     ] refl
 
 -- ---- the numbers whose values pass a test
-below : (k q : ℕ) → is_lt (nat_cmp k q) ≡ true → k < q
+pub below : (k q : ℕ) → is_lt (nat_cmp k q) ≡ true → k < q
 below k q h =
     elim (nat_cmp k q) as (λ r. nat_cmp k q ≡ r → is_lt r ≡ true → k < q) [
       | Less ↦ λ e _. ranked k q Less (sym e)

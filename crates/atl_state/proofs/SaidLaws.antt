@@ -9,7 +9,7 @@ use Rattle.std.specs.FinMap.{FinMap, get, entries}
 use Rattle.std.proofs.lemmas.Bool.{and_parts, false≢true}
 use Rattle.std.proofs.lemmas.Bool.Decides.{nat_tests}
 use Rattle.std.proofs.lemmas.List.Sorted.{IsPermutation-refl}
-use Rattle.atl_tables.specs.Limits.{most_amount, last_region}
+use Rattle.atl_tables.specs.Limits.{most_amount, most_size, last_region}
 use Rattle.atl_tables.specs.Planet.{Planet, IsWorld}
 use Rattle.atl_tables.specs.declared.world.Kind.{Kind}
 use Rattle.atl_orders.specs.Limits.{last_faction}
@@ -55,16 +55,16 @@ flag_whole (pos (suc (suc n))) h = let most = from_le (suc (suc n)) 1 (and_parts
 flag_whole (negsuc n) h = absurd (false≢true h)
 
 -- two rows with one key that is a number
-one_apart : (x y : ℤ) → IsWhole x → IsWhole y → same (one_key x) (one_key y) ≡ false → as_u32 y ≢ as_u32 x
+pub one_apart : (x y : ℤ) → IsWhole x → IsWhole y → same (one_key x) (one_key y) ≡ false → as_u32 y ≢ as_u32 x
 one_apart x y a b d e =
     let one : x ≡ y = a ∙ ap pos (sym e) ∙ sym b in
     false≢true (sym (ap (λ z. same (one_key x) (one_key z)) one ∙ d) ∙ ties_itself (one_key x))
 
-there_below : {V : Type 0} (m : FinMap nat_cmp V) (n most : ℕ) → Every (λ k v. k ≤ most) m → IsThere m n → n ≤ most
+pub there_below : {V : Type 0} (m : FinMap nat_cmp V) (n most : ℕ) → Every (λ k v. k ≤ most) m → IsThere m n → n ≤ most
 there_below m n most every there = every n there.0 there.1
 
 -- 0, or the number of something that is there
-none_or_below : {V : Type 0} (m : FinMap nat_cmp V) (n most : ℕ) → Every (λ k v. k ≤ most) m → (n ≢ 0 → IsThere m n) → n ≤ most
+pub none_or_below : {V : Type 0} (m : FinMap nat_cmp V) (n most : ℕ) → Every (λ k v. k ≤ most) m → (n ≢ 0 → IsThere m n) → n ≤ most
 none_or_below m zero most every there = omega arith
 none_or_below m (suc n) most every there = there_below m (suc n) most every (there (λ e. absurd (omega arith)))
 
@@ -133,6 +133,14 @@ is_of_itself h =
     let unit : (as_u32 h.unit == as_u32 h.unit) ≡ true = grind (arith, nat_tests) in
     let sort : (as_u32 h.sort == as_u32 h.sort) ≡ true = grind (arith, nat_tests) in
     ap (λ b. b && (as_u32 h.sort == as_u32 h.sort)) unit ∙ sort
+
+size_small : (o : Option Kind) → ((x : Kind) → o ≡ Some x → x.size ≤ most_size) → option_map_or (λ (x : Kind). x.size) o most_size ≤ most_size
+size_small None h = omega arith
+size_small (Some x) h = h x refl
+
+-- the size of every kind
+pub small_size : (w : Planet) → IsWorld w → (kind : ℕ) → size_of w kind ≤ most_size
+small_size w world kind = size_small (slice_get w.kinds kind) (λ x is. (world.kinds kind x is).size)
 
 module _ (w : Planet) (p : Parts) (k : RowsKeep w p) where
   pub ranges : NumberRanges w p
@@ -228,17 +236,10 @@ module _ (w : Planet) (p : Parts) (k : RowsKeep w p) where
       (each_with (λ r. unit_in_range r ≡ true) (λ r. IsPlaced w (state_of w p) (unit_of p.has r)) (λ r. unit_row (as_u32 r.number) (unit_of p.has r) ≡ r) same_unit p.units (each_passes unit_in_range (λ r. unit_in_range r ≡ true) (λ r h. h) p.units ranges.units) units_placed)
 
   -- ---- structures
-  size_small : (o : Option Kind) → ((x : Kind) → o ≡ Some x → x.size ≤ 999999) → option_map_or (λ (x : Kind). x.size) o 999999 ≤ 999999
-  size_small None h = omega arith
-  size_small (Some x) h = h x refl
-
-  small_size : (kind : ℕ) → size_of w kind ≤ 999999
-  small_size kind = size_small (slice_get w.kinds kind) (λ x is. (k.world.kinds kind x is).size)
-
   same_structure : (r : StoredStructure) → structure_in_range w r ≡ true → IsBuilt w (state_of w p) (structure_of r) → structure_row (as_u32 r.number) (structure_of r) ≡ r
   unfolding state_of
   same_structure r h built =
-      let small = small_size (as_u16 r.kind) in
+      let small = small_size w k.world (as_u16 r.kind) in
       let few_kinds = k.world.few_kinds in
       let kind_few = built.kind in
       let region_few = few_regions (as_u32 r.region) built.region in

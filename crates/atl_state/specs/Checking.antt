@@ -12,7 +12,7 @@ use Rattle.atl_state.specs.Good.{AreKnown, AreNumbered, AreDays, GoneHaveNone, N
 use Rattle.atl_state.specs.Marks.{no_marks}
 use Rattle.atl_state.specs.RowRules.{is_one_head, AreRowsInRange, AreRowsNamed, is_of_unit, is_booked}
 use Rattle.atl_state.specs.Rows.{AreRowsOf}
-use Rattle.atl_state.specs.State.{Marked}
+use Rattle.atl_state.specs.State.{State, Marked}
 use Rattle.atl_state.specs.Totals.{Balances}
 
 abbrev pub rule_number : Rule → ℕ
@@ -63,6 +63,12 @@ abbrev pub Checks : Planet → Parts → Result Marked CheckFault → Type 0
 Checks w p (Ok c) = IsChecked w p c
 Checks w p (Err (Damaged r)) = IsFirstBroken w p r
 Checks w p (Err Memory) = ⊤
+
+-- of the rows of a good campaign it answers that campaign, or Memory
+abbrev pub GivesBack : Planet → Parts → Result Marked CheckFault → Type 0
+GivesBack w p (Ok c) = (d : State) → IsGood w d → AreRowsOf d p → c.what ≡ d
+GivesBack w p (Err (Damaged r)) = (d : State) → IsGood w d → ¬ (AreRowsOf d p)
+GivesBack w p (Err Memory) = ⊤
 
 -- For proofs alone: the rules below a number hold, or one of them is the first that is broken.
 abbrev pub Passes : Planet → Parts → ℕ → Result (Prim.Unit {0}) CheckFault → Type 0

@@ -1,10 +1,5 @@
 -- For proofs alone: what is so of each entry of a list, how far a walk over the entries has come, and who holds a region.
-use Rattle.std.specs.Prelude.{◌↔◌, ◌==◌, ◌&&◌, ℕ, Bool, true, List, [], ◌∷◌, ⊤, Option, Some, None, option_and_then, if◌then◌else◌}
-use Rattle.std.specs.Prelude.{◌≡◌, ◌≢◌}
-use Rattle.std.specs.BTreeSet.{BTreeSet, contains}
-use Rattle.std.specs.Cmp.Lexicographic.{slice_cmp}
-use Rattle.std.specs.Ordering.{nat_cmp}
-use Rattle.std.specs.Borrow.{Bor}
+use Rattle.std.specs.Prelude.{◌≢◌, ◌↔◌, ◌==◌, ◌&&◌, ℕ, Bool, true, List, [], ◌∷◌, ⊤, Option, Some, None, option_and_then, if◌then◌else◌}
 use Rattle.std.specs.Option.{option_or}
 use Rattle.std.specs.FinMap.{get}
 use Rattle.atl_state.specs.declared.records.Faction.{Faction}
@@ -34,19 +29,7 @@ abbrev pub one_holder : (ℕ → Option ℕ) → Option ℕ → List ℕ → Boo
 one_holder faction holder [] = true
 one_holder faction holder (n ∷ ns) = agree (faction n) holder && one_holder faction (option_or holder (faction n)) ns
 
--- a name is in a set of names
-abbrev pub Has : BTreeSet (Bor (List ℕ)) → List ℕ → Type 0
-Has names name = contains (λ x y. slice_cmp nat_cmp x.now y.now) names (record { ref_ptr = (0, 0); now = name }) ≡ true
-
--- no faction joined under a name of the set
-abbrev pub AreNew : BTreeSet (Bor (List ℕ)) → List (ℕ × Faction) → Type 0
-AreNew names es = EachOf (λ n f. ¬ (Has names f.joined_as)) es
-
 -- no two of the factions joined under one name
 abbrev pub Differ : List (ℕ × Faction) → Type 0
 Differ [] = ⊤
 Differ (e ∷ es) = EachOf (λ n f. e.1.joined_as ≢ f.joined_as) es × Differ es
-
--- all names differ where those that are left are new, and differ
-abbrev pub NamesLeft : BTreeSet (Bor (List ℕ)) → List (ℕ × Faction) → List (ℕ × Faction) → Type 0
-NamesLeft names rest all = (AreNew names rest × Differ rest) ↔ Differ all

@@ -1,6 +1,7 @@
 pub mod Assembling
 pub mod Books
 pub mod Checking
+pub mod Covers
 pub mod Deciding
 pub mod Founding
 pub mod FromRows

@@ -1,12 +1,11 @@
 //! What the books say: signed amounts by entry and thing.
 ghost use Rattle.std.specs.Prelude.{◌≡◌, ◌<◌, ◌≤◌, ◌*◌, ◌+ℤ◌, All, IfOk, length, replicate, slice_set, false, true};
-ghost use Rattle.std.specs.Bool.{Decides};
 ghost use Rattle.std.specs.Int.{w64};
 ghost use Rattle.std.specs.Int.RustNames.{FitsSigned};
 ghost use Rattle.std.specs.FinSet as set;
 ghost use Rattle.atl_state.specs.Kept.{set_from};
 ghost use Rattle.atl_state.specs.Limits.{entry_count};
-ghost use Rattle.atl_state.specs.Books.{entry_place, thing_place, added_up, amount_in, booked, with_booked, no_amounts, IsWithin};
+ghost use Rattle.atl_state.specs.Books.{entry_place, thing_place, added_up, amount_in, booked, with_booked, no_amounts};
 ghost use Rattle.atl_state.specs.Marks.{amount_number};
 ghost use Rattle.atl_state.specs.FromRows.{with_amount};
 ghost use Rattle.atl_state.specs.Rows.{amount_at};
@@ -93,18 +92,6 @@ fn added_up(row: &[i64; ENTRY_COUNT]) -> i128
     sum
 }
 
-/// Whether no amount of a row is greater in size than a bound.
-fn are_within(row: &[i64; ENTRY_COUNT], bound: u64) -> bool
-    ensures { Decides result (All (λ amount. IsWithin bound amount) row.now) }
-{
-    for amount in row {
-        if amount.unsigned_abs() > bound {
-            return false;
-        }
-    }
-    true
-}
-
 /// A row of amounts for each thing.
 #[derive(Drop)]
 pub struct Books {
@@ -174,18 +161,6 @@ impl Books {
         added_up(&self.rows[thing_place(thing)])
     }
 
-    /// Whether no amount is greater in size than a bound.
-    pub(crate) fn are_within(&self, bound: u64) -> bool
-        ensures { Decides result (All (λ row. All (λ amount. IsWithin bound amount) row) self.now) }
-    {
-        for row in self.rows.iter() {
-            if !are_within(row, bound) {
-                return false;
-            }
-        }
-        true
-    }
-
     /// Adds an amount under an entry. It takes no memory.
     pub fn book(&mut self, entry: Entry, thing: Thing, amount: i64)
         requires there { thing_place thing < length self.old }
@@ -237,6 +212,15 @@ impl AmountMarks {
             flags.extend_from_slice(&[false; ENTRY_COUNT])?;
         }
         Ok(AmountMarks { flags })
+    }
+
+    /// Whether an amount is marked.
+    #[tactic(auto, using(crate::proofs::FlagLaws::is_flag))]
+    pub(crate) fn is_marked(&self, entry: Entry, thing: Thing) -> bool
+        requires { amount_number entry thing < length self.now }
+        ensures { result ≡ set.contains (set_from 0 self.now) (amount_number entry thing) }
+    {
+        self.flags[amount_number(entry, thing)]
     }
 
     /// How many amounts are marked.

@@ -4,7 +4,7 @@ ghost use Rattle.std.specs.Bool.{Decides};
 ghost use Rattle.std.specs.List.{list_all};
 ghost use Rattle.atl_tables.specs.Planet.{IsWorld};
 ghost use Rattle.atl_state.specs.declared.check.Rule.TheVariants as rule;
-ghost use Rattle.atl_state.specs.Checking.{rule_number, Keeps, KeepsBelow, Passes, Checks};
+ghost use Rattle.atl_state.specs.Checking.{rule_number, Keeps, KeepsBelow, Passes, Checks, GivesBack};
 ghost use Rattle.atl_state.specs.FromRows.{state_of};
 ghost use Rattle.atl_state.specs.RowRules.{is_of_unit, is_booked};
 
@@ -194,9 +194,8 @@ fn check_holders(world: &World, parts: &Parts, campaign: &Campaign) -> Result<()
     Ok(())
 }
 
-/// The campaign of these rows, each of which counts once, in any order, with nothing marked; it is good. Damaged tells the
-/// first rule that the rows break. See docs/FORMATS.md, "Rules of the tables".
-pub fn check(alloc: Global, world: &World, parts: Parts) -> Result<Campaign, CheckFault>
+/// The rules one after another.
+fn judged(alloc: Global, world: &World, parts: Parts) -> Result<Campaign, CheckFault>
     ensures { Checks world.now parts result }
 {
     check_rows(alloc, world, &parts)?;
@@ -207,4 +206,14 @@ pub fn check(alloc: Global, world: &World, parts: Parts) -> Result<Campaign, Che
     check_places(world, &parts, &campaign)?;
     check_holders(world, &parts, &campaign)?;
     Ok(campaign)
+}
+
+/// The campaign of these rows, each of which counts once, in any order, with nothing marked; it is good. Damaged tells the
+/// first rule that the rows break: the rows of a good campaign break none. See docs/FORMATS.md, "Rules of the tables".
+pub fn check(alloc: Global, world: &World, parts: Parts) -> Result<Campaign, CheckFault>
+    ensures rules { Checks world.now parts result }
+    ensures whole { IsWorld world.now → GivesBack world.now parts result }
+{
+    let answer = judged(alloc, world, parts);
+    answer
 }

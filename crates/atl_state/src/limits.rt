@@ -26,9 +26,3 @@ pub(crate) const MOST_DAYS: u32 = 450;
 
 /// The largest size that a structure can have.
 pub(crate) const MOST_SIZE: u32 = 999_999;
-
-/// No amount of the books grows by more in a month.
-pub(crate) const MOST_BOOKED_A_MONTH: u64 = 200_000_000_000_000;
-
-/// No amount of the books grows by more where a faction joins.
-pub(crate) const MOST_BOOKED_A_FACTION: u64 = 1_000_000_000;

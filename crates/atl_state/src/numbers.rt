@@ -1,6 +1,6 @@
 //! A rising list of numbers.
 ghost use Rattle.std.specs.Prelude.{◌≡◌, ◌≤◌, OnOk, OnErr, [], length};
-ghost use Rattle.atl_state.specs.Ordered.{put_number, take_number, first_above};
+ghost use Rattle.atl_state.specs.Ordered.{IsRising, put_number, take_number, first_above};
 
 use std::alloc::{AllocError, Global};
 use std::marker::Model;
@@ -12,23 +12,22 @@ pub(crate) struct Numbers {
 
 impl Model for Numbers {
     ghost use Rattle.std.specs.Prelude.{List, ℕ};
+    ghost use Rattle.atl_state.specs.Ordered.{IsRising};
 
     ghost Value = { List ℕ };
 
     ghost view = { λ a. a.items.items };
+
+    ghost invariant = { λ a. IsRising a.items.items };
 }
 
-/// The place of the first number that is not below another.
+/// The place of the first number of a rising list that is not below another.
 fn first_above(items: &[u32], number: u32) -> usize
+    requires { IsRising items.now }
     ensures place { result ≡ first_above number items.now }
     ensures small { result ≤ length items.now }
 {
-    for (i, item) in items.iter().enumerate() {
-        if number <= *item {
-            return i;
-        }
-    }
-    items.len()
+    items.partition_point(|item| *item < number)
 }
 
 impl Numbers {

@@ -8,13 +8,12 @@ ghost use Rattle.atl_state.specs.FromRows.{as_u32, as_u16, is_set, head_of};
 ghost use Rattle.atl_state.specs.Good.{size_of};
 ghost use Rattle.atl_state.specs.RowRules.{is_from, is_within, head_in_range, faction_in_range, region_in_range, unit_in_range, has_in_range, structure_in_range, books_bound, books_in_range, faction_named, is_one_head, Key, faction_key, region_key, unit_key, has_key, structure_key, mail_key, report_key, books_key, HaveKeys, AreKeyed, are_few, people_in_range, numbers_in_range, are_named, HaveJoined, AreRowsInRange, AreRowsNamed};
 
-use crate::limits::{
-    HOLDING_LIMIT, LAST_MONTH, LAST_UNIT, MEN_LIMIT, MOST_SIZE, MOST_STRUCTURES, MOST_UNITS,
-};
+use crate::limits::{HOLDING_LIMIT, LAST_MONTH, LAST_UNIT, MEN_LIMIT, MOST_STRUCTURES, MOST_UNITS};
 use crate::parts::{
     Parts, StoredBooks, StoredFaction, StoredHas, StoredHead, StoredMail, StoredRegion,
     StoredReport, StoredStructure, StoredUnit,
 };
+use crate::rules::size_of;
 use atl_orders::LAST_FACTION;
 use atl_tables::limits::{MOST_AMOUNT, MOST_REGIONS};
 use atl_tables::{World, name_ok, pass_ok};
@@ -109,16 +108,6 @@ fn has_in_range(row: &StoredHas) -> bool
     ensures { result ≡ has_in_range row.now }
 {
     is_from(1, 1, row.sort) || is_from(0, 0, row.sort) && is_from(1, HOLDING_LIMIT, row.amount)
-}
-
-/// The full size of a kind; where there is no such kind, the largest.
-fn size_of(world: &World, kind: u16) -> u32
-    ensures { result ≡ size_of world.now kind }
-{
-    match world.kinds().get(usize::from(kind)) {
-        Some(kind) => kind.size,
-        None => MOST_SIZE,
-    }
 }
 
 fn structure_in_range(world: &World, row: &StoredStructure) -> bool
@@ -278,8 +267,8 @@ fn keys_of<R: Keyed>(alloc: Global, rows: &[R]) -> Result<Vec<(i64, i64, i64)>, 
     Ok(keys)
 }
 
-/// Whether no two of the keys are equal.
-fn are_distinct<K: Ord + Copy + Drop>(alloc: Global, keys: &[K]) -> Result<bool, AllocError>
+/// Whether no two of the values are equal. It takes memory for each, and n log n steps.
+pub fn are_distinct<K: Ord + Copy + Drop>(alloc: Global, keys: &[K]) -> Result<bool, AllocError>
     ensures { IfOk result (λ yes. Decides yes (IsDistinct (eq_by_cmp K.cmp) keys.now)) }
 {
     let mut seen = BTreeSet::new(alloc);

@@ -1,27 +1,23 @@
 //! Whether a campaign keeps the rules of the tables, each rule by a function of its own. None of them changes anything. See
 //! docs/RULES.md.
-mod amounts;
 mod balances;
 mod days;
 mod gone;
 mod guards;
 mod known;
 mod mail;
-mod names;
 mod next;
 mod owners;
 mod reports;
 mod water;
 
-pub(crate) use amounts::are_amounts_within;
 pub(crate) use balances::are_balanced;
 pub(crate) use days::are_days;
 pub(crate) use gone::are_gone;
 pub(crate) use guards::are_guarded;
 pub(crate) use known::are_known;
 pub(crate) use mail::are_mailings;
-pub(crate) use names::are_named;
 pub(crate) use next::are_numbered;
 pub(crate) use owners::are_owned;
 pub(crate) use reports::are_reported;
-pub(crate) use water::are_afloat;
+pub(crate) use water::{are_afloat, size_of};

@@ -3,11 +3,12 @@ ghost use Rattle.std.specs.Prelude.{◌≡◌, ◌≤◌, ℕ, IfOk, OnOk, OnErr
 ghost use Rattle.std.specs.FinMap as map;
 ghost use Rattle.std.specs.FinSet as set;
 ghost use Rattle.atl_tables.specs.Sums.{mapped};
+ghost use Rattle.atl_tables.specs.Tracking.{Lists};
 ghost use Rattle.atl_state.specs.Limits.{holding_limit};
 ghost use Rattle.atl_state.specs.Roster.{no_units, with_unit_at, with_row, without_unit_at};
 
 use crate::records::Unit;
-use atl_tables::{Entries, Numbered, Tracked};
+use atl_tables::{Entries, MarkedNumbers, Numbered, Tracked};
 use std::alloc::{AllocError, Global};
 use std::marker::Model;
 
@@ -87,6 +88,20 @@ impl Units {
         ensures goods { (n : ℕ) → IsTrue (set.contains self.now.goods n) → IsTrue (set.contains self.now.marks n) }
     {
         self.rows.marked()
+    }
+
+    /// The numbers whose rows are marked, in rising order.
+    pub(crate) fn marked_numbers(&self) -> MarkedNumbers<'_>
+        ensures { Lists self.now.marks result }
+    {
+        self.rows.marked_numbers()
+    }
+
+    /// The numbers whose goods are marked, in rising order.
+    pub(crate) fn marked_goods(&self) -> MarkedNumbers<'_>
+        ensures { Lists self.now.goods result }
+    {
+        self.goods.marked_numbers()
     }
 
     /// Lends a unit, and marks its row and its goods. It takes no memory.

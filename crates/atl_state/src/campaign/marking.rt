@@ -1,9 +1,13 @@
 //! What of a campaign is marked.
-ghost use Rattle.std.specs.Prelude.{◌≡◌, ℕ, IsTrue};
+ghost use Rattle.std.specs.Prelude.{◌≡◌, ◌<◌, ℕ, IsTrue, length};
 ghost use Rattle.std.specs.FinSet as set;
-ghost use Rattle.atl_state.specs.Marks.{no_marks, marks_in};
+ghost use Rattle.atl_tables.specs.Tracking.{Lists};
+ghost use Rattle.atl_state.specs.Books.{thing_place};
+ghost use Rattle.atl_state.specs.Marks.{no_marks, marks_in, amount_number};
 
 use super::Campaign;
+use crate::books::{Entry, Thing};
+use atl_tables::MarkedNumbers;
 
 impl Campaign {
     /// How many things are marked. The campaign's own row is one, and so is a unit with its goods: these are marked only
@@ -16,6 +20,70 @@ impl Campaign {
         let named = self.factions.marked() + self.mail.marked() + self.reports.marked();
         let placed = self.regions.marked() + self.units.marked() + self.structures.marked();
         named + placed + self.amounts_marked.marked() + row
+    }
+
+    /// The numbers of the marked factions, in rising order. It takes no memory.
+    pub fn marked_factions(&self) -> MarkedNumbers<'_>
+        ensures { Lists self.now.marks.factions result }
+    {
+        self.factions.marked_numbers()
+    }
+
+    /// The numbers of the marked regions, in rising order. It takes no memory.
+    pub fn marked_regions(&self) -> MarkedNumbers<'_>
+        ensures { Lists self.now.marks.regions result }
+    {
+        self.regions.marked_numbers()
+    }
+
+    /// The numbers of the marked units, of those too that are gone, in rising order. It takes no memory.
+    pub fn marked_units(&self) -> MarkedNumbers<'_>
+        ensures { Lists self.now.marks.units result }
+    {
+        self.units.marked_numbers()
+    }
+
+    /// The numbers of the units whose goods are marked, of those too that are gone, in rising order. It takes no memory.
+    pub fn marked_goods(&self) -> MarkedNumbers<'_>
+        ensures { Lists self.now.marks.goods result }
+    {
+        self.units.marked_goods()
+    }
+
+    /// The numbers of the marked structures, in rising order. It takes no memory.
+    pub fn marked_structures(&self) -> MarkedNumbers<'_>
+        ensures { Lists self.now.marks.structures result }
+    {
+        self.structures.marked_numbers()
+    }
+
+    /// The numbers of the factions whose mail is marked, of those too whose mail was taken away, in rising order. It takes no memory.
+    pub fn marked_mail(&self) -> MarkedNumbers<'_>
+        ensures { Lists self.now.marks.mail result }
+    {
+        self.mail.marked_numbers()
+    }
+
+    /// The numbers of the factions whose report is marked, in rising order. It takes no memory.
+    pub fn marked_reports(&self) -> MarkedNumbers<'_>
+        ensures { Lists self.now.marks.reports result }
+    {
+        self.reports.marked_numbers()
+    }
+
+    /// Whether an amount of the books is marked.
+    pub fn is_amount_marked(&self, entry: Entry, thing: Thing) -> bool
+        requires { thing_place thing < length self.now.what.books }
+        ensures { result ≡ set.contains self.now.marks.books (amount_number entry thing) }
+    {
+        self.amounts_marked.is_marked(entry, thing)
+    }
+
+    /// Whether the campaign's own row is marked: the month or a number that comes next changed.
+    pub fn is_row_marked(&self) -> bool
+        ensures { result ≡ self.now.marks.row }
+    {
+        self.row_marked
     }
 
     /// Leaves nothing marked, and changes nothing else. It takes no memory.

@@ -1,0 +1,338 @@
+-- The rows of a good campaign, in any order, say that campaign and keep all rules.
+use Rattle.std.proofs.Common.{◌≡◌, ℕ, zero, suc, ◌≤◌, ◌<◌, ◌+◌, ◌*◌, List, [], ◌∷◌, Bool, true, false, length, None, refl, sym, ap, subst, ◌∙◌, arith}
+use Rattle.std.specs.Prelude.{ℤ, pos, slice_index_or}
+use Rattle.std.specs.List.{AllByRecursion}
+use Rattle.std.specs.List.Sorted.{IsPermutation}
+use Rattle.std.specs.Ordering.{nat_cmp}
+use Rattle.std.specs.FinMap.{FinMap, get, entries, len}
+use Rattle.std.proofs.lemmas.List.Sorted.{length_permutation}
+use Rattle.atl_tables.specs.Limits.{most_amount, last_region}
+use Rattle.atl_tables.specs.Planet.{Planet, IsWorld}
+use Rattle.atl_orders.specs.Limits.{last_faction}
+use Rattle.atl_state.specs.declared.parts.Parts.{Parts}
+use Rattle.atl_state.specs.declared.parts.StoredHead.{StoredHead}
+use Rattle.atl_state.specs.declared.parts.StoredHas.{StoredHas}
+use Rattle.atl_state.specs.declared.records.Faction.{Faction}
+use Rattle.atl_state.specs.declared.records.Region.{Region}
+use Rattle.atl_state.specs.declared.records.Structure.{Structure}
+use Rattle.atl_state.specs.declared.records.Unit.{Unit}
+use Rattle.atl_state.specs.Books.{no_amounts}
+use Rattle.atl_state.specs.Founding.{things_of}
+use Rattle.atl_state.specs.FromRows.{as_u32, as_u16, is_set, faction_of, region_of, structure_of, unit_of, by_number, put_amounts, things_had, no_head, head_of, state_of}
+use Rattle.atl_state.specs.Good.{Every, IsThere, IsNumbered, size_of, IsGood}
+use Rattle.atl_state.specs.Held.{AreAmounts}
+use Rattle.atl_state.specs.Limits.{last_month, last_unit, men_limit, holding_limit, most_structures, most_days}
+use Rattle.atl_state.specs.RowRules.{one_key, HaveKeys}
+use Rattle.atl_state.specs.Rows.{flag, rows_by, head_row, faction_row, region_row, unit_row, structure_row, mail_row, report_row, has_rows, books_rows, rows_of, AreRowsOf}
+use Rattle.atl_state.specs.State.{State}
+use Rattle.atl_state.proofs.AssemblyLaws.{min_small}
+use Rattle.atl_state.proofs.BackLaws.{each_permuted, read_whole, written_whole, map_back, rows_so, rows_apart, entries_rise, keys_permuted, apart_numbers}
+use Rattle.atl_state.proofs.BackBooksLaws.{books_back}
+use Rattle.atl_state.proofs.BackHasLaws.{AreHad, goods_of, goods_back}
+use Rattle.atl_state.proofs.EveryLaws.{every-from_each}
+use Rattle.atl_state.proofs.HasLaws.{IsWhole, same}
+use Rattle.atl_state.proofs.OrderLaws.{Apart-keys}
+use Rattle.atl_state.proofs.RuleLaws.{each_numbered, each_before}
+use Rattle.atl_state.proofs.SaidLaws.{one_apart, none_or_below, small_size}
+
+-- ---- numbers in a good campaign
+
+few_numbered : {V : Type 0} (m : FinMap nat_cmp V) (next most : ℕ) → IsNumbered m next → len m ≤ most → Every (λ n v. (1 ≤ n) × (n ≤ most)) m
+few_numbered m next most is few n v there = let range = every-from_each (λ n v. (1 ≤ n) × (n < next)) m (each_numbered m next is) n v there in (range.0, omega (arith, range.1, is.count, few))
+
+few_before : {V : Type 0} (m : FinMap nat_cmp V) (next most : ℕ) → ((n : ℕ) → next ≤ n → get m n ≡ None) → next ≤ most + 1 → Every (λ n v. n ≤ most) m
+few_before m next most free few n v there = let range = every-from_each (λ n v. (0 ≤ n) × (n < next)) m (each_before m next free) n v there in omega (arith, range.1, few)
+
+small_enough : {V : Type 0} (m : FinMap nat_cmp V) (most : ℕ) → most ≤ 4294967295 → Every (λ n v. n ≤ most) m → Every (λ n v. n ≤ 4294967295) m
+small_enough m most few every n v there = let here = every n v there in omega (arith, few, here)
+
+-- ---- one row
+
+flag_back : (b : Bool) → is_set (flag b) ≡ b
+flag_back true = refl
+flag_back false = refl
+
+pub read16 : (n : ℕ) → n ≤ 65535 → as_u16 (pos n) ≡ n
+read16 n h = min_small n 65535 h
+
+faction_back : (n : ℕ) (f : Faction) → n ≤ 4294967295 → f.number ≡ n → faction_of (faction_row n f) ≡ f
+faction_back n f few is =
+    let number = read_whole n few ∙ sym is in
+    let gone = flag_back f.gone in
+    λ i. record { number = number i; joined_as = f.joined_as; name = f.name; pass = f.pass; gone = gone i }
+
+region_back : (n : ℕ) (r : Region) → r.peasants ≤ 4294967295 → r.money ≤ 4294967295 → region_of (region_row n r) ≡ r
+region_back n r p m =
+    let peasants = read_whole r.peasants p in
+    let money = read_whole r.money m in
+    λ i. record { peasants = peasants i; money = money i }
+
+pub record StructureFits (s : Structure) : Type 0 where
+  pub kind : s.kind ≤ 65535
+  pub region : s.region ≤ 4294967295
+  pub done : s.done ≤ 4294967295
+  pub owner : s.owner ≤ 4294967295
+
+structure_back : (n : ℕ) (s : Structure) → StructureFits s → structure_of (structure_row n s) ≡ s
+structure_back n s h =
+    let kind = read16 s.kind h.kind in
+    let region = read_whole s.region h.region in
+    let done = read_whole s.done h.done in
+    let owner = read_whole s.owner h.owner in
+    λ i. record { kind = kind i; name = s.name; region = region i; done = done i; owner = owner i }
+
+pub record UnitFits (u : Unit) : Type 0 where
+  pub faction : u.faction ≤ 4294967295
+  pub region : u.region ≤ 4294967295
+  pub structure : u.structure ≤ 4294967295
+  pub men : u.holding.men ≤ 4294967295
+  pub money : u.holding.money ≤ 4294967295
+
+unit_back : (has : List StoredHas) (n : ℕ) (u : Unit) → n ≤ 4294967295 → UnitFits u → things_had n 0 has ≡ u.holding.items → things_had n 1 has ≡ u.holding.days → unit_of has (unit_row n u) ≡ u
+unit_back has n u few h items days =
+    let faction = read_whole u.faction h.faction in
+    let region = read_whole u.region h.region in
+    let structure = read_whole u.structure h.structure in
+    let men = read_whole u.holding.men h.men in
+    let money = read_whole u.holding.money h.money in
+    let guard = flag_back u.holding.guard in
+    let its_items = ap (λ k. things_had k 0 has) (read_whole n few) ∙ items in
+    let its_days = ap (λ k. things_had k 1 has) (read_whole n few) ∙ days in
+    λ i. record { faction = faction i; region = region i; structure = structure i; holding = record { name = u.holding.name; men = men i; money = money i; guard = guard i; items = its_items i; days = its_days i } }
+
+-- ---- a table with a key of one number
+
+module _ {V R : Type 0} (row : ℕ → V → R) (key : R → ℤ) (value : R → V) (keyed : (n : ℕ) (v : V) → key (row n v) ≡ pos n) (m : FinMap nat_cmp V) (few : Every (λ n v. n ≤ 4294967295) m) (rows : List R) (h : IsPermutation (rows_by row (entries m)) rows) where
+  apart : (n k : ℕ) (v u : V) → n < k → same (one_key (key (row n v))) (one_key (key (row k u))) ≡ false
+  apart n k v u l = ap (λ z. same (one_key z) (one_key (key (row k u)))) (keyed n v) ∙ ap (λ z. same (one_key (pos n)) (one_key z)) (keyed k u) ∙ apart_numbers n k l
+
+  pub table_keys : HaveKeys (λ r. one_key (key r)) rows
+  table_keys = keys_permuted (λ r. one_key (key r)) (rows_by row (entries m)) rows h (rows_apart row (λ a b. same (one_key (key a)) (one_key (key b))) apart (entries m) (entries_rise m))
+
+  whole : AllByRecursion (λ r. IsWhole (key r)) rows
+  whole = rows_so row (λ r. IsWhole (key r)) m rows h (λ n v is. subst IsWhole (sym (keyed n v)) (written_whole n (few n v is)))
+
+  -- the rows say the table
+  pub table_back : Every (λ n v. value (row n v) ≡ v) m → by_number (λ r. as_u32 (key r)) value rows ≡ m
+  table_back back =
+      map_back row (λ r. as_u32 (key r)) value m rows h (λ n v is. (ap as_u32 (keyed n v) ∙ read_whole n (few n v is), back n v is))
+      (Apart-keys (λ r. one_key (key r)) (λ r. as_u32 (key r)) same (λ r. IsWhole (key r)) (λ r s. one_apart (key r) (key s)) rows whole table_keys)
+
+-- ---- the campaign's own row
+
+single : {R : Type 0} (x : R) (rows : List R) → length rows ≡ 1 → AllByRecursion (λ r. r ≡ x) rows → rows ≡ x ∷ []
+single x [] l all = absurd (omega (arith, l))
+single x (r ∷ []) l all = ap (λ s. s ∷ []) all.0
+single x (r ∷ s ∷ rows) l all = absurd (omega (arith, l))
+
+pub only_row : {R : Type 0} (x : R) (rows : List R) → IsPermutation (x ∷ []) rows → rows ≡ x ∷ []
+only_row x rows h = single x rows (length_permutation (x ∷ []) rows h) (each_permuted (λ r. r ≡ x) (x ∷ []) rows h (refl, tt))
+
+-- ---- what is so of a good campaign's numbers
+
+unit_small_enough : (u : Unit) → u.faction ≤ last_faction → u.region ≤ last_region → u.structure ≤ most_structures → u.holding.men ≤ men_limit → u.holding.money ≤ holding_limit → UnitFits u
+unit_small_enough u f r s m y = record { faction = omega (arith, f); region = omega (arith, r); structure = omega (arith, s); men = omega (arith, m); money = omega (arith, y) }
+
+structure_small_enough : (w : Planet) → IsWorld w → (s : Structure) → s.kind < length w.kinds → s.region ≤ last_region → s.done ≤ size_of w s.kind → s.owner ≤ last_unit → StructureFits s
+structure_small_enough w world s k r d o =
+    let kinds = world.few_kinds in
+    let size = small_size w world s.kind in
+    record { kind = omega (arith, k, kinds); region = omega (arith, r); done = omega (arith, d, size); owner = omega (arith, o) }
+
+few_goods : (w : Planet) → IsWorld w → (u : Unit) → Every (λ i a. i < length w.items) u.holding.items → Every (λ i a. i < length w.skills) u.holding.days → AreAmounts u.holding.items → u.holding.men ≤ men_limit
+    → Every (λ i a. (1 ≤ a) × (a ≤ most_days * u.holding.men)) u.holding.days → (s : ℕ) → s < 2 → Every (λ i a. (i ≤ 4294967295) × (1 ≤ a) × (a ≤ 4294967295)) (goods_of s u)
+few_goods w world u items skills amounts men days zero l i a is =
+    let few = world.few_items in
+    let at = items i a is in
+    let range = amounts i a is in
+    (omega (arith, few, at), range.0, omega (arith, range.1))
+few_goods w world u items skills amounts men days (suc s) l i a is =
+    let few = world.few_skills in
+    let at = skills i a is in
+    let range = days i a is in
+    (omega (arith, few, at), range.0, omega (arith, range.1, men))
+
+module _ (w : Planet) (world : IsWorld w) (c : State) (good : IsGood w c) where
+  pub few_factions : Every (λ n f. (1 ≤ n) × (n ≤ last_faction)) c.factions
+  few_factions = few_numbered c.factions c.next_faction last_faction good.sound.steady.next.factions good.sound.steady.numbers.few_factions
+
+  pub few_structures : Every (λ n s. (1 ≤ n) × (n ≤ most_structures)) c.structures
+  few_structures = few_numbered c.structures c.next_structure most_structures good.sound.steady.next.structures good.sound.steady.numbers.few_structures
+
+  pub few_units : Every (λ n u. n ≤ last_unit) c.units
+  few_units = few_before c.units c.next_unit last_unit good.sound.steady.next.units good.sound.steady.numbers.next_unit_most
+
+  pub region_small : (n : ℕ) → IsThere c.regions n → n ≤ last_region
+  region_small n there = let known = (good.sound.steady.known.regions n).0 there in (world.regions n known.0 known.1).number_most
+
+  pub faction_small : (n : ℕ) → IsThere c.factions n → n ≤ last_faction
+  faction_small n there = (few_factions n there.0 there.1).1
+
+  pub unit_small : (n : ℕ) → IsThere c.units n → n ≤ last_unit
+  unit_small n there = few_units n there.0 there.1
+
+  pub structure_small : (n : ℕ) → IsThere c.structures n → n ≤ most_structures
+  structure_small n there = (few_structures n there.0 there.1).1
+
+  unit_fits : Every (λ n u. UnitFits u) c.units
+  unit_fits n u is =
+      let placed = good.sound.steady.known.units n u is in
+      let holding = (good.sound.steady.numbers.units n u is).1 in
+      let faction : u.faction ≤ last_faction = faction_small u.faction placed.faction in
+      let region : u.region ≤ last_region = region_small u.region placed.region in
+      let structure : u.structure ≤ most_structures = none_or_below c.structures u.structure most_structures (λ k s there. (few_structures k s there).1) (λ apart. let there = placed.structure apart in (there.0, there.1)) in
+      let men : u.holding.men ≤ men_limit = holding.men in
+      let money : u.holding.money ≤ holding_limit = holding.money in
+      unit_small_enough u faction region structure men money
+
+  pub structure_fits : Every (λ n s. StructureFits s) c.structures
+  structure_fits n s is =
+      let built = good.sound.steady.known.structures n s is in
+      let done = (good.sound.steady.numbers.structures n s is).1 in
+      structure_small_enough w world s built.kind (region_small s.region built.region) done (none_or_below c.units s.owner last_unit few_units built.owner)
+
+  goods_few : Every (λ n u. (s : ℕ) → s < 2 → Every (λ i a. (i ≤ 4294967295) × (1 ≤ a) × (a ≤ 4294967295)) (goods_of s u)) c.units
+  goods_few n u is =
+      let placed = good.sound.steady.known.units n u is in
+      let holding = (good.sound.steady.numbers.units n u is).1 in
+      few_goods w world u placed.items placed.skills holding.items holding.men (good.sound.steady.days n u is)
+
+  pub had : AreHad c.units
+  had = record { numbers = small_enough c.units last_unit (omega arith) few_units; goods = goods_few }
+
+  module _ (p : Parts) (rows : AreRowsOf c p) where
+    head_listed : IsPermutation (head_row c ∷ []) p.campaign
+    unfolding rows_of
+    head_listed = rows.campaign
+
+    pub factions_listed : IsPermutation (rows_by faction_row (entries c.factions)) p.factions
+    unfolding rows_of
+    factions_listed = rows.factions
+
+    pub regions_listed : IsPermutation (rows_by region_row (entries c.regions)) p.regions
+    unfolding rows_of
+    regions_listed = rows.regions
+
+    pub units_listed : IsPermutation (rows_by unit_row (entries c.units)) p.units
+    unfolding rows_of
+    units_listed = rows.units
+
+    pub has_listed : IsPermutation (has_rows (entries c.units)) p.has
+    unfolding rows_of
+    has_listed = rows.has
+
+    pub structures_listed : IsPermutation (rows_by structure_row (entries c.structures)) p.structures
+    unfolding rows_of
+    structures_listed = rows.structures
+
+    pub mail_listed : IsPermutation (rows_by mail_row (entries c.mail)) p.mail
+    unfolding rows_of
+    mail_listed = rows.mail
+
+    pub reports_listed : IsPermutation (rows_by report_row (entries c.reports)) p.reports
+    unfolding rows_of
+    reports_listed = rows.reports
+
+    pub books_listed : IsPermutation (books_rows c.books) p.books
+    unfolding rows_of
+    books_listed = rows.books
+
+    pub its_head : p.campaign ≡ head_row c ∷ []
+    its_head = only_row (head_row c) p.campaign head_listed
+
+    pub head_said : head_of p ≡ head_row c
+    head_said = ap (λ hs. slice_index_or hs 0 no_head) its_head
+
+    pub factions_whole : Every (λ n f. n ≤ 4294967295) c.factions
+    factions_whole n f is = let most : n ≤ last_faction = (few_factions n f is).1 in omega (arith, most)
+
+    pub regions_whole : Every (λ n r. n ≤ 4294967295) c.regions
+    regions_whole n r is = let most : n ≤ last_region = region_small n (r, is) in omega (arith, most)
+
+    pub structures_whole : Every (λ n s. n ≤ 4294967295) c.structures
+    structures_whole n s is = let most : n ≤ most_structures = (few_structures n s is).1 in omega (arith, most)
+
+    pub mail_whole : Every (λ n text. n ≤ 4294967295) c.mail
+    mail_whole n text is = let most : n ≤ last_faction = faction_small n (good.sound.steady.known.mail n text is) in omega (arith, most)
+
+    pub reports_whole : Every (λ n text. n ≤ 4294967295) c.reports
+    reports_whole n text is = let most : n ≤ last_faction = faction_small n (good.sound.steady.known.reports n text is) in omega (arith, most)
+
+    factions_said : by_number (λ r. as_u32 r.number) faction_of p.factions ≡ c.factions
+    factions_said = table_back faction_row (λ r. r.number) faction_of (λ n f. refl) c.factions factions_whole p.factions factions_listed (λ n f is. faction_back n f (factions_whole n f is) (good.sound.steady.numbers.factions n f is))
+
+    amount_small : (n : ℕ) → n ≤ most_amount → n ≤ 4294967295
+    amount_small n h = omega (arith, h)
+
+    regions_said : by_number (λ r. as_u32 r.number) region_of p.regions ≡ c.regions
+    regions_said =
+        table_back region_row (λ r. r.number) region_of (λ n r. refl) c.regions regions_whole p.regions regions_listed (λ n r is. let range = good.sound.steady.numbers.regions n r is in region_back n r (amount_small r.peasants range.0) (amount_small r.money range.1))
+
+    structures_said : by_number (λ r. as_u32 r.number) structure_of p.structures ≡ c.structures
+    structures_said = table_back structure_row (λ r. r.number) structure_of (λ n s. refl) c.structures structures_whole p.structures structures_listed (λ n s is. structure_back n s (structure_fits n s is))
+
+    mail_said : by_number (λ r. as_u32 r.faction) (λ r. r.text) p.mail ≡ c.mail
+    mail_said = table_back mail_row (λ r. r.faction) (λ r. r.text) (λ n text. refl) c.mail mail_whole p.mail mail_listed (λ n text is. refl)
+
+    reports_said : by_number (λ r. as_u32 r.faction) (λ r. r.text) p.reports ≡ c.reports
+    reports_said = table_back report_row (λ r. r.faction) (λ r. r.text) (λ n text. refl) c.reports reports_whole p.reports reports_listed (λ n text is. refl)
+
+    units_said : by_number (λ r. as_u32 r.number) (unit_of p.has) p.units ≡ c.units
+    units_said =
+        table_back unit_row (λ r. r.number) (unit_of p.has) (λ n u. refl) c.units had.numbers p.units units_listed (λ n u is.
+        unit_back p.has n u (had.numbers n u is) (unit_fits n u is) (goods_back c.units had p.has has_listed n u is 0 (omega arith)) (goods_back c.units had p.has has_listed n u is 1 (omega arith)))
+
+    pub few_things : things_of w ≤ 4294967294
+    few_things = let few = world.few_items in omega (arith, few)
+
+    books_said : put_amounts p.books (no_amounts (things_of w)) ≡ c.books
+    books_said = books_back (things_of w) few_things c.books good.sound.steady.numbers.books p.books books_listed
+
+    pub month_said : as_u32 (head_of p).month ≡ c.month
+    month_said = let most : c.month ≤ last_month = good.sound.steady.numbers.month in ap (λ (h : StoredHead). as_u32 h.month) head_said ∙ read_whole c.month (omega (arith, most))
+
+    pub faction_next : c.next_faction ≤ last_faction + 1
+    faction_next = let count : c.next_faction ≡ len c.factions + 1 = good.sound.steady.next.factions.count in let few : len c.factions ≤ last_faction = good.sound.steady.numbers.few_factions in omega (arith, count, few)
+
+    pub structure_next : c.next_structure ≤ most_structures + 1
+    structure_next = let count : c.next_structure ≡ len c.structures + 1 = good.sound.steady.next.structures.count in let few : len c.structures ≤ most_structures = good.sound.steady.numbers.few_structures in omega (arith, count, few)
+
+    next_faction_said : as_u32 (head_of p).next_faction ≡ c.next_faction
+    next_faction_said = ap (λ (h : StoredHead). as_u32 h.next_faction) head_said ∙ read_whole c.next_faction (omega (arith, faction_next))
+
+    next_unit_said : as_u32 (head_of p).next_unit ≡ c.next_unit
+    next_unit_said = let most : c.next_unit ≤ last_unit + 1 = good.sound.steady.numbers.next_unit_most in ap (λ (h : StoredHead). as_u32 h.next_unit) head_said ∙ read_whole c.next_unit (omega (arith, most))
+
+    next_structure_said : as_u32 (head_of p).next_structure ≡ c.next_structure
+    next_structure_said = ap (λ (h : StoredHead). as_u32 h.next_structure) head_said ∙ read_whole c.next_structure (omega (arith, structure_next))
+
+    -- the rows say the campaign
+    pub state_back : state_of w p ≡ c
+    unfolding state_of
+    state_back =
+        let month = month_said in
+        let pass = ap (λ (h : StoredHead). h.pass) head_said in
+        let next_faction = next_faction_said in
+        let next_unit = next_unit_said in
+        let next_structure = next_structure_said in
+        let factions = factions_said in
+        let regions = regions_said in
+        let units = units_said in
+        let structures = structures_said in
+        let mail = mail_said in
+        let reports = reports_said in
+        let books = books_said in
+        λ i. record {
+          month = month i;
+          pass = pass i;
+          next_faction = next_faction i;
+          next_unit = next_unit i;
+          next_structure = next_structure i;
+          factions = factions i;
+          regions = regions i;
+          units = units i;
+          structures = structures i;
+          mail = mail i;
+          reports = reports i;
+          books = books i;
+        }

@@ -1,0 +1,274 @@
+-- The rows of a good campaign, in any order, keep all rules.
+use Rattle.std.proofs.Common.{◌≡◌, ◌≢◌, ℕ, zero, suc, ◌≤◌, ◌<◌, ◌+◌, ◌*◌, ◌&&◌, List, [], ◌∷◌, Bool, true, false, not, length, Some, nat_le, nat_lt, refl, sym, ap, subst, ◌∙◌, arith}
+use Rattle.std.specs.Prelude.{ℤ, pos, negsuc, is_some, Result, Ok, Err}
+use Rattle.std.specs.List.{list_all, AllByRecursion, IsDistinct}
+use Rattle.std.specs.Ordering.{nat_cmp, eq_by_cmp}
+use Rattle.std.specs.Cmp.{eq_by_cmp_equiv}
+use Rattle.std.specs.Cmp.Lexicographic.{slice_cmp, nat_list_cmp_total}
+use Rattle.std.specs.FinMap.{get, entries, len}
+use Rattle.std.proofs.lemmas.Bool.Decides.{nat_tests}
+use Rattle.std.proofs.lemmas.Int.{ints}
+use Rattle.std.proofs.lemmas.Map.Keys.{IsDistinct-IsPermutation}
+use Rattle.std.proofs.lemmas.Map.Text.{is_eq-slice_cmp}
+use Rattle.std.proofs.lemmas.Slice.Eq.{bytes_eq-Decides}
+use Rattle.atl_tables.specs.Limits.{most_amount, most_regions}
+use Rattle.atl_tables.specs.Names.{name_ok, pass_ok}
+use Rattle.atl_tables.specs.Planet.{Planet, IsWorld}
+use Rattle.atl_orders.specs.Limits.{last_faction}
+use Rattle.atl_state.specs.declared.check.CheckFault.{CheckFault}
+use Rattle.atl_state.specs.declared.check.CheckFault.TheVariants.{Damaged, Memory}
+use Rattle.atl_state.specs.declared.check.Rule.{Rule}
+use Rattle.atl_state.specs.declared.check.Rule.TheVariants.{OneRow, Ranges, Names, Known, Next, Days, Gone, Owners, Water, Guards, Books, Mail}
+use Rattle.atl_state.specs.declared.parts.Parts.{Parts}
+use Rattle.atl_state.specs.declared.parts.StoredHead.{StoredHead}
+use Rattle.atl_state.specs.declared.parts.StoredFaction.{StoredFaction}
+use Rattle.atl_state.specs.declared.records.Faction.{Faction}
+use Rattle.atl_state.specs.declared.books.Entry.{Entry}
+use Rattle.atl_state.specs.declared.books.Entry.TheVariants.{Founding, Joining, Income, Wages, Recruiting, Study, Upkeep, Lost, Births, Starved, Left, Made, Used}
+use Rattle.atl_state.specs.declared.books.Thing.{Thing}
+use Rattle.atl_state.specs.declared.books.Thing.TheVariants.{Money, People, Item}
+use Rattle.atl_state.specs.Books.{entry_place, thing_place, IsWithin}
+use Rattle.atl_state.specs.Checking.{Keeps, Checks, GivesBack}
+use Rattle.atl_state.specs.Deciding.{EachOf, Differ}
+use Rattle.atl_state.specs.Founding.{things_of}
+use Rattle.atl_state.specs.FromRows.{as_u32, faction_of, region_of, structure_of, unit_of, head_of, state_of}
+use Rattle.atl_state.specs.Good.{AreAmountsWithin, AreKnown, AreNumbered, AreDays, GoneHaveNone, NoneAreGone, AreOwned, AreAfloat, AreOfOneFaction, guards, IsMail, AreReported, amount_bound, size_of, IsGood}
+use Rattle.atl_state.specs.Limits.{last_month, most_units, last_unit, men_limit, holding_limit, most_structures, entry_count}
+use Rattle.atl_state.specs.RowRules.{is_from, is_one_head, is_within, head_in_range, faction_in_range, region_in_range, unit_in_range, has_in_range, structure_in_range, books_in_range, books_bound, are_few, AreKeyed, AreRowsInRange, faction_named, AreRowsNamed, is_of_unit, is_booked}
+use Rattle.atl_state.specs.Rows.{flag, rows_by, faction_row, region_row, unit_row, structure_row, mail_row, report_row, has_row, has_rows, books_rows, amount_at, is_zero, AreRowsOf}
+use Rattle.atl_state.specs.State.{State, Marked}
+use Rattle.atl_state.specs.Totals.{Balances}
+use Rattle.atl_state.proofs.BackLaws.{each_permuted, all_pass, read_whole, rows_pass, count_rows}
+use Rattle.atl_state.proofs.BackBooksLaws.{lines_each, books_keys, all_booked}
+use Rattle.atl_state.proofs.BackHasLaws.{has_each, has_keys, goods_of}
+use Rattle.atl_state.proofs.BooksRowLaws.{IsBooked}
+use Rattle.atl_state.proofs.DifferLaws.{entries_differ}
+use Rattle.atl_state.proofs.GoodRowLaws as row
+use Rattle.atl_state.proofs.KeyLaws.{IsDistinct-map}
+
+-- ---- tests that pass
+
+from_true : (low high n : ℕ) → low ≤ n → n ≤ high → is_from low high (pos n) ≡ true
+from_true low high n l h = let least : nat_le low n ≡ true = grind (arith, nat_tests) in let most : nat_le n high ≡ true = grind (arith, nat_tests) in ap (λ b. b && nat_le n high) least ∙ most
+
+and_true : (a b : Bool) → a ≡ true → b ≡ true → (a && b) ≡ true
+and_true a b h k = ap (λ x. x && b) h ∙ k
+
+le_true : (m n : ℕ) → m ≤ n → nat_le m n ≡ true
+le_true m n h = grind (arith, nat_tests)
+
+lt_true : (m n : ℕ) → m < n → nat_lt m n ≡ true
+lt_true m n h = grind (arith, nat_tests)
+
+not_true : (b : Bool) → b ≡ false → not b ≡ true
+not_true b h = ap not h
+
+flag_in_range : (b : Bool) → is_from 0 1 (flag b) ≡ true
+flag_in_range true = refl
+flag_in_range false = refl
+
+within_true : (bound : ℕ) (z : ℤ) → IsWithin bound z → is_within bound z ≡ true
+within_true bound (pos n) h = let most : n ≤ bound = omega (arith, ints, h.most) in le_true n bound most
+within_true bound (negsuc n) h = let most : suc n ≤ bound = omega (arith, ints, h.least) in le_true (suc n) bound most
+
+-- ---- entries and things by their places
+
+entry_at : (n : ℕ) → n < entry_count → (e : Entry) × (entry_place e ≡ n)
+entry_at zero l = (Founding, refl)
+entry_at (suc zero) l = (Joining, refl)
+entry_at (suc (suc zero)) l = (Income, refl)
+entry_at (suc (suc (suc zero))) l = (Wages, refl)
+entry_at (suc (suc (suc (suc zero)))) l = (Recruiting, refl)
+entry_at (suc (suc (suc (suc (suc zero))))) l = (Study, refl)
+entry_at (suc (suc (suc (suc (suc (suc zero)))))) l = (Upkeep, refl)
+entry_at (suc (suc (suc (suc (suc (suc (suc zero))))))) l = (Lost, refl)
+entry_at (suc (suc (suc (suc (suc (suc (suc (suc zero)))))))) l = (Births, refl)
+entry_at (suc (suc (suc (suc (suc (suc (suc (suc (suc zero))))))))) l = (Starved, refl)
+entry_at (suc (suc (suc (suc (suc (suc (suc (suc (suc (suc zero)))))))))) l = (Left, refl)
+entry_at (suc (suc (suc (suc (suc (suc (suc (suc (suc (suc (suc zero))))))))))) l = (Made, refl)
+entry_at (suc (suc (suc (suc (suc (suc (suc (suc (suc (suc (suc (suc zero)))))))))))) l = (Used, refl)
+entry_at (suc (suc (suc (suc (suc (suc (suc (suc (suc (suc (suc (suc (suc n))))))))))))) l = absurd (omega (arith, l))
+
+thing_at : (n : ℕ) → (t : Thing) × (thing_place t ≡ n)
+thing_at zero = (Money, refl)
+thing_at (suc zero) = (People, refl)
+thing_at (suc (suc n)) = (Item n, omega arith)
+
+amounts_within : (c : State) → AreAmountsWithin c → (e t : ℕ) → e < entry_count → IsWithin (amount_bound c) (amount_at c.books e t)
+amounts_within c within e t l =
+    let entry = entry_at e l in
+    let thing = thing_at t in
+    subst (λ k. IsWithin (amount_bound c) (amount_at c.books k t)) entry.1 (subst (λ k. IsWithin (amount_bound c) (amount_at c.books (entry_place entry.0) k)) thing.1 (within entry.0 thing.0))
+
+-- ---- names that differ
+
+abbrev same_text : List ℕ → List ℕ → Bool
+same_text a b = eq_by_cmp (slice_cmp nat_cmp) a b
+
+text_apart : (a b : List ℕ) → a ≢ b → same_text a b ≡ false
+text_apart a b h = elim (same_text a b) as (λ t. same_text a b ≡ t → same_text a b ≡ false) [ true ↦ λ e. absurd (h ((bytes_eq-Decides a b).0 (sym (is_eq-slice_cmp a b) ∙ e))) | false ↦ λ e. e ] refl
+
+others_named : (f : Faction) (es : List (ℕ × Faction)) → EachOf (λ n g. f.joined_as ≢ g.joined_as) es → AllByRecursion (λ (r : StoredFaction). same_text f.joined_as r.joined_as ≡ false) (rows_by faction_row es)
+others_named f [] h = tt
+others_named f (e ∷ es) h = (text_apart f.joined_as e.1.joined_as h.0, others_named f es h.1)
+
+named_apart : (es : List (ℕ × Faction)) → Differ es → IsDistinct (λ (a b : StoredFaction). same_text a.joined_as b.joined_as) (rows_by faction_row es)
+unfolding IsDistinct
+named_apart [] h = tt
+named_apart (e ∷ es) h = (others_named e.1 es h.0, named_apart es h.1)
+
+text_symm : (a b : List ℕ) → same_text a b ≡ same_text b a
+text_symm = (eq_by_cmp_equiv nat_list_cmp_total).symm
+
+module _ (w : Planet) (world : IsWorld w) (c : State) (good : IsGood w c) (p : Parts) (rows : AreRowsOf c p) where
+  back : state_of w p ≡ c
+  back = row.state_back w world c good p rows
+
+  one_row : is_one_head p.campaign ≡ true
+  one_row = ap is_one_head (row.its_head w world c good p rows)
+
+  -- ---- ranges
+
+  keys : AreKeyed p
+  keys = record {
+    factions = row.table_keys faction_row (λ r. r.number) faction_of (λ n f. refl) c.factions (row.factions_whole w world c good p rows) p.factions (row.factions_listed w world c good p rows);
+    regions = row.table_keys region_row (λ r. r.number) region_of (λ n r. refl) c.regions (row.regions_whole w world c good p rows) p.regions (row.regions_listed w world c good p rows);
+    units = row.table_keys unit_row (λ r. r.number) (unit_of p.has) (λ n u. refl) c.units (row.had w world c good).numbers p.units (row.units_listed w world c good p rows);
+    has = has_keys c.units (row.had w world c good) p.has (row.has_listed w world c good p rows);
+    structures = row.table_keys structure_row (λ r. r.number) structure_of (λ n s. refl) c.structures (row.structures_whole w world c good p rows) p.structures (row.structures_listed w world c good p rows);
+    mail = row.table_keys mail_row (λ r. r.faction) (λ r. r.text) (λ n text. refl) c.mail (row.mail_whole w world c good p rows) p.mail (row.mail_listed w world c good p rows);
+    reports = row.table_keys report_row (λ r. r.faction) (λ r. r.text) (λ n text. refl) c.reports (row.reports_whole w world c good p rows) p.reports (row.reports_listed w world c good p rows);
+    books = books_keys (things_of w) (row.few_things w world c good p rows) c.books good.sound.steady.numbers.books p.books (row.books_listed w world c good p rows);
+  }
+
+  faction_count : length p.factions ≡ len c.factions
+  faction_count = count_rows faction_row c.factions p.factions (row.factions_listed w world c good p rows)
+
+  fewer : (m n most : ℕ) → m ≡ n → n ≤ most → nat_le m most ≡ true
+  fewer m n most e h = le_true m most (omega (arith, e, h))
+
+  few : are_few p ≡ true
+  few =
+      let factions = fewer (length p.factions) (len c.factions) last_faction faction_count good.sound.steady.numbers.few_factions in
+      let regions = fewer (length p.regions) (len c.regions) most_regions (count_rows region_row c.regions p.regions (row.regions_listed w world c good p rows)) good.sound.steady.numbers.few_regions in
+      let units = fewer (length p.units) (len c.units) most_units (count_rows unit_row c.units p.units (row.units_listed w world c good p rows)) good.sound.steady.numbers.few_units in
+      let structures = fewer (length p.structures) (len c.structures) most_structures (count_rows structure_row c.structures p.structures (row.structures_listed w world c good p rows)) good.sound.steady.numbers.few_structures in
+      and_true _ _ (and_true _ _ (and_true _ _ factions regions) units) structures
+
+  at_least_one : (n m : ℕ) → n ≡ m + 1 → 1 ≤ n
+  at_least_one n m e = omega (arith, e)
+
+  none_less : (n : ℕ) → 0 ≤ n
+  none_less n = omega arith
+
+  head_ranges : head_in_range (head_of p) ≡ true
+  head_ranges =
+      ap head_in_range (row.head_said w world c good p rows)
+      ∙ and_true _ _ (and_true _ _ (and_true _ _ (from_true 0 last_month c.month (none_less c.month) good.sound.steady.numbers.month)
+      (from_true 1 (last_faction + 1) c.next_faction (at_least_one c.next_faction (len c.factions) good.sound.steady.next.factions.count) (row.faction_next w world c good p rows)))
+      (from_true 1 (last_unit + 1) c.next_unit good.sound.steady.numbers.next_unit_least good.sound.steady.numbers.next_unit_most))
+      (from_true 1 (most_structures + 1) c.next_structure (at_least_one c.next_structure (len c.structures) good.sound.steady.next.structures.count) (row.structure_next w world c good p rows))
+
+  faction_ranges : list_all faction_in_range p.factions ≡ true
+  faction_ranges =
+      rows_pass faction_row faction_in_range c.factions p.factions (row.factions_listed w world c good p rows) (λ n f is.
+      let range = row.few_factions w world c good n f is in and_true _ _ (from_true 1 last_faction n range.0 range.1) (flag_in_range f.gone))
+
+  region_ranges : list_all region_in_range p.regions ≡ true
+  region_ranges =
+      rows_pass region_row region_in_range c.regions p.regions (row.regions_listed w world c good p rows) (λ n r is.
+      let range = good.sound.steady.numbers.regions n r is in and_true _ _ (from_true 0 most_amount r.peasants (none_less r.peasants) range.0) (from_true 0 most_amount r.money (none_less r.money) range.1))
+
+  unit_ranges : list_all unit_in_range p.units ≡ true
+  unit_ranges =
+      rows_pass unit_row unit_in_range c.units p.units (row.units_listed w world c good p rows) (λ n u is.
+      let range = good.sound.steady.numbers.units n u is in
+      and_true _ _ (and_true _ _ (and_true _ _ (from_true 1 last_unit n range.0 (row.few_units w world c good n u is)) (from_true 1 men_limit u.holding.men (good.sound.men n u is) range.1.men))
+      (from_true 0 holding_limit u.holding.money (none_less u.holding.money) range.1.money)) (flag_in_range u.holding.guard))
+
+  has_ranges : list_all has_in_range p.has ≡ true
+  has_ranges =
+      all_pass has_in_range (λ r. has_in_range r ≡ true) (λ r e. e) p.has (each_permuted (λ r. has_in_range r ≡ true) (has_rows (entries c.units)) p.has (row.has_listed w world c good p rows)
+      (has_each c.units (λ r. has_in_range r ≡ true) (λ n u there s l i a is some. in_range n s i a l (λ item. (good.sound.steady.numbers.units n u there).1.items i a (subst (λ k. get (goods_of k u) i ≡ Some a) item is)))))
+    where
+      in_range : (n s i a : ℕ) → s < 2 → (s ≡ 0 → (1 ≤ a) × (a ≤ holding_limit)) → has_in_range (has_row n s i a) ≡ true
+      in_range n zero i a l h = let range = h refl in from_true 1 holding_limit a range.0 range.1
+      in_range n (suc zero) i a l h = refl
+      in_range n (suc (suc s)) i a l h = absurd (omega (arith, l))
+
+  structure_ranges : list_all (structure_in_range w) p.structures ≡ true
+  structure_ranges =
+      rows_pass structure_row (structure_in_range w) c.structures p.structures (row.structures_listed w world c good p rows) (λ n s is.
+      let range = row.few_structures w world c good n s is in
+      let done = good.sound.steady.numbers.structures n s is in
+      let kind = row.read16 s.kind (row.structure_fits w world c good n s is).kind in
+      and_true _ _ (from_true 1 most_structures n range.0 range.1) (ap (λ k. is_from 1 (size_of w k) (pos s.done)) kind ∙ from_true 1 (size_of w s.kind) s.done done.0 done.1))
+
+  bound_said : books_bound p ≡ amount_bound c
+  bound_said =
+      ap (λ m. 200000000000000 * (m + 1) + 1000000000 * length p.factions) (row.month_said w world c good p rows) ∙ ap (λ n. 200000000000000 * (c.month + 1) + 1000000000 * n) faction_count
+
+  amounts_in_range : list_all (books_in_range (amount_bound c)) p.books ≡ true
+  amounts_in_range =
+      all_pass (books_in_range (amount_bound c)) (λ r. books_in_range (amount_bound c) r ≡ true) (λ r e. e) p.books
+      (each_permuted (λ r. books_in_range (amount_bound c) r ≡ true) (books_rows c.books) p.books (row.books_listed w world c good p rows)
+      (lines_each c.books (λ r. books_in_range (amount_bound c) r ≡ true) (λ e t el tl some.
+      and_true _ _ (not_true (is_zero (amount_at c.books e t)) some) (within_true (amount_bound c) (amount_at c.books e t) (amounts_within c good.sound.amounts e t el)))))
+
+  book_ranges : list_all (books_in_range (books_bound p)) p.books ≡ true
+  book_ranges = ap (λ bound. list_all (books_in_range bound) p.books) bound_said ∙ amounts_in_range
+
+  in_ranges : AreRowsInRange w p
+  in_ranges = record {
+    keys = keys;
+    few = few;
+    numbers = and_true _ _ (and_true _ _ (and_true _ _ head_ranges (and_true _ _ (and_true _ _ (and_true _ _ faction_ranges region_ranges) unit_ranges) has_ranges)) structure_ranges) book_ranges;
+  }
+
+  -- ---- names
+
+  named : AreRowsNamed p
+  named = record {
+    texts = and_true _ _ (and_true _ _ (and_true _ _ (ap (λ (h : StoredHead). pass_ok h.pass) (row.head_said w world c good p rows) ∙ good.sound.steady.names.pass)
+        (rows_pass faction_row faction_named c.factions p.factions (row.factions_listed w world c good p rows) (λ n f is. let ok = good.sound.steady.names.factions n f is in and_true _ _ (and_true _ _ ok.0 ok.1) ok.2)))
+        (rows_pass unit_row (λ r. name_ok r.name) c.units p.units (row.units_listed w world c good p rows) good.sound.steady.names.units))
+        (rows_pass structure_row (λ r. name_ok r.name) c.structures p.structures (row.structures_listed w world c good p rows) good.sound.steady.names.structures);
+    joined = IsDistinct-map (λ (r : StoredFaction). r.joined_as) same_text p.factions (IsDistinct-IsPermutation (λ (a b : StoredFaction). same_text a.joined_as b.joined_as) (λ a b. text_symm a.joined_as b.joined_as)
+        (rows_by faction_row (entries c.factions)) p.factions (row.factions_listed w world c good p rows) (named_apart (entries c.factions) (entries_differ c.factions good.sound.steady.names.joined)));
+  }
+
+  -- ---- what rows say of other rows
+
+  of_units : list_all (is_of_unit c) p.has ≡ true
+  of_units =
+      all_pass (is_of_unit c) (λ r. is_of_unit c r ≡ true) (λ r e. e) p.has (each_permuted (λ r. is_of_unit c r ≡ true) (has_rows (entries c.units)) p.has (row.has_listed w world c good p rows)
+      (has_each c.units (λ r. is_of_unit c r ≡ true) (λ n u there s l i a is some. ap (λ k. is_some (get c.units k)) (read_whole n ((row.had w world c good).numbers n u there)) ∙ ap is_some there)))
+
+  of_books : list_all (is_booked w) p.books ≡ true
+  of_books =
+      all_pass (is_booked w) (IsBooked (things_of w)) (λ r h. and_true _ _ h.named (lt_true (as_u32 r.thing) (things_of w) h.there)) p.books
+      (all_booked (things_of w) (row.few_things w world c good p rows) c.books good.sound.steady.numbers.books p.books (row.books_listed w world c good p rows))
+
+  said : (P : State → Type 0) → P c → P (state_of w p)
+  said P h = subst P (sym back) h
+
+  -- every rule is kept
+  pub keeps : (r : Rule) → Keeps w p r
+  keeps OneRow = one_row
+  keeps Ranges = in_ranges
+  keeps Names = named
+  keeps Known = (said (AreKnown w) good.sound.steady.known, said (λ s. list_all (is_of_unit s) p.has ≡ true) of_units)
+  keeps Next = said AreNumbered good.sound.steady.next
+  keeps Days = said AreDays good.sound.steady.days
+  keeps Gone = (said GoneHaveNone good.sound.steady.gone, said NoneAreGone good.sound.gone)
+  keeps Owners = said AreOwned good.sound.steady.owners
+  keeps Water = said (AreAfloat w) good.sound.steady.water
+  keeps Guards = said (AreOfOneFaction guards) good.sound.steady.guarded
+  keeps Books = (of_books, said Balances good.sound.balances)
+  keeps Mail = (said IsMail good.sound.mail, said AreReported good.reported)
+
+-- what checking answers to the rows of a good campaign
+pub gives_back : (w : Planet) → IsWorld w → (p : Parts) (r : Result Marked CheckFault) → Checks w p r → GivesBack w p r
+gives_back w world p (Ok m) h = λ c good rows. sym (row.state_back w world m.what h.good p h.rows) ∙ row.state_back w world c good p rows
+gives_back w world p (Err (Damaged r)) h = λ c good rows. h.broken (keeps w world c good p rows r)
+gives_back w world p (Err Memory) h = tt

@@ -1,0 +1,7 @@
+use Rattle.atl_state.specs.Ordered.{put_number}
+use Rattle.atl_state.proofs.RisingLaws.{IsRising-put}
+use Rattle.atl_state.proofs.numbers.Numbers.put.Goals as goal
+
+pub invariant_of-self-2 : goal.invariant_of-self-2
+unfolding put_number
+invariant_of-self-2 c = rw (c.in_ok-insert.ensures.items, c.first_above-place.ensures.place, c.deref.ensures.value) (IsRising-put c.args.number c.self.inside.items.items c.self.invariant)

@@ -1,0 +1,40 @@
+-- What change marks say of two campaigns, an older one and one that came of it: all that is not marked is the same in both.
+use Rattle.std.specs.Prelude.{◌≡◌, ℕ, List, false, Option, Some, None, option_map}
+use Rattle.std.specs.Ordering.{nat_cmp}
+use Rattle.std.specs.FinMap.{FinMap, get, empty}
+use Rattle.std.specs.FinSet.{FinSet, contains}
+use Rattle.atl_state.specs.declared.books.Entry.{Entry}
+use Rattle.atl_state.specs.declared.books.Thing.{Thing}
+use Rattle.atl_state.specs.declared.records.Unit.{Unit}
+use Rattle.atl_state.specs.Books.{amount_in}
+use Rattle.atl_state.specs.Marks.{Marks, amount_number}
+use Rattle.atl_state.specs.State.{State}
+
+-- under a number that is not marked stands the same in both
+abbrev pub SameBut : {V : Type 0} → FinSet nat_cmp → FinMap nat_cmp V → FinMap nat_cmp V → Type 0
+SameBut marks before after = (n : ℕ) → contains marks n ≡ false → get after n ≡ get before n
+
+-- a unit with its goods taken off
+abbrev pub bare : Unit → Unit
+bare u = record u { holding = record u.holding { items = empty; days = empty } }
+
+-- the items and the days under a number; none where there is no unit
+abbrev pub goods_under : Option Unit → FinMap nat_cmp ℕ × FinMap nat_cmp ℕ
+goods_under None = (empty, empty)
+goods_under (Some u) = (u.holding.items, u.holding.days)
+
+-- what the campaign's own row says
+abbrev pub own_row : State → ℕ × (List ℕ × (ℕ × (ℕ × ℕ)))
+own_row c = (c.month, (c.pass, (c.next_faction, (c.next_unit, c.next_structure))))
+
+pub record Covers (m : Marks) (before after : State) : Type 0 where
+  pub factions : SameBut m.factions before.factions after.factions
+  pub regions : SameBut m.regions before.regions after.regions
+  pub structures : SameBut m.structures before.structures after.structures
+  pub mail : SameBut m.mail before.mail after.mail
+  pub reports : SameBut m.reports before.reports after.reports
+  -- Of a unit that is not marked all but its goods is the same, and there is none where there was none.
+  pub units : (n : ℕ) → contains m.units n ≡ false → option_map bare (get after.units n) ≡ option_map bare (get before.units n)
+  pub goods : (n : ℕ) → contains m.goods n ≡ false → goods_under (get after.units n) ≡ goods_under (get before.units n)
+  pub books : (e : Entry) (t : Thing) → contains m.books (amount_number e t) ≡ false → amount_in after.books e t ≡ amount_in before.books e t
+  pub row : m.row ≡ false → own_row after ≡ own_row before
