@@ -29,8 +29,8 @@ use Rattle.sqlite_rules.specs.Edit.{with_rowid, at_least, next_rowid}
 use Rattle.sqlite_rules.specs.declared.error.Rowids.TheVariants.{Chosen}
 use Rattle.sqlite_rules.proofs.ListLemmas.{all_has, some_from}
 use Rattle.sqlite_rules.proofs.RuleLemmas.{keeps_at}
-use Rattle.atl_store.specs.Sets.{visible, IsSoundly}
-use Rattle.atl_store.specs.Tables.{books_table, nine_and}
+use Rattle.atl_store.specs.Sets.{visible}
+use Rattle.atl_store.specs.Tables.{books_table, nine_and, IsSoundly}
 use Rattle.atl_store.specs.Shown.{books_key, books_row}
 use Rattle.sqlite.specs.Table.{Table}
 use Rattle.sqlite.specs.Schema.{Schema}
@@ -39,7 +39,7 @@ use Rattle.atl_store.specs.Inside.{Inside, HasTables, Puts, Drops}
 use Rattle.atl_store.proofs.EditLaws.{delete_query, found_by}
 use Rattle.atl_store.proofs.UpsertLaws.{Upserted, update_query, clause_on, equal_is, is_equal, differ_not}
 use Rattle.atl_store.proofs.StatementLaws.{upserting, removes}
-use Rattle.atl_store.proofs.CarryLaws.{unlinked, none_share, sound_under, done_with}
+use Rattle.atl_store.proofs.CarryLaws.{nine_among, unlinked, none_share, sound_under, done_with}
 use Rattle.atl_store.proofs.MakeLaws.{did, upserts_make, loses_make}
 use Rattle.atl_store.proofs.Terms.{cast_null, cast_int}
 use Rattle.atl_store.proofs.KeyLaws.{int_by, cons_is, unwrapped}
@@ -138,7 +138,7 @@ puts_inside old new entry thing amount count inside ran = (
       let new_row = Int (at_least Chosen (next_rowid (db 10))) ∷ v in
       let made : with_rowid Chosen (db 10) (cast_row books_table src) ≡ new_row = ap (with_rowid Chosen (db 10)) casted in
       let again : cast_row books_table new_row ≡ new_row = rw (cast_int (next_rowid (db 10)), cast_int (pos entry), cast_int (pos thing), cast_int amount) refl in
-      let makes = upserts_make schema books_table 2 none old.step_limit v target 3 project (λ db. refl) new_row v old.now new.now
+      let makes = upserts_make schema (nine_among has.nine.tables) books_table 2 none old.step_limit v target 3 project (λ db. refl) new_row v old.now new.now
       (subst (λ n. Upserted schema books_table none old.step_limit v target 3 project (λ db. refl) n db new.now.trees) made up.0)
       (ap (visible books_table) again)
       (λ r there same. let k = key_is r _ _ same in rw (k.0, k.1, cast_int (pos entry), cast_int (pos thing), cast_int amount) refl)
@@ -182,7 +182,7 @@ drops_inside old new entry thing count inside ran = (
       let keyed = sound.keyed books_table (inr (inr (inr (inr (inr (inr (inr (inr (inl refl))))))))) in
       let out = removes schema 10 _ _ _ _ _ _ 8 refl none old.step_limit k (statement_of drop_books (understood schema drop_books)) _ _ db _ keyed
       (λ rows answers. found_by 10 _ db (overlay db []) k rows refl (answers.answer Null)) (did schema old new _ _ k count has.nine.is w) in
-      let makes = loses_make schema books_table 2 _ k old.now new.now out.0
+      let makes = loses_make schema (nine_among has.nine.tables) books_table 2 _ k old.now new.now out.0
       (λ x there. let ints = key_ints has.nine.tables has.nine.indexes db sound x there in (
         λ hit. let e = agree_is _ _ _ _ ints.one ints.two refl refl hit in rw (e.0, e.1) refl,
         λ same. let e = key_is x _ _ same in rw (e.0, e.1) (agree_same _ _ refl refl),

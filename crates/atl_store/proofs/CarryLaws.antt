@@ -12,8 +12,9 @@ use Rattle.sqlite_rules.specs.Keys.{shares}
 use Rattle.sqlite_schema.specs.Rules.{guards}
 use Rattle.sqlite_rules.specs.Action.{works, Work, work_for}
 use Rattle.sqlite.specs.Effect.{Database}
-use Rattle.atl_store.specs.Sets.{Set, IsSoundly, Makes}
-use Rattle.atl_store.specs.Tables.{all_tables, nine_and, nine_trees}
+use Rattle.atl_store.specs.Sets.{Set}
+use Rattle.atl_store.proofs.Made.{Makes}
+use Rattle.atl_store.specs.Tables.{all_tables, nine_and, nine_trees, IsSoundly}
 use Rattle.atl_store.specs.Inside.{HasTables, Carries, Alters, Done}
 use Rattle.atl_store.proofs.ListLaws.{has_map}
 
@@ -38,6 +39,9 @@ pub one_of : (tables : List Table) (t : Table) (ours : List Table) → Has ours 
 one_of tables t [] there = absurd there
 one_of tables t (x ∷ ours) (inl same) = inl same
 one_of tables t (x ∷ ours) (inr later) = inr (one_of tables t ours later)
+
+pub nine_among : (tables : List Table) (t : Table) → Has all_tables t → Has (all_tables ++ tables) t
+nine_among tables t there = one_of tables t all_tables there
 
 -- the trees are sound under the schema as it is known
 pub sound_under : (db : Database) (has : HasTables db) → IsSoundly (nine_and has.nine.tables has.nine.indexes) db.trees
@@ -67,7 +71,7 @@ module _ (t : Table) (old new : Database) (has : HasTables old) (ours : Has all_
       }
 
   pub altered : (S : Set) → Makes schema t old new S → Alters t S old new
-  altered S makes = record { rows = makes.rows; others = λ u listed apart. makes.others u (one_of has.nine.tables u all_tables listed) apart }
+  altered S makes = record { rows = makes.rows; others = λ u listed apart. makes.others u (nine_among has.nine.tables u listed) apart }
 
   pub done_with : (Does : Database → Database → Type 0) (S : Set) → (Alters t S old new → Does old new) → Makes schema t old new S → Done Does old new
   done_with Does S is makes = record { does = is (altered S makes); tables = stays_there makes.schema_is makes.sound; carries = carried makes.schema_is makes.others }

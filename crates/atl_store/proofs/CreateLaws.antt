@@ -11,7 +11,7 @@ use Rattle.sqlite.specs.Effect.{Database}
 use Rattle.sqlite.specs.State.{State, Writes, Executes}
 use Rattle.sqlite_rules.proofs.ListLemmas.{all_has}
 use Rattle.sqlite.proofs.Callers.{IsPlain, command_of, statement_of, runs_as}
-use Rattle.atl_store.specs.Sets.{Creates}
+use Rattle.atl_store.proofs.Made.{Creates}
 use Rattle.atl_store.proofs.EditLaws.{went, same_value}
 
 pub creates : (before : Schema) (table : Table) (text : List ℕ) (old new : State) (count : ℕ) → command_of (understood before text) ≡ CreateTable → statement_of text (understood before text) ≡ text

@@ -1,12 +1,13 @@
 -- The entries of a numbered map, and the rows that stand for them.
 use Rattle.std.specs.Prelude.{⊤}
-use Rattle.std.proofs.Common.{◌≡◌, ◌≢◌, ◌⊎◌, ℕ, T, Bool, true, false, cond, List, [], ◌∷◌, ◌++◌, take, Some, None, Less, Equal, Greater, refl, sym, ap, ◌∙◌, subst, inl, inr, true≢false}
+use Rattle.std.proofs.Common.{◌≡◌, ◌≢◌, ◌⊎◌, ℕ, true, false, cond, List, [], ◌∷◌, ◌++◌, take, Some, None, Less, Equal, Greater, refl, sym, ap, ◌∙◌, subst, inl, inr, true≢false}
 use Rattle.std.specs.Ordering.{nat_cmp, is_eq, is_lt}
 use Rattle.std.specs.Cmp.{nat_cmp_total}
 use Rattle.std.specs.FinMap.{FinMap, get, get-entries, entries, entries_sorted, find, is_sorted, nat_cmp-IsAntisymmetric}
 use Rattle.std.specs.FinMap.Entries.{below_all}
 use Rattle.std.proofs.lemmas.Bool.{and_parts}
 use Rattle.std.proofs.lemmas.Cmp.{tied_itself}
+use Rattle.atl_tables.proofs.TrackLaws.{is_true}
 use Rattle.sqlite.specs.Order.{Row}
 use Rattle.sqlite_rules.specs.Lists.{Has}
 use Rattle.sqlite_rules.proofs.ListLemmas.{has_either}
@@ -16,10 +17,6 @@ use Rattle.atl_store.specs.Rows.{RowsOf, lines_of}
 use Rattle.atl_store.proofs.ListLaws.{has_map, map_has}
 
 -- ---- an entry is in the list exactly where the map has it
-
-is_true : (b : Bool) → T b → b ≡ true
-is_true true h = refl
-is_true false h = absurd h
 
 pub not_less_itself : (n : ℕ) → is_lt (nat_cmp n n) ≡ false
 not_less_itself n = ap is_lt (tied_itself nat_cmp_total n)

@@ -21,14 +21,14 @@ use Rattle.atl_store.proofs.EntryLaws.{AreApart, apart_append, filled, below_has
 
 -- ---- lists made of lists
 
-pub flat_has : {X : Type 0} (f : X → List Row) (xs : List X) (r : Row) → Has (flat_map f xs) r → (x : X) × Has xs x × Has (f x) r
+pub flat_has : {X Y : Type 0} (f : X → List Y) (xs : List X) (r : Y) → Has (flat_map f xs) r → (x : X) × Has xs x × Has (f x) r
 flat_has f [] r there = absurd there
 flat_has f (x ∷ xs) r there = elim (has_either (f x) (flat_map f xs) r there) [
   | inl here ↦ (x, inl refl, here)
   | inr more ↦ let found = flat_has f xs r more in (found.0, inr found.1, found.2)
 ]
 
-pub has_flat : {X : Type 0} (f : X → List Row) (xs : List X) (x : X) (r : Row) → Has xs x → Has (f x) r → Has (flat_map f xs) r
+pub has_flat : {X Y : Type 0} (f : X → List Y) (xs : List X) (x : X) (r : Y) → Has xs x → Has (f x) r → Has (flat_map f xs) r
 has_flat f [] x r there here = absurd there
 has_flat f (y ∷ xs) x r (inl same) here = has_left (f y) (flat_map f xs) r (subst (λ z. Has (f z) r) same here)
 has_flat f (y ∷ xs) x r (inr later) here = has_right (f y) (flat_map f xs) r (has_flat f xs x r later here)

@@ -29,9 +29,9 @@ use Rattle.sqlite_rules.specs.Edit.{with_rowid, at_least, next_rowid}
 use Rattle.sqlite_rules.specs.declared.error.Rowids.TheVariants.{Chosen}
 use Rattle.sqlite_rules.proofs.ListLemmas.{all_has, some_from}
 use Rattle.sqlite_rules.proofs.RuleLemmas.{keeps_at}
-use Rattle.atl_store.specs.Sets.{visible, IsSoundly}
-use Rattle.atl_store.specs.Tables.{has_table, nine_and}
-use Rattle.atl_store.specs.Shown.{has_key, has_row}
+use Rattle.atl_store.specs.Sets.{visible}
+use Rattle.atl_store.specs.Tables.{has_table, nine_and, IsSoundly}
+use Rattle.atl_store.specs.Shown.{int, has_key, has_row}
 use Rattle.sqlite.specs.Table.{Table}
 use Rattle.sqlite.specs.Schema.{Schema}
 use Rattle.sqlite_schema.specs.declared.schema.Index.{Index}
@@ -39,9 +39,9 @@ use Rattle.atl_store.specs.Inside.{Inside, HasTables, Puts, Drops}
 use Rattle.atl_store.proofs.EditLaws.{delete_query, found_by}
 use Rattle.atl_store.proofs.UpsertLaws.{Upserted, update_query, clause_on, equal_is, is_equal, differ_not}
 use Rattle.atl_store.proofs.StatementLaws.{upserting, removes}
-use Rattle.atl_store.proofs.CarryLaws.{unlinked, none_share, sound_under, done_with}
+use Rattle.atl_store.proofs.CarryLaws.{nine_among, unlinked, none_share, sound_under, done_with}
 use Rattle.atl_store.proofs.MakeLaws.{did, upserts_make, loses_make}
-use Rattle.atl_store.proofs.Terms.{cast_null, cast_int}
+use Rattle.atl_store.proofs.Terms.{cast_null, cast_int, at_number}
 use Rattle.atl_store.proofs.KeyLaws.{int_by, cons_is, unwrapped}
 
 -- ---- the columns of the key are integers
@@ -144,7 +144,7 @@ puts_inside old new unit sort thing amount count inside ran = (
       let new_row = Int (at_least Chosen (next_rowid (db 5))) ∷ v in
       let made : with_rowid Chosen (db 5) (cast_row has_table src) ≡ new_row = ap (with_rowid Chosen (db 5)) casted in
       let again : cast_row has_table new_row ≡ new_row = rw (cast_int (next_rowid (db 5)), cast_int (pos unit), cast_int (pos sort), cast_int (pos thing), cast_int (pos amount)) refl in
-      let makes = upserts_make schema has_table 3 none old.step_limit v target 4 project (λ db. refl) new_row v old.now new.now
+      let makes = upserts_make schema (nine_among has.nine.tables) has_table 3 none old.step_limit v target 4 project (λ db. refl) new_row v old.now new.now
       (subst (λ n. Upserted schema has_table none old.step_limit v target 4 project (λ db. refl) n db new.now.trees) made up.0)
       (ap (visible has_table) again)
       (λ r there same. let k = key_is r _ _ _ same in rw (k.0, k.1, k.2, cast_int (pos unit), cast_int (pos sort), cast_int (pos thing), cast_int (pos amount)) refl)
@@ -188,7 +188,7 @@ drops_inside old new unit sort thing count inside ran = (
       let keyed = sound.keyed has_table (inr (inr (inr (inr (inl refl))))) in
       let out = removes schema 5 _ _ _ _ _ _ 4 refl none old.step_limit k (statement_of drop_has (understood schema drop_has)) _ _ db _ keyed
       (λ rows answers. found_by 5 _ db (overlay db []) k rows refl (answers.answer Null)) (did schema old new _ _ k count has.nine.is w) in
-      let makes = loses_make schema has_table 3 _ k old.now new.now out.0
+      let makes = loses_make schema (nine_among has.nine.tables) has_table 3 _ k old.now new.now out.0
       (λ x there. let ints = key_ints has.nine.tables has.nine.indexes db sound x there in (
         λ hit. let e = agree_is _ _ _ _ _ _ ints.one ints.two ints.three refl refl refl hit in rw (e.0, e.1, e.2) refl,
         λ same. let e = key_is x _ _ _ same in rw (e.0, e.1, e.2) (agree_same _ _ _ refl refl refl),
@@ -200,3 +200,37 @@ drops_inside old new unit sort thing count inside ran = (
 pub drops_has : (old new : State) (unit sort thing : ℕ) (count : ℕ) (params : Row) → IsTrue old.in_transaction → ExecutesInside 0 drop_has params old new (Ok count) → params ≡ has_key unit sort thing
     → Inside HasTables (Drops has_table 3 (has_key unit sort thing)) old new
 drops_has old new unit sort thing count params inside h same = drops_inside old new unit sort thing count inside (subst (λ p. ExecutesInside 0 drop_has p old new (Ok count)) same h)
+
+-- ---- all rows of a unit are taken out
+
+abbrev pub drop_goods : List ℕ
+drop_goods = codes "DELETE FROM has WHERE unit = ?1"
+
+goods_is : (more : List Table) (indexes : List Index) → command_of (understood (nine_and more indexes) drop_goods) ≡ Delete 4 (record { lets = []; body = delete_query 5 (op2 (Compare Eq Binary) (col 1 1) (col 0 0) ∷ []) })
+unfolding understood everything
+goods_is more indexes = refl
+
+goods_plain : (more : List Table) (indexes : List Index) → IsPlain (understood (nine_and more indexes) drop_goods)
+unfolding understood everything
+goods_plain more indexes = (refl, refl)
+
+goods_inside : (old new : State) (unit : ℕ) (count : ℕ) → IsTrue old.in_transaction → ExecutesInside 0 drop_goods (int unit ∷ []) old new (Ok count) → Inside HasTables (Drops has_table 1 (int unit ∷ [])) old new
+goods_inside old new unit count inside ran = (
+  ran.1.mode ∙ sym inside,
+  λ has.
+      let schema = nine_and has.nine.tables has.nine.indexes in
+      let sound = sound_under old.now has in
+      let none = unlinked has.nine.tables has.nine.indexes 5 has.nine.free in
+      let k = int unit ∷ [] in
+      let db = old.now.trees in
+      let w = runs_as drop_goods k old new schema has.nine.is _ (goods_is has.nine.tables has.nine.indexes) (goods_plain has.nine.tables has.nine.indexes) count ran.0 in
+      let keyed = sound.keyed has_table (inr (inr (inr (inr (inl refl))))) in
+      let out = removes schema 5 _ _ _ _ _ _ 4 refl none old.step_limit k (statement_of drop_goods (understood schema drop_goods)) _ _ db _ keyed
+      (λ rows answers. found_by 5 _ db (overlay db []) k rows refl (answers.answer Null)) (did schema old new _ _ k count has.nine.is w) in
+      let makes = loses_make schema (nine_among has.nine.tables) has_table 1 _ k old.now new.now out.0 (λ x there. at_number (column x 1) unit (key_ints has.nine.tables has.nine.indexes db sound x there).one) sound w.sound out.1 in
+      done_with has_table old.now new.now has (inr (inr (inr (inr (inl refl))))) _ _ (λ did. did) makes,
+)
+
+pub drops_goods : (old new : State) (unit : ℕ) (count : ℕ) (params : Row) → IsTrue old.in_transaction → ExecutesInside 0 drop_goods params old new (Ok count) → params ≡ int unit ∷ []
+    → Inside HasTables (Drops has_table 1 (int unit ∷ [])) old new
+drops_goods old new unit count params inside h same = goods_inside old new unit count inside (subst (λ p. ExecutesInside 0 drop_goods p old new (Ok count)) same h)

@@ -28,7 +28,7 @@ use Rattle.atl_store.specs.PutsHead.{PutsHead}
 use Rattle.atl_store.proofs.ListLaws.{has_map, map_has}
 use Rattle.atl_store.proofs.UpsertLaws.{Upserted, hits, update_query, clause_on}
 use Rattle.atl_store.proofs.StatementLaws.{upserting}
-use Rattle.atl_store.proofs.CarryLaws.{unlinked, none_share, sound_under, altered, stays_there, carried}
+use Rattle.atl_store.proofs.CarryLaws.{nine_among, unlinked, none_share, sound_under, altered, stays_there, carried}
 use Rattle.atl_store.proofs.MakeLaws.{did, upserts_make, updates_make, upserts_sound, upserts_others, Tests}
 use Rattle.atl_store.proofs.Terms.{cast_null, cast_int, head_is, by_number, one_number}
 
@@ -76,9 +76,9 @@ puts_head old new head world count has ran =
     let made : with_rowid Chosen (old.now.trees 0) (cast_row campaign_table src) ≡ src = ap (with_rowid Chosen (old.now.trees 0)) casted in
     let are_ints : (x : Row) → Has (old.now.trees 0) x → is_int (rowid x) ≡ true = λ x there. all_has _ (old.now.trees 0) x keyed.ints there in
     let upserted = subst (λ k. Upserted schema campaign_table none old.step_limit v (0 ∷ []) 6 project (λ db. refl) k old.now.trees new.now.trees) made up.0 in
-    let tests : Tests schema campaign_table 1 (hits schema campaign_table none old.step_limit v (0 ∷ []) 6 project (λ db. refl) src) (int 1 ∷ []) (old.now.trees 0) = λ x there. by_number (rowid x) 1 _ (none_share campaign_table (Some (0 ∷ [])) src x has.nine.indexes (λ i there. has.nine.plain i there campaign_table (inl refl))) (are_ints x there) in
+    let tests : Tests schema (nine_among has.nine.tables) campaign_table 1 (hits schema campaign_table none old.step_limit v (0 ∷ []) 6 project (λ db. refl) src) (int 1 ∷ []) (old.now.trees 0) = λ x there. by_number (rowid x) 1 _ (none_share campaign_table (Some (0 ∷ [])) src x has.nine.indexes (λ i there. has.nine.plain i there campaign_table (inl refl))) (are_ints x there) in
     let first : rows_in campaign_table old.now.trees ≡ [] → Puts campaign_table 1 (head_row head world) old.now new.now = λ bare.
-    altered campaign_table old.now new.now has (inl refl) _ (upserts_make schema campaign_table 1 none old.step_limit v (0 ∷ []) 6 project (λ db. refl) src (head_row head world) old.now new.now upserted
+    altered campaign_table old.now new.now has (inl refl) _ (upserts_make schema (nine_among has.nine.tables) campaign_table 1 none old.step_limit v (0 ∷ []) 6 project (λ db. refl) src (head_row head world) old.now new.now upserted
     (ap (visible campaign_table) casted)
     (λ r there same. absurd (subst (λ l. Has l (visible campaign_table r)) bare (has_map (visible campaign_table) (old.now.trees 0) r there)))
     tests
@@ -86,7 +86,7 @@ puts_head old new head world count has ran =
     (inl refl) sound w.sound up.1) in
     let again : (before : Head) (text : List ℕ) → Is (rows_in campaign_table old.now.trees) (λ r. r ≡ head_row before text) → Puts campaign_table 1 (head_row head text) old.now new.now = λ before text is.
     let x = map_has (visible campaign_table) (old.now.trees 0) (head_row before text) ((is (head_row before text)).1 refl) in
-    altered campaign_table old.now new.now has (inl refl) _ (updates_make schema campaign_table 1 none old.step_limit v (0 ∷ []) 6 project (λ db. refl) src (head_row head text) old.now new.now upserted
+    altered campaign_table old.now new.now has (inl refl) _ (updates_make schema (nine_among has.nine.tables) campaign_table 1 none old.step_limit v (0 ∷ []) 6 project (λ db. refl) src (head_row head text) old.now new.now upserted
     x.0 x.1 (ap (take 1) (sym x.2))
     (λ r there same.
     let shows = (is (visible campaign_table r)).0 (has_map (visible campaign_table) (old.now.trees 0) r there) in
@@ -96,8 +96,8 @@ puts_head old new head world count has ran =
     (inl refl) sound w.sound up.1) in
     record {
       does = record { first = first; again = again };
-      tables = stays_there campaign_table old.now new.now has (inl refl) up.1 (upserts_sound schema campaign_table 1 none old.step_limit v (0 ∷ []) 6 project (λ db. refl) src v old.now new.now upserted sound w.sound up.1);
-      carries = carried campaign_table old.now new.now has (inl refl) up.1 (upserts_others schema campaign_table 1 none old.step_limit v (0 ∷ []) 6 project (λ db. refl) src v old.now new.now upserted);
+      tables = stays_there campaign_table old.now new.now has (inl refl) up.1 (upserts_sound schema (nine_among has.nine.tables) campaign_table 1 none old.step_limit v (0 ∷ []) 6 project (λ db. refl) src v old.now new.now upserted sound w.sound up.1);
+      carries = carried campaign_table old.now new.now has (inl refl) up.1 (upserts_others schema (nine_among has.nine.tables) campaign_table 1 none old.step_limit v (0 ∷ []) 6 project (λ db. refl) src v old.now new.now upserted);
     }
 
 -- the parameters are shown to be these

@@ -37,7 +37,7 @@ at_place (Good i) = item_at (2 + i) i (omega arith)
     item_at : (n i : ℕ) → n ≡ suc (suc i) → thing_at n ≡ Good i
     item_at n i is = ap thing_at is
 
-every_entry : (e : Entry) → Has all_entries e
+pub every_entry : (e : Entry) → Has all_entries e
 every_entry Founding = inl refl
 every_entry Joining = inr (inl refl)
 every_entry Income = inr (inr (inl refl))
@@ -76,6 +76,29 @@ amount_is c entry thing e t z entry_is thing_is amount some =
 pub two_same : (a b c d : ℕ) → ◌≡◌ {A = Row} (books_key a b) (books_key c d) → (a ≡ c) × (b ≡ d)
 two_same a b c d same = (cc, cc)
 
+-- ---- places that are there
+
+pub range_has : (from count i : ℕ) → Has (range_with_len from count) i → (from ≤ i) × (i < from + count)
+range_has from zero i there = absurd there
+range_has from (suc count) i (inl same) = (omega (arith, same), omega (arith, same))
+range_has from (suc count) i (inr later) = let h = range_has (from + 1) count i later in (omega (arith, h.0), omega (arith, h.1))
+
+pub has_range : (from count i : ℕ) → from ≤ i → i < from + count → Has (range_with_len from count) i
+has_range from zero i least most = absurd (omega (arith, least, most))
+has_range from (suc count) i least most = elim (cases_lt from i) [
+  | inl later ↦ inr (has_range (from + 1) count i (omega (arith, later)) (omega (arith, most)))
+  | inr here ↦ inl (omega (arith, least, here))
+]
+
+-- an amount that is not 0 has a place
+pub within : (books : List (List ℤ)) (e : Entry) (t : Thing) → amount_in books e t ≢ pos 0 → thing_place t < length books
+within books e t some = elim (cases_lt (thing_place t) (length books)) [
+  | inl inside ↦ inside
+  | inr past ↦ absurd (some (ap (λ (row : List ℤ). get_or row (entry_place e) (pos 0)) (get_or_past books (thing_place t) [] (omega (arith, past))) ∙ get_or_past [] (entry_place e) (pos 0) (omega arith)))
+]
+
+-- ---- the rows of all amounts
+
 module _ (c : State) where
   abbrev row_at : Entry → Thing → Row
   row_at e t = books_row (entry_place e + 1) (thing_place t) (amount_in c.books e t)
@@ -102,18 +125,6 @@ module _ (c : State) where
 
   -- ---- all things
 
-  range_has : (from count i : ℕ) → Has (range_with_len from count) i → (from ≤ i) × (i < from + count)
-  range_has from zero i there = absurd there
-  range_has from (suc count) i (inl same) = (omega (arith, same), omega (arith, same))
-  range_has from (suc count) i (inr later) = let h = range_has (from + 1) count i later in (omega (arith, h.0), omega (arith, h.1))
-
-  has_range : (from count i : ℕ) → from ≤ i → i < from + count → Has (range_with_len from count) i
-  has_range from zero i least most = absurd (omega (arith, least, most))
-  has_range from (suc count) i least most = elim (cases_lt from i) [
-    | inl later ↦ inr (has_range (from + 1) count i (omega (arith, later)) (omega (arith, most)))
-    | inr here ↦ inl (omega (arith, least, here))
-  ]
-
   things_apart : (from count : ℕ) → AreApart 2 (things_lines c (range_with_len from count))
   things_apart from zero = tt
   things_apart from (suc count) =
@@ -126,13 +137,6 @@ module _ (c : State) where
       let places : from ≡ found.0 = sym (place_at from) ∙ keys.1 ∙ place_at found.0 in
       absurd (omega (arith, places, (range_has (from + 1) count found.0 found.1).0)))
 
-  -- an amount that is not 0 has a place
-  within : (e : Entry) (t : Thing) → amount_in c.books e t ≢ pos 0 → thing_place t < length c.books
-  within e t some = elim (cases_lt (thing_place t) (length c.books)) [
-    | inl inside ↦ inside
-    | inr past ↦ absurd (some (ap (λ (row : List ℤ). get_or row (entry_place e) (pos 0)) (get_or_past c.books (thing_place t) [] (omega (arith, past))) ∙ get_or_past [] (entry_place e) (pos 0) (omega arith)))
-  ]
-
   pub books_filled : (rows old : List Row) → old ≡ [] → Is rows (puts 2 (things_lines c (range_with_len 0 (length c.books))) (Has old)) → Is rows (BooksRowsOf c.books)
   books_filled rows old none made r =
       let places = range_with_len 0 (length c.books) in
@@ -142,7 +146,7 @@ module _ (c : State) where
             let row = entries_has (thing_at found.0) all_entries r found.2 in
             (row.0, thing_at found.0, row.2, row.3),
         λ of.
-            let inside = has_range 0 (length c.books) (thing_place of.1) (omega arith) (omega (arith, within of.0 of.1 of.2)) in
+            let inside = has_range 0 (length c.books) (thing_place of.1) (omega arith) (omega (arith, within c.books of.0 of.1 of.2)) in
             let here : Has (entries_lines c (thing_at (thing_place of.1)) all_entries) (row_at of.0 of.1) = subst (λ t. Has (entries_lines c t all_entries) (row_at of.0 of.1)) (sym (at_place of.1)) (has_entries of.1 all_entries of.0 (every_entry of.0) of.2) in
             is.1 (subst (Has (things_lines c places)) (sym of.3) (has_flat (λ place. entries_lines c (thing_at place) all_entries) places (thing_place of.1) (row_at of.0 of.1) inside here)),
       )

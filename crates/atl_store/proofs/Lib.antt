@@ -1,13 +1,17 @@
+pub mod Made
 pub mod ListLaws
 pub mod EditLaws
 pub mod StatementLaws
 pub mod UpsertLaws
 pub mod MakeLaws
 pub mod CarryLaws
+pub mod ChangeLaws
 pub mod KeepLaws
 pub mod WriteLaws
 pub mod ReadLaws
 pub mod CreateLaws
+pub mod OwnLaws
+pub mod GatherLaws
 pub mod LoadLaws
 pub mod Terms
 pub mod MakingLaws
@@ -37,3 +41,7 @@ pub mod FillLaws
 pub mod ArriveLaws
 pub mod JoinLaws
 pub mod WorldTextLaws
+pub mod ConfirmLaws
+pub mod PartsLaws
+pub mod KeyedLaws
+pub mod LoadedLaws

@@ -30,7 +30,7 @@ use Rattle.sqlite_schema.specs.declared.schema.Index.{Index}
 use Rattle.atl_store.specs.Inside.{Inside, HasTables, Puts, Drops}
 use Rattle.atl_store.proofs.UpsertLaws.{Upserted, update_query, clause_on}
 use Rattle.atl_store.proofs.StatementLaws.{upserting, removes}
-use Rattle.atl_store.proofs.CarryLaws.{unlinked, none_share, sound_under, done_with}
+use Rattle.atl_store.proofs.CarryLaws.{nine_among, unlinked, none_share, sound_under, done_with}
 use Rattle.atl_store.proofs.MakeLaws.{did, upserts_make, loses_make}
 use Rattle.atl_store.proofs.EditLaws.{delete_query, found_by}
 use Rattle.atl_store.proofs.Terms.{cast_null, cast_int, head_is, by_number, one_number, at_number}
@@ -70,7 +70,7 @@ puts_inside old new faction text count inside ran = (
       let casted : cast_row mail_table src ≡ src = rw (cast_int (pos faction), cast_null) refl in
       let made : with_rowid Chosen (old.now.trees 8) (cast_row mail_table src) ≡ src = ap (with_rowid Chosen (old.now.trees 8)) casted in
       let are_ints : (x : Row) → Has (old.now.trees 8) x → is_int (rowid x) ≡ true = λ x there. all_has _ (old.now.trees 8) x keyed.ints there in
-      let makes = upserts_make schema mail_table 1 none old.step_limit v (0 ∷ []) 2 project (λ db. refl) src v old.now new.now
+      let makes = upserts_make schema (nine_among has.nine.tables) mail_table 1 none old.step_limit v (0 ∷ []) 2 project (λ db. refl) src v old.now new.now
       (subst (λ k. Upserted schema mail_table none old.step_limit v (0 ∷ []) 2 project (λ db. refl) k old.now.trees new.now.trees) made up.0)
       (ap (visible mail_table) casted)
       (λ r there same. rw (head_is _ _ _ _ same, cast_int (pos faction)) refl)
@@ -109,7 +109,7 @@ drops_inside old new faction count inside ran = (
       let keyed = sound.keyed mail_table (inr (inr (inr (inr (inr (inr (inl refl))))))) in
       let out = removes schema 8 _ _ _ _ _ _ 6 refl none old.step_limit k (statement_of drop_mail (understood schema drop_mail)) _ _ db _ keyed
       (λ rows answers. found_by 8 _ db (overlay db []) k rows refl (answers.answer Null)) (did schema old new _ _ k count has.nine.is w) in
-      let makes = loses_make schema mail_table 1 _ k old.now new.now out.0 (λ x there. at_number (rowid x) faction (all_has _ (db 8) x keyed.ints there)) sound w.sound out.1 in
+      let makes = loses_make schema (nine_among has.nine.tables) mail_table 1 _ k old.now new.now out.0 (λ x there. at_number (rowid x) faction (all_has _ (db 8) x keyed.ints there)) sound w.sound out.1 in
       done_with mail_table old.now new.now has (inr (inr (inr (inr (inr (inr (inl refl))))))) _ _ (λ did. did) makes,
 )
 

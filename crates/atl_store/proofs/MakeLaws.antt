@@ -18,7 +18,9 @@ use Rattle.sqlite_sql.specs.Program.{overlay}
 use Rattle.sqlite.specs.Effect.{Database, IsDatabase}
 use Rattle.sqlite.specs.State.{State, Writes}
 use Rattle.sqlite.specs.Does.{Does}
-use Rattle.atl_store.specs.Sets.{visible, rows_in, Is, put, drop_key, IsKeyed, IsSoundly, Makes}
+use Rattle.atl_store.specs.Sets.{visible, rows_in, Is, put, drop_key, IsKeyed}
+use Rattle.atl_store.specs.Tables.{all_tables, IsSoundly}
+use Rattle.atl_store.proofs.Made.{Makes}
 use Rattle.atl_store.proofs.ListLaws.{has_map, map_has, one_rowid}
 use Rattle.atl_store.proofs.EditLaws.{Swaps, Loses}
 use Rattle.atl_store.proofs.UpsertLaws.{hits, given, Upserted}
@@ -29,7 +31,7 @@ pub did : (schema : Schema) (old new : State) (command : Command) (text : List �
 did schema old new command text params count has w =
     subst (λ s. Does old.step_limit mode params (record old.now { schema = s }) text None command (Ok (w.tally, new.now))) has w.changed
 
-module _ (schema : Schema) (t : Table) (key : ℕ) where
+module _ (schema : Schema) (among : (u : Table) → Has all_tables u → Has schema.tables u) (t : Table) (key : ℕ) where
   shown_again : (rows : List Row) (r : Row) → Has (map (visible t) rows) r → (x : Row) × Has rows x × (r ≡ visible t x)
   shown_again rows r h = map_has (visible t) rows r h
 
@@ -80,7 +82,7 @@ module _ (schema : Schema) (t : Table) (key : ℕ) where
   stays_sound old new sound base is keyed others = record {
     keyed = λ u listed. elim (cases_Bool (eqb u.tree t.tree)) [
       | inl same ↦ let e : u.tree ≡ t.tree = grind (arith, nat_tests) in subst (λ n. IsKeyed (new.trees n)) (sym e) keyed
-      | inr apart ↦ let other : u.tree ≢ t.tree = λ e. grind (arith, nat_tests) in subst IsKeyed (sym (others u listed other)) (sound.keyed u listed)
+      | inr apart ↦ let other : u.tree ≢ t.tree = λ e. grind (arith, nat_tests) in subst IsKeyed (sym (others u (among u listed) other)) (sound.keyed u listed)
     ];
     listed = subst (λ s. IsSound s new.trees) is base;
   }
@@ -115,7 +117,7 @@ module _ (schema : Schema) (t : Table) (key : ℕ) where
     over_make : (r : Row) → Has (old.trees t.tree) r → hits schema t unlinked limit params target place project plain new r ≡ true
         → Swaps schema t (λ x. is_eq (value_cmp (rowid x) (rowid r))) (cast_row t (eval_all project (given schema t unlinked limit params target place project plain new r ∷ r ∷ []))) old.trees next.trees
         → Changes → Tests (hits schema t unlinked limit params target place project plain new) (take key v) (old.trees t.tree) → OneRow
-        → Has schema.tables t → IsSoundly schema old.trees → IsDatabase next → next.schema ≡ schema → Makes schema t old next (put key v (Has (rows_in t old.trees)))
+        → Has all_tables t → IsSoundly schema old.trees → IsDatabase next → next.schema ≡ schema → Makes schema t old next (put key v (Has (rows_in t old.trees)))
     over_make r there hit over changed tests alone listed sound base is =
         let same : take key (visible t r) ≡ take key v = (tests r there).0 hit in
         swaps_make _ _ v old next over (changed r there same) (λ x k. (
@@ -126,14 +128,14 @@ module _ (schema : Schema) (t : Table) (key : ℕ) where
     -- whether the row was put or the one that was there was changed
     pub upserts_make : Upserted schema t unlinked limit params target place project plain new old.trees next.trees → visible t (cast_row t new) ≡ v → Changes
         → Tests (hits schema t unlinked limit params target place project plain new) (take key v) (old.trees t.tree) → OneRow
-        → Has schema.tables t → IsSoundly schema old.trees → IsDatabase next → next.schema ≡ schema → Makes schema t old next (put key v (Has (rows_in t old.trees)))
+        → Has all_tables t → IsSoundly schema old.trees → IsDatabase next → next.schema ≡ schema → Makes schema t old next (put key v (Has (rows_in t old.trees)))
     upserts_make (inl put_in) shows changed tests alone listed sound base is = swaps_make _ _ v old next put_in.1 shows tests sound base is
     upserts_make (inr over) shows changed tests alone listed sound base is = over_make over.0 over.1 over.2 over.3 changed tests alone listed sound base is
 
     -- where a row with the key is there, only what the update writes counts
     pub updates_make : Upserted schema t unlinked limit params target place project plain new old.trees next.trees → (r : Row) → Has (old.trees t.tree) r → take key (visible t r) ≡ take key v → Changes
         → Tests (hits schema t unlinked limit params target place project plain new) (take key v) (old.trees t.tree) → OneRow
-        → Has schema.tables t → IsSoundly schema old.trees → IsDatabase next → next.schema ≡ schema → Makes schema t old next (put key v (Has (rows_in t old.trees)))
+        → Has all_tables t → IsSoundly schema old.trees → IsDatabase next → next.schema ≡ schema → Makes schema t old next (put key v (Has (rows_in t old.trees)))
     updates_make (inl put_in) r there same changed tests alone listed sound base is = absurd (true≢false (sym ((tests r there).1 same) ∙ put_in.0 r there))
     updates_make (inr over) r there same changed tests alone listed sound base is = over_make over.0 over.1 over.2 over.3 changed tests alone listed sound base is
 

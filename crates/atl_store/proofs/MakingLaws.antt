@@ -5,7 +5,8 @@ use Rattle.sqlite.specs.Table.{Table}
 use Rattle.sqlite.specs.State.{State}
 use Rattle.sqlite_rules.specs.Lists.{Has}
 use Rattle.sqlite_rules.proofs.ListLemmas.{has_either}
-use Rattle.atl_store.specs.Sets.{IsKeyed, Creates, visible}
+use Rattle.atl_store.specs.Sets.{IsKeyed, visible}
+use Rattle.atl_store.proofs.Made.{Creates}
 use Rattle.atl_store.specs.Tables.{first_tables}
 use Rattle.atl_store.specs.Inside.{Inside, IsBlank}
 use Rattle.atl_store.specs.Making.{Extends, AreEmpty}
@@ -47,7 +48,7 @@ makes_tables a b c d one two three =
             tables = record {
               nine = record { tables = []; indexes = []; is = made.0.schema_is; free = tt; plain = λ i none. absurd none };
               sound = record {
-                keyed = λ t listed. subst IsKeyed (sym (made.0.empty t (subst (λ (s : Schema). Has s.tables t) made.0.schema_is listed))) no_rows;
+                keyed = λ t listed. subst IsKeyed (sym (made.0.empty t listed)) no_rows;
                 listed = made.1;
               };
             };

@@ -1,5 +1,5 @@
 -- What the SELECTs mean where the schema begins with the nine tables: each shows all rows of its table, each once.
-use Rattle.std.proofs.Common.{◌≡◌, ℕ, false, List, [], ◌∷◌, codes, map, refl}
+use Rattle.std.proofs.Common.{◌≡◌, ℕ, false, List, [], ◌∷◌, codes, map, refl, sym, subst}
 use Rattle.std.specs.List.Sorted.{IsPermutation}
 use Rattle.sqlite_tied.specs.Compute.{everything}
 use Rattle.sqlite.specs.Command.TheVariants.{Select}
@@ -9,6 +9,7 @@ use Rattle.sqlite.specs.Collation.TheVariants.{Binary}
 use Rattle.sqlite.specs.Listing.{understood, reads_listing}
 use Rattle.sqlite.specs.Order.{Row}
 use Rattle.sqlite.specs.Program.{overlay}
+use Rattle.sqlite.specs.Schema.{Schema}
 use Rattle.sqlite.specs.Table.{Table}
 use Rattle.sqlite_schema.specs.declared.schema.Index.{Index}
 use Rattle.sqlite.specs.State.{State, Shown}
@@ -52,6 +53,10 @@ campaign_titles = codes "id" ∷ codes "format" ∷ codes "month" ∷ codes "nex
 campaign_all : IsAll all_campaign 0 campaign_columns campaign_order campaign_titles
 unfolding understood everything
 campaign_all = record { command = λ more indexes. refl; plain = λ more indexes. (refl, refl); unlisted = λ more indexes. refl }
+
+-- it is a query, which can commit nothing
+pub campaign_plain : (schema : Schema) → HasNine schema → IsPlain (understood schema all_campaign)
+campaign_plain schema has = subst (λ s. IsPlain (understood s all_campaign)) (sym has.is) (campaign_all.plain has.tables has.indexes)
 
 pub reads_campaign : (old new : State) (rows : List Row) → Shown all_campaign [] old new rows → HasNine old.now.schema → IsPermutation (rows_in campaign_table old.now.trees) (map (first_columns 8) rows)
 reads_campaign = reads_all all_campaign 0 campaign_columns campaign_order campaign_titles campaign_all (λ db. refl) 8 (λ r. refl)

@@ -30,7 +30,7 @@ use Rattle.sqlite_schema.specs.declared.schema.Index.{Index}
 use Rattle.atl_store.specs.Inside.{Inside, HasTables, Puts, Drops}
 use Rattle.atl_store.proofs.UpsertLaws.{Upserted, update_query, clause_on}
 use Rattle.atl_store.proofs.StatementLaws.{upserting, removes}
-use Rattle.atl_store.proofs.CarryLaws.{unlinked, none_share, sound_under, done_with}
+use Rattle.atl_store.proofs.CarryLaws.{nine_among, unlinked, none_share, sound_under, done_with}
 use Rattle.atl_store.proofs.MakeLaws.{did, upserts_make, loses_make}
 use Rattle.atl_store.proofs.EditLaws.{delete_query, found_by}
 use Rattle.atl_store.proofs.Terms.{cast_null, cast_int, head_is, by_number, one_number, at_number}
@@ -70,7 +70,7 @@ puts_inside old new number faction name region structure men money guard count i
       let casted : cast_row unit_table src ≡ src = rw (cast_int (pos number), cast_int (pos faction), cast_int (pos region), cast_int (pos structure), cast_int (pos men), cast_int (pos money), cast_int (if guard then pos 1 else pos 0), cast_null) refl in
       let made : with_rowid Chosen (old.now.trees 4) (cast_row unit_table src) ≡ src = ap (with_rowid Chosen (old.now.trees 4)) casted in
       let are_ints : (x : Row) → Has (old.now.trees 4) x → is_int (rowid x) ≡ true = λ x there. all_has _ (old.now.trees 4) x keyed.ints there in
-      let makes = upserts_make schema unit_table 1 none old.step_limit v (0 ∷ []) 8 project (λ db. refl) src v old.now new.now
+      let makes = upserts_make schema (nine_among has.nine.tables) unit_table 1 none old.step_limit v (0 ∷ []) 8 project (λ db. refl) src v old.now new.now
       (subst (λ k. Upserted schema unit_table none old.step_limit v (0 ∷ []) 8 project (λ db. refl) k old.now.trees new.now.trees) made up.0)
       (ap (visible unit_table) casted)
       (λ r there same. rw (head_is _ _ _ _ same, cast_int (pos number), cast_int (pos faction), cast_int (pos region), cast_int (pos structure), cast_int (pos men), cast_int (pos money), cast_int (if guard then pos 1 else pos 0)) refl)
@@ -109,7 +109,7 @@ drops_inside old new number count inside ran = (
       let keyed = sound.keyed unit_table (inr (inr (inr (inl refl)))) in
       let out = removes schema 4 _ _ _ _ _ _ 3 refl none old.step_limit k (statement_of drop_unit (understood schema drop_unit)) _ _ db _ keyed
       (λ rows answers. found_by 4 _ db (overlay db []) k rows refl (answers.answer Null)) (did schema old new _ _ k count has.nine.is w) in
-      let makes = loses_make schema unit_table 1 _ k old.now new.now out.0 (λ x there. at_number (rowid x) number (all_has _ (db 4) x keyed.ints there)) sound w.sound out.1 in
+      let makes = loses_make schema (nine_among has.nine.tables) unit_table 1 _ k old.now new.now out.0 (λ x there. at_number (rowid x) number (all_has _ (db 4) x keyed.ints there)) sound w.sound out.1 in
       done_with unit_table old.now new.now has (inr (inr (inr (inl refl)))) _ _ (λ did. did) makes,
 )
 

@@ -1,8 +1,12 @@
 -- What becomes of an error of the database: want of memory is Memory, all else Store.
-use Rattle.std.specs.Prelude.{Bool, true, false, if◌then◌else◌}
+use Rattle.std.specs.Prelude.{ℕ, Option, Some, None, Bool, true, false, if◌then◌else◌}
 use Rattle.sqlite.specs.declared.error.Error.{Error}
 use Rattle.sqlite.specs.declared.error.Error.TheVariants.{SqliteFailure}
 use Rattle.sqlite.specs.declared.error.ErrorCode.TheVariants as code
+use Rattle.atl_state.specs.declared.check.CheckFault.{CheckFault}
+use Rattle.atl_state.specs.declared.check.CheckFault.TheVariants as check
+use Rattle.atl_store.specs.declared.fault.StoreFault.{StoreFault}
+use Rattle.atl_store.specs.declared.fault.StoreFault.TheVariants as store
 use Rattle.atl_store.specs.declared.fault.WriteFault.{WriteFault}
 use Rattle.atl_store.specs.declared.fault.WriteFault.TheVariants as write
 use Rattle.atl_store.specs.declared.fault.CreateFault.{CreateFault}
@@ -26,6 +30,20 @@ is_failure _ = false
 
 abbrev pub write_fault : Error → WriteFault
 write_fault e = if is_memory e then write.Memory else write.Store
+
+abbrev pub store_fault : Error → StoreFault
+store_fault e = if is_memory e then store.Memory else store.Store
+
+-- of rows that are no campaign's
+abbrev pub judged_fault : CheckFault → StoreFault
+judged_fault (check.Damaged rule) = store.Damaged rule
+judged_fault check.Memory = store.Memory
+
+abbrev pub fault_number : StoreFault → Option ℕ
+fault_number store.Store = Some 1
+fault_number (store.Damaged rule) = Some 2
+fault_number store.NotACampaign = Some 3
+fault_number store.Memory = None
 
 abbrev pub create_fault : Error → CreateFault
 create_fault e = if is_memory e then create.Memory else create.Store

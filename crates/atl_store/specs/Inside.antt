@@ -7,8 +7,8 @@ use Rattle.sqlite_rules.specs.Lists.{Has}
 use Rattle.sqlite.specs.Effect.{Database}
 use Rattle.sqlite.specs.State.{State}
 use Rattle.sqlite_trees.specs.Tree.{Trees}
-use Rattle.atl_store.specs.Sets.{Set, IsSoundly, Is, rows_in, put, puts, drop_key}
-use Rattle.atl_store.specs.Tables.{no_tables, all_tables, nine_trees, HasNine}
+use Rattle.atl_store.specs.Sets.{Set, Is, rows_in, put, puts, drop_key}
+use Rattle.atl_store.specs.Tables.{no_tables, all_tables, nine_trees, HasNine, IsSoundly}
 
 -- the database begins with the nine tables
 pub record HasTables (db : Database) : Type 0 where

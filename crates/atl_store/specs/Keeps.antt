@@ -10,8 +10,7 @@ use Rattle.atl_tables.specs.Planet.{Planet}
 use Rattle.atl_state.specs.State.{State as Campaign, with_report}
 use Rattle.atl_state.specs.Joining.{joined}
 use Rattle.atl_state.specs.Good.{IsGood}
-use Rattle.atl_store.specs.Sets.{IsSoundly}
-use Rattle.atl_store.specs.Tables.{HasNine}
+use Rattle.atl_store.specs.Tables.{HasNine, IsSoundly}
 use Rattle.atl_store.specs.Inside.{HasTables, Carries}
 use Rattle.atl_store.specs.Making.{has_campaign}
 use Rattle.atl_store.specs.Rows.{Holds}

@@ -15,5 +15,8 @@ pub mod Rows
 pub mod Lines
 pub mod Filling
 pub mod Keeps
+pub mod Loading
+pub mod Gathering
 pub mod Arriving
+pub mod Changing
 pub mod WorldText

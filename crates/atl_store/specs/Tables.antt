@@ -14,7 +14,9 @@ use Rattle.sqlite_sql.specs.declared.ops.BinaryOp.TheVariants.{Compare}
 use Rattle.sqlite_sql.specs.declared.ops.CompareOp.TheVariants.{Eq}
 use Rattle.sqlite_schema.specs.Rules.{guards}
 use Rattle.sqlite_rules.specs.Lists.{Has}
-use Rattle.atl_store.specs.Sets.{field, table}
+use Rattle.sqlite_catalog.specs.Listing.{IsSound}
+use Rattle.sqlite_trees.specs.Tree.{Trees}
+use Rattle.atl_store.specs.Sets.{field, table, IsKeyed}
 
 abbrev pub number : List ℕ → Column
 number name = field name Integer
@@ -103,3 +105,8 @@ pub record HasNine (schema : Schema) : Type 0 where
 -- the trees of the nine tables
 abbrev pub nine_trees : List ℕ
 nine_trees = map (λ t. t.tree) all_tables
+
+-- The trees list the schema and obey it, and the rowids of each of the nine tables are integers that differ.
+pub record IsSoundly (schema : Schema) (db : Trees) : Type 0 where
+  pub keyed : (table : Table) → Has all_tables table → IsKeyed (db table.tree)
+  pub listed : IsSound schema db

@@ -1,7 +1,8 @@
 //! Why the store gives up.
 ghost use Rattle.std.specs.Prelude.{◌≡◌};
-ghost use Rattle.atl_store.specs.Faults.{read_fault, value_fault, write_fault, create_fault};
+ghost use Rattle.atl_store.specs.Faults.{read_fault, value_fault, write_fault, create_fault, store_fault, judged_fault, fault_number};
 
+use atl_state::check::{CheckFault, Rule};
 use sqlite::{Error, ErrorCode};
 use std::alloc::{AllocError, AllocFailed};
 
@@ -36,6 +37,19 @@ pub enum ReadFault {
     Memory,
     /// A value is of another type than its column, or is a text that is not UTF-8 where it has to be.
     OtherType,
+}
+
+/// Why no campaign is loaded. The database is as it was.
+#[derive(Drop, Clone, Copy, Debug, PartialEq, Eq)]
+pub enum StoreFault {
+    /// The database refuses for another cause than memory, or its tables are not made as those of a campaign.
+    Store,
+    /// The rows of the tables break this rule, and none before it.
+    Damaged(Rule),
+    /// There is no table `campaign`, or it lacks a column.
+    NotACampaign,
+    /// There is no memory for it.
+    Memory,
 }
 
 impl From<Error> for WriteFault {
@@ -96,6 +110,52 @@ impl<T: Drop> From<AllocFailed<T>> for ReadFault {
 
     fn from(_e: AllocFailed<T>) -> ReadFault {
         ReadFault::Memory
+    }
+}
+
+impl From<Error> for StoreFault {
+    ghost from_gives = { λ error fault. fault ≡ store_fault error };
+
+    fn from(error: Error) -> StoreFault {
+        match error {
+            Error::SqliteFailure(ErrorCode::OutOfMemory) => StoreFault::Memory,
+            _ => StoreFault::Store,
+        }
+    }
+}
+
+impl From<AllocError> for StoreFault {
+    ghost use Rattle.atl_store.specs.declared.fault.StoreFault.TheVariants.{Memory};
+
+    ghost from_gives = { λ _ fault. fault ≡ Memory };
+
+    fn from(_e: AllocError) -> StoreFault {
+        StoreFault::Memory
+    }
+}
+
+impl From<CheckFault> for StoreFault {
+    ghost from_gives = { λ fault told. told ≡ judged_fault fault };
+
+    fn from(fault: CheckFault) -> StoreFault {
+        match fault {
+            CheckFault::Damaged(rule) => StoreFault::Damaged(rule),
+            CheckFault::Memory => StoreFault::Memory,
+        }
+    }
+}
+
+impl StoreFault {
+    /// The fault's number, from 1; `Memory` has none.
+    pub fn number(self) -> Option<u8>
+        ensures { result ≡ fault_number self }
+    {
+        match self {
+            StoreFault::Store => Some(1),
+            StoreFault::Damaged(_) => Some(2),
+            StoreFault::NotACampaign => Some(3),
+            StoreFault::Memory => None,
+        }
     }
 }
 

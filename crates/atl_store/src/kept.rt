@@ -1,19 +1,19 @@
 //! The parts of a campaign that stand in a table of their own, each under its number.
-ghost use Rattle.std.specs.Prelude.{ℕ};
+ghost use Rattle.std.specs.Prelude.{ℕ, [], ◌∷◌};
 ghost use Rattle.sqlite.specs.Order.{Row as SqlRow};
 ghost use Rattle.sqlite.specs.Table.{Table};
 ghost use Rattle.atl_store.specs.Tables.{faction_table, region_table, unit_table, structure_table, mail_table, report_table};
-ghost use Rattle.atl_store.specs.Shown.{mail_row, report_row};
+ghost use Rattle.atl_store.specs.Shown.{int, mail_row, report_row};
 ghost use Rattle.atl_store.specs.Rows.{faction_line, region_line, unit_line, structure_line, lines_of};
 ghost use Rattle.atl_store.specs.Writes.{Writes};
-ghost use Rattle.atl_store.specs.Inside.{Inside, HasTables, Puts, PutsRows};
+ghost use Rattle.atl_store.specs.Inside.{Inside, HasTables, Puts, PutsRows, Drops};
 
-use crate::rows::faction::{FactionRow, put_faction};
-use crate::rows::mail::{MailRow, put_mail};
-use crate::rows::region::{RegionRow, put_region};
-use crate::rows::report::{ReportRow, put_report};
-use crate::rows::structure::{StructureRow, put_structure};
-use crate::rows::unit::{UnitRow, put_unit};
+use crate::rows::faction::{FactionRow, drop_faction, put_faction};
+use crate::rows::mail::{MailRow, drop_mail, put_mail};
+use crate::rows::region::{RegionRow, drop_region, put_region};
+use crate::rows::report::{ReportRow, drop_report, put_report};
+use crate::rows::structure::{StructureRow, drop_structure, put_structure};
+use crate::rows::unit::{UnitRow, drop_unit, put_unit};
 use atl_state::{Faction, Region, Structure, Unit};
 use atl_tables::{Entries, Sequence, Text};
 use sqlite::{Alter, Error, Transaction};
@@ -27,6 +27,10 @@ pub(crate) trait Kept: Sized {
     /// Inserts its row, or changes the one that has the number.
     fn put<S: Alter>(&self, tx: &mut Transaction<'_, S>, number: u32) -> Result<(), Error>
         ensures { Writes S.Store (Inside HasTables (Puts table 1 (line number self.now))) result tx.old.conn tx.new.conn };
+
+    /// Deletes the row that has the number, where there is one.
+    fn take_out<S: Alter>(tx: &mut Transaction<'_, S>, number: u32) -> Result<(), Error>
+        ensures { Writes S.Store (Inside HasTables (Drops table 1 (int number ∷ []))) result tx.old.conn tx.new.conn };
 }
 
 impl Kept for Faction {
@@ -44,6 +48,10 @@ impl Kept for Faction {
         };
         put_faction(tx, &row)
     }
+
+    fn take_out<S: Alter>(tx: &mut Transaction<'_, S>, number: u32) -> Result<(), Error> {
+        drop_faction(tx, number)
+    }
 }
 
 impl Kept for Region {
@@ -58,6 +66,10 @@ impl Kept for Region {
             money: self.money,
         };
         put_region(tx, &row)
+    }
+
+    fn take_out<S: Alter>(tx: &mut Transaction<'_, S>, number: u32) -> Result<(), Error> {
+        drop_region(tx, number)
     }
 }
 
@@ -79,6 +91,10 @@ impl Kept for Unit {
         };
         put_unit(tx, &row)
     }
+
+    fn take_out<S: Alter>(tx: &mut Transaction<'_, S>, number: u32) -> Result<(), Error> {
+        drop_unit(tx, number)
+    }
 }
 
 impl Kept for Structure {
@@ -97,6 +113,10 @@ impl Kept for Structure {
         };
         put_structure(tx, &row)
     }
+
+    fn take_out<S: Alter>(tx: &mut Transaction<'_, S>, number: u32) -> Result<(), Error> {
+        drop_structure(tx, number)
+    }
 }
 
 /// The mail of a faction.
@@ -112,6 +132,10 @@ impl Kept for Sequence<u8> {
         };
         put_mail(tx, &row)
     }
+
+    fn take_out<S: Alter>(tx: &mut Transaction<'_, S>, number: u32) -> Result<(), Error> {
+        drop_mail(tx, number)
+    }
 }
 
 /// The report of a faction.
@@ -126,6 +150,10 @@ impl Kept for Text {
             text: self.as_str(),
         };
         put_report(tx, &row)
+    }
+
+    fn take_out<S: Alter>(tx: &mut Transaction<'_, S>, number: u32) -> Result<(), Error> {
+        drop_report(tx, number)
     }
 }
 

@@ -9,13 +9,15 @@ mod head;
 mod joining;
 mod kept;
 mod ledger;
+mod loading;
 mod mailing;
 pub mod rows;
 pub mod schema;
 mod statement;
 pub mod tables;
 
-pub use fault::{CreateFault, ReadFault, WriteFault};
+pub use fault::{CreateFault, ReadFault, StoreFault, WriteFault};
 pub use founding::create;
 pub use joining::write_join;
+pub use loading::load;
 pub use mailing::write_mail;

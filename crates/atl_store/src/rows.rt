@@ -11,3 +11,5 @@ pub mod report;
 mod stored;
 pub mod structure;
 pub mod unit;
+
+pub use stored::Placed;

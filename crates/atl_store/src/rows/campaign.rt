@@ -67,6 +67,16 @@ impl Drop for StoredCampaign {
     }
 }
 
+impl StoredCampaign {
+    /// The row but for its world text.
+    pub(crate) fn into_head(self) -> StoredHead
+        ensures { result ≡ self.head }
+    {
+        let StoredCampaign { head, world: _ } = self;
+        head
+    }
+}
+
 /// The row but for its world text.
 fn head(alloc: Global, row: &Row) -> Result<StoredHead, Error>
     ensures ok { IfOk result (λ head. head_stored head ≡ first_columns 7 row.now) }

@@ -1,9 +1,10 @@
 //! The table of factions.
-ghost use Rattle.std.specs.Prelude.{◌≡◌, false};
+ghost use Rattle.std.specs.Prelude.{◌≡◌, false, [], ◌∷◌};
 ghost use Rattle.atl_store.specs.Tables.{faction_table};
+ghost use Rattle.atl_store.specs.Shown.{int};
 ghost use Rattle.atl_store.specs.Written.{faction_shown};
 ghost use Rattle.atl_store.specs.Writes.{Writes};
-ghost use Rattle.atl_store.specs.Inside.{Inside, HasTables, Puts};
+ghost use Rattle.atl_store.specs.Inside.{Inside, HasTables, Puts, Drops};
 ghost use Rattle.atl_store.specs.Selects.{all_factions};
 ghost use Rattle.atl_store.specs.StoredRows.{faction_stored, faction_forms};
 ghost use Rattle.atl_store.specs.Sets.{rows_in};
@@ -44,6 +45,13 @@ pub(crate) fn put_faction<S: Alter>(
         "INSERT INTO faction (number, joined_as, name, pass, gone) VALUES (?1, ?2, ?3, ?4, ?5) ON CONFLICT (number) DO UPDATE SET joined_as = ?2, name = ?3, pass = ?4, gone = ?5",
         params![row.number, row.joined_as, row.name, row.pass, row.gone],
     )
+}
+
+/// Deletes the row of this number, where there is one.
+pub(crate) fn drop_faction<S: Alter>(tx: &mut Transaction<'_, S>, number: u32) -> Result<(), Error>
+    ensures { Writes S.Store (Inside HasTables (Drops faction_table 1 (int number ∷ []))) result tx.old.conn tx.new.conn }
+{
+    run(tx, "DELETE FROM faction WHERE number = ?1", params![number])
 }
 
 impl Stored for StoredFaction {

@@ -1,7 +1,7 @@
 //! The table of what units have: an amount of an item, or days of a skill.
-ghost use Rattle.std.specs.Prelude.{◌≡◌, false};
+ghost use Rattle.std.specs.Prelude.{◌≡◌, false, [], ◌∷◌};
 ghost use Rattle.atl_store.specs.Tables.{has_table};
-ghost use Rattle.atl_store.specs.Shown.{has_key};
+ghost use Rattle.atl_store.specs.Shown.{int, has_key};
 ghost use Rattle.atl_store.specs.Written.{has_shown, sort_number};
 ghost use Rattle.atl_store.specs.Writes.{Writes};
 ghost use Rattle.atl_store.specs.Inside.{Inside, HasTables, Puts, Drops};
@@ -76,6 +76,13 @@ pub(crate) fn drop_has<S: Alter>(
         "DELETE FROM has WHERE unit = ?1 AND sort = ?2 AND thing = ?3",
         params![unit, number, thing],
     )
+}
+
+/// Deletes all rows of this unit.
+pub(crate) fn drop_goods<S: Alter>(tx: &mut Transaction<'_, S>, unit: u32) -> Result<(), Error>
+    ensures { Writes S.Store (Inside HasTables (Drops has_table 1 (int unit ∷ []))) result tx.old.conn tx.new.conn }
+{
+    run(tx, "DELETE FROM has WHERE unit = ?1", params![unit])
 }
 
 impl Stored for Placed<StoredHas> {

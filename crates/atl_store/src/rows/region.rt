@@ -1,9 +1,10 @@
 //! The table of regions.
-ghost use Rattle.std.specs.Prelude.{◌≡◌, false};
+ghost use Rattle.std.specs.Prelude.{◌≡◌, false, [], ◌∷◌};
 ghost use Rattle.atl_store.specs.Tables.{region_table};
+ghost use Rattle.atl_store.specs.Shown.{int};
 ghost use Rattle.atl_store.specs.Written.{region_shown};
 ghost use Rattle.atl_store.specs.Writes.{Writes};
-ghost use Rattle.atl_store.specs.Inside.{Inside, HasTables, Puts};
+ghost use Rattle.atl_store.specs.Inside.{Inside, HasTables, Puts, Drops};
 ghost use Rattle.atl_store.specs.Selects.{all_regions};
 ghost use Rattle.atl_store.specs.StoredRows.{region_stored, region_forms};
 ghost use Rattle.atl_store.specs.Sets.{rows_in};
@@ -40,6 +41,13 @@ pub(crate) fn put_region<S: Alter>(
         "INSERT INTO region (number, peasants, money) VALUES (?1, ?2, ?3) ON CONFLICT (number) DO UPDATE SET peasants = ?2, money = ?3",
         params![row.number, row.peasants, row.money],
     )
+}
+
+/// Deletes the row of this number, where there is one.
+pub(crate) fn drop_region<S: Alter>(tx: &mut Transaction<'_, S>, number: u32) -> Result<(), Error>
+    ensures { Writes S.Store (Inside HasTables (Drops region_table 1 (int number ∷ []))) result tx.old.conn tx.new.conn }
+{
+    run(tx, "DELETE FROM region WHERE number = ?1", params![number])
 }
 
 impl Stored for StoredRegion {

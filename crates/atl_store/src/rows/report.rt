@@ -1,9 +1,10 @@
 //! The table of reports.
-ghost use Rattle.std.specs.Prelude.{◌≡◌, false};
+ghost use Rattle.std.specs.Prelude.{◌≡◌, false, [], ◌∷◌};
 ghost use Rattle.atl_store.specs.Tables.{report_table};
+ghost use Rattle.atl_store.specs.Shown.{int};
 ghost use Rattle.atl_store.specs.Written.{report_shown};
 ghost use Rattle.atl_store.specs.Writes.{Writes};
-ghost use Rattle.atl_store.specs.Inside.{Inside, HasTables, Puts};
+ghost use Rattle.atl_store.specs.Inside.{Inside, HasTables, Puts, Drops};
 ghost use Rattle.atl_store.specs.Selects.{all_reports};
 ghost use Rattle.atl_store.specs.StoredRows.{report_stored, report_forms};
 ghost use Rattle.atl_store.specs.Sets.{rows_in};
@@ -38,6 +39,17 @@ pub(crate) fn put_report<S: Alter>(
         tx,
         "INSERT INTO report (faction, text) VALUES (?1, ?2) ON CONFLICT (faction) DO UPDATE SET text = ?2",
         params![row.faction, row.text],
+    )
+}
+
+/// Deletes the row of this faction, where there is one.
+pub(crate) fn drop_report<S: Alter>(tx: &mut Transaction<'_, S>, faction: u32) -> Result<(), Error>
+    ensures { Writes S.Store (Inside HasTables (Drops report_table 1 (int faction ∷ []))) result tx.old.conn tx.new.conn }
+{
+    run(
+        tx,
+        "DELETE FROM report WHERE faction = ?1",
+        params![faction],
     )
 }
 

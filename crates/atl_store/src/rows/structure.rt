@@ -1,9 +1,10 @@
 //! The table of structures.
-ghost use Rattle.std.specs.Prelude.{◌≡◌, false};
+ghost use Rattle.std.specs.Prelude.{◌≡◌, false, [], ◌∷◌};
 ghost use Rattle.atl_store.specs.Tables.{structure_table};
+ghost use Rattle.atl_store.specs.Shown.{int};
 ghost use Rattle.atl_store.specs.Written.{structure_shown};
 ghost use Rattle.atl_store.specs.Writes.{Writes};
-ghost use Rattle.atl_store.specs.Inside.{Inside, HasTables, Puts};
+ghost use Rattle.atl_store.specs.Inside.{Inside, HasTables, Puts, Drops};
 ghost use Rattle.atl_store.specs.Selects.{all_structures};
 ghost use Rattle.atl_store.specs.StoredRows.{structure_stored, structure_forms};
 ghost use Rattle.atl_store.specs.Sets.{rows_in};
@@ -47,6 +48,20 @@ pub(crate) fn put_structure<S: Alter>(
         params![
             row.number, row.kind, row.name, row.region, row.done, row.owner
         ],
+    )
+}
+
+/// Deletes the row of this number, where there is one.
+pub(crate) fn drop_structure<S: Alter>(
+    tx: &mut Transaction<'_, S>,
+    number: u32,
+) -> Result<(), Error>
+    ensures { Writes S.Store (Inside HasTables (Drops structure_table 1 (int number ∷ []))) result tx.old.conn tx.new.conn }
+{
+    run(
+        tx,
+        "DELETE FROM structure WHERE number = ?1",
+        params![number],
     )
 }
 

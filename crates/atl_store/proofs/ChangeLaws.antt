@@ -1,0 +1,141 @@
+-- Tables that held a campaign hold the one that came of it, once what is marked is written.
+use Rattle.std.proofs.Common.{◌≡◌, ◌≢◌, ◌+◌, ℕ, ℤ, Bool, true, false, List, Option, Some, None, refl, sym, ap, subst, ◌∙◌}
+use Rattle.std.specs.Prelude.{option_map}
+use Rattle.std.specs.Ordering.{nat_cmp}
+use Rattle.std.specs.FinMap.{FinMap, get, empty, get-empty}
+use Rattle.std.specs.FinSet.{FinSet, contains}
+use Rattle.sqlite.specs.Effect.{Database}
+use Rattle.sqlite.specs.Order.{Row}
+use Rattle.sqlite_rules.specs.Lists.{Has}
+use Rattle.atl_state.specs.Covers.{SameBut, bare, goods_under, own_row}
+use Rattle.atl_state.specs.Books.{amount_in, entry_place, thing_place}
+use Rattle.atl_state.specs.Marks.{amount_number}
+use Rattle.atl_state.specs.State.{State, Marked}
+use Rattle.atl_state.specs.declared.books.Entry.{Entry}
+use Rattle.atl_state.specs.declared.books.Entry.TheVariants.{Founding, Joining, Income, Wages, Recruiting, Study, Upkeep, Lost, Births, Starved, Left, Made, Used}
+use Rattle.atl_state.specs.declared.books.Thing.{Thing}
+use Rattle.atl_state.specs.declared.records.Unit.{Unit}
+use Rattle.atl_store.specs.declared.rows.has.Sort.{Sort}
+use Rattle.atl_store.specs.declared.rows.has.Sort.TheVariants.{Item, Skill}
+use Rattle.atl_store.specs.Sets.{Is, rows_in}
+use Rattle.atl_store.specs.Tables.{campaign_table}
+use Rattle.atl_store.specs.Shown.{head_row, mail_row, report_row, books_row}
+use Rattle.atl_store.specs.Rows.{RowsOf, HasRowsOf, BooksRowsOf, head_of, campaign_line, faction_line, region_line, unit_line, structure_line, things_of}
+use Rattle.atl_store.specs.Changing.{begins_marked, amount_marked, Chosen, rewritten, RewritesHead, WritesMarked, WritesChanges}
+
+-- ---- a table whose unmarked rows are the same in both campaigns
+
+pub held_by : (is_marked : Row → Bool) (Before After : Row → Type 0) (old new : List Row) → ((r : Row) → is_marked r ≡ false → Before r → After r) → ((r : Row) → is_marked r ≡ false → After r → Before r)
+    → Is old Before → Is new (rewritten is_marked After (Has old)) → Is new After
+held_by is_marked Before After old new ahead back was now r = (λ there. from (is_marked r) refl ((now r).0 there), λ of. (now r).1 (to (is_marked r) refl of))
+  where
+    from : (b : Bool) → is_marked r ≡ b → Chosen b (After r) (Has old r) → After r
+    from true is h = h
+    from false is h = ahead r is ((was r).0 h)
+
+    to : (b : Bool) → is_marked r ≡ b → After r → Chosen b (After r) (Has old r)
+    to true is of = of
+    to false is of = (was r).1 (back r is of)
+
+-- ---- one row for each number
+
+module _ {V : Type 0} (line : ℕ → V → Row) (marks : FinSet nat_cmp) (heads : (n : ℕ) (v : V) → begins_marked marks (line n v) ≡ contains marks n) where
+  -- what has a row under a number that is not marked has the same row in the other map
+  abbrev pub Follows : FinMap nat_cmp V → FinMap nat_cmp V → Type 0
+  Follows one other = (n : ℕ) (v : V) → contains marks n ≡ false → get one n ≡ Some v → (w : V) × (get other n ≡ Some w) × (line n w ≡ line n v)
+
+  unmarked : (n : ℕ) (v : V) (r : Row) → r ≡ line n v → begins_marked marks r ≡ false → contains marks n ≡ false
+  unmarked n v r is not_marked = sym (heads n v) ∙ ap (begins_marked marks) (sym is) ∙ not_marked
+
+  follow : (one other : FinMap nat_cmp V) (r : Row) → begins_marked marks r ≡ false → Follows one other → RowsOf line one r → RowsOf line other r
+  follow one other r not_marked follows of = let found = follows of.0 of.1 (unmarked of.0 of.1 r of.3 not_marked) of.2 in (of.0, found.0, found.1, of.3 ∙ sym found.2)
+
+  pub holds_numbered : (before after : FinMap nat_cmp V) (old new : List Row) → Follows before after → Follows after before → Is old (RowsOf line before) → Is new (rewritten (begins_marked marks) (RowsOf line after) (Has old)) → Is new (RowsOf line after)
+  holds_numbered before after old new ahead back = held_by (begins_marked marks) (RowsOf line before) (RowsOf line after) old new (λ r is. follow before after r is ahead) (λ r is. follow after before r is back)
+
+  pub same_follows : (before after : FinMap nat_cmp V) → SameBut marks before after → Follows before after
+  same_follows before after same n v not_marked there = (v, same n not_marked ∙ there, refl)
+
+  pub same_followed : (before after : FinMap nat_cmp V) → SameBut marks before after → Follows after before
+  same_followed before after same n v not_marked there = (v, sym (same n not_marked) ∙ there, refl)
+
+-- ---- units, whose goods stand elsewhere
+
+bare_same : (n : ℕ) (o p : Option Unit) (v : Unit) → option_map bare p ≡ option_map bare o → o ≡ Some v → (w : Unit) × (p ≡ Some w) × (unit_line n w ≡ unit_line n v)
+bare_same n o None v same there = absurd (let e = same ∙ ap (option_map bare) there in cc)
+bare_same n o (Some w) v same there = (w, refl, let e : bare w ≡ bare v = (let s = same ∙ ap (option_map bare) there in cc) in ap (unit_line n) e)
+
+-- ---- goods
+
+abbrev things_in : Sort → FinMap nat_cmp ℕ × FinMap nat_cmp ℕ → FinMap nat_cmp ℕ
+things_in Item goods = goods.0
+things_in Skill goods = goods.1
+
+of_unit : (sort : Sort) (u : Unit) → things_in sort (goods_under (Some u)) ≡ things_of sort u.holding
+of_unit Item u = refl
+of_unit Skill u = refl
+
+of_none : (sort : Sort) (thing amount : ℕ) (P : Type 0) → get (things_in sort (goods_under None)) thing ≡ Some amount → P
+of_none Item thing amount P there = absurd (let e = sym (get-empty {X = ℕ} nat_cmp thing) ∙ there in cc)
+of_none Skill thing amount P there = absurd (let e = sym (get-empty {X = ℕ} nat_cmp thing) ∙ there in cc)
+
+pub goods_same : (o p : Option Unit) (v : Unit) (sort : Sort) (thing amount : ℕ) → goods_under p ≡ goods_under o → o ≡ Some v → get (things_of sort v.holding) thing ≡ Some amount → (w : Unit) × (p ≡ Some w) × (get (things_of sort w.holding) thing ≡ Some amount)
+goods_same o None v sort thing amount same there has = of_none sort thing amount _ (ap (λ goods. get (things_in sort goods) thing) (same ∙ ap goods_under there) ∙ ap (λ things. get things thing) (of_unit sort v) ∙ has)
+goods_same o (Some w) v sort thing amount same there has =
+    (w, refl, ap (λ things. get things thing) (sym (of_unit sort w)) ∙ ap (λ goods. get (things_in sort goods) thing) (same ∙ ap goods_under there) ∙ ap (λ things. get things thing) (of_unit sort v) ∙ has)
+
+goods_follow : (one other : FinMap nat_cmp Unit) (marks : FinSet nat_cmp) (r : Row) → ((n : ℕ) → contains marks n ≡ false → goods_under (get other n) ≡ goods_under (get one n)) → begins_marked marks r ≡ false → HasRowsOf one r → HasRowsOf other r
+goods_follow one other marks r same not_marked of =
+    let found = goods_same (get one of.0) (get other of.0) of.1 of.3 of.4 of.5 (same of.0 (ap (begins_marked marks) (sym of.8) ∙ not_marked)) of.2 of.6 in
+    (of.0, found.0, found.1, of.3, of.4, of.5, found.2, of.7, of.8)
+
+-- ---- amounts
+
+amount_heads : (marks : FinSet nat_cmp) (e : Entry) (t : Thing) (amount : ℤ) → amount_marked marks (books_row (entry_place e + 1) (thing_place t) amount) ≡ contains marks (amount_number e t)
+amount_heads marks Founding t amount = refl
+amount_heads marks Joining t amount = refl
+amount_heads marks Income t amount = refl
+amount_heads marks Wages t amount = refl
+amount_heads marks Recruiting t amount = refl
+amount_heads marks Study t amount = refl
+amount_heads marks Upkeep t amount = refl
+amount_heads marks Lost t amount = refl
+amount_heads marks Births t amount = refl
+amount_heads marks Starved t amount = refl
+amount_heads marks Left t amount = refl
+amount_heads marks Made t amount = refl
+amount_heads marks Used t amount = refl
+
+amounts_follow : (one other : List (List ℤ)) (marks : FinSet nat_cmp) (r : Row) → ((e : Entry) (t : Thing) → contains marks (amount_number e t) ≡ false → amount_in other e t ≡ amount_in one e t) → amount_marked marks r ≡ false → BooksRowsOf one r → BooksRowsOf other r
+amounts_follow one other marks r same not_marked of =
+    let is = same of.0 of.1 (sym (amount_heads marks of.0 of.1 (amount_in one of.0 of.1)) ∙ ap (amount_marked marks) (sym of.3) ∙ not_marked) in
+    (of.0, of.1, λ none. of.2 (sym is ∙ none), of.3 ∙ ap (books_row (entry_place of.0 + 1) (thing_place of.1)) (sym is))
+
+-- ---- the campaign's own row
+
+line_of : List ℕ → ℕ × (List ℕ × (ℕ × (ℕ × ℕ))) → Row
+line_of text row = head_row (record { month = row.0; pass = row.1.0; next_faction = row.1.1.0; next_unit = row.1.1.1.0; next_structure = row.1.1.1.1 }) text
+
+head_held : (b : Bool) (text : List ℕ) (before after : State) (old new : Database) → (b ≡ false → own_row after ≡ own_row before) → RewritesHead b after old new → Is (rows_in campaign_table old.trees) (λ r. r ≡ campaign_line text before) → Is (rows_in campaign_table new.trees) (λ r. r ≡ campaign_line text after)
+unfolding line_of
+head_held true text before after old new same did was = did (head_of before) text was
+head_held false text before after old new same did was = subst (λ row. Is (rows_in campaign_table new.trees) (λ r. r ≡ row)) (ap (line_of text) (sym (same refl))) (subst (λ rows. Is rows (λ r. r ≡ campaign_line text before)) (sym did) was)
+
+-- ---- the whole
+
+pub changes_held : (c : Marked) (old new : Database) → WritesMarked c.what c.marks old new → WritesChanges c old new
+changes_held c old new did text before covers held =
+    let m = c.marks in
+    let after = c.what in
+    record {
+      campaign = head_held m.row text before after old new covers.row did.campaign held.campaign;
+      factions = holds_numbered faction_line m.factions (λ n v. refl) before.factions after.factions _ _ (same_follows faction_line m.factions (λ n v. refl) before.factions after.factions covers.factions) (same_followed faction_line m.factions (λ n v. refl) before.factions after.factions covers.factions) held.factions did.factions;
+      regions = holds_numbered region_line m.regions (λ n v. refl) before.regions after.regions _ _ (same_follows region_line m.regions (λ n v. refl) before.regions after.regions covers.regions) (same_followed region_line m.regions (λ n v. refl) before.regions after.regions covers.regions) held.regions did.regions;
+      units = holds_numbered unit_line m.units (λ n v. refl) before.units after.units _ _
+          (λ n v not_marked there. bare_same n (get before.units n) (get after.units n) v (covers.units n not_marked) there) (λ n v not_marked there. bare_same n (get after.units n) (get before.units n) v (sym (covers.units n not_marked)) there) held.units did.units;
+      has = held_by (begins_marked m.goods) (HasRowsOf before.units) (HasRowsOf after.units) _ _ (λ r is. goods_follow before.units after.units m.goods r covers.goods is) (λ r is. goods_follow after.units before.units m.goods r (λ n not_marked. sym (covers.goods n not_marked)) is) held.has did.has;
+      structures = holds_numbered structure_line m.structures (λ n v. refl) before.structures after.structures _ _ (same_follows structure_line m.structures (λ n v. refl) before.structures after.structures covers.structures) (same_followed structure_line m.structures (λ n v. refl) before.structures after.structures covers.structures) held.structures did.structures;
+      mail = holds_numbered mail_row m.mail (λ n v. refl) before.mail after.mail _ _ (same_follows mail_row m.mail (λ n v. refl) before.mail after.mail covers.mail) (same_followed mail_row m.mail (λ n v. refl) before.mail after.mail covers.mail) held.mail did.mail;
+      reports = holds_numbered report_row m.reports (λ n v. refl) before.reports after.reports _ _ (same_follows report_row m.reports (λ n v. refl) before.reports after.reports covers.reports) (same_followed report_row m.reports (λ n v. refl) before.reports after.reports covers.reports) held.reports did.reports;
+      books = held_by (amount_marked m.books) (BooksRowsOf before.books) (BooksRowsOf after.books) _ _ (λ r is. amounts_follow before.books after.books m.books r covers.books is) (λ r is. amounts_follow after.books before.books m.books r (λ e t not_marked. sym (covers.books e t not_marked)) is) held.books did.books;
+    }

@@ -1,0 +1,38 @@
+-- A query outside a transaction, which commits nothing and changes nothing.
+use Rattle.std.proofs.Common.{◌≡◌, ℕ, List, [], Option, Some, None, sym, ◌∙◌, subst, inl, inr}
+use Rattle.sqlite_schema.specs.declared.command.Returning.{Returning}
+use Rattle.sqlite.specs.declared.error.Error.{Error}
+use Rattle.sqlite.specs.Listing.{understood}
+use Rattle.sqlite.specs.Order.{Row}
+use Rattle.sqlite.specs.State.{State, HasCleanDisk, Survives, CommitsShowing, Shown, ShowsRows, FailsToQuery, FailsToShow, IsNotRun, IsUnchanged, IsRolledBack}
+use Rattle.sqlite.proofs.Callers.{IsPlain, never_commits}
+use Rattle.sqlite.proofs.StateLemmas.{survives_weaker}
+use Rattle.atl_store.specs.Gathering.{Stays, IsSettled}
+
+module _ (sql : List ℕ) (old new : State) (plain : IsPlain (understood old.now.schema sql)) where
+  pub commits_none : Survives old new (CommitsShowing sql [] old) → Survives old new (λ _. ⊥)
+  commits_none = survives_weaker old new _ _ (λ _ db. never_commits sql [] old db plain)
+
+  -- what it shows leaves all as it was
+  pub shown_unchanged : (rows : List Row) → Shown sql [] old new rows → IsUnchanged old new
+  unfolding Shown
+  shown_unchanged rows h = (subst (ShowsRows old new sql h.0 _ rows) (subst IsPlain h.1.is plain).0 h.2).3
+
+  unchanged_stays : IsUnchanged old new → Stays old new
+  unchanged_stays h = record { was_open = λ _. h.0.was_open; same = λ _. (h.0.now_is, h.0.committed_is) }
+
+  rolled_stays : IsSettled old → HasCleanDisk old → IsRolledBack old new → Stays old new
+  rolled_stays settled clean h = record { was_open = h.was_open; same = λ up. let back = h.undone up in (back.0 ∙ sym (settled clean (h.was_open up)), back.1) }
+
+  pub shown_stays : (rows : List Row) → Shown sql [] old new rows → Stays old new
+  shown_stays rows h = unchanged_stays (shown_unchanged rows h)
+
+  fails_stay : (c : _) (row : Row) (e : Error) (what : Option Returning) → what ≡ None → FailsToShow old new sql c row e what → IsUnchanged old new
+  fails_stay c row e None is h = h.3
+  fails_stay c row e (Some what) is h = absurd (let k = is in cc)
+
+  pub refused_stays : IsSettled old → HasCleanDisk old → (e : Error) → FailsToQuery sql [] old new e → Stays old new
+  unfolding FailsToQuery IsNotRun
+  refused_stays settled clean e (inl (inl h)) = unchanged_stays h.1
+  refused_stays settled clean e (inl (inr h)) = rolled_stays settled clean h.3
+  refused_stays settled clean e (inr h) = unchanged_stays (fails_stay h.0 _ e h.0.returning (subst IsPlain h.1.is plain).0 h.2)

@@ -1,0 +1,189 @@
+-- From the rows that were read to the campaign that is loaded.
+use Rattle.std.proofs.Common.{◌≡◌, List, [], ◌∷◌, Bool, true, false, not, pos, IsTrue, Result, Ok, Err, IfErr, IsErrAnd, arith, refl, sym, ap, ◌∙◌, subst, inr, string_bytes}
+use Rattle.std.proofs.lemmas.Str.{IsUtf8-string_bytes}
+use Rattle.sqlite_catalog.specs.Listing.{IsSound}
+use Rattle.sqlite_trees.specs.Tree.{Trees}
+use Rattle.sqlite_trees.specs.declared.store.Store.{Ghosts}
+use Rattle.sqlite.specs.Effect.{Database}
+use Rattle.sqlite.specs.Held.{Held, state}
+use Rattle.sqlite.specs.State.{HasCleanDisk}
+use Rattle.atl_tables.specs.Planet.{Planet}
+use Rattle.atl_tables.specs.World.{world_of}
+use Rattle.atl_state.specs.Checking.{Checks, IsFirstBroken}
+use Rattle.atl_state.specs.RowRules.{is_one_head}
+use Rattle.atl_state.specs.State.{Marked}
+use Rattle.atl_state.specs.declared.check.CheckFault.{CheckFault}
+use Rattle.atl_state.specs.declared.check.CheckFault.TheVariants as check
+use Rattle.atl_state.specs.declared.check.Rule.{Rule}
+use Rattle.atl_state.specs.declared.check.Rule.TheVariants.{OneRow, Ranges, Names, Known, Next, Days, Gone, Owners, Water, Guards, Books, Mail}
+use Rattle.atl_state.specs.declared.parts.Parts.{Parts}
+use Rattle.atl_state.specs.declared.parts.StoredHead.{StoredHead}
+use Rattle.atl_store.specs.Faults.{judged_fault}
+use Rattle.atl_store.specs.Gathering.{IsSettled, Leaves, Fails, OwnRead, OthersRead, AreOthers, IsMadeOf, HavePlaces, Gathered, IsConfirmed, IsLoaded}
+use Rattle.atl_store.specs.Inside.{HasTables}
+use Rattle.atl_store.specs.Keeps.{Keeps, Stores}
+use Rattle.atl_store.specs.Loading.{HaveRows, KeepsOneRow, BreaksRule, IsDamaged, RefusesToLoad, Loads, LeavesAlone}
+use Rattle.atl_store.specs.Rows.{Holds}
+use Rattle.atl_store.specs.Tables.{HasNine}
+use Rattle.atl_store.specs.declared.fault.StoreFault.{StoreFault}
+use Rattle.atl_store.specs.declared.fault.StoreFault.TheVariants.{Store, Damaged, NotACampaign, Memory}
+use Rattle.atl_store.specs.declared.rows.campaign.StoredCampaign.{StoredCampaign}
+use Rattle.atl_store.proofs.KeyedLaws.{rows_keyed, has_keyed, books_keyed, has_unplaced, books_unplaced}
+use Rattle.atl_store.proofs.PartsLaws.{rows_hold}
+use Rattle.atl_store.proofs.WorldTextLaws.{world_text_is}
+
+-- a row whose id and format are 1 keeps the first rule
+one_head : (h : StoredHead) (rows : List StoredHead) → h.id ≡ pos 1 → h.format ≡ pos 1 → rows ≡ h ∷ [] → IsTrue (is_one_head rows)
+one_head h rows id format is = rw (is, id, format) refl
+
+module _ {S : Type 0} (g : Ghosts S) where
+  pub own_kept : (old : Held S) (own : StoredCampaign) (w : Planet) → OwnRead g old own w → KeepsOneRow g old
+  own_kept old own w read = record {
+    rows = read.rows;
+    selects = read.selects;
+    head = own.head;
+    text = string_bytes own.world;
+    world = w;
+    own = record { is = read.is; id = read.id; format = read.format; utf8 = IsUtf8-string_bytes own.world; world = read.world };
+  }
+
+  -- all rows, as they were read
+  made_rows : {Z : Type 0} (old : Held S) (own : StoredCampaign) (w : Planet) (read : OthersRead Z) (p : Parts) → OwnRead g old own w → AreOthers g old read → IsMadeOf own.head read p → HasNine old.schema → HaveRows (state g old).now.trees (string_bytes own.world) p
+  made_rows old own w read p row others made nine = subst (HaveRows (state g old).now.trees (string_bytes own.world)) (sym made.is) (record {
+    campaign = row.table nine;
+    factions = others.0.0.0.0 nine;
+    regions = others.0.0.0.1 nine;
+    units = others.0.1.0 nine;
+    has = has_unplaced (state g old).now.trees read.0.1.1.items (others.0.1.1 nine);
+    structures = others.1.0.0 nine;
+    mail = others.1.0.1 nine;
+    reports = others.0.0.1 nine;
+    books = books_unplaced (state g old).now.trees read.1.1.items (others.1.1 nine);
+  })
+
+  made_places : {Z : Type 0} (old : Held S) (head : StoredHead) (read : OthersRead Z) (p : Parts) → AreOthers g old read → IsMadeOf head read p → HasNine old.schema → HavePlaces (state g old).now.trees p
+  made_places old head read p others made nine = record {
+    has_placed = read.0.1.1.items;
+    has = others.0.1.1 nine;
+    has_rows = ap (λ (p : Parts). p.has) made.is;
+    has_apart = made.has_apart;
+    books_placed = read.1.1.items;
+    books = others.1.1 nine;
+    books_rows = ap (λ (p : Parts). p.books) made.is;
+    books_apart = made.books_apart;
+  }
+
+  pub gathered_with : {Z : Type 0} (old : Held S) (own : StoredCampaign) (w : Planet) (read : OthersRead Z) (p : Parts) → OwnRead g old own w → AreOthers g old read → IsMadeOf own.head read p → Gathered g old w p
+  gathered_with old own w read p row others made = record {
+    one = own_kept old own w row;
+    head = one_head own.head p.campaign row.id row.format (ap (λ (p : Parts). p.campaign) made.is);
+    text = string_bytes own.world;
+    world = row.world;
+    rows = made_rows old own w read p row others made;
+    places = made_places old own.head read p others made;
+  }
+
+  -- ---- what the check of the rows refuses
+
+  breaks : (old : Held S) (w : Planet) (p : Parts) → Gathered g old w p → HasNine old.schema → (rule : Rule) → IsFirstBroken w p rule → BreaksRule g old rule
+  breaks old w p all nine rule first = record { world = w; text = all.text; is_world = all.world; parts = p; rows = all.rows nine; first = first }
+
+  damaged : (old : Held S) (w : Planet) (p : Parts) → Gathered g old w p → HasNine old.schema → (rule : Rule) → IsFirstBroken w p rule → IsDamaged g old rule
+  damaged old w p all nine OneRow first = absurd (first.broken all.head)
+  damaged old w p all nine Ranges first = inr (breaks old w p all nine Ranges first)
+  damaged old w p all nine Names first = breaks old w p all nine Names first
+  damaged old w p all nine Known first = breaks old w p all nine Known first
+  damaged old w p all nine Next first = breaks old w p all nine Next first
+  damaged old w p all nine Days first = breaks old w p all nine Days first
+  damaged old w p all nine Gone first = breaks old w p all nine Gone first
+  damaged old w p all nine Owners first = breaks old w p all nine Owners first
+  damaged old w p all nine Water first = breaks old w p all nine Water first
+  damaged old w p all nine Guards first = breaks old w p all nine Guards first
+  damaged old w p all nine Books first = breaks old w p all nine Books first
+  damaged old w p all nine Mail first = breaks old w p all nine Mail first
+
+  pub judged_damaged : (old : Held S) (w : Planet) (p : Parts) → Gathered g old w p → HasNine old.schema → (fault : CheckFault) → Checks w p (Err fault) → RefusesToLoad g old (judged_fault fault)
+  judged_damaged old w p all nine (check.Damaged rule) first = damaged old w p all nine rule first
+  judged_damaged old w p all nine check.Memory none = tt
+
+  pub fails_refuse : (old : Held S) (fault : StoreFault) → Fails fault → RefusesToLoad g old fault
+  fails_refuse old Store fails = tt
+  fails_refuse old (Damaged rule) fails = absurd fails
+  fails_refuse old NotACampaign fails = absurd fails
+  fails_refuse old Memory fails = tt
+
+  -- a fault that was handed on
+  pub told_as : {A : Type 0} (P : StoreFault → Type 0) (fault : StoreFault) (r : Result A StoreFault) → IsErrAnd r (λ told. told ≡ fault) → P fault → IfErr r P
+  told_as P fault (Ok a) told p = tt
+  told_as P fault (Err f) told p = subst P (sym told) p
+
+  -- ---- the whole
+
+  pub is_idle : (auto inside : Bool) → auto ≡ not inside → IsTrue auto → inside ≡ false
+  is_idle auto true is said = absurd (let k = sym is ∙ said in cc)
+  is_idle auto false is said = refl
+
+  pub confirmed_behind : (old mid new : Held S) → Leaves g old mid → Leaves g mid new → HasCleanDisk (state g mid) → HasCleanDisk (state g new) → IsConfirmed (state g mid) (state g new) → IsConfirmed (state g old) (state g new)
+  confirmed_behind old mid new one two clean_mid clean confirmed =
+      let up = (two.stays clean).was_open confirmed.is_open in
+      let same = ((one.stays clean_mid).same up).0 in
+      record {
+        nine = subst (λ (d : Database). HasNine d.schema) same confirmed.nine;
+        is_open = confirmed.is_open;
+        sound = subst (λ (d : Database). IsSound d.schema d.trees) same confirmed.sound;
+      }
+
+  pub leaves_alone : (old new : Held S) → old.in_transaction ≡ false → Leaves g old new → LeavesAlone g old new
+  leaves_alone old new idle leaves = record {
+    spares = λ clean. record {
+      same = λ up. let same = (leaves.stays clean).same up in (same.0, same.1, leaves.idle ∙ sym idle);
+      closes = leaves.survives.closes clean;
+    };
+    survives = leaves.survives;
+    mode = leaves.idle ∙ sym idle;
+  }
+
+  module _ (old new : Held S) (w : Planet) (c : Marked) (loaded : IsLoaded g old new w c) (leaves : Leaves g old new) (settled : IsSettled (state g old))
+      (store : (db : Trees) → IsTrue (state g new).is_open → (state g new).may_leave db → db ≡ (state g new).committed.trees) where
+    old_holds : (clean : HasCleanDisk (state g new)) → Holds (state g old).now.trees (loaded.gathered clean).text c.what
+    old_holds clean = rows_hold (state g old).now.trees (loaded.gathered clean).text loaded.parts c.what ((loaded.gathered clean).rows (loaded.confirmed clean).nine) loaded.checked.rows
+
+    old_tables : HasCleanDisk (state g new) → HasTables (state g old).now
+    old_tables clean =
+        let all = loaded.gathered clean in
+        let nine = (loaded.confirmed clean).nine in
+        let places = all.places nine in
+        let db = (state g old).now.trees in
+        record {
+          nine = nine;
+          sound = record {
+            keyed = rows_keyed db all.text loaded.parts c.what (all.rows nine) loaded.checked.rows (has_keyed db places.has_placed places.has places.has_apart) (books_keyed db places.books_placed places.books places.books_apart);
+            listed = (loaded.confirmed clean).sound;
+          };
+        }
+
+    new_keeps : (clean : HasCleanDisk (state g new)) → Keeps (state g new) (loaded.gathered clean).text c.what
+    new_keeps clean =
+        let up = (loaded.confirmed clean).is_open in
+        let stays = leaves.stays clean in
+        let same = stays.same up in
+        let back = settled (omega (arith, leaves.survives.clean, clean)) (stays.was_open up) in
+        let tables = subst HasTables (sym same.0) (old_tables clean) in
+        let rows = subst (λ (d : Database). Holds d.trees (loaded.gathered clean).text c.what) (sym same.0) (old_holds clean) in
+        let committed : (state g new).committed ≡ (state g new).now = same.1 ∙ sym back ∙ sym same.0 in
+        record {
+          idle = leaves.idle;
+          is_open = up;
+          settled = committed;
+          tables = tables;
+          rows = rows;
+          crash = λ db may. subst (λ t. Stores t (loaded.gathered clean).text c.what) (sym (store db up may ∙ ap (λ (d : Database). d.trees) committed)) (record { schema = (state g new).now.schema; nine = tables.nine; sound = tables.sound; rows = rows });
+        }
+
+    pub loads : Loads g old new w c
+    loads = record {
+      world = λ clean. subst (λ t. world_of t ≡ Ok w) (sym (world_text_is (state g new) (loaded.gathered clean).text c.what (new_keeps clean))) (loaded.gathered clean).world;
+      tables = λ clean. subst (λ t. Keeps (state g new) t c.what) (sym (world_text_is (state g new) (loaded.gathered clean).text c.what (new_keeps clean))) (new_keeps clean);
+      good = loaded.checked.good;
+      unmarked = loaded.checked.marks;
+    }

@@ -1,0 +1,106 @@
+-- Why the campaign's own row is refused.
+use Rattle.std.proofs.Common.{◌≡◌, ℕ, List, [], ◌∷◌, map, length, Result, Ok, Err, IfErr, refl, sym, ap, ◌∙◌, subst, inl, inr, string_bytes}
+use Rattle.sqlite.specs.Held.{Held}
+use Rattle.sqlite.specs.Order.{Row, column}
+use Rattle.sqlite_rules.specs.Lists.{Has}
+use Rattle.sqlite_trees.specs.declared.store.Store.{Ghosts}
+use Rattle.atl_tables.specs.Planet.{Planet}
+use Rattle.atl_tables.specs.World.{world_of}
+use Rattle.atl_state.specs.declared.check.Rule.TheVariants.{OneRow, Ranges, Names, Known, Next, Days, Gone, Owners, Water, Guards, Books, Mail}
+use Rattle.atl_state.specs.declared.parts.StoredHead.{StoredHead}
+use Rattle.atl_store.specs.Gathering.{own_fault, IsOwn, JudgesOwn}
+use Rattle.atl_store.specs.Loading.{own_stored, AreOwnRow, RefusesToLoad}
+use Rattle.atl_store.specs.Reading.{Selects, RefusesToSelect}
+use Rattle.atl_store.specs.Selects.{all_campaign}
+use Rattle.atl_store.specs.Stored.{first_columns, AreTyped, IsTyped}
+use Rattle.atl_store.specs.StoredRows.{campaign_stored, campaign_forms}
+use Rattle.atl_store.specs.declared.fault.ReadFault.{ReadFault}
+use Rattle.atl_store.specs.declared.fault.ReadFault.TheVariants as read
+use Rattle.atl_store.specs.declared.fault.StoreFault.{StoreFault}
+use Rattle.atl_store.specs.declared.fault.StoreFault.TheVariants.{Store, Damaged, NotACampaign, Memory}
+use Rattle.atl_store.specs.declared.rows.campaign.StoredCampaign.{StoredCampaign}
+
+-- a list whose image is one element has one
+pub one_mapped : {A B : Type 0} (f : A → B) (xs : List A) (y : B) → map f xs ≡ y ∷ [] → (x : A) × (xs ≡ x ∷ []) × (f x ≡ y)
+one_mapped f [] y is = absurd (let k = is in cc)
+one_mapped f (x ∷ []) y is = (x, refl, let k = is in cc)
+one_mapped f (x ∷ z ∷ xs) y is = absurd (let k = is in cc)
+
+-- the row that is shown says what was read
+module _ (own : StoredCampaign) (h : StoredHead) (text : List ℕ) (is : campaign_stored own ≡ own_stored text h) where
+  at : (n : ℕ) → column (campaign_stored own) n ≡ column (own_stored text h) n
+  at n = ap (λ r. column r n) is
+
+  pub same_id : own.head.id ≡ h.id
+  same_id = let e = at 0 in cc
+
+  pub same_format : own.head.format ≡ h.format
+  same_format = let e = at 1 in cc
+
+  pub same_text : string_bytes own.world ≡ text
+  same_text = let e = at 7 in cc
+
+-- a row that is as it should be is one that was read so
+pub own_read : (items : List StoredCampaign) (rows : List Row) (h : StoredHead) (text : List ℕ) (w : Planet) → map campaign_stored items ≡ map (first_columns (length campaign_forms)) rows → AreOwnRow rows h text w → (own : StoredCampaign) × IsOwn items own w
+own_read items rows h text w shown own =
+    let one = one_mapped campaign_stored items (own_stored text h) (shown ∙ own.is) in (
+      one.0,
+      record {
+        only = one.1;
+        id = same_id one.0 h text one.2 ∙ own.id;
+        format = same_format one.0 h text one.2 ∙ own.format;
+        world = subst (λ t. world_of t ≡ Ok w) (sym (same_text one.0 h text one.2)) own.world;
+      },
+    )
+
+-- every value of it is of its column's type
+pub own_typed : (rows : List Row) (h : StoredHead) (text : List ℕ) (w : Planet) → AreOwnRow rows h text w → AreTyped campaign_forms rows
+own_typed rows h text w own row there =
+    let one = one_mapped (first_columns (length campaign_forms)) rows (own_stored text h) own.is in
+    typed row (found row there one.0 one.1 ∙ one.2)
+  where
+    found : (row : Row) → Has rows row → (r : Row) → rows ≡ r ∷ [] → first_columns (length campaign_forms) row ≡ first_columns (length campaign_forms) r
+    found row there r is = elim (subst (λ l. Has l row) is there) [
+      | inl same ↦ ap (first_columns (length campaign_forms)) same
+      | inr none ↦ absurd none
+    ]
+
+    typed : (row : Row) → first_columns (length campaign_forms) row ≡ own_stored text h → IsTyped campaign_forms row
+    typed row is =
+        let at = λ (n : ℕ). ap (λ (r : Row). column r n) is in
+        ((h.id, at 0), ((h.format, at 1), ((h.month, at 2), ((h.next_faction, at 3), ((h.next_unit, at 4), ((h.next_structure, at 5), ((h.pass, at 6), ((text, at 7, own.utf8), tt))))))))
+
+module _ {S : Type 0} (g : Ghosts S) (old : Held S) where
+  -- one was read, and is not as it should be
+  pub refuses_own : (items : List StoredCampaign) (r : Result (StoredCampaign × Planet) StoreFault) → JudgesOwn items r
+      → (rows : List Row) × Selects g all_campaign old rows × (map campaign_stored items ≡ map (first_columns (length campaign_forms)) rows) → IfErr r (RefusesToLoad g old)
+  refuses_own items (Ok both) judged told = tt
+  refuses_own items (Err Store) judged told = absurd judged
+  refuses_own items (Err NotACampaign) judged told = absurd judged
+  refuses_own items (Err Memory) judged told = tt
+  refuses_own items (Err (Damaged OneRow)) judged told = record {
+    rows = told.0;
+    selects = told.1;
+    broken = λ h text w own. let was = own_read items told.0 h text w told.2 own in judged was.0 w was.1;
+  }
+  refuses_own items (Err (Damaged Ranges)) judged told = absurd judged
+  refuses_own items (Err (Damaged Names)) judged told = absurd judged
+  refuses_own items (Err (Damaged Known)) judged told = absurd judged
+  refuses_own items (Err (Damaged Next)) judged told = absurd judged
+  refuses_own items (Err (Damaged Days)) judged told = absurd judged
+  refuses_own items (Err (Damaged Gone)) judged told = absurd judged
+  refuses_own items (Err (Damaged Owners)) judged told = absurd judged
+  refuses_own items (Err (Damaged Water)) judged told = absurd judged
+  refuses_own items (Err (Damaged Guards)) judged told = absurd judged
+  refuses_own items (Err (Damaged Books)) judged told = absurd judged
+  refuses_own items (Err (Damaged Mail)) judged told = absurd judged
+
+  -- it is not read
+  pub unread_own : (fault : ReadFault) → (fault ≡ read.OtherType → (rows : List Row) × Selects g all_campaign old rows × ¬ AreTyped campaign_forms rows)
+      → ((fault ≡ read.OtherType → ⊥) → (fault ≡ read.Memory → ⊥) → RefusesToSelect g all_campaign old fault) → RefusesToLoad g old (own_fault fault)
+  unread_own read.Store other refused = tt
+  unread_own read.Memory other refused = tt
+  unread_own read.Refused other refused = refused (λ e. let k = e in cc) (λ e. let k = e in cc)
+  unread_own read.OtherType other refused =
+      let told = other refl in
+      record { rows = told.0; selects = told.1; broken = λ h text w own. told.2 (own_typed told.0 h text w own) }

@@ -1,0 +1,195 @@
+-- From the rows that the tables have to the campaign that they hold, table by table.
+use Rattle.std.proofs.Common.{◌≡◌, ◌≢◌, ◌==◌, ℕ, ℤ, pos, negsuc, Bool, true, false, not, List, [], ◌∷◌, length, map, refl, sym, ap, ◌∙◌, subst, inl, inr, true≢false, arith}
+use Rattle.std.specs.List.{range_with_len}
+use Rattle.std.specs.List.Sorted.{IsPermutation}
+use Rattle.std.specs.Ordering.{nat_cmp}
+use Rattle.std.specs.FinMap.{FinMap, entries}
+use Rattle.std.proofs.lemmas.List.Sorted.{IsPermutation-sym}
+use Rattle.sqlite.specs.declared.types.Value.TheVariants.{Int, Text}
+use Rattle.sqlite.specs.Order.{Row}
+use Rattle.sqlite_trees.specs.Tree.{Trees}
+use Rattle.sqlite_rules.specs.Lists.{Has}
+use Rattle.sqlite_rules.proofs.ListLemmas.{has_either, has_left, has_right, has_filtered, has_kept}
+use Rattle.atl_state.specs.Books.{entry_place, thing_place}
+use Rattle.atl_state.specs.Held.{Held}
+use Rattle.atl_state.specs.Limits.{entry_count}
+use Rattle.atl_state.specs.Rows.{rows_by, rows_of, is_zero, amount_at, AreRowsOf}
+use Rattle.atl_state.specs.Rows as made
+use Rattle.atl_state.specs.State.{State}
+use Rattle.atl_state.specs.declared.books.Entry.{Entry}
+use Rattle.atl_state.specs.declared.books.Thing.{Thing}
+use Rattle.atl_state.specs.declared.parts.Parts.{Parts}
+use Rattle.atl_state.specs.declared.parts.StoredBooks.{StoredBooks}
+use Rattle.atl_state.specs.declared.parts.StoredHas.{StoredHas}
+use Rattle.atl_state.specs.declared.parts.StoredHead.{StoredHead}
+use Rattle.atl_state.specs.declared.records.Faction.{Faction}
+use Rattle.atl_state.specs.declared.records.Unit.{Unit}
+use Rattle.atl_store.specs.declared.rows.has.Sort.{Sort}
+use Rattle.atl_store.specs.declared.rows.has.Sort.TheVariants.{Item, Skill}
+use Rattle.atl_store.specs.Lines.{all_entries, thing_at}
+use Rattle.atl_store.specs.Loading.{HaveRows, own_stored, has_values, books_values}
+use Rattle.atl_store.specs.Rows.{RowsOf, HasRowsOf, BooksRowsOf, Holds, campaign_line, faction_line, region_line, unit_line, structure_line, things_of}
+use Rattle.atl_store.specs.Sets.{Is, rows_in}
+use Rattle.atl_store.specs.Shown.{flag, mail_row, report_row}
+use Rattle.atl_store.specs.StoredRows.{faction_stored, region_stored, unit_stored, structure_stored, mail_stored, report_stored}
+use Rattle.atl_store.specs.Tables.{campaign_table, faction_table, region_table, unit_table, has_table, structure_table, mail_table, report_table, books_table}
+use Rattle.atl_store.specs.Written.{sort_number}
+use Rattle.atl_store.proofs.EditLaws.{has_permuted}
+use Rattle.atl_store.proofs.EntryLaws.{got_entry, entry_got}
+use Rattle.atl_store.proofs.GoodsLaws.{flat_has, has_flat, is_not_zero}
+use Rattle.atl_store.proofs.LedgerLaws.{every_entry, place_at, has_range, within}
+use Rattle.atl_store.proofs.ListLaws.{has_map, map_has}
+
+-- ---- rows of a table, rows that were read of it, and rows that are made of a campaign
+
+module _ {A : Type 0} (shown : A → Row) (rows : List Row) (read made : List A) (in_table : IsPermutation rows (map shown read)) (of_them : IsPermutation made read) where
+  -- the table has exactly the rows that are made
+  are_made : Is rows (λ r. (a : A) × Has made a × (r ≡ shown a))
+  are_made r = (
+    λ there. let a = map_has shown read r (has_permuted rows (map shown read) r in_table there) in (a.0, has_permuted read made a.0 (IsPermutation-sym made read of_them) a.1, a.2),
+    λ of. has_permuted (map shown read) rows r (IsPermutation-sym rows (map shown read) in_table) (subst (Has (map shown read)) (sym of.2) (has_map shown read of.0 (has_permuted made read of.0 of_them of.1))),
+  )
+
+-- ---- the six tables by number
+
+-- one row for each entry of a map
+module _ {A V : Type 0} (shown : A → Row) (row : ℕ → V → A) (line : ℕ → V → Row) (same : (n : ℕ) (v : V) → shown (row n v) ≡ line n v) where
+  by_number : (rows : List Row) (read : List A) (m : FinMap nat_cmp V) → IsPermutation rows (map shown read) → IsPermutation (rows_by row (entries m)) read → Is rows (RowsOf line m)
+  by_number rows read m in_table of_them r =
+      let is = are_made shown rows read (rows_by row (entries m)) in_table of_them r in (
+        λ there.
+            let a = is.0 there in
+            let e = map_has (λ (e : ℕ × V). row e.0 e.1) (entries m) a.0 a.1 in
+            (e.0.0, e.0.1, entry_got m e.0.0 e.0.1 e.1, a.2 ∙ ap shown e.2 ∙ same e.0.0 e.0.1),
+        λ of. is.1 (row of.0 of.1, has_map (λ (e : ℕ × V). row e.0 e.1) (entries m) (of.0, of.1) (got_entry m of.0 of.1 of.2), of.3 ∙ sym (same of.0 of.1)),
+      )
+
+same_flag : (b : Bool) → Int (made.flag b) ≡ flag b
+same_flag true = refl
+same_flag false = refl
+
+faction_same : (n : ℕ) (f : Faction) → faction_stored (made.faction_row n f) ≡ faction_line n f
+faction_same n f = ap (λ v. Int (pos n) ∷ Text f.joined_as ∷ Text f.name ∷ Text f.pass ∷ v ∷ []) (same_flag f.gone)
+
+unit_same : (n : ℕ) (u : Unit) → unit_stored (made.unit_row n u) ≡ unit_line n u
+unit_same n u =
+    ap (λ v. Int (pos n) ∷ Int (pos u.faction) ∷ Text u.holding.name ∷ Int (pos u.region) ∷ Int (pos u.structure) ∷ Int (pos u.holding.men) ∷ Int (pos u.holding.money) ∷ v ∷ []) (same_flag u.holding.guard)
+
+-- ---- the campaign's own row
+
+own_held : (text : List ℕ) (c : State) (rows : List Row) (read : List StoredHead) → IsPermutation rows (map (own_stored text) read) → IsPermutation (made.head_row c ∷ []) read → Is rows (λ r. r ≡ campaign_line text c)
+own_held text c rows read in_table of_them r =
+    let is = are_made (own_stored text) rows read (made.head_row c ∷ []) in_table of_them r in (
+      λ there. let a = is.0 there in elim a.1 [ inl same ↦ a.2 ∙ ap (own_stored text) same | inr none ↦ absurd none ],
+      λ same. is.1 (made.head_row c, inl refl, same),
+    )
+
+-- ---- what units have
+
+sort_made : (n sort : ℕ) (es : List (ℕ × ℕ)) (s : StoredHas) → Has (made.sort_rows n sort es) s → (e : ℕ × ℕ) × Has es e × (e.1 ≢ 0) × (s ≡ made.has_row n sort e.0 e.1)
+sort_made n sort es s there =
+    let kept = has_filtered (λ (r : StoredHas). not (is_zero r.amount)) (rows_by (made.has_row n sort) es) s there in
+    let e = map_has (λ (e : ℕ × ℕ). made.has_row n sort e.0 e.1) es s kept.0 in
+    (e.0, e.1, λ zero. true≢false (sym kept.1 ∙ ap (λ (r : StoredHas). not (is_zero r.amount)) e.2 ∙ ap (λ a. not (a == 0)) zero), e.2)
+
+made_sort : (n sort : ℕ) (es : List (ℕ × ℕ)) (thing amount : ℕ) → Has es (thing, amount) → amount ≢ 0 → Has (made.sort_rows n sort es) (made.has_row n sort thing amount)
+made_sort n sort es thing amount there some =
+    has_kept (λ (r : StoredHas). not (is_zero r.amount)) (rows_by (made.has_row n sort) es) (made.has_row n sort thing amount) (has_map (λ (e : ℕ × ℕ). made.has_row n sort e.0 e.1) es (thing, amount) there) (ap not (is_not_zero amount some))
+
+goods_made : (n : ℕ) (held : Held) (s : StoredHas) → Has (made.held_rows n held) s → (sort : Sort) × (e : ℕ × ℕ) × Has (entries (things_of sort held)) e × (e.1 ≢ 0) × (s ≡ made.has_row n (sort_number sort) e.0 e.1)
+goods_made n held s there = elim (has_either (made.sort_rows n 0 (entries held.items)) (made.sort_rows n 1 (entries held.days)) s there) [
+  | inl item ↦ let e = sort_made n 0 (entries held.items) s item in (Item, e.0, e.1, e.2, e.3)
+  | inr skill ↦ let e = sort_made n 1 (entries held.days) s skill in (Skill, e.0, e.1, e.2, e.3)
+]
+
+made_goods : (n : ℕ) (held : Held) (sort : Sort) (thing amount : ℕ) → Has (entries (things_of sort held)) (thing, amount) → amount ≢ 0 → Has (made.held_rows n held) (made.has_row n (sort_number sort) thing amount)
+made_goods n held Item thing amount there some = has_left (made.sort_rows n 0 (entries held.items)) (made.sort_rows n 1 (entries held.days)) _ (made_sort n 0 (entries held.items) thing amount there some)
+made_goods n held Skill thing amount there some = has_right (made.sort_rows n 0 (entries held.items)) (made.sort_rows n 1 (entries held.days)) _ (made_sort n 1 (entries held.days) thing amount there some)
+
+goods_held : (rows : List Row) (read : List StoredHas) (units : FinMap nat_cmp Unit) → IsPermutation rows (map has_values read) → IsPermutation (made.has_rows (entries units)) read → Is rows (HasRowsOf units)
+goods_held rows read units in_table of_them r =
+    let is = are_made has_values rows read (made.has_rows (entries units)) in_table of_them r in (
+      λ there.
+          let a = is.0 there in
+          let found = flat_has (λ (e : ℕ × Unit). made.held_rows e.0 e.1.holding) (entries units) a.0 a.1 in
+          let e = goods_made found.0.0 found.0.1.holding a.0 found.2 in (
+            found.0.0,
+            found.0.1,
+            entry_got units found.0.0 found.0.1 found.1,
+            e.0,
+            e.1.0,
+            e.1.1,
+            entry_got (things_of e.0 found.0.1.holding) e.1.0 e.1.1 e.2,
+            e.3,
+            a.2 ∙ ap has_values e.4,
+          ),
+      λ of. is.1 (
+        made.has_row of.0 (sort_number of.3) of.4 of.5,
+        has_flat (λ (e : ℕ × Unit). made.held_rows e.0 e.1.holding) (entries units) (of.0, of.1) _ (got_entry units of.0 of.1 of.2) (made_goods of.0 of.1.holding of.3 of.4 of.5 (got_entry (things_of of.3 of.1.holding) of.4 of.5 of.6) of.7),
+        of.8,
+      ),
+    )
+
+-- ---- the books
+
+some_amount : (z : ℤ) → z ≢ pos 0 → not (is_zero z) ≡ true
+some_amount (pos n) some = ap not (is_not_zero n (λ zero. some (ap pos zero)))
+some_amount (negsuc n) some = refl
+
+module _ (books : List (List ℤ)) where
+  abbrev cell : ℕ → ℕ → StoredBooks
+  cell entry thing = made.books_row entry thing (amount_at books entry thing)
+
+  cell_made : (things entry : ℕ) (s : StoredBooks) → Has (made.entry_rows books things entry) s → (thing : ℕ) × (amount_at books entry thing ≢ pos 0) × (s ≡ cell entry thing)
+  cell_made things entry s there =
+      let kept = has_filtered (λ (r : StoredBooks). not (is_zero r.amount)) (map (cell entry) (range_with_len 0 things)) s there in
+      let thing = map_has (cell entry) (range_with_len 0 things) s kept.0 in
+      (thing.0, λ zero. true≢false (sym kept.1 ∙ ap (λ (r : StoredBooks). not (is_zero r.amount)) thing.2 ∙ ap (λ z. not (is_zero z)) zero), thing.2)
+
+  made_cell : (things entry thing : ℕ) → Has (range_with_len 0 things) thing → amount_at books entry thing ≢ pos 0 → Has (made.entry_rows books things entry) (cell entry thing)
+  made_cell things entry thing there some =
+      has_kept (λ (r : StoredBooks). not (is_zero r.amount)) (map (cell entry) (range_with_len 0 things)) (cell entry thing) (has_map (cell entry) (range_with_len 0 things) thing there) (some_amount (amount_at books entry thing) some)
+
+  -- a row by its places
+  booked : (e : Entry) (t : Thing) (entry thing : ℕ) → entry ≡ entry_place e → thing ≡ thing_place t → (r : Row) → amount_at books entry thing ≢ pos 0 → r ≡ books_values (cell entry thing) → BooksRowsOf books r
+  booked e t entry thing entry_is thing_is r some is = (
+    e,
+    t,
+    λ zero. some (ap (λ n. amount_at books n thing) entry_is ∙ ap (λ n. amount_at books (entry_place e) n) thing_is ∙ zero),
+    is ∙ ap (λ n. books_values (cell n thing)) entry_is ∙ ap (λ n. books_values (cell (entry_place e) n)) thing_is,
+  )
+
+  books_held : (rows : List Row) (read : List StoredBooks) → IsPermutation rows (map books_values read) → IsPermutation (made.books_rows books) read → Is rows (BooksRowsOf books)
+  books_held rows read in_table of_them r =
+      let is = are_made books_values rows read (made.books_rows books) in_table of_them r in (
+        λ there.
+            let a = is.0 there in
+            let found = flat_has (made.entry_rows books (length books)) (range_with_len 0 entry_count) a.0 a.1 in
+            let e = map_has entry_place all_entries found.0 found.1 in
+            let t = cell_made (length books) found.0 a.0 found.2 in
+            booked e.0 (thing_at t.0) found.0 t.0 e.2 (sym (place_at t.0)) r t.1 (a.2 ∙ ap books_values t.2),
+        λ of.
+            let inside = has_range 0 (length books) (thing_place of.1) (omega arith) (omega (arith, within books of.0 of.1 of.2)) in
+            is.1 (
+              cell (entry_place of.0) (thing_place of.1),
+              has_flat (made.entry_rows books (length books)) (range_with_len 0 entry_count) (entry_place of.0) _ (has_map entry_place all_entries of.0 (every_entry of.0)) (made_cell (length books) (entry_place of.0) (thing_place of.1) inside of.2),
+              of.3,
+            ),
+      )
+
+-- ---- all tables
+
+-- tables that have the rows of a campaign hold it
+pub rows_hold : (db : Trees) (text : List ℕ) (p : Parts) (c : State) → HaveRows db text p → AreRowsOf c p → Holds db text c
+unfolding rows_of
+rows_hold db text p c have are = record {
+  campaign = own_held text c (rows_in campaign_table db) p.campaign have.campaign are.campaign;
+  factions = by_number faction_stored made.faction_row faction_line faction_same (rows_in faction_table db) p.factions c.factions have.factions are.factions;
+  regions = by_number region_stored made.region_row region_line (λ n r. refl) (rows_in region_table db) p.regions c.regions have.regions are.regions;
+  units = by_number unit_stored made.unit_row unit_line unit_same (rows_in unit_table db) p.units c.units have.units are.units;
+  has = goods_held (rows_in has_table db) p.has c.units have.has are.has;
+  structures = by_number structure_stored made.structure_row structure_line (λ n s. refl) (rows_in structure_table db) p.structures c.structures have.structures are.structures;
+  mail = by_number mail_stored made.mail_row mail_row (λ n text. refl) (rows_in mail_table db) p.mail c.mail have.mail are.mail;
+  reports = by_number report_stored made.report_row report_row (λ n text. refl) (rows_in report_table db) p.reports c.reports have.reports are.reports;
+  books = books_held c.books (rows_in books_table db) p.books have.books are.books;
+}

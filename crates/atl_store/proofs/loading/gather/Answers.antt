@@ -1,0 +1,28 @@
+use Rattle.std.proofs.Common.{subst, inl, arith}
+use Rattle.sqlite.specs.Held.{state}
+use Rattle.sqlite.specs.State.{HasCleanDisk}
+use Rattle.atl_store.specs.Gathering.{Found, AreOthers, IsMadeOf}
+use Rattle.atl_store.proofs.GatherLaws.{found_behind, others_behind}
+use Rattle.atl_store.proofs.LoadedLaws.{own_kept, gathered_with}
+use Rattle.atl_store.proofs.loading.gather.Goals as goal
+
+pub returns-in_default-clause-err : goal.returns-in_default-clause-err
+returns-in_default-clause-err g c clean =
+    let old = c.args.conn.now in
+    let mid = c.read_own.new.conn in
+    let after_own : HasCleanDisk (state g.S.Store mid) = omega (arith, c.read_others.ensures.leaves.survives.clean, clean) in
+    inl (
+      own_kept g.S.Store old c.in_ok-own.own c.in_ok-own.world (c.in_ok-own.ensures.ok after_own),
+      subst (Found g.S.Store old (AreOthers g.S.Store old)) c.in_default.is (found_behind g.S.Store old mid c.read_others.new.conn c.read_own.ensures.leaves _ _ c.read_others.result c.read_others.ensures c.in_ok-others.field-0 c.in_ok-others.was
+          (λ same read are. others_behind g.S.Store old mid same read are) clean),
+    )
+
+pub returns-clause-ok : goal.returns-clause-ok
+returns-clause-ok g c clean =
+    let old = c.args.conn.now in
+    let mid = c.read_own.new.conn in
+    let after_own : HasCleanDisk (state g.S.Store mid) = omega (arith, c.read_others.ensures.leaves.survives.clean, clean) in
+    gathered_with g.S.Store old c.in_ok-own.own c.in_ok-own.world c.in-Some.others c.in_ok-parts.parts (c.in_ok-own.ensures.ok after_own)
+    (subst (Found g.S.Store old (AreOthers g.S.Store old)) c.in-Some.is (found_behind g.S.Store old mid c.read_others.new.conn c.read_own.ensures.leaves _ _ c.read_others.result c.read_others.ensures c.in_ok-others.field-0 c.in_ok-others.was
+    (λ same read are. others_behind g.S.Store old mid same read are) clean))
+    (subst (λ head. IsMadeOf head c.in-Some.others c.in_ok-parts.parts) c.into_head.ensures c.in_ok-parts.ensures.ok)

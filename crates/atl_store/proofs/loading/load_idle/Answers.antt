@@ -1,0 +1,32 @@
+use Rattle.std.proofs.Common.{arith}
+use Rattle.sqlite.specs.Held.{state}
+use Rattle.sqlite.specs.State.{HasCleanDisk}
+use Rattle.atl_store.specs.Loading.{RefusesToLoad}
+use Rattle.atl_store.proofs.GatherLaws.{leaves_then}
+use Rattle.atl_store.proofs.LoadedLaws.{judged_damaged, told_as, confirmed_behind}
+use Rattle.atl_store.proofs.loading.load_idle.Goals as goal
+
+pub returns-in_err-campaign-clause-err : goal.returns-in_err-campaign-clause-err
+returns-in_err-campaign-clause-err g c clean =
+    let old = c.args.conn.now in
+    let mid = c.gather.new.conn in
+    let new = c.confirm.new.conn in
+    let gathered : HasCleanDisk (state g.S.Store mid) = omega (arith, c.confirm.ensures.leaves.survives.clean, clean) in
+    told_as g.S.Store (RefusesToLoad g.S.Store old) _ c.from_residual-in_err-campaign.result c.from_residual-in_err-campaign.ensures.1
+    (judged_damaged g.S.Store old c.in_ok-world.world c.in_ok-world.parts (c.in_ok-world.ensures.ok gathered) (confirmed_behind g.S.Store old mid new c.gather.ensures.leaves c.confirm.ensures.leaves gathered clean (c.in_ok-confirm.ensures.ok clean)).nine
+    c.in_err-campaign.field-0.0 c.in_err-campaign.ensures.rules)
+
+pub returns-clause-ok : goal.returns-clause-ok
+returns-clause-ok g c =
+    let old = c.args.conn.now in
+    let mid = c.gather.new.conn in
+    let new = c.confirm.new.conn in
+    record {
+      parts = c.in_ok-world.parts;
+      gathered = λ clean. c.in_ok-world.ensures.ok (omega (arith, c.confirm.ensures.leaves.survives.clean, clean));
+      confirmed = λ clean. confirmed_behind g.S.Store old mid new c.gather.ensures.leaves c.confirm.ensures.leaves (omega (arith, c.confirm.ensures.leaves.survives.clean, clean)) clean (c.in_ok-confirm.ensures.ok clean);
+      checked = c.in_ok-campaign.ensures.rules;
+    }
+
+pub returns-clause-leaves : goal.returns-clause-leaves
+returns-clause-leaves g c = leaves_then g.S.Store c.args.conn.now c.gather.new.conn c.confirm.new.conn c.gather.ensures.leaves c.confirm.ensures.leaves

@@ -1,0 +1,212 @@
+-- For proofs alone: how far loading has come.
+use Rattle.std.specs.Prelude.{◌≡◌, ◌≢◌, ℕ, List, [], ◌∷◌, false, IsTrue, IsPermutation, map, length, pos, Option, Some, None, Result, Ok, Err, IfOk, IfErr, ⊤, string_bytes}
+use Rattle.std.specs.List.{IsDistinct}
+use Rattle.std.specs.Ordering.{eq_by_cmp, int_cmp}
+use Rattle.std.specs.declared.vec.Vec.{Vec}
+use Rattle.sqlite.specs.Held.{Held, state}
+use Rattle.sqlite.specs.Order.{Row}
+use Rattle.sqlite.specs.State.{State, HasCleanDisk, Survives}
+use Rattle.sqlite_catalog.specs.Listing.{IsSound}
+use Rattle.sqlite_trees.specs.Tree.{Trees}
+use Rattle.sqlite_trees.specs.declared.store.Store.{Ghosts}
+use Rattle.atl_tables.specs.Planet.{Planet}
+use Rattle.atl_tables.specs.World.{world_of}
+use Rattle.atl_state.specs.Checking.{IsChecked}
+use Rattle.atl_state.specs.RowRules.{is_one_head}
+use Rattle.atl_state.specs.State.{Marked}
+use Rattle.atl_state.specs.declared.check.Rule.TheVariants.{OneRow}
+use Rattle.atl_state.specs.declared.parts.Parts.{Parts}
+use Rattle.atl_state.specs.declared.parts.StoredBooks.{StoredBooks}
+use Rattle.atl_state.specs.declared.parts.StoredFaction.{StoredFaction}
+use Rattle.atl_state.specs.declared.parts.StoredHas.{StoredHas}
+use Rattle.atl_state.specs.declared.parts.StoredHead.{StoredHead}
+use Rattle.atl_state.specs.declared.parts.StoredMail.{StoredMail}
+use Rattle.atl_state.specs.declared.parts.StoredRegion.{StoredRegion}
+use Rattle.atl_state.specs.declared.parts.StoredReport.{StoredReport}
+use Rattle.atl_state.specs.declared.parts.StoredStructure.{StoredStructure}
+use Rattle.atl_state.specs.declared.parts.StoredUnit.{StoredUnit}
+use Rattle.atl_store.specs.Loading.{HaveRows, HasOtherType, KeepsOneRow}
+use Rattle.atl_store.specs.Reading.{Selects, placed_rows_in}
+use Rattle.atl_store.specs.Selects.{all_campaign}
+use Rattle.atl_store.specs.Sets.{rows_in}
+use Rattle.atl_store.specs.Stored.{first_columns}
+use Rattle.atl_store.specs.StoredRows.{campaign_stored, campaign_forms, faction_stored, region_stored, unit_stored, structure_stored, mail_stored, report_stored, has_stored, books_stored}
+use Rattle.atl_store.specs.Tables.{campaign_table, faction_table, region_table, unit_table, has_table, structure_table, mail_table, report_table, books_table, HasNine}
+use Rattle.atl_store.specs.declared.fault.ReadFault.{ReadFault}
+use Rattle.atl_store.specs.declared.fault.ReadFault.TheVariants as read
+use Rattle.atl_store.specs.declared.fault.StoreFault.{StoreFault}
+use Rattle.atl_store.specs.declared.fault.StoreFault.TheVariants.{Store, Damaged, NotACampaign, Memory}
+use Rattle.atl_store.specs.declared.rows.campaign.StoredCampaign.{StoredCampaign}
+use Rattle.atl_store.specs.declared.rows.stored.Placed.{Placed}
+
+-- ---- what a step leaves
+
+-- while the connection is open, its tables are those of the one before
+pub record Stays (old new : State) : Type 0 where
+  pub was_open : IsTrue new.is_open → IsTrue old.is_open
+  pub same : IsTrue new.is_open → (new.now ≡ old.now) × (new.committed ≡ old.committed)
+
+-- while it is open, the tables are those of the last commit
+abbrev pub IsSettled : State → Type 0
+IsSettled s = HasCleanDisk s → IsTrue s.is_open → s.now ≡ s.committed
+
+pub record Leaves {S : Type 0} (g : Ghosts S) (old new : Held S) : Type 0 where
+  pub stays : HasCleanDisk (state g new) → Stays (state g old) (state g new)
+  pub survives : Survives (state g old) (state g new) (λ _. ⊥)
+  pub idle : new.in_transaction ≡ false
+
+-- ---- which fault is told
+
+-- of the campaign's own row
+abbrev pub own_fault : ReadFault → StoreFault
+own_fault read.Store = Store
+own_fault read.Refused = NotACampaign
+own_fault read.Memory = Memory
+own_fault read.OtherType = Damaged OneRow
+
+-- of another table: a value of another type is remembered, and all else ends the loading
+abbrev pub kept_of : {A Z : Type 0} → Result (Vec A Z) ReadFault → Result (Option (Vec A Z)) StoreFault
+kept_of (Ok rows) = Ok (Some rows)
+kept_of (Err read.Store) = Err Store
+kept_of (Err read.Refused) = Err Store
+kept_of (Err read.Memory) = Err Memory
+kept_of (Err read.OtherType) = Ok None
+
+-- a fault that says nothing of the rows
+abbrev pub Fails : StoreFault → Type 0
+Fails Store = ⊤
+Fails (Damaged rule) = ⊥
+Fails NotACampaign = ⊥
+Fails Memory = ⊤
+
+-- ---- the campaign's own row
+
+-- the only row
+abbrev pub only_of : List StoredCampaign → Option StoredCampaign
+only_of [] = None
+only_of (own ∷ []) = Some own
+only_of (own ∷ other ∷ rows) = None
+
+-- the only row is this one, whose id and format are 1, with a text of this world
+pub record IsOwn (rows : List StoredCampaign) (own : StoredCampaign) (w : Planet) : Type 0 where
+  pub only : rows ≡ own ∷ []
+  pub id : own.head.id ≡ pos 1
+  pub format : own.head.format ≡ pos 1
+  pub world : world_of (string_bytes own.world) ≡ Ok w
+
+abbrev pub ReadsWorld : List ℕ → Result Planet StoreFault → Type 0
+ReadsWorld text (Ok w) = world_of text ≡ Ok w
+ReadsWorld text (Err Memory) = ⊤
+ReadsWorld text (Err (Damaged OneRow)) = (w : Planet) → world_of text ≢ Ok w
+ReadsWorld text (Err fault) = ⊥
+
+abbrev pub JudgesOwn : List StoredCampaign → Result (StoredCampaign × Planet) StoreFault → Type 0
+JudgesOwn rows (Ok both) = IsOwn rows both.0 both.1
+JudgesOwn rows (Err Memory) = ⊤
+JudgesOwn rows (Err (Damaged OneRow)) = (own : StoredCampaign) (w : Planet) → ¬ IsOwn rows own w
+JudgesOwn rows (Err fault) = ⊥
+
+-- what was read of the eight tables
+abbrev pub OthersRead : Type 0 → Type 0
+OthersRead Z = (((Vec StoredFaction Z × Vec StoredRegion Z) × Vec StoredReport Z) × (Vec StoredUnit Z × Vec (Placed StoredHas) Z)) × ((Vec StoredStructure Z × Vec StoredMail Z) × Vec (Placed StoredBooks) Z)
+
+module _ {S : Type 0} (g : Ghosts S) (old : Held S) where
+  -- one row was read, whose id and format are 1, with a text of the world
+  pub record OwnRead (own : StoredCampaign) (w : Planet) : Type 0 where
+    pub rows : List Row
+    pub selects : Selects g all_campaign old rows
+    pub is : map (first_columns (length campaign_forms)) rows ≡ campaign_stored own ∷ []
+    pub id : own.head.id ≡ pos 1
+    pub format : own.head.format ≡ pos 1
+    pub world : world_of (string_bytes own.world) ≡ Ok w
+    pub table : HasNine old.schema → IsPermutation (rows_in campaign_table (state g old).now.trees) (campaign_stored own ∷ [])
+
+  -- ---- the other tables
+
+  -- what was read of them is so, or a value is of another type
+  abbrev pub Found : {A : Type 0} → (A → Type 0) → Option A → Type 0
+  Found P None = HasOtherType g old
+  Found P (Some a) = P a
+
+  -- these are all rows of a table
+  abbrev pub AreRows : {A : Type 0} → (Trees → List Row) → (A → Row) → List A → Type 0
+  AreRows in_table shown rows = HasNine old.schema → IsPermutation (in_table (state g old).now.trees) (map shown rows)
+
+  -- these are all rows of two tables, or of three
+  abbrev pub AreTwo : {A B Z : Type 0} → (Trees → List Row) → (A → Row) → (Trees → List Row) → (B → Row) → Vec A Z × Vec B Z → Type 0
+  AreTwo first a second b read = AreRows first a read.0.items × AreRows second b read.1.items
+
+  abbrev pub AreThree : {A B C Z : Type 0} → (Trees → List Row) → (A → Row) → (Trees → List Row) → (B → Row) → (Trees → List Row) → (C → Row) → (Vec A Z × Vec B Z) × Vec C Z → Type 0
+  AreThree first a second b third c read = AreTwo first a second b read.0 × AreRows third c read.1.items
+
+  -- these are all rows of the eight tables
+  abbrev pub AreOthers : {Z : Type 0} → OthersRead Z → Type 0
+  AreOthers read =
+      (AreThree (rows_in faction_table) faction_stored (rows_in region_table) region_stored (rows_in report_table) report_stored read.0.0
+      × AreTwo (rows_in unit_table) unit_stored (placed_rows_in has_table) has_stored read.0.1)
+      × AreThree (rows_in structure_table) structure_stored (rows_in mail_table) mail_stored (placed_rows_in books_table) books_stored read.1
+
+  pub record ReadsSome {A : Type 0} (P : A → Type 0) (result : Result (Option A) StoreFault) (new : Held S) : Type 0 where
+    pub was_open : HasCleanDisk (state g new) → IfOk result (λ _. IsTrue (state g old).is_open)
+    pub found : HasCleanDisk (state g new) → IfOk result (Found P)
+    pub fails : IfErr result Fails
+    pub leaves : Leaves g old new
+
+-- no two rows are kept at one place
+abbrev pub AreApart : {A : Type 0} → List (Placed A) → Type 0
+AreApart placed = IsDistinct (eq_by_cmp int_cmp) (map (λ s. s.rowid) placed)
+
+-- the rows as they are to be judged
+abbrev pub parts_with : {Z : Type 0} → StoredHead → OthersRead Z → Parts
+parts_with head read = record {
+  campaign = head ∷ [];
+  factions = read.0.0.0.0.items;
+  regions = read.0.0.0.1.items;
+  units = read.0.1.0.items;
+  has = map (λ s. s.row) read.0.1.1.items;
+  structures = read.1.0.0.items;
+  mail = read.1.0.1.items;
+  reports = read.0.0.1.items;
+  books = map (λ s. s.row) read.1.1.items;
+}
+
+-- the rows are these, and no two of has, or of books, are kept at one place
+pub record IsMadeOf {Z : Type 0} (head : StoredHead) (read : OthersRead Z) (p : Parts) : Type 0 where
+  pub is : p ≡ parts_with head read
+  pub has_apart : AreApart read.0.1.1.items
+  pub books_apart : AreApart read.1.1.items
+
+-- the rows with their places
+pub record HavePlaces (db : Trees) (p : Parts) : Type 0 where
+  pub has_placed : List (Placed StoredHas)
+  pub has : IsPermutation (placed_rows_in has_table db) (map has_stored has_placed)
+  pub has_rows : p.has ≡ map (λ s. s.row) has_placed
+  pub has_apart : AreApart has_placed
+  pub books_placed : List (Placed StoredBooks)
+  pub books : IsPermutation (placed_rows_in books_table db) (map books_stored books_placed)
+  pub books_rows : p.books ≡ map (λ s. s.row) books_placed
+  pub books_apart : AreApart books_placed
+
+-- ---- all of it
+
+-- all rows were read: those of the world's text and these
+pub record Gathered {S : Type 0} (g : Ghosts S) (old : Held S) (w : Planet) (p : Parts) : Type 0 where
+  pub one : KeepsOneRow g old
+  pub head : IsTrue (is_one_head p.campaign)
+  pub text : List ℕ
+  pub world : world_of text ≡ Ok w
+  pub rows : HasNine old.schema → HaveRows (state g old).now.trees text p
+  pub places : HasNine old.schema → HavePlaces (state g old).now.trees p
+
+-- the schema is that of a campaign, and the connection is open
+pub record IsConfirmed (old new : State) : Type 0 where
+  pub nine : HasNine old.now.schema
+  pub is_open : IsTrue new.is_open
+  pub sound : IsSound old.now.schema old.now.trees
+
+-- all rows were read of these tables, which are those of a campaign, and judged
+pub record IsLoaded {S : Type 0} (g : Ghosts S) (old new : Held S) (w : Planet) (c : Marked) : Type 0 where
+  pub parts : Parts
+  pub gathered : HasCleanDisk (state g new) → Gathered g old w parts
+  pub confirmed : HasCleanDisk (state g new) → IsConfirmed (state g old) (state g new)
+  pub checked : IsChecked w parts c

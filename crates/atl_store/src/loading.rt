@@ -1,0 +1,75 @@
+//! A campaign is loaded from its tables.
+ghost use Rattle.std.specs.Prelude.{◌≡◌, false, IfOk, IfErr};
+ghost use Rattle.sqlite.specs.Held.{state};
+ghost use Rattle.sqlite.specs.State.{HasCleanDisk};
+ghost use Rattle.atl_store.specs.Gathering.{IsSettled, Leaves, Gathered, IsLoaded};
+ghost use Rattle.atl_store.specs.Loading.{Loads, RefusesToLoad, LeavesAlone};
+
+mod confirmed;
+mod gathered;
+mod others;
+mod own;
+
+use crate::fault::StoreFault;
+use atl_state::Campaign;
+use atl_state::check::{Rule, check};
+use atl_state::parts::Parts;
+use atl_tables::World;
+use confirmed::confirm;
+use gathered::parts_with;
+use others::read_others;
+use own::read_own;
+use sqlite::{Alter, Connection};
+use std::alloc::Global;
+
+/// The world, and the rows of all tables.
+fn gather<S: Alter>(alloc: Global, conn: &mut Connection<S>) -> Result<(World, Parts), StoreFault>
+    requires idle { conn.old.in_transaction ≡ false }
+    requires settled { IsSettled (state S.Store conn.old) }
+    ensures ok { HasCleanDisk (state S.Store conn.new) → IfOk result (λ both. Gathered S.Store conn.old both.0 both.1) }
+    ensures err { HasCleanDisk (state S.Store conn.new) → IfErr result (RefusesToLoad S.Store conn.old) }
+    ensures leaves { Leaves S.Store conn.old conn.new }
+{
+    let (own, world) = read_own(alloc, conn)?;
+    let Some(others) = read_others(alloc, conn)? else {
+        return Err(StoreFault::Damaged(Rule::Ranges));
+    };
+    let parts = parts_with(alloc, own.into_head(), others)?;
+    Ok((world, parts))
+}
+
+/// Loads what the tables of a connection hold that is in no transaction.
+fn load_idle<S: Alter>(
+    alloc: Global,
+    conn: &mut Connection<S>,
+) -> Result<(World, Campaign), StoreFault>
+    requires idle { conn.old.in_transaction ≡ false }
+    requires settled { IsSettled (state S.Store conn.old) }
+    ensures ok { IfOk result (λ both. IsLoaded S.Store conn.old conn.new both.0 both.1) }
+    ensures err { HasCleanDisk (state S.Store conn.new) → IfErr result (RefusesToLoad S.Store conn.old) }
+    ensures leaves { Leaves S.Store conn.old conn.new }
+{
+    let (world, parts) = gather(alloc, conn)?;
+    confirm(conn)?;
+    let campaign = check(alloc, &world, parts)?;
+    Ok((world, campaign))
+}
+
+/// Loads the campaign that the tables hold, with its world; nothing of it is marked, and it is good. Nothing is changed,
+/// whatever is answered. NotACampaign: the campaign's own row can't be asked for. Damaged: the rows break this rule of the
+/// tables, and none before it; a value of another type in the campaign's own row breaks the first, one in another table the
+/// second. Store: the connection is in a transaction, a table can't be read, the tables or indexes are not made as `create`
+/// makes them, there is a view or a trigger, or the disk fails. See docs/FORMATS.md, "Rules of the tables".
+pub fn load<S: Alter>(
+    alloc: Global,
+    conn: &mut Connection<S>,
+) -> Result<(World, Campaign), StoreFault>
+    ensures ok { IfOk result (λ both. Loads S.Store conn.old conn.new both.0 both.1) }
+    ensures err { HasCleanDisk (state S.Store conn.new) → IfErr result (RefusesToLoad S.Store conn.old) }
+    ensures alone { LeavesAlone S.Store conn.old conn.new }
+{
+    if !conn.is_autocommit() {
+        return Err(StoreFault::Store);
+    }
+    load_idle(alloc, conn)
+}

@@ -1,0 +1,28 @@
+//! Whether what was read is of the tables of a campaign, on a connection that is still open.
+ghost use Rattle.std.specs.Prelude.{◌≡◌, false, OnOk, IfErr};
+ghost use Rattle.sqlite.specs.Held.{state};
+ghost use Rattle.sqlite.specs.State.{HasCleanDisk};
+ghost use Rattle.atl_store.specs.Gathering.{IsSettled, Leaves, Fails, IsConfirmed};
+
+use crate::fault::StoreFault;
+use crate::schema::has_nine;
+use sqlite::{Alter, Connection};
+
+/// Tests the schema, and that the connection is open: a disk that failed as a reading was rolled back has shut it, and nothing
+/// shows that before the next statement.
+pub(crate) fn confirm<S: Alter>(conn: &mut Connection<S>) -> Result<(), StoreFault>
+    requires idle { conn.old.in_transaction ≡ false }
+    requires settled { IsSettled (state S.Store conn.old) }
+    ensures ok { HasCleanDisk (state S.Store conn.new) → OnOk result (IsConfirmed (state S.Store conn.old) (state S.Store conn.new)) }
+    ensures fails { IfErr result Fails }
+    ensures leaves { Leaves S.Store conn.old conn.new }
+{
+    if !has_nine(conn.schema()) {
+        return Err(StoreFault::Store);
+    }
+    conn.query_all(
+        "SELECT id, format, month, next_faction, next_unit, next_structure, pass, world FROM campaign ORDER BY id",
+        &[],
+    )?;
+    Ok(())
+}
