@@ -15,6 +15,10 @@ pub enum Failure {
     Refused(Refusal),
     /// A campaign is in the database.
     NotEmpty,
+    /// No campaign is in the database.
+    NotACampaign,
+    /// The rows of the campaign break the rule of this number.
+    Damaged(u8),
     /// The database refuses.
     Store,
     Memory,
@@ -30,6 +34,8 @@ impl Drop for Failure {
             Failure::World(_) => {}
             Failure::Refused(_) => {}
             Failure::NotEmpty => {}
+            Failure::NotACampaign => {}
+            Failure::Damaged(_) => {}
             Failure::Store => {}
             Failure::Memory => {}
             Failure::Output => {}
@@ -55,6 +61,8 @@ impl From<Cause> for Failure {
             Cause::World(fault) => Failure::World(fault),
             Cause::BadPassText => Failure::Refused(Refusal::BadPassText),
             Cause::NotEmpty => Failure::NotEmpty,
+            Cause::NotACampaign => Failure::NotACampaign,
+            Cause::Damaged(rule) => Failure::Damaged(rule.number()),
             Cause::Store => Failure::Store,
             Cause::Memory => Failure::Memory,
         }
@@ -88,6 +96,8 @@ impl Failure {
                 eprintln!(rt; "refused: {number} {refusal:?}")
             }
             Failure::NotEmpty => eprintln!(rt; "fault: NotEmpty"),
+            Failure::NotACampaign => eprintln!(rt; "fault: NotACampaign"),
+            Failure::Damaged(number) => eprintln!(rt; "fault: Damaged {number}"),
             Failure::Store => eprintln!(rt; "fault: Store"),
             Failure::Memory => eprintln!(rt; "fault: Memory"),
             Failure::Output => Ok(()),

@@ -30,14 +30,16 @@ module _ {S : Type 0} (g : Ghosts S) where
 
   -- a founding that was refused before the store was asked
   pub spared : (conn : Held S) (text pass : List ℕ) (why : Cause) → IsCause text pass (has_campaign conn.schema) why → RefusesFounding g conn text pass why conn
-  spared conn text pass why cause = record { cause = cause; leaves = leaves why; later = later_itself conn }
+  spared conn text pass why cause = record { cause = cause; leaves = leaves why cause; later = later_itself conn }
     where
-      leaves : (why : Cause) → Leaves g conn text pass conn why
-      leaves (BadWorld fault) = refl
-      leaves BadPassText = refl
-      leaves none.NotEmpty = refl
-      leaves none.Store = nothing_done conn text pass
-      leaves none.Memory = nothing_done conn text pass
+      leaves : (why : Cause) → IsCause text pass (has_campaign conn.schema) why → Leaves g conn text pass conn why
+      leaves (BadWorld fault) is = refl
+      leaves BadPassText is = refl
+      leaves none.NotEmpty is = refl
+      leaves none.NotACampaign is = is
+      leaves (none.Damaged rule) is = is
+      leaves none.Store is = nothing_done conn text pass
+      leaves none.Memory is = nothing_done conn text pass
 
   -- the service that is founded stands
   pub founded_stands : (conn : Held S) (w : Planet) (c : Campaign) (text : List ℕ) → conn.in_transaction ≡ false → IsGood w c → world_of text ≡ Ok w → HoldsCampaign g conn text c → Stands g conn w c true

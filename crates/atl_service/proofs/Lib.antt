@@ -1,5 +1,6 @@
 pub mod AnswerLaws
 pub mod FoundLaws
 pub mod ListLaws
+pub mod OpenLaws
 pub mod RunLaws
 pub mod StepLaws

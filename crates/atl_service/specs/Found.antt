@@ -15,7 +15,7 @@ use Rattle.atl_store.specs.Keeps.{HoldsCampaign, IsLater, Spares, MayFound}
 use Rattle.atl_store.specs.declared.fault.CreateFault.{CreateFault}
 use Rattle.atl_store.specs.declared.fault.CreateFault.TheVariants as create
 use Rattle.atl_service.specs.declared.command.Cause.{Cause}
-use Rattle.atl_service.specs.declared.command.Cause.TheVariants.{World as BadWorld, BadPassText, NotEmpty, Store, Memory}
+use Rattle.atl_service.specs.declared.command.Cause.TheVariants.{World as BadWorld, BadPassText, NotEmpty, NotACampaign, Damaged, Store, Memory}
 use Rattle.atl_service.specs.Engine.{Engine, text_in}
 
 -- where no table campaign was there, the service is open, with the world of the text and the founded campaign, and its tables hold the rows of both
@@ -32,11 +32,13 @@ pub record Founds {S : Type 0} (g : Ghosts S) (old : Held S) (text pass : List �
 abbrev pub IsWorldText : List ℕ → Type 0
 IsWorldText text = (w : Planet) × (world_of text ≡ Ok w)
 
--- the first of the checks that fails
+-- the first of the checks that fails; what only an opening finds is never told
 abbrev pub IsCause : List ℕ → List ℕ → Bool → Cause → Type 0
 IsCause text pass is_there (BadWorld fault) = world_of text ≡ Err fault
 IsCause text pass is_there BadPassText = IsWorldText text × (pass_ok pass ≡ false)
 IsCause text pass is_there NotEmpty = IsWorldText text × (pass_ok pass ≡ true) × (is_there ≡ true)
+IsCause text pass is_there NotACampaign = ⊥
+IsCause text pass is_there (Damaged rule) = ⊥
 IsCause text pass is_there Store = IsWorldText text × (pass_ok pass ≡ true) × (is_there ≡ false)
 IsCause text pass is_there Memory = ⊤
 
@@ -50,6 +52,8 @@ abbrev pub Leaves : {S : Type 0} → Ghosts S → Held S → List ℕ → List �
 Leaves g old text pass new (BadWorld fault) = new ≡ old
 Leaves g old text pass new BadPassText = new ≡ old
 Leaves g old text pass new NotEmpty = new ≡ old
+Leaves g old text pass new NotACampaign = ⊥
+Leaves g old text pass new (Damaged rule) = ⊥
 Leaves g old text pass new Store = FailsToFound g old text pass new
 Leaves g old text pass new Memory = FailsToFound g old text pass new
 

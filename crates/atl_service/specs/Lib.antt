@@ -4,3 +4,4 @@ pub mod Engine
 pub mod Answering
 pub mod Runs
 pub mod Found
+pub mod Opened

@@ -2,10 +2,12 @@
 ghost use Rattle.std.specs.Prelude.{◌≡◌, ◌≤◌};
 ghost use Rattle.atl_service.specs.Numbers.{number_of};
 ghost use Rattle.atl_service.specs.Found.{of_world, of_creation};
+ghost use Rattle.atl_service.specs.Opened.{of_loading};
 ghost use Rattle.atl_service.specs.Answering.{of_writing};
 
 use atl_orders::FaultyLine;
-use atl_store::{CreateFault, WriteFault};
+use atl_state::check::Rule;
+use atl_store::{CreateFault, StoreFault, WriteFault};
 use atl_tables::{Sequence, Text, WorldFault};
 use sqlite::{Alter, Connection};
 use std::alloc::AllocError;
@@ -159,7 +161,8 @@ impl Drop for Answer {
     }
 }
 
-/// Why no campaign is founded: the first of these that applies, or Memory at any point.
+/// Why no campaign is founded or opened: the first of these that applies, or Memory at any point. A founding gives neither
+/// NotACampaign nor Damaged, and an opening gives only these, Store and Memory. See docs/FORMATS.md, "Tables".
 #[derive(Drop, Debug)]
 pub enum Cause {
     /// The world text has this fault, which is not Memory.
@@ -168,7 +171,12 @@ pub enum Cause {
     BadPassText,
     /// The database has a table `campaign`.
     NotEmpty,
-    /// The database refuses for another cause than memory, or has other tables.
+    /// The database has no table `campaign`, or the table lacks a column.
+    NotACampaign,
+    /// The rows of the tables break this rule, and none before it.
+    Damaged(Rule),
+    /// The database refuses for another cause than memory. To a founding it has other tables; to an opening its tables are not
+    /// made as those of a campaign.
     Store,
     Memory,
 }
@@ -196,6 +204,19 @@ impl From<CreateFault> for Cause {
     }
 }
 
+impl From<StoreFault> for Cause {
+    ghost from_gives = { λ fault cause. cause ≡ of_loading fault };
+
+    fn from(fault: StoreFault) -> Cause {
+        match fault {
+            StoreFault::NotACampaign => Cause::NotACampaign,
+            StoreFault::Damaged(rule) => Cause::Damaged(rule),
+            StoreFault::Store => Cause::Store,
+            StoreFault::Memory => Cause::Memory,
+        }
+    }
+}
+
 impl From<AllocError> for Cause {
     ghost use Rattle.atl_service.specs.declared.command.Cause.TheVariants.{Memory};
 
@@ -206,7 +227,7 @@ impl From<AllocError> for Cause {
     }
 }
 
-/// A founding that was refused hands its connection back, with its tables as they were.
+/// A founding or an opening that was refused hands its connection back, with its tables as they were.
 #[derive(Drop)]
 pub struct Refused<S: Alter> {
     pub why: Cause,

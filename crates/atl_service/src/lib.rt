@@ -7,4 +7,4 @@ mod founding;
 pub mod service;
 
 pub use command::{Answer, Cause, Command, Fault, Refusal, Refused};
-pub use service::{Service, found};
+pub use service::{Service, found, open};

@@ -5,12 +5,13 @@ ghost use Rattle.sqlite.specs.Held.{state};
 ghost use Rattle.sqlite.specs.State.{HasCleanDisk};
 ghost use Rattle.atl_tables.specs.World.{world_of};
 ghost use Rattle.atl_service.specs.Found.{Founds, RefusesFounding};
+ghost use Rattle.atl_service.specs.Opened.{Opens, RefusesOpening};
 
 use crate::answering::answered;
 use crate::command::{Answer, Cause, Command, Fault, Refused};
 use crate::founding::prepared;
 use atl_state::Campaign;
-use atl_store::create;
+use atl_store::{create, load};
 use atl_tables::World;
 use sqlite::{Alter, Connection};
 use std::alloc::{AllocError, Global};
@@ -155,6 +156,35 @@ pub fn found<S: Alter>(
     };
     match create(&mut conn, world_text, &mut campaign) {
         Ok(()) => Ok(Service {
+            alloc,
+            conn,
+            world,
+            campaign,
+            is_open: true,
+        }),
+        Err(fault) => Err(Refused {
+            why: Cause::from(fault),
+            conn,
+        }),
+    }
+}
+
+/// Opens the campaign that the tables hold, with its world. Nothing is changed, whatever is answered, and a refusal hands the
+/// connection back. NotACampaign: there is no table `campaign`, or it lacks a column. Damaged: the rows of the tables break
+/// this rule, and none before it. Store: the connection is in a transaction, the tables are not made as those of a campaign,
+/// or the database refuses for another cause than memory. See docs/FORMATS.md, "Rules of the tables".
+pub fn open<S: Alter>(alloc: Global, mut conn: Connection<S>) -> Result<Service<S>, Refused<S>>
+    ensures ok { IfOk result (Opens S.Store conn) }
+    ensures err { IfErr result (λ r. RefusesOpening S.Store conn r.why r.conn) }
+{
+    if !conn.is_autocommit() {
+        return Err(Refused {
+            why: Cause::Store,
+            conn,
+        });
+    }
+    match load(alloc, &mut conn) {
+        Ok((world, campaign)) => Ok(Service {
             alloc,
             conn,
             world,

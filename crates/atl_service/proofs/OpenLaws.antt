@@ -1,0 +1,46 @@
+-- An opening.
+use Rattle.std.proofs.Common.{◌≡◌, Bool, false, true, not, Some, refl, ◌∙◌, inl, arith}
+use Rattle.sqlite_trees.specs.declared.store.Store.{Ghosts}
+use Rattle.sqlite.specs.Held.{Held, state}
+use Rattle.atl_tables.specs.Planet.{Planet}
+use Rattle.atl_state.specs.State.{Marked}
+use Rattle.atl_store.specs.Loading.{Loads, RefusesToLoad, LeavesAlone}
+use Rattle.atl_store.specs.declared.fault.StoreFault.{StoreFault}
+use Rattle.atl_store.specs.declared.fault.StoreFault.TheVariants.{Store}
+use Rattle.atl_store.proofs.StayLaws.{later, spares_itself}
+use Rattle.atl_service.specs.Engine.{IsService}
+use Rattle.atl_service.specs.Opened.{Opens, RefusesOpening, of_loading}
+use Rattle.sqlite.specs.State.{HasCleanDisk}
+
+-- a connection that commits by itself is in no transaction
+pub is_idle : (told busy : Bool) → told ≡ not busy → told ≡ true → busy ≡ false
+is_idle told false is so = refl
+is_idle told true is so = cc
+
+module _ {S : Type 0} (g : Ghosts S) where
+  -- what is not touched is left alone
+  pub alone_itself : (conn : Held S) → LeavesAlone g conn conn
+  alone_itself conn = record {
+    spares = λ clean. spares_itself (state g conn);
+    survives = record { clean = omega arith; shield = λ s. s; counts = omega arith; limit = refl; closes = λ clean up. inl up; crash = λ clean db may. inl may };
+    mode = refl;
+  }
+
+  -- a connection that is in a transaction is not asked
+  pub refused_unasked : (conn : Held S) → RefusesOpening g conn (of_loading Store) conn
+  refused_unasked conn = record { fault = Store; why_is = refl; cause = λ clean. tt; alone = alone_itself conn; later = later _ _ _ (alone_itself conn).survives }
+
+  module _ (old new : Held S) (alone : LeavesAlone g old new) where
+    pub refused_by_load : (fault : StoreFault) → (HasCleanDisk (state g new) → RefusesToLoad g old fault) → RefusesOpening g old (of_loading fault) new
+    refused_by_load fault cause = record { fault = fault; why_is = refl; cause = cause; alone = alone; later = later _ _ _ alone.survives }
+
+    module _ (w : Planet) (c : Marked) (loads : Loads g old new w c) where
+      pub opens : Opens g old (record { conn = new; world = w; campaign = Some c.what })
+      opens = record { campaign = c; is_open = refl; loads = loads; alone = alone; later = later _ _ _ alone.survives }
+
+      -- the service that is opened stands
+      pub opened_stands : old.in_transaction ≡ false → IsService g new w c true
+      opened_stands idle = record {
+        stands = record { idle = alone.mode ∙ idle; good = λ up. loads.good; tables = λ up. loads.tables; text = λ up. loads.world };
+        unmarked = λ up. loads.unmarked;
+      }

@@ -1,0 +1,36 @@
+-- What an opening may answer and leave.
+use Rattle.std.specs.Prelude.{◌≡◌, Some}
+use Rattle.sqlite_trees.specs.declared.store.Store.{Ghosts}
+use Rattle.sqlite.specs.Held.{Held, state}
+use Rattle.sqlite.specs.State.{HasCleanDisk}
+use Rattle.atl_state.specs.State.{Marked}
+use Rattle.atl_store.specs.Keeps.{IsLater}
+use Rattle.atl_store.specs.Loading.{Loads, RefusesToLoad, LeavesAlone}
+use Rattle.atl_store.specs.declared.fault.StoreFault.{StoreFault}
+use Rattle.atl_store.specs.declared.fault.StoreFault.TheVariants as load
+use Rattle.atl_service.specs.declared.command.Cause.{Cause}
+use Rattle.atl_service.specs.declared.command.Cause.TheVariants.{NotACampaign, Damaged, Store, Memory}
+use Rattle.atl_service.specs.Engine.{Engine}
+
+-- The service is open, with the world and the good campaign that the tables hold, and the tables are as they were.
+pub record Opens {S : Type 0} (g : Ghosts S) (old : Held S) (made : Engine S) : Type 0 where
+  pub campaign : Marked
+  pub is_open : made.campaign ≡ Some campaign.what
+  pub loads : Loads g old made.conn made.world campaign
+  pub alone : LeavesAlone g old made.conn
+  pub later : IsLater (state g old) (state g made.conn)
+
+-- what is told of a fault of the loading
+abbrev pub of_loading : StoreFault → Cause
+of_loading load.NotACampaign = NotACampaign
+of_loading (load.Damaged rule) = Damaged rule
+of_loading load.Store = Store
+of_loading load.Memory = Memory
+
+-- The opening is refused for what the loading refuses, and the tables are as they were.
+pub record RefusesOpening {S : Type 0} (g : Ghosts S) (old : Held S) (why : Cause) (new : Held S) : Type 0 where
+  pub fault : StoreFault
+  pub why_is : why ≡ of_loading fault
+  pub cause : HasCleanDisk (state g new) → RefusesToLoad g old fault
+  pub alone : LeavesAlone g old new
+  pub later : IsLater (state g old) (state g new)
