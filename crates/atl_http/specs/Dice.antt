@@ -1,0 +1,25 @@
+-- The words that dice give.
+use Rattle.std.specs.Prelude.{ℕ, zero, suc, List, [], ◌∷◌}
+use Rattle.rand_pcg.specs.Lcg.{Lcg, started, increment_of}
+use Rattle.rand_pcg.specs.Pcg.{multiplier_64, pcg32}
+
+-- the stream of a faction that joins is this and its number; that of a month is its number, which is below
+unfoldable pub joining_streams : ℕ
+joining_streams = 10000
+
+-- the generator of a seed and a stream
+unfoldable pub generator : (seed stream : ℕ) → Lcg
+generator seed stream = started 64 multiplier_64 seed (increment_of 64 stream)
+
+-- the word that a generator gives
+unfoldable pub word_of : Lcg → ℕ
+word_of g = (pcg32 g).0
+
+-- the generator that is left behind that word
+unfoldable pub behind : Lcg → Lcg
+behind g = (pcg32 g).1
+
+-- so many words, one after another
+unfoldable pub first_words : (count : ℕ) → Lcg → List ℕ
+first_words zero g = []
+first_words (suc count) g = word_of g ∷ first_words count (behind g)

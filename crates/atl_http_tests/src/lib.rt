@@ -1,0 +1,5 @@
+//! Tests of the dice.
+#![tactic(auto)]
+
+#[cfg(test)]
+mod tests;

@@ -1,0 +1,2 @@
+//! Tests of atl_http by its public calls alone.
+mod dice;
