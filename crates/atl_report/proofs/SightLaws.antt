@@ -1,31 +1,25 @@
 -- The regions gathered from a faction's units are those that it sees.
-use Rattle.std.proofs.Common.{◌≡◌, ◌==◌, ℕ, Bool, true, false, cond, ◌&&◌, ◌||◌, nat_eq, nat_lt, List, [], ◌∷◌, T, filter, Option, Some, None, refl, sym, ap, ◌∙◌, arith}
+use Rattle.std.proofs.Common.{◌≡◌, ◌==◌, ℕ, Bool, true, false, cond, ◌&&◌, ◌||◌, nat_eq, nat_lt, List, [], ◌∷◌, filter, Option, Some, None, refl, sym, ap, ◌∙◌, arith}
 use Rattle.std.specs.declared.cmp.Ordering.TheVariants.{Less, Equal, Greater}
 use Rattle.std.specs.Ordering.{nat_cmp, eq_by_cmp, is_eq, is_lt, ordering_reverse}
-use Rattle.std.specs.Cmp.{nat_cmp_total, ranked, unsigned_tied}
+use Rattle.std.specs.Cmp.{nat_cmp_total, unsigned_tied}
 use Rattle.std.specs.List.{list_any}
 use Rattle.std.specs.FinMap.{FinMap, get, get-entries, get-empty, get-insert, get-from_sorted, find, empty, entries, entries_sorted, entries-from_sorted, from_sorted, is_sorted, same_map, nat_cmp-IsAntisymmetric}
 use Rattle.std.specs.FinMap.Entries.{below_all, where_key, is_sorted-where_key, find-where_key}
 use Rattle.std.proofs.lemmas.Bool.{false≢true, and_parts}
 use Rattle.std.proofs.lemmas.Bool.Decides.{nat_tests}
+use Rattle.std.proofs.lemmas.Cmp.{tied_itself}
 use Rattle.atl_tables.specs.Sums.{numbers_among, numbers_where}
 use Rattle.atl_tables.proofs.SumLaws.{chosen-cons}
+use Rattle.atl_tables.proofs.TrackLaws.{is_true}
 use Rattle.atl_state.specs.declared.records.Region.{Region}
 use Rattle.atl_state.specs.declared.records.Unit.{Unit}
 use Rattle.atl_state.specs.State.{State, numbers_of}
 use Rattle.atl_report.specs.Sight.{is_watching, sees_region}
 use Rattle.atl_report.specs.Gathering.{with_region, with_watched, gathered}
 
-is_true : (b : Bool) → T b → b ≡ true
-is_true true h = refl
-is_true false h = absurd h
-
 itself : (n : ℕ) → is_eq (nat_cmp n n) ≡ true
-itself n = elim (nat_cmp n n) as (λ o. nat_cmp n n ≡ o → is_eq o ≡ true) [
-  | Less ↦ λ e. let l = ranked n n Less (sym e) in absurd (omega arith)
-  | Equal ↦ λ _. refl
-  | Greater ↦ λ e. let l = ranked n n Greater (sym e) in absurd (omega arith)
-] refl
+itself n = ap is_eq (tied_itself nat_cmp_total n)
 
 above : (k q : ℕ) → is_lt (nat_cmp k q) ≡ true → is_eq (nat_cmp q k) ≡ false
 above k q h = elim (nat_cmp q k) as (λ o. nat_cmp q k ≡ o → is_eq o ≡ false) [

@@ -2,10 +2,15 @@
 mod commands;
 mod compare;
 mod crashes;
+mod damage;
+mod files;
 mod founding;
+mod full;
 mod mailings;
 mod making;
+mod opening;
 mod refusals;
+mod remade;
 mod script;
 mod state;
 mod tables;

@@ -21,7 +21,7 @@ Exits: none.
 ";
 
 /// What the second faction sees where two have joined.
-const SECOND_REPORT: &str = "Atlantis report, month 0, faction 2 \"Bree\".
+pub(crate) const SECOND_REPORT: &str = "Atlantis report, month 0, faction 2 \"Bree\".
 Orders:
 None.
 Region 1 \"Vale\", plain: 1000 peasants, 500 money.

@@ -9,18 +9,21 @@ use std::alloc::Global;
 use std::process::Abort;
 use std::test::Fail;
 
-fn told(cause: &Cause) -> &'static str {
+/// The cause of a refusal in words.
+pub(crate) fn told(cause: &Cause) -> &'static str {
     match cause {
         Cause::World(_) => "world",
         Cause::BadPassText => "bad pass text",
         Cause::NotEmpty => "not empty",
+        Cause::NotACampaign => "not a campaign",
+        Cause::Damaged(_) => "damaged",
         Cause::Store => "store",
         Cause::Memory => "memory",
     }
 }
 
 /// Asserts why no campaign is founded in a database.
-fn is_refused<S: Alter + Drop>(
+pub(crate) fn is_refused<S: Alter + Drop>(
     rt: &impl Abort,
     alloc: Global,
     conn: Connection<S>,

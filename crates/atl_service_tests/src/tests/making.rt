@@ -1,7 +1,7 @@
 //! Commands and services. Of what is large (a service, a connection, a command) each function holds one and lends it, and
 //! one that works on a service takes any store.
 use super::compare::is_text;
-use atl_service::{Answer, Command, Fault, Refusal, Service, found};
+use atl_service::{Answer, Command, Fault, Refusal, Service, found, open};
 use atl_tables::Sequence;
 use sqlite::{Alter, Connection};
 use std::alloc::Global;
@@ -59,6 +59,17 @@ pub(crate) fn begun<S: Alter + Drop>(
     match found(alloc, conn, world, b"gm") {
         Ok(service) => Ok(service),
         Err(_) => Err(Fail::new("found")),
+    }
+}
+
+/// The campaign that a database holds.
+pub(crate) fn opened<S: Alter + Drop>(
+    alloc: Global,
+    conn: Connection<S>,
+) -> Result<Service<S>, Fail> {
+    match open(alloc, conn) {
+        Ok(service) => Ok(service),
+        Err(_) => Err(Fail::new("open")),
     }
 }
 

@@ -178,7 +178,7 @@ fn take<S: Alter>(
 }
 
 /// Takes the steps one after another.
-fn follow<S: Alter>(
+pub(crate) fn follow<S: Alter>(
     rt: &impl Abort,
     alloc: Global,
     service: &mut Service<S>,

@@ -1,0 +1,209 @@
+//! What opening tells of a database that was changed by hand.
+use super::files::{connected, new_files, reopened};
+use super::making::begun;
+use super::script::{Asked, Step, follow};
+use super::worlds::ISLE;
+use atl_service::{Cause, Refused, open};
+use sqlite::{Alter, Connection, FileStore};
+use sqlite_disk::Disk;
+use std::alloc::Global;
+use std::process::Abort;
+use std::test::Fail;
+
+/// What an opening is answered.
+#[derive(Clone, Copy, PartialEq, Eq, Debug)]
+enum Told {
+    Opens,
+    /// The number of the rule that is broken.
+    Damaged(u8),
+    NotACampaign,
+    Store,
+    /// Want of memory, or what only a founding is answered.
+    Other,
+}
+
+fn refusal(why: &Cause) -> Told {
+    match why {
+        Cause::Damaged(rule) => Told::Damaged(rule.number()),
+        Cause::NotACampaign => Told::NotACampaign,
+        Cause::Store => Told::Store,
+        _ => Told::Other,
+    }
+}
+
+fn asked<S: Alter + Drop>(alloc: Global, conn: Connection<S>) -> Told {
+    match open(alloc, conn) {
+        Ok(_) => Told::Opens,
+        Err(Refused { why, conn: _ }) => refusal(&why),
+    }
+}
+
+/// Of a database that these statements changed.
+fn is_told(rt: &impl Abort, told: Told, wanted: Told, sql: &str) {
+    assert_eq!(rt; told, wanted, "after {sql}");
+}
+
+/// Statements, and what opening is answered after them. Avalon and Bree have a unit each in region 3, on land.
+const ROWS: [(&str, Told); 22] = [
+    ("DELETE FROM mail", Told::Opens),
+    ("CREATE TABLE notes (words TEXT)", Told::Opens),
+    ("CREATE INDEX units_by_region ON unit (region)", Told::Opens),
+    ("INSERT INTO has VALUES (1, 1, 0, 450)", Told::Opens),
+    ("DELETE FROM campaign", Told::Damaged(1)),
+    ("UPDATE campaign SET format = 2", Told::Damaged(1)),
+    ("UPDATE campaign SET world = 'no world'", Told::Damaged(1)),
+    ("UPDATE campaign SET month = 10000", Told::Damaged(2)),
+    ("UPDATE campaign SET pass = 'a b'", Told::Damaged(3)),
+    (
+        "UPDATE unit SET structure = 1 WHERE number = 2",
+        Told::Damaged(4),
+    ),
+    ("UPDATE campaign SET next_unit = 2", Told::Damaged(5)),
+    ("INSERT INTO has VALUES (1, 1, 0, 451)", Told::Damaged(6)),
+    (
+        "UPDATE faction SET gone = 1 WHERE number = 2",
+        Told::Damaged(7),
+    ),
+    (
+        "UPDATE campaign SET next_structure = 2; INSERT INTO structure VALUES (1, 1, 'Building 1', 3, 1, 1)",
+        Told::Damaged(8),
+    ),
+    (
+        "UPDATE unit SET region = 2 WHERE number = 2",
+        Told::Damaged(9),
+    ),
+    ("UPDATE unit SET guard = 1", Told::Damaged(10)),
+    (
+        "UPDATE unit SET money = money + 1 WHERE number = 1",
+        Told::Damaged(11),
+    ),
+    (
+        "UPDATE books SET entry = 99 WHERE entry = 2 AND thing = 0",
+        Told::Damaged(11),
+    ),
+    ("DELETE FROM report WHERE faction = 2", Told::Damaged(12)),
+    (
+        "INSERT INTO mail VALUES (1, x'68656C6C6F')",
+        Told::Damaged(12),
+    ),
+    (
+        "UPDATE campaign SET format = 2; UPDATE campaign SET month = 10000; UPDATE unit SET guard = 1",
+        Told::Damaged(1),
+    ),
+    (
+        "UPDATE unit SET guard = 1; UPDATE faction SET gone = 1 WHERE number = 2",
+        Told::Damaged(7),
+    ),
+];
+
+/// The same, where tables and indexes are made otherwise.
+const SHAPES: [(&str, Told); 10] = [
+    ("DROP TABLE campaign", Told::NotACampaign),
+    (
+        "DROP TABLE campaign; CREATE TABLE campaign (id INTEGER NOT NULL PRIMARY KEY) STRICT",
+        Told::NotACampaign,
+    ),
+    ("DROP TABLE unit", Told::Store),
+    (
+        "DROP TABLE campaign; CREATE TABLE campaign (id INTEGER NOT NULL PRIMARY KEY CHECK (id = 1), format INTEGER NOT NULL, month INTEGER NOT NULL, next_faction INTEGER NOT NULL, next_unit INTEGER NOT NULL, next_structure INTEGER NOT NULL, pass TEXT NOT NULL, world TEXT NOT NULL); INSERT INTO campaign VALUES (1, 'x', 0, 3, 3, 1, 'gm', 'no world')",
+        Told::Damaged(1),
+    ),
+    (
+        "DROP TABLE unit; CREATE TABLE unit (number INTEGER NOT NULL PRIMARY KEY, faction INTEGER NOT NULL, name TEXT NOT NULL, region INTEGER NOT NULL, structure INTEGER NOT NULL, men INTEGER NOT NULL, money INTEGER NOT NULL, guard INTEGER NOT NULL); INSERT INTO unit VALUES (1, 1, 'Unit 1', 3, 0, 1, 'x', 0), (2, 2, 'Unit 2', 3, 0, 1, 1000, 0)",
+        Told::Damaged(2),
+    ),
+    (
+        "DROP TABLE unit; CREATE TABLE unit (number INTEGER NOT NULL PRIMARY KEY, faction INTEGER NOT NULL, name TEXT NOT NULL, region INTEGER NOT NULL, structure INTEGER NOT NULL, men INTEGER NOT NULL, money INTEGER NOT NULL, guard INTEGER NOT NULL); INSERT INTO unit VALUES (1, 1, 'Unit 1', 3, 0, 1, 1000, 0), (2, 2, 'Unit 2', 3, 0, 1, 1000, 0)",
+        Told::Store,
+    ),
+    (
+        "DROP TABLE mail; CREATE TABLE mail (text BLOB NOT NULL, faction INTEGER NOT NULL PRIMARY KEY) STRICT",
+        Told::Store,
+    ),
+    (
+        "CREATE UNIQUE INDEX units_by_name ON unit (name)",
+        Told::Store,
+    ),
+    ("CREATE VIEW rich AS SELECT number FROM unit", Told::Store),
+    (
+        "CREATE TABLE notes (unit INTEGER REFERENCES unit (number))",
+        Told::Store,
+    ),
+];
+
+/// Both join the island.
+const BOTH_JOIN: [Step; 2] = [
+    Step::Joined(Asked::Join("Avalon", "pw", 1), 1, 1),
+    Step::Joined(Asked::Join("Bree", "pb", 1), 2, 2),
+];
+
+/// The database of the island's campaign, in which both have joined.
+fn island<S: Alter + Drop>(
+    rt: &impl Abort,
+    alloc: Global,
+    conn: Connection<S>,
+) -> Result<Connection<S>, Fail> {
+    let mut service = begun(alloc, conn, ISLE)?;
+    let done = follow(rt, alloc, &mut service, &BOTH_JOIN);
+    let conn = service.end();
+    done?;
+    Ok(conn)
+}
+
+/// Changes the island's database by hand, and asserts what opening it is answered once its files were closed and opened.
+fn is_judged<D: Disk + Drop>(
+    rt: &impl Abort,
+    alloc: Global,
+    conn: Connection<FileStore<D>>,
+    sql: &str,
+    wanted: Told,
+) -> Result<(), Fail> {
+    let mut conn = island(rt, alloc, conn)?;
+    conn.execute_batch(sql)?;
+    let conn = reopened(alloc, conn)?;
+    is_told(rt, asked(alloc, conn), wanted, sql);
+    Ok(())
+}
+
+fn are_judged(rt: &impl Abort, alloc: Global, cases: &[(&str, Told)]) -> Result<(), Fail> {
+    for (sql, wanted) in cases {
+        let conn = connected(alloc, new_files(alloc))?;
+        is_judged(rt, alloc, conn, sql, *wanted)?;
+    }
+    Ok(())
+}
+
+#[test]
+fn the_first_rule_that_rows_break_is_told(rt: HostRuntime) -> Result<(), Fail> {
+    are_judged(&rt, rt.alloc(), &ROWS)
+}
+
+#[test]
+fn tables_made_otherwise_are_refused(rt: HostRuntime) -> Result<(), Fail> {
+    are_judged(&rt, rt.alloc(), &SHAPES)
+}
+
+#[test]
+fn an_empty_database_is_no_campaign(rt: HostRuntime) -> Result<(), Fail> {
+    let conn = Connection::open_in_memory(rt.alloc())?;
+    is_told(&rt, asked(rt.alloc(), conn), Told::NotACampaign, "nothing");
+    Ok(())
+}
+
+/// Asserts that nothing is opened in the midst of a transaction.
+fn waits_for_the_end<S: Alter + Drop>(
+    rt: &impl Abort,
+    alloc: Global,
+    conn: Connection<S>,
+) -> Result<(), Fail> {
+    let mut conn = island(rt, alloc, conn)?;
+    conn.execute("BEGIN", &[])?;
+    is_told(rt, asked(alloc, conn), Told::Store, "BEGIN");
+    Ok(())
+}
+
+#[test]
+fn a_transaction_is_not_opened(rt: HostRuntime) -> Result<(), Fail> {
+    let conn = Connection::open_in_memory(rt.alloc())?;
+    waits_for_the_end(&rt, rt.alloc(), conn)
+}

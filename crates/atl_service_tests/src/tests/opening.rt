@@ -1,0 +1,167 @@
+//! A campaign that is opened again, on its connection and from its files, and goes on.
+use super::commands::{AVALON, FIRST_REPORT, SECOND_REPORT};
+use super::compare::is_text;
+use super::files::{connected, new_files, reopened};
+use super::founding::is_refused;
+use super::making::{begun, opened};
+use super::script::{Asked, Step, follow};
+use super::tables::holds;
+use super::worlds::SMALL;
+use atl_service::Service;
+use sqlite::{Alter, Connection, FileStore};
+use sqlite_disk::Disk;
+use std::alloc::Global;
+use std::process::Abort;
+use std::test::Fail;
+
+/// The first faction joins and sends its orders.
+const AVALON_COMES: [Step; 3] = [
+    Step::Joined(AVALON, 1, 1),
+    Step::Mailed(Asked::Mail(1, "pw", "#ATLANTIS 1\nUNIT 1\nWORK\n"), 1, &[]),
+    Step::Told(Asked::Report(1, "pw"), FIRST_REPORT),
+];
+
+/// The first faction is as it was, and the second joins.
+pub(crate) const BREE_COMES: [Step; 3] = [
+    Step::Told(Asked::Report(1, "pw"), FIRST_REPORT),
+    Step::Keeps(Some("#ATLANTIS 1\nUNIT 1\nWORK\n")),
+    Step::Joined(Asked::Join("Bree", "pb", 0), 2, 2),
+];
+
+/// Both are as they were.
+pub(crate) const BOTH_ARE_THERE: [Step; 3] = [
+    Step::Numbers(3, 3, 2),
+    Step::Told(Asked::Report(1, "pw"), FIRST_REPORT),
+    Step::Told(Asked::Report(2, "pb"), SECOND_REPORT),
+];
+
+/// All rows of the campaign, written out.
+fn rows_of<S: Alter>(alloc: Global, service: &Service<S>) -> Result<String, Fail> {
+    let campaign = service.campaign().ok_or("closed")?;
+    let parts = campaign.parts()?;
+    Ok(format!(in alloc; "{parts:?}")?)
+}
+
+/// Takes the steps, and gives the rows then.
+fn rows_after<S: Alter>(
+    rt: &impl Abort,
+    alloc: Global,
+    service: &mut Service<S>,
+    steps: &[Step],
+) -> Result<String, Fail> {
+    follow(rt, alloc, service, steps)?;
+    rows_of(alloc, service)
+}
+
+/// Founds a campaign and takes the steps. The database comes back with the rows then.
+fn begins<S: Alter + Drop>(
+    rt: &impl Abort,
+    alloc: Global,
+    conn: Connection<S>,
+    steps: &[Step],
+) -> Result<(String, Connection<S>), Fail> {
+    let mut service = begun(alloc, conn, SMALL)?;
+    let rows = rows_after(rt, alloc, &mut service, steps);
+    let conn = service.end();
+    Ok((rows?, conn))
+}
+
+fn has_rows<S: Alter>(
+    rt: &impl Abort,
+    alloc: Global,
+    service: &Service<S>,
+    rows: &str,
+) -> Result<(), Fail> {
+    let told = rows_of(alloc, service)?;
+    is_text(rt, told.as_str(), rows);
+    Ok(())
+}
+
+/// Opens the campaign, asserts its rows, and takes the steps. The database comes back with the rows then.
+fn goes_on<S: Alter + Drop>(
+    rt: &impl Abort,
+    alloc: Global,
+    conn: Connection<S>,
+    rows: &str,
+    steps: &[Step],
+) -> Result<(String, Connection<S>), Fail> {
+    let mut service = opened(alloc, conn)?;
+    has_rows(rt, alloc, &service, rows)?;
+    let rows = rows_after(rt, alloc, &mut service, steps);
+    let conn = service.end();
+    Ok((rows?, conn))
+}
+
+/// Opens a campaign twice on its connection, where no other is founded then.
+fn comes_back<S: Alter + Drop>(
+    rt: &impl Abort,
+    alloc: Global,
+    conn: Connection<S>,
+) -> Result<(), Fail> {
+    let (rows, conn) = begins(rt, alloc, conn, &AVALON_COMES)?;
+    let (rows, conn) = goes_on(rt, alloc, conn, rows.as_str(), &BREE_COMES)?;
+    let (_, conn) = goes_on(rt, alloc, conn, rows.as_str(), &BOTH_ARE_THERE)?;
+    is_refused(rt, alloc, conn, SMALL, "gm", "not empty");
+    Ok(())
+}
+
+#[test]
+fn a_campaign_is_opened_on_its_connection(rt: HostRuntime) -> Result<(), Fail> {
+    let conn = Connection::open_in_memory(rt.alloc())?;
+    comes_back(&rt, rt.alloc(), conn)
+}
+
+/// The same, where the files are closed and opened in between.
+fn comes_back_from_files<D: Disk + Drop>(
+    rt: &impl Abort,
+    alloc: Global,
+    conn: Connection<FileStore<D>>,
+) -> Result<(), Fail> {
+    let (rows, conn) = begins(rt, alloc, conn, &AVALON_COMES)?;
+    let conn = reopened(alloc, conn)?;
+    let (rows, conn) = goes_on(rt, alloc, conn, rows.as_str(), &BREE_COMES)?;
+    let conn = reopened(alloc, conn)?;
+    goes_on(rt, alloc, conn, rows.as_str(), &BOTH_ARE_THERE)?;
+    Ok(())
+}
+
+#[test]
+fn a_campaign_is_opened_from_its_files(rt: HostRuntime) -> Result<(), Fail> {
+    let conn = connected(rt.alloc(), new_files(rt.alloc()))?;
+    comes_back_from_files(&rt, rt.alloc(), conn)
+}
+
+const NOTES: &str = "CREATE TABLE notes (number INTEGER NOT NULL, words TEXT NOT NULL);
+CREATE INDEX notes_by_words ON notes (words);
+INSERT INTO notes (number, words) VALUES (7, 'pay the printer')";
+
+/// The number of the note that is there.
+pub(crate) const NOTED: [(&str, Option<i64>); 2] = [
+    ("SELECT count(*) FROM notes", Some(1)),
+    (
+        "SELECT number FROM notes WHERE words = 'pay the printer'",
+        Some(7),
+    ),
+];
+
+/// A table of a person's own, with an index, is carried along.
+fn carries_notes<D: Disk + Drop>(
+    rt: &impl Abort,
+    alloc: Global,
+    conn: Connection<FileStore<D>>,
+) -> Result<(), Fail> {
+    let (rows, mut conn) = begins(rt, alloc, conn, &AVALON_COMES)?;
+    conn.execute_batch(NOTES)?;
+    let conn = reopened(alloc, conn)?;
+    let (rows, conn) = goes_on(rt, alloc, conn, rows.as_str(), &BREE_COMES)?;
+    let conn = reopened(alloc, conn)?;
+    let (_, mut conn) = goes_on(rt, alloc, conn, rows.as_str(), &BOTH_ARE_THERE)?;
+    holds(rt, &mut conn, &NOTED);
+    Ok(())
+}
+
+#[test]
+fn a_table_of_a_persons_own_is_carried_along(rt: HostRuntime) -> Result<(), Fail> {
+    let conn = connected(rt.alloc(), new_files(rt.alloc()))?;
+    carries_notes(&rt, rt.alloc(), conn)
+}
