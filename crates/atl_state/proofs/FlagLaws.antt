@@ -1,5 +1,6 @@
 -- The set of the places that are set.
-use Rattle.std.proofs.Common.{◌≡◌, ℕ, zero, suc, ◌+◌, ◌<◌, Bool, true, false, cond, ◌||◌, List, [], ◌∷◌, length, set, refl, sym, ap, ◌∙◌, arith}
+use Rattle.std.proofs.Common.{◌≡◌, ◌≢◌, ℕ, zero, suc, ◌+◌, ◌<◌, ◌≤◌, Bool, true, false, cond, ◌||◌, List, [], ◌∷◌, length, set, refl, sym, ap, ◌∙◌, inl, inr, true≢false, arith}
+use Rattle.std.proofs.lemmas.Bool.{cases_lt}
 use Rattle.std.specs.Prelude.{replicate, slice_index_or}
 use Rattle.std.proofs.lemmas.List.{length-set}
 use Rattle.std.specs.declared.cmp.Ordering.TheVariants.{Less, Equal, Greater}
@@ -52,16 +53,25 @@ two_set flags i j h k = one_set (set flags i true) j (omega (arith, length-set f
 
 -- ---- whether one is set
 
+-- another number than the first is not it
+apart_from : (n q : ℕ) → q ≢ n → (eq_by_cmp nat_cmp q n || false) ≡ false
+apart_from n q apart = elim (nat_cmp q n) as (λ r. nat_cmp q n ≡ r → (is_eq r || false) ≡ false) [
+  | Less ↦ λ _. refl
+  | Equal ↦ λ e. absurd (apart (nat_cmp-IsAntisymmetric q n e))
+  | Greater ↦ λ _. refl
+] refl
+
 before_none : (n q : ℕ) (bs : List Bool) → q < n → numbers.contains (set_from n bs) q ≡ false
 before_none n q [] h = numbers.contains-empty nat_cmp q
 before_none n q (false ∷ bs) h = before_none (n + 1) q bs (omega arith)
 before_none n q (true ∷ bs) h =
-    numbers.contains-insert nat_cmp_total (set_from (n + 1) bs) n q ∙ ap (λ b. eq_by_cmp nat_cmp q n || b) (before_none (n + 1) q bs (omega arith))
-    ∙ elim (nat_cmp q n) as (λ r. nat_cmp q n ≡ r → (is_eq r || false) ≡ false) [
-      | Less ↦ λ _. refl
-      | Equal ↦ λ e. let same : q ≡ n = nat_cmp-IsAntisymmetric q n e in absurd (omega arith)
-      | Greater ↦ λ _. refl
-    ] refl
+    numbers.contains-insert nat_cmp_total (set_from (n + 1) bs) n q ∙ ap (λ b. eq_by_cmp nat_cmp q n || b) (before_none (n + 1) q bs (omega arith)) ∙ apart_from n q (λ same. absurd (omega (arith, same, h)))
+
+past_none : (n q : ℕ) (bs : List Bool) → n + length bs ≤ q → numbers.contains (set_from n bs) q ≡ false
+past_none n q [] h = numbers.contains-empty nat_cmp q
+past_none n q (false ∷ bs) h = past_none (n + 1) q bs (omega arith)
+past_none n q (true ∷ bs) h =
+    numbers.contains-insert nat_cmp_total (set_from (n + 1) bs) n q ∙ ap (λ b. eq_by_cmp nat_cmp q n || b) (past_none (n + 1) q bs (omega arith)) ∙ apart_from n q (λ same. absurd (omega (arith, same, h)))
 
 itself : (n : ℕ) → eq_by_cmp nat_cmp n n ≡ true
 itself n = elim (nat_cmp n n) as (λ r. nat_cmp n n ≡ r → is_eq r ≡ true) [
@@ -91,6 +101,10 @@ contains-set_from n (suc k) (true ∷ bs) h =
 contains-set_from n (suc k) (false ∷ bs) h =
     let e : n + suc k ≡ (n + 1) + k = omega arith in
     ap (numbers.contains (set_from (n + 1) bs)) e ∙ contains-set_from (n + 1) k bs (omega arith)
+
+-- what is in the set has a flag
+pub has_flag : (bs : List Bool) (k : ℕ) → numbers.contains (set_from 0 bs) k ≡ true → k < length bs
+has_flag bs k there = elim (cases_lt k (length bs)) [ inl small ↦ small | inr past ↦ absurd (true≢false (sym there ∙ past_none 0 k bs (omega (arith, past)))) ]
 
 pub is_flag : (bs : List Bool) (k : ℕ) → k < length bs → numbers.contains (set_from 0 bs) k ≡ slice_index_or bs k false
 is_flag bs k h = let e : k ≡ 0 + k = omega arith in ap (numbers.contains (set_from 0 bs)) e ∙ contains-set_from 0 k bs h

@@ -1,8 +1,8 @@
 -- What a contract sees of a campaign's change marks.
-use Rattle.std.specs.Prelude.{ℕ, ◌+◌, ◌*◌, refl, Bool, false, if◌then◌else◌}
+use Rattle.std.specs.Prelude.{◌≡◌, ◌<◌, ℕ, ◌+◌, ◌*◌, refl, Bool, true, false, if◌then◌else◌}
 use Rattle.std.specs.Ordering.{nat_cmp}
 use Rattle.std.specs.Coded.{Coded, code_by, coded×, coded_ℕ, coded_bool}
-use Rattle.std.specs.FinSet.{FinSet, code, empty, insert, len}
+use Rattle.std.specs.FinSet.{FinSet, code, contains, empty, insert, len}
 use Rattle.atl_state.specs.Limits.{entry_count}
 use Rattle.atl_state.specs.declared.books.Entry.{Entry}
 use Rattle.atl_state.specs.declared.books.Thing.{Thing}
@@ -53,3 +53,7 @@ amount_number e t = entry_count * thing_place t + entry_place e
 
 abbrev pub amount_marked : FinSet nat_cmp → Entry → Thing → FinSet nat_cmp
 amount_marked marks e t = insert marks (amount_number e t)
+
+-- only amounts of so many things are marked
+abbrev pub AreOfThings : ℕ → FinSet nat_cmp → Type 0
+AreOfThings things marks = (n : ℕ) → contains marks n ≡ true → n < entry_count * things

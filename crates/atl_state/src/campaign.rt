@@ -6,6 +6,7 @@ ghost use Rattle.atl_state.specs.State.{numbers_in, numbers_of, numbers_inside, 
 ghost use Rattle.atl_state.specs.Books.{amount_in, thing_place};
 ghost use Rattle.atl_state.specs.Totals.{total, IsCountable};
 ghost use Rattle.atl_state.specs.Marking.{mark_mail, mark_report};
+ghost use Rattle.atl_state.specs.Marks.{AreOfThings};
 
 mod assembling;
 mod coming;
@@ -262,9 +263,10 @@ impl Campaign {
         self.reports.iter()
     }
 
-    /// How many things are booked: money, people, and each item of the world.
+    /// How many things are booked: money, people, and each item of the world. No amount of another thing is marked.
     pub fn things(&self) -> usize
-        ensures { result ≡ length self.now.what.books }
+        ensures count { result ≡ length self.now.what.books }
+        ensures marks { AreOfThings result self.now.marks.books }
     {
         self.books.len()
     }
