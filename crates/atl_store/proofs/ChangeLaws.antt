@@ -1,13 +1,13 @@
 -- Tables that held a campaign hold the one that came of it, once what is marked is written.
-use Rattle.std.proofs.Common.{◌≡◌, ◌≢◌, ◌+◌, ℕ, ℤ, Bool, true, false, List, Option, Some, None, refl, sym, ap, subst, ◌∙◌}
+use Rattle.std.proofs.Common.{◌≡◌, ◌+◌, ℕ, ℤ, Bool, true, false, List, Option, Some, None, refl, sym, ap, subst, ◌∙◌}
 use Rattle.std.specs.Prelude.{option_map}
 use Rattle.std.specs.Ordering.{nat_cmp}
-use Rattle.std.specs.FinMap.{FinMap, get, empty, get-empty}
+use Rattle.std.specs.FinMap.{FinMap, get, get-empty}
 use Rattle.std.specs.FinSet.{FinSet, contains}
 use Rattle.sqlite.specs.Effect.{Database}
 use Rattle.sqlite.specs.Order.{Row}
 use Rattle.sqlite_rules.specs.Lists.{Has}
-use Rattle.atl_state.specs.Covers.{SameBut, bare, goods_under, own_row}
+use Rattle.atl_state.specs.Covers.{SameBut, Covers, bare, goods_under, own_row}
 use Rattle.atl_state.specs.Books.{amount_in, entry_place, thing_place}
 use Rattle.atl_state.specs.Marks.{amount_number}
 use Rattle.atl_state.specs.State.{State, Marked}
@@ -20,8 +20,8 @@ use Rattle.atl_store.specs.declared.rows.has.Sort.TheVariants.{Item, Skill}
 use Rattle.atl_store.specs.Sets.{Is, rows_in}
 use Rattle.atl_store.specs.Tables.{campaign_table}
 use Rattle.atl_store.specs.Shown.{head_row, mail_row, report_row, books_row}
-use Rattle.atl_store.specs.Rows.{RowsOf, HasRowsOf, BooksRowsOf, head_of, campaign_line, faction_line, region_line, unit_line, structure_line, things_of}
-use Rattle.atl_store.specs.Changing.{begins_marked, amount_marked, Chosen, rewritten, RewritesHead, WritesMarked, WritesChanges}
+use Rattle.atl_store.specs.Rows.{RowsOf, HasRowsOf, BooksRowsOf, head_of, campaign_line, faction_line, region_line, unit_line, structure_line, things_of, Holds}
+use Rattle.atl_store.specs.Changing.{begins_marked, amount_marked, Chosen, rewritten, head_after, WritesChanges}
 
 -- ---- a table whose unmarked rows are the same in both campaigns
 
@@ -116,19 +116,20 @@ amounts_follow one other marks r same not_marked of =
 line_of : List ℕ → ℕ × (List ℕ × (ℕ × (ℕ × ℕ))) → Row
 line_of text row = head_row (record { month = row.0; pass = row.1.0; next_faction = row.1.1.0; next_unit = row.1.1.1.0; next_structure = row.1.1.1.1 }) text
 
-head_held : (b : Bool) (text : List ℕ) (before after : State) (old new : Database) → (b ≡ false → own_row after ≡ own_row before) → RewritesHead b after old new → Is (rows_in campaign_table old.trees) (λ r. r ≡ campaign_line text before) → Is (rows_in campaign_table new.trees) (λ r. r ≡ campaign_line text after)
+head_held : (b : Bool) (text : List ℕ) (before after : State) → (b ≡ false → own_row after ≡ own_row before) → head_row (head_after b after (head_of before)) text ≡ campaign_line text after
 unfolding line_of
-head_held true text before after old new same did was = did (head_of before) text was
-head_held false text before after old new same did was = subst (λ row. Is (rows_in campaign_table new.trees) (λ r. r ≡ row)) (ap (line_of text) (sym (same refl))) (subst (λ rows. Is rows (λ r. r ≡ campaign_line text before)) (sym did) was)
+head_held true text before after same = refl
+head_held false text before after same = ap (line_of text) (sym (same refl))
 
 -- ---- the whole
 
-pub changes_held : (c : Marked) (old new : Database) → WritesMarked c.what c.marks old new → WritesChanges c old new
-changes_held c old new did text before covers held =
+pub changes_held : (c : Marked) (old new : Database) → WritesChanges c old new → (text : List ℕ) (before : State) → Covers c.marks before c.what → Holds old.trees text before → Holds new.trees text c.what
+changes_held c old new changes text before covers held =
     let m = c.marks in
     let after = c.what in
+    let did = changes (head_of before) text held.campaign in
     record {
-      campaign = head_held m.row text before after old new covers.row did.campaign held.campaign;
+      campaign = subst (λ (row : Row). Is (rows_in campaign_table new.trees) (λ r. r ≡ row)) (head_held m.row text before after covers.row) did.campaign;
       factions = holds_numbered faction_line m.factions (λ n v. refl) before.factions after.factions _ _ (same_follows faction_line m.factions (λ n v. refl) before.factions after.factions covers.factions) (same_followed faction_line m.factions (λ n v. refl) before.factions after.factions covers.factions) held.factions did.factions;
       regions = holds_numbered region_line m.regions (λ n v. refl) before.regions after.regions _ _ (same_follows region_line m.regions (λ n v. refl) before.regions after.regions covers.regions) (same_followed region_line m.regions (λ n v. refl) before.regions after.regions covers.regions) held.regions did.regions;
       units = holds_numbered unit_line m.units (λ n v. refl) before.units after.units _ _

@@ -78,7 +78,7 @@ abbrev pub AreApart : ℕ → List Row → Type 0
 AreApart key [] = ⊤
 AreApart key (x ∷ xs) = ((y : Row) → Has xs y → take key x ≢ take key y) × AreApart key xs
 
-puts_has : (key : ℕ) (news : List Row) (S : Set) → AreApart key news → ((s : Row) → S s → (x : Row) → Has news x → take key s ≢ take key x) → (r : Row) → (puts key news S r → Has news r ⊎ S r) × (Has news r ⊎ S r → puts key news S r)
+pub puts_has : (key : ℕ) (news : List Row) (S : Set) → AreApart key news → ((s : Row) → S s → (x : Row) → Has news x → take key s ≢ take key x) → (r : Row) → (puts key news S r → Has news r ⊎ S r) × (Has news r ⊎ S r → puts key news S r)
 puts_has key [] S apart free r = (λ h. inr h, λ h. elim h [ inl none ↦ absurd none | inr was ↦ was ])
 puts_has key (x ∷ xs) S apart free r =
     let later = puts_has key xs (put key x S) apart.1 (λ s is y there e. elim is [

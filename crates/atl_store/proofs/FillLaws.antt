@@ -65,7 +65,7 @@ module _ (t u v : Table) (lt : Has all_tables t) (lu : Has all_tables u) (lv : H
         λ x listed not_t not_u not_v. three.1 x listed not_v ∙ two.1 x listed not_u ∙ one.1 x listed not_t,
       )
 
-other_tree : (a : ℕ) (trees : List ℕ) (x : ℕ) → Has trees x → list_any (λ tree. nat_eq a tree) trees ≡ false → a ≢ x
+pub other_tree : (a : ℕ) (trees : List ℕ) (x : ℕ) → Has trees x → list_any (λ tree. nat_eq a tree) trees ≡ false → a ≢ x
 other_tree a trees x there free same =
     let hit : nat_eq a x ≡ true = grind (arith, nat_tests, same) in
     true≢false (sym (some_from (λ tree. nat_eq a tree) trees x there hit) ∙ free)

@@ -87,11 +87,11 @@ goods_has unit held r there = elim (has_either (sort_lines unit Item (entries he
   | inr skill ↦ let e = sort_has unit Skill (entries held.days) r skill in (Skill, e.0, e.1, e.2, e.3)
 ]
 
-has_goods : (unit : ℕ) (held : Held) (sort : Sort) (thing amount : ℕ) → Has (entries (things_of sort held)) (thing, amount) → amount ≢ 0 → Has (goods_lines unit held) (has_row unit (sort_number sort) thing amount)
+pub has_goods : (unit : ℕ) (held : Held) (sort : Sort) (thing amount : ℕ) → Has (entries (things_of sort held)) (thing, amount) → amount ≢ 0 → Has (goods_lines unit held) (has_row unit (sort_number sort) thing amount)
 has_goods unit held Item thing amount there some = has_left (sort_lines unit Item (entries held.items)) (sort_lines unit Skill (entries held.days)) _ (has_sort unit Item (entries held.items) thing amount there some)
 has_goods unit held Skill thing amount there some = has_right (sort_lines unit Item (entries held.items)) (sort_lines unit Skill (entries held.days)) _ (has_sort unit Skill (entries held.days) thing amount there some)
 
-goods_apart : (unit : ℕ) (held : Held) → AreApart 3 (goods_lines unit held)
+pub goods_apart : (unit : ℕ) (held : Held) → AreApart 3 (goods_lines unit held)
 goods_apart unit held =
     apart_append 3 (sort_lines unit Item (entries held.items)) (sort_lines unit Skill (entries held.days)) (sort_apart unit Item (entries held.items) (in_order held.items)) (sort_apart unit Skill (entries held.days) (in_order held.days))
     (λ x y early late same.

@@ -31,7 +31,7 @@ use Rattle.sqlite_rules.proofs.ListLemmas.{all_has, some_from}
 use Rattle.sqlite_rules.proofs.RuleLemmas.{keeps_at}
 use Rattle.atl_store.specs.Sets.{visible}
 use Rattle.atl_store.specs.Tables.{has_table, nine_and, IsSoundly}
-use Rattle.atl_store.specs.Shown.{int, has_key, has_row}
+use Rattle.atl_store.specs.Shown.{int, has_row}
 use Rattle.sqlite.specs.Table.{Table}
 use Rattle.sqlite.specs.Schema.{Schema}
 use Rattle.sqlite_schema.specs.declared.schema.Index.{Index}
@@ -161,45 +161,6 @@ puts_inside old new unit sort thing amount count inside ran = (
 pub puts_has : (old new : State) (unit sort thing : ℕ) (amount : ℕ) (count : ℕ) (params : Row) → IsTrue old.in_transaction → ExecutesInside 0 put_has params old new (Ok count) → params ≡ has_row unit sort thing amount
     → Inside HasTables (Puts has_table 3 (has_row unit sort thing amount)) old new
 puts_has old new unit sort thing amount count params inside h same = puts_inside old new unit sort thing amount count inside (subst (λ p. ExecutesInside 0 put_has p old new (Ok count)) same h)
-
--- ---- the row is taken out
-
-abbrev pub drop_has : List ℕ
-drop_has = codes "DELETE FROM has WHERE unit = ?1 AND sort = ?2 AND thing = ?3"
-
-drop_is : (more : List Table) (indexes : List Index) → command_of (understood (nine_and more indexes) drop_has) ≡ Delete 4 (record { lets = []; body = delete_query 5 (op2 (Compare Eq Binary) (col 1 1) (col 0 0) ∷ op2 (Compare Eq Binary) (col 1 2) (col 0 1) ∷ op2 (Compare Eq Binary) (col 1 3) (col 0 2) ∷ []) })
-unfolding understood everything
-drop_is more indexes = refl
-
-drop_plain : (more : List Table) (indexes : List Index) → IsPlain (understood (nine_and more indexes) drop_has)
-unfolding understood everything
-drop_plain more indexes = (refl, refl)
-
-drops_inside : (old new : State) (unit sort thing : ℕ) (count : ℕ) → IsTrue old.in_transaction → ExecutesInside 0 drop_has (has_key unit sort thing) old new (Ok count) → Inside HasTables (Drops has_table 3 (has_key unit sort thing)) old new
-drops_inside old new unit sort thing count inside ran = (
-  ran.1.mode ∙ sym inside,
-  λ has.
-      let schema = nine_and has.nine.tables has.nine.indexes in
-      let sound = sound_under old.now has in
-      let none = unlinked has.nine.tables has.nine.indexes 5 has.nine.free in
-      let k = has_key unit sort thing in
-      let db = old.now.trees in
-      let w = runs_as drop_has k old new schema has.nine.is _ (drop_is has.nine.tables has.nine.indexes) (drop_plain has.nine.tables has.nine.indexes) count ran.0 in
-      let keyed = sound.keyed has_table (inr (inr (inr (inr (inl refl))))) in
-      let out = removes schema 5 _ _ _ _ _ _ 4 refl none old.step_limit k (statement_of drop_has (understood schema drop_has)) _ _ db _ keyed
-      (λ rows answers. found_by 5 _ db (overlay db []) k rows refl (answers.answer Null)) (did schema old new _ _ k count has.nine.is w) in
-      let makes = loses_make schema (nine_among has.nine.tables) has_table 3 _ k old.now new.now out.0
-      (λ x there. let ints = key_ints has.nine.tables has.nine.indexes db sound x there in (
-        λ hit. let e = agree_is _ _ _ _ _ _ ints.one ints.two ints.three refl refl refl hit in rw (e.0, e.1, e.2) refl,
-        λ same. let e = key_is x _ _ _ same in rw (e.0, e.1, e.2) (agree_same _ _ _ refl refl refl),
-      ))
-      sound w.sound out.1 in
-      done_with has_table old.now new.now has (inr (inr (inr (inr (inl refl))))) _ _ (λ did. did) makes,
-)
-
-pub drops_has : (old new : State) (unit sort thing : ℕ) (count : ℕ) (params : Row) → IsTrue old.in_transaction → ExecutesInside 0 drop_has params old new (Ok count) → params ≡ has_key unit sort thing
-    → Inside HasTables (Drops has_table 3 (has_key unit sort thing)) old new
-drops_has old new unit sort thing count params inside h same = drops_inside old new unit sort thing count inside (subst (λ p. ExecutesInside 0 drop_has p old new (Ok count)) same h)
 
 -- ---- all rows of a unit are taken out
 

@@ -6,6 +6,10 @@ pub mod UpsertLaws
 pub mod MakeLaws
 pub mod CarryLaws
 pub mod ChangeLaws
+pub mod RewriteLaws
+pub mod GoodsRewriteLaws
+pub mod BooksRewriteLaws
+pub mod RewriteAllLaws
 pub mod KeepLaws
 pub mod WriteLaws
 pub mod ReadLaws

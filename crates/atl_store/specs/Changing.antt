@@ -1,5 +1,5 @@
 -- What the writing of a campaign's changes does: a row whose key is marked is the campaign's afterwards, and every other row is as it was.
-use Rattle.std.specs.Prelude.{◌≡◌, ◌+◌, ◌*◌, ◌&&◌, ℕ, Bool, true, false, pos, suc, nat_le, List, [], ◌∷◌}
+use Rattle.std.specs.Prelude.{◌≡◌, ◌+◌, ◌*◌, ◌&&◌, ℕ, Bool, true, false, pos, suc, nat_le, List, ◌∷◌}
 use Rattle.std.specs.Ordering.{nat_cmp}
 use Rattle.std.specs.FinSet.{FinSet, contains}
 use Rattle.sqlite.specs.declared.types.Value.TheVariants.{Int}
@@ -7,24 +7,32 @@ use Rattle.sqlite.specs.Effect.{Database}
 use Rattle.sqlite.specs.Order.{Row}
 use Rattle.sqlite.specs.Table.{Table}
 use Rattle.sqlite_rules.specs.Lists.{Has}
-use Rattle.atl_state.specs.Covers.{Covers}
 use Rattle.atl_state.specs.Limits.{entry_count}
-use Rattle.atl_state.specs.Marks.{Marks}
 use Rattle.atl_state.specs.State.{State, Marked}
 use Rattle.atl_store.specs.Sets.{Set, Is, rows_in}
 use Rattle.atl_store.specs.Tables.{campaign_table, faction_table, region_table, unit_table, has_table, structure_table, mail_table, report_table, books_table}
 use Rattle.atl_store.specs.Shown.{Head, head_row, mail_row, report_row}
-use Rattle.atl_store.specs.Rows.{campaign_line, faction_line, region_line, unit_line, structure_line, RowsOf, HasRowsOf, BooksRowsOf, Holds}
+use Rattle.atl_store.specs.Rows.{head_of, faction_line, region_line, unit_line, structure_line, RowsOf, HasRowsOf, BooksRowsOf}
 
--- whether the number that a row begins with is marked
+-- whether a row begins with a number of which this is so
+abbrev pub begins : (ℕ → Bool) → Row → Bool
+begins is_so (Int (pos n) ∷ row) = is_so n
+begins is_so row = false
+
+-- whether this is so of the place of a row's entry, which is counted from 1, and of the number of its thing
+abbrev pub accounts : (ℕ → ℕ → Bool) → Row → Bool
+accounts is_so (Int (pos (suc entry)) ∷ Int (pos thing) ∷ row) = is_so entry thing
+accounts is_so row = false
+
 abbrev pub begins_marked : FinSet nat_cmp → Row → Bool
-begins_marked marks (Int (pos n) ∷ row) = contains marks n
-begins_marked marks row = false
+begins_marked marks r = begins (contains marks) r
 
--- whether the amount of a row's entry, which is counted from 1, and thing is marked
+-- whether the amount of an entry, of which there are so many, and a thing is marked
+abbrev pub is_marked_amount : FinSet nat_cmp → ℕ → ℕ → Bool
+is_marked_amount marks entry thing = nat_le (suc entry) entry_count && contains marks (entry_count * thing + entry)
+
 abbrev pub amount_marked : FinSet nat_cmp → Row → Bool
-amount_marked marks (Int (pos (suc entry)) ∷ Int (pos thing) ∷ row) = nat_le (suc entry) entry_count && contains marks (entry_count * thing + entry)
-amount_marked marks row = false
+amount_marked marks r = accounts (is_marked_amount marks) r
 
 abbrev pub Chosen : Bool → Type 0 → Type 0 → Type 0
 Chosen true Wanted Were = Wanted
@@ -35,25 +43,26 @@ abbrev pub rewritten : (Row → Bool) → Set → Set → Set
 rewritten is_marked Wanted Were r = Chosen (is_marked r) (Wanted r) (Were r)
 
 -- the table's rows with a marked key are those that are wanted, and its others are as they were
-abbrev pub Rewrites : Table → (Row → Bool) → Set → Database → Database → Type 0
-Rewrites table is_marked Wanted old new = Is (rows_in table new.trees) (rewritten is_marked Wanted (Has (rows_in table old.trees)))
+abbrev pub AreRewritten : Table → (Row → Bool) → Set → Database → Database → Type 0
+AreRewritten table is_marked Wanted old new = Is (rows_in table new.trees) (rewritten is_marked Wanted (Has (rows_in table old.trees)))
 
--- the campaign's own row, which keeps its world text; where it is not marked the table is as it was
-abbrev pub RewritesHead : Bool → State → Database → Database → Type 0
-RewritesHead true c old new = (before : Head) (text : List ℕ) → Is (rows_in campaign_table old.trees) (λ r. r ≡ head_row before text) → Is (rows_in campaign_table new.trees) (λ r. r ≡ campaign_line text c)
-RewritesHead false c old new = rows_in campaign_table new.trees ≡ rows_in campaign_table old.trees
+-- what the campaign's own row says where it is marked, and where it isn't
+abbrev pub head_after : Bool → State → Head → Head
+head_after true c before = head_of c
+head_after false c before = before
 
-pub record WritesMarked (c : State) (m : Marks) (old new : Database) : Type 0 where
-  pub campaign : RewritesHead m.row c old new
-  pub factions : Rewrites faction_table (begins_marked m.factions) (RowsOf faction_line c.factions) old new
-  pub regions : Rewrites region_table (begins_marked m.regions) (RowsOf region_line c.regions) old new
-  pub units : Rewrites unit_table (begins_marked m.units) (RowsOf unit_line c.units) old new
-  pub has : Rewrites has_table (begins_marked m.goods) (HasRowsOf c.units) old new
-  pub structures : Rewrites structure_table (begins_marked m.structures) (RowsOf structure_line c.structures) old new
-  pub mail : Rewrites mail_table (begins_marked m.mail) (RowsOf mail_row c.mail) old new
-  pub reports : Rewrites report_table (begins_marked m.reports) (RowsOf report_row c.reports) old new
-  pub books : Rewrites books_table (amount_marked m.books) (BooksRowsOf c.books) old new
+-- Tables whose own row of a campaign said this, with this world text, have what is marked written.
+pub record WritesMarked (c : Marked) (before : Head) (text : List ℕ) (old new : Database) : Type 0 where
+  pub campaign : Is (rows_in campaign_table new.trees) (λ r. r ≡ head_row (head_after c.marks.row c.what before) text)
+  pub factions : AreRewritten faction_table (begins_marked c.marks.factions) (RowsOf faction_line c.what.factions) old new
+  pub regions : AreRewritten region_table (begins_marked c.marks.regions) (RowsOf region_line c.what.regions) old new
+  pub units : AreRewritten unit_table (begins_marked c.marks.units) (RowsOf unit_line c.what.units) old new
+  pub has : AreRewritten has_table (begins_marked c.marks.goods) (HasRowsOf c.what.units) old new
+  pub structures : AreRewritten structure_table (begins_marked c.marks.structures) (RowsOf structure_line c.what.structures) old new
+  pub mail : AreRewritten mail_table (begins_marked c.marks.mail) (RowsOf mail_row c.what.mail) old new
+  pub reports : AreRewritten report_table (begins_marked c.marks.reports) (RowsOf report_row c.what.reports) old new
+  pub books : AreRewritten books_table (amount_marked c.marks.books) (BooksRowsOf c.what.books) old new
 
--- tables that held a campaign from which only what is marked differs hold the campaign
+-- whatever the campaign's own row said
 abbrev pub WritesChanges : Marked → Database → Database → Type 0
-WritesChanges c old new = (text : List ℕ) (before : State) → Covers c.marks before c.what → Holds old.trees text before → Holds new.trees text c.what
+WritesChanges c old new = (before : Head) (text : List ℕ) → Is (rows_in campaign_table old.trees) (λ r. r ≡ head_row before text) → WritesMarked c before text old new

@@ -19,4 +19,5 @@ pub mod Loading
 pub mod Gathering
 pub mod Arriving
 pub mod Changing
+pub mod Rewriting
 pub mod WorldText

@@ -3,9 +3,10 @@ ghost use Rattle.atl_store.specs.Tables.{has_table};
 ghost use Rattle.atl_store.specs.Lines.{thing_lines, sort_lines, goods_lines, all_goods_lines};
 ghost use Rattle.atl_store.specs.Writes.{Writes};
 ghost use Rattle.atl_store.specs.Inside.{Inside, HasTables, PutsRows};
+ghost use Rattle.atl_store.specs.Rewriting.{RewritesGoods, RewritesAllGoods};
 
-use crate::rows::has::{HasRow, Sort, put_has};
-use atl_state::{Holding, Unit};
+use crate::rows::has::{HasRow, Sort, drop_goods, put_has};
+use atl_state::{Campaign, Holding, Unit};
 use atl_tables::Entries;
 use sqlite::{Alter, Error, Transaction};
 
@@ -67,6 +68,34 @@ pub(crate) fn put_all_goods<S: Alter>(
 {
     for (number, unit) in units {
         put_goods(tx, number, &unit.holding)?;
+    }
+    Ok(())
+}
+
+/// Deletes the rows of all that a unit had, and puts those of what it has.
+fn rewrite_goods<S: Alter>(
+    tx: &mut Transaction<'_, S>,
+    campaign: &Campaign,
+    number: u32,
+) -> Result<(), Error>
+    ensures { Writes S.Store (Inside HasTables (RewritesGoods campaign.now.what.units number)) result tx.old.conn tx.new.conn }
+{
+    drop_goods(tx, number)?;
+    match campaign.unit(number) {
+        Some(unit) => put_goods(tx, number, &unit.holding),
+        None => Ok(()),
+    }
+}
+
+/// Deletes and puts the rows of what all units have whose goods are marked.
+pub(crate) fn rewrite_marked_goods<S: Alter>(
+    tx: &mut Transaction<'_, S>,
+    campaign: &Campaign,
+) -> Result<(), Error>
+    ensures { Writes S.Store (Inside HasTables (RewritesAllGoods campaign.now.what.units campaign.now.marks.goods)) result tx.old.conn tx.new.conn }
+{
+    for number in campaign.marked_goods() {
+        rewrite_goods(tx, campaign, number)?;
     }
     Ok(())
 }

@@ -1,6 +1,7 @@
 //! The campaign's own row.
 ghost use Rattle.atl_store.specs.Rows.{head_of};
 ghost use Rattle.atl_store.specs.PutsHead.{PutsHead};
+ghost use Rattle.atl_store.specs.Rewriting.{RewritesHead};
 ghost use Rattle.atl_store.specs.Writes.{Writes};
 ghost use Rattle.atl_store.specs.Inside.{Inside, HasTables};
 
@@ -24,4 +25,17 @@ pub(crate) fn put_head<S: Alter>(
         pass: campaign.pass().as_str(),
     };
     put_campaign(tx, &row, world)
+}
+
+/// Changes the campaign's own row, if it is marked.
+pub(crate) fn rewrite_head<S: Alter>(
+    tx: &mut Transaction<'_, S>,
+    campaign: &Campaign,
+) -> Result<(), Error>
+    ensures { Writes S.Store (Inside HasTables (RewritesHead campaign.now)) result tx.old.conn tx.new.conn }
+{
+    if campaign.is_row_marked() {
+        return put_head(tx, campaign, "");
+    }
+    Ok(())
 }

@@ -1,5 +1,5 @@
 //! The books, written row by row.
-ghost use Rattle.std.specs.Prelude.{◌≡◌, ◌+◌, ◌<◌, ◌≤◌, length};
+ghost use Rattle.std.specs.Prelude.{◌≡◌, ◌+◌, ◌<◌, ◌≤◌, length, map};
 ghost use Rattle.std.specs.List.{range_with_len};
 ghost use Rattle.atl_state.specs.Limits.{most_things};
 ghost use Rattle.atl_state.specs.Books.{entry_place, thing_place};
@@ -8,6 +8,7 @@ ghost use Rattle.atl_store.specs.Lines.{thing_at, amount_lines, entries_lines, t
 ghost use Rattle.atl_store.specs.Writes.{Writes};
 ghost use Rattle.atl_store.specs.Inside.{Inside, HasTables, PutsRows};
 ghost use Rattle.atl_store.specs.Arriving.{Settles};
+ghost use Rattle.atl_store.specs.Rewriting.{RewritesAmounts, RewritesBooks, is_number, is_among};
 
 use crate::rows::books::{BooksRow, drop_books, put_books};
 use atl_state::{Campaign, ENTRY_COUNT, Entry, Thing};
@@ -147,6 +148,52 @@ pub(crate) fn put_all_books<S: Alter>(
 {
     for number in 0..campaign.things() {
         put_entries(tx, campaign, thing_of(number), &ENTRIES)?;
+    }
+    Ok(())
+}
+
+/// Puts the row of an amount, or takes it out where the amount is 0, if the amount is marked.
+fn rewrite_amount<S: Alter>(
+    tx: &mut Transaction<'_, S>,
+    campaign: &Campaign,
+    entry: Entry,
+    thing: Thing,
+) -> Result<(), Error>
+    requires { thing_place thing < length campaign.now.what.books }
+    ensures { Writes S.Store (Inside HasTables (RewritesAmounts campaign.now (is_number (entry_place entry)) (is_number (thing_place thing)))) result tx.old.conn tx.new.conn }
+{
+    if campaign.is_amount_marked(entry, thing) {
+        return settle_amount(tx, campaign, entry, thing);
+    }
+    Ok(())
+}
+
+/// Puts or takes out the rows of the marked amounts of a thing under these entries.
+fn rewrite_entries<S: Alter>(
+    tx: &mut Transaction<'_, S>,
+    campaign: &Campaign,
+    thing: Thing,
+    entries: &[Entry],
+) -> Result<(), Error>
+    requires { thing_place thing < length campaign.now.what.books }
+    ensures { Writes S.Store (Inside HasTables (RewritesAmounts campaign.now (is_among (map entry_place entries.now)) (is_number (thing_place thing)))) result tx.old.conn tx.new.conn }
+{
+    for entry in entries.iter() {
+        rewrite_amount(tx, campaign, *entry, thing)?;
+    }
+    Ok(())
+}
+
+/// Puts or takes out the rows of all marked amounts.
+pub(crate) fn rewrite_books<S: Alter>(
+    tx: &mut Transaction<'_, S>,
+    campaign: &Campaign,
+) -> Result<(), Error>
+    requires { length campaign.now.what.books ≤ most_things }
+    ensures { Writes S.Store (Inside HasTables (RewritesBooks campaign.now)) result tx.old.conn tx.new.conn }
+{
+    for number in 0..campaign.things() {
+        rewrite_entries(tx, campaign, thing_of(number), &ENTRIES)?;
     }
     Ok(())
 }

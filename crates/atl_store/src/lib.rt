@@ -2,6 +2,7 @@
 //! transaction, and a crash leaves the campaign before it or the one after it. See docs/FORMATS.md, "Tables".
 #![tactic(auto)]
 
+mod changing;
 pub mod fault;
 mod founding;
 mod goods;
@@ -16,6 +17,7 @@ pub mod schema;
 mod statement;
 pub mod tables;
 
+pub use changing::write_changes;
 pub use fault::{CreateFault, ReadFault, StoreFault, WriteFault};
 pub use founding::create;
 pub use joining::write_join;

@@ -17,7 +17,7 @@ loop-number-preserved g c =
     let campaign = c.args.campaign.now.what in
     let i = c.loop-number.number in
     let count = length campaign.books in
-    let left : count - i ≡ suc (count - (i + 1)) = omega (arith, c.loop-number-test.true, c.things-number-end.ensures) in
+    let left : count - i ≡ suc (count - (i + 1)) = omega (arith, c.loop-number-test.true, c.things-number-end.ensures.count) in
     let all = things_lines campaign (range_with_len 0 count) in
     goes_on g.S.Store (λ old mid new so_far more. inside_rows books_table 2 (entries_lines campaign (thing_at i) all_entries) (things_lines campaign (range_with_len (i + 1) (count - (i + 1)))) all old mid new
     (subst (λ places. Inside HasTables (Towards books_table 2 (things_lines campaign places) all) old mid) (ap (range_with_len i) left) so_far)
@@ -26,7 +26,7 @@ loop-number-preserved g c =
 
 pub returns : goal.returns
 returns g c =
-    let none : length c.args.campaign.now.what.books - c.loop-number.number ≡ 0 = omega (arith, c.loop-number-test.false, c.things-number-end.ensures) in
+    let none : length c.args.campaign.now.what.books - c.loop-number.number ≡ 0 = omega (arith, c.loop-number-test.false, c.things-number-end.ensures.count) in
     weaker g.S.Store (all_put books_table 2 _ _ (ap (λ n. things_lines c.args.campaign.now.what (range_with_len c.loop-number.number n)) none)) c.loop-number.invariant
 
 pub returns-in_err-put_entries : goal.returns-in_err-put_entries

@@ -1,0 +1,255 @@
+-- The rows of amounts of the books that are marked, one after another.
+use Rattle.std.proofs.Common.{◌≡◌, ◌≢◌, ◌⊎◌, ◌+◌, ◌*◌, ◌<◌, ◌≤◌, ◌&&◌, ◌||◌, nat_le, ℕ, zero, suc, pos, negsuc, Bool, true, false, List, [], ◌∷◌, map, take, get_or, refl, sym, ap, ◌∙◌, subst, inl, inr, true≢false, arith}
+use Rattle.std.specs.List.{range_with_len}
+use Rattle.std.specs.Ordering.{nat_cmp, int_eq, eq_by_cmp}
+use Rattle.std.specs.FinSet.{FinSet, contains}
+use Rattle.std.proofs.lemmas.Bool.{cases_Bool, cases_lt, and_parts}
+use Rattle.std.proofs.lemmas.Bool.Decides.{nat_tests}
+use Rattle.sqlite.specs.Effect.{Database}
+use Rattle.sqlite.specs.Order.{Row}
+use Rattle.sqlite.specs.State.{State}
+use Rattle.sqlite_rules.specs.Lists.{Has}
+use Rattle.sqlite_value.specs.declared.value.Value.TheVariants.{Null, Int, Real, Text, Blob}
+use Rattle.atl_state.specs.Limits.{entry_count}
+use Rattle.atl_state.specs.Books.{amount_in, entry_place, thing_place}
+use Rattle.atl_state.specs.Marks.{amount_number, AreOfThings}
+use Rattle.atl_state.specs.State.{Marked}
+use Rattle.atl_state.specs.declared.books.Entry.{Entry}
+use Rattle.atl_state.specs.declared.books.Thing.{Thing}
+use Rattle.atl_store.specs.Sets.{rows_in}
+use Rattle.atl_store.specs.Tables.{books_table}
+use Rattle.atl_store.specs.Shown.{int, books_key, books_row}
+use Rattle.atl_store.specs.Rows.{BooksRowsOf}
+use Rattle.atl_store.specs.Lines.{all_entries, amount_lines}
+use Rattle.atl_store.specs.Arriving.{Settles}
+use Rattle.atl_store.specs.Inside.{Inside, HasTables}
+use Rattle.atl_store.specs.Changing.{accounts, amount_marked, is_marked_amount, Chosen}
+use Rattle.atl_store.specs.Rewriting.{RewritesAmounts, RewritesBooks, is_number, is_among, of_amounts}
+use Rattle.atl_store.proofs.GoodsLaws.{optional_has, has_optional}
+use Rattle.atl_store.proofs.LedgerLaws.{two_same, differs_zero, is_differing}
+use Rattle.atl_store.proofs.RewriteLaws.{Nearing, one_nearer, all_rewritten, tied, is_itself, not_true}
+use Rattle.atl_store.proofs.WholeLaws.{inside_weaker}
+
+-- ---- a row that begins with an entry and a thing
+
+account_cases : (r : Row) → ((is_so : ℕ → ℕ → Bool) → accounts is_so r ≡ false) ⊎ ((entry thing : ℕ) × (row : Row) × (r ≡ int (suc entry) ∷ int thing ∷ row))
+account_cases [] = inl (λ is_so. refl)
+account_cases (Null ∷ row) = inl (λ is_so. refl)
+account_cases (Int (pos zero) ∷ row) = inl (λ is_so. refl)
+account_cases (Int (pos (suc entry)) ∷ []) = inl (λ is_so. refl)
+account_cases (Int (pos (suc entry)) ∷ Null ∷ row) = inl (λ is_so. refl)
+account_cases (Int (pos (suc entry)) ∷ Int (pos thing) ∷ row) = inr (entry, thing, row, refl)
+account_cases (Int (pos (suc entry)) ∷ Int (negsuc n) ∷ row) = inl (λ is_so. refl)
+account_cases (Int (pos (suc entry)) ∷ Real x ∷ row) = inl (λ is_so. refl)
+account_cases (Int (pos (suc entry)) ∷ Text x ∷ row) = inl (λ is_so. refl)
+account_cases (Int (pos (suc entry)) ∷ Blob x ∷ row) = inl (λ is_so. refl)
+account_cases (Int (negsuc n) ∷ row) = inl (λ is_so. refl)
+account_cases (Real x ∷ row) = inl (λ is_so. refl)
+account_cases (Text x ∷ row) = inl (λ is_so. refl)
+account_cases (Blob x ∷ row) = inl (λ is_so. refl)
+
+accounts_either : (f g : ℕ → ℕ → Bool) (r : Row) → accounts (λ e t. f e t || g e t) r ≡ (accounts f r || accounts g r)
+accounts_either f g r = elim (account_cases r) [
+  | inl none ↦ none (λ e t. f e t || g e t) ∙ sym (ap (λ b. b || accounts g r) (none f) ∙ none g)
+  | inr is ↦ subst (λ x. accounts (λ e t. f e t || g e t) x ≡ (accounts f x || accounts g x)) (sym is.3) refl
+]
+
+accounts_same : (f g : ℕ → ℕ → Bool) → ((e t : ℕ) → f e t ≡ g e t) → (r : Row) → accounts f r ≡ accounts g r
+accounts_same f g same r = ap (λ (h : ℕ → ℕ → Bool). accounts h r) (λ i e t. same e t i)
+
+accounts_none : (f : ℕ → ℕ → Bool) → ((e t : ℕ) → f e t ≡ false) → (r : Row) → accounts f r ≡ false
+accounts_none f never r = elim (account_cases r) [
+  | inl none ↦ none f
+  | inr is ↦ subst (λ x. accounts f x ≡ false) (sym is.3) (never is.0 is.1)
+]
+
+-- ---- tests of entries and of things
+
+or_and : (a b c : Bool) → ((a || b) && c) ≡ ((a && c) || (b && c))
+or_and true true true = refl
+or_and true true false = refl
+or_and true false true = refl
+or_and true false false = refl
+or_and false b c = refl
+
+and_or : (p a b c : Bool) → (p && ((a || b) && c)) ≡ ((p && (a && c)) || (p && (b && c)))
+and_or true a b c = or_and a b c
+and_or false a b c = refl
+
+module _ (marks : FinSet nat_cmp) where
+  abbrev marked : ℕ → ℕ → Bool
+  marked e t = contains marks (entry_count * t + e)
+
+  pub next_entry : (e : ℕ) (es : List ℕ) (things : ℕ → Bool) (r : Row) → of_amounts marks (is_among (e ∷ es)) things r ≡ (of_amounts marks (is_number e) things r || of_amounts marks (is_among es) things r)
+  next_entry e es things r =
+      let one : ℕ → ℕ → Bool = λ k t. is_number e k && (things t && marked k t) in
+      let rest : ℕ → ℕ → Bool = λ k t. is_among es k && (things t && marked k t) in
+      accounts_same (λ k t. is_among (e ∷ es) k && (things t && marked k t)) (λ k t. one k t || rest k t) (λ k t. or_and (is_number e k) (is_among es k) (things t && marked k t)) r ∙ accounts_either one rest r
+
+  pub next_thing : (entries : ℕ → Bool) (t : ℕ) (ts : List ℕ) (r : Row) → of_amounts marks entries (is_among (t ∷ ts)) r ≡ (of_amounts marks entries (is_number t) r || of_amounts marks entries (is_among ts) r)
+  next_thing entries t ts r =
+      let one : ℕ → ℕ → Bool = λ e k. entries e && (is_number t k && marked e k) in
+      let rest : ℕ → ℕ → Bool = λ e k. entries e && (is_among ts k && marked e k) in
+      accounts_same (λ e k. entries e && (is_among (t ∷ ts) k && marked e k)) (λ e k. one e k || rest e k) (λ e k. and_or (entries e) (is_number t k) (is_among ts k) (marked e k)) r ∙ accounts_either one rest r
+
+  pub no_entry : (es : List ℕ) (things : ℕ → Bool) → es ≡ [] → (r : Row) → of_amounts marks (is_among es) things r ≡ false
+  no_entry es things none r = ap (λ l. of_amounts marks (is_among l) things r) none ∙ accounts_none (λ e t. false) (λ e t. refl) r
+
+  pub no_thing : (entries : ℕ → Bool) (ts : List ℕ) → ts ≡ [] → (r : Row) → of_amounts marks entries (is_among ts) r ≡ false
+  no_thing entries ts none r = ap (λ l. of_amounts marks entries (is_among l) r) none ∙ accounts_none (λ e t. entries e && false) (λ e t. never (entries e)) r
+    where
+      never : (b : Bool) → (b && false) ≡ false
+      never true = refl
+      never false = refl
+
+  -- ---- all entries and all things
+
+  in_range : (from count i : ℕ) → from ≤ i → i < from + count → is_among (range_with_len from count) i ≡ true
+  in_range from zero i least most = absurd (omega (arith, least, most))
+  in_range from (suc count) i least most = elim (cases_Bool (eq_by_cmp nat_cmp i from)) [
+    | inl here ↦ ap (λ b. b || is_among (range_with_len (from + 1) count) i) here
+    | inr later ↦
+        let apart : i ≢ from = λ same. true≢false (sym (is_itself i) ∙ ap (eq_by_cmp nat_cmp i) same ∙ later) in
+        ap (λ b. b || is_among (range_with_len (from + 1) count) i) later ∙ in_range (from + 1) count i (past from i least apart) (omega (arith, most))
+  ]
+    where
+      past : (m n : ℕ) → m ≤ n → n ≢ m → m + 1 ≤ n
+      past m n least apart = grind (arith, least, apart)
+
+  beyond : (from count i : ℕ) → from + count ≤ i → is_among (range_with_len from count) i ≡ false
+  beyond from zero i past = refl
+  beyond from (suc count) i past =
+      ap (λ b. b || is_among (range_with_len (from + 1) count) i) (not_true (eq_by_cmp nat_cmp i from) (λ is. absurd (omega (arith, past, tied i from is)))) ∙ beyond (from + 1) count i (omega (arith, past))
+
+  each_entry : (e : ℕ) → is_among (map entry_place all_entries) e ≡ nat_le (suc e) entry_count
+  each_entry e = elim (cases_lt e 13) [
+    | inl less ↦ in_range 0 13 e (omega arith) (omega (arith, less)) ∙ sym (counted e less)
+    | inr past ↦ beyond 0 13 e (omega (arith, past)) ∙ sym (uncounted e past)
+  ]
+    where
+      counted : (e : ℕ) → e < 13 → nat_le (suc e) 13 ≡ true
+      counted e less = grind (arith, nat_tests, less)
+
+      uncounted : (e : ℕ) → 13 ≤ e → nat_le (suc e) 13 ≡ false
+      uncounted e past = grind (arith, nat_tests, past)
+
+  pub all_amounts : (things : ℕ) → AreOfThings things marks → (r : Row) → of_amounts marks (is_among (map entry_place all_entries)) (is_among (range_with_len 0 things)) r ≡ amount_marked marks r
+  all_amounts things few r = accounts_same (λ e t. is_among (map entry_place all_entries) e && (is_among (range_with_len 0 things) t && marked e t)) (is_marked_amount marks) same r
+    where
+      inside : (e t n : ℕ) → 13 * t + e < 13 * n → t < n
+      inside e t n h = omega (arith, h)
+
+      same : (e t : ℕ) → (is_among (map entry_place all_entries) e && (is_among (range_with_len 0 things) t && marked e t)) ≡ is_marked_amount marks e t
+      same e t = elim (cases_Bool (marked e t)) [
+        | inl is ↦
+            let there : is_among (range_with_len 0 things) t ≡ true = in_range 0 things t (omega arith) (omega (arith, inside e t things (few (entry_count * t + e) is))) in
+            ap (λ b. b && (is_among (range_with_len 0 things) t && marked e t)) (each_entry e) ∙ ap (λ b. nat_le (suc e) entry_count && (b && marked e t)) there
+        | inr unmarked ↦ ap (λ b. b && (is_among (range_with_len 0 things) t && marked e t)) (each_entry e) ∙ ap (λ b. nat_le (suc e) entry_count && (is_among (range_with_len 0 things) t && b)) unmarked ∙ ap (λ b. nat_le (suc e) entry_count && b) (never (is_among (range_with_len 0 things) t)) ∙ ap (λ b. nat_le (suc e) entry_count && b) (sym unmarked)
+      ]
+        where
+          never : (b : Bool) → (b && false) ≡ false
+          never true = refl
+          never false = refl
+
+-- ---- one amount
+
+module _ (c : Marked) (e : Entry) (t : Thing) where
+  abbrev is_here : Row → Bool
+  is_here r = of_amounts c.marks.books (is_number (entry_place e)) (is_number (thing_place t)) r
+
+  abbrev row : Row
+  row = books_row (entry_place e + 1) (thing_place t) (amount_in c.what.books e t)
+
+  -- a wanted row at the same places is the row
+  same_place : (f : Entry) (u : Thing) → amount_in c.what.books f u ≢ pos 0 → entry_place f ≡ entry_place e → thing_place u ≡ thing_place t → (r : Row) → r ≡ books_row (entry_place f + 1) (thing_place u) (amount_in c.what.books f u) → Has (amount_lines c.what e t) r
+  same_place f u some entries things r is =
+      let books = c.what.books in
+      let same : amount_in books f u ≡ amount_in books e t = ap (λ k. get_or (get_or books k []) (entry_place f) (pos 0)) things ∙ ap (λ k. get_or (get_or books (thing_place t) []) k (pos 0)) entries in
+      let row_is : r ≡ row = is ∙ ap (λ k. books_row (k + 1) (thing_place u) (amount_in books f u)) entries ∙ ap (λ k. books_row (entry_place e + 1) k (amount_in books f u)) things ∙ ap (books_row (entry_place e + 1) (thing_place t)) same in
+      subst (Has (amount_lines c.what e t)) (sym row_is) (has_optional (int_eq (amount_in books e t) (pos 0)) row (is_differing (amount_in books e t) (λ none. some (same ∙ none))))
+
+  -- an amount that isn't marked chooses no row
+  pub unmarked_none : contains c.marks.books (amount_number e t) ≡ false → (r : Row) → is_here r ≡ false
+  unmarked_none unmarked r = accounts_none _ (λ k j. not_true _ (λ is.
+      let one = and_parts _ _ is in
+      let two = and_parts _ _ one.1 in
+      true≢false (sym two.1 ∙ ap (λ x. contains c.marks.books (entry_count * x + k)) (tied j (thing_place t) two.0) ∙ ap (λ x. contains c.marks.books (entry_count * thing_place t + x)) (tied k (entry_place e) one.0) ∙ unmarked))) r
+
+  key_of : (r : Row) → is_here r ≡ true → take 2 r ≡ books_key (entry_place e + 1) (thing_place t)
+  key_of r is = elim (account_cases r) [
+    | inl none ↦ absurd (true≢false (sym is ∙ none _))
+    | inr row ↦
+        let one = and_parts _ _ (ap is_here (sym row.3) ∙ is) in
+        let two = and_parts _ _ one.1 in
+        let place : row.0 ≡ entry_place e = tied row.0 (entry_place e) one.0 in
+        let entry : suc row.0 ≡ entry_place e + 1 = next row.0 (entry_place e) place in
+        ap (take 2) row.3 ∙ ap (λ k. books_key k row.1) entry ∙ ap (books_key (entry_place e + 1)) (tied row.1 (thing_place t) two.0)
+  ]
+
+    where
+      next : (a b : ℕ) → a ≡ b → suc a ≡ b + 1
+      next a b same = omega (arith, same)
+
+  module _ (marked : contains c.marks.books (amount_number e t) ≡ true) where
+    of_key : (r : Row) → take 2 r ≡ books_key (entry_place e + 1) (thing_place t) → is_here r ≡ true
+    of_key [] key = absurd cc
+    of_key (v ∷ []) key = absurd cc
+    of_key (v ∷ w ∷ row) key =
+        let first : v ≡ int (entry_place e + 1) = cc in
+        let second : w ≡ int (thing_place t) = cc in
+        let place : entry_place e + 1 ≡ suc (entry_place e) = omega arith in
+        ap (λ x. is_here (x ∷ w ∷ row)) (first ∙ ap int place) ∙ ap (λ x. is_here (int (suc (entry_place e)) ∷ x ∷ row)) second
+        ∙ ap (λ b. b && (is_number (thing_place t) (thing_place t) && contains c.marks.books (amount_number e t))) (is_itself (entry_place e)) ∙ ap (λ b. b && contains c.marks.books (amount_number e t)) (is_itself (thing_place t)) ∙ marked
+
+    module _ (old new : Database) (did : Settles c.what e t old new) where
+      abbrev Were : Row → Type 0
+      Were r = Has (rows_in books_table old.trees) r
+
+      settle_rewrite : RewritesAmounts c (is_number (entry_place e)) (is_number (thing_place t)) old new
+      settle_rewrite = record { rows = λ r. (λ h. ahead r ((did.rows r).0 h), λ h. (did.rows r).1 (back r (is_here r) refl h)); others = did.others }
+        where
+          ahead : (r : Row) → Has (amount_lines c.what e t) r ⊎ (Were r × (take 2 r ≢ books_key (entry_place e + 1) (thing_place t))) → Chosen (is_here r) (BooksRowsOf c.what.books r) (Were r)
+          ahead r (inl here) =
+              let is = optional_has (int_eq (amount_in c.what.books e t) (pos 0)) row r here in
+              subst (λ b. Chosen b (BooksRowsOf c.what.books r) (Were r)) (sym (of_key r (ap (take 2) is.1))) (e, t, differs_zero (amount_in c.what.books e t) is.0, is.1)
+          ahead r (inr kept) = subst (λ b. Chosen b (BooksRowsOf c.what.books r) (Were r)) (sym (not_true _ (λ is. kept.1 (key_of r is)))) kept.0
+
+          back : (r : Row) (b : Bool) → is_here r ≡ b → Chosen b (BooksRowsOf c.what.books r) (Were r) → Has (amount_lines c.what e t) r ⊎ (Were r × (take 2 r ≢ books_key (entry_place e + 1) (thing_place t)))
+          back r true is of =
+              let keys = two_same (entry_place of.0 + 1) (thing_place of.1) (entry_place e + 1) (thing_place t) (ap (take 2) (sym of.3) ∙ key_of r is) in
+              inl (same_place of.0 of.1 of.2 (omega (arith, keys.0)) keys.1 r of.3)
+          back r false is was = inr (was, λ key. true≢false (sym (of_key r key) ∙ is))
+
+    pub settle_done : (old new : State) → Inside HasTables (Settles c.what e t) old new → Inside HasTables (RewritesAmounts c (is_number (entry_place e)) (is_number (thing_place t))) old new
+    settle_done old new did = inside_weaker HasTables (Settles c.what e t) (RewritesAmounts c (is_number (entry_place e)) (is_number (thing_place t))) old new (λ has settles. settle_rewrite old.now new.now settles) did
+
+-- ---- one entry after another, and one thing after another
+
+module _ (c : Marked) where
+  abbrev wanted : Row → Type 0
+  wanted r = BooksRowsOf c.what.books r
+
+  -- with the rest of these entries rewritten too, all are
+  abbrev pub NearingEntries : (ℕ → Bool) → List Entry → List Entry → Database → Database → Type 0
+  NearingEntries things rest all old new = Nearing books_table wanted (λ r. of_amounts c.marks.books (is_among (map entry_place rest)) things r) (λ r. of_amounts c.marks.books (is_among (map entry_place all)) things r) old new
+
+  pub entry_nearer : (things : ℕ → Bool) (x : Entry) (now rest all : List Entry) → now ≡ x ∷ rest → (old mid new : State) → Inside HasTables (NearingEntries things now all) old mid → Inside HasTables (RewritesAmounts c (is_number (entry_place x)) things) mid new → Inside HasTables (NearingEntries things rest all) old new
+  entry_nearer things x now rest all is = one_nearer books_table wanted (λ r. of_amounts c.marks.books (is_number (entry_place x)) things r) (λ r. of_amounts c.marks.books (is_among (map entry_place now)) things r) (λ r. of_amounts c.marks.books (is_among (map entry_place rest)) things r) (λ r. of_amounts c.marks.books (is_among (map entry_place all)) things r)
+      (λ r. ap (λ es. of_amounts c.marks.books (is_among (map entry_place es)) things r) is ∙ next_entry c.marks.books (entry_place x) (map entry_place rest) things r)
+
+  pub entries_rewritten : (things : ℕ → Bool) (rest all : List Entry) → rest ≡ [] → (old new : State) → Inside HasTables (NearingEntries things rest all) old new → Inside HasTables (RewritesAmounts c (is_among (map entry_place all)) things) old new
+  entries_rewritten things rest all none = all_rewritten books_table wanted (λ r. of_amounts c.marks.books (is_among (map entry_place rest)) things r) (λ r. of_amounts c.marks.books (is_among (map entry_place all)) things r) (λ r. of_amounts c.marks.books (is_among (map entry_place all)) things r)
+      (no_entry c.marks.books (map entry_place rest) things (ap (map entry_place) none)) (λ r. refl)
+
+  -- with the rest of these things rewritten too, all are
+  abbrev pub NearingThings : List ℕ → List ℕ → Database → Database → Type 0
+  NearingThings rest all old new = Nearing books_table wanted (λ r. of_amounts c.marks.books (is_among (map entry_place all_entries)) (is_among rest) r) (λ r. of_amounts c.marks.books (is_among (map entry_place all_entries)) (is_among all) r) old new
+
+  pub thing_nearer : (t : ℕ) (now rest all : List ℕ) → now ≡ t ∷ rest → (old mid new : State) → Inside HasTables (NearingThings now all) old mid → Inside HasTables (RewritesAmounts c (is_among (map entry_place all_entries)) (is_number t)) mid new → Inside HasTables (NearingThings rest all) old new
+  thing_nearer t now rest all is = one_nearer books_table wanted (λ r. of_amounts c.marks.books (is_among (map entry_place all_entries)) (is_number t) r) (λ r. of_amounts c.marks.books (is_among (map entry_place all_entries)) (is_among now) r)
+      (λ r. of_amounts c.marks.books (is_among (map entry_place all_entries)) (is_among rest) r) (λ r. of_amounts c.marks.books (is_among (map entry_place all_entries)) (is_among all) r)
+      (λ r. ap (λ ts. of_amounts c.marks.books (is_among (map entry_place all_entries)) (is_among ts) r) is ∙ next_thing c.marks.books (is_among (map entry_place all_entries)) t rest r)
+
+  pub things_rewritten : (rest : List ℕ) (count : ℕ) → AreOfThings count c.marks.books → rest ≡ [] → (old new : State) → Inside HasTables (NearingThings rest (range_with_len 0 count)) old new → Inside HasTables (RewritesBooks c) old new
+  things_rewritten rest count few none = all_rewritten books_table wanted (λ r. of_amounts c.marks.books (is_among (map entry_place all_entries)) (is_among rest) r) (λ r. of_amounts c.marks.books (is_among (map entry_place all_entries)) (is_among (range_with_len 0 count)) r) (λ r. amount_marked c.marks.books r)
+      (no_thing c.marks.books (is_among (map entry_place all_entries)) rest none) (all_amounts c.marks.books count few)

@@ -1,0 +1,203 @@
+-- Rows of a table that are rewritten where a test holds, one step after another.
+use Rattle.std.proofs.Common.{◌≡◌, ◌≢◌, ◌⊎◌, ◌↔◌, ◌||◌, ℕ, pos, negsuc, Bool, true, false, List, [], ◌∷◌, take, Some, None, Less, Equal, Greater, refl, sym, ap, ◌∙◌, subst, inl, inr, true≢false}
+use Rattle.std.specs.Ordering.{nat_cmp, is_eq, eq_by_cmp}
+use Rattle.std.specs.Cmp.{nat_cmp_total}
+use Rattle.std.specs.FinMap.{FinMap, get, nat_cmp-IsAntisymmetric}
+use Rattle.std.specs.FinSet.{FinSet, contains, from_list, contains-from_list}
+use Rattle.std.proofs.lemmas.Cmp.{tied_itself}
+use Rattle.sqlite.specs.Effect.{Database}
+use Rattle.sqlite.specs.Order.{Row}
+use Rattle.sqlite.specs.State.{State}
+use Rattle.sqlite.specs.Table.{Table}
+use Rattle.sqlite_rules.specs.Lists.{Has}
+use Rattle.sqlite_value.specs.declared.value.Value.TheVariants.{Null, Int, Real, Text, Blob}
+use Rattle.atl_store.specs.Sets.{Set, rows_in}
+use Rattle.atl_store.specs.Tables.{all_tables}
+use Rattle.atl_store.specs.Shown.{int}
+use Rattle.atl_store.specs.Rows.{RowsOf}
+use Rattle.atl_store.specs.Inside.{Inside, HasTables, Puts, Drops}
+use Rattle.atl_store.specs.Changing.{begins, begins_marked, Chosen}
+use Rattle.atl_store.specs.Rewriting.{Rewrites, RewritesNumber, is_number, is_among}
+use Rattle.atl_store.proofs.CarryLaws.{carries_then, carries_none}
+use Rattle.atl_store.proofs.EntryLaws.{same_number}
+use Rattle.atl_store.proofs.WholeLaws.{inside_weaker}
+
+-- ---- one step after another
+
+chosen_step : (p q : Bool) (W M N : Type 0) → N ↔ Chosen p W M → Chosen q W N ↔ Chosen (p || q) W M
+chosen_step true true W M N same = (λ h. h, λ h. h)
+chosen_step false true W M N same = (λ h. h, λ h. h)
+chosen_step true false W M N same = same
+chosen_step false false W M N same = same
+
+-- with the rest rewritten too, all is
+pub record Nearing (table : Table) (Wanted : Set) (rest all : Row → Bool) (old now : Database) : Type 0 where
+  pub rows : (r : Row) → Chosen (rest r) (Wanted r) (Has (rows_in table now.trees) r) ↔ Chosen (all r) (Wanted r) (Has (rows_in table old.trees) r)
+  pub others : (t : Table) → Has all_tables t → t.tree ≢ table.tree → now.trees t.tree ≡ old.trees t.tree
+
+module _ (table : Table) (Wanted : Set) where
+  -- nothing is rewritten yet
+  pub none_nearer : (rest all : Row → Bool) → ((r : Row) → rest r ≡ all r) → (s : State) → Inside HasTables (Nearing table Wanted rest all) s s
+  none_nearer rest all same s = (
+    refl,
+    λ has. record {
+      does = record {
+        rows = λ r. let there = Has (rows_in table s.now.trees) r in subst (λ b. Chosen (rest r) (Wanted r) there ↔ Chosen b (Wanted r) there) (same r) (λ h. h, λ h. h);
+        others = λ t listed other. refl;
+      };
+      tables = has;
+      carries = carries_none s.now;
+    },
+  )
+
+  pub one_nearer : (step rest next all : Row → Bool) → ((r : Row) → rest r ≡ (step r || next r)) → (old mid new : State) → Inside HasTables (Nearing table Wanted rest all) old mid → Inside HasTables (Rewrites table step Wanted) mid new → Inside HasTables (Nearing table Wanted next all) old new
+  one_nearer step rest next all parts old mid new so_far more = (
+    more.0 ∙ so_far.0,
+    λ has.
+        let was = so_far.1 has in
+        let now = more.1 was.tables in
+        record {
+          does = record {
+            rows = λ r.
+                let before = Has (rows_in table mid.now.trees) r in
+                let goal = Chosen (all r) (Wanted r) (Has (rows_in table old.now.trees) r) in
+                let so = subst (λ b. Chosen b (Wanted r) before ↔ goal) (parts r) (was.does.rows r) in
+                let one = chosen_step (step r) (next r) (Wanted r) before (Has (rows_in table new.now.trees) r) (now.does.rows r) in
+                (λ h. so.0 (one.0 h), λ h. one.1 (so.1 h));
+            others = λ t listed other. now.does.others t listed other ∙ was.does.others t listed other;
+          };
+          tables = now.tables;
+          carries = carries_then old.now mid.now new.now was.carries now.carries;
+        },
+  )
+
+  -- nothing is left to rewrite
+  pub all_rewritten : (rest all goal : Row → Bool) → ((r : Row) → rest r ≡ false) → ((r : Row) → all r ≡ goal r) → (old new : State) → Inside HasTables (Nearing table Wanted rest all) old new → Inside HasTables (Rewrites table goal Wanted) old new
+  all_rewritten rest all goal none is old new did = (
+    did.0,
+    λ has.
+        let made = did.1 has in
+        record {
+          does = record {
+            rows = λ r.
+                let now = Has (rows_in table new.now.trees) r in
+                let was = Has (rows_in table old.now.trees) r in
+                subst (λ b. now ↔ Chosen b (Wanted r) was) (is r) (subst (λ b. Chosen b (Wanted r) now ↔ Chosen (all r) (Wanted r) was) (none r) (made.does.rows r));
+            others = made.does.others;
+          };
+          tables = made.tables;
+          carries = made.carries;
+        },
+  )
+
+  -- a step that chooses no row is none
+  pub none_chosen : (step : Row → Bool) → ((r : Row) → step r ≡ false) → (s : State) → Inside HasTables (Rewrites table step Wanted) s s
+  none_chosen step none s = all_rewritten step step step none (λ r. refl) s s (none_nearer step step (λ r. refl) s)
+
+-- ---- numbers
+
+pub tied : (k n : ℕ) → eq_by_cmp nat_cmp k n ≡ true → k ≡ n
+tied k n is = elim (nat_cmp k n) as (λ o. nat_cmp k n ≡ o → is_eq o ≡ true → k ≡ n) [
+  | Less ↦ λ _ never. absurd (true≢false (sym never))
+  | Equal ↦ λ same _. nat_cmp-IsAntisymmetric k n same
+  | Greater ↦ λ _ never. absurd (true≢false (sym never))
+] refl is
+
+pub is_itself : (n : ℕ) → eq_by_cmp nat_cmp n n ≡ true
+is_itself n = ap is_eq (tied_itself nat_cmp_total n)
+
+-- ---- a row that begins with a number
+
+begins_cases : (r : Row) → ((is_so : ℕ → Bool) → begins is_so r ≡ false) ⊎ ((n : ℕ) × (row : Row) × (r ≡ int n ∷ row))
+begins_cases [] = inl (λ is_so. refl)
+begins_cases (Null ∷ row) = inl (λ is_so. refl)
+begins_cases (Int (pos n) ∷ row) = inr (n, row, refl)
+begins_cases (Int (negsuc n) ∷ row) = inl (λ is_so. refl)
+begins_cases (Real x ∷ row) = inl (λ is_so. refl)
+begins_cases (Text x ∷ row) = inl (λ is_so. refl)
+begins_cases (Blob x ∷ row) = inl (λ is_so. refl)
+
+pub begins_either : (f g : ℕ → Bool) (r : Row) → begins (λ n. f n || g n) r ≡ (begins f r || begins g r)
+begins_either f g r = elim (begins_cases r) [
+  | inl none ↦ none (λ n. f n || g n) ∙ sym (ap (λ b. b || begins g r) (none f) ∙ none g)
+  | inr is ↦ subst (λ x. begins (λ n. f n || g n) x ≡ (begins f x || begins g x)) (sym is.2) refl
+]
+
+pub begins_none : (r : Row) → begins (λ n. false) r ≡ false
+begins_none r = elim (begins_cases r) [
+  | inl none ↦ none (λ n. false)
+  | inr is ↦ subst (λ x. begins (λ n. false) x ≡ false) (sym is.2) refl
+]
+
+pub begins_key : (n : ℕ) (r : Row) → begins (is_number n) r ≡ true → take 1 r ≡ int n ∷ []
+begins_key n r is = elim (begins_cases r) [
+  | inl none ↦ absurd (true≢false (sym is ∙ none (is_number n)))
+  | inr row ↦ ap (take 1) row.2 ∙ ap (λ k. int k ∷ []) (tied row.0 n (ap (begins (is_number n)) (sym row.2) ∙ is))
+]
+
+pub key_begins : (n : ℕ) (r : Row) → take 1 r ≡ int n ∷ [] → begins (is_number n) r ≡ true
+key_begins n [] key = absurd cc
+key_begins n (v ∷ row) key =
+    let value : v ≡ int n = cc in
+    ap (λ x. begins (is_number n) (x ∷ row)) value ∙ is_itself n
+
+pub not_true : (b : Bool) → (b ≡ true → ⊥) → b ≡ false
+not_true true never = absurd (never refl)
+not_true false never = refl
+
+-- the numbers that are left, and the next one of them
+pub next_number : (n : ℕ) (ns : List ℕ) (r : Row) → begins (is_among (n ∷ ns)) r ≡ (begins (is_number n) r || begins (is_among ns) r)
+next_number n ns r = begins_either (is_number n) (is_among ns) r
+
+pub no_number : (ns : List ℕ) → ns ≡ [] → (r : Row) → begins (is_among ns) r ≡ false
+no_number ns none r = ap (λ l. begins (is_among l) r) none ∙ begins_none r
+
+-- all numbers of a set
+pub of_set : (marks : FinSet nat_cmp) (ns : List ℕ) → from_list ns ≡ marks → (r : Row) → begins (is_among ns) r ≡ begins_marked marks r
+of_set marks ns all r = ap (λ (f : ℕ → Bool). begins f r) (λ i n. (sym (contains-from_list nat_cmp_total ns n) ∙ ap (λ s. contains s n) all) i)
+
+-- ---- a row that is put, or taken out
+
+pub some_is : {V : Type 0} (a b : V) → Some a ≡ Some b → a ≡ b
+some_is a b e = cc
+
+pub nothing_is : {V : Type 0} (v : V) → None ≡ Some v → ⊥
+nothing_is v e = cc
+
+module _ {V : Type 0} (table : Table) (line : ℕ → V → Row) (numbered : (n : ℕ) (v : V) → take 1 (line n v) ≡ int n ∷ []) (values : FinMap nat_cmp V) (n : ℕ) where
+  -- a wanted row with this number
+  wanted_at : (r : Row) → begins (is_number n) r ≡ true → RowsOf line values r → (v : V) × (get values n ≡ Some v) × (r ≡ line n v)
+  wanted_at r is of =
+      let number : of.0 ≡ n = same_number of.0 n (sym (numbered of.0 of.1) ∙ ap (take 1) (sym of.3) ∙ begins_key n r is) in
+      (of.1, ap (get values) (sym number) ∙ of.2, of.3 ∙ ap (λ k. line k of.1) number)
+
+  module _ (old new : Database) where
+    abbrev Goal : Row → Type 0
+    Goal r = Chosen (begins (is_number n) r) (RowsOf line values r) (Has (rows_in table old.trees) r)
+
+    put_rewrites : (v : V) → get values n ≡ Some v → Puts table 1 (line n v) old new → RewritesNumber table line values n old new
+    put_rewrites v there did = record { rows = λ r. (λ h. ahead r ((did.rows r).0 h), λ h. (did.rows r).1 (back r (begins (is_number n) r) refl h)); others = did.others }
+      where
+        ahead : (r : Row) → (r ≡ line n v) ⊎ (Has (rows_in table old.trees) r × (take 1 r ≢ take 1 (line n v))) → Goal r
+        ahead r (inl same) = subst (λ b. Chosen b (RowsOf line values r) (Has (rows_in table old.trees) r)) (sym (key_begins n r (ap (take 1) same ∙ numbered n v))) (n, v, there, same)
+        ahead r (inr kept) = subst (λ b. Chosen b (RowsOf line values r) (Has (rows_in table old.trees) r)) (sym (not_true _ (λ is. kept.1 (begins_key n r is ∙ sym (numbered n v))))) kept.0
+
+        back : (r : Row) (b : Bool) → begins (is_number n) r ≡ b → Chosen b (RowsOf line values r) (Has (rows_in table old.trees) r) → (r ≡ line n v) ⊎ (Has (rows_in table old.trees) r × (take 1 r ≢ take 1 (line n v)))
+        back r true is of = let w = wanted_at r is of in inl (w.2 ∙ ap (line n) (some_is w.0 v (sym w.1 ∙ there)))
+        back r false is was = inr (was, λ e. true≢false (sym (key_begins n r (e ∙ numbered n v)) ∙ is))
+
+    drop_rewrites : get values n ≡ None → Drops table 1 (int n ∷ []) old new → RewritesNumber table line values n old new
+    drop_rewrites none did = record { rows = λ r. (λ h. ahead r ((did.rows r).0 h), λ h. (did.rows r).1 (back r (begins (is_number n) r) refl h)); others = did.others }
+      where
+        ahead : (r : Row) → Has (rows_in table old.trees) r × (take 1 r ≢ int n ∷ []) → Goal r
+        ahead r kept = subst (λ b. Chosen b (RowsOf line values r) (Has (rows_in table old.trees) r)) (sym (not_true _ (λ is. kept.1 (begins_key n r is)))) kept.0
+
+        back : (r : Row) (b : Bool) → begins (is_number n) r ≡ b → Chosen b (RowsOf line values r) (Has (rows_in table old.trees) r) → Has (rows_in table old.trees) r × (take 1 r ≢ int n ∷ [])
+        back r true is of = let w = wanted_at r is of in absurd (nothing_is w.0 (sym none ∙ w.1))
+        back r false is was = (was, λ e. true≢false (sym (key_begins n r e) ∙ is))
+
+  pub put_done : (v : V) → get values n ≡ Some v → (old new : State) → Inside HasTables (Puts table 1 (line n v)) old new → Inside HasTables (RewritesNumber table line values n) old new
+  put_done v there old new did = inside_weaker HasTables (Puts table 1 (line n v)) (RewritesNumber table line values n) old new (λ has puts. put_rewrites old.now new.now v there puts) did
+
+  pub drop_done : get values n ≡ None → (old new : State) → Inside HasTables (Drops table 1 (int n ∷ [])) old new → Inside HasTables (RewritesNumber table line values n) old new
+  drop_done none old new did = inside_weaker HasTables (Drops table 1 (int n ∷ [])) (RewritesNumber table line values n) old new (λ has drops. drop_rewrites old.now new.now none drops) did

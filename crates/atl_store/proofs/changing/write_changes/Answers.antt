@@ -1,0 +1,37 @@
+use Rattle.sqlite.specs.Held.{state}
+use Rattle.atl_store.specs.Changing.{WritesChanges}
+use Rattle.atl_store.specs.Inside.{HasTables}
+use Rattle.atl_store.proofs.ChangeLaws.{changes_held}
+use Rattle.atl_store.proofs.StayLaws.{commits_keeps, leaves_stops, commits_spares, leaves_others, later, on_err}
+use Rattle.atl_store.proofs.changing.write_changes.Goals as goal
+
+pub returns-clause-ok : goal.returns-clause-ok
+returns-clause-ok g c clean text before keeps covers =
+    let old = state g.S.Store c.args.conn.now in
+    let new = state g.S.Store c.write_marked.new.conn in
+    let campaign = c.args.campaign.now in
+    commits_keeps old new text (λ db up. g.met.S.Store.settled c.write_marked.new.conn.store db up) HasTables (WritesChanges campaign) campaign.what (c.in_ok-write_marked.ensures.ok clean) keeps.tables
+    (λ did. changes_held campaign old.now new.now did text before covers keeps.rows)
+
+pub returns-in_err-write_marked-clause-err : goal.returns-in_err-write_marked-clause-err
+returns-in_err-write_marked-clause-err g c clean = on_err c.from_residual.result _ (λ text before keeps covers.
+    let old = state g.S.Store c.args.conn.now in
+    let new = state g.S.Store c.write_marked.new.conn in
+    let campaign = c.args.campaign.now in
+    leaves_stops old new text (λ db up. g.met.S.Store.settled c.write_marked.new.conn.store db up) (WritesChanges campaign) before campaign.what clean (c.in_err-write_marked.ensures.err clean) c.write_marked.ensures.crash keeps
+    (λ db did. changes_held campaign old.now db did text before covers keeps.rows))
+
+pub returns-clause-marked : goal.returns-clause-marked
+returns-clause-marked g c clean tables = ((c.in_ok-write_marked.ensures.ok clean).does tables).does
+
+pub returns-clause-others : goal.returns-clause-others
+returns-clause-others g c clean = commits_spares (state g.S.Store c.args.conn.now) (state g.S.Store c.write_marked.new.conn) HasTables (WritesChanges c.args.campaign.now) (c.in_ok-write_marked.ensures.ok clean) (λ has. has)
+
+pub returns-in_err-write_marked-clause-others : goal.returns-in_err-write_marked-clause-others
+returns-in_err-write_marked-clause-others g c clean = leaves_others (state g.S.Store c.args.conn.now) (state g.S.Store c.write_marked.new.conn) (c.in_err-write_marked.ensures.err clean)
+
+pub returns-clause-later : goal.returns-clause-later
+returns-clause-later g c = later (state g.S.Store c.args.conn.now) (state g.S.Store c.write_marked.new.conn) _ c.write_marked.ensures.crash
+
+pub returns-in_err-write_marked-clause-later : goal.returns-in_err-write_marked-clause-later
+returns-in_err-write_marked-clause-later g c = later (state g.S.Store c.args.conn.now) (state g.S.Store c.write_marked.new.conn) _ c.write_marked.ensures.crash

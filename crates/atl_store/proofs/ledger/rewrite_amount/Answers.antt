@@ -1,0 +1,18 @@
+use Rattle.std.proofs.Common.{sym, ◌∙◌}
+use Rattle.atl_state.specs.Books.{entry_place, thing_place}
+use Rattle.atl_store.specs.Tables.{books_table}
+use Rattle.atl_store.specs.Rows.{BooksRowsOf}
+use Rattle.atl_store.specs.Rewriting.{is_number, of_amounts}
+use Rattle.atl_store.proofs.BooksRewriteLaws.{settle_done, unmarked_none}
+use Rattle.atl_store.proofs.RewriteLaws.{none_chosen}
+use Rattle.atl_store.proofs.WriteLaws.{begins, weaker}
+use Rattle.atl_store.proofs.ledger.rewrite_amount.Goals as goal
+
+pub returns-then-is_amount_marked : goal.returns-then-is_amount_marked
+returns-then-is_amount_marked g c = weaker g.S.Store (settle_done c.args.campaign.now c.args.entry c.args.thing (sym c.is_amount_marked.ensures ∙ c.if-is_amount_marked.true)) c.settle_amount.ensures
+
+pub returns : goal.returns
+returns g c =
+    let campaign = c.args.campaign.now in
+    begins g.S.Store (none_chosen books_table (BooksRowsOf campaign.what.books) (λ r. of_amounts campaign.marks.books (is_number (entry_place c.args.entry)) (is_number (thing_place c.args.thing)) r)
+    (unmarked_none campaign c.args.entry c.args.thing (sym c.is_amount_marked.ensures ∙ c.if-is_amount_marked.false)))

@@ -1,0 +1,10 @@
+use Rattle.std.proofs.Common.{◌-◌, length}
+use Rattle.std.specs.List.{range_with_len}
+use Rattle.atl_store.specs.Inside.{Inside, HasTables}
+use Rattle.atl_store.proofs.BooksRewriteLaws.{NearingThings}
+use Rattle.atl_store.proofs.WriteLaws.{SoFar}
+use Rattle.atl_store.proofs.ledger.rewrite_books.Given as goal
+
+abbrev pub invariant-loop-number : goal.invariant-loop-number
+invariant-loop-number g l =
+    SoFar g.S.Store (Inside HasTables (NearingThings l.fn.campaign (range_with_len l.number (length l.fn.campaign.what.books - l.number)) (range_with_len 0 (length l.fn.campaign.what.books)))) l.fn.tx.conn l.tx.conn

@@ -1,0 +1,98 @@
+//! What changed of a campaign is written into its tables.
+ghost use Rattle.std.specs.Prelude.{◌≡◌, ◌≤◌, false, List, ℕ, OnOk, OnErr, length};
+ghost use Rattle.sqlite.specs.Held.{state};
+ghost use Rattle.sqlite.specs.State.{HasCleanDisk};
+ghost use Rattle.atl_state.specs.Covers.{Covers};
+ghost use Rattle.atl_state.specs.Limits.{most_things};
+ghost use Rattle.atl_state.specs.Marks.{no_marks};
+ghost use Rattle.atl_state.specs.State.{State};
+ghost use Rattle.atl_store.specs.Changing.{WritesChanges};
+ghost use Rattle.atl_store.specs.Rewriting.{RewritesPlayers, RewritesPlaces, RewritesPeople};
+ghost use Rattle.atl_store.specs.Writes.{Writes, Transacts};
+ghost use Rattle.atl_store.specs.Inside.{Inside, HasTables};
+ghost use Rattle.atl_store.specs.Keeps.{Keeps, Stops, IsLater, SparesOthers};
+
+use crate::fault::WriteFault;
+use crate::goods::rewrite_marked_goods;
+use crate::head::rewrite_head;
+use crate::kept::rewrite_marked;
+use crate::ledger::rewrite_books;
+use atl_state::{Campaign, Faction, Region, Structure, Unit};
+use atl_tables::{Sequence, Text};
+use sqlite::{Alter, Connection, Error, Transaction};
+
+/// The campaign's own row, factions and reports.
+fn rewrite_players<S: Alter>(
+    tx: &mut Transaction<'_, S>,
+    campaign: &Campaign,
+) -> Result<(), Error>
+    ensures { Writes S.Store (Inside HasTables (RewritesPlayers campaign.now)) result tx.old.conn tx.new.conn }
+{
+    rewrite_head(tx, campaign)?;
+    rewrite_marked::<Faction, S>(tx, campaign)?;
+    rewrite_marked::<Text, S>(tx, campaign)
+}
+
+/// Regions, structures and books.
+fn rewrite_places<S: Alter>(tx: &mut Transaction<'_, S>, campaign: &Campaign) -> Result<(), Error>
+    requires { length campaign.now.what.books ≤ most_things }
+    ensures { Writes S.Store (Inside HasTables (RewritesPlaces campaign.now)) result tx.old.conn tx.new.conn }
+{
+    rewrite_marked::<Region, S>(tx, campaign)?;
+    rewrite_marked::<Structure, S>(tx, campaign)?;
+    rewrite_books(tx, campaign)
+}
+
+/// Units, what they have, and mail.
+fn rewrite_people<S: Alter>(tx: &mut Transaction<'_, S>, campaign: &Campaign) -> Result<(), Error>
+    ensures { Writes S.Store (Inside HasTables (RewritesPeople campaign.now)) result tx.old.conn tx.new.conn }
+{
+    rewrite_marked::<Unit, S>(tx, campaign)?;
+    rewrite_marked_goods(tx, campaign)?;
+    rewrite_marked::<Sequence<u8>, S>(tx, campaign)
+}
+
+/// All that is marked.
+fn rewrite_all<S: Alter>(tx: &mut Transaction<'_, S>, campaign: &Campaign) -> Result<(), Error>
+    requires { length campaign.now.what.books ≤ most_things }
+    ensures { Writes S.Store (Inside HasTables (WritesChanges campaign.now)) result tx.old.conn tx.new.conn }
+{
+    rewrite_players(tx, campaign)?;
+    rewrite_places(tx, campaign)?;
+    rewrite_people(tx, campaign)
+}
+
+/// The transaction of a change.
+fn write_marked<S: Alter>(conn: &mut Connection<S>, campaign: &Campaign) -> Result<(), Error>
+    requires idle { conn.old.in_transaction ≡ false }
+    requires things { length campaign.now.what.books ≤ most_things }
+    ensures { Transacts S.Store HasTables (WritesChanges campaign.now) result conn.old conn.new }
+{
+    let mut tx = conn.transaction();
+    rewrite_all(&mut tx, campaign)?;
+    tx.commit()
+}
+
+/// Writes what is marked of a campaign into a store that holds the campaign from which only this differs, in one
+/// transaction: rows of what is there are put, those of what is gone are deleted, and no other row is touched. With Ok the
+/// store holds the campaign, and nothing of it is marked. Store or Memory: the store holds the one before while the
+/// connection is open, a crash leaves the one before or this one, and the marks stay. See docs/FORMATS.md, "Tables".
+pub fn write_changes<S: Alter>(
+    conn: &mut Connection<S>,
+    campaign: &mut Campaign,
+) -> Result<(), WriteFault>
+    requires idle { conn.old.in_transaction ≡ false }
+    requires things { length campaign.old.what.books ≤ most_things }
+    ensures ok { HasCleanDisk (state S.Store conn.new) → OnOk result ((text : List ℕ) (before : State) → Keeps (state S.Store conn.old) text before → Covers campaign.old.marks before campaign.old.what → Keeps (state S.Store conn.new) text campaign.old.what) }
+    ensures err { HasCleanDisk (state S.Store conn.new) → OnErr result ((text : List ℕ) (before : State) → Keeps (state S.Store conn.old) text before → Covers campaign.old.marks before campaign.old.what → Stops (state S.Store conn.old).faults (state S.Store conn.new) text before campaign.old.what) }
+    ensures marked { HasCleanDisk (state S.Store conn.new) → OnOk result (HasTables (state S.Store conn.old).now → WritesChanges campaign.old (state S.Store conn.old).now (state S.Store conn.new).now) }
+    ensures done { OnOk result (campaign.new ≡ record campaign.old { marks = no_marks }) }
+    ensures undone { OnErr result (campaign.new ≡ campaign.old) }
+    ensures later { IsLater (state S.Store conn.old) (state S.Store conn.new) }
+    ensures others { HasCleanDisk (state S.Store conn.new) → SparesOthers (state S.Store conn.old) (state S.Store conn.new) }
+    ensures idle { conn.new.in_transaction ≡ false }
+{
+    write_marked(conn, campaign)?;
+    campaign.unmark();
+    Ok(())
+}
