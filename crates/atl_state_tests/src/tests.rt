@@ -7,6 +7,7 @@ mod compare;
 mod holdings;
 mod levels;
 mod making;
+mod marked;
 mod owners;
 mod parts;
 mod setting;

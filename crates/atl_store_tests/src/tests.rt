@@ -1,5 +1,6 @@
 //! A small world's campaign in a store.
 mod changed;
+mod changes;
 mod compare;
 mod counts;
 mod crashes;
