@@ -1,0 +1,184 @@
+-- Laws of shares.
+use Rattle.std.proofs.Common.{◌≡◌, ℕ, ◌+◌, ◌-◌, ◌*◌, ◌/◌, ◌%◌, ◌<◌, ◌≤◌, List, [], ◌∷◌, ◌++◌, length, get_or, min, inl, inr, zero, suc, sum, refl, ap, sym, ◌∙◌, add-zero, zero-add, arith}
+use Rattle.std.proofs.Math.Nat.{mul-div-le, mul-add, add-mul-div_left, div-add-mod, mod-lt, mul-div_left, mul-zero, zero-div, div-lt_iff_lt-mul, lt-mul-div-succ, div-le_of_le-mul, mul-le-mul_left, le-div_iff_mul-le, mul_comm}
+use Rattle.std.proofs.lemmas.List.Sums.{sum_by-cons, sum_by-append}
+use Rattle.std.proofs.lemmas.Bool.Decides.{nat_tests}
+use Rattle.std.proofs.lemmas.Bool.{cases_lt}
+use Rattle.atl_market.specs.Share.{share_upto, shares_behind, shares, SplittingKeepsOthers, IsNear}
+
+-- the quotient and what is left of it
+quotient : (pot total x : ℕ) → 0 < total → (total * share_upto pot total x ≤ pot * x) × (pot * x < total * share_upto pot total x + total)
+quotient pot total x p = (mul-div-le (pot * x) total, omega (arith, lt-mul-div-succ (pot * x) p))
+
+-- no share passes the pot
+pub upto_le_pot : (pot total x : ℕ) → x ≤ total → share_upto pot total x ≤ pot
+upto_le_pot pot total x h = div-le_of_le-mul total (omega (arith, mul-le-mul_left pot h, mul_comm pot total))
+
+-- more people get no less
+pub upto_mono : (pot total x y : ℕ) → 0 < total → x ≤ y → share_upto pot total x ≤ share_upto pot total y
+upto_mono pot total x y p h =
+    (le-div_iff_mul-le p).1 (omega (arith, mul_comm (share_upto pot total x) total, (quotient pot total x p).0, mul-le-mul_left pot h))
+
+-- one share is no larger than the want
+pub part_le : (pot total before want : ℕ) → 0 < total → pot ≤ total → share_upto pot total (before + want) - share_upto pot total before ≤ want
+part_le pot total before want p h =
+    let spread : pot * (before + want) ≡ pot * before + pot * want = mul-add pot before want in
+    let less : pot * want ≤ total * want = omega (arith, mul-le-mul_left want h, mul_comm pot want, mul_comm total want) in
+    let left : pot * before < total * share_upto pot total before + total = (quotient pot total before p).1 in
+    let room : pot * (before + want) < (share_upto pot total before + want + 1) * total = omega arith in
+    let few : share_upto pot total (before + want) < share_upto pot total before + want + 1 = (div-lt_iff_lt-mul p).1 room in
+    omega arith
+
+-- what a run of wants is given in all
+pub sum-shares_behind : (pot total before : ℕ) → 0 < total → (wants : List ℕ) → sum (shares_behind pot total before wants) + share_upto pot total before ≡ share_upto pot total (before + sum wants)
+sum-shares_behind pot total before p [] = zero-add (share_upto pot total before) ∙ ap (share_upto pot total) (sym (add-zero before))
+sum-shares_behind pot total before p (w ∷ ws) =
+    let here = share_upto pot total (before + w) - share_upto pot total before in
+    let first : sum (here ∷ shares_behind pot total (before + w) ws) ≡ here + sum (shares_behind pot total (before + w) ws) = sum_by-cons (λ x. x) here (shares_behind pot total (before + w) ws) in
+    let rest : sum (shares_behind pot total (before + w) ws) + share_upto pot total (before + w) ≡ share_upto pot total ((before + w) + sum ws) = sum-shares_behind pot total (before + w) p ws in
+    let mono : share_upto pot total before ≤ share_upto pot total (before + w) = upto_mono pot total before (before + w) p (omega arith) in
+    let whole : sum (w ∷ ws) ≡ w + sum ws = sum_by-cons (λ x. x) w ws in
+    let same : share_upto pot total ((before + w) + sum ws) ≡ share_upto pot total (before + sum (w ∷ ws)) = ap (share_upto pot total) (omega arith) in
+    omega arith
+
+pub shares_behind-append : (pot total before : ℕ) (xs ys : List ℕ) → shares_behind pot total before (xs ++ ys) ≡ shares_behind pot total before xs ++ shares_behind pot total (before + sum xs) ys
+shares_behind-append pot total before [] ys = ap (λ n. shares_behind pot total n ys) (omega arith)
+shares_behind-append pot total before (x ∷ xs) ys =
+    ap (λ l. (share_upto pot total (before + x) - share_upto pot total before) ∷ l)
+    (shares_behind-append pot total (before + x) xs ys
+    ∙ ap (λ n. shares_behind pot total (before + x) xs ++ shares_behind pot total n ys) (let e : sum (x ∷ xs) ≡ x + sum xs = sum_by-cons (λ x. x) x xs in omega arith))
+
+-- what a share is off by, from its exact part: less than one
+pub share_near : (pot total before want : ℕ) → 0 < total →
+    ((share_upto pot total (before + want) - share_upto pot total before) * total < pot * want + total)
+    × (pot * want < (share_upto pot total (before + want) - share_upto pot total before) * total + total)
+share_near pot total before want p =
+    let here = share_upto pot total (before + want) - share_upto pot total before in
+    let low = share_upto pot total before in
+    let spread : pot * (before + want) ≡ pot * before + pot * want = mul-add pot before want in
+    let mono : low ≤ share_upto pot total (before + want) = upto_mono pot total before (before + want) p (omega arith) in
+    let top : share_upto pot total (before + want) ≡ here + low = omega arith in
+    let cut : total * share_upto pot total (before + want) ≡ here * total + total * low = ap (λ n. total * n) top ∙ mul-add total here low ∙ ap (λ n. n + total * low) (mul_comm total here) in
+    let q0 = quotient pot total before p in
+    let q1 = quotient pot total (before + want) p in
+    (omega arith, omega arith)
+
+-- the wants that the pot is enough for
+pub shares-enough : (pot : ℕ) (wants : List ℕ) → sum wants ≤ pot → shares pot wants ≡ wants
+shares-enough pot wants h = grind (arith, nat_tests)
+
+pub shares-short : (pot : ℕ) (wants : List ℕ) → pot < sum wants → shares pot wants ≡ shares_behind pot (sum wants) 0 wants
+shares-short pot wants h = grind (arith, nat_tests)
+
+-- what holds of each want and its share, in place
+each_behind : (P : ℕ → ℕ → Type 0) (pot total : ℕ) → ((before want : ℕ) → P want (share_upto pot total (before + want) - share_upto pot total before)) → P 0 0 → (before : ℕ) (wants : List ℕ) (i : ℕ) → P (get_or wants i 0) (get_or (shares_behind pot total before wants) i 0)
+each_behind P pot total here none before [] i = none
+each_behind P pot total here none before (w ∷ ws) zero = here before w
+each_behind P pot total here none before (w ∷ ws) (suc i) = each_behind P pot total here none (before + w) ws i
+
+pub share_at_most : (pot : ℕ) (wants : List ℕ) (i : ℕ) → get_or (shares pot wants) i 0 ≤ get_or wants i 0
+share_at_most pot wants i =
+    elim (cases_lt pot (sum wants)) [
+      | inl h ↦ rw (shares-short pot wants h) (each_behind (λ w s. s ≤ w) pot (sum wants) (λ b w. part_le pot (sum wants) b w (omega arith) (omega arith)) (omega arith) 0 wants i)
+      | inr h ↦ rw (shares-enough pot wants h) (omega arith)
+    ]
+
+pub all_is_given : (pot : ℕ) (wants : List ℕ) → sum (shares pot wants) ≡ min pot (sum wants)
+all_is_given pot wants =
+    elim (cases_lt pot (sum wants)) [
+      | inl h ↦
+          let p : 0 < sum wants = omega arith in
+          let all : sum (shares_behind pot (sum wants) 0 wants) + share_upto pot (sum wants) 0 ≡ share_upto pot (sum wants) (0 + sum wants) = sum-shares_behind pot (sum wants) 0 p wants in
+          let full : share_upto pot (sum wants) (0 + sum wants) ≡ pot = ap (share_upto pot (sum wants)) (zero-add (sum wants)) ∙ mul-div_left pot p in
+          let nothing : share_upto pot (sum wants) 0 ≡ 0 = ap (λ n. n / sum wants) (mul-zero pot) ∙ zero-div (sum wants) in
+          ap sum (shares-short pot wants h) ∙ omega arith
+      | inr h ↦ ap sum (shares-enough pot wants h) ∙ omega arith
+    ]
+
+pub share_is_near : (pot : ℕ) (wants : List ℕ) (i : ℕ) → pot < sum wants → IsNear pot (sum wants) (get_or wants i 0) (get_or (shares pot wants) i 0)
+share_is_near pot wants i h =
+    rw (shares-short pot wants h) (each_behind (IsNear pot (sum wants)) pot (sum wants)
+    (λ b w. let n = share_near pot (sum wants) b w (omega arith) in record { above = n.0; below = n.1 })
+    (record { above = omega arith; below = omega arith }) 0 wants i)
+
+pub length-shares_behind : (pot total before : ℕ) (wants : List ℕ) → length (shares_behind pot total before wants) ≡ length wants
+length-shares_behind pot total before [] = refl
+length-shares_behind pot total before (w ∷ ws) = ap suc (length-shares_behind pot total (before + w) ws)
+
+sum-split : (ahead parts behind : List ℕ) → sum (ahead ++ parts ++ behind) ≡ sum (ahead ++ sum parts ∷ behind)
+sum-split ahead parts behind =
+    let one : sum (ahead ++ parts ++ behind) ≡ sum (ahead ++ parts) + sum behind = sum_by-append (λ x. x) (ahead ++ parts) behind in
+    let two : sum (ahead ++ parts) ≡ sum ahead + sum parts = sum_by-append (λ x. x) ahead parts in
+    let three : sum (ahead ++ sum parts ∷ behind) ≡ sum ahead + sum (sum parts ∷ behind) = sum_by-append (λ x. x) ahead (sum parts ∷ behind) in
+    let four : sum (sum parts ∷ behind) ≡ sum parts + sum behind = sum_by-cons (λ x. x) (sum parts) behind in
+    omega arith
+
+split_behind : (pot total : ℕ) → 0 < total → (ahead parts behind : List ℕ)
+    → (shares_behind pot total 0 (ahead ++ parts ++ behind) ≡ shares_behind pot total 0 ahead ++ shares_behind pot total (sum ahead) parts ++ shares_behind pot total (sum ahead + sum parts) behind)
+    × (shares_behind pot total 0 (ahead ++ sum parts ∷ behind) ≡ shares_behind pot total 0 ahead ++ sum (shares_behind pot total (sum ahead) parts) ∷ shares_behind pot total (sum ahead + sum parts) behind)
+split_behind pot total p ahead parts behind =
+    let front = shares_behind pot total 0 ahead in
+    let two : sum (ahead ++ parts) ≡ sum ahead + sum parts = sum_by-append (λ x. x) ahead parts in
+    let given : sum (shares_behind pot total (sum ahead) parts) + share_upto pot total (sum ahead) ≡ share_upto pot total (sum ahead + sum parts) = sum-shares_behind pot total (sum ahead) p parts in
+    let one : share_upto pot total (sum ahead + sum parts) - share_upto pot total (sum ahead) ≡ sum (shares_behind pot total (sum ahead) parts) = omega arith in (
+      shares_behind-append pot total 0 (ahead ++ parts) behind
+          ∙ ap (λ l. l ++ shares_behind pot total (0 + sum (ahead ++ parts)) behind)
+          (shares_behind-append pot total 0 ahead parts ∙ ap (λ n. front ++ shares_behind pot total n parts) (zero-add (sum ahead)))
+          ∙ ap (λ n. front ++ shares_behind pot total (sum ahead) parts ++ shares_behind pot total n behind) (zero-add (sum (ahead ++ parts)) ∙ two),
+      shares_behind-append pot total 0 ahead (sum parts ∷ behind)
+          ∙ ap (λ n. front ++ shares_behind pot total n (sum parts ∷ behind)) (zero-add (sum ahead))
+          ∙ ap (λ n. front ++ n ∷ shares_behind pot total (sum ahead + sum parts) behind) one,
+    )
+
+pub splitting_keeps_others : SplittingKeepsOthers
+splitting_keeps_others pot ahead parts behind =
+    let same = sum-split ahead parts behind in
+    elim (cases_lt pot (sum (ahead ++ parts ++ behind))) [
+      | inl h ↦
+          let total = sum (ahead ++ parts ++ behind) in
+          let split = split_behind pot total (omega arith) ahead parts behind in (
+            shares_behind pot total 0 ahead,
+            shares_behind pot total (sum ahead) parts,
+            shares_behind pot total (sum ahead + sum parts) behind,
+            length-shares_behind pot total 0 ahead,
+            length-shares_behind pot total (sum ahead) parts,
+            shares-short pot (ahead ++ parts ++ behind) h ∙ split.0,
+            shares-short pot (ahead ++ sum parts ∷ behind) (omega arith)
+                ∙ ap (λ n. shares_behind pot n 0 (ahead ++ sum parts ∷ behind)) (sym same) ∙ split.1,
+          )
+      | inr h ↦ (
+        ahead,
+        parts,
+        behind,
+        refl,
+        refl,
+        shares-enough pot (ahead ++ parts ++ behind) h,
+        shares-enough pot (ahead ++ sum parts ∷ behind) (omega arith),
+      )
+    ]
+
+-- left is the remainder of the quotient behind `before`
+pub record IsLeft (pot total before left : ℕ) : Type 0 where
+  pub small : left < total
+  pub whole : total * share_upto pot total before + left ≡ pot * before
+
+-- the next share and remainder, by the running remainder
+pub next_share : (pot total before left want : ℕ) → 0 < total → IsLeft pot total before left →
+    (pot * want + left) / total ≡ share_upto pot total (before + want) - share_upto pot total before
+next_share pot total before left want p h =
+    let low = share_upto pot total before in
+    let due = pot * want + left in
+    let all : pot * (before + want) ≡ due + total * low = omega (arith, mul-add pot before want, h.whole) in
+    let split : share_upto pot total (before + want) ≡ due / total + low = ap (λ n. n / total) all ∙ add-mul-div_left due low p in
+    omega arith
+
+pub next_left : (pot total before left want : ℕ) → 0 < total → IsLeft pot total before left →
+    IsLeft pot total (before + want) ((pot * want + left) % total)
+next_left pot total before left want p h =
+    let low = share_upto pot total before in
+    let due = pot * want + left in
+    let all : pot * (before + want) ≡ due + total * low = omega (arith, mul-add pot before want, h.whole) in
+    let split : share_upto pot total (before + want) ≡ due / total + low = ap (λ n. n / total) all ∙ add-mul-div_left due low p in
+    let both : total * share_upto pot total (before + want) ≡ total * (due / total) + total * low = ap (λ n. total * n) split ∙ mul-add total (due / total) low in
+    let parts : total * (due / total) + due % total ≡ due = div-add-mod due total in
+    record { small = mod-lt due p; whole = omega arith }

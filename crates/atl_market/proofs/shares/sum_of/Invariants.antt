@@ -1,0 +1,8 @@
+use Rattle.std.proofs.Common.{◌≡◌, ◌≤◌, ◌*◌, sum, take}
+use Rattle.atl_market.proofs.shares.sum_of.Given as goal
+
+abbrev pub invariant-loop-want : goal.invariant-loop-want
+invariant-loop-want l = record {
+  value : l.total ≡ sum (take l.want-index l.wants);
+  bound : l.total ≤ 999999999 * l.want-index;
+}

@@ -1,0 +1,62 @@
+//! Shares of a pot.
+ghost use Rattle.std.specs.Prelude.{◌≡◌, ◌≤◌, ◌<◌, ◌*◌, ℕ, length, sum, min, slice_index, All, IfOk};
+ghost use Rattle.atl_tables.specs.Limits.{most_amount};
+ghost use Rattle.atl_market.specs.Share.{shares, IsNear, SplittingKeepsOthers};
+
+use std::alloc::{AllocError, Global};
+
+/// The sum of the wants.
+fn sum_of(wants: &[u64]) -> u128
+    requires { All (λ want. want ≤ most_amount) wants.now }
+    ensures value { result ≡ sum wants.now }
+    ensures bound { result ≤ most_amount * length wants.now }
+{
+    let mut total: u128 = 0;
+    for want in wants {
+        total += u128::from(*want);
+    }
+    total
+}
+
+/// The shares, with one running remainder.
+fn shared(alloc: Global, pot: u64, wants: &[u64]) -> Result<Vec<u64>, AllocError>
+    requires pot { pot ≤ most_amount }
+    requires wants { All (λ want. want ≤ most_amount) wants.now }
+    ensures { IfOk result (λ given. given.items ≡ shares pot wants.now) }
+{
+    let pot = u128::from(pot);
+    let total = sum_of(wants);
+    if total <= pot {
+        return Vec::from_slice(alloc, wants);
+    }
+    let mut given = Vec::new(alloc);
+    let mut left: u128 = 0;
+    for want in wants {
+        let due = pot * u128::from(*want) + left;
+        given.push((due / total) as u64)?;
+        left = due % total;
+    }
+    Ok(given)
+}
+
+/// What each of these wants gets of a pot, in their order: what it wants where the pot is enough for all, else its share. A
+/// share is never more than the want, all shares together are the pot or what is wanted, whichever is less, and where the
+/// pot is short a share is off by less than one from the part of the pot that its want is of all wants. The pot and each
+/// want are at most 999,999,999. AllocError without memory. See docs/RULES.md, "Shares".
+#[tactic(auto, using(crate::proofs::ShareLaws::share_at_most, crate::proofs::ShareLaws::share_is_near, crate::proofs::ShareLaws::all_is_given))]
+pub fn share(alloc: Global, pot: u64, wants: &[u64]) -> Result<Vec<u64>, AllocError>
+    requires pot { pot ≤ most_amount }
+    requires wants { All (λ want. want ≤ most_amount) wants.now }
+    ensures definition { IfOk result (λ given. given.items ≡ shares pot wants.now) }
+    ensures at_most { IfOk result (λ given. (i : ℕ) → slice_index given.items i ≤ slice_index wants.now i) }
+    ensures all_given { IfOk result (λ given. sum given.items ≡ min pot (sum wants.now)) }
+    ensures near { IfOk result (λ given. pot < sum wants.now → (i : ℕ) → IsNear pot (sum wants.now) (slice_index wants.now i) (slice_index given.items i)) }
+{
+    shared(alloc, pot, wants)
+}
+
+/// Does nothing. Its clause is the law that splitting a want among neighbours gives them together what it got, and all
+/// others the same. See docs/RULES.md, "Shares".
+pub fn splitting_keeps_others()
+    ensures { SplittingKeepsOthers }
+{}

@@ -1,0 +1,5 @@
+//! Tests of pots.
+#![tactic(auto)]
+
+#[cfg(test)]
+mod tests;

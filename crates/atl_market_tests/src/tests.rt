@@ -1,0 +1,2 @@
+//! Tests of atl_market by its public calls alone.
+mod shares;

@@ -1,0 +1,60 @@
+//! Shares that were worked out by hand.
+ghost use Rattle.std.specs.Prelude.{◌≤◌, All, IsTrue};
+
+use atl_market::share;
+use std::alloc::Global;
+use std::process::Abort;
+use std::test::Fail;
+
+/// A pot, what is wanted of it, and what is given.
+const SHARED: [(u64, &[u64], &[u64]); 8] = [
+    (100, &[50, 60, 70], &[27, 34, 39]),
+    (100, &[110, 70], &[61, 39]),
+    (0, &[3, 4], &[0, 0]),
+    (5, &[0, 0], &[0, 0]),
+    (7, &[], &[]),
+    (7, &[3, 4], &[3, 4]),
+    (1, &[1, 1, 1], &[0, 0, 1]),
+    (
+        999_999_999,
+        &[999_999_999, 999_999_999],
+        &[499_999_999, 500_000_000],
+    ),
+];
+
+fn is_shared(rt: &impl Abort, pot: u64, told: &[u64], wanted: &[u64]) {
+    assert_eq!(rt; told, wanted, "of {pot}");
+}
+
+fn are_small(wants: &[u64]) -> bool
+    ensures { IsTrue result → All (λ want. want ≤ 999999999) wants.now }
+{
+    wants.iter().all(|want| *want <= 999_999_999)
+}
+
+fn shares(
+    rt: &impl Abort,
+    alloc: Global,
+    pot: u64,
+    wants: &[u64],
+    wanted: &[u64],
+) -> Result<(), Fail> {
+    if pot > 999_999_999 || !are_small(wants) {
+        return Err(Fail::new("a pot and wants that are small enough"));
+    }
+    let given = share(alloc, pot, wants)?;
+    is_shared(rt, pot, given.as_slice(), wanted);
+    Ok(())
+}
+
+fn shares_all(rt: &impl Abort, alloc: Global) -> Result<(), Fail> {
+    for (pot, wants, wanted) in SHARED.iter() {
+        shares(rt, alloc, *pot, wants, wanted)?;
+    }
+    Ok(())
+}
+
+#[test]
+fn a_pot_is_shared(rt: HostRuntime) -> Result<(), Fail> {
+    shares_all(&rt, rt.alloc())
+}
