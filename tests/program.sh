@@ -1,26 +1,63 @@
 #!/usr/bin/env bash
-# Runs the program on worlds and command lines, most of which it refuses, and compares standard output, standard error and status with
-# what docs/FORMATS.md says. The gate runs only the one that crates/atl_gm stores.
+# Runs the program on worlds, mailings, databases and command lines, many of which it refuses, and compares standard output, standard
+# error and status with what docs/FORMATS.md says. Called without arguments, it takes under a minute once the program is built, and ends
+# with 'program: all as expected'. It wants sqlite3: without that the rows that look into a database by it, or make one with it, are passed
+# over, which is said at the end. The gate runs only the first report that crates/atl_gm stores.
 set -u
 here=$(cd "$(dirname "$0")/.." && pwd)
-out=$(mktemp) && err=$(mktemp)
-trap 'rm -f "$out" "$err"' EXIT
+work=$(mktemp -d)
+trap 'rm -rf "$work"' EXIT
+out=$work/out err=$work/err
 failed=0
+has_sqlite=
+command -v sqlite3 >/dev/null && has_sqlite=yes
 
-# check NAME STATUS OUTPUT ERROR ARGUMENT..: what is on standard input is handed on
+# fail NAME REASON..
+fail() {
+  echo "$1: ${*:2}"
+  failed=1
+}
+
+# check NAME STATUS OUTPUT ERROR ARGUMENT..: what is on standard input is handed on; '-' for ERROR is any text but none
 check() {
   local name=$1 status=$2 output=$3 error=$4 told
   shift 4
   "$here/gm" "$@" >"$out" 2>"$err"
   told=$?
-  if [ "$told" != "$status" ] || [ "$(cat "$out")" != "$output" ] || { [ "$error" != - ] && [ "$(cat "$err")" != "$error" ]; }; then
-    echo "$name: status $told, output and error:"
+  if [ "$told" != "$status" ] || [ "$(cat "$out")" != "$output" ] ||
+    if [ "$error" = - ]; then [ ! -s "$err" ]; else [ "$(cat "$err")" != "$error" ]; fi; then
+    fail "$name" "status $told, output and error:"
     cat "$out" "$err"
-    failed=1
   fi
+  [ ! -s "$out" ] || [ -z "$(tail -c 1 "$out")" ] || fail "$name" 'the output does not end with a line feed'
+}
+
+# whole FILE: no log with content is beside the file. One of 41 bytes or less holds nothing.
+whole() {
+  local log
+  for log in "$1-wal" "$1-journal"; do
+    [ ! -e "$log" ] || [ "$(stat -c %s "$log")" -le 41 ] || fail "$1" "there is content in $log"
+  done
+}
+
+# rows FILE: all that the database holds, or its bytes where sqlite3 is not there
+rows() {
+  if [ -n "$has_sqlite" ]; then sqlite3 "$1" .dump; else od -c "$1"; fi
+}
+
+# refused NAME FILE ERROR ARGUMENT..: the command has status 1, and the file's rows stay
+refused() {
+  local name=$1 db=$2 error=$3
+  shift 3
+  cp "$db" "$work/before"
+  check "$name" 1 '' "$error" "$@"
+  cp "$db" "$work/after"
+  [ "$(rows "$work/before")" = "$(rows "$work/after")" ] || fail "$name" 'the rows changed'
+  whole "$db"
 }
 
 small=$here/worlds/small.toml
+isle=$here/worlds/isle.toml
 report='Atlantis report, month 0, faction 1 "Avalon".
 Orders:
 None.
@@ -28,16 +65,171 @@ Region 1 "Vale", plain: 1000 peasants, 500 money.
 Exits: none.
 * Unit 1 "Unit 1": 1 men, 1000 money.'
 
+# A campaign in memory.
 check 'a first report' 0 "$report" '' trial <"$small"
 check 'no TOML' 1 '' 'world: 1 NotToml' trial <<<'a = = b'
 check 'a text for a number' 1 '' 'world: 3 WrongType rules.growth' trial < <(sed 's/^growth = 0$/growth = "0"/' "$small")
 check 'a key that lacks' 1 '' 'world: 2 Missing rules.growth' trial < <(sed '/^growth = 0$/d' "$small")
 check 'a number past its range' 1 '' 'world: 4 OutOfRange rules.growth' trial < <(sed 's/^growth = 0$/growth = 101/' "$small")
 check 'bytes that are no text' 1 '' 'file: cannot read' trial < <(printf '\377')
-check 'no subcommand' 2 '' - </dev/null
-check 'an unknown subcommand' 2 '' - sail </dev/null
-check 'an unknown option' 2 '' - trial --seed 1 </dev/null
-check 'help' 2 '' - --help </dev/null
 
+# A campaign in a file.
+db=$work/small.db
+check 'a founding' 0 'founded, 1 regions' '' found --world "$small" --db "$db" --pass gm </dev/null
+whole "$db"
+check 'a joining' 0 'faction 1, unit 1' '' join --db "$db" --name Avalon --pass pw --seed 0
+whole "$db"
+check 'a first report of a file' 0 "$report" '' report --db "$db" --faction 1 --pass pw
+whole "$db"
+
+mailing=$work/mailing
+printf '#ATLANTIS 1\nUNIT 1\nATTACK 2\nwork\n' >"$mailing"
+check 'one faulty line' 0 '1 orders, 1 faults
+line 3: 2 UnknownOrder' '' mail --db "$db" --faction 1 --pass pw --file "$mailing"
+whole "$db"
+printf '#ATLANTIS 1\nUNIT 1\nwork \310\nWORK\nENTER\n' >"$mailing"
+check 'a byte that is no text' 0 '1 orders, 2 faults
+line 3: 6 BadByte
+line 5: 5 MissingWord' '' mail --db "$db" --faction 1 --pass pw --file "$mailing"
+printf '#ATLANTIS 1\n' >"$mailing"
+check 'no order' 0 '0 orders, 0 faults' '' mail --db "$db" --faction 1 --pass pw --file "$mailing"
+printf '#ATLANTIS 1\r\nUNIT 1\r\nWORK\r\n' >"$mailing"
+check 'lines of another system' 0 '1 orders, 0 faults' '' mail --db "$db" --faction 1 --pass pw --file "$mailing"
+{ printf '#ATLANTIS 1\n' && head -c 65524 /dev/zero | tr '\0' '"'; } >"$mailing"
+check 'the longest mailing' 0 '0 orders, 1 faults
+line 2: 2 UnknownOrder' '' mail --db "$db" --faction 1 --pass pw --file "$mailing"
+check 'the report after mail' 0 "$report" '' report --db "$db" --faction 1 --pass pw
+whole "$db"
+
+# The one file is the whole campaign.
+cp "$db" "$work/copy.db"
+check 'a plain copy' 0 "$report" '' report --db "$work/copy.db" --faction 1 --pass pw
+if [ -n "$has_sqlite" ]; then
+  cp "$db" "$work/own.db"
+  [ "$(sqlite3 "$work/own.db" 'PRAGMA integrity_check')" = ok ] || fail 'a plain copy' 'sqlite3 finds it damaged'
+  [ "$(sqlite3 "$work/own.db" 'SELECT joined_as FROM faction')" = Avalon ] || fail 'a plain copy' 'sqlite3 finds no faction'
+  sqlite3 "$work/own.db" 'VACUUM; REINDEX; ANALYZE; CREATE TABLE note (words TEXT)'
+  check 'a file that sqlite3 changed' 0 "$report" '' report --db "$work/own.db" --faction 1 --pass pw
+  check 'a joining there' 0 'faction 2, unit 2' '' join --db "$work/own.db" --name Bree --pass pb --seed 0
+  [ "$(sqlite3 "$work/own.db" 'SELECT count(*) FROM unit')" = 2 ] || fail 'a joining there' 'sqlite3 finds no unit'
+  sqlite3 "$work/own.db" "VACUUM INTO '$work/packed.db'"
+  check 'a file that sqlite3 made' 0 "$report" '' report --db "$work/packed.db" --faction 1 --pass pw
+fi
+
+# Where the dice lay a faction on an island: the words of seed 3 are 1686128983 and 2024058790, and there are three regions with land.
+island='Atlantis report, month 0, faction 1 "Avalon".
+Orders:
+None.
+Region 3 "Far", forest: 200 peasants, 100 money.
+Exits: north 4, west 2.
+* Unit 1 "Unit 1": 1 men, 1000 money.'
+check 'an island founded' 0 'founded, 4 regions' '' found --world "$isle" --db "$work/isle.db" --pass gm
+check 'an island joined' 0 'faction 1, unit 1' '' join --db "$work/isle.db" --name Avalon --pass pw --seed 3
+check 'an island start' 0 "$island" '' report --db "$work/isle.db" --faction 1 --pass pw
+check 'a second faction' 0 'faction 2, unit 2' '' join --db "$work/isle.db" --name Bree --pass pb --seed 3
+check 'the greatest seed' 0 'faction 3, unit 3' '' join --db "$work/isle.db" --name Cair --pass pc --seed 18446744073709551615
+check 'a second report' 0 'Atlantis report, month 0, faction 2 "Bree".
+Orders:
+None.
+Region 3 "Far", forest: 200 peasants, 100 money.
+Exits: north 4, west 2.
+- Unit 1 "Unit 1" of faction 1 "Avalon": 1 men.
+* Unit 2 "Unit 2": 1 men, 1000 money.' '' report --db "$work/isle.db" --faction 2 --pass pb
+
+# Commands that are refused.
+refused 'a bad name' "$db" 'refused: 1 BadName' join --db "$db" --name ' x' --pass pw --seed 0
+refused 'a bad pass text' "$db" 'refused: 2 BadPassText' join --db "$db" --name Bree --pass 'a b' --seed 0
+refused 'an empty pass text' "$db" 'refused: 2 BadPassText' join --db "$db" --name Bree --pass '' --seed 0
+refused 'a name that is taken' "$db" 'refused: 3 NameTaken' join --db "$db" --name Avalon --pass pw --seed 0
+refused 'a report for nobody' "$db" 'refused: 5 NoFaction' report --db "$db" --faction 9 --pass pw
+refused 'a report with another pass text' "$db" 'refused: 6 WrongPass' report --db "$db" --faction 1 --pass no
+printf '#ATLANTIS 9\n' >"$mailing"
+refused 'mail of nobody' "$db" 'refused: 5 NoFaction' mail --db "$db" --faction 9 --pass pw --file "$mailing"
+refused 'mail with another pass text' "$db" 'refused: 6 WrongPass' mail --db "$db" --faction 1 --pass no --file "$mailing"
+{ printf '#ATLANTIS 1\n' && head -c 65525 /dev/zero | tr '\0' '"'; } >"$mailing"
+refused 'a mailing that is too long' "$db" 'refused: 8 TooLong' mail --db "$db" --faction 1 --pass pw --file "$mailing"
+echo hello >"$mailing"
+refused 'a mailing without a header' "$db" 'refused: 9 NoHeader' mail --db "$db" --faction 1 --pass pw --file "$mailing"
+echo '#ATLANTIS x' >"$mailing"
+refused 'a header without a number' "$db" 'refused: 10 BadHeader' mail --db "$db" --faction 1 --pass pw --file "$mailing"
+echo '#ATLANTIS 2' >"$mailing"
+refused 'a header of another faction' "$db" 'refused: 11 WrongFaction' mail --db "$db" --faction 1 --pass pw --file "$mailing"
+refused 'a file that is founded twice' "$db" 'fault: NotEmpty' found --world "$small" --db "$db" --pass gm
+
+# Foundings that are refused leave no campaign, and the next one takes their file.
+sed 's/^growth = 0$/growth = "0"/' "$small" >"$work/bad.toml"
+check 'a bad world' 1 '' 'world: 3 WrongType rules.growth' found --world "$work/bad.toml" --db "$work/new.db" --pass gm
+check 'a bad pass text of a founding' 1 '' 'refused: 2 BadPassText' found --world "$small" --db "$work/new.db" --pass 'a b'
+check 'no campaign after them' 1 '' 'fault: NotACampaign' report --db "$work/new.db" --faction 1 --pass pw
+check 'a founding after them' 0 'founded, 1 regions' '' found --world "$small" --db "$work/new.db" --pass gm
+whole "$work/new.db"
+: >"$work/empty.db"
+check 'an empty file' 1 '' 'fault: NotACampaign' report --db "$work/empty.db" --faction 1 --pass pw
+check 'a founding in an empty file' 0 'founded, 1 regions' '' found --world "$small" --db "$work/empty.db" --pass gm
+
+# Files that can't be read are told before the database is opened.
+printf '\377' >"$work/bytes.toml"
+none=$work/none
+check 'a world that is no text' 1 '' 'file: cannot read' found --world "$work/bytes.toml" --db "$none" --pass gm
+check 'a world that is not there' 1 '' 'file: cannot read' found --world "$work/no.toml" --db "$none" --pass gm
+check 'a world that is a folder' 1 '' 'file: cannot read' found --world "$work" --db "$none" --pass gm
+check 'a mailing that is not there' 1 '' 'file: cannot read' mail --db "$none" --faction 1 --pass pw --file "$work/no.txt"
+
+# Paths without a campaign.
+check 'a joining where no file is' 1 '' 'fault: NotACampaign' join --db "$none" --name Avalon --pass pw --seed 0
+check 'mail where no file is' 1 '' 'fault: NotACampaign' mail --db "$none" --faction 1 --pass pw --file "$mailing"
+check 'a report where no file is' 1 '' 'fault: NotACampaign' report --db "$none" --faction 1 --pass pw
+check 'a report below a file' 1 '' 'fault: NotACampaign' report --db "$db/none" --faction 1 --pass pw
+[ -z "$(find "$work" -name 'none*')" ] || fail 'a path without a file' 'a file was made'
+check 'a founding in no folder' 1 '' 'fault: Store' found --world "$small" --db "$none/x.db" --pass gm
+check 'a folder for a database' 1 '' 'fault: Store' report --db "$work" --faction 1 --pass pw
+echo 'these words are no database, and no program may touch them' >"$work/words"
+cp "$work/words" "$work/words.before"
+check 'a report of no database' 1 '' 'fault: Store' report --db "$work/words" --faction 1 --pass pw
+check 'a founding in no database' 1 '' 'fault: Store' found --world "$small" --db "$work/words" --pass gm
+cmp -s "$work/words" "$work/words.before" || fail 'no database' 'its bytes changed'
+whole "$work/words"
+head -c 8000 "$db" >"$work/cut.db"
+check 'a file that is cut short' 1 '' 'fault: Store' report --db "$work/cut.db" --faction 1 --pass pw
+if [ -n "$has_sqlite" ]; then
+  sqlite3 "$work/other.db" "CREATE TABLE note (words TEXT); INSERT INTO note VALUES ('milk')"
+  refused 'a report of another database' "$work/other.db" 'fault: NotACampaign' report --db "$work/other.db" --faction 1 --pass pw
+  refused 'a joining of another database' "$work/other.db" 'fault: NotACampaign' join --db "$work/other.db" --name A --pass pw --seed 0
+  refused 'a founding in another database' "$work/other.db" 'fault: Store' found --world "$small" --db "$work/other.db" --pass gm
+
+  # Campaigns that were changed by hand.
+  cp "$db" "$work/damaged.db"
+  sqlite3 "$work/damaged.db" 'UPDATE unit SET money = money + 1'
+  refused 'a report of damage' "$work/damaged.db" 'fault: Damaged 11' report --db "$work/damaged.db" --faction 1 --pass pw
+  refused 'a joining of damage' "$work/damaged.db" 'fault: Damaged 11' join --db "$work/damaged.db" --name Bree --pass pb --seed 0
+  echo '#ATLANTIS 1' >"$mailing"
+  refused 'mail of damage' "$work/damaged.db" 'fault: Damaged 11' mail --db "$work/damaged.db" --faction 1 --pass pw --file "$mailing"
+  refused 'a founding in damage' "$work/damaged.db" 'fault: NotEmpty' found --world "$small" --db "$work/damaged.db" --pass gm
+  cp "$db" "$work/unlike.db"
+  sqlite3 "$work/unlike.db" 'CREATE VIEW shown AS SELECT number FROM unit'
+  refused 'a report of a file with a view' "$work/unlike.db" 'fault: Store' report --db "$work/unlike.db" --faction 1 --pass pw
+fi
+
+# Bad command lines.
+check 'no subcommand' 2 '' - </dev/null
+check 'an unknown subcommand' 2 '' - sail
+check 'an unknown option' 2 '' - trial --seed 1 </dev/null
+check 'an unknown option of a file' 2 '' - report --db "$db" --faction 1 --pass pw --month 1
+check 'an option that lacks' 2 '' - report --db "$db" --faction 1
+check 'another option that lacks' 2 '' - found --world "$small" --pass gm
+check 'an option without a value' 2 '' - report --db "$db" --faction 1 --pass
+check 'an option in the place of a value' 2 '' - report --db "$db" --faction --pass pw
+check 'an option twice' 2 '' - report --db "$db" --faction 1 --faction 1 --pass pw
+check 'a word without an option' 2 '' - report --db "$db" --faction 1 --pass pw more
+check 'a number that is no number' 2 '' - report --db "$db" --faction one --pass pw
+check 'a number below 0' 2 '' - report --db "$db" --faction=-1 --pass pw
+check 'a number past its range on the line' 2 '' - report --db "$db" --faction 4294967296 --pass pw
+check 'the greatest number' 1 '' 'refused: 5 NoFaction' report --db "$db" --faction 4294967295 --pass pw
+check 'a seed past its range' 2 '' - join --db "$db" --name Bree --pass pb --seed 18446744073709551616
+check 'help' 2 '' - --help </dev/null
+check 'help of a subcommand' 2 '' - join --help
+whole "$db"
+
+[ -n "$has_sqlite" ] || echo 'program: rows that want sqlite3 were passed over'
 [ "$failed" = 0 ] && echo 'program: all as expected'
 exit "$failed"

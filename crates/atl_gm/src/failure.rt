@@ -1,6 +1,7 @@
 //! What the program tells on standard error.
 use atl_service::{Cause, Refusal};
 use atl_tables::WorldFault;
+use sqlite::{Error, ErrorCode};
 use std::alloc::{AllocError, AllocFailed};
 use std::io;
 use std::process::ExitCode;
@@ -9,6 +10,8 @@ use std::process::ExitCode;
 pub enum Failure {
     /// The words of the command line are bad, or ask for help.
     CommandLine(clap::Error),
+    /// An option has no value, though the parser of the command line asks for one.
+    NoValue,
     /// A file, or standard input, can't be read as text.
     File,
     World(WorldFault),
@@ -30,6 +33,7 @@ impl Drop for Failure {
     fn drop(self) {
         match self {
             Failure::CommandLine(_) => {}
+            Failure::NoValue => {}
             Failure::File => {}
             Failure::World(_) => {}
             Failure::Refused(_) => {}
@@ -52,6 +56,15 @@ impl From<AllocError> for Failure {
 impl<T: Drop> From<AllocFailed<T>> for Failure {
     fn from(_e: AllocFailed<T>) -> Failure {
         Failure::Memory
+    }
+}
+
+impl From<Error> for Failure {
+    fn from(error: Error) -> Failure {
+        match error {
+            Error::SqliteFailure(ErrorCode::OutOfMemory) => Failure::Memory,
+            _ => Failure::Store,
+        }
     }
 }
 
@@ -89,6 +102,7 @@ impl Failure {
     pub fn tell<R: Eprint>(self, rt: &R) -> ExitCode {
         let _ = match &self {
             Failure::CommandLine(error) => eprint!(rt; "{error}"),
+            Failure::NoValue => eprintln!(rt; "error: an option has no value"),
             Failure::File => eprintln!(rt; "file: cannot read"),
             Failure::World(fault) => tell_world_fault(rt, fault),
             Failure::Refused(refusal) => {
@@ -103,7 +117,7 @@ impl Failure {
             Failure::Output => Ok(()),
         };
         match self {
-            Failure::CommandLine(_) => ExitCode::from(2),
+            Failure::CommandLine(_) | Failure::NoValue => ExitCode::from(2),
             _ => ExitCode::FAILURE,
         }
     }

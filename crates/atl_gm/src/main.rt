@@ -1,7 +1,15 @@
 //! The moderator's program.
 #![tactic(auto)]
 
+mod database;
 mod failure;
+mod files;
+mod found;
+mod join;
+mod mail;
+mod options;
+mod report;
+mod told;
 mod trial;
 
 use crate::failure::Failure;
@@ -10,27 +18,27 @@ use clap::{ArgMatches, Command, Error};
 use std::alloc::{AllocError, Global};
 use std::env;
 use std::process::ExitCode;
-use std::rt::Env;
 
-/// The command line: one level of subcommands.
+/// The command line: one level of subcommands, each a module.
 fn command_line<'a>(alloc: Global) -> Result<Command<'a>, AllocError> {
-    let trial = Command::new(alloc, "trial").about(
-        "Founds a campaign in memory by the world text on standard input, and prints a first report",
-    );
     Command::new(alloc, "atl_gm")
         .about("Moderates a campaign of Atlantis 1.0, the peaceful profile")
         .subcommand_required(true)
-        .subcommand(trial)
+        .subcommand(trial::command(alloc))?
+        .subcommand(found::command(alloc)?)?
+        .subcommand(join::command(alloc)?)?
+        .subcommand(mail::command(alloc)?)?
+        .subcommand(report::command(alloc)?)
 }
 
 /// Runs the subcommand that was asked for.
-fn dispatch<R: Input + Print>(
-    rt: &R,
-    alloc: Global,
-    matches: &ArgMatches<'_>,
-) -> Result<(), Failure> {
-    match matches.subcommand_name() {
-        Some("trial") => trial::run(rt, alloc),
+fn dispatch(rt: &HostRuntime, matches: &ArgMatches<'_>) -> Result<(), Failure> {
+    match matches.subcommand() {
+        Some(("trial", _)) => trial::run(rt),
+        Some(("found", options)) => found::run(rt, options),
+        Some(("join", options)) => join::run(rt, options),
+        Some(("mail", options)) => mail::run(rt, options),
+        Some(("report", options)) => report::run(rt, options),
         _ => Ok(()),
     }
 }
@@ -43,7 +51,7 @@ fn refused_line(error: Error) -> Failure {
     Failure::CommandLine(error)
 }
 
-fn run<R: Env + Input + Print + AllocGlobal>(rt: &R) -> Result<(), Failure> {
+fn run(rt: &HostRuntime) -> Result<(), Failure> {
     let alloc = rt.alloc();
     let words: Vec<String> = match env::args(rt) {
         Ok(args) => args.collect(alloc)?,
@@ -51,7 +59,7 @@ fn run<R: Env + Input + Print + AllocGlobal>(rt: &R) -> Result<(), Failure> {
     };
     let command = command_line(alloc)?;
     match command.try_get_matches_from(words.as_slice()) {
-        Ok(matches) => dispatch(rt, alloc, &matches),
+        Ok(matches) => dispatch(rt, &matches),
         Err(error) => Err(refused_line(error)),
     }
 }

@@ -1,0 +1,114 @@
+//! The campaign of a file.
+use crate::failure::Failure;
+use atl_service::{Answer, Command, Refused, Service, found, open};
+use sqlite::{Alter, Connection, FileFrom, FileStore, Start, Wary};
+use sqlite_disk::Disk;
+use std::alloc::Global;
+use std::fs;
+use std::io::ErrorKind;
+
+/// What a subcommand does with a campaign.
+pub trait Work {
+    /// What the work gives to be told.
+    type Done: Drop;
+
+    fn run<S: Alter>(&self, service: &mut Service<S>) -> Result<Self::Done, Failure>;
+}
+
+/// The answer to the command.
+impl Work for Command {
+    type Done = Answer;
+
+    fn run<S: Alter>(&self, service: &mut Service<S>) -> Result<Answer, Failure> {
+        Ok(service.run(self))
+    }
+}
+
+/// How a file comes by its campaign.
+#[derive(Clone, Copy)]
+pub enum Opening<'a> {
+    /// It is founded by a world text, with the moderator's pass text. The file may be made for it.
+    Founded { world: &'a str, pass: &'a str },
+    /// It stands in the file.
+    Kept,
+}
+
+/// Whether a file is at the path.
+fn is_there(rt: &HostRuntime, path: &str) -> Result<bool, Failure> {
+    match fs::exists(rt, path) {
+        Ok(is_there) => Ok(is_there),
+        Err(error) => match error.kind() {
+            ErrorKind::NotADirectory => Ok(false),
+            ErrorKind::OutOfMemory => Err(Failure::Memory),
+            _ => Err(Failure::Store),
+        },
+    }
+}
+
+/// Opens the file as a database, or makes it. A file that is made has no sums on its pages, which a `sqlite3` without that
+/// extension would spoil.
+fn connected<S: Start>(
+    rt: &HostRuntime,
+    path: &str,
+    start: S,
+) -> Result<Connection<FileStore<FileFrom<S>>>, Failure> {
+    match Connection::open_from(rt, path, false, start) {
+        Ok(conn) => Ok(conn),
+        Err((error, _)) => Err(Failure::from(error)),
+    }
+}
+
+/// The campaign of a database, with its service.
+fn opened<S: Alter>(
+    alloc: Global,
+    conn: Connection<S>,
+    opening: Opening<'_>,
+) -> Result<Service<S>, Refused<S>> {
+    match opening {
+        Opening::Founded { world, pass } => found(alloc, conn, world, pass.as_bytes()),
+        Opening::Kept => open(alloc, conn),
+    }
+}
+
+/// Has the work done on the campaign, and gives its database back.
+fn worked<S: Alter + Drop, W: Work>(
+    alloc: Global,
+    conn: Connection<S>,
+    opening: Opening<'_>,
+    work: &W,
+) -> (Result<W::Done, Failure>, Connection<S>) {
+    match opened(alloc, conn, opening) {
+        Ok(mut service) => {
+            let done = work.run(&mut service);
+            (done, service.end())
+        }
+        Err(Refused { why, conn }) => (Err(Failure::from(why)), conn),
+    }
+}
+
+/// Copies the log into the file and closes both, so that the file alone holds all that was done.
+fn closed<D: Disk + Drop>(conn: Connection<FileStore<D>>) -> Result<(), Failure> {
+    match conn.close() {
+        Ok(()) => Ok(()),
+        Err(error) => Err(Failure::from(error)),
+    }
+}
+
+/// Has the work done on the campaign of the file at the path. Whatever comes of it, the file alone holds the campaign then.
+/// A kept campaign is asked for only where a file is.
+pub fn work_on<W: Work>(
+    rt: &HostRuntime,
+    path: &str,
+    opening: Opening<'_>,
+    work: &W,
+) -> Result<W::Done, Failure> {
+    if matches!(&opening, Opening::Kept) && !is_there(rt, path)? {
+        return Err(Failure::NotACampaign);
+    }
+    let conn = connected(rt, path, Wary)?;
+    let (done, conn) = worked(rt.alloc(), conn, opening, work);
+    let closing = closed(conn);
+    let done = done?;
+    closing?;
+    Ok(done)
+}

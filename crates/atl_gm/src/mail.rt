@@ -1,0 +1,39 @@
+//! A faction sends its orders for the month to come.
+use crate::database::{Opening, work_on};
+use crate::failure::Failure;
+use crate::files::bytes_at;
+use crate::options;
+use crate::told::tell;
+use atl_tables::Sequence;
+use clap::{ArgMatches, Command};
+use std::alloc::{AllocError, Global};
+
+/// The place of `mail` on the command line.
+pub fn command<'a>(alloc: Global) -> Result<Command<'a>, AllocError> {
+    Command::new(alloc, "mail")
+        .about("Keeps a faction's orders, in place of those that it sent before")
+        .arg(options::file(alloc, "db"))?
+        .arg(options::number(alloc, "faction"))?
+        .arg(options::text(alloc, "pass"))?
+        .arg(options::file(alloc, "file"))
+}
+
+/// The command that hands in the mailing of the file.
+fn mailing(rt: &HostRuntime, options: &ArgMatches<'_>) -> Result<atl_service::Command, Failure> {
+    let faction = options::number_of(options, "faction")?;
+    let pass = options::text_of(options, "pass")?;
+    let text = bytes_at(rt, options::text_of(options, "file")?)?;
+    Ok(atl_service::Command::Mail {
+        faction,
+        pass: Sequence::from_slice(rt.alloc(), pass.as_bytes())?,
+        text: Sequence::from_vec(text),
+    })
+}
+
+/// Keeps the mailing of a file, and prints how many orders it has, and its faulty lines.
+pub fn run(rt: &HostRuntime, options: &ArgMatches<'_>) -> Result<(), Failure> {
+    let path = options::text_of(options, "db")?;
+    let mail = mailing(rt, options)?;
+    let answer = work_on(rt, path, Opening::Kept, &mail)?;
+    tell(rt, &answer)
+}

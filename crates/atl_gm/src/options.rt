@@ -1,0 +1,46 @@
+//! The options of a subcommand: each takes a value and has to be given.
+use crate::failure::Failure;
+use clap::{Arg, ArgMatches, value_parser};
+use std::alloc::Global;
+
+/// An option whose value is a text.
+pub fn text<'a>(alloc: Global, name: &'a str) -> Arg<'a> {
+    Arg::new(alloc, name)
+        .long(name)
+        .value_name("TEXT")
+        .required(true)
+}
+
+/// An option whose value is the path of a file.
+pub fn file<'a>(alloc: Global, name: &'a str) -> Arg<'a> {
+    text(alloc, name).value_name("FILE")
+}
+
+/// An option whose value is a number of 32 bits.
+pub fn number<'a>(alloc: Global, name: &'a str) -> Arg<'a> {
+    text(alloc, name)
+        .value_name("N")
+        .value_parser(value_parser!(u32))
+}
+
+/// An option whose value is a number of 64 bits.
+pub fn long_number<'a>(alloc: Global, name: &'a str) -> Arg<'a> {
+    text(alloc, name)
+        .value_name("N")
+        .value_parser(value_parser!(u64))
+}
+
+/// The text that was given.
+pub fn text_of<'a>(options: &ArgMatches<'a>, name: &str) -> Result<&'a str, Failure> {
+    options.get_str(name).ok_or(Failure::NoValue)
+}
+
+/// The number that was given.
+pub fn number_of(options: &ArgMatches<'_>, name: &str) -> Result<u32, Failure> {
+    options.get_one(name).ok_or(Failure::NoValue)
+}
+
+/// The number that was given, of 64 bits.
+pub fn long_number_of(options: &ArgMatches<'_>, name: &str) -> Result<u64, Failure> {
+    options.get_one(name).ok_or(Failure::NoValue)
+}
