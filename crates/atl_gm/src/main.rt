@@ -16,8 +16,8 @@ use crate::failure::Failure;
 use clap::error::ErrorKind;
 use clap::{ArgMatches, Command, Error};
 use std::alloc::{AllocError, Global};
-use std::env;
 use std::process::ExitCode;
+use std::{env, io};
 
 /// The command line: one level of subcommands, each a module.
 fn command_line<'a>(alloc: Global) -> Result<Command<'a>, AllocError> {
@@ -43,7 +43,7 @@ fn dispatch(rt: &HostRuntime, matches: &ArgMatches<'_>) -> Result<(), Failure> {
     }
 }
 
-/// Why words are not taken.
+/// Why a command line is not taken.
 fn refused_line(error: Error) -> Failure {
     if error.kind() == ErrorKind::OutOfMemory {
         return Failure::Memory;
@@ -51,13 +51,24 @@ fn refused_line(error: Error) -> Failure {
     Failure::CommandLine(error)
 }
 
+/// Why there are no words: one of them is no text, or there was no memory.
+fn unread_line(command: &mut Command<'_>, error: io::Error) -> Failure {
+    if error.kind() == io::ErrorKind::OutOfMemory {
+        return Failure::Memory;
+    }
+    match command.error(ErrorKind::InvalidValue, "a word is not UTF-8") {
+        Ok(error) => refused_line(error),
+        Err(_) => Failure::Memory,
+    }
+}
+
 fn run(rt: &HostRuntime) -> Result<(), Failure> {
     let alloc = rt.alloc();
+    let mut command = command_line(alloc)?;
     let words: Vec<String> = match env::args(rt) {
         Ok(args) => args.collect(alloc)?,
-        Err(_) => return Err(Failure::Memory),
+        Err(error) => return Err(unread_line(&mut command, error)),
     };
-    let command = command_line(alloc)?;
     match command.try_get_matches_from(words.as_slice()) {
         Ok(matches) => dispatch(rt, &matches),
         Err(error) => Err(refused_line(error)),
