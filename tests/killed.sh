@@ -3,7 +3,8 @@
 # the one after it: by `report`, by the rows of all tables, and by `PRAGMA integrity_check`. Before that the same is found by sqlite3 alone
 # of a copy of what the kill left. Called as
 #   tests/killed.sh [KILLS]
-# with 200 kills where none is said, it takes a minute once the program is built, wants sqlite3, and ends with what was found.
+# with 200 kills where none is said, it takes a minute once the program is built, wants sqlite3, and ends with what was found. A command that
+# had ended before its moment counts as no kill.
 set -u
 here=$(cd "$(dirname "$0")/.." && pwd)
 kills=${1:-200}
@@ -14,10 +15,10 @@ db=$work/campaign.db
 "$here/gm" found --world "$here/worlds/isle.toml" --db "$db" --pass gm >/dev/null || exit 1
 program=$here/crates/atl_gm/out/atl_gm
 "$program" join --db "$db" --name Avalon --pass pw --seed 0 >/dev/null || exit 1
-before=0 after=0 logs=0 ended=0 factions=1
+round=0 killed=0 before=0 after=0 logs=0 factions=1
 
 fail() {
-  echo "killed: $1, at kill $kill" >&2
+  echo "killed: $1, in round $round" >&2
   exit 1
 }
 
@@ -39,11 +40,12 @@ now() {
   echo $((${EPOCHREALTIME/[.,]/}))
 }
 
-for ((kill = 1; kill <= kills; kill++)); do
-  if ((kill % 2)); then
-    command=(join --name "Faction $kill" --pass pw --seed "$kill")
+while ((killed < kills)); do
+  round=$((round + 1))
+  if ((round % 2)); then
+    command=(join --name "Faction $round" --pass pw --seed "$round")
   else
-    printf '#ATLANTIS 1\nUNIT 1\nWORK ; the month of kill %s\n' "$kill" >"$work/mailing"
+    printf '#ATLANTIS 1\nUNIT 1\nWORK ; round %s\n' "$round" >"$work/mailing"
     command=(mail --faction 1 --pass pw --file "$work/mailing")
   fi
 
@@ -63,7 +65,7 @@ for ((kill = 1; kill <= kills; kill++)); do
   process=$!
   sleep "$(printf '%d.%06d' $((moment / 1000000)) $((moment % 1000000)))"
   kill -KILL "$process" 2>/dev/null
-  wait "$process" 2>/dev/null && ended=$((ended + 1))
+  wait "$process" 2>/dev/null || killed=$((killed + 1))
 
   # What sqlite3 finds by itself.
   cp "$db" "$work/left.db" && rm -f "$work/left.db-wal" "$work/left.db-shm"
@@ -80,7 +82,7 @@ for ((kill = 1; kill <= kills; kill++)); do
   one_of_both "$work/left.db" || fail 'the program leaves another campaign'
   if [ "$(rows "$work/left.db")" = "$rows_after" ]; then
     after=$((after + 1))
-    ((kill % 2)) && factions=$((factions + 1))
+    ((round % 2)) && factions=$((factions + 1))
   else
     before=$((before + 1))
   fi
@@ -89,4 +91,4 @@ for ((kill = 1; kill <= kills; kill++)); do
   [ "$(cat "$work/refusal")" = 'refused: 5 NoFaction' ] || fail 'a faction is there in part'
 done
 
-echo "killed: of $kills commands $ended had ended and $logs left a log; $before campaigns as before, $after as after, no other"
+echo "killed: $killed of $round commands, the others had ended; $logs left a log; $before campaigns as before, $after as after, no other"

@@ -226,6 +226,7 @@ check 'a number below 0' 2 '' - report --db "$db" --faction=-1 --pass pw
 check 'a number past its range on the line' 2 '' - report --db "$db" --faction 4294967296 --pass pw
 check 'the greatest number' 1 '' 'refused: 5 NoFaction' report --db "$db" --faction 4294967295 --pass pw
 check 'a seed past its range' 2 '' - join --db "$db" --name Bree --pass pb --seed 18446744073709551616
+check 'a word that is no text' 2 '' - report --db "$db" --faction 1 --pass $'\377'
 check 'help' 2 '' - --help </dev/null
 check 'help of a subcommand' 2 '' - join --help
 whole "$db"

@@ -1,0 +1,64 @@
+#!/usr/bin/env bash
+# A club's first hour: a campaign is founded on an island, two players join and send their orders, and each reads a report. It prints each
+# command and what the program answers, and works in a temporary folder. Called without arguments; the program is built first where it is not.
+set -eu
+here=$(cd "$(dirname "$0")/.." && pwd)
+club=$(mktemp -d)
+trap 'rm -rf "$club"' EXIT
+cd "$club"
+cp "$here/worlds/isle.toml" .
+
+# tell WORD..: what a person says
+tell() {
+  printf '\n# %s\n' "$*"
+}
+
+# gm WORD..: a command of the moderator's, shown and run
+gm() {
+  printf '$ gm'
+  printf ' %q' "$@"
+  printf '\n'
+  "$here/gm" "$@"
+}
+
+tell 'The moderator founds the campaign, with a pass text of their own.'
+gm found --world isle.toml --db club.db --pass moderator
+
+tell 'Two players join. The seed is the club'"'"'s: it says where each begins.'
+gm join --db club.db --name Avalon --pass apple --seed 3
+gm join --db club.db --name Bree --pass pony --seed 3
+
+tell 'The first player reads the report that was made as Avalon joined.'
+gm report --db club.db --faction 1 --pass apple
+
+tell 'The second player joined later, and sees both.'
+gm report --db club.db --faction 2 --pass pony
+
+tell 'The first player writes orders, and mistypes one.'
+cat >avalon.txt <<'ORDERS'
+Dear moderator, here are my orders.
+
+#ATLANTIS 1
+UNIT 1
+NAME UNIT "Woodcutters of Far"
+WROK
+FORM 1
+  RECRUIT 5
+  STUDY lumberjack
+END
+PAY NEW 1 200
+PRODUCE wood
+#END
+
+See you next month.
+ORDERS
+cat avalon.txt
+gm mail --db club.db --faction 1 --pass apple --file avalon.txt
+
+tell 'Line 6 is no order, so it is mended and all is sent again. The last mailing counts.'
+sed -i 's/^WROK$/GUARD 1/' avalon.txt
+gm mail --db club.db --faction 1 --pass apple --file avalon.txt
+
+tell 'The campaign is one file, which a copy keeps.'
+cp club.db backup.db
+gm report --db backup.db --faction 1 --pass apple
