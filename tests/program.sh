@@ -136,6 +136,32 @@ Exits: north 4, west 2.
 - Unit 1 "Unit 1" of faction 1 "Avalon": 1 men.
 * Unit 2 "Unit 2": 1 men, 1000 money.' '' report --db "$work/isle.db" --faction 2 --pass pb
 
+# The two mailings of docs/PLAYER.md: each order, and each fault of a line.
+# mailing_of_page NUMBER: the mailing of this number on the page
+mailing_of_page() {
+  awk -v wanted="$1" '/^    #ATLANTIS/ { n++; on = 1 } on && n == wanted { sub(/^    /, ""); print } /^    #END/ { on = 0 }' "$here/docs/PLAYER.md"
+}
+mailing_of_page 1 >"$mailing"
+check 'each order' 0 '24 orders, 0 faults' '' mail --db "$work/isle.db" --faction 1 --pass pw --file "$mailing"
+mailing_of_page 2 >"$mailing"
+check 'each fault of a line' 0 '1 orders, 11 faults
+line 2: 1 NoUnit
+line 4: 2 UnknownOrder
+line 5: 3 BadNumber
+line 6: 4 UnknownThing
+line 7: 5 MissingWord
+line 8: 6 BadByte
+line 9: 7 BadAlias
+line 12: 8 NestedForm
+line 14: 9 EndAlone
+line 15: 10 BadDirection
+line 16: 11 BadName' '' mail --db "$work/isle.db" --faction 1 --pass pw --file "$mailing"
+if [ -n "$has_sqlite" ]; then
+  cp "$work/isle.db" "$work/own.db"
+  [ "$(sqlite3 "$work/own.db" 'SELECT hex(text) FROM mail')" = "$(od -An -v -tx1 "$mailing" | tr -d ' \n' | tr a-f A-F)" ] ||
+    fail 'each fault of a line' 'the mailing is not kept byte for byte'
+fi
+
 # Commands that are refused.
 refused 'a bad name' "$db" 'refused: 1 BadName' join --db "$db" --name ' x' --pass pw --seed 0
 refused 'a bad pass text' "$db" 'refused: 2 BadPassText' join --db "$db" --name Bree --pass 'a b' --seed 0
