@@ -1,9 +1,10 @@
 #!/usr/bin/env bash
 # Kills `join` and `mail`, by turns, at random moments, and finds each time that the campaign in the file is the one before the command or
 # the one after it: by `report`, by the rows of all tables, and by `PRAGMA integrity_check`. Before that the same is found by sqlite3 alone
-# of a copy of what the kill left. Called as
+# of a copy of what the kill left. Where strace is there, both commands are then killed at each system call that they make, and each of their
+# calls on files is made to fail, once with a fault of the disk and once with a full disk. Called as
 #   tests/killed.sh [KILLS]
-# with 200 kills where none is said, it takes a minute once the program is built, wants sqlite3, and ends with what was found. A command that
+# with 200 kills where none is said, it takes one to four minutes once the program is built, wants sqlite3, and ends with what was found. A command that
 # had ended before its moment counts as no kill.
 set -u
 here=$(cd "$(dirname "$0")/.." && pwd)
@@ -12,13 +13,16 @@ command -v sqlite3 >/dev/null || { echo 'killed: sqlite3 is not there' >&2; exit
 work=$(mktemp -d)
 trap 'rm -rf "$work"' EXIT
 db=$work/campaign.db
+mailing=$work/mailing
 "$here/gm" found --world "$here/worlds/isle.toml" --db "$db" --pass gm >/dev/null || exit 1
 program=$here/crates/atl_gm/out/atl_gm
 "$program" join --db "$db" --name Avalon --pass pw --seed 0 >/dev/null || exit 1
+first=$work/first.db
+cp "$db" "$first"
 round=0 killed=0 before=0 after=0 logs=0 factions=1
 
 fail() {
-  echo "killed: $1, in round $round" >&2
+  echo "killed: $1, in round $round: ${command[*]}" >&2
   exit 1
 }
 
@@ -27,12 +31,38 @@ rows() {
   sqlite3 "$1" .dump
 }
 
-# one_of_both FILE: whether the database is sound, and its rows are those before the command or those after it
+# one_of_both FILE: whether the database is sound, and its rows, which are kept as `found`, are those before the command or those after it
 one_of_both() {
-  local found
   [ "$(sqlite3 "$1" 'PRAGMA integrity_check')" = ok ] || return 1
   found=$(rows "$1")
   [ "$found" = "$rows_before" ] || [ "$found" = "$rows_after" ]
+}
+
+# copied FILE: a copy of a database and of its log, if it has one, as left.db
+copied() {
+  rm -f "$work/left.db" "$work/left.db-wal" "$work/left.db-shm"
+  cp "$1" "$work/left.db"
+  [ ! -e "$1-wal" ] || cp "$1-wal" "$work/left.db-wal"
+}
+
+# tell_ends FILE: the rows before and after the command, by way of a copy of the file, which is closed
+tell_ends() {
+  cp "$1" "$work/whole.db" && rm -f "$work/whole.db-wal"
+  rows_before=$(rows "$work/whole.db")
+  "$program" "${command[@]}" --db "$work/whole.db" >/dev/null || fail 'the command is refused'
+  rows_after=$(rows "$work/whole.db")
+  [ "$rows_before" != "$rows_after" ] || fail 'the command changes nothing'
+}
+
+# judge FILE: what a command left that did not come to its end. The log is in the file then.
+judge() {
+  copied "$1"
+  one_of_both "$work/left.db" || fail 'sqlite3 finds another campaign'
+  "$program" report --db "$1" --faction 1 --pass pw >"$work/report" || fail 'there is no report'
+  head -n 1 "$work/report" | grep -qx 'Atlantis report, month 0, faction 1 "Avalon".' || fail 'there is another report'
+  rm -f "$1-wal"
+  copied "$1"
+  one_of_both "$work/left.db" || fail 'the program leaves another campaign'
 }
 
 # now: the time in microseconds
@@ -40,47 +70,28 @@ now() {
   echo $((${EPOCHREALTIME/[.,]/}))
 }
 
+# Random moments. The campaign goes on from what each kill left.
 while ((killed < kills)); do
   round=$((round + 1))
   if ((round % 2)); then
     command=(join --name "Faction $round" --pass pw --seed "$round")
   else
-    printf '#ATLANTIS 1\nUNIT 1\nWORK ; round %s\n' "$round" >"$work/mailing"
-    command=(mail --faction 1 --pass pw --file "$work/mailing")
+    printf '#ATLANTIS 1\nUNIT 1\nWORK ; round %s\n' "$round" >"$mailing"
+    command=(mail --faction 1 --pass pw --file "$mailing")
   fi
-
-  # The command on a copy shows what comes after it, and how long it takes.
-  cp "$db" "$work/whole.db" && rm -f "$work/whole.db-wal"
-  rows_before=$(rows "$work/whole.db")
+  tell_ends "$db"
+  cp "$db" "$work/timed.db" && rm -f "$work/timed.db-wal"
   begin=$(now)
-  "$program" "${command[@]}" --db "$work/whole.db" >/dev/null || fail 'the command is refused'
-  took=$(($(now) - begin))
-  rows_after=$(rows "$work/whole.db")
-  [ "$rows_before" != "$rows_after" ] || fail 'the command changes nothing'
-
-  # A moment of that time, as a decimal number of seconds.
-  moment=$((RANDOM * 32768 + RANDOM))
-  moment=$((moment % took))
+  "$program" "${command[@]}" --db "$work/timed.db" >/dev/null
+  moment=$(((RANDOM * 32768 + RANDOM) % ($(now) - begin)))
   "$program" "${command[@]}" --db "$db" >/dev/null 2>&1 &
   process=$!
   sleep "$(printf '%d.%06d' $((moment / 1000000)) $((moment % 1000000)))"
   kill -KILL "$process" 2>/dev/null
   wait "$process" 2>/dev/null || killed=$((killed + 1))
-
-  # What sqlite3 finds by itself.
-  cp "$db" "$work/left.db" && rm -f "$work/left.db-wal" "$work/left.db-shm"
-  if [ -e "$db-wal" ]; then
-    cp "$db-wal" "$work/left.db-wal"
-    [ "$(stat -c %s "$db-wal")" -le 41 ] || logs=$((logs + 1))
-  fi
-  one_of_both "$work/left.db" || fail 'sqlite3 finds another campaign'
-
-  # What the program finds. It leaves one file.
-  "$program" report --db "$db" --faction 1 --pass pw >"$work/report" || fail 'there is no report'
-  head -n 1 "$work/report" | grep -qx 'Atlantis report, month 0, faction 1 "Avalon".' || fail 'there is another report'
-  cp "$db" "$work/left.db" && rm -f "$work/left.db-wal" "$work/left.db-shm"
-  one_of_both "$work/left.db" || fail 'the program leaves another campaign'
-  if [ "$(rows "$work/left.db")" = "$rows_after" ]; then
+  [ ! -e "$db-wal" ] || [ "$(stat -c %s "$db-wal")" -le 41 ] || logs=$((logs + 1))
+  judge "$db"
+  if [ "$found" = "$rows_after" ]; then
     after=$((after + 1))
     ((round % 2)) && factions=$((factions + 1))
   else
@@ -90,5 +101,48 @@ while ((killed < kills)); do
   "$program" report --db "$db" --faction $((factions + 1)) --pass pw >/dev/null 2>"$work/refusal"
   [ "$(cat "$work/refusal")" = 'refused: 5 NoFaction' ] || fail 'a faction is there in part'
 done
-
 echo "killed: $killed of $round commands, the others had ended; $logs left a log; $before campaigns as before, $after as after, no other"
+
+# injected WHAT CALL NUMBER: the command on a copy of the campaign with one faction, where this call is killed or fails
+injected() {
+  cp "$first" "$work/stopped.db" && rm -f "$work/stopped.db-wal"
+  strace -f -o "$work/injected" -e "inject=$2:$1:when=$3" "$program" "${command[@]}" --db "$work/stopped.db" >/dev/null 2>&1
+}
+
+# stop_each WHAT CALL..: kills the command at each of these calls, or has each fail
+stop_each() {
+  local what=$1 call number count
+  before=0 after=0
+  for call in "${@:2}"; do
+    count=$(grep -c "^[0-9]* *$call(" "$work/trace")
+    for ((number = 1; number <= count; number++)); do
+      { injected "$what" "$call" "$number"; } 2>/dev/null
+      local status=$?
+      judge "$work/stopped.db"
+      if [ "$found" = "$rows_after" ]; then
+        after=$((after + 1))
+      else
+        before=$((before + 1))
+        [ "$status" != 0 ] || fail "a command is told as done and is not, with $what at call $number of $call"
+      fi
+    done
+  done
+  echo "killed: ${command[0]} with $what at each call: $before campaigns as before, $after as after, no other"
+}
+
+if command -v strace >/dev/null; then
+  printf '#ATLANTIS 1\nUNIT 1\nTAX\n' >"$mailing"
+  for name in join mail; do
+    command=(join --name Last --pass pw --seed 1)
+    [ "$name" = join ] || command=(mail --faction 1 --pass pw --file "$mailing")
+    tell_ends "$first"
+    cp "$first" "$work/traced.db" && rm -f "$work/traced.db-wal"
+    strace -f -o "$work/trace" "$program" "${command[@]}" --db "$work/traced.db" >/dev/null
+    mapfile -t calls < <(sed -n 's/^[0-9]* *\([a-z_0-9]*\)(.*/\1/p' "$work/trace" | grep -v '^exit' | sort -u)
+    stop_each signal=KILL "${calls[@]}"
+    stop_each error=EIO pread64 pwrite64 fdatasync fsync ftruncate
+    stop_each error=ENOSPC pwrite64 fdatasync fsync ftruncate
+  done
+else
+  echo 'killed: strace is not there, so no call was stopped by itself'
+fi
