@@ -7,7 +7,7 @@ use std::alloc::Global;
 use std::fs;
 use std::io::ErrorKind;
 
-/// What a subcommand does with a campaign.
+/// What a subcommand does with a campaign, over any store.
 pub trait Work {
     /// What the work gives to be told.
     type Done: Drop;
@@ -94,8 +94,9 @@ fn closed<D: Disk + Drop>(conn: Connection<FileStore<D>>) -> Result<(), Failure>
     }
 }
 
-/// Has the work done on the campaign of the file at the path. Whatever comes of it, the file alone holds the campaign then.
-/// A kept campaign is asked for only where a file is.
+/// Has the work done on the campaign of the file at the path, which then holds the campaign alone, whatever came of the work.
+/// Where the closing fails, the work may have been done, and a log stands beside the file. A kept campaign is asked for only
+/// where a file is.
 pub fn work_on<W: Work>(
     rt: &HostRuntime,
     path: &str,
