@@ -185,7 +185,6 @@ module _ (c : Marked) (e : Entry) (t : Thing) where
         let entry : suc row.0 ≡ entry_place e + 1 = next row.0 (entry_place e) place in
         ap (take 2) row.3 ∙ ap (λ k. books_key k row.1) entry ∙ ap (books_key (entry_place e + 1)) (tied row.1 (thing_place t) two.0)
   ]
-
     where
       next : (a b : ℕ) → a ≡ b → suc a ≡ b + 1
       next a b same = omega (arith, same)

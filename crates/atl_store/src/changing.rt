@@ -22,10 +22,7 @@ use atl_tables::{Sequence, Text};
 use sqlite::{Alter, Connection, Error, Transaction};
 
 /// The campaign's own row, factions and reports.
-fn rewrite_players<S: Alter>(
-    tx: &mut Transaction<'_, S>,
-    campaign: &Campaign,
-) -> Result<(), Error>
+fn rewrite_players<S: Alter>(tx: &mut Transaction<'_, S>, campaign: &Campaign) -> Result<(), Error>
     ensures { Writes S.Store (Inside HasTables (RewritesPlayers campaign.now)) result tx.old.conn tx.new.conn }
 {
     rewrite_head(tx, campaign)?;

@@ -26,7 +26,8 @@ const UNITS_ARE_FULL: &str = "UPDATE books SET amount = amount + 9999 WHERE entr
 UPDATE campaign SET next_unit = 10001";
 
 /// The other factions are gone and have reports.
-const FACTIONS_ARE_FULL: &str = "INSERT INTO report SELECT number, 'Gone.' FROM faction WHERE gone = 1;
+const FACTIONS_ARE_FULL: &str =
+    "INSERT INTO report SELECT number, 'Gone.' FROM faction WHERE gone = 1;
 UPDATE campaign SET next_faction = 10000";
 
 const NUMBERS_ARE_FULL: &str = "UPDATE campaign SET next_unit = 1000000000";

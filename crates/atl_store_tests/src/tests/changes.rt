@@ -99,7 +99,10 @@ const ALL_CHANGED: [(&str, i64); 8] = [
         "SELECT count(*) FROM faction WHERE name = 'Bree' AND joined_as = 'Avalon'",
         1,
     ),
-    ("SELECT count(*) FROM region WHERE peasants = 77 AND money = 500", 1),
+    (
+        "SELECT count(*) FROM region WHERE peasants = 77 AND money = 500",
+        1,
+    ),
     ("SELECT length(text) FROM report", 9),
     (
         "SELECT count(*) FROM structure WHERE name = 'Hut' AND done = 2 AND owner = 1",

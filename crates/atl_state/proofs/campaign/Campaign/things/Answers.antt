@@ -1,4 +1,4 @@
-use Rattle.std.proofs.Common.{◌≡◌, ◌<◌, ◌*◌, true, length, sym, subst, arith}
+use Rattle.std.proofs.Common.{◌≡◌, ◌<◌, ◌*◌, true, length, sym, subst}
 use Rattle.std.specs.FinSet.{contains}
 use Rattle.atl_state.specs.Limits.{entry_count}
 use Rattle.atl_state.specs.State.{Marked}
