@@ -3,6 +3,7 @@ pub mod Books
 pub mod Checking
 pub mod Covers
 pub mod Deciding
+pub mod Events
 pub mod Founding
 pub mod FromRows
 pub mod Good

@@ -5,6 +5,7 @@ mod assembly;
 pub mod books;
 pub mod campaign;
 pub mod check;
+pub mod event;
 pub mod holding;
 mod levels;
 mod limits;
@@ -20,6 +21,7 @@ mod units;
 
 pub use books::{Books, Entry, Thing};
 pub use campaign::{Campaign, founded};
+pub use event::{Event, EventFault, EventVerb, Outcome};
 pub use holding::Holding;
 pub use levels::{carry, goods, level, load};
 pub use limits::{ENTRY_COUNT, LAST_UNIT, MOST_STRUCTURES, MOST_UNITS};
