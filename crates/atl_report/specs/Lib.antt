@@ -1,3 +1,4 @@
 pub mod Gathering
 pub mod Sight
+pub mod Events
 pub mod Report

@@ -1,5 +1,5 @@
 -- The text of a report, line by line.
-use Rattle.std.specs.Prelude.{ℕ, Bool, true, ◌&&◌, is_none, if◌then◌else◌, List, [], ◌∷◌, codes, Option, Some, None}
+use Rattle.std.specs.Prelude.{◌≡◌, ℕ, Bool, true, ◌&&◌, is_none, if◌then◌else◌, List, [], ◌∷◌, codes, Option, Some, None}
 use Rattle.std.specs.Fmt.{decimal}
 use Rattle.std.specs.FinMap.{get}
 use Rattle.std.specs.List.{slice_get}
@@ -7,6 +7,9 @@ use Rattle.atl_tables.specs.Texts.{◌▸◌}
 use Rattle.atl_tables.specs.Planet.{Planet}
 use Rattle.atl_tables.specs.declared.world.RegionPlan.{RegionPlan}
 use Rattle.atl_tables.specs.declared.world.Terrain.{Terrain}
+use Rattle.atl_orders.specs.declared.fault.FaultyLine.{FaultyLine}
+use Rattle.atl_state.specs.declared.event.Event.{Event}
+use Rattle.atl_report.specs.Events.{own_events, orders_part}
 use Rattle.atl_report.specs.declared.views.View.{View}
 use Rattle.atl_report.specs.declared.views.RegionView.{RegionView}
 use Rattle.atl_report.specs.declared.views.UnitView.{UnitView}
@@ -15,10 +18,6 @@ use Rattle.atl_report.specs.declared.views.Side.TheVariants.{Own, Other}
 
 unfoldable pub header_line : View → List ℕ
 header_line v = codes "Atlantis report, month " ▸ decimal v.month ▸ codes ", faction " ▸ decimal v.faction ▸ codes " \"" ▸ v.name ▸ codes "\".\n"
-
--- nothing is told of orders
-unfoldable pub orders_part : List ℕ
-orders_part = codes "Orders:\nNone.\n"
 
 -- ---- a unit that is seen
 
@@ -77,5 +76,13 @@ region_parts w (r ∷ rs) = (region_line w r ▸ exits_line w r ▸ unit_lines r
 
 -- ---- the whole
 
-unfoldable pub report_of : Planet → View → List ℕ
-report_of w v = header_line v ▸ orders_part ▸ region_parts w v.regions
+-- the faction's events alone are told
+unfoldable pub report_of : Planet → View → List FaultyLine → List Event → List ℕ
+report_of w v faults events = header_line v ▸ orders_part v.faction faults events ▸ region_parts w v.regions
+
+-- events with the same ones of the faction give one report
+abbrev pub OthersEventsAreNotTold : Type 0
+OthersEventsAreNotTold =
+    (w : Planet) (v : View) (faults : List FaultyLine) (events others : List Event)
+    → own_events v.faction events ≡ own_events v.faction others
+    → report_of w v faults events ≡ report_of w v faults others

@@ -1,8 +1,11 @@
 //! The text of a report.
 ghost use Rattle.std.specs.Prelude.{◌≡◌, ◌++◌, IfOk, OnOk, Some, string_bytes};
-ghost use Rattle.atl_report.specs.Report.{header_line, orders_part, unit_line, unit_lines, region_line, exit_text, directions, has_no_exit, exits_text, exits_line, region_parts, report_of};
+ghost use Rattle.atl_report.specs.Report.{header_line, unit_line, unit_lines, region_line, exit_text, directions, has_no_exit, exits_text, exits_line, region_parts, report_of, OthersEventsAreNotTold};
 
+use crate::events::write_orders;
 use crate::views::{RegionView, Side, UnitView, View};
+use atl_orders::FaultyLine;
+use atl_state::Event;
 use atl_tables::{RegionPlan, World};
 use std::alloc::{AllocError, Global};
 use std::fmt::Write;
@@ -18,13 +21,6 @@ fn write_header(out: &mut String, view: &View) -> Result<(), AllocError>
         out,
         "Atlantis report, month {month}, faction {faction} \"{name}\".\n"
     )
-}
-
-#[tactic(auto, unfolding(crate::specs::Report::orders_part))]
-fn write_orders(out: &mut String) -> Result<(), AllocError>
-    ensures { OnOk result (string_bytes out.new ≡ string_bytes out.old ++ orders_part) }
-{
-    out.push_str("Orders:\nNone.\n")
 }
 
 #[tactic(auto, unfolding(crate::specs::Report::unit_line))]
@@ -157,14 +153,26 @@ fn write_regions(out: &mut String, world: &World, regions: &[RegionView]) -> Res
     Ok(())
 }
 
-/// The text of a report on what a faction sees, of a world with which the view was made. See docs/FORMATS.md, "Reports".
+/// The text of a report on what a faction sees, of a world with which the view was made, with the faulty lines of its mailing
+/// and those of the events that are its own. See docs/FORMATS.md, "Reports".
 #[tactic(auto, unfolding(crate::specs::Report::report_of))]
-pub fn report_text(alloc: Global, world: &World, view: &View) -> Result<String, AllocError>
-    ensures definition { IfOk result (λ text. string_bytes text ≡ report_of world.now view.now) }
+pub fn report_text(
+    alloc: Global,
+    world: &World,
+    view: &View,
+    faults: &[FaultyLine],
+    events: &[Event],
+) -> Result<String, AllocError>
+    ensures definition { IfOk result (λ text. string_bytes text ≡ report_of world.now view.now faults.now events.now) }
 {
     let mut out = String::new(alloc);
     write_header(&mut out, view)?;
-    write_orders(&mut out)?;
+    write_orders(&mut out, view.faction, faults, events)?;
     write_regions(&mut out, world, view.regions.as_slice())?;
     Ok(out)
 }
+
+/// Does nothing. Its clause is the law that events of other factions make no difference to a report.
+pub fn others_events_are_not_told()
+    ensures { OthersEventsAreNotTold }
+{}

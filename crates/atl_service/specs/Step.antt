@@ -22,9 +22,9 @@ use Rattle.atl_service.specs.declared.command.Refusal.{Refusal}
 use Rattle.atl_service.specs.declared.command.Refusal.TheVariants as why
 use Rattle.atl_service.specs.declared.command.Fault.TheVariants as faults
 
--- the campaign with a new report for a faction, of what it sees
+-- the campaign with a new report for a faction, of what it sees; nothing is told of orders
 abbrev pub reported : Planet → State → ℕ → State
-reported w c faction = with_report c faction (report_of w (view_of c faction))
+reported w c faction = with_report c faction (report_of w (view_of c faction) [] [])
 
 -- a joining, with the first report
 abbrev pub joined_with : Planet → State → Result (State × (ℕ × ℕ)) JoinFault → State × Answer

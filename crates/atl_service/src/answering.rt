@@ -30,7 +30,7 @@ fn store_report(
     ensures err { OnErr result (campaign.new ≡ campaign.old) }
 {
     let seen = view(alloc, world, campaign, faction)?;
-    let text = report_text(alloc, world, &seen)?;
+    let text = report_text(alloc, world, &seen, &[], &[])?;
     campaign.set_report(faction, Text::from_string(text))?;
     Ok(())
 }

@@ -4,6 +4,7 @@ mod books;
 mod checks;
 mod coming;
 mod compare;
+mod events;
 mod holdings;
 mod levels;
 mod making;

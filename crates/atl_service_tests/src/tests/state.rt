@@ -126,7 +126,7 @@ fn lends(rt: &impl Abort, campaign: &mut Campaign) {
 
 fn report_of(alloc: Global, world: &World, campaign: &Campaign) -> Result<Text, AllocError> {
     let seen = view(alloc, world, campaign, 1)?;
-    let text = report_text(alloc, world, &seen)?;
+    let text = report_text(alloc, world, &seen, &[], &[])?;
     Ok(Text::from_string(text))
 }
 

@@ -1,0 +1,54 @@
+-- The lines of a report on faulty lines and on events.
+use Rattle.std.specs.Prelude.{◌==◌, ℕ, List, [], ◌∷◌, codes, find, filter, Option, Some, None}
+use Rattle.std.specs.Fmt.{decimal}
+use Rattle.atl_tables.specs.Texts.{◌▸◌}
+use Rattle.atl_orders.specs.Faulting.{fault_number, fault_name}
+use Rattle.atl_orders.specs.declared.fault.FaultyLine.{FaultyLine}
+use Rattle.atl_state.specs.declared.event.Event.{Event}
+use Rattle.atl_state.specs.declared.event.EventFault.{EventFault}
+use Rattle.atl_state.specs.declared.event.Outcome.{Outcome}
+use Rattle.atl_state.specs.declared.event.Outcome.TheVariants.{Done, Fault, Starved}
+use Rattle.atl_state.specs.Events.{event_keyword, event_fault_number, event_fault_name, event_faults}
+
+-- ---- a line of the mailing that isn't read
+
+unfoldable pub faulty_line : FaultyLine → List ℕ
+faulty_line f = codes "Line " ▸ decimal f.line ▸ codes ": " ▸ decimal (fault_number f.fault) ▸ codes " " ▸ fault_name f.fault ▸ codes ".\n"
+
+abbrev pub faulty_lines : List FaultyLine → List ℕ
+faulty_lines [] = []
+faulty_lines (f ∷ fs) = faulty_line f ▸ faulty_lines fs
+
+-- ---- an event
+
+abbrev pub name_of : Option EventFault → List ℕ
+name_of None = []
+name_of (Some fault) = event_fault_name fault
+
+-- a number that is no fault's has an empty name
+abbrev pub name_of_number : ℕ → List ℕ
+name_of_number number = name_of (find (λ fault. event_fault_number fault == number) event_faults)
+
+abbrev pub event_text : Event → Outcome → List ℕ
+event_text e (Done n) = codes "Unit " ▸ decimal e.unit ▸ codes ", line " ▸ decimal e.line ▸ codes ", " ▸ event_keyword e.verb ▸ codes ": done " ▸ decimal n ▸ codes ".\n"
+event_text e (Fault k) = codes "Unit " ▸ decimal e.unit ▸ codes ", line " ▸ decimal e.line ▸ codes ", " ▸ event_keyword e.verb ▸ codes ": fault " ▸ decimal k ▸ codes " " ▸ name_of_number k ▸ codes ".\n"
+event_text e (Starved n) = codes "Unit " ▸ decimal e.unit ▸ codes ": " ▸ decimal n ▸ codes " starved.\n"
+
+unfoldable pub event_line : Event → List ℕ
+event_line e = event_text e e.outcome
+
+abbrev pub event_lines : List Event → List ℕ
+event_lines [] = []
+event_lines (e ∷ es) = event_line e ▸ event_lines es
+
+-- ---- what a faction is told
+
+abbrev pub own_events : ℕ → List Event → List Event
+own_events faction events = filter (λ e. e.faction == faction) events
+
+abbrev pub told : List FaultyLine → List Event → List ℕ
+told [] [] = codes "None.\n"
+told faults events = faulty_lines faults ▸ event_lines events
+
+unfoldable pub orders_part : ℕ → List FaultyLine → List Event → List ℕ
+orders_part faction faults events = codes "Orders:\n" ▸ told faults (own_events faction events)

@@ -1,0 +1,117 @@
+//! The part of a report on orders: faulty lines of the mailing, and events.
+ghost use Rattle.std.specs.Prelude.{◌≡◌, ◌==◌, ◌++◌, ◌&&◌, not, length, OnOk, string_bytes};
+ghost use Rattle.std.specs.List.{list_any};
+ghost use Rattle.atl_report.specs.Events.{faulty_line, faulty_lines, name_of_number, event_line, event_lines, own_events, told, orders_part};
+
+use atl_orders::FaultyLine;
+use atl_state::{Event, EventFault, Outcome};
+use std::alloc::AllocError;
+use std::fmt::Write;
+
+#[tactic(auto, unfolding(crate::specs::Events::faulty_line))]
+fn write_faulty_line(out: &mut String, faulty: &FaultyLine) -> Result<(), AllocError>
+    ensures { OnOk result (string_bytes out.new ≡ string_bytes out.old ++ faulty_line faulty.now) }
+{
+    let line = faulty.line;
+    let number = faulty.fault.number();
+    let name = faulty.fault.name();
+    write!(out, "Line {line}: {number} {name}.\n")
+}
+
+fn write_faulty_lines(out: &mut String, faults: &[FaultyLine]) -> Result<(), AllocError>
+    ensures { OnOk result (string_bytes out.new ≡ string_bytes out.old ++ faulty_lines faults.now) }
+{
+    for faulty in faults {
+        write_faulty_line(out, faulty)?;
+    }
+    Ok(())
+}
+
+/// The name of the fault with a number; none where no fault has it.
+fn name_of_number(number: u8) -> &'static str
+    ensures { result.now ≡ name_of_number number }
+{
+    match EventFault::of_number(number) {
+        Some(fault) => fault.name(),
+        None => "",
+    }
+}
+
+#[tactic(auto, unfolding(crate::specs::Events::event_line))]
+fn write_event(out: &mut String, event: &Event) -> Result<(), AllocError>
+    ensures { OnOk result (string_bytes out.new ≡ string_bytes out.old ++ event_line event.now) }
+{
+    let unit = event.unit;
+    let line = event.line;
+    let verb = event.verb.keyword();
+    match event.outcome {
+        Outcome::Done(amount) => write!(out, "Unit {unit}, line {line}, {verb}: done {amount}.\n"),
+        Outcome::Fault(number) => {
+            let name = name_of_number(number);
+            write!(
+                out,
+                "Unit {unit}, line {line}, {verb}: fault {number} {name}.\n"
+            )
+        }
+        Outcome::Starved(men) => write!(out, "Unit {unit}: {men} starved.\n"),
+    }
+}
+
+/// The lines of the faction's own events.
+fn write_events(out: &mut String, faction: u32, events: &[Event]) -> Result<(), AllocError>
+    ensures { OnOk result (string_bytes out.new ≡ string_bytes out.old ++ event_lines (own_events faction events.now)) }
+{
+    for event in events {
+        if event.faction == faction {
+            write_event(out, event)?;
+        }
+    }
+    Ok(())
+}
+
+/// Whether some event is the faction's own.
+fn has_own(faction: u32, events: &[Event]) -> bool
+    ensures { result ≡ list_any (λ e. e.faction == faction) events.now }
+{
+    events.iter().any(|event| event.faction == faction)
+}
+
+/// Whether there is nothing to tell the faction.
+fn is_nothing_told(faction: u32, faults: &[FaultyLine], events: &[Event]) -> bool
+    ensures { result ≡ (length faults.now == 0 && not (list_any (λ e. e.faction == faction) events.now)) }
+{
+    faults.is_empty() && !has_own(faction, events)
+}
+
+/// The faulty lines and the faction's own events, or that there are none.
+#[tactic(auto, using(crate::proofs::EventLaws::told_nothing))]
+fn write_told(
+    out: &mut String,
+    faction: u32,
+    faults: &[FaultyLine],
+    events: &[Event],
+) -> Result<(), AllocError>
+    ensures { OnOk result (string_bytes out.new ≡ string_bytes out.old ++ told faults.now (own_events faction events.now)) }
+{
+    if is_nothing_told(faction, faults, events) {
+        return out.push_str("None.\n");
+    }
+    write_faulty_lines(out, faults)?;
+    write_events(out, faction, events)?;
+    Ok(())
+}
+
+/// What the faction is told of its orders.
+#[tactic(auto, unfolding(crate::specs::Events::orders_part))]
+pub(crate) fn write_orders(
+    out: &mut String,
+    faction: u32,
+    faults: &[FaultyLine],
+    events: &[Event],
+) -> Result<(), AllocError>
+    ensures { OnOk result (string_bytes out.new ≡ string_bytes out.old ++ orders_part faction faults.now events.now) }
+{
+    out.push_str("Orders:\n")?;
+    write_told(out, faction, faults, events)?;
+    Ok(())
+}

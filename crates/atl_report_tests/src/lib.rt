@@ -1,0 +1,5 @@
+//! Tests of reports.
+#![tactic(auto)]
+
+#[cfg(test)]
+mod tests;

@@ -1,0 +1,202 @@
+//! What a report tells of orders, without any region.
+use super::compare::is_text;
+use super::worlds::SMALL;
+use atl_orders::{FaultyLine, LineFault, Verb};
+use atl_report::{View, report_text};
+use atl_state::{Event, EventVerb, Outcome};
+use atl_tables::{Sequence, Text, World, read_world};
+use std::alloc::Global;
+use std::process::Abort;
+use std::test::Fail;
+
+/// What the first faction's mailing and month had, and its report.
+struct Case {
+    faults: &'static [FaultyLine],
+    events: &'static [Event],
+    wanted: &'static str,
+}
+
+const UNKNOWN_ORDER: FaultyLine = FaultyLine {
+    line: 5,
+    fault: LineFault::UnknownOrder,
+};
+
+const BAD_NAME: FaultyLine = FaultyLine {
+    line: 65,
+    fault: LineFault::BadName,
+};
+
+const WORKED: Event = Event {
+    faction: 1,
+    unit: 1,
+    line: 6,
+    verb: EventVerb::Order(Verb::Work),
+    outcome: Outcome::Done(12),
+};
+
+const QUIT: Event = Event {
+    faction: 1,
+    unit: 1,
+    line: 3,
+    verb: EventVerb::Order(Verb::Quit),
+    outcome: Outcome::Fault(11),
+};
+
+const STARVED: Event = Event {
+    faction: 1,
+    unit: 2,
+    line: 0,
+    verb: EventVerb::Upkeep,
+    outcome: Outcome::Starved(3),
+};
+
+const UPKEEP: Event = Event {
+    faction: 1,
+    unit: 2,
+    line: 0,
+    verb: EventVerb::Upkeep,
+    outcome: Outcome::Done(4_294_967_300),
+};
+
+/// For an alias that no unit has.
+const FORMED_BY_NOBODY: Event = Event {
+    faction: 1,
+    unit: 0,
+    line: 4,
+    verb: EventVerb::Order(Verb::Give),
+    outcome: Outcome::Fault(1),
+};
+
+/// Of a number that no fault has.
+const NAMELESS: Event = Event {
+    faction: 1,
+    unit: 1,
+    line: 2,
+    verb: EventVerb::Order(Verb::Give),
+    outcome: Outcome::Fault(99),
+};
+
+const OF_ANOTHER: Event = Event {
+    faction: 2,
+    unit: 7,
+    line: 9,
+    verb: EventVerb::Order(Verb::Tax),
+    outcome: Outcome::Done(50),
+};
+
+const CASES: [Case; 9] = [
+    Case {
+        faults: &[],
+        events: &[],
+        wanted: "Atlantis report, month 3, faction 1 \"Avalon\".
+Orders:
+None.
+",
+    },
+    Case {
+        faults: &[UNKNOWN_ORDER],
+        events: &[WORKED],
+        wanted: "Atlantis report, month 3, faction 1 \"Avalon\".
+Orders:
+Line 5: 2 UnknownOrder.
+Unit 1, line 6, WORK: done 12.
+",
+    },
+    Case {
+        faults: &[],
+        events: &[QUIT],
+        wanted: "Atlantis report, month 3, faction 1 \"Avalon\".
+Orders:
+Unit 1, line 3, QUIT: fault 11 WrongNumber.
+",
+    },
+    Case {
+        faults: &[],
+        events: &[STARVED],
+        wanted: "Atlantis report, month 3, faction 1 \"Avalon\".
+Orders:
+Unit 2: 3 starved.
+",
+    },
+    Case {
+        faults: &[],
+        events: &[OF_ANOTHER, OF_ANOTHER],
+        wanted: "Atlantis report, month 3, faction 1 \"Avalon\".
+Orders:
+None.
+",
+    },
+    Case {
+        faults: &[UNKNOWN_ORDER, BAD_NAME],
+        events: &[OF_ANOTHER],
+        wanted: "Atlantis report, month 3, faction 1 \"Avalon\".
+Orders:
+Line 5: 2 UnknownOrder.
+Line 65: 11 BadName.
+",
+    },
+    Case {
+        faults: &[],
+        events: &[FORMED_BY_NOBODY],
+        wanted: "Atlantis report, month 3, faction 1 \"Avalon\".
+Orders:
+Unit 0, line 4, GIVE: fault 1 NotYours.
+",
+    },
+    Case {
+        faults: &[],
+        events: &[NAMELESS],
+        wanted: "Atlantis report, month 3, faction 1 \"Avalon\".
+Orders:
+Unit 1, line 2, GIVE: fault 99 .
+",
+    },
+    Case {
+        faults: &[BAD_NAME],
+        events: &[OF_ANOTHER, WORKED, OF_ANOTHER, QUIT, UPKEEP, STARVED],
+        wanted: "Atlantis report, month 3, faction 1 \"Avalon\".
+Orders:
+Line 65: 11 BadName.
+Unit 1, line 6, WORK: done 12.
+Unit 1, line 3, QUIT: fault 11 WrongNumber.
+Unit 2, line 0, UPKEEP: done 4294967300.
+Unit 2: 3 starved.
+",
+    },
+];
+
+/// What a faction sees that has no unit with men.
+fn nowhere(alloc: Global) -> Result<View, Fail> {
+    Ok(View {
+        month: 3,
+        faction: 1,
+        name: Text::from_str(alloc, "Avalon")?,
+        regions: Sequence::new(alloc),
+    })
+}
+
+fn tells(
+    rt: &impl Abort,
+    alloc: Global,
+    world: &World,
+    view: &View,
+    case: &Case,
+) -> Result<(), Fail> {
+    let text = report_text(alloc, world, view, case.faults, case.events)?;
+    is_text(rt, text.as_str(), case.wanted);
+    Ok(())
+}
+
+fn tells_all(rt: &impl Abort, alloc: Global, world: &World) -> Result<(), Fail> {
+    let view = nowhere(alloc)?;
+    for case in CASES.iter() {
+        tells(rt, alloc, world, &view, case)?;
+    }
+    Ok(())
+}
+
+#[test]
+fn faults_and_events(rt: HostRuntime) -> Result<(), Fail> {
+    let world = read_world(rt.alloc(), SMALL)?;
+    tells_all(&rt, rt.alloc(), &world)
+}

@@ -1,0 +1,75 @@
+//! A whole report, of a campaign that a faction has joined.
+ghost use Rattle.std.specs.Prelude.{IfOk};
+ghost use Rattle.atl_state.specs.Good.{IsGood};
+
+use super::compare::is_text;
+use super::worlds::SMALL;
+use atl_orders::{FaultyLine, LineFault, Verb};
+use atl_report::{report_text, view};
+use atl_state::{Campaign, Event, EventVerb, Outcome, founded};
+use atl_tables::{World, read_world};
+use std::alloc::Global;
+use std::process::Abort;
+use std::test::Fail;
+
+const FAULTS: [FaultyLine; 1] = [FaultyLine {
+    line: 5,
+    fault: LineFault::UnknownOrder,
+}];
+
+const EVENTS: [Event; 2] = [
+    Event {
+        faction: 1,
+        unit: 1,
+        line: 6,
+        verb: EventVerb::Order(Verb::Work),
+        outcome: Outcome::Done(12),
+    },
+    Event {
+        faction: 2,
+        unit: 2,
+        line: 4,
+        verb: EventVerb::Order(Verb::Tax),
+        outcome: Outcome::Fault(5),
+    },
+];
+
+const WHOLE: &str = "Atlantis report, month 0, faction 1 \"Avalon\".
+Orders:
+Line 5: 2 UnknownOrder.
+Unit 1, line 6, WORK: done 12.
+Region 1 \"Vale\", plain: 1000 peasants, 500 money.
+Exits: none.
+* Unit 1 \"Unit 1\": 1 men, 1000 money.
+";
+
+fn founded_in(alloc: Global, world: &World) -> Result<Campaign, Fail>
+    ensures { IfOk result (λ campaign. IsGood world.now campaign.what) }
+{
+    Ok(founded(alloc, world, b"gm")?)
+}
+
+fn avalon_joins(world: &World, campaign: &mut Campaign) -> Result<(u32, u32), Fail>
+    requires { IsGood world.now campaign.old.what }
+{
+    Ok(campaign.join(world, b"Avalon", b"pw", 0)?)
+}
+
+fn is_told(rt: &impl Abort, alloc: Global, world: &World, campaign: &Campaign) -> Result<(), Fail> {
+    let seen = view(alloc, world, campaign, 1)?;
+    let text = report_text(alloc, world, &seen, &FAULTS, &EVENTS)?;
+    is_text(rt, text.as_str(), WHOLE);
+    Ok(())
+}
+
+fn joins_and_reads(rt: &impl Abort, alloc: Global, world: &World) -> Result<(), Fail> {
+    let mut campaign = founded_in(alloc, world)?;
+    avalon_joins(world, &mut campaign)?;
+    is_told(rt, alloc, world, &campaign)
+}
+
+#[test]
+fn orders_and_regions(rt: HostRuntime) -> Result<(), Fail> {
+    let world = read_world(rt.alloc(), SMALL)?;
+    joins_and_reads(&rt, rt.alloc(), &world)
+}
