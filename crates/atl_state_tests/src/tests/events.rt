@@ -3,31 +3,31 @@ use super::compare::{is_so, is_text, row_is};
 use atl_state::EventFault;
 use std::process::Abort;
 
-/// The names, by the numbers from 1 on.
-const NAMES: [&str; 23] = [
-    "NotYours",
-    "NotHere",
-    "NotEnough",
-    "NoRoom",
-    "Guarded",
-    "NotOwner",
-    "NotInside",
-    "UnitLimit",
-    "AtSea",
-    "NoMen",
-    "WrongNumber",
-    "NotGuarding",
-    "NoSkill",
-    "NoMaterial",
-    "Complete",
-    "StructureLimit",
-    "NoWay",
-    "TooHeavy",
-    "NotComplete",
-    "NoCrew",
-    "NotLearning",
-    "CannotTeach",
-    "NoFee",
+/// Numbers, and the names of their faults.
+const FAULTS: [(u8, &str); 23] = [
+    (1, "NotYours"),
+    (2, "NotHere"),
+    (3, "NotEnough"),
+    (4, "NoRoom"),
+    (5, "Guarded"),
+    (6, "NotOwner"),
+    (7, "NotInside"),
+    (8, "UnitLimit"),
+    (9, "AtSea"),
+    (10, "NoMen"),
+    (11, "WrongNumber"),
+    (12, "NotGuarding"),
+    (13, "NoSkill"),
+    (14, "NoMaterial"),
+    (15, "Complete"),
+    (16, "StructureLimit"),
+    (17, "NoWay"),
+    (18, "TooHeavy"),
+    (19, "NotComplete"),
+    (20, "NoCrew"),
+    (21, "NotLearning"),
+    (22, "CannotTeach"),
+    (23, "NoFee"),
 ];
 
 fn is_named(rt: &impl Abort, row: usize, number: u8, name: &str) {
@@ -42,8 +42,8 @@ fn is_named(rt: &impl Abort, row: usize, number: u8, name: &str) {
 
 #[test]
 fn event_faults(rt: HostRuntime) {
-    for (row, (number, name)) in (1..=23).zip(NAMES.iter()).enumerate() {
-        is_named(&rt, row, number, name);
+    for (row, (number, name)) in FAULTS.iter().enumerate() {
+        is_named(&rt, row, *number, name);
     }
     is_so(&rt, EventFault::of_number(0).is_none());
     is_so(&rt, EventFault::of_number(24).is_none());
