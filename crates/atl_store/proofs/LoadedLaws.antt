@@ -106,11 +106,12 @@ module _ {S : Type 0} (g : Ghosts S) where
   judged_damaged old w p all nine (check.Damaged rule) first = damaged old w p all nine rule first
   judged_damaged old w p all nine check.Memory none = tt
 
-  pub fails_refuse : (old : Held S) (fault : StoreFault) → Fails fault → RefusesToLoad g old fault
-  fails_refuse old Store fails = tt
-  fails_refuse old (Damaged rule) fails = absurd fails
-  fails_refuse old NotACampaign fails = absurd fails
-  fails_refuse old Memory fails = tt
+  -- behind the first rule
+  pub fails_refuse : (old : Held S) (fault : StoreFault) → KeepsOneRow g old → Fails fault → RefusesToLoad g old fault
+  fails_refuse old Store kept fails = inr (inr kept)
+  fails_refuse old (Damaged rule) kept fails = absurd fails
+  fails_refuse old NotACampaign kept fails = absurd fails
+  fails_refuse old Memory kept fails = tt
 
   -- a fault that was handed on
   pub told_as : {A : Type 0} (P : StoreFault → Type 0) (fault : StoreFault) (r : Result A StoreFault) → IsErrAnd r (λ told. told ≡ fault) → P fault → IfErr r P

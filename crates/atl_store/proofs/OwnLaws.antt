@@ -98,7 +98,7 @@ module _ {S : Type 0} (g : Ghosts S) (old : Held S) where
   -- it is not read
   pub unread_own : (fault : ReadFault) → (fault ≡ read.OtherType → (rows : List Row) × Selects g all_campaign old rows × ¬ AreTyped campaign_forms rows)
       → ((fault ≡ read.OtherType → ⊥) → (fault ≡ read.Memory → ⊥) → RefusesToSelect g all_campaign old fault) → RefusesToLoad g old (own_fault fault)
-  unread_own read.Store other refused = tt
+  unread_own read.Store other refused = inr (inl (refused (λ e. let k = e in cc) (λ e. let k = e in cc)))
   unread_own read.Memory other refused = tt
   unread_own read.Refused other refused = refused (λ e. let k = e in cc) (λ e. let k = e in cc)
   unread_own read.OtherType other refused =

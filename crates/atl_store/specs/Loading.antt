@@ -1,5 +1,5 @@
 -- What loading a campaign from its tables may answer and leave.
-use Rattle.std.specs.Prelude.{◌≡◌, ◌⊎◌, ◌++◌, ℕ, List, [], ◌∷◌, length, map, pos, IsPermutation, IsUtf8, Ok, ⊤}
+use Rattle.std.specs.Prelude.{◌≡◌, ◌⊎◌, ◌++◌, ℕ, List, [], ◌∷◌, length, map, pos, true, IsPermutation, IsUtf8, Ok, ⊤}
 use Rattle.sqlite.specs.declared.types.Value.TheVariants.{Int, Text}
 use Rattle.sqlite.specs.Held.{Held, state}
 use Rattle.sqlite.specs.Order.{Row}
@@ -27,7 +27,7 @@ use Rattle.atl_store.specs.Stored.{Form, first_columns, AreTyped}
 use Rattle.atl_store.specs.StoredRows.{head_stored, faction_stored, region_stored, unit_stored, structure_stored, mail_stored, report_stored, campaign_forms, faction_forms, region_forms, unit_forms, has_forms, structure_forms, mail_forms, report_forms, books_forms}
 use Rattle.atl_store.specs.Tables.{campaign_table, faction_table, region_table, unit_table, has_table, structure_table, mail_table, report_table, books_table}
 use Rattle.atl_store.specs.WorldText.{world_text}
-use Rattle.atl_store.specs.declared.fault.ReadFault.TheVariants.{Refused}
+use Rattle.atl_store.specs.declared.fault.ReadFault.TheVariants as read
 use Rattle.atl_store.specs.declared.fault.StoreFault.{StoreFault}
 use Rattle.atl_store.specs.declared.fault.StoreFault.TheVariants.{Store, Damaged, NotACampaign, Memory}
 
@@ -126,10 +126,14 @@ module _ {S : Type 0} (g : Ghosts S) (old : Held S) where
   IsDamaged Books = BreaksRule Books
   IsDamaged Mail = BreaksRule Mail
 
+  -- Store is told in a transaction, where the SELECT of the campaign's own row is refused for the disk, for size or for steps, or once that row keeps the first rule.
+  abbrev pub FailsToLoad : Type 0
+  FailsToLoad = (old.in_transaction ≡ true) ⊎ (RefusesToSelect g all_campaign old read.Store ⊎ KeepsOneRow)
+
   abbrev pub RefusesToLoad : StoreFault → Type 0
-  RefusesToLoad Store = ⊤
+  RefusesToLoad Store = FailsToLoad
   RefusesToLoad (Damaged rule) = IsDamaged rule
-  RefusesToLoad NotACampaign = RefusesToSelect g all_campaign old Refused
+  RefusesToLoad NotACampaign = RefusesToSelect g all_campaign old read.Refused
   RefusesToLoad Memory = ⊤
 
   -- The connection holds the good campaign, of which nothing is marked, and a text of its world.

@@ -1,10 +1,25 @@
-use Rattle.std.proofs.Common.{subst, inl, arith}
+use Rattle.std.proofs.Common.{subst, inl, arith, IfErr}
 use Rattle.sqlite.specs.Held.{state}
 use Rattle.sqlite.specs.State.{HasCleanDisk}
-use Rattle.atl_store.specs.Gathering.{Found, AreOthers, IsMadeOf}
+use Rattle.atl_store.specs.Gathering.{Fails, Found, AreOthers, IsMadeOf}
+use Rattle.atl_store.specs.Loading.{RefusesToLoad}
 use Rattle.atl_store.proofs.GatherLaws.{found_behind, others_behind}
-use Rattle.atl_store.proofs.LoadedLaws.{own_kept, gathered_with}
+use Rattle.atl_store.proofs.LoadedLaws.{own_kept, gathered_with, fails_refuse, told_as}
 use Rattle.atl_store.proofs.loading.gather.Goals as goal
+
+pub returns-in_err-others-clause-err : goal.returns-in_err-others-clause-err
+returns-in_err-others-clause-err g c clean =
+    let old = c.args.conn.now in
+    let after_own : HasCleanDisk (state g.S.Store c.read_own.new.conn) = omega (arith, c.read_others.ensures.leaves.survives.clean, clean) in
+    told_as g.S.Store (RefusesToLoad g.S.Store old) c.in_err-others.field-0.0 c.from_residual-in_err-others.result c.from_residual-in_err-others.ensures.1
+    (fails_refuse g.S.Store old c.in_err-others.field-0.0 (own_kept g.S.Store old c.in_ok-own.own c.in_ok-own.world (c.in_ok-own.ensures.ok after_own)) (subst (λ r. IfErr r Fails) c.in_err-others.was c.read_others.ensures.fails))
+
+pub returns-in_err-parts-clause-err : goal.returns-in_err-parts-clause-err
+returns-in_err-parts-clause-err g c clean =
+    let old = c.args.conn.now in
+    let after_own : HasCleanDisk (state g.S.Store c.read_own.new.conn) = omega (arith, c.read_others.ensures.leaves.survives.clean, clean) in
+    told_as g.S.Store (RefusesToLoad g.S.Store old) c.in_err-parts.field-0.0 c.from_residual-in_err-parts.result c.from_residual-in_err-parts.ensures.1
+    (fails_refuse g.S.Store old c.in_err-parts.field-0.0 (own_kept g.S.Store old c.in_ok-own.own c.in_ok-own.world (c.in_ok-own.ensures.ok after_own)) c.in_err-parts.ensures.fails)
 
 pub returns-in_default-clause-err : goal.returns-in_default-clause-err
 returns-in_default-clause-err g c clean =

@@ -3,8 +3,14 @@ use Rattle.sqlite.specs.Held.{state}
 use Rattle.sqlite.specs.State.{HasCleanDisk}
 use Rattle.atl_store.specs.Loading.{RefusesToLoad}
 use Rattle.atl_store.proofs.GatherLaws.{leaves_then}
-use Rattle.atl_store.proofs.LoadedLaws.{judged_damaged, told_as, confirmed_behind}
+use Rattle.atl_store.proofs.LoadedLaws.{fails_refuse, judged_damaged, told_as, confirmed_behind}
 use Rattle.atl_store.proofs.loading.load_idle.Goals as goal
+
+pub returns-in_err-confirm-clause-err : goal.returns-in_err-confirm-clause-err
+returns-in_err-confirm-clause-err g c clean =
+    let old = c.args.conn.now in
+    told_as g.S.Store (RefusesToLoad g.S.Store old) c.in_err-confirm.field-0.0 c.from_residual-in_err-confirm.result c.from_residual-in_err-confirm.ensures.1
+    (fails_refuse g.S.Store old c.in_err-confirm.field-0.0 (c.in_ok-world.ensures.ok (omega (arith, c.confirm.ensures.leaves.survives.clean, clean))).one c.in_err-confirm.ensures.fails)
 
 pub returns-in_err-campaign-clause-err : goal.returns-in_err-campaign-clause-err
 returns-in_err-campaign-clause-err g c clean =
