@@ -17,6 +17,10 @@ pub is_idle : (told busy : Bool) → told ≡ not busy → told ≡ true → bus
 is_idle told false is so = refl
 is_idle told true is so = cc
 
+pub is_busy : (told busy : Bool) → told ≡ not busy → told ≡ false → busy ≡ true
+is_busy told false is so = cc
+is_busy told true is so = refl
+
 module _ {S : Type 0} (g : Ghosts S) where
   -- what is not touched is left alone
   pub alone_itself : (conn : Held S) → LeavesAlone g conn conn
@@ -27,8 +31,8 @@ module _ {S : Type 0} (g : Ghosts S) where
   }
 
   -- a connection that is in a transaction is not asked
-  pub refused_unasked : (conn : Held S) → RefusesOpening g conn (of_loading Store) conn
-  refused_unasked conn = record { fault = Store; why_is = refl; cause = λ clean. tt; alone = alone_itself conn; later = later _ _ _ (alone_itself conn).survives }
+  pub refused_unasked : (conn : Held S) → conn.in_transaction ≡ true → RefusesOpening g conn (of_loading Store) conn
+  refused_unasked conn busy = record { fault = Store; why_is = refl; cause = λ clean. inl busy; alone = alone_itself conn; later = later _ _ _ (alone_itself conn).survives }
 
   module _ (old new : Held S) (alone : LeavesAlone g old new) where
     pub refused_by_load : (fault : StoreFault) → (HasCleanDisk (state g new) → RefusesToLoad g old fault) → RefusesOpening g old (of_loading fault) new

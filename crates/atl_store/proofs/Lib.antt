@@ -49,3 +49,5 @@ pub mod ConfirmLaws
 pub mod PartsLaws
 pub mod KeyedLaws
 pub mod LoadedLaws
+pub mod ListedLaws
+pub mod ReopenLaws

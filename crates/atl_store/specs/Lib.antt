@@ -19,5 +19,6 @@ pub mod Loading
 pub mod Gathering
 pub mod Arriving
 pub mod Changing
+pub mod Reopening
 pub mod Rewriting
 pub mod WorldText

@@ -7,6 +7,7 @@ mod crashes;
 mod founding;
 mod making;
 mod others;
+mod reopening;
 mod schemas;
 mod worlds;
 mod writes;

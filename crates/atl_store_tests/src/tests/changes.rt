@@ -267,7 +267,7 @@ fn pays(campaign: &mut Campaign) -> Result<(), Fail> {
 }
 
 /// The rows of a campaign, written out.
-fn rows_of(alloc: Global, campaign: &Campaign) -> Result<String, Fail> {
+pub(crate) fn rows_of(alloc: Global, campaign: &Campaign) -> Result<String, Fail> {
     let parts = campaign.parts()?;
     Ok(format!(in alloc; "{parts:?}")?)
 }

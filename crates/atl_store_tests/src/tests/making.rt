@@ -76,7 +76,7 @@ fn creates<S: Alter>(conn: &mut Connection<S>, campaign: &mut Campaign) -> Resul
 }
 
 /// The campaign is created as it is founded.
-fn found<S: Alter>(alloc: Global, conn: &mut Connection<S>) -> Result<(), Fail>
+pub(crate) fn found<S: Alter>(alloc: Global, conn: &mut Connection<S>) -> Result<(), Fail>
     ensures { OnOk result (conn.new.in_transaction ≡ false) }
 {
     let mut campaign = small(alloc)?;

@@ -1,8 +1,8 @@
-use Rattle.atl_service.proofs.OpenLaws.{is_idle, refused_unasked, opens, opened_stands}
+use Rattle.atl_service.proofs.OpenLaws.{is_idle, is_busy, refused_unasked, opens, opened_stands}
 use Rattle.atl_service.proofs.service.open.Goals as goal
 
 pub returns-then-not-is_autocommit-clause-err : goal.returns-then-not-is_autocommit-clause-err
-returns-then-not-is_autocommit-clause-err g c = refused_unasked g.S.Store c.args.conn
+returns-then-not-is_autocommit-clause-err g c = refused_unasked g.S.Store c.args.conn (is_busy c.is_autocommit.result _ c.is_autocommit.ensures.value c.if-not-is_autocommit.true)
 
 pub invariant_of-result : goal.invariant_of-result
 invariant_of-result g c = opened_stands g.S.Store c.args.conn c.load.new.conn c.load.ensures.alone c.in-Ok.world c.in-Ok.campaign c.in-Ok.ensures.ok (is_idle c.is_autocommit.result _ c.is_autocommit.ensures.value c.if-not-is_autocommit.false)

@@ -1,0 +1,37 @@
+//! A database that is opened again after a crash.
+ghost use Rattle.std.specs.Prelude.{List, ℕ, ◌⊎◌, IfOk};
+ghost use Rattle.sqlite.specs.Held.{state};
+ghost use Rattle.sqlite.specs.State.{HasCleanDisk};
+ghost use Rattle.atl_state.specs.State.{State};
+ghost use Rattle.atl_store.specs.Keeps.{HoldsCampaign, Keeps, Stops};
+ghost use Rattle.atl_store.specs.Reopening.{Reopens};
+
+use crate::fault::StoreFault;
+use sqlite::{Alter, Connection};
+use sqlite_trees::error::StoreError;
+use sqlite_trees::store::Reopen;
+use std::alloc::Global;
+
+/// Opens what a crash left of the connection's database. What the connection held of a campaign is there again, the nine tables
+/// and the rows in them; where a writing was stopped by a fault, it is the campaign before or the one after. Memory: there is no
+/// memory to open it. Store: the disk fails. The database is then given up, and its files stay as they are.
+pub fn reopened<S: Alter + Reopen + Drop>(
+    alloc: Global,
+    conn: Connection<S>,
+) -> Result<Connection<S>, StoreFault>
+    ensures found { IfOk result (Reopens S.Store conn) }
+    ensures kept { IfOk result (λ again. (text : List ℕ) (c : State) → HoldsCampaign S.Store conn text c → HoldsCampaign S.Store again text c) }
+    ensures stopped { IfOk result (λ again. HasCleanDisk (state S.Store again) → (faults : ℕ) (text : List ℕ) (before after : State) → Stops faults (state S.Store conn) text before after
+        → Keeps (state S.Store again) text before ⊎ Keeps (state S.Store again) text after) }
+{
+    let mut store = conn.into_store();
+    match store.crash_and_reopen() {
+        Ok(()) => {}
+        Err(StoreError::OutOfMemory) => return Err(StoreFault::Memory),
+        Err(_) => return Err(StoreFault::Store),
+    }
+    match Connection::over(alloc, store) {
+        Ok(conn) => Ok(conn),
+        Err((error, _)) => Err(StoreFault::from(error)),
+    }
+}
