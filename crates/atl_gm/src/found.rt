@@ -3,6 +3,7 @@ use crate::database::{Opening, Work, work_on};
 use crate::failure::Failure;
 use crate::files::text_at;
 use crate::options;
+use crate::subcommand::Subcommand;
 use crate::told::printed;
 use atl_service::Service;
 use clap::{ArgMatches, Command};
@@ -20,22 +21,27 @@ impl Work for CountRegions {
     }
 }
 
-/// The place of `found` on the command line.
-pub fn command<'a>(alloc: Global) -> Result<Command<'a>, AllocError> {
-    Command::new(alloc, "found")
-        .about("Founds a campaign in a database file, which is made where none is")
-        .arg(options::file(alloc, "world"))?
-        .arg(options::file(alloc, "db"))?
-        .arg(options::text(alloc, "pass"))
-}
-
 /// Founds a campaign by the world of a file, with the moderator's pass text, and prints how many regions it has.
-pub fn run(rt: &HostRuntime, options: &ArgMatches<'_>) -> Result<(), Failure> {
-    let world = text_at(rt, options::text_of(options, "world")?)?;
-    let opening = Opening::Founded {
-        world: world.as_str(),
-        pass: options::text_of(options, "pass")?,
-    };
-    let regions = work_on(rt, options::text_of(options, "db")?, opening, &CountRegions)?;
-    printed(println!(rt; "founded, {regions} regions"))
+pub struct Found;
+
+impl Subcommand for Found {
+    const NAME: &'static str = "found";
+
+    fn described<'a>(alloc: Global, command: Command<'a>) -> Result<Command<'a>, AllocError> {
+        command
+            .about("Founds a campaign in a database file, which is made where none is")
+            .arg(options::file(alloc, "world"))?
+            .arg(options::file(alloc, "db"))?
+            .arg(options::text(alloc, "pass"))
+    }
+
+    fn run(rt: &HostRuntime, options: &ArgMatches<'_>) -> Result<(), Failure> {
+        let world = text_at(rt, options::text_of(options, "world")?)?;
+        let opening = Opening::Founded {
+            world: world.as_str(),
+            pass: options::text_of(options, "pass")?,
+        };
+        let regions = work_on(rt, options::text_of(options, "db")?, opening, &CountRegions)?;
+        printed(println!(rt; "founded, {regions} regions"))
+    }
 }

@@ -2,6 +2,7 @@
 use crate::database::{Opening, Work, work_on};
 use crate::failure::Failure;
 use crate::options;
+use crate::subcommand::Subcommand;
 use crate::told::tell;
 use atl_http::Dice;
 use atl_service::{Answer, Fault, Service};
@@ -10,16 +11,16 @@ use clap::{ArgMatches, Command};
 use sqlite::Alter;
 use std::alloc::{AllocError, Global};
 
-/// A faction joins under the name, with the pass text, and with the word that the dice give for its number.
+/// A faction to join under the name, with the pass text, and with the word that the dice give for its number.
 #[derive(Clone, Copy)]
-struct Join<'a> {
+struct Joining<'a> {
     alloc: Global,
     name: &'a str,
     pass: &'a str,
     dice: Dice,
 }
 
-impl<'a> Work for Join<'a> {
+impl<'a> Work for Joining<'a> {
     type Done = Answer;
 
     fn run<S: Alter>(&self, service: &mut Service<S>) -> Result<Answer, Failure> {
@@ -36,27 +37,32 @@ impl<'a> Work for Join<'a> {
     }
 }
 
-/// The place of `join` on the command line.
-pub fn command<'a>(alloc: Global) -> Result<Command<'a>, AllocError> {
-    Command::new(alloc, "join")
-        .about("Has a faction join, where the dice of a seed say")
-        .arg(options::file(alloc, "db"))?
-        .arg(options::text(alloc, "name"))?
-        .arg(options::text(alloc, "pass"))?
-        .arg(options::long_number(alloc, "seed"))
-}
-
 /// Has a faction join, and prints its number and that of its unit.
-pub fn run(rt: &HostRuntime, options: &ArgMatches<'_>) -> Result<(), Failure> {
-    let path = options::text_of(options, "db")?;
-    let join = Join {
-        alloc: rt.alloc(),
-        name: options::text_of(options, "name")?,
-        pass: options::text_of(options, "pass")?,
-        dice: Dice {
-            seed: options::long_number_of(options, "seed")?,
-        },
-    };
-    let answer = work_on(rt, path, Opening::Kept, &join)?;
-    tell(rt, &answer)
+pub struct Join;
+
+impl Subcommand for Join {
+    const NAME: &'static str = "join";
+
+    fn described<'a>(alloc: Global, command: Command<'a>) -> Result<Command<'a>, AllocError> {
+        command
+            .about("Has a faction join, where the dice of a seed say")
+            .arg(options::file(alloc, "db"))?
+            .arg(options::text(alloc, "name"))?
+            .arg(options::text(alloc, "pass"))?
+            .arg(options::long_number(alloc, "seed"))
+    }
+
+    fn run(rt: &HostRuntime, options: &ArgMatches<'_>) -> Result<(), Failure> {
+        let path = options::text_of(options, "db")?;
+        let joining = Joining {
+            alloc: rt.alloc(),
+            name: options::text_of(options, "name")?,
+            pass: options::text_of(options, "pass")?,
+            dice: Dice {
+                seed: options::long_number_of(options, "seed")?,
+            },
+        };
+        let answer = work_on(rt, path, Opening::Kept, &joining)?;
+        tell(rt, &answer)
+    }
 }

@@ -9,37 +9,40 @@ mod join;
 mod mail;
 mod options;
 mod report;
+mod subcommand;
 mod told;
 mod trial;
 
 use crate::failure::Failure;
+use crate::subcommand::Subcommands;
 use clap::error::ErrorKind;
 use clap::{ArgMatches, Command, Error};
 use std::alloc::{AllocError, Global};
 use std::process::ExitCode;
 use std::{env, io};
 
-/// The command line: one level of subcommands, each a module.
+/// The subcommands, each of a module, in the order of the help.
+type All = (
+    trial::Trial,
+    (
+        found::Found,
+        (join::Join, (mail::Mail, (report::Report, ()))),
+    ),
+);
+
+/// The command line: one level of subcommands.
 fn command_line<'a>(alloc: Global) -> Result<Command<'a>, AllocError> {
-    Command::new(alloc, "atl_gm")
+    let line = Command::new(alloc, "atl_gm")
         .about("Moderates a campaign of Atlantis 1.0, the peaceful profile")
-        .subcommand_required(true)
-        .subcommand(trial::command(alloc))?
-        .subcommand(found::command(alloc)?)?
-        .subcommand(join::command(alloc)?)?
-        .subcommand(mail::command(alloc)?)?
-        .subcommand(report::command(alloc)?)
+        .subcommand_required(true);
+    All::added(alloc, line)
 }
 
 /// Runs the subcommand that was asked for.
 fn dispatch(rt: &HostRuntime, matches: &ArgMatches<'_>) -> Result<(), Failure> {
     match matches.subcommand() {
-        Some(("trial", _)) => trial::run(rt),
-        Some(("found", options)) => found::run(rt, options),
-        Some(("join", options)) => join::run(rt, options),
-        Some(("mail", options)) => mail::run(rt, options),
-        Some(("report", options)) => report::run(rt, options),
-        _ => Ok(()),
+        Some((name, options)) => All::run(rt, name, options),
+        None => Ok(()),
     }
 }
 

@@ -1,19 +1,13 @@
 //! A first report, in memory.
 use crate::failure::Failure;
 use crate::files::text_on_input;
+use crate::subcommand::Subcommand;
 use crate::told::tell;
 use atl_service::{Answer, Refused, Service, found};
 use atl_tables::Sequence;
-use clap::Command;
+use clap::{ArgMatches, Command};
 use sqlite::{Connection, MemStore};
-use std::alloc::Global;
-
-/// The place of `trial` on the command line.
-pub fn command<'a>(alloc: Global) -> Command<'a> {
-    Command::new(alloc, "trial").about(
-        "Founds a campaign in memory by the world text on standard input, and prints a first report",
-    )
-}
+use std::alloc::{AllocError, Global};
 
 fn join(alloc: Global) -> Result<atl_service::Command, Failure> {
     Ok(atl_service::Command::Join {
@@ -58,12 +52,24 @@ fn first_report(
 
 /// Founds a campaign with pass `gm` by the world text on standard input, joins `Avalon` with pass `pw` and word 0, and
 /// prints the faction's report.
-pub fn run(rt: &HostRuntime) -> Result<(), Failure> {
-    let alloc = rt.alloc();
-    let text = text_on_input(rt, alloc)?;
-    let join = join(alloc)?;
-    let report = report(alloc)?;
-    let conn = Connection::open_in_memory(alloc)?;
-    let answer = first_report(alloc, conn, text.as_str(), &join, &report)?;
-    tell(rt, &answer)
+pub struct Trial;
+
+impl Subcommand for Trial {
+    const NAME: &'static str = "trial";
+
+    fn described<'a>(_alloc: Global, command: Command<'a>) -> Result<Command<'a>, AllocError> {
+        Ok(command.about(
+            "Founds a campaign in memory by the world text on standard input, and prints a first report",
+        ))
+    }
+
+    fn run(rt: &HostRuntime, _options: &ArgMatches<'_>) -> Result<(), Failure> {
+        let alloc = rt.alloc();
+        let text = text_on_input(rt, alloc)?;
+        let join = join(alloc)?;
+        let report = report(alloc)?;
+        let conn = Connection::open_in_memory(alloc)?;
+        let answer = first_report(alloc, conn, text.as_str(), &join, &report)?;
+        tell(rt, &answer)
+    }
 }

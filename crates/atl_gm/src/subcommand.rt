@@ -1,0 +1,48 @@
+//! The subcommands, as a list from which both the command line and the choice of what is run come.
+use crate::failure::Failure;
+use clap::{ArgMatches, Command};
+use std::alloc::{AllocError, Global};
+
+/// A subcommand: its place on the command line, and what it does.
+pub trait Subcommand {
+    const NAME: &'static str;
+
+    /// The command of this name, with what it says of itself and its options.
+    fn described<'a>(alloc: Global, command: Command<'a>) -> Result<Command<'a>, AllocError>;
+
+    fn run(rt: &HostRuntime, options: &ArgMatches<'_>) -> Result<(), Failure>;
+}
+
+/// A list of subcommands: a pair of the first and the rest, or () where there is none.
+pub trait Subcommands {
+    /// The command line with these subcommands after its own.
+    fn added<'a>(alloc: Global, line: Command<'a>) -> Result<Command<'a>, AllocError>;
+
+    /// Runs the subcommand of this name, if there is one.
+    fn run(rt: &HostRuntime, name: &str, options: &ArgMatches<'_>) -> Result<(), Failure>;
+}
+
+impl Subcommands for () {
+    fn added<'a>(_alloc: Global, line: Command<'a>) -> Result<Command<'a>, AllocError> {
+        Ok(line)
+    }
+
+    fn run(_rt: &HostRuntime, _name: &str, _options: &ArgMatches<'_>) -> Result<(), Failure> {
+        Ok(())
+    }
+}
+
+impl<First: Subcommand, Rest: Subcommands> Subcommands for (First, Rest) {
+    fn added<'a>(alloc: Global, line: Command<'a>) -> Result<Command<'a>, AllocError> {
+        let name: &'a str = First::NAME;
+        let first = First::described(alloc, Command::new(alloc, name))?;
+        Rest::added(alloc, line.subcommand(first)?)
+    }
+
+    fn run(rt: &HostRuntime, name: &str, options: &ArgMatches<'_>) -> Result<(), Failure> {
+        if name == First::NAME {
+            return First::run(rt, options);
+        }
+        Rest::run(rt, name, options)
+    }
+}
