@@ -94,6 +94,16 @@ fn closed<D: Disk + Drop>(conn: Connection<FileStore<D>>) -> Result<(), Failure>
     }
 }
 
+/// What came of the work, and then of the closing.
+fn done_and_closed<T: Drop>(
+    done: Result<T, Failure>,
+    closing: Result<(), Failure>,
+) -> Result<T, Failure> {
+    let done = done?;
+    closing?;
+    Ok(done)
+}
+
 /// Has the work done on the campaign of the file at the path, which then holds the campaign alone, whatever came of the work.
 /// Where the closing fails, the work may have been done, and a log stands beside the file. A kept campaign is asked for only
 /// where a file is.
@@ -108,8 +118,5 @@ pub fn work_on<W: Work>(
     }
     let conn = connected(rt, path, Wary)?;
     let (done, conn) = worked(rt.alloc(), conn, opening, work);
-    let closing = closed(conn);
-    let done = done?;
-    closing?;
-    Ok(done)
+    done_and_closed(done, closed(conn))
 }

@@ -6,7 +6,7 @@ use crate::options;
 use crate::subcommand::Subcommand;
 use crate::told::printed;
 use atl_service::Service;
-use clap::{ArgMatches, Command};
+use clap::{Arg, ArgMatches};
 use sqlite::Alter;
 use std::alloc::{AllocError, Global};
 
@@ -27,12 +27,14 @@ pub struct Found;
 impl Subcommand for Found {
     const NAME: &'static str = "found";
 
-    fn described<'a>(alloc: Global, command: Command<'a>) -> Result<Command<'a>, AllocError> {
-        command
-            .about("Founds a campaign in a database file, which is made where none is")
-            .arg(options::file(alloc, "world"))?
-            .arg(options::file(alloc, "db"))?
-            .arg(options::text(alloc, "pass"))
+    const ABOUT: &'static str = "Founds a campaign in a database file, which is made where none is";
+
+    fn options<'a>(alloc: Global) -> Result<Vec<Arg<'a>>, AllocError> {
+        Ok(vec![in alloc;
+            options::file(alloc, "world"),
+            options::file(alloc, "db"),
+            options::text(alloc, "pass"),
+        ]?)
     }
 
     fn run(rt: &HostRuntime, options: &ArgMatches<'_>) -> Result<(), Failure> {

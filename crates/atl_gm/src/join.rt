@@ -7,7 +7,7 @@ use crate::told::tell;
 use atl_http::Dice;
 use atl_service::{Answer, Fault, Service};
 use atl_tables::Sequence;
-use clap::{ArgMatches, Command};
+use clap::{Arg, ArgMatches};
 use sqlite::Alter;
 use std::alloc::{AllocError, Global};
 
@@ -43,13 +43,15 @@ pub struct Join;
 impl Subcommand for Join {
     const NAME: &'static str = "join";
 
-    fn described<'a>(alloc: Global, command: Command<'a>) -> Result<Command<'a>, AllocError> {
-        command
-            .about("Has a faction join, where the dice of a seed say")
-            .arg(options::file(alloc, "db"))?
-            .arg(options::text(alloc, "name"))?
-            .arg(options::text(alloc, "pass"))?
-            .arg(options::long_number(alloc, "seed"))
+    const ABOUT: &'static str = "Has a faction join, where the dice of a seed say";
+
+    fn options<'a>(alloc: Global) -> Result<Vec<Arg<'a>>, AllocError> {
+        Ok(vec![in alloc;
+            options::file(alloc, "db"),
+            options::text(alloc, "name"),
+            options::text(alloc, "pass"),
+            options::long_number(alloc, "seed"),
+        ]?)
     }
 
     fn run(rt: &HostRuntime, options: &ArgMatches<'_>) -> Result<(), Failure> {

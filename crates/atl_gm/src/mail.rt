@@ -6,7 +6,7 @@ use crate::options;
 use crate::subcommand::Subcommand;
 use crate::told::tell;
 use atl_tables::Sequence;
-use clap::{ArgMatches, Command};
+use clap::{Arg, ArgMatches};
 use std::alloc::{AllocError, Global};
 
 /// The command that hands in the mailing of the file.
@@ -27,13 +27,15 @@ pub struct Mail;
 impl Subcommand for Mail {
     const NAME: &'static str = "mail";
 
-    fn described<'a>(alloc: Global, command: Command<'a>) -> Result<Command<'a>, AllocError> {
-        command
-            .about("Keeps a faction's orders, in place of those that it sent before")
-            .arg(options::file(alloc, "db"))?
-            .arg(options::number(alloc, "faction"))?
-            .arg(options::text(alloc, "pass"))?
-            .arg(options::file(alloc, "file"))
+    const ABOUT: &'static str = "Keeps a faction's orders, in place of those that it sent before";
+
+    fn options<'a>(alloc: Global) -> Result<Vec<Arg<'a>>, AllocError> {
+        Ok(vec![in alloc;
+            options::file(alloc, "db"),
+            options::number(alloc, "faction"),
+            options::text(alloc, "pass"),
+            options::file(alloc, "file"),
+        ]?)
     }
 
     fn run(rt: &HostRuntime, options: &ArgMatches<'_>) -> Result<(), Failure> {

@@ -65,13 +65,17 @@ fn unread_line(command: &mut Command<'_>, error: io::Error) -> Failure {
     }
 }
 
+/// The words that the program was called with.
+fn words(rt: &HostRuntime, command: &mut Command<'_>) -> Result<Vec<String>, Failure> {
+    match env::args(rt) {
+        Ok(args) => Ok(args.collect(rt.alloc())?),
+        Err(error) => Err(unread_line(command, error)),
+    }
+}
+
 fn run(rt: &HostRuntime) -> Result<(), Failure> {
-    let alloc = rt.alloc();
-    let mut command = command_line(alloc)?;
-    let words: Vec<String> = match env::args(rt) {
-        Ok(args) => args.collect(alloc)?,
-        Err(error) => return Err(unread_line(&mut command, error)),
-    };
+    let mut command = command_line(rt.alloc())?;
+    let words = words(rt, &mut command)?;
     match command.try_get_matches_from(words.as_slice()) {
         Ok(matches) => dispatch(rt, &matches),
         Err(error) => Err(refused_line(error)),

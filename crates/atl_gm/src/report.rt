@@ -5,7 +5,7 @@ use crate::options;
 use crate::subcommand::Subcommand;
 use crate::told::tell;
 use atl_tables::Sequence;
-use clap::{ArgMatches, Command};
+use clap::{Arg, ArgMatches};
 use std::alloc::{AllocError, Global};
 
 /// The command that asks for the report.
@@ -24,12 +24,14 @@ pub struct Report;
 impl Subcommand for Report {
     const NAME: &'static str = "report";
 
-    fn described<'a>(alloc: Global, command: Command<'a>) -> Result<Command<'a>, AllocError> {
-        command
-            .about("Prints a faction's report")
-            .arg(options::file(alloc, "db"))?
-            .arg(options::number(alloc, "faction"))?
-            .arg(options::text(alloc, "pass"))
+    const ABOUT: &'static str = "Prints a faction's report";
+
+    fn options<'a>(alloc: Global) -> Result<Vec<Arg<'a>>, AllocError> {
+        Ok(vec![in alloc;
+            options::file(alloc, "db"),
+            options::number(alloc, "faction"),
+            options::text(alloc, "pass"),
+        ]?)
     }
 
     fn run(rt: &HostRuntime, options: &ArgMatches<'_>) -> Result<(), Failure> {

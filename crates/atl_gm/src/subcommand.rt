@@ -1,14 +1,16 @@
 //! The subcommands, as a list from which both the command line and the choice of what is run come.
 use crate::failure::Failure;
-use clap::{ArgMatches, Command};
+use clap::{Arg, ArgMatches, Command};
 use std::alloc::{AllocError, Global};
 
 /// A subcommand: its place on the command line, and what it does.
 pub trait Subcommand {
     const NAME: &'static str;
 
-    /// The command of this name, with what it says of itself and its options.
-    fn described<'a>(alloc: Global, command: Command<'a>) -> Result<Command<'a>, AllocError>;
+    /// What the help says of it.
+    const ABOUT: &'static str;
+
+    fn options<'a>(alloc: Global) -> Result<Vec<Arg<'a>>, AllocError>;
 
     fn run(rt: &HostRuntime, options: &ArgMatches<'_>) -> Result<(), Failure>;
 }
@@ -20,6 +22,14 @@ pub trait Subcommands {
 
     /// Runs the subcommand of this name, if there is one.
     fn run(rt: &HostRuntime, name: &str, options: &ArgMatches<'_>) -> Result<(), Failure>;
+}
+
+/// The command of the subcommand.
+fn command_of<'a, S: Subcommand>(alloc: Global) -> Result<Command<'a>, AllocError> {
+    let name: &'a str = S::NAME;
+    let about: &'a str = S::ABOUT;
+    let options = S::options(alloc)?;
+    Command::new(alloc, name).about(about).args(options)
 }
 
 impl Subcommands for () {
@@ -34,8 +44,7 @@ impl Subcommands for () {
 
 impl<First: Subcommand, Rest: Subcommands> Subcommands for (First, Rest) {
     fn added<'a>(alloc: Global, line: Command<'a>) -> Result<Command<'a>, AllocError> {
-        let name: &'a str = First::NAME;
-        let first = First::described(alloc, Command::new(alloc, name))?;
+        let first = command_of::<First>(alloc)?;
         Rest::added(alloc, line.subcommand(first)?)
     }
 

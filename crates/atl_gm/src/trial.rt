@@ -5,7 +5,7 @@ use crate::subcommand::Subcommand;
 use crate::told::tell;
 use atl_service::{Answer, Refused, Service, found};
 use atl_tables::Sequence;
-use clap::{ArgMatches, Command};
+use clap::{Arg, ArgMatches};
 use sqlite::{Connection, MemStore};
 use std::alloc::{AllocError, Global};
 
@@ -50,6 +50,14 @@ fn first_report(
     }
 }
 
+/// The answer to the report, in a campaign in memory by the world text.
+fn answer(alloc: Global, world_text: &str) -> Result<Answer, Failure> {
+    let join = join(alloc)?;
+    let report = report(alloc)?;
+    let conn = Connection::open_in_memory(alloc)?;
+    first_report(alloc, conn, world_text, &join, &report)
+}
+
 /// Founds a campaign with pass `gm` by the world text on standard input, joins `Avalon` with pass `pw` and word 0, and
 /// prints the faction's report.
 pub struct Trial;
@@ -57,19 +65,17 @@ pub struct Trial;
 impl Subcommand for Trial {
     const NAME: &'static str = "trial";
 
-    fn described<'a>(_alloc: Global, command: Command<'a>) -> Result<Command<'a>, AllocError> {
-        Ok(command.about(
-            "Founds a campaign in memory by the world text on standard input, and prints a first report",
-        ))
+    const ABOUT: &'static str =
+        "Founds a campaign in memory by the world text on standard input, and prints a first report";
+
+    fn options<'a>(alloc: Global) -> Result<Vec<Arg<'a>>, AllocError> {
+        Ok(Vec::new(alloc))
     }
 
     fn run(rt: &HostRuntime, _options: &ArgMatches<'_>) -> Result<(), Failure> {
         let alloc = rt.alloc();
         let text = text_on_input(rt, alloc)?;
-        let join = join(alloc)?;
-        let report = report(alloc)?;
-        let conn = Connection::open_in_memory(alloc)?;
-        let answer = first_report(alloc, conn, text.as_str(), &join, &report)?;
+        let answer = answer(alloc, text.as_str())?;
         tell(rt, &answer)
     }
 }
