@@ -1,0 +1,6 @@
+//! The month that is played out at once: what it carries from phase to phase, and the orders of a phase.
+#![tactic(auto)]
+
+mod month;
+
+pub use month::{Month, mailings_have_no_order};
