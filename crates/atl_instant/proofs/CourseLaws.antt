@@ -20,4 +20,4 @@ keys_of-factions (m ∷ ms) = ap (λ ks. m.faction ∷ ks) (keys_of-factions ms)
 pub mailings_have_no_order : HaveNoOrder
 mailings_have_no_order ms ns apart p =
     from_entries-permutation nat_cmp_total nat_cmp-IsAntisymmetric (map by_its_faction ms) (map by_its_faction ns) (IsPermutation-map by_its_faction ms ns p)
-      (subst (IsDistinct (eq_by_cmp nat_cmp)) (sym (keys_of-factions ms)) apart)
+    (subst (IsDistinct (eq_by_cmp nat_cmp)) (sym (keys_of-factions ms)) apart)

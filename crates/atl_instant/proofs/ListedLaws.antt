@@ -74,10 +74,10 @@ module _ {K X : Type 0} {R : K → K → Ordering} (o : IsTotalOrder R) (exact :
       let ks = keys_of (e ∷ es) in
       let long : length ks ≡ length (e ∷ es) = length-keys_of (e ∷ es) in
       sorted_from_all_adjacent o ks e.0 (λ k h.
-        let key : (i : ℕ) → i < length (e ∷ es) → get_or ks i e.0 ≡ (get_or (e ∷ es) i e).0 = λ i l. get_or-map (λ e. e.0) (e ∷ es) i e e.0 l in
-        below o (get_or ks k e.0) (get_or ks (k + 1) e.0)
-          (ap is_lt (λ i. R (key (k + 1) (omega arith) i) (key k (omega arith) i)) ∙ up k e (omega arith) (omega arith))
-          (apart_from_distinct (eq_by_cmp R) ks k (k + 1) e.0 apart (omega arith) h))
+      let key : (i : ℕ) → i < length (e ∷ es) → get_or ks i e.0 ≡ (get_or (e ∷ es) i e).0 = λ i l. get_or-map (λ e. e.0) (e ∷ es) i e e.0 l in
+      below o (get_or ks k e.0) (get_or ks (k + 1) e.0)
+      (ap is_lt (λ i. R (key (k + 1) (omega arith) i) (key k (omega arith) i)) ∙ up k e (omega arith) (omega arith))
+      (apart_from_distinct (eq_by_cmp R) ks k (k + 1) e.0 apart (omega arith) h))
 
   all_below : (x : K) (es : List (K × X)) → AllByRecursion (λ y. R x y ≡ Less) (keys_of es) → below_all R x es ≡ true
   all_below x [] h = refl
@@ -92,4 +92,4 @@ module _ {K X : Type 0} {R : K → K → Ordering} (o : IsTotalOrder R) (exact :
   entries-sorted es fs p apart up =
       let ordered = is_true _ (in_order fs (strictly fs (moved es fs p apart) up)) in
       sym (entries-from_sorted R fs ordered) ∙ ap entries (same_map o exact (from_sorted fs) (from_entries es) (λ q.
-        get-from_sorted R fs q ordered ∙ sym (find-permutation es fs p apart q) ∙ sym (get-from_entries o es q)))
+      get-from_sorted R fs q ordered ∙ sym (find-permutation es fs p apart q) ∙ sym (get-from_entries o es q)))

@@ -2,5 +2,10 @@
 #![tactic(auto)]
 
 mod month;
+mod orders;
+mod standing;
+mod written;
 
 pub use month::{Month, mailings_have_no_order};
+pub use orders::PhaseVerbs;
+pub use written::{Arrangement, Written};
