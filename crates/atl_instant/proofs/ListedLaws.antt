@@ -6,13 +6,13 @@ use Rattle.std.specs.Ordering.{eq_by_cmp, is_eq, is_lt, ordering_reverse}
 use Rattle.std.specs.Cmp.{IsTotalOrder, eq_by_cmp_equiv, Equal-is}
 use Rattle.std.specs.Map.{lookup, keys_of}
 use Rattle.std.specs.List.{IsDistinct, AllByRecursion}
-use Rattle.std.specs.List.Sorted.{IsSortedBy, IsStrictlySortedBy}
+use Rattle.std.specs.List.Sorted.{IsSortedBy, IsSortedByKey, IsStrictlySortedBy}
 use Rattle.std.specs.FinMap.{FinMap, find, entries, is_sorted, from_entries, from_sorted, get-from_entries, get-from_sorted, entries-from_sorted, same_map, IsAntisymmetric}
 use Rattle.std.specs.FinMap.Entries.{below_all}
 use Rattle.std.proofs.lemmas.Bool.{false≢true}
 use Rattle.std.proofs.lemmas.Map.Entries.{length-keys_of, place_from_lookup, lookup_from_place}
 use Rattle.std.proofs.lemmas.Map.Keys.{IsDistinct-IsPermutation, apart_from_distinct, sorted_from_all_adjacent, sorted_head, sorted_tail}
-use Rattle.std.proofs.lemmas.List.{get_or-map}
+use Rattle.std.proofs.lemmas.List.{get_or-map, length-map}
 use Rattle.std.proofs.lemmas.List.Sorted.{IsPermutation-map, IsPermutation-sym, Contains-permutation}
 use Rattle.std.proofs.lemmas.Option.{get_or_from_slice_get, slice_get-get_or, slice_get_within}
 
@@ -67,7 +67,8 @@ module _ {K X : Type 0} {R : K → K → Ordering} (o : IsTotalOrder R) (exact :
   pub from_entries-permutation : (es fs : List (K × X)) → IsPermutation es fs → IsDistinct (eq_by_cmp R) (keys_of es) → from_entries {R = R} es ≡ from_entries fs
   from_entries-permutation es fs p apart = same_map o exact _ _ (λ q. get-from_entries o es q ∙ find-permutation es fs p apart q ∙ sym (get-from_entries o fs q))
 
-  strictly : (es : List (K × X)) → IsDistinct (eq_by_cmp R) (keys_of es) → IsSortedBy (λ a b. is_lt (R a.0 b.0)) es → IsStrictlySortedBy R (keys_of es)
+  -- keys in order of which no two are one rise
+  pub strictly : (es : List (K × X)) → IsDistinct (eq_by_cmp R) (keys_of es) → IsSortedBy (λ a b. is_lt (R a.0 b.0)) es → IsStrictlySortedBy R (keys_of es)
   unfolding IsStrictlySortedBy
   strictly [] apart up = tt
   strictly (e ∷ es) apart up =
@@ -93,3 +94,14 @@ module _ {K X : Type 0} {R : K → K → Ordering} (o : IsTotalOrder R) (exact :
       let ordered = is_true _ (in_order fs (strictly fs (moved es fs p apart) up)) in
       sym (entries-from_sorted R fs ordered) ∙ ap entries (same_map o exact (from_sorted fs) (from_entries es) (λ q.
       get-from_sorted R fs q ordered ∙ sym (find-permutation es fs p apart q) ∙ sym (get-from_entries o es q)))
+
+-- elements in the order of their keys, each behind its key
+module _ {K X : Type 0} (R : K → K → Ordering) (key : X → K) where
+  abbrev keyed : X → K × X
+  keyed x = (key x, x)
+
+  pub keyed_order : (xs : List X) → IsSortedByKey key R xs → IsSortedBy {X = K × X} (λ x y. is_lt (R x.0 y.0)) (map keyed xs)
+  keyed_order xs up k d low h =
+      let long : length (map keyed xs) ≡ length xs = length-map xs keyed in
+      let at : (i : ℕ) → i < length xs → (get_or (map keyed xs) i d).0 ≡ key (get_or xs i d.1) = λ i l. ap (λ e. e.0) (get_or-map keyed xs i d.1 d l) in
+      ap is_lt (λ i. R (at (k + 1) (omega arith) i) (at k (omega arith) i)) ∙ up k d.1 low (omega arith)

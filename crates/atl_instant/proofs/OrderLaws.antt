@@ -25,7 +25,7 @@ use Rattle.atl_instant.specs.Course.{Aliases, by_faction}
 use Rattle.atl_instant.specs.PhaseOrders.{Task, tasks_from, tasks_of, tasks_for, key_of, orders_of}
 use Rattle.atl_instant.specs.Collecting.{AreByFaction, all_tasks, key_by}
 use Rattle.atl_instant.specs.PhaseOrders.{written}
-use Rattle.atl_instant.proofs.ListedLaws.{entries-sorted}
+use Rattle.atl_instant.proofs.ListedLaws.{entries-sorted, keyed_order}
 use Rattle.atl_instant.proofs.MappedLaws.{with_value, entries-with_value}
 use Rattle.atl_instant.proofs.CourseLaws.{by_its_faction, keys_of-factions}
 
@@ -157,12 +157,6 @@ values-written : (es : List (List ℕ × Task)) → map (λ e. e.1) (map (with_v
 values-written [] = refl
 values-written (e ∷ es) = ap (λ ws. written e.1 ∷ ws) (values-written es)
 
-keyed_order : (a : Arrangement) (ws : List Written) → IsSortedByKey (key_by a) (slice_cmp nat_cmp) ws → IsSortedBy (λ x y. is_lt (slice_cmp nat_cmp x.0 y.0)) (map (keyed a) ws)
-keyed_order a ws up k d low h =
-    let long : length (map (keyed a) ws) ≡ length ws = length-map ws (keyed a) in
-    let at : (i : ℕ) → i < length ws → (get_or (map (keyed a) ws) i d).0 ≡ key_by a (get_or ws i d.1) = λ i l. ap (λ e. e.0) (get_or-map (keyed a) ws i d.1 d l) in
-    ap is_lt (λ i. slice_cmp nat_cmp (at (k + 1) (omega arith) i) (at k (omega arith) i)) ∙ up k d.1 low (omega arith)
-
 module _ (is_of : Verb → Bool) (a : Arrangement) (aliases : Aliases) where
   tasks_of_all : (ms : List Mailing) → AreByFaction ms → flat_map (λ e. tasks_for is_of (tasks_of aliases e.0 e.1)) (entries (by_faction ms)) ≡ all_tasks is_of aliases ms
   tasks_of_all ms h =
@@ -174,7 +168,7 @@ module _ (is_of : Verb → Bool) (a : Arrangement) (aliases : Aliases) where
   sorted_orders ms list h p up =
       let ts = all_tasks is_of aliases ms in
       let apart = subst (IsDistinct (eq_by_cmp (slice_cmp nat_cmp))) (sym (keys-written a ts)) (IsDistinct-map (key_of a) (eq_by_cmp (slice_cmp nat_cmp)) ts (all_apart aliases a is_of ms h)) in
-      let listed = entries-sorted nat_list_cmp_total (slice_cmp-IsAntisymmetric nat_cmp-IsAntisymmetric) (map (keyed a) (map written ts)) (map (keyed a) list) (IsPermutation-map (keyed a) (map written ts) list p) apart (keyed_order a list up) in
+      let listed = entries-sorted nat_list_cmp_total (slice_cmp-IsAntisymmetric nat_cmp-IsAntisymmetric) (map (keyed a) (map written ts)) (map (keyed a) list) (IsPermutation-map (keyed a) (map written ts) list p) apart (keyed_order (slice_cmp nat_cmp) (key_by a) list up) in
       sym (unkeyed a list)
       ∙ ap (map (λ e. e.1)) (listed ∙ ap (λ es. entries (from_entries {R = slice_cmp nat_cmp} es)) (pairs-written a ts) ∙ entries-with_value (slice_cmp nat_cmp) written nat_list_cmp_total (map (paired a) ts))
       ∙ values-written (entries (from_entries (map (paired a) ts)))

@@ -1,17 +1,22 @@
 //! What a month carries from phase to phase.
-ghost use Rattle.std.specs.Prelude.{◌≡◌, [], vec_items};
-ghost use Rattle.std.specs.FinMap as map;
+ghost use Rattle.std.specs.Prelude.{◌≡◌, [], IfOk, map};
+ghost use Rattle.std.specs.FinMap.{empty, values};
 ghost use Rattle.atl_instant.specs.Course.{HaveOwnFactions, HaveNoOrder, alias_unit, by_faction};
+ghost use Rattle.atl_instant.specs.PhaseOrders.{orders_of, written};
+ghost use Rattle.atl_instant.specs.Collecting.{AreByFaction};
 
+use crate::orders::{PhaseVerbs, orders_of};
+use crate::written::{Arrangement, Written};
 use atl_orders::Mailing;
 use atl_state::Event;
 use atl_tables::Numbered;
-use std::alloc::Global;
+use std::alloc::{AllocError, Global};
 use std::marker::Model;
 
 /// The mailings of a month, the units that FORM made by their aliases, the words of the dice, and what came of the orders
 /// so far. In which order the mailings were given isn't seen.
 pub struct Month {
+    // By faction, no two of one faction.
     mailings: Vec<Mailing>,
     // By faction, and then by alias.
     aliases: Numbered<Numbered<u32>>,
@@ -31,7 +36,8 @@ impl Drop for Month {
 }
 
 impl Model for Month {
-    ghost use Rattle.atl_instant.specs.Course.{Course, course_code, HaveOwnFactions, by_faction};
+    ghost use Rattle.atl_instant.specs.Course.{Course, course_code, by_faction};
+    ghost use Rattle.atl_instant.specs.Collecting.{AreByFaction};
 
     ghost Value = { Course };
 
@@ -44,15 +50,16 @@ impl Model for Month {
       events = a.events.items;
     } };
 
-    ghost invariant = { λ a. HaveOwnFactions a.mailings.items };
+    ghost invariant = { λ a. AreByFaction a.mailings.items };
 }
 
 impl Month {
     /// A month with these mailings, no two of one faction, and these words, before its first phase. It takes no memory.
-    pub fn new(alloc: Global, mailings: Vec<Mailing>, words: Vec<u32>) -> Month
+    pub fn new(alloc: Global, mut mailings: Vec<Mailing>, words: Vec<u32>) -> Month
         requires { HaveOwnFactions mailings.items }
-        ensures { result ≡ record { mailings = by_faction mailings.items; aliases = map.empty; words = words.items; events = [] } }
+        ensures { result ≡ record { mailings = by_faction mailings.items; aliases = empty; words = words.items; events = [] } }
     {
+        sort(&mut mailings);
         Month {
             mailings,
             aliases: Numbered::new(alloc),
@@ -88,12 +95,34 @@ impl Month {
         events
     }
 
+    /// The orders of a phase that stand, in the arrangement of the phase. It takes memory for each of them, and n log n steps
+    /// for n orders of all mailings. See docs/RULES.md, "Orders of a month".
+    pub fn orders<P: PhaseVerbs>(
+        &self,
+        alloc: Global,
+        phase: &P,
+        arrangement: Arrangement,
+    ) -> Result<Vec<Written>, AllocError>
+        ensures { IfOk result (λ list. list.items ≡ map written (values (orders_of P.is_of arrangement self.now.aliases self.now.mailings))) }
+    {
+        orders_of(alloc, phase, arrangement, &self.aliases, &self.mailings)
+    }
+
     /// The number of the unit that a faction's FORM made under an alias.
     pub fn alias(&self, faction: u32, alias: u32) -> Option<u32>
         ensures { result ≡ alias_unit self.now.aliases faction alias }
     {
         unit_under(&self.aliases, faction, alias)
     }
+}
+
+/// Sorts mailings by their factions.
+fn sort(mailings: &mut Vec<Mailing>)
+    requires { HaveOwnFactions mailings.old.items }
+    ensures sorted { AreByFaction mailings.new.items }
+    ensures same { by_faction mailings.new.items ≡ by_faction mailings.old.items }
+{
+    mailings.sort_unstable_by_key(|mailing| mailing.faction);
 }
 
 /// The number of the unit that a faction's FORM made under an alias.
