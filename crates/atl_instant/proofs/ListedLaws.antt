@@ -7,7 +7,7 @@ use Rattle.std.specs.Cmp.{IsTotalOrder, eq_by_cmp_equiv, Equal-is}
 use Rattle.std.specs.Map.{lookup, keys_of}
 use Rattle.std.specs.List.{IsDistinct, AllByRecursion}
 use Rattle.std.specs.List.Sorted.{IsSortedBy, IsSortedByKey, IsStrictlySortedBy}
-use Rattle.std.specs.FinMap.{FinMap, find, entries, is_sorted, from_entries, from_sorted, get-from_entries, get-from_sorted, entries-from_sorted, same_map, IsAntisymmetric}
+use Rattle.std.specs.FinMap.{find, entries, is_sorted, from_entries, from_sorted, get-from_entries, get-from_sorted, entries-from_sorted, same_map, IsAntisymmetric}
 use Rattle.std.specs.FinMap.Entries.{below_all}
 use Rattle.std.proofs.lemmas.Bool.{false≢true}
 use Rattle.std.proofs.lemmas.Map.Entries.{length-keys_of, place_from_lookup, lookup_from_place}
@@ -45,7 +45,7 @@ module _ {K : Type 0} {R : K → K → Ordering} (o : IsTotalOrder R) where
       ] refl apart
 
 module _ {K X : Type 0} {R : K → K → Ordering} (o : IsTotalOrder R) (exact : IsAntisymmetric R) where
-  find_is : (q : K) (es : List (K × X)) → find R q es ≡ lookup (eq_by_cmp R q) es
+  pub find_is : (q : K) (es : List (K × X)) → find R q es ≡ lookup (eq_by_cmp R q) es
   find_is q [] = refl
   find_is q (e ∷ es) = ap (cond (eq_by_cmp R q e.0) (Some e.1)) (find_is q es)
 

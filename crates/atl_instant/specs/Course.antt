@@ -1,10 +1,11 @@
 -- What contracts see of a month.
 use Rattle.std.specs.Prelude.{◌≡◌, ℕ, List, map, refl, Option, Some, None}
 use Rattle.std.specs.Ordering.{nat_cmp, eq_by_cmp}
-use Rattle.std.specs.List.{IsDistinct}
+use Rattle.std.specs.List.{IsDistinct, slice_get}
 use Rattle.std.specs.List.Sorted.{IsPermutation}
 use Rattle.std.specs.Coded.{Coded, code_by, coded×, coded_ℕ, coded_list}
 use Rattle.std.specs.FinMap.{FinMap, code, from_entries, get}
+use Rattle.atl_orders.specs.declared.mailing.Entry.{Entry}
 use Rattle.atl_orders.specs.declared.mailing.Mailing.{Mailing}
 use Rattle.atl_orders.specs.contracts.mailing.Mailing as mailing
 use Rattle.atl_state.specs.declared.event.Event.{Event}
@@ -50,3 +51,11 @@ by_faction mailings = from_entries (map (λ m. (m.faction, m)) mailings)
 -- in which order mailings come isn't seen
 abbrev pub HaveNoOrder : Type 0
 HaveNoOrder = (mailings others : List Mailing) → HaveOwnFactions mailings → IsPermutation mailings others → by_faction mailings ≡ by_faction others
+
+-- the order that stands at a place of a faction's mailing, from 0 on
+abbrev pub entry_in : ℕ → Option Mailing → Option Entry
+entry_in place None = None
+entry_in place (Some m) = slice_get m.entries place
+
+abbrev pub entry_at : FinMap nat_cmp Mailing → ℕ → ℕ → Option Entry
+entry_at mailings faction place = entry_in place (get mailings faction)

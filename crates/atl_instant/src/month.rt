@@ -1,13 +1,13 @@
 //! What a month carries from phase to phase.
-ghost use Rattle.std.specs.Prelude.{◌≡◌, [], IfOk, map};
-ghost use Rattle.std.specs.FinMap.{empty, values};
-ghost use Rattle.atl_instant.specs.Course.{HaveOwnFactions, HaveNoOrder, alias_unit, by_faction};
+ghost use Rattle.std.specs.Prelude.{◌≡◌, [], IfOk, map, option_copied};
+ghost use Rattle.std.specs.FinMap.{empty, get, values};
+ghost use Rattle.atl_instant.specs.Course.{HaveOwnFactions, HaveNoOrder, alias_unit, by_faction, entry_at};
 ghost use Rattle.atl_instant.specs.PhaseOrders.{orders_of, written};
 ghost use Rattle.atl_instant.specs.Collecting.{AreByFaction};
 
 use crate::orders::{PhaseVerbs, orders_of};
 use crate::written::{Arrangement, Written};
-use atl_orders::Mailing;
+use atl_orders::{Entry, Mailing};
 use atl_state::Event;
 use atl_tables::Numbered;
 use std::alloc::{AllocError, Global};
@@ -108,6 +108,16 @@ impl Month {
         orders_of(alloc, phase, arrangement, &self.aliases, &self.mailings)
     }
 
+    /// The order at a place of a faction's mailing, from 0 on.
+    pub fn entry(&self, faction: u32, place: usize) -> Option<&Entry>
+        ensures { option_copied result ≡ entry_at self.now.mailings faction place }
+    {
+        match mailing_of(&self.mailings, faction) {
+            Some(mailing) => mailing.entries.as_slice().get(place),
+            None => None,
+        }
+    }
+
     /// The number of the unit that a faction's FORM made under an alias.
     pub fn alias(&self, faction: u32, alias: u32) -> Option<u32>
         ensures { result ≡ alias_unit self.now.aliases faction alias }
@@ -123,6 +133,17 @@ fn sort(mailings: &mut Vec<Mailing>)
     ensures same { by_faction mailings.new.items ≡ by_faction mailings.old.items }
 {
     mailings.sort_unstable_by_key(|mailing| mailing.faction);
+}
+
+/// The mailing of a faction, of mailings that are sorted by their factions.
+fn mailing_of(mailings: &[Mailing], faction: u32) -> Option<&Mailing>
+    requires { AreByFaction mailings.now }
+    ensures { option_copied result ≡ get (by_faction mailings.now) faction }
+{
+    match mailings.binary_search_by_key(&faction, |mailing| mailing.faction) {
+        Ok(place) => Some(&mailings[place]),
+        Err(_) => None,
+    }
 }
 
 /// The number of the unit that a faction's FORM made under an alias.

@@ -1,6 +1,4 @@
-use Rattle.std.proofs.Common.{sym, subst, map, IsPermutation}
-use Rattle.atl_instant.specs.Collecting.{all_tasks}
-use Rattle.atl_instant.specs.PhaseOrders.{written}
+use Rattle.std.proofs.Common.{subst, IsPermutation}
 use Rattle.atl_instant.proofs.OrderLaws as laws
 use Rattle.atl_instant.proofs.orders.orders_of.Goals as goal
 

@@ -1,7 +1,7 @@
-use Rattle.std.proofs.Common.{◌≡◌, ℕ, ◌+◌, ◌<◌, max, Bool, true, false, sym, ap, ◌∙◌, rules, length, drop, get_or}
-use Rattle.std.specs.FinMap.{FinMap, insert}
+use Rattle.std.proofs.Common.{◌≡◌, ◌+◌, ◌<◌, max, sym, ap, ◌∙◌, rules, length, drop, get_or}
+use Rattle.std.specs.FinMap.{insert}
 use Rattle.atl_orders.specs.Orders.{verb_of_order}
-use Rattle.atl_instant.specs.PhaseOrders.{is_slot, slot_of, unit_of, last_line, tasks_from}
+use Rattle.atl_instant.specs.PhaseOrders.{is_slot, slot_of, last_line, tasks_from}
 use Rattle.atl_instant.specs.Collecting.{line_under}
 use Rattle.atl_instant.proofs.StandingLaws as laws
 use Rattle.atl_instant.proofs.standing.last_lines.Goals as goal
