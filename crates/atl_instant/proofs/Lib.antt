@@ -1,0 +1,5 @@
+pub mod ListedLaws
+pub mod CourseLaws
+pub mod StandingLaws
+pub mod MappedLaws
+pub mod OrderLaws

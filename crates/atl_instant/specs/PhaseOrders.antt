@@ -1,0 +1,108 @@
+-- The orders of a phase. See docs/RULES.md, "Orders of a month".
+use Rattle.std.specs.Prelude.{ℕ, ◌+◌, max, Bool, true, false, ◌&&◌, ◌==◌, if◌then◌else◌, List, [], ◌∷◌, map, filter, Option, Some, None, unwrap_or}
+use Rattle.std.specs.List.{flat_map}
+use Rattle.std.specs.Ordering.{nat_cmp}
+use Rattle.std.specs.Cmp.Lexicographic.{slice_cmp}
+use Rattle.std.specs.FinMap.{FinMap, entries, from_entries}
+use Rattle.atl_orders.specs.declared.mailing.Entry.{Entry}
+use Rattle.atl_orders.specs.declared.mailing.Mailing.{Mailing}
+use Rattle.atl_orders.specs.declared.order.UnitRef.{UnitRef}
+use Rattle.atl_orders.specs.declared.order.UnitRef.TheVariants.{Number, Alias}
+use Rattle.atl_orders.specs.declared.verb.Verb.{Verb}
+use Rattle.atl_orders.specs.declared.verb.Verb.TheVariants as verbs
+use Rattle.atl_orders.specs.Orders.{Said, said, verb_of_order}
+use Rattle.atl_instant.specs.Course.{Aliases, alias_unit}
+use Rattle.atl_instant.specs.declared.standing.Slot.{Slot}
+use Rattle.atl_instant.specs.declared.standing.Slot.TheVariants.{MonthLong, Taxing, Recruiting}
+use Rattle.atl_instant.specs.declared.written.Written.{Written}
+use Rattle.atl_instant.specs.declared.written.Arrangement.{Arrangement}
+use Rattle.atl_instant.specs.declared.written.Arrangement.TheVariants.{ByUnit, ByFaction}
+
+-- An order for a unit, with the faction and the line of its mailing, and its place among the orders there, from 0 on.
+pub record Task : Type 0 where
+  pub faction : ℕ
+  pub unit : ℕ
+  pub line : ℕ
+  pub place : ℕ
+  pub said : Said
+
+-- ---- the orders of a mailing
+
+-- the unit that an order is for; 0 for an alias under which no unit was made
+abbrev pub unit_of : Aliases → ℕ → UnitRef → ℕ
+unit_of aliases faction (Number n) = n
+unit_of aliases faction (Alias alias) = unwrap_or (alias_unit aliases faction alias) 0
+
+abbrev pub tasks_from : Aliases → ℕ → List ℕ → ℕ → List Entry → List Task
+tasks_from aliases faction text place [] = []
+tasks_from aliases faction text place (e ∷ es) =
+    record { faction = faction; unit = unit_of aliases faction e.target; line = e.line; place = place; said = said text e.order }
+    ∷ tasks_from aliases faction text (place + 1) es
+
+-- the orders of a faction's mailing
+abbrev pub tasks_of : Aliases → ℕ → Mailing → List Task
+tasks_of aliases faction m = tasks_from aliases faction m.text 0 m.entries
+
+-- ---- the orders that stand
+
+-- The month-long orders of a unit share a slot; its TAX orders have one, and its RECRUIT orders.
+abbrev pub slot_of : Verb → Option Slot
+slot_of verbs.Move = Some MonthLong
+slot_of verbs.Sail = Some MonthLong
+slot_of verbs.Build = Some MonthLong
+slot_of verbs.Teach = Some MonthLong
+slot_of verbs.Study = Some MonthLong
+slot_of verbs.Produce = Some MonthLong
+slot_of verbs.Work = Some MonthLong
+slot_of verbs.Tax = Some Taxing
+slot_of verbs.Recruit = Some Recruiting
+slot_of verbs.Form = None
+slot_of verbs.Name = None
+slot_of verbs.Guard = None
+slot_of verbs.Enter = None
+slot_of verbs.Leave = None
+slot_of verbs.Promote = None
+slot_of verbs.Give = None
+slot_of verbs.Pay = None
+slot_of verbs.Transfer = None
+slot_of verbs.Quit = None
+
+abbrev pub is_slot : Slot → Option Slot → Bool
+is_slot MonthLong (Some MonthLong) = true
+is_slot Taxing (Some Taxing) = true
+is_slot Recruiting (Some Recruiting) = true
+is_slot slot other = false
+
+-- the greatest line of the orders in a slot of a unit; 0 where there is none
+abbrev pub last_line : Slot → ℕ → List Task → ℕ
+last_line slot unit [] = 0
+last_line slot unit (t ∷ ts) =
+    max (if t.unit == unit && is_slot slot (slot_of (verb_of_order t.said)) then t.line else 0) (last_line slot unit ts)
+
+-- in a slot the order with the greatest line stands; an order without a slot always does
+abbrev pub stands_in : List Task → Task → Option Slot → Bool
+stands_in ts t None = true
+stands_in ts t (Some slot) = t.line == last_line slot t.unit ts
+
+abbrev pub stands : List Task → Task → Bool
+stands ts t = stands_in ts t (slot_of (verb_of_order t.said))
+
+-- ---- the orders of a phase
+
+-- those of a mailing with the phase's verbs that stand
+abbrev pub tasks_for : (Verb → Bool) → List Task → List Task
+tasks_for is_of ts = filter (λ t. is_of (verb_of_order t.said) && stands ts t) ts
+
+-- By unit, line and faction, or by faction and line. The place is the last number of each, and no mailing has it twice.
+abbrev pub key_of : Arrangement → Task → List ℕ
+key_of ByUnit t = t.unit ∷ t.line ∷ t.faction ∷ t.place ∷ []
+key_of ByFaction t = t.faction ∷ t.line ∷ t.unit ∷ t.place ∷ []
+
+-- The orders of all mailings for a phase, in the order of their keys.
+abbrev pub orders_of : (Verb → Bool) → Arrangement → Aliases → FinMap nat_cmp Mailing → FinMap (slice_cmp nat_cmp) Task
+orders_of is_of arrangement aliases mailings =
+    from_entries (map (λ t. (key_of arrangement t, t)) (flat_map (λ e. tasks_for is_of (tasks_of aliases e.0 e.1)) (entries mailings)))
+
+-- what the code knows of an order
+abbrev pub written : Task → Written
+written t = record { unit = t.unit; line = t.line; faction = t.faction; verb = verb_of_order t.said; place = t.place }

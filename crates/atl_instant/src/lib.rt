@@ -1,0 +1,11 @@
+//! The month that is played out at once: what it carries from phase to phase, and the orders of a phase.
+#![tactic(auto)]
+
+mod month;
+mod orders;
+mod standing;
+mod written;
+
+pub use month::{Month, mailings_have_no_order};
+pub use orders::PhaseVerbs;
+pub use written::{Arrangement, Written};

@@ -1,0 +1,162 @@
+//! What a month carries from phase to phase.
+ghost use Rattle.std.specs.Prelude.{◌≡◌, [], IfOk, map, option_copied};
+ghost use Rattle.std.specs.FinMap.{empty, get, values};
+ghost use Rattle.atl_instant.specs.Course.{HaveOwnFactions, HaveNoOrder, alias_unit, by_faction, entry_at};
+ghost use Rattle.atl_instant.specs.PhaseOrders.{orders_of, written};
+ghost use Rattle.atl_instant.specs.Collecting.{AreByFaction};
+
+use crate::orders::{PhaseVerbs, orders_of};
+use crate::written::{Arrangement, Written};
+use atl_orders::{Entry, Mailing};
+use atl_state::Event;
+use atl_tables::Numbered;
+use std::alloc::{AllocError, Global};
+use std::marker::Model;
+
+/// The mailings of a month, the units that FORM made by their aliases, the words of the dice, and what came of the orders
+/// so far. In which order the mailings were given isn't seen.
+pub struct Month {
+    // By faction, no two of one faction.
+    mailings: Vec<Mailing>,
+    // By faction, and then by alias.
+    aliases: Numbered<Numbered<u32>>,
+    words: Vec<u32>,
+    events: Vec<Event>,
+}
+
+impl Drop for Month {
+    fn drop(self) {
+        let Month {
+            mailings: _,
+            aliases: _,
+            words: _,
+            events: _,
+        } = self;
+    }
+}
+
+impl Model for Month {
+    ghost use Rattle.atl_instant.specs.Course.{Course, course_code, by_faction};
+    ghost use Rattle.atl_instant.specs.Collecting.{AreByFaction};
+
+    ghost Value = { Course };
+
+    ghost coded = { course_code };
+
+    ghost view = { λ a. record {
+      mailings = by_faction a.mailings.items;
+      aliases = a.aliases;
+      words = a.words.items;
+      events = a.events.items;
+    } };
+
+    ghost invariant = { λ a. AreByFaction a.mailings.items };
+}
+
+impl Month {
+    /// A month with these mailings, no two of one faction, and these words, before its first phase. It takes no memory.
+    pub fn new(alloc: Global, mut mailings: Vec<Mailing>, words: Vec<u32>) -> Month
+        requires { HaveOwnFactions mailings.items }
+        ensures { result ≡ record { mailings = by_faction mailings.items; aliases = empty; words = words.items; events = [] } }
+    {
+        sort(&mut mailings);
+        Month {
+            mailings,
+            aliases: Numbered::new(alloc),
+            words,
+            events: Vec::new(alloc),
+        }
+    }
+
+    /// The words of the dice.
+    pub fn words(&self) -> &[u32]
+        ensures { result.now ≡ self.now.words }
+    {
+        &self.words
+    }
+
+    /// What came of the orders so far.
+    pub fn events(&self) -> &[Event]
+        ensures { result.now ≡ self.now.events }
+    {
+        &self.events
+    }
+
+    /// What came of the orders.
+    pub fn into_events(self) -> Vec<Event>
+        ensures { result.items ≡ self.events }
+    {
+        let Month {
+            mailings: _,
+            aliases: _,
+            words: _,
+            events,
+        } = self;
+        events
+    }
+
+    /// The orders of a phase that stand, in the arrangement of the phase. It takes memory for each of them, and n log n steps
+    /// for n orders of all mailings. See docs/RULES.md, "Orders of a month".
+    pub fn orders<P: PhaseVerbs>(
+        &self,
+        alloc: Global,
+        phase: &P,
+        arrangement: Arrangement,
+    ) -> Result<Vec<Written>, AllocError>
+        ensures { IfOk result (λ list. list.items ≡ map written (values (orders_of P.is_of arrangement self.now.aliases self.now.mailings))) }
+    {
+        orders_of(alloc, phase, arrangement, &self.aliases, &self.mailings)
+    }
+
+    /// The order at a place of a faction's mailing, from 0 on.
+    pub fn entry(&self, faction: u32, place: usize) -> Option<&Entry>
+        ensures { option_copied result ≡ entry_at self.now.mailings faction place }
+    {
+        match mailing_of(&self.mailings, faction) {
+            Some(mailing) => mailing.entries.as_slice().get(place),
+            None => None,
+        }
+    }
+
+    /// The number of the unit that a faction's FORM made under an alias.
+    pub fn alias(&self, faction: u32, alias: u32) -> Option<u32>
+        ensures { result ≡ alias_unit self.now.aliases faction alias }
+    {
+        unit_under(&self.aliases, faction, alias)
+    }
+}
+
+/// Sorts mailings by their factions.
+fn sort(mailings: &mut Vec<Mailing>)
+    requires { HaveOwnFactions mailings.old.items }
+    ensures sorted { AreByFaction mailings.new.items }
+    ensures same { by_faction mailings.new.items ≡ by_faction mailings.old.items }
+{
+    mailings.sort_unstable_by_key(|mailing| mailing.faction);
+}
+
+/// The mailing of a faction, of mailings that are sorted by their factions.
+fn mailing_of(mailings: &[Mailing], faction: u32) -> Option<&Mailing>
+    requires { AreByFaction mailings.now }
+    ensures { option_copied result ≡ get (by_faction mailings.now) faction }
+{
+    match mailings.binary_search_by_key(&faction, |mailing| mailing.faction) {
+        Ok(place) => Some(&mailings[place]),
+        Err(_) => None,
+    }
+}
+
+/// The number of the unit that a faction's FORM made under an alias.
+pub(crate) fn unit_under(aliases: &Numbered<Numbered<u32>>, faction: u32, alias: u32) -> Option<u32>
+    ensures { result ≡ alias_unit aliases.now faction alias }
+{
+    match aliases.get(faction) {
+        Some(units) => units.get(alias).copied(),
+        None => None,
+    }
+}
+
+/// Mailings in another order are the same mailings.
+pub fn mailings_have_no_order()
+    ensures { HaveNoOrder }
+{}

@@ -1,0 +1,114 @@
+//! The orders of a phase.
+ghost use Rattle.std.specs.Prelude.{◌≡◌, ◌++◌, map, IfOk, OnOk, Bool};
+ghost use Rattle.std.specs.FinMap.{values};
+ghost use Rattle.std.specs.List.Sorted.{IsPermutation, IsSortedByKey};
+ghost use Rattle.std.specs.Cmp.Lexicographic.{slice_cmp};
+ghost use Rattle.std.specs.Ordering.{nat_cmp};
+ghost use Rattle.atl_orders.specs.declared.verb.Verb.{Verb};
+ghost use Rattle.atl_instant.specs.Course.{by_faction};
+ghost use Rattle.atl_instant.specs.PhaseOrders.{tasks_of, tasks_for, orders_of, written};
+ghost use Rattle.atl_instant.specs.Collecting.{AreByFaction, AreLastLines, all_tasks, key_by};
+
+use crate::standing::{LastLines, slot_of, unit_of};
+use crate::written::{Arrangement, Written};
+use atl_orders::{Mailing, Verb};
+use atl_tables::Numbered;
+use std::alloc::{AllocError, Global};
+
+/// The verbs of a phase.
+pub trait PhaseVerbs {
+    // Whether a verb is one of them.
+    ghost is_of: { Verb → Bool };
+
+    /// Whether a verb is one of them.
+    fn has(&self, verb: Verb) -> bool
+        ensures { result ≡ is_of verb };
+}
+
+/// Puts the orders of a mailing that stand, and are of a phase, behind others.
+fn collect_standing<P: PhaseVerbs>(
+    phase: &P,
+    aliases: &Numbered<Numbered<u32>>,
+    mailing: &Mailing,
+    lines: &LastLines,
+    list: &mut Vec<Written>,
+) -> Result<(), AllocError>
+    requires { AreLastLines (tasks_of aliases.now mailing.now.faction mailing.now) lines.now }
+    ensures { OnOk result (list.new.items ≡ list.old.items ++ map written (tasks_for P.is_of (tasks_of aliases.now mailing.now.faction mailing.now))) }
+{
+    let entries = mailing.entries.as_slice();
+    for place in 0..entries.len() {
+        let entry = &entries[place];
+        let verb = entry.order.verb();
+        let unit = unit_of(aliases, mailing.faction, entry.target);
+        if phase.has(verb) && lines.stands(unit, entry.line, slot_of(verb)) {
+            list.push(Written {
+                unit,
+                line: entry.line,
+                faction: mailing.faction,
+                verb,
+                place,
+            })?;
+        }
+    }
+    Ok(())
+}
+
+/// Puts the orders of a mailing for a phase behind others.
+fn collect_mailing<P: PhaseVerbs>(
+    alloc: Global,
+    phase: &P,
+    aliases: &Numbered<Numbered<u32>>,
+    mailing: &Mailing,
+    list: &mut Vec<Written>,
+) -> Result<(), AllocError>
+    ensures { OnOk result (list.new.items ≡ list.old.items ++ map written (tasks_for P.is_of (tasks_of aliases.now mailing.now.faction mailing.now))) }
+{
+    let lines = LastLines::of(alloc, aliases, mailing)?;
+    collect_standing(phase, aliases, mailing, &lines, list)
+}
+
+/// The orders of all mailings for a phase, mailing by mailing.
+fn collected<P: PhaseVerbs>(
+    alloc: Global,
+    phase: &P,
+    aliases: &Numbered<Numbered<u32>>,
+    mailings: &[Mailing],
+) -> Result<Vec<Written>, AllocError>
+    ensures { IfOk result (λ list. list.items ≡ map written (all_tasks P.is_of aliases.now mailings.now)) }
+{
+    let mut list = Vec::new(alloc);
+    for mailing in mailings {
+        collect_mailing(alloc, phase, aliases, mailing, &mut list)?;
+    }
+    Ok(list)
+}
+
+/// The orders of a phase that stand, in the arrangement of the phase, from mailings that are sorted by faction, no two of
+/// one faction. It takes memory for each order, and n log n steps.
+pub(crate) fn orders_of<P: PhaseVerbs>(
+    alloc: Global,
+    phase: &P,
+    arrangement: Arrangement,
+    aliases: &Numbered<Numbered<u32>>,
+    mailings: &[Mailing],
+) -> Result<Vec<Written>, AllocError>
+    requires { AreByFaction mailings.now }
+    ensures { IfOk result (λ list. list.items ≡ map written (values (orders_of P.is_of arrangement aliases.now (by_faction mailings.now)))) }
+{
+    let mut list = collected(alloc, phase, aliases, mailings)?;
+    sort(&mut list, arrangement);
+    Ok(list)
+}
+
+/// Sorts orders.
+fn sort(list: &mut Vec<Written>, arrangement: Arrangement)
+    ensures moved { IsPermutation list.old.items list.new.items }
+    ensures sorted { IsSortedByKey (key_by arrangement) (slice_cmp nat_cmp) list.new.items }
+{
+    list.sort_unstable_by_key(
+        move |written|
+            ensures { result ≡ key_by arrangement written.now }
+        { written.key(arrangement) },
+    );
+}
