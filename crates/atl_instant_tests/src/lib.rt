@@ -1,0 +1,5 @@
+//! Tests of the month.
+#![tactic(auto)]
+
+#[cfg(test)]
+mod tests;
