@@ -3,3 +3,4 @@ pub mod CourseLaws
 pub mod StandingLaws
 pub mod MappedLaws
 pub mod OrderLaws
+pub mod WrittenLaws

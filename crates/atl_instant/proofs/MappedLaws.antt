@@ -11,7 +11,7 @@ empty_list : {A : Type 0} (es : List A) → length es ≡ 0 → es ≡ []
 empty_list [] h = refl
 empty_list (e ∷ es) h = absurd (omega arith)
 
-no_entries : {K X : Type 0} (R : K → K → Ordering) → entries (empty {X = X} {R = R}) ≡ []
+pub no_entries : {K X : Type 0} (R : K → K → Ordering) → entries (empty {X = X} {R = R}) ≡ []
 no_entries {X = X} R = empty_list _ (sym (len-entries empty) ∙ len-empty R X)
 
 module _ {K X Y : Type 0} (R : K → K → Ordering) (f : X → Y) where

@@ -4,7 +4,7 @@ use Rattle.std.specs.Ordering.{nat_cmp, eq_by_cmp}
 use Rattle.std.specs.List.{IsDistinct, slice_get}
 use Rattle.std.specs.List.Sorted.{IsPermutation}
 use Rattle.std.specs.Coded.{Coded, code_by, coded×, coded_ℕ, coded_list}
-use Rattle.std.specs.FinMap.{FinMap, code, from_entries, get}
+use Rattle.std.specs.FinMap.{FinMap, code, empty, from_entries, get, insert}
 use Rattle.atl_orders.specs.declared.mailing.Entry.{Entry}
 use Rattle.atl_orders.specs.declared.mailing.Mailing.{Mailing}
 use Rattle.atl_orders.specs.contracts.mailing.Mailing as mailing
@@ -37,6 +37,14 @@ alias_in alias (Some units) = get units alias
 
 abbrev pub alias_unit : Aliases → ℕ → ℕ → Option ℕ
 alias_unit aliases faction alias = alias_in alias (get aliases faction)
+
+abbrev pub units_under : Option (FinMap nat_cmp ℕ) → FinMap nat_cmp ℕ
+units_under None = empty
+units_under (Some units) = units
+
+-- the aliases with one unit more
+abbrev pub with_alias : Aliases → ℕ → ℕ → ℕ → Aliases
+with_alias aliases faction alias unit = insert aliases faction (insert (units_under (get aliases faction)) alias unit)
 
 -- ---- mailings
 

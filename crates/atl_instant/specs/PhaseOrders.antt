@@ -1,9 +1,9 @@
 -- The orders of a phase. See docs/RULES.md, "Orders of a month".
-use Rattle.std.specs.Prelude.{ℕ, ◌+◌, max, Bool, true, false, ◌&&◌, ◌==◌, if◌then◌else◌, List, [], ◌∷◌, map, filter, Option, Some, None, unwrap_or}
-use Rattle.std.specs.List.{flat_map}
+use Rattle.std.specs.Prelude.{◌≡◌, ℕ, ◌+◌, max, Bool, true, false, ◌&&◌, ◌==◌, if◌then◌else◌, List, [], ◌∷◌, map, filter, Option, Some, None, unwrap_or}
+use Rattle.std.specs.List.{All, flat_map, slice_get}
 use Rattle.std.specs.Ordering.{nat_cmp}
 use Rattle.std.specs.Cmp.Lexicographic.{slice_cmp}
-use Rattle.std.specs.FinMap.{FinMap, entries, from_entries}
+use Rattle.std.specs.FinMap.{FinMap, entries, from_entries, get, values}
 use Rattle.atl_orders.specs.declared.mailing.Entry.{Entry}
 use Rattle.atl_orders.specs.declared.mailing.Mailing.{Mailing}
 use Rattle.atl_orders.specs.declared.order.UnitRef.{UnitRef}
@@ -106,3 +106,21 @@ orders_of is_of arrangement aliases mailings =
 -- what the code knows of an order
 abbrev pub written : Task → Written
 written t = record { unit = t.unit; line = t.line; faction = t.faction; verb = verb_of_order t.said; place = t.place }
+
+-- ---- a law
+
+-- an order that stands in the mailing of its faction, as it is said there
+pub record IsInMailing (aliases : Aliases) (mailings : FinMap nat_cmp Mailing) (t : Task) : Type 0 where
+  pub mailing : Mailing
+  pub entry : Entry
+  pub of_faction : get mailings t.faction ≡ Some mailing
+  pub at_place : slice_get mailing.entries t.place ≡ Some entry
+  pub for_unit : unit_of aliases t.faction entry.target ≡ t.unit
+  pub on_line : entry.line ≡ t.line
+  pub says : said mailing.text entry.order ≡ t.said
+
+-- each order of a phase does
+abbrev pub OrdersAreInMailings : Type 0
+OrdersAreInMailings =
+    (is_of : Verb → Bool) (arrangement : Arrangement) (aliases : Aliases) (mailings : FinMap nat_cmp Mailing) →
+    All (IsInMailing aliases mailings) (values (orders_of is_of arrangement aliases mailings))

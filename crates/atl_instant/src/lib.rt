@@ -7,5 +7,5 @@ mod standing;
 mod written;
 
 pub use month::{Month, mailings_have_no_order};
-pub use orders::PhaseVerbs;
+pub use orders::{PhaseVerbs, orders_are_in_mailings};
 pub use written::{Arrangement, Written};

@@ -1,7 +1,7 @@
 //! What a month carries from phase to phase.
-ghost use Rattle.std.specs.Prelude.{◌≡◌, [], IfOk, map, option_copied};
+ghost use Rattle.std.specs.Prelude.{◌≡◌, ◌++◌, ◌∷◌, [], IfOk, OnOk, OnErr, map, option_copied};
 ghost use Rattle.std.specs.FinMap.{empty, get, values};
-ghost use Rattle.atl_instant.specs.Course.{HaveOwnFactions, HaveNoOrder, alias_unit, by_faction, entry_at};
+ghost use Rattle.atl_instant.specs.Course.{HaveOwnFactions, HaveNoOrder, alias_unit, by_faction, entry_at, with_alias};
 ghost use Rattle.atl_instant.specs.PhaseOrders.{orders_of, written};
 ghost use Rattle.atl_instant.specs.Collecting.{AreByFaction};
 
@@ -95,6 +95,29 @@ impl Month {
         events
     }
 
+    /// Notes what came of an order. Without memory the month stays as it is.
+    pub fn tell(&mut self, event: Event) -> Result<(), AllocError>
+        ensures ok { OnOk result (self.new ≡ record self.old { events = self.old.events ++ event ∷ [] }) }
+        ensures err { OnErr result (self.new ≡ self.old) }
+    {
+        self.events.push(event)?;
+        Ok(())
+    }
+
+    /// Notes the unit that a faction's FORM made under an alias. Without memory the month stays as it is.
+    pub fn set_alias(
+        &mut self,
+        alloc: Global,
+        faction: u32,
+        alias: u32,
+        unit: u32,
+    ) -> Result<(), AllocError>
+        ensures ok { OnOk result (self.new ≡ record self.old { aliases = with_alias self.old.aliases faction alias unit }) }
+        ensures err { OnErr result (self.new ≡ self.old) }
+    {
+        put_alias(alloc, &mut self.aliases, faction, alias, unit)
+    }
+
     /// The orders of a phase that stand, in the arrangement of the phase. It takes memory for each of them, and n log n steps
     /// for n orders of all mailings. See docs/RULES.md, "Orders of a month".
     pub fn orders<P: PhaseVerbs>(
@@ -133,6 +156,27 @@ fn sort(mailings: &mut Vec<Mailing>)
     ensures same { by_faction mailings.new.items ≡ by_faction mailings.old.items }
 {
     mailings.sort_unstable_by_key(|mailing| mailing.faction);
+}
+
+/// Puts a unit under an alias of a faction. Without memory the aliases stay as they are.
+fn put_alias(
+    alloc: Global,
+    aliases: &mut Numbered<Numbered<u32>>,
+    faction: u32,
+    alias: u32,
+    unit: u32,
+) -> Result<(), AllocError>
+    ensures ok { OnOk result (aliases.new ≡ with_alias aliases.old faction alias unit) }
+    ensures err { OnErr result (aliases.new ≡ aliases.old) }
+{
+    match aliases.get_mut(faction) {
+        Some(units) => units.insert(alias, unit),
+        None => {
+            let mut units = Numbered::new(alloc);
+            units.insert(alias, unit)?;
+            aliases.insert(faction, units)
+        }
+    }
 }
 
 /// The mailing of a faction, of mailings that are sorted by their factions.

@@ -6,7 +6,7 @@ ghost use Rattle.std.specs.Cmp.Lexicographic.{slice_cmp};
 ghost use Rattle.std.specs.Ordering.{nat_cmp};
 ghost use Rattle.atl_orders.specs.declared.verb.Verb.{Verb};
 ghost use Rattle.atl_instant.specs.Course.{by_faction};
-ghost use Rattle.atl_instant.specs.PhaseOrders.{tasks_of, tasks_for, orders_of, written};
+ghost use Rattle.atl_instant.specs.PhaseOrders.{OrdersAreInMailings, tasks_of, tasks_for, orders_of, written};
 ghost use Rattle.atl_instant.specs.Collecting.{AreByFaction, AreLastLines, all_tasks, key_by};
 
 use crate::standing::{LastLines, slot_of, unit_of};
@@ -112,3 +112,8 @@ fn sort(list: &mut Vec<Written>, arrangement: Arrangement)
         { written.key(arrangement) },
     );
 }
+
+/// Each order of a phase stands in the mailing of its faction, at its place there.
+pub fn orders_are_in_mailings()
+    ensures { OrdersAreInMailings }
+{}

@@ -1,0 +1,87 @@
+-- Each order of a phase stands in a mailing.
+use Rattle.std.proofs.Common.{◌≡◌, ℕ, suc, ◌+◌, Bool, true, false, cond, List, [], ◌∷◌, map, filter, flat_map, slice_get, Some, refl, sym, subst, arith}
+use Rattle.std.specs.declared.cmp.Ordering.{Ordering}
+use Rattle.std.specs.declared.cmp.Ordering.TheVariants.{Less, Equal, Greater}
+use Rattle.std.specs.Ordering.{nat_cmp}
+use Rattle.std.specs.Cmp.{IsTotalOrder}
+use Rattle.std.specs.Cmp.Lexicographic.{slice_cmp, nat_list_cmp_total}
+use Rattle.std.specs.List.{AllByRecursion}
+use Rattle.std.specs.FinMap.{FinMap, entries, entries-insert, from_entries, get, put}
+use Rattle.std.specs.FinMap.Entries.{by_order}
+use Rattle.std.proofs.lemmas.List.Elements.{All-from_recursion}
+use Rattle.atl_orders.specs.declared.mailing.Entry.{Entry}
+use Rattle.atl_orders.specs.declared.mailing.Mailing.{Mailing}
+use Rattle.atl_state.specs.Deciding.{EachOf}
+use Rattle.atl_state.proofs.EveryLaws.{each-from_every}
+use Rattle.atl_state.proofs.BackLaws.{append_each}
+use Rattle.atl_instant.specs.Course.{Aliases}
+use Rattle.atl_instant.specs.PhaseOrders.{IsInMailing, OrdersAreInMailings, Task, key_of, tasks_for, tasks_from, tasks_of}
+use Rattle.atl_instant.specs.declared.written.Arrangement.{Arrangement}
+use Rattle.atl_instant.proofs.MappedLaws.{no_entries}
+
+-- ---- what is so of each value is so of each that a map lists
+
+module _ {K X : Type 0} (R : K → K → Ordering) (P : X → Type 0) where
+  abbrev Values : List (K × X) → Type 0
+  Values = AllByRecursion (λ e. P e.1)
+
+  values-put : (k : K) (v : X) (es : List (K × X)) → P v → Values es → Values (put R k v es)
+  values-put k v [] h all = (h, tt)
+  values-put k v (e ∷ es) h all =
+      elim (R k e.0) as (λ r. Values (by_order r ((k, v) ∷ e ∷ es) ((e.0, v) ∷ es) (e ∷ put R k v es))) [
+        | Less ↦ (h, all)
+        | Equal ↦ (h, all.1)
+        | Greater ↦ (all.0, values-put k v es h all.1)
+      ]
+
+  values-listed : IsTotalOrder R → (es : List (K × X)) → Values es → Values (entries (from_entries {R = R} es))
+  values-listed o [] all = subst Values (sym (no_entries R)) tt
+  values-listed o (e ∷ es) all =
+      subst Values (sym (entries-insert o (from_entries es) e.0 e.1)) (values-put e.0 e.1 (entries (from_entries es)) all.0 (values-listed o es all.1))
+
+  keyed_values : (key : X → K) (xs : List X) → AllByRecursion P xs → Values (map (λ x. (key x, x)) xs)
+  keyed_values key [] all = tt
+  keyed_values key (x ∷ xs) all = (all.0, keyed_values key xs all.1)
+
+  unkeyed_values : (es : List (K × X)) → Values es → AllByRecursion P (map (λ e. e.1) es)
+  unkeyed_values [] all = tt
+  unkeyed_values (e ∷ es) all = (all.0, unkeyed_values es all.1)
+
+-- ---- the orders of a mailing
+
+module _ (aliases : Aliases) (mailings : FinMap nat_cmp Mailing) where
+  in_mailing : (p : Task → Bool) (f : ℕ) (m : Mailing) → get mailings f ≡ Some m → (place : ℕ) (es : List Entry) → ((j : ℕ) (e : Entry) → slice_get es j ≡ Some e → slice_get m.entries (place + j) ≡ Some e) →
+      AllByRecursion (IsInMailing aliases mailings) (filter p (tasks_from aliases f m.text place es))
+  in_mailing p f m h place [] whole = tt
+  in_mailing p f m h place (e ∷ es) whole =
+      let first : place + 0 ≡ place = omega arith in
+      kept _ _ (p _)
+      (record {
+        mailing = m;
+        entry = e;
+        of_faction = h;
+        at_place = subst (λ n. slice_get m.entries n ≡ Some e) first (whole 0 e refl);
+        for_unit = refl;
+        on_line = refl;
+        says = refl;
+      })
+      (in_mailing p f m h (place + 1) es (λ j x is. let next : place + suc j ≡ (place + 1) + j = omega arith in subst (λ n. slice_get m.entries n ≡ Some x) next (whole (suc j) x is)))
+    where
+      kept : (ts : List Task) (t : Task) (b : Bool) → IsInMailing aliases mailings t → AllByRecursion (IsInMailing aliases mailings) ts → AllByRecursion (IsInMailing aliases mailings) (cond b (t ∷ ts) ts)
+      kept ts t true h r = (h, r)
+      kept ts t false h r = r
+
+  in_mailings : (is_of : _) (es : List (ℕ × Mailing)) → EachOf (λ f m. get mailings f ≡ Some m) es → AllByRecursion (IsInMailing aliases mailings) (flat_map (λ e. tasks_for is_of (tasks_of aliases e.0 e.1)) es)
+  in_mailings is_of [] h = tt
+  in_mailings is_of (e ∷ es) h =
+      append_each (IsInMailing aliases mailings) (tasks_for is_of (tasks_of aliases e.0 e.1)) (flat_map (λ e. tasks_for is_of (tasks_of aliases e.0 e.1)) es)
+      (in_mailing _ e.0 e.1 h.0 0 e.1.entries (λ j x is. let at : j ≡ 0 + j = omega arith in subst (λ n. slice_get e.1.entries n ≡ Some x) at is)) (in_mailings is_of es h.1)
+
+pub orders_are_in_mailings : OrdersAreInMailings
+orders_are_in_mailings is_of a aliases mailings =
+    let P = IsInMailing aliases mailings in
+    let ts = flat_map (λ e. tasks_for is_of (tasks_of aliases e.0 e.1)) (entries mailings) in
+    let es = map (λ t. (key_of a t, t)) ts in
+    All-from_recursion P _ (unkeyed_values (slice_cmp nat_cmp) P (entries (from_entries es))
+    (values-listed (slice_cmp nat_cmp) P nat_list_cmp_total es (keyed_values (slice_cmp nat_cmp) P (key_of a) ts
+    (in_mailings aliases mailings is_of (entries mailings) (each-from_every (λ f m. get mailings f ≡ Some m) mailings (λ f m is. is))))))
