@@ -1,4 +1,4 @@
-//! Tests of the month.
+//! Tests of what a month carries, and of the orders of a phase.
 #![tactic(auto)]
 
 #[cfg(test)]

@@ -1,0 +1,75 @@
+//! Months of mailings that are given as texts.
+ghost use Rattle.std.specs.Prelude.{◌≡◌, IfOk, map};
+
+use atl_instant::Month;
+use atl_orders::{Mailing, read_mailing};
+use atl_state::are_distinct;
+use atl_tables::{World, read_world};
+use std::alloc::{AllocError, Global};
+use std::test::Fail;
+
+/// A world with an item and a skill.
+const WORLD: &str = r#"[rules]
+maintenance = 10
+tax_per_man = 10
+recruit_price = 50
+recruit_fraction = 4
+growth = 0
+income = 1
+start_money = 1000
+man_weight = 10
+man_carry = 5
+[[item]]
+name = "wood"
+weight = 5
+carry = 0
+[[skill]]
+name = "sailing"
+fee = 10
+[[terrain]]
+name = "plain"
+land = true
+wage = 12
+places = 100
+money_limit = 5000
+peasant_limit = 2000
+[[region]]
+number = 1
+name = "Vale"
+terrain = "plain"
+peasants = 1000
+money = 500
+"#;
+
+pub(crate) fn world(alloc: Global) -> Result<World, Fail> {
+    Ok(read_world(alloc, WORLD)?)
+}
+
+fn mailings_of(alloc: Global, world: &World, texts: &[&str]) -> Result<Vec<Mailing>, Fail> {
+    let mut mailings = Vec::new(alloc);
+    for text in texts {
+        mailings.push(read_mailing(alloc, world, text.as_bytes())?)?;
+    }
+    Ok(mailings)
+}
+
+fn factions_of(alloc: Global, mailings: &[Mailing]) -> Result<Vec<u32>, AllocError>
+    ensures { IfOk result (λ factions. factions.items ≡ map (λ m. m.faction) mailings.now) }
+{
+    let mut factions = Vec::new(alloc);
+    for mailing in mailings {
+        factions.push(mailing.faction)?;
+    }
+    Ok(factions)
+}
+
+/// A month with these mailings, and two words.
+pub(crate) fn month(alloc: Global, world: &World, texts: &[&str]) -> Result<Month, Fail> {
+    let mailings = mailings_of(alloc, world, texts)?;
+    let factions = factions_of(alloc, &mailings)?;
+    if !are_distinct(alloc, &factions)? {
+        return Err(Fail::new("each mailing is of a faction of its own"));
+    }
+    let words = Vec::from_slice(alloc, &[7, 9])?;
+    Ok(Month::new(alloc, mailings, words))
+}
