@@ -4,3 +4,4 @@ pub mod StandingLaws
 pub mod MappedLaws
 pub mod OrderLaws
 pub mod WrittenLaws
+pub mod MeaningLaws

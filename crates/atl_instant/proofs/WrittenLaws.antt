@@ -16,7 +16,6 @@ use Rattle.atl_state.proofs.EveryLaws.{each-from_every}
 use Rattle.atl_state.proofs.BackLaws.{append_each}
 use Rattle.atl_instant.specs.Course.{Aliases}
 use Rattle.atl_instant.specs.PhaseOrders.{IsInMailing, OrdersAreInMailings, Task, key_of, tasks_for, tasks_from, tasks_of}
-use Rattle.atl_instant.specs.declared.written.Arrangement.{Arrangement}
 use Rattle.atl_instant.proofs.MappedLaws.{no_entries}
 
 -- ---- what is so of each value is so of each that a map lists

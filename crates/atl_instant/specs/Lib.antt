@@ -1,3 +1,4 @@
 pub mod Course
+pub mod Meaning
 pub mod PhaseOrders
 pub mod Collecting

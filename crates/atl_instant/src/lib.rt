@@ -3,9 +3,11 @@
 
 mod month;
 mod orders;
+mod phase;
 mod standing;
 mod written;
 
 pub use month::{Month, mailings_have_no_order};
 pub use orders::{PhaseVerbs, orders_are_in_mailings};
+pub use phase::Phase;
 pub use written::{Arrangement, Written};

@@ -1,3 +1,5 @@
+pub mod CoverLaws
+pub mod RegionLaws
 pub mod OrderedLaws
 pub mod RisingLaws
 pub mod AssemblyLaws

@@ -1,5 +1,5 @@
 -- What change marks say of two campaigns, an older one and one that came of it: all that is not marked is the same in both.
-use Rattle.std.specs.Prelude.{◌≡◌, ℕ, List, false, Option, Some, None, option_map}
+use Rattle.std.specs.Prelude.{◌≡◌, ℕ, List, true, false, Option, Some, None, option_map}
 use Rattle.std.specs.Ordering.{nat_cmp}
 use Rattle.std.specs.FinMap.{FinMap, get, empty}
 use Rattle.std.specs.FinSet.{FinSet, contains}
@@ -8,7 +8,7 @@ use Rattle.atl_state.specs.declared.books.Thing.{Thing}
 use Rattle.atl_state.specs.declared.records.Unit.{Unit}
 use Rattle.atl_state.specs.Books.{amount_in}
 use Rattle.atl_state.specs.Marks.{Marks, amount_number}
-use Rattle.atl_state.specs.State.{State}
+use Rattle.atl_state.specs.State.{State, Marked}
 
 -- under a number that is not marked stands the same in both
 abbrev pub SameBut : {V : Type 0} → FinSet nat_cmp → FinMap nat_cmp V → FinMap nat_cmp V → Type 0
@@ -38,3 +38,23 @@ pub record Covers (m : Marks) (before after : State) : Type 0 where
   pub goods : (n : ℕ) → contains m.goods n ≡ false → goods_under (get after.units n) ≡ goods_under (get before.units n)
   pub books : (e : Entry) (t : Thing) → contains m.books (amount_number e t) ≡ false → amount_in after.books e t ≡ amount_in before.books e t
   pub row : m.row ≡ false → own_row after ≡ own_row before
+
+-- what was marked still is
+abbrev pub StaysMarked : FinSet nat_cmp → FinSet nat_cmp → Type 0
+StaysMarked before after = (n : ℕ) → contains before n ≡ true → contains after n ≡ true
+
+pub record StayMarked (before after : Marks) : Type 0 where
+  pub factions : StaysMarked before.factions after.factions
+  pub regions : StaysMarked before.regions after.regions
+  pub structures : StaysMarked before.structures after.structures
+  pub mail : StaysMarked before.mail after.mail
+  pub reports : StaysMarked before.reports after.reports
+  pub units : StaysMarked before.units after.units
+  pub goods : StaysMarked before.goods after.goods
+  pub books : StaysMarked before.books after.books
+  pub row : before.row ≡ true → after.row ≡ true
+
+-- no mark is lost, and all that changed is marked
+pub record MarksChanges (before after : Marked) : Type 0 where
+  pub stay : StayMarked before.marks after.marks
+  pub covers : Covers after.marks before.what after.what

@@ -1,0 +1,57 @@
+-- The season of a month: what each region has of births and of income. See docs/RULES.md, "Season".
+use Rattle.std.specs.Prelude.{ℕ, ℤ, pos, ◌+◌, ◌-◌, ◌*◌, ◌/◌, ◌%◌, min, Bool, true, false, List, map, fold, zip, Option, Some, None, option_and_then}
+use Rattle.std.specs.List.{slice_get}
+use Rattle.std.specs.FinMap.{entries, get}
+use Rattle.atl_tables.specs.Planet.{Planet}
+use Rattle.atl_tables.specs.declared.world.Terrain.{Terrain}
+use Rattle.atl_state.specs.declared.books.Entry.{Entry}
+use Rattle.atl_state.specs.declared.books.Entry.TheVariants.{Births, Income}
+use Rattle.atl_state.specs.declared.books.Thing.{Thing}
+use Rattle.atl_state.specs.declared.books.Thing.TheVariants.{Money, People}
+use Rattle.atl_state.specs.declared.records.Region.{Region}
+use Rattle.atl_state.specs.Marks.{amount_number}
+use Rattle.atl_state.specs.State.{State, with_amount, with_peasants, with_region_money}
+use Rattle.atl_instant.specs.Course.{Course}
+
+-- The terrain of a region of the world.
+abbrev pub terrain_of : Planet → ℕ → Option Terrain
+terrain_of w n = option_and_then (λ p. slice_get w.terrains p.terrain) (get w.regions n)
+
+-- So many of a hundred peasants are born as the word says, from 0 to the growth; at most up to the terrain's limit.
+abbrev pub births : (growth limit word peasants : ℕ) → ℕ
+births growth limit word peasants = min (peasants * (word % (growth + 1)) / 100) (limit - peasants)
+
+-- Each peasant brings his income to the region; at most up to the terrain's limit.
+abbrev pub income : (per_peasant limit peasants money : ℕ) → ℕ
+income per_peasant limit peasants money = min (peasants * per_peasant) (limit - money)
+
+-- a region with so many births and so much income, which are booked
+abbrev pub with_growth : State → ℕ → Region → (born earned : ℕ) → State
+with_growth c n r born earned =
+    with_amount (with_amount (with_region_money (with_peasants c n (r.peasants + born)) n (r.money + earned)) Births People (pos born)) Income Money (pos earned)
+
+-- The births come first, and those who are born bring income as well.
+abbrev pub season_in : Planet → State → (n word : ℕ) → Option Terrain → Option Region → State
+season_in w c n word (Some t) (Some r) =
+    let born = births w.rules.growth t.peasant_limit word r.peasants in
+    with_growth c n r born (income w.rules.income t.money_limit (r.peasants + born) r.money)
+season_in w c n word (Some t) None = c
+season_in w c n word None r = c
+
+-- the season of a region, by its number, with its word
+unfoldable pub season_at : Planet → State → ℕ × ℕ → State
+season_at w c (n, word) = season_in w c n word (terrain_of w n) (get c.regions n)
+
+-- The season of all regions, in the order of their numbers, each with its word.
+abbrev pub season : Planet → State → List ℕ → State
+season w c words = fold (season_at w) c (zip (map (λ e. e.0) (entries w.regions)) words)
+
+-- what the season makes of a campaign; it brings no event
+abbrev pub season_meaning : Planet → State → Course → State × Course
+season_meaning w c m = (season w c m.words, m)
+
+-- births are of people, income is of money
+abbrev pub season_changes : Entry → Thing → Bool
+season_changes Births People = true
+season_changes Income Money = true
+season_changes e t = false

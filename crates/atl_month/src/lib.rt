@@ -1,0 +1,6 @@
+//! The end of a month: what each unit needs, what each region grows, and who leaves the campaign.
+#![tactic(auto)]
+
+pub mod season;
+
+pub use season::SeasonPhase;

@@ -1,0 +1,150 @@
+-- How a campaign changes with a region, and with what is booked.
+use Rattle.std.proofs.Common.{◌≡◌, ◌≢◌, ◌↔◌, List, [], get_or, set, ℕ, ◌+◌, ◌*◌, ◌≤◌, ◌<◌, cond, Some, length, refl, sym, ap, subst, ◌∙◌, inl, inr, arith}
+use Rattle.std.specs.Prelude.{ℤ, pos, ◌+ℤ◌, is_some}
+use Rattle.std.specs.Ordering.{nat_cmp, is_eq}
+use Rattle.std.specs.Cmp.{nat_cmp_total, ranked}
+use Rattle.std.specs.declared.cmp.Ordering.TheVariants.{Less, Equal, Greater}
+use Rattle.std.specs.FinMap.{FinMap, get, insert, len, get-insert, len-insert, nat_cmp-IsAntisymmetric}
+use Rattle.std.proofs.lemmas.List.{get_or-set_other, get_or-set_same}
+use Rattle.std.proofs.lemmas.Bool.{cases_eq}
+use Rattle.atl_tables.specs.Planet.{Planet}
+use Rattle.atl_tables.specs.Limits.{most_amount}
+use Rattle.atl_tables.specs.Sums.{sum_over, changed, changed_at}
+use Rattle.atl_tables.proofs.SumLaws.{sum_over-insert_known}
+use Rattle.atl_state.specs.Limits.{entry_count}
+use Rattle.atl_state.specs.declared.books.Entry.{Entry}
+use Rattle.atl_state.specs.declared.books.Thing.{Thing}
+use Rattle.atl_state.specs.declared.records.Region.{Region}
+use Rattle.atl_state.specs.declared.records.Unit.{Unit}
+use Rattle.atl_state.specs.Books.{IsGrid, amount_in, entry_place, row_of, thing_place, with_booked}
+use Rattle.atl_state.specs.Founding.{things_of}
+use Rattle.atl_state.specs.Good.{Every, IsThere, AreInRange, AreKnown, IsSteady}
+use Rattle.atl_state.specs.Marks.{amount_number}
+use Rattle.atl_state.specs.State.{State, region_changed, with_amount}
+use Rattle.atl_state.specs.Totals.{held, kept, total}
+use Rattle.atl_state.proofs.BookLaws.{IsGrid-with_booked}
+use Rattle.atl_state.proofs.EveryLaws.{every-insert, there-insert}
+
+-- ---- other regions, other books
+
+module _ (w : Planet) (c : State) (regions : FinMap nat_cmp Region) (books : List (List ℤ)) where
+  abbrev stocked : State
+  stocked = record c { regions = regions; books = books }
+
+  module _ (few : len regions ≡ len c.regions) (there : (n : ℕ) → IsThere c.regions n ↔ IsThere regions n)
+      (within : Every (λ n r. (r.peasants ≤ most_amount) × (r.money ≤ most_amount)) regions) (grid : IsGrid (things_of w) books) where
+    stocked-numbers : AreInRange w c → AreInRange w stocked
+    stocked-numbers old = record {
+      month = old.month;
+      few_factions = old.few_factions;
+      few_regions = omega (arith, few, old.few_regions);
+      few_units = old.few_units;
+      few_structures = old.few_structures;
+      next_unit_least = old.next_unit_least;
+      next_unit_most = old.next_unit_most;
+      factions = old.factions;
+      regions = within;
+      units = old.units;
+      structures = old.structures;
+      books = grid;
+    }
+
+    stocked-known : AreKnown w c → AreKnown w stocked
+    stocked-known old = record {
+      regions = λ n. (λ h. (old.regions n).0 ((there n).1 h), λ h. (there n).0 ((old.regions n).1 h));
+      units = λ n u is. let p = old.units n u is in record { faction = p.faction; region = (there u.region).0 p.region; structure = p.structure; items = p.items; skills = p.skills };
+      structures = λ n s is. let b = old.structures n s is in record { kind = b.kind; region = (there s.region).0 b.region; owner = b.owner };
+      mail = old.mail;
+      reports = old.reports;
+    }
+
+    stocked-steady : IsSteady w c → IsSteady w stocked
+    stocked-steady old = record {
+      numbers = stocked-numbers old.numbers;
+      names = record { pass = old.names.pass; factions = old.names.factions; joined = old.names.joined; units = old.names.units; structures = old.names.structures };
+      known = stocked-known old.known;
+      next = record { factions = old.next.factions; structures = old.next.structures; units = old.next.units };
+      days = old.days;
+      gone = old.gone;
+      owners = λ n s is. let o = old.owners n s is in record { owned = o.owned; ownerless = o.ownerless };
+      water = record { units = old.water.units; structures = old.water.structures };
+      guarded = old.guarded;
+    }
+
+-- ---- a region
+
+module _ {V : Type 0} where
+  same_len : (m : FinMap nat_cmp V) (n : ℕ) (u v : V) → get m n ≡ Some u → len (insert m n v) ≡ len m
+  same_len m n u v is = len-insert nat_cmp_total m n v ∙ ap (λ o. cond (is_some o) (len m) (len m + 1)) is
+
+  there_again : (m : FinMap nat_cmp V) (k n : ℕ) (u v : V) → get m k ≡ Some u → IsThere (insert m k v) n → IsThere m n
+  there_again m k n u v is (x, put) =
+      elim (nat_cmp n k) as (λ o. nat_cmp n k ≡ o → cond (is_eq o) (Some v) (get m n) ≡ Some x → IsThere m n) [
+        | Less ↦ λ _ e. (x, e)
+        | Equal ↦ λ o e. (u, ap (get m) (nat_cmp-IsAntisymmetric n k o) ∙ is)
+        | Greater ↦ λ _ e. (x, e)
+      ] refl (sym (get-insert nat_cmp_total m k v n) ∙ put)
+
+  pub get-insert_same : (m : FinMap nat_cmp V) (k : ℕ) (v : V) → get (insert m k v) k ≡ Some v
+  get-insert_same m k v =
+      get-insert nat_cmp_total m k v k ∙ elim (nat_cmp k k) as (λ o. nat_cmp k k ≡ o → cond (is_eq o) (Some v) (get m k) ≡ Some v) [
+        | Less ↦ λ o. let l = ranked k k Less (sym o) in absurd (omega arith)
+        | Equal ↦ λ _. refl
+        | Greater ↦ λ o. let l = ranked k k Greater (sym o) in absurd (omega arith)
+      ] refl
+
+  pub changed-known : (f : V → V) (m : FinMap nat_cmp V) (n : ℕ) (v : V) → get m n ≡ Some v → changed f m n ≡ insert m n (f v)
+  changed-known f m n v is = ap (changed_at f m n) is
+
+module _ (f : Region → Region) (c : State) (n : ℕ) (r : Region) (is : get c.regions n ≡ Some r) where
+  pub region-changed : get (region_changed f c n).regions n ≡ Some (f r)
+  region-changed = ap (λ m. get m n) (changed-known f c.regions n r is) ∙ get-insert_same c.regions n (f r)
+
+  pub steady-region : (w : Planet) → (f r).peasants ≤ most_amount → (f r).money ≤ most_amount → IsSteady w c → IsSteady w (region_changed f c n)
+  steady-region w peasants money old =
+      subst (λ (m : FinMap nat_cmp Region). IsSteady w (record c { regions = m })) (sym (changed-known f c.regions n r is))
+      (stocked-steady w c (insert c.regions n (f r)) c.books (same_len c.regions n r (f r) is)
+      (λ k. (there-insert c.regions n k (f r), there_again c.regions n k r (f r) is))
+      (every-insert (λ k q. (q.peasants ≤ most_amount) × (q.money ≤ most_amount)) c.regions n (f r) (peasants, money) old.numbers.regions) old.numbers.books old)
+
+  regrouped : (u a b p q : ℕ) → a + p ≡ b + q → (u + a) + p ≡ (u + b) + q
+  regrouped u a b p q h = omega arith
+
+  pub total-region : (t : Thing) → total (region_changed f c n) t + kept t r ≡ total c t + kept t (f r)
+  unfolding total
+  total-region t =
+      let units = sum_over (λ (u : Unit). held t u.holding) c.units in
+      let stock = λ (q : Region). kept t q in
+      ap (λ m. (units + sum_over stock m) + kept t r) (changed-known f c.regions n r is)
+      ∙ regrouped units (sum_over stock (insert c.regions n (f r))) (sum_over stock c.regions) (kept t r) (kept t (f r)) (sum_over-insert_known stock c.regions n r (f r) is)
+
+-- ---- the books
+
+pub steady-amount : (w : Planet) (c : State) (e : Entry) (t : Thing) (n : ℤ) → IsSteady w c → IsSteady w (with_amount c e t n)
+steady-amount w c e t n old =
+    stocked-steady w c c.regions (with_booked c.books e t n) refl (λ k. (λ h. h, λ h. h)) old.numbers.regions (IsGrid-with_booked (things_of w) c.books e t n old.numbers.books) old
+
+pub total-amount : (c : State) (e : Entry) (u t : Thing) (n : ℤ) → total (with_amount c e u n) t ≡ total c t
+unfolding total
+total-amount c e u t n = refl
+
+-- no other amount changes
+pub amount-other : (things : ℕ) (books : List (List ℤ)) (e f : Entry) (t u : Thing) (n : ℤ) → IsGrid things books → thing_place u < things → amount_number e t ≢ amount_number f u → amount_in (with_booked books f u n) e t ≡ amount_in books e t
+amount-other things books e f t u n g h apart =
+    let i = thing_place t in
+    let j = thing_place u in
+    let inside : j < length books = omega (arith, g.rows) in
+    let wide : length (row_of books u) ≡ entry_count = g.wide j [] inside in
+    let row = set (row_of books u) (entry_place f) (amount_in books f u +ℤ n) in
+    elim (cases_eq i j) [
+      | inl same ↦
+          let other : entry_place e ≢ entry_place f = λ one. apart (both i j (entry_place e) (entry_place f) same one) in
+          ap (λ k. get_or (get_or (set books j row) k []) (entry_place e) (pos 0)) same
+          ∙ ap (λ x. get_or x (entry_place e) (pos 0)) (get_or-set_same books j row [] inside)
+          ∙ get_or-set_other (row_of books u) (entry_place f) (entry_place e) (amount_in books f u +ℤ n) (pos 0) other
+          ∙ ap (λ k. get_or (get_or books k []) (entry_place e) (pos 0)) (sym same)
+      | inr other ↦ ap (λ x. get_or x (entry_place e) (pos 0)) (get_or-set_other books j i row [] other)
+    ]
+  where
+    both : (i j p q : ℕ) → i ≡ j → p ≡ q → entry_count * i + p ≡ entry_count * j + q
+    both i j p q a b = omega arith
