@@ -1,9 +1,10 @@
 -- What a phase of the month is, and what each phase keeps.
-use Rattle.std.specs.Prelude.{◌≡◌, ℕ, ℤ, pos, ◌+ℤ◌, ◌≤ℤ◌, ◌+◌, Bool, false, ◌||◌}
+use Rattle.std.specs.Prelude.{◌≡◌, ℕ, ℤ, pos, ◌+ℤ◌, ◌≤ℤ◌, ◌+◌, ◌==◌, Bool, false, ◌||◌}
 use Rattle.atl_tables.specs.Planet.{Planet}
 use Rattle.atl_state.specs.declared.books.Entry.{Entry}
 use Rattle.atl_state.specs.declared.books.Thing.{Thing}
 use Rattle.atl_state.specs.Books.{amount_in}
+use Rattle.atl_state.specs.Marks.{amount_number}
 use Rattle.atl_state.specs.State.{State}
 use Rattle.atl_state.specs.Totals.{Balances}
 use Rattle.atl_instant.specs.Course.{Course}
@@ -38,6 +39,10 @@ Changing = Entry → Thing → Bool
 
 abbrev pub either_changes : Changing → Changing → Changing
 either_changes first second e t = first e t || second e t
+
+-- one amount alone
+abbrev pub changes_only : Entry → Thing → Changing
+changes_only e t f u = amount_number f u == amount_number e t
 
 -- a phase changes each amount by less than this
 abbrev pub most_change : ℕ

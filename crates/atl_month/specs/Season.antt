@@ -1,17 +1,15 @@
 -- The season of a month: what each region has of births and of income. See docs/RULES.md, "Season".
-use Rattle.std.specs.Prelude.{ℕ, ℤ, pos, ◌+◌, ◌-◌, ◌*◌, ◌/◌, ◌%◌, min, Bool, true, false, List, map, fold, zip, Option, Some, None, option_and_then}
+use Rattle.std.specs.Prelude.{ℕ, pos, ◌+◌, ◌-◌, ◌*◌, ◌/◌, ◌%◌, min, List, map, fold, zip, Option, Some, None, option_and_then}
 use Rattle.std.specs.List.{slice_get}
 use Rattle.std.specs.FinMap.{entries, get}
 use Rattle.atl_tables.specs.Planet.{Planet}
 use Rattle.atl_tables.specs.declared.world.Terrain.{Terrain}
-use Rattle.atl_state.specs.declared.books.Entry.{Entry}
 use Rattle.atl_state.specs.declared.books.Entry.TheVariants.{Births, Income}
-use Rattle.atl_state.specs.declared.books.Thing.{Thing}
 use Rattle.atl_state.specs.declared.books.Thing.TheVariants.{Money, People}
 use Rattle.atl_state.specs.declared.records.Region.{Region}
-use Rattle.atl_state.specs.Marks.{amount_number}
 use Rattle.atl_state.specs.State.{State, with_amount, with_peasants, with_region_money}
 use Rattle.atl_instant.specs.Course.{Course}
+use Rattle.atl_instant.specs.Meaning.{Changing, changes_only, either_changes}
 
 -- The terrain of a region of the world.
 abbrev pub terrain_of : Planet → ℕ → Option Terrain
@@ -51,7 +49,9 @@ abbrev pub season_meaning : Planet → State → Course → State × Course
 season_meaning w c m = (season w c m.words, m)
 
 -- births are of people, income is of money
-abbrev pub season_changes : Entry → Thing → Bool
-season_changes Births People = true
-season_changes Income Money = true
-season_changes e t = false
+abbrev pub season_changes : Changing
+season_changes = either_changes (changes_only Births People) (changes_only Income Money)
+
+-- the season of one region changes each amount by less than this
+abbrev pub region_bound : ℕ
+region_bound = 2000000000

@@ -1,11 +1,13 @@
 //! The season of a month.
-ghost use Rattle.std.specs.Prelude.{◌≡◌, ◌≤◌, ◌<◌, ◌+◌, length, option_copied, Some};
+ghost use Rattle.std.specs.Prelude.{ℕ, ◌≡◌, ◌≤◌, ◌<◌, ◌+◌, length, option_copied, Some};
 ghost use Rattle.std.specs.FinMap as map;
+ghost use Rattle.atl_tables.specs.Planet.{IsWorld};
 ghost use Rattle.atl_tables.specs.Limits.{most_amount, most_growth, most_per_head};
+ghost use Rattle.atl_state.specs.Books.{IsGrid};
 ghost use Rattle.atl_state.specs.Covers.{MarksChanges};
 ghost use Rattle.atl_state.specs.Good.{IsSteady};
 ghost use Rattle.atl_instant.specs.Meaning.{HaveRoom, most_change};
-ghost use Rattle.atl_month.specs.Season.{births, income, season, season_at, season_changes, season_meaning, terrain_of, with_growth};
+ghost use Rattle.atl_month.specs.Season.{births, income, region_bound, season, season_at, season_changes, season_meaning, terrain_of, with_growth};
 
 use atl_instant::{Month, Phase};
 use atl_state::{Campaign, Entry, Region, Thing};
@@ -40,4 +42,88 @@ fn terrain_of(world: &World, region: u32) -> Option<&Terrain>
 {
     let plan = world.region(region)?;
     world.terrains().get(usize::from(plan.terrain))
+}
+
+/// A region grows by births and income, which are booked.
+fn grow(campaign: &mut Campaign, number: u32, region: Region, born: u32, earned: u32)
+    requires there { map.get campaign.old.what.regions number ≡ Some region }
+    requires grid { (things : ℕ) × (2 ≤ things) × IsGrid things campaign.old.what.books }
+    requires room { HaveRoom region_bound campaign.old.what }
+    requires peasants { region.peasants + born ≤ most_amount }
+    requires money { region.money + earned ≤ most_amount }
+    ensures what { campaign.new.what ≡ with_growth campaign.old.what number region born earned }
+    ensures marks { MarksChanges campaign.old campaign.new }
+{
+    campaign.set_peasants(number, region.peasants + born);
+    campaign.set_region_money(number, region.money + earned);
+    campaign.book(Entry::Births, Thing::People, i64::from(born));
+    campaign.book(Entry::Income, Thing::Money, i64::from(earned));
+}
+
+/// The season of a region.
+#[tactic(auto, unfolding(crate::specs::Season::season_at))]
+fn turn_region(world: &World, campaign: &mut Campaign, number: u32, word: u32)
+    requires steady { IsSteady world.now campaign.old.what }
+    requires room { HaveRoom region_bound campaign.old.what }
+    ensures what { campaign.new.what ≡ season_at world.now campaign.old.what (number, word) }
+    ensures marks { MarksChanges campaign.old campaign.new }
+{
+    let terrain = match terrain_of(world, number) {
+        Some(terrain) => terrain,
+        None => return,
+    };
+    let region = match campaign.region(number) {
+        Some(region) => *region,
+        None => return,
+    };
+    let rules = world.rules();
+    let born = births(rules.growth, terrain.peasant_limit, word, region.peasants);
+    let earned = income(
+        rules.income,
+        terrain.money_limit,
+        region.peasants + born,
+        region.money,
+    );
+    grow(campaign, number, region, born, earned);
+}
+
+/// The season of the regions, as far as there are words.
+fn turn_regions(world: &World, campaign: &mut Campaign, words: &[u32])
+    requires steady { IsSteady world.now campaign.old.what }
+    requires room { HaveRoom most_change campaign.old.what }
+    ensures what { campaign.new.what ≡ season world.now campaign.old.what words.now }
+    ensures marks { MarksChanges campaign.old campaign.new }
+    ensures world { IsWorld world.now }
+{
+    let mut place = 0;
+    for (number, _) in world.regions().iter() {
+        match words.get(place) {
+            Some(word) => turn_region(world, campaign, number, *word),
+            None => return,
+        }
+        place += 1;
+    }
+}
+
+impl Phase for SeasonPhase {
+    ghost meaning = { season_meaning };
+
+    ghost needs = { IsSteady };
+
+    ghost leaves = { IsSteady };
+
+    ghost changing = { season_changes };
+
+    ghost bound = { most_change };
+
+    fn run(
+        &self,
+        _alloc: Global,
+        world: &World,
+        mut campaign: Campaign,
+        month: Month,
+    ) -> Result<(Campaign, Month), AllocError> {
+        turn_regions(world, &mut campaign, month.words());
+        Ok((campaign, month))
+    }
 }

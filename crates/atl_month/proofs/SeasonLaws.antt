@@ -1,0 +1,250 @@
+-- The season leaves a campaign well.
+use Rattle.std.proofs.Common.{◌≡◌, ◌≢◌, ◌==◌, ◌||◌, ℕ, ◌+◌, ◌-◌, ◌*◌, ◌/◌, ◌%◌, ◌≤◌, min, Bool, true, false, cond, Option, Some, None, List, [], ◌∷◌, length, map, refl, sym, ap, ◌∙◌, inl, inr, ◌⊎◌, arith}
+use Rattle.std.specs.Prelude.{ℤ, pos, negsuc, ◌+ℤ◌, ◌≤ℤ◌, fold, zip, option_and_then}
+use Rattle.std.specs.List.{slice_get}
+use Rattle.std.specs.FinMap.{entries, get, len-entries}
+use Rattle.std.specs.Int.{w64}
+use Rattle.std.specs.Int.RustNames.{FitsSigned}
+use Rattle.std.proofs.lemmas.List.{length-map}
+use Rattle.std.proofs.lemmas.Int.{ints}
+use Rattle.std.proofs.lemmas.Bool.Decides.{nat_tests}
+use Rattle.atl_tables.specs.Planet.{Planet, IsWorld}
+use Rattle.atl_tables.specs.Limits.{most_amount}
+use Rattle.atl_tables.specs.declared.world.Terrain.{Terrain}
+use Rattle.atl_tables.specs.declared.world.RegionPlan.{RegionPlan}
+use Rattle.atl_state.specs.declared.books.Entry.{Entry}
+use Rattle.atl_state.specs.declared.books.Entry.TheVariants.{Births, Income}
+use Rattle.atl_state.specs.declared.books.Thing.{Thing}
+use Rattle.atl_state.specs.declared.books.Thing.TheVariants.{Money, People, Item}
+use Rattle.atl_state.specs.declared.records.Region.{Region}
+use Rattle.atl_state.specs.Books.{IsGrid, amount_in, with_booked}
+use Rattle.atl_state.specs.Founding.{things_of}
+use Rattle.atl_state.specs.Good.{IsSteady}
+use Rattle.atl_state.specs.Covers.{MarksChanges}
+use Rattle.atl_state.specs.Marking.{mark_amount, mark_region}
+use Rattle.atl_state.specs.Marks.{amount_number}
+use Rattle.atl_state.specs.State.{Marked, State, with_amount, with_peasants, with_region_money}
+use Rattle.atl_state.specs.Totals.{Balances, kept, total}
+use Rattle.atl_state.proofs.BookLaws.{IsGrid-with_booked, amount-with_booked, booked-with_booked, share_of}
+use Rattle.atl_state.proofs.CoverLaws.{marks-amount, marks-region, marks-trans}
+use Rattle.atl_state.proofs.RegionLaws.{amount-other, region-changed, steady-amount, steady-region, total-amount, total-region}
+use Rattle.atl_state.proofs.EveryLaws.{none_some}
+use Rattle.atl_instant.specs.Meaning.{HasRoom, HaveRoom, IsNear, LeavesWell, amount_limit, most_change}
+use Rattle.atl_instant.proofs.MeaningLaws.{fold_leaves_well, room_behind, room_less, well_unchanged, well_within}
+use Rattle.atl_month.specs.Season.{births, income, region_bound, season, season_at, season_changes, season_in, terrain_of, with_growth}
+
+-- ---- how much there is
+
+least : (a b : ℕ) → min a b ≤ b
+least a b = omega arith
+
+pub births_fit : (growth limit word peasants : ℕ) → limit ≤ most_amount → peasants ≤ most_amount → peasants + births growth limit word peasants ≤ most_amount
+births_fit growth limit word peasants l p = omega (arith, least (peasants * (word % (growth + 1)) / 100) (limit - peasants))
+
+pub income_fits : (per_peasant limit peasants money : ℕ) → limit ≤ most_amount → money ≤ most_amount → money + income per_peasant limit peasants money ≤ most_amount
+income_fits per_peasant limit peasants money l m = omega (arith, least (peasants * per_peasant) (limit - money))
+
+-- ---- the books of a region's season
+
+near_booked : (x y : ℤ) (n : ℕ) → n ≤ most_amount → (y ≡ x +ℤ pos n) ⊎ (y ≡ x) → IsNear 1000000000 x y
+near_booked x y n l h = elim h [
+  | inl is ↦ record { above = omega (arith, ints, is); below = omega (arith, ints, is) }
+  | inr is ↦ record { above = omega (arith, ints, is); below = omega (arith, ints, is) }
+]
+
+two_near : (x y z : ℤ) → IsNear 1000000000 x y → IsNear 1000000000 y z → IsNear region_bound x z
+two_near x y z g h = record { above = omega (arith, ints, g.above, h.above); below = omega (arith, ints, g.below, h.below) }
+
+neither : (a b : Bool) → (a || b) ≡ false → (a ≡ false) × (b ≡ false)
+neither true b h = (cc, cc)
+neither false b h = (cc, h)
+
+differ : (a b : ℕ) → (a == b) ≡ false → a ≢ b
+differ a b h = grind (arith, nat_tests)
+
+balanced : (old mid new k m k2 b e : ℕ) → mid + k ≡ old + (k + b) → new + m ≡ mid + (m + e) → new ≡ old + (b + e)
+balanced old mid new k m k2 b e g h = omega arith
+
+module _ (w : Planet) (c : State) (n : ℕ) (r : Region) (born earned : ℕ) (is : get c.regions n ≡ Some r) where
+  abbrev peopled : State
+  peopled = with_peasants c n (r.peasants + born)
+
+  abbrev paid : State
+  paid = with_region_money peopled n (r.money + earned)
+
+  abbrev counted : State
+  counted = with_amount paid Births People (pos born)
+
+  abbrev more_people : Region → Region
+  more_people q = record q { peasants = r.peasants + born }
+
+  abbrev more_money : Region → Region
+  more_money q = record q { money = r.money + earned }
+
+  peopled_there : get peopled.regions n ≡ Some (more_people r)
+  peopled_there = region-changed more_people c n r is
+
+  growth_steady : r.peasants + born ≤ most_amount → r.money + earned ≤ most_amount → IsSteady w c → IsSteady w (with_growth c n r born earned)
+  growth_steady p m old =
+      let within = old.numbers.regions n r is in
+      steady-amount w counted Income Money (pos earned) (steady-amount w paid Births People (pos born)
+      (steady-region more_money peopled n (more_people r) peopled_there w p m (steady-region more_people c n r is w p within.1 old)))
+
+  total_grown : (t : Thing) → pos (total (with_growth c n r born earned) t) ≡ (pos (total c t) +ℤ share_of t People (pos born)) +ℤ share_of t Money (pos earned)
+  total_grown t =
+      total_of t (total-amount counted Income Money t (pos earned)) (total-amount paid Births People t (pos born))
+      (total-region more_people c n r is t) (total-region more_money peopled n (more_people r) peopled_there t)
+    where
+      total_of : (t : Thing) → total (with_growth c n r born earned) t ≡ total counted t → total counted t ≡ total paid t
+          → total peopled t + kept t r ≡ total c t + kept t (more_people r) → total paid t + kept t (more_people r) ≡ total peopled t + kept t (more_money (more_people r))
+          → pos (total (with_growth c n r born earned) t) ≡ (pos (total c t) +ℤ share_of t People (pos born)) +ℤ share_of t Money (pos earned)
+      total_of Money a b g h = omega (arith, ints, a, b, g, h)
+      total_of People a b g h = omega (arith, ints, a, b, g, h)
+      total_of (Item i) a b g h =
+          let people : (2 + i == 1) ≡ false = grind (arith, nat_tests) in
+          let money : (2 + i == 0) ≡ false = grind (arith, nat_tests) in
+          ap pos (same _ _ _ _ a b g h)
+          ∙ sym (ap (λ q. (pos (total c (Item i)) +ℤ cond q (pos born) (pos 0)) +ℤ cond (2 + i == 0) (pos earned) (pos 0)) people
+          ∙ ap (λ q. (pos (total c (Item i)) +ℤ pos 0) +ℤ cond q (pos earned) (pos 0)) money ∙ zeros (total c (Item i)))
+        where
+          same : (x y z u : ℕ) → x ≡ y → y ≡ z → u + 0 ≡ total c (Item i) + 0 → z + 0 ≡ u + 0 → x ≡ total c (Item i)
+          same x y z u a b g h = omega arith
+
+          zeros : (x : ℕ) → (pos x +ℤ pos 0) +ℤ pos 0 ≡ pos x
+          zeros x = omega (arith, ints)
+
+  module _ (grid : IsGrid (things_of w) c.books) where
+    abbrev one_booked : List (List ℤ)
+    one_booked = with_booked c.books Births People (pos born)
+
+    grid_one : IsGrid (things_of w) one_booked
+    grid_one = IsGrid-with_booked (things_of w) c.books Births People (pos born) grid
+
+    growth_balances : Balances c → Balances (with_growth c n r born earned)
+    growth_balances old t =
+        total_grown t
+        ∙ ap (λ z. (z +ℤ share_of t People (pos born)) +ℤ share_of t Money (pos earned)) (old t)
+        ∙ ap (λ z. z +ℤ share_of t Money (pos earned)) (sym (booked-with_booked (things_of w) c.books Births People (pos born) grid (omega arith) t))
+        ∙ sym (booked-with_booked (things_of w) one_booked Income Money (pos earned) grid_one (omega arith) t)
+
+    growth_keeps_others : (e : Entry) (t : Thing) → season_changes e t ≡ false → amount_in (with_growth c n r born earned).books e t ≡ amount_in c.books e t
+    growth_keeps_others e t h =
+        let (births_apart, income_apart) = neither (amount_number e t == amount_number Births People) (amount_number e t == amount_number Income Money) h in
+        amount-other (things_of w) one_booked e Income t Money (pos earned) grid_one (omega arith) (differ _ _ income_apart)
+        ∙ amount-other (things_of w) c.books e Births t People (pos born) grid (omega arith) (differ _ _ births_apart)
+
+    growth_is_little : born ≤ most_amount → earned ≤ most_amount → (e : Entry) (t : Thing) → IsNear region_bound (amount_in c.books e t) (amount_in (with_growth c n r born earned).books e t)
+    growth_is_little b m e t =
+        two_near (amount_in c.books e t) (amount_in one_booked e t) (amount_in (with_booked one_booked Income Money (pos earned)) e t)
+        (near_booked _ _ born b (amount-with_booked (things_of w) c.books Births People (pos born) grid (omega arith) e t))
+        (near_booked _ _ earned m (amount-with_booked (things_of w) one_booked Income Money (pos earned) grid_one (omega arith) e t))
+
+  pub growth_leaves_well : r.peasants + born ≤ most_amount → r.money + earned ≤ most_amount → IsSteady w c → LeavesWell IsSteady season_changes region_bound w c (with_growth c n r born earned)
+  growth_leaves_well p m steady = record {
+    leaves_it = growth_steady p m steady;
+    balances = growth_balances steady.numbers.books;
+    others = growth_keeps_others steady.numbers.books;
+    little = growth_is_little steady.numbers.books (omega arith) (omega arith);
+  }
+
+-- ---- room for what is booked
+
+pub births_booked : (c : State) (born things : ℕ) → IsGrid things c.books → 2 ≤ things → born ≤ most_amount → HaveRoom region_bound c
+    → HasRoom 1000000000 (amount_in (with_booked c.books Births People (pos born)) Income Money)
+births_booked c born things grid two b room =
+    after (amount_in c.books Income Money) (amount_in (with_booked c.books Births People (pos born)) Income Money) (room Income Money)
+    (near_booked _ _ born b (amount-with_booked things c.books Births People (pos born) grid (omega arith) Income Money))
+  where
+    after : (x y : ℤ) → HasRoom region_bound x → IsNear 1000000000 x y → HasRoom 1000000000 y
+    after x y room near = record { above = omega (arith, ints, room.above, near.above); below = omega (arith, ints, room.below, near.below) }
+
+-- ---- what the growth of a region marks
+
+pub growth_marks : (things : ℕ) (c d e f g : Marked) (n peasants money born earned : ℕ)
+    → d.what ≡ with_peasants c.what n peasants → d.marks ≡ mark_region c n
+    → e.what ≡ with_region_money d.what n money → e.marks ≡ mark_region d n
+    → f.what ≡ with_amount e.what Births People (pos born) → f.marks ≡ mark_amount e Births People
+    → g.what ≡ with_amount f.what Income Money (pos earned) → g.marks ≡ mark_amount f Income Money
+    → IsGrid things c.what.books → 2 ≤ things → MarksChanges c g
+growth_marks things c d e f g n peasants money born earned d_is d_marks e_is e_marks f_is f_marks g_is g_marks grid two =
+    let d_books : d.what.books ≡ c.what.books = ap (λ (s : State). s.books) d_is in
+    let e_books : e.what.books ≡ c.what.books = ap (λ (s : State). s.books) e_is ∙ d_books in
+    let f_books : f.what.books ≡ with_booked e.what.books Births People (pos born) = ap (λ (s : State). s.books) f_is in
+    let e_grid : IsGrid things e.what.books = rw e_books grid in
+    let f_grid : IsGrid things f.what.books = rw f_books (IsGrid-with_booked things e.what.books Births People (pos born) e_grid) in
+    marks-trans c d g (marks_by c d _ d_is d_marks (marks-region (λ r. record r { peasants = peasants }) c n))
+    (marks-trans d e g (marks_by d e _ e_is e_marks (marks-region (λ r. record r { money = money }) d n))
+    (marks-trans e f g (marks_by e f _ f_is f_marks (marks-amount things e Births People (pos born) e_grid (omega arith)))
+    (marks_by f g _ g_is g_marks (marks-amount things f Income Money (pos earned) f_grid (omega arith)))))
+  where
+    marks_by : (a b m : Marked) → b.what ≡ m.what → b.marks ≡ m.marks → MarksChanges a m → MarksChanges a b
+    marks_by a b m what marks h = rw (what, marks) (record { stay = h.stay; covers = h.covers })
+
+-- ---- what the calls of a region's season need
+
+by_sign : (z : ℤ) → z ≤ℤ pos amount_limit → pos 0 ≤ℤ (z +ℤ pos amount_limit) → FitsSigned w64 z
+by_sign (pos n) most less = record { sfits = omega (arith, ints, most) }
+by_sign (negsuc n) most less = record { sfits = omega (arith, ints, less) }
+
+pub booking_fits : (x : ℤ) (n : ℕ) → n ≤ most_amount → HasRoom 1000000000 x → FitsSigned w64 (x +ℤ pos n)
+booking_fits x n l room = by_sign (x +ℤ pos n) (omega (arith, ints, room.above)) (omega (arith, ints, room.below))
+
+terrain_in : (w : Planet) (o : Option RegionPlan) (t : Terrain) → IsWorld w → option_and_then (λ (p : RegionPlan). slice_get w.terrains p.terrain) o ≡ Some t → (t.peasant_limit ≤ most_amount) × (t.money_limit ≤ most_amount)
+terrain_in w None t world is = none_some t is
+terrain_in w (Some p) t world is = let terrain = world.terrains p.terrain t is in (terrain.peasant_limit, terrain.money_limit)
+
+pub limits_fit : (w : Planet) (n : ℕ) (t : Terrain) → IsWorld w → terrain_of w n ≡ Some t → (t.peasant_limit ≤ most_amount) × (t.money_limit ≤ most_amount)
+limits_fit w n t world is = terrain_in w (get w.regions n) t world is
+
+-- ---- the season of a region, and of all
+
+pub season_at_leaves_well : (w : Planet) → IsWorld w → (c : State) (x : ℕ × ℕ) → IsSteady w c → LeavesWell IsSteady season_changes region_bound w c (season_at w c x)
+unfolding season_at
+season_at_leaves_well w world c (n, word) steady = by_terrain (terrain_of w n) refl
+  where
+    same : LeavesWell IsSteady season_changes region_bound w c c
+    same = well_within 1 region_bound w c c (omega arith) (well_unchanged w c steady)
+
+    by_region : (t : Terrain) → terrain_of w n ≡ Some t → (o : Option Region) → get c.regions n ≡ o → LeavesWell IsSteady season_changes region_bound w c (season_in w c n word (Some t) o)
+    by_region t here None is = same
+    by_region t here (Some r) is =
+        let born = births w.rules.growth t.peasant_limit word r.peasants in
+        let (peasant_limit, money_limit) = limits_fit w n t world here in
+        let (peasants, money) = steady.numbers.regions n r is in
+        growth_leaves_well w c n r born (income w.rules.income t.money_limit (r.peasants + born) r.money) is
+        (births_fit w.rules.growth t.peasant_limit word r.peasants peasant_limit peasants)
+        (income_fits w.rules.income t.money_limit (r.peasants + born) r.money money_limit money) steady
+
+    by_terrain : (o : Option Terrain) → terrain_of w n ≡ o → LeavesWell IsSteady season_changes region_bound w c (season_in w c n word o (get c.regions n))
+    by_terrain None is = same
+    by_terrain (Some t) is = by_region t is (get c.regions n) refl
+
+length-zip : {A B : Type 0} (xs : List A) (ys : List B) → length (zip xs ys) ≤ length xs
+length-zip [] ys = omega arith
+length-zip (x ∷ xs) [] = omega arith
+length-zip (x ∷ xs) (y ∷ ys) = omega (arith, length-zip xs ys)
+
+pub season_leaves_well : (w : Planet) → IsWorld w → (c : State) (words : List ℕ) → IsSteady w c → LeavesWell IsSteady season_changes most_change w c (season w c words)
+season_leaves_well w world c words steady =
+    let numbers = map (λ (e : ℕ × RegionPlan). e.0) (entries w.regions) in
+    let pairs = zip numbers words in
+    let few : length pairs ≤ 2500 = omega (arith, length-zip numbers words, length-map (entries w.regions) (λ (e : ℕ × RegionPlan). e.0), len-entries w.regions, world.few_regions) in
+    well_within (1 + length pairs * region_bound) most_change w c (season w c words) (omega (arith, few))
+    (fold_leaves_well region_bound w (season_at w) (season_at_leaves_well w world) c pairs steady)
+
+-- ---- the loop over the regions
+
+pub season_goes_on : (w : Planet) (c d all : State) (regions rest : List (ℕ × RegionPlan)) (words tail : List ℕ) (n word : ℕ) (plan : RegionPlan)
+    → regions ≡ (n, plan) ∷ rest → words ≡ word ∷ tail → d ≡ season_at w c (n, word)
+    → fold (season_at w) c (zip (map (λ e. e.0) regions) words) ≡ all → fold (season_at w) d (zip (map (λ e. e.0) rest) tail) ≡ all
+season_goes_on w c d all regions rest words tail n word plan listed given is whole =
+    ap (λ s. fold (season_at w) s (zip (map (λ (e : ℕ × RegionPlan). e.0) rest) tail)) is
+    ∙ sym (ap (λ l. fold (season_at w) c (zip (map (λ (e : ℕ × RegionPlan). e.0) l) words)) listed ∙ ap (λ ws. fold (season_at w) c (zip (n ∷ map (λ (e : ℕ × RegionPlan). e.0) rest) ws)) given)
+    ∙ whole
+
+pub room_goes_on : (w : Planet) → IsWorld w → (c d : State) (regions rest : List (ℕ × RegionPlan)) (n word : ℕ) (plan : RegionPlan)
+    → regions ≡ (n, plan) ∷ rest → d ≡ season_at w c (n, word) → IsSteady w c → HaveRoom (length regions * region_bound) c → HaveRoom (length rest * region_bound) d
+room_goes_on w world c d regions rest n word plan listed is steady room =
+    let all : region_bound + length rest * region_bound ≤ length regions * region_bound = omega (arith, ap length listed) in
+    let well = season_at_leaves_well w world c (n, word) steady in
+    rw is (room_behind region_bound (length rest * region_bound) w c (season_at w c (n, word)) well (room_less (region_bound + length rest * region_bound) (length regions * region_bound) c all room))

@@ -1,0 +1,5 @@
+use Rattle.atl_month.proofs.SeasonLaws.{season_leaves_well}
+use Rattle.atl_month.proofs.season.SeasonPhasePhase.run.Goals as goal
+
+pub returns-clause-leaves : goal.returns-clause-leaves
+returns-clause-leaves c = rw (c.turn_regions.ensures.what, c.words.ensures) (season_leaves_well c.args.world.now c.turn_regions.ensures.world c.args.campaign.what c.args.month.words c.requires.needs)

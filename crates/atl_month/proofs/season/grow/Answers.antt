@@ -1,0 +1,35 @@
+use Rattle.std.proofs.Common.{◌≡◌, ◌+◌, arith, rules, pos, to_z, of_z, w64}
+use Rattle.std.proofs.lemmas.Int.{to_z-of_z}
+use Rattle.atl_state.specs.declared.books.Entry.TheVariants.{Births}
+use Rattle.atl_state.specs.declared.books.Thing.TheVariants.{People}
+use Rattle.atl_state.specs.Books.{amount_in}
+use Rattle.atl_month.specs.Season.{region_bound}
+use Rattle.atl_instant.proofs.MeaningLaws.{room_less}
+use Rattle.atl_month.proofs.SeasonLaws.{births_booked, booking_fits, growth_marks}
+use Rattle.atl_month.proofs.season.grow.Goals as goal
+
+pub book-requires-clause-fits : goal.book-requires-clause-fits
+book-requires-clause-fits c =
+    let same : to_z w64 (of_z w64 c.from.result) ≡ c.from.result = search (rules, to_z-of_z) in
+    let before = c.args.campaign.now.what in
+    rw (same, c.from.ensures, c.set_region_money.ensures.what, c.set_peasants.ensures.what)
+    (booking_fits (amount_in before.books Births People) c.args.born (omega (arith, c.requires.peasants)) (room_less 1000000000 region_bound before (omega arith) c.requires.room Births People))
+
+pub book-requires-2-clause-fits : goal.book-requires-2-clause-fits
+book-requires-2-clause-fits c =
+    let one : to_z w64 (of_z w64 c.from.result) ≡ c.from.result = search (rules, to_z-of_z) in
+    let same : to_z w64 (of_z w64 c.from-2.result) ≡ c.from-2.result = search (rules, to_z-of_z) in
+    let before = c.args.campaign.now.what in
+    let (things, two, grid) = c.requires.grid in
+    rw (same, c.from-2.ensures, c.book.ensures.what, one, c.from.ensures, c.set_region_money.ensures.what, c.set_peasants.ensures.what)
+    (booking_fits _ c.args.earned (omega (arith, c.requires.money))
+    (births_booked before c.args.born things grid two (omega (arith, c.requires.peasants)) c.requires.room))
+
+pub returns-clause-marks : goal.returns-clause-marks
+returns-clause-marks c =
+    let one : to_z w64 (of_z w64 c.from.result) ≡ pos c.args.born = search (rules, c.from.ensures) in
+    let second : to_z w64 (of_z w64 c.from-2.result) ≡ pos c.args.earned = search (rules, c.from-2.ensures) in
+    let (things, two, grid) = c.requires.grid in
+    growth_marks things c.args.campaign.now c.set_peasants.new.self c.set_region_money.new.self c.book.new.self c.book-2.new.self c.args.number (c.args.region.peasants + c.args.born) (c.args.region.money + c.args.earned) c.args.born c.args.earned
+    c.set_peasants.ensures.what c.set_peasants.ensures.marks c.set_region_money.ensures.what c.set_region_money.ensures.marks
+    (rw one at c.book.ensures.what) c.book.ensures.marks (rw second at c.book-2.ensures.what) c.book-2.ensures.marks grid two

@@ -1,0 +1,46 @@
+use Rattle.std.proofs.Common.{◌≡◌, ◌+◌, ◌*◌, ◌≤◌, ◌∷◌, ◌∙◌, ap, arith, drop, length, map, rules, sym}
+use Rattle.std.specs.Prelude.{fold, zip}
+use Rattle.std.proofs.lemmas.List.{drop_more}
+use Rattle.std.specs.FinMap.{entries, len-entries}
+use Rattle.atl_state.proofs.CoverLaws.{marks-refl, marks-trans}
+use Rattle.atl_instant.specs.Meaning.{most_change}
+use Rattle.atl_instant.proofs.MeaningLaws.{room_less}
+use Rattle.atl_month.specs.Season.{region_bound, season_at}
+use Rattle.atl_month.proofs.SeasonLaws.{room_goes_on, season_at_leaves_well, season_goes_on}
+use Rattle.atl_month.proofs.season.turn_regions.Goals as goal
+
+pub loop-number-init : goal.loop-number-init
+loop-number-init c =
+    let listed : c.into_iter-number-iterator.result ≡ entries c.args.world.now.regions = search rules in
+    let few : length c.into_iter-number-iterator.result ≤ 2500 = omega (arith, ap length listed, len-entries c.args.world.now.regions, c.regions.ensures.world.few_regions) in (
+      tt,
+      tt,
+      ap (λ l. fold (season_at c.args.world.now) c.args.campaign.now.what (zip (map (λ e. e.0) l) c.args.words.now)) listed,
+      c.requires.steady,
+      room_less (length c.into_iter-number-iterator.result * region_bound) most_change c.args.campaign.now.what (omega (arith, few)) c.requires.room,
+      marks-refl c.args.campaign.now,
+    )
+
+pub loop-number-preserved : goal.loop-number-preserved
+loop-number-preserved c =
+    let w = c.args.world.now in
+    let world = c.regions.ensures.world in
+    let before = c.loop-number.campaign.what in
+    let after = c.turn_region.new.campaign.what in
+    let regions = c.loop-number.number-iterator in
+    let n = c.in-Some.number in
+    let word = c.in-Some-get.word.now in
+    let (_, _, whole, steady, room, marks) = c.loop-number.invariant in
+    let listed : regions ≡ (n, c.in-Some.field-0-1.now) ∷ c.next.new.self = search rules in
+    let words = c.args.words.now in
+    let place = c.loop-number.place in
+    let (there, at) = c.in-Some-get.ensures.lookup.3 in
+    let given : drop place words ≡ word ∷ drop (place + 1) words = drop_more words place 0 there ∙ ap (λ x. x ∷ drop (place + 1) words) (sym (at 0)) in
+    let is : after ≡ season_at w before (n, word) = c.turn_region.ensures.what in (
+      tt,
+      tt,
+      season_goes_on w before after _ regions c.next.new.self (drop place words) (drop (place + 1) words) n word c.in-Some.field-0-1.now listed given is whole,
+      rw is (season_at_leaves_well w world before (n, word) steady).leaves_it,
+      room_goes_on w world before after regions c.next.new.self n word c.in-Some.field-0-1.now listed is steady room,
+      marks-trans c.args.campaign.now c.loop-number.campaign c.turn_region.new.campaign marks c.turn_region.ensures.marks,
+    )
