@@ -1,5 +1,5 @@
 -- Laws of what units get of the pots of their regions.
-use Rattle.std.proofs.Common.{◌≡◌, ℕ, ◌<◌, ◌≤◌, ◌==◌, ◌||◌, zero, suc, Bool, true, false, cond, List, [], ◌∷◌, ◌++◌, length, get_or, map, filter, sum, min, Option, Some, None, is_some, refl, sym, ap, subst, ◌∙◌, arith, T}
+use Rattle.std.proofs.Common.{◌≡◌, ℕ, ◌<◌, ◌≤◌, ◌==◌, ◌||◌, zero, suc, Bool, true, false, cond, List, [], ◌∷◌, ◌++◌, length, get_or, map, filter, sum, Option, Some, None, is_some, refl, sym, ap, subst, ◌∙◌, arith, T}
 use Rattle.std.specs.Prelude.{⊤, unwrap_or}
 use Rattle.std.specs.declared.cmp.Ordering.{Ordering}
 use Rattle.std.specs.declared.cmp.Ordering.TheVariants.{Less, Equal, Greater}
@@ -17,11 +17,12 @@ use Rattle.atl_tables.proofs.MadeLaws.{is_less}
 use Rattle.atl_tables.proofs.SumLaws.{chosen-cons}
 use Rattle.atl_state.specs.Good.{IsThere}
 use Rattle.atl_state.specs.State.{State, numbers_in}
+use Rattle.atl_state.specs.declared.records.Region.{Region}
 use Rattle.atl_state.specs.declared.records.Unit.{Unit}
 use Rattle.atl_state.proofs.EveryLaws.{none_some, first, later}
 use Rattle.atl_state.proofs.OrderLaws.{each_so}
 use Rattle.atl_market.specs.Share.{shares}
-use Rattle.atl_market.specs.Pots.{want_of, takers_among, takers_in, wants_in, shares_in, pot_shares, with_each, share_of, amount_given, OnlyTakersGet, EachTakerGets, SharesEachPot, GivesEachPot, OtherRegionsDoNotCount}
+use Rattle.atl_market.specs.Pots.{want_of, takers_in, wants_in, shares_in, pot_shares, with_each, share_of, OnlyTakersGet, EachTakerGets, SharesEachPot, GivesEachPot, OtherRegionsDoNotCount}
 use Rattle.atl_market.proofs.ShareLaws.{all_is_given, share_at_most, length-shares}
 
 abbrev Entries : Type 0
@@ -169,7 +170,7 @@ module _ (f : ℕ → Entries) where
         ] refl
 
     -- in whatever order the entries are put
-    pub with_each-from_entries : ((n : ℕ) → GivesOne n) → (rs : List ℕ) → with_each empty (from_all rs) ≡ from_entries (from_all rs)
+    with_each-from_entries : ((n : ℕ) → GivesOne n) → (rs : List ℕ) → with_each empty (from_all rs) ≡ from_entries (from_all rs)
     with_each-from_entries one rs = same_map nat_cmp_total nat_cmp-IsAntisymmetric _ _ (λ n.
         elim (find nat_cmp n (from_all rs)) as (λ o. find nat_cmp n (from_all rs) ≡ o → get (with_each empty (from_all rs)) n ≡ o) [
           | None ↦ λ e. left empty (from_all rs) n e ∙ get-empty nat_cmp n
@@ -345,13 +346,20 @@ module _ (pot_of : ℕ → ℕ) (wants : FinMap nat_cmp ℕ) (units : FinMap nat
       cc
 
   -- the shares that were put in turn
-  pub put_all : (rs : List ℕ) → with_each empty (flat_map given_in rs) ≡ from_entries (flat_map given_in rs)
+  put_all : (rs : List ℕ) → with_each empty (flat_map given_in rs) ≡ from_entries (flat_map given_in rs)
   put_all rs = with_each-from_entries given_in given_apart gives_one rs
 
 module _ (pot_of : ℕ → ℕ) (wants : FinMap nat_cmp ℕ) (c : State) where
-  pub put_is : with_each empty (flat_map (shares_in pot_of wants c.units) (keys c.regions)) ≡ pot_shares pot_of wants c
+  put_is : with_each empty (flat_map (shares_in pot_of wants c.units) (keys c.regions)) ≡ pot_shares pot_of wants c
   unfolding pot_shares
   put_is = put_all pot_of wants c.units (keys c.regions)
+
+  -- once no region is left to come
+  pub all_put : (given : FinMap nat_cmp ℕ) (coming : List (ℕ × Region)) → coming ≡ []
+      → with_each given (flat_map (shares_in pot_of wants c.units) (map (λ e. e.0) coming)) ≡ with_each empty (flat_map (shares_in pot_of wants c.units) (keys c.regions))
+      → given ≡ pot_shares pot_of wants c
+  all_put given [] none so_far = so_far ∙ put_is
+  all_put given (e ∷ coming) none so_far = cc
 
   found_is : (n : ℕ) → share_of pot_of wants c n ≡ find nat_cmp n (flat_map (shares_in pot_of wants c.units) (keys c.regions))
   unfolding pot_shares
@@ -364,12 +372,6 @@ module _ (pot_of : ℕ → ℕ) (wants : FinMap nat_cmp ℕ) (c : State) where
   given_is r n s region is = found_is n ∙ there (shares_in pot_of wants c.units) n r s (gives_one pot_of wants c.units n) is (keys c.regions) (among r region)
 
 -- ---- the laws
-
-pub only_takers_get : OnlyTakersGet
-only_takers_get pot_of wants c n s is =
-    let (r, region, given) = somewhere (shares_in pot_of wants c.units) n s (keys c.regions) (sym (found_is pot_of wants c n) ∙ is) in
-    let ((u, at, here), want) = given_takes pot_of wants c.units r n s given in
-    (want, u, at, subst (IsThere c.regions) (sym here) (is_there (get c.regions r) (contains_key-keys c.regions r ∙ region)))
 
 pub shares_each_pot : SharesEachPot
 shares_each_pot pot_of wants c r region =
@@ -390,6 +392,15 @@ each_taker_gets pot_of wants c n want u wanted is region =
     ∙ ap (λ os. get_or os i None) (shares_each_pot pot_of wants c r region) ∙ get_or-map Some given i 0 None (omega arith) in
     let amount : get_or (wants_in wants c.units r) i 0 ≡ want = get_or-map (want_of wants) takers i 0 0 low ∙ ap (want_of wants) at ∙ ap (λ o. unwrap_or o 0) wanted in
     (get_or given i 0, share, subst (λ w. get_or given i 0 ≤ w) amount (share_at_most (pot_of r) (wants_in wants c.units r) i))
+
+pub only_takers_get : OnlyTakersGet
+only_takers_get pot_of wants c n s is =
+    let (r, region, given) = somewhere (shares_in pot_of wants c.units) n s (keys c.regions) (sym (found_is pot_of wants c n) ∙ is) in
+    let ((u, at, here), (want, wanted)) = given_takes pot_of wants c.units r n s given in
+    let stands : IsThere c.regions u.region = subst (IsThere c.regions) (sym here) (is_there (get c.regions r) (contains_key-keys c.regions r ∙ region)) in
+    let (t, also, low) = each_taker_gets pot_of wants c n want u wanted at stands in
+    let same : t ≡ s = cc in
+    (want, u, wanted, subst (λ k. k ≤ want) same low, at, stands)
 
 amounts : (g : ℕ → Option ℕ) (ns ss : List ℕ) → map g ns ≡ map Some ss → map (λ n. unwrap_or (g n) 0) ns ≡ ss
 amounts g ns ss h = mapped ns ∙ ap (map (λ o. unwrap_or o 0)) h ∙ back ss

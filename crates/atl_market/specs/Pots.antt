@@ -4,14 +4,14 @@ use Rattle.std.specs.List.{flat_map, fold, zip}
 use Rattle.std.specs.Ordering.{nat_cmp}
 use Rattle.std.specs.FinMap.{FinMap, get, insert, keys, from_entries}
 use Rattle.atl_tables.specs.Limits.{most_amount}
-use Rattle.atl_state.specs.Good.{IsThere}
+use Rattle.atl_state.specs.Good.{Every, IsThere}
 use Rattle.atl_state.specs.State.{State, numbers_in}
 use Rattle.atl_state.specs.declared.records.Unit.{Unit}
 use Rattle.atl_market.specs.Share.{shares}
 
--- wants by unit: no more than a pot can hold
+-- each want is at most the largest amount
 abbrev pub AreWants : FinMap nat_cmp ℕ → Type 0
-AreWants wants = (number want : ℕ) → get wants number ≡ Some want → want ≤ most_amount
+AreWants wants = Every (λ number want. want ≤ most_amount) wants
 
 -- what a unit wants
 abbrev pub want_of : FinMap nat_cmp ℕ → ℕ → ℕ
@@ -52,14 +52,18 @@ module _ (pot_of : ℕ → ℕ) (wants : FinMap nat_cmp ℕ) (c : State) where
   abbrev pub amount_given : ℕ → ℕ
   amount_given number = unwrap_or (share_of number) 0
 
--- who gets something has a want and stands in a region of the campaign
+-- who gets something wants that much at least, and stands in a region of the campaign
 abbrev pub OnlyTakersGet : Type 0
 OnlyTakersGet =
     (pot_of : ℕ → ℕ) (wants : FinMap nat_cmp ℕ) (c : State) (number share : ℕ)
     → share_of pot_of wants c number ≡ Some share
-    → IsThere wants number × (u : Unit) × (get c.units number ≡ Some u) × IsThere c.regions u.region
+    → (want : ℕ) × (u : Unit)
+    × (get wants number ≡ Some want)
+    × (share ≤ want)
+    × (get c.units number ≡ Some u)
+    × IsThere c.regions u.region
 
--- and each of those gets a share, at most its want
+-- who has a want and stands in a region of the campaign gets a share, at most its want
 abbrev pub EachTakerGets : Type 0
 EachTakerGets =
     (pot_of : ℕ → ℕ) (wants : FinMap nat_cmp ℕ) (c : State) (number want : ℕ) (u : Unit)

@@ -113,8 +113,8 @@ pub fn pot_shares<P: Pots>(
     Ok(given)
 }
 
-/// Does nothing. Its clauses are the laws of who gets something: who has no want, or stands in no region of the campaign,
-/// gets nothing; and everyone else gets a share, at most what it wants.
+/// Does nothing. Its clauses are the laws of who gets something: only units that have a want and stand in a region of the
+/// campaign do, each of them does, and none gets more than it wants.
 pub fn takers_alone_get()
     ensures only { OnlyTakersGet }
     ensures each { EachTakerGets }

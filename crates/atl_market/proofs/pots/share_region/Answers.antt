@@ -1,7 +1,7 @@
 use Rattle.std.proofs.Common.{◌≡◌, List, [], ◌∷◌, map, length, refl, sym, ◌∙◌, ap, rules, arith}
 use Rattle.std.proofs.lemmas.List.{length-map}
 use Rattle.std.specs.List.{zip}
-use Rattle.atl_market.specs.Pots.{takers_in, want_of, with_each, wants_in}
+use Rattle.atl_market.specs.Pots.{takers_in, want_of, with_each}
 use Rattle.atl_market.specs.Share.{shares}
 use Rattle.atl_market.proofs.ShareLaws.{length-shares}
 use Rattle.atl_market.proofs.pots.share_region.Goals as goal
