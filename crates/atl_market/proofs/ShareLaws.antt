@@ -105,6 +105,12 @@ pub length-shares_behind : (pot total before : ℕ) (wants : List ℕ) → lengt
 length-shares_behind pot total before [] = refl
 length-shares_behind pot total before (w ∷ ws) = ap suc (length-shares_behind pot total (before + w) ws)
 
+pub length-shares : (pot : ℕ) (wants : List ℕ) → length (shares pot wants) ≡ length wants
+length-shares pot wants = elim (cases_lt pot (sum wants)) [
+  | inl h ↦ ap length (shares-short pot wants h) ∙ length-shares_behind pot (sum wants) 0 wants
+  | inr h ↦ ap length (shares-enough pot wants h)
+]
+
 sum-split : (ahead parts behind : List ℕ) → sum (ahead ++ parts ++ behind) ≡ sum (ahead ++ sum parts ∷ behind)
 sum-split ahead parts behind =
     let one : sum (ahead ++ parts ++ behind) ≡ sum (ahead ++ parts) + sum behind = sum_by-append (λ x. x) (ahead ++ parts) behind in

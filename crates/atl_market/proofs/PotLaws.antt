@@ -1,0 +1,425 @@
+-- Laws of what units get of the pots of their regions.
+use Rattle.std.proofs.Common.{◌≡◌, ℕ, ◌<◌, ◌≤◌, ◌==◌, ◌||◌, zero, suc, Bool, true, false, cond, List, [], ◌∷◌, ◌++◌, length, get_or, map, filter, sum, Option, Some, None, is_some, refl, sym, ap, subst, ◌∙◌, arith, T}
+use Rattle.std.specs.Prelude.{⊤, unwrap_or}
+use Rattle.std.specs.declared.cmp.Ordering.{Ordering}
+use Rattle.std.specs.declared.cmp.Ordering.TheVariants.{Less, Equal, Greater}
+use Rattle.std.specs.List.{AllByRecursion, flat_map, list_any, zip}
+use Rattle.std.specs.Ordering.{nat_cmp, is_eq, eq_by_cmp}
+use Rattle.std.specs.Cmp.{nat_cmp_total, ranked}
+use Rattle.std.specs.FinMap.Entries.{below_all}
+use Rattle.std.specs.FinMap.{FinMap, get, insert, find, empty, entries, keys, from_entries, contains_key-keys, is_sorted, entries_sorted, get-entries, get-empty, get-insert, get-from_entries, same_map, nat_cmp-IsAntisymmetric}
+use Rattle.std.proofs.lemmas.Bool.{and_parts, false≢true}
+use Rattle.std.proofs.lemmas.Bool.Decides.{nat_tests}
+use Rattle.std.proofs.lemmas.List.{get_or-map, length-map}
+use Rattle.std.proofs.lemmas.List.Sums.{fold-append}
+use Rattle.atl_tables.specs.Sums.{numbers_among}
+use Rattle.atl_tables.proofs.MadeLaws.{is_less}
+use Rattle.atl_tables.proofs.SumLaws.{chosen-cons}
+use Rattle.atl_state.specs.Good.{IsThere}
+use Rattle.atl_state.specs.State.{State, numbers_in}
+use Rattle.atl_state.specs.declared.records.Region.{Region}
+use Rattle.atl_state.specs.declared.records.Unit.{Unit}
+use Rattle.atl_state.proofs.EveryLaws.{none_some, first, later}
+use Rattle.atl_state.proofs.OrderLaws.{each_so}
+use Rattle.atl_market.specs.Share.{shares}
+use Rattle.atl_market.specs.Pots.{want_of, takers_in, wants_in, shares_in, pot_shares, with_each, share_of, OnlyTakersGet, EachTakerGets, SharesEachPot, GivesEachPot, OtherRegionsDoNotCount}
+use Rattle.atl_market.proofs.ShareLaws.{all_is_given, share_at_most, length-shares}
+
+abbrev Entries : Type 0
+Entries = List (ℕ × ℕ)
+
+refuted : {X : Type 0} (o : Option X) → ((x : X) → o ≡ Some x → ⊥) → o ≡ None
+refuted None h = refl
+refuted (Some x) h = absurd (h x refl)
+
+not_itself : (n : ℕ) {P : Type 0} → nat_cmp n n ≡ Less → P
+not_itself n e = let l = ranked n n Less (sym e) in absurd (omega arith)
+
+or_first : (a b : Bool) → a ≡ true → (a || b) ≡ true
+or_first true b h = refl
+or_first false b h = absurd (false≢true h)
+
+or_later : (a b : Bool) → b ≡ true → (a || b) ≡ true
+or_later true b h = refl
+or_later false b h = h
+
+not_first : (o : Ordering) (b : Bool) → (o ≡ Equal → ⊥) → (is_eq o || b) ≡ true → b ≡ true
+not_first Less b n h = h
+not_first Equal b n h = absurd (n refl)
+not_first Greater b n h = h
+
+same_key : (k : ℕ) → eq_by_cmp nat_cmp k k ≡ true
+same_key k = elim (nat_cmp k k) as (λ o. nat_cmp k k ≡ o → is_eq o ≡ true) [
+  | Less ↦ λ e. not_itself k e
+  | Equal ↦ λ _. refl
+  | Greater ↦ λ e. let l = ranked k k Greater (sym e) in absurd (omega arith)
+] refl
+
+is_there : {X : Type 0} (o : Option X) → is_some o ≡ true → (x : X) × (o ≡ Some x)
+is_there None h = absurd (false≢true h)
+is_there (Some x) h = (x, refl)
+
+-- ---- what is found under a number
+
+found_first : (n : ℕ) (es fs : Entries) (s : ℕ) → find nat_cmp n es ≡ Some s → find nat_cmp n (es ++ fs) ≡ Some s
+found_first n [] fs s h = none_some s h
+found_first n (e ∷ es) fs s h =
+    elim (is_eq (nat_cmp n e.0)) as (λ b. cond b (Some e.1) (find nat_cmp n es) ≡ Some s → cond b (Some e.1) (find nat_cmp n (es ++ fs)) ≡ Some s) [
+      | true ↦ λ g. g
+      | false ↦ found_first n es fs s
+    ] h
+
+found_later : (n : ℕ) (es fs : Entries) → find nat_cmp n es ≡ None → find nat_cmp n (es ++ fs) ≡ find nat_cmp n fs
+found_later n [] fs h = refl
+found_later n (e ∷ es) fs h =
+    elim (is_eq (nat_cmp n e.0)) as (λ b. cond b (Some e.1) (find nat_cmp n es) ≡ None → cond b (Some e.1) (find nat_cmp n (es ++ fs)) ≡ find nat_cmp n fs) [
+      | true ↦ λ g. none_some e.1 (sym g)
+      | false ↦ found_later n es fs
+    ] h
+
+-- no number stands twice
+abbrev IsApart : Entries → Type 0
+IsApart [] = ⊤
+IsApart (e ∷ es) = (find nat_cmp e.0 es ≡ None) × IsApart es
+
+found_head : (e : ℕ × ℕ) (es : Entries) → find nat_cmp e.0 (e ∷ es) ≡ Some e.1
+found_head e es =
+    elim (nat_cmp e.0 e.0) as (λ o. nat_cmp e.0 e.0 ≡ o → cond (is_eq o) (Some e.1) (find nat_cmp e.0 es) ≡ Some e.1) [
+      | Less ↦ λ o. not_itself e.0 o
+      | Equal ↦ λ _. refl
+      | Greater ↦ λ o. let l = ranked e.0 e.0 Greater (sym o) in absurd (omega arith)
+    ] refl
+
+found_tail : (e : ℕ × ℕ) (es : Entries) (n s : ℕ) → IsApart (e ∷ es) → find nat_cmp n es ≡ Some s → find nat_cmp n (e ∷ es) ≡ Some s
+found_tail e es n s apart is =
+    elim (nat_cmp n e.0) as (λ o. nat_cmp n e.0 ≡ o → cond (is_eq o) (Some e.1) (find nat_cmp n es) ≡ Some s) [
+      | Less ↦ λ _. is
+      | Equal ↦ λ o. none_some s (sym apart.0 ∙ ap (λ k. find nat_cmp k es) (sym (nat_cmp-IsAntisymmetric n e.0 o)) ∙ is)
+      | Greater ↦ λ _. is
+    ] refl
+
+-- ---- entries put in turn
+
+left : (m : FinMap nat_cmp ℕ) (es : Entries) (n : ℕ) → find nat_cmp n es ≡ None → get (with_each m es) n ≡ get m n
+left m [] n h = refl
+left m (e ∷ es) n h =
+    elim (eq_by_cmp nat_cmp n e.0) as (λ b. get (insert m e.0 e.1) n ≡ cond b (Some e.1) (get m n) → cond b (Some e.1) (find nat_cmp n es) ≡ None → get (with_each (insert m e.0 e.1) es) n ≡ get m n) [
+      | true ↦ λ g none. none_some e.1 (sym none)
+      | false ↦ λ g none. left (insert m e.0 e.1) es n none ∙ g
+    ] (get-insert nat_cmp_total m e.0 e.1 n) h
+
+put : (m : FinMap nat_cmp ℕ) (es : Entries) (n s : ℕ) → IsApart es → find nat_cmp n es ≡ Some s → get (with_each m es) n ≡ Some s
+put m [] n s apart h = none_some s h
+put m (e ∷ es) n s apart h =
+    let more = insert m e.0 e.1 in
+    elim (nat_cmp n e.0) as (λ o. nat_cmp n e.0 ≡ o → get more n ≡ cond (is_eq o) (Some e.1) (get m n) → cond (is_eq o) (Some e.1) (find nat_cmp n es) ≡ Some s → get (with_each more es) n ≡ Some s) [
+      | Less ↦ λ _ _ is. put more es n s apart.1 is
+      | Equal ↦ λ o g is. left more es n (ap (λ k. find nat_cmp k es) (nat_cmp-IsAntisymmetric n e.0 o) ∙ apart.0) ∙ g ∙ is
+      | Greater ↦ λ _ _ is. put more es n s apart.1 is
+    ] refl (get-insert nat_cmp_total m e.0 e.1 n) h
+
+-- ---- entries that regions give, where a number gets one share at most
+
+module _ (f : ℕ → Entries) where
+  abbrev from_all : List ℕ → Entries
+  from_all rs = flat_map f rs
+
+  abbrev GivesOne : ℕ → Type 0
+  GivesOne n = (q r s t : ℕ) → find nat_cmp n (f q) ≡ Some s → find nat_cmp n (f r) ≡ Some t → s ≡ t
+
+  nowhere : (n : ℕ) → ((r : ℕ) → find nat_cmp n (f r) ≡ None) → (rs : List ℕ) → find nat_cmp n (from_all rs) ≡ None
+  nowhere n none [] = refl
+  nowhere n none (r ∷ rs) = found_later n (f r) (from_all rs) (none r) ∙ nowhere n none rs
+
+  -- who gets a share gets it in some region
+  somewhere : (n s : ℕ) (rs : List ℕ) → find nat_cmp n (from_all rs) ≡ Some s → (r : ℕ) × (list_any (eq_by_cmp nat_cmp r) rs ≡ true) × (find nat_cmp n (f r) ≡ Some s)
+  somewhere n s [] h = none_some s h
+  somewhere n s (r ∷ rs) h =
+      elim (find nat_cmp n (f r)) as (λ o. find nat_cmp n (f r) ≡ o → (q : ℕ) × (list_any (eq_by_cmp nat_cmp q) (r ∷ rs) ≡ true) × (find nat_cmp n (f q) ≡ Some s)) [
+        | None ↦ λ e. let (q, among, is) = somewhere n s rs (sym (found_later n (f r) (from_all rs) e) ∙ h) in (q, or_later (eq_by_cmp nat_cmp q r) _ among, is)
+        | Some t ↦ λ e. (r, or_first (eq_by_cmp nat_cmp r r) _ (same_key r), e ∙ sym (found_first n (f r) (from_all rs) t e) ∙ h)
+      ] refl
+
+  -- and the other way
+  there : (n r s : ℕ) → GivesOne n → find nat_cmp n (f r) ≡ Some s → (rs : List ℕ) → list_any (eq_by_cmp nat_cmp r) rs ≡ true → find nat_cmp n (from_all rs) ≡ Some s
+  there n r s one here [] h = absurd (false≢true h)
+  there n r s one here (q ∷ rs) h =
+      elim (find nat_cmp n (f q)) as (λ o. find nat_cmp n (f q) ≡ o → find nat_cmp n (from_all (q ∷ rs)) ≡ Some s) [
+        | None ↦ λ e. found_later n (f q) (from_all rs) e ∙ there n r s one here rs (not_first (nat_cmp r q) _ (λ o. none_some s (sym e ∙ ap (λ k. find nat_cmp n (f k)) (sym (nat_cmp-IsAntisymmetric r q o)) ∙ here)) h)
+        | Some t ↦ λ e. found_first n (f q) (from_all rs) t e ∙ ap Some (one q r t s e here)
+      ] refl
+
+  module _ (apart : (r : ℕ) → IsApart (f r)) where
+    with_all : (m : FinMap nat_cmp ℕ) (r : ℕ) (rs : List ℕ) → with_each m (from_all (r ∷ rs)) ≡ with_each (with_each m (f r)) (from_all rs)
+    with_all m r rs = fold-append (λ so_far entry. insert so_far entry.0 entry.1) m (f r) (from_all rs)
+
+    stays : (m : FinMap nat_cmp ℕ) (n s : ℕ) → ((r t : ℕ) → find nat_cmp n (f r) ≡ Some t → t ≡ s) → get m n ≡ Some s → (rs : List ℕ) → get (with_each m (from_all rs)) n ≡ Some s
+    stays m n s same is [] = is
+    stays m n s same is (r ∷ rs) =
+        ap (λ k. get k n) (with_all m r rs) ∙ stays (with_each m (f r)) n s same (elim (find nat_cmp n (f r)) as (λ o. find nat_cmp n (f r) ≡ o → get (with_each m (f r)) n ≡ Some s) [
+          | None ↦ λ e. left m (f r) n e ∙ is
+          | Some t ↦ λ e. put m (f r) n t (apart r) e ∙ ap Some (same r t e)
+        ] refl) rs
+
+    comes : (m : FinMap nat_cmp ℕ) (n s : ℕ) → GivesOne n → (rs : List ℕ) → find nat_cmp n (from_all rs) ≡ Some s → get (with_each m (from_all rs)) n ≡ Some s
+    comes m n s one [] h = none_some s h
+    comes m n s one (r ∷ rs) h =
+        ap (λ k. get k n) (with_all m r rs) ∙ elim (find nat_cmp n (f r)) as (λ o. find nat_cmp n (f r) ≡ o → get (with_each (with_each m (f r)) (from_all rs)) n ≡ Some s) [
+          | None ↦ λ e. comes (with_each m (f r)) n s one rs (sym (found_later n (f r) (from_all rs) e) ∙ h)
+          | Some t ↦ λ e. stays (with_each m (f r)) n t (λ q u is. one q r u t is e) (put m (f r) n t (apart r) e) rs ∙ sym (found_first n (f r) (from_all rs) t e) ∙ h
+        ] refl
+
+    -- in whatever order the entries are put
+    with_each-from_entries : ((n : ℕ) → GivesOne n) → (rs : List ℕ) → with_each empty (from_all rs) ≡ from_entries (from_all rs)
+    with_each-from_entries one rs = same_map nat_cmp_total nat_cmp-IsAntisymmetric _ _ (λ n.
+        elim (find nat_cmp n (from_all rs)) as (λ o. find nat_cmp n (from_all rs) ≡ o → get (with_each empty (from_all rs)) n ≡ o) [
+          | None ↦ λ e. left empty (from_all rs) n e ∙ get-empty nat_cmp n
+          | Some s ↦ λ e. comes empty n s (one n) rs e
+        ] refl
+        ∙ sym (get-from_entries nat_cmp_total (from_all rs) n))
+
+-- ---- numbers beside amounts
+
+zip_found : (P : ℕ → Type 0) (ns ss : List ℕ) (n s : ℕ) → AllByRecursion P ns → find nat_cmp n (zip ns ss) ≡ Some s → P n
+zip_found P [] ss n s h is = none_some s is
+zip_found P (k ∷ ns) [] n s h is = none_some s is
+zip_found P (k ∷ ns) (t ∷ ss) n s h is =
+    elim (nat_cmp n k) as (λ o. nat_cmp n k ≡ o → cond (is_eq o) (Some t) (find nat_cmp n (zip ns ss)) ≡ Some s → P n) [
+      | Less ↦ λ _. zip_found P ns ss n s h.1
+      | Equal ↦ λ o _. subst P (sym (nat_cmp-IsAntisymmetric n k o)) h.0
+      | Greater ↦ λ _. zip_found P ns ss n s h.1
+    ] refl is
+
+-- numbers that rise
+abbrev IsRisen : List ℕ → Type 0
+IsRisen [] = ⊤
+IsRisen (n ∷ ns) = AllByRecursion (λ k. nat_cmp n k ≡ Less) ns × IsRisen ns
+
+zip_apart : (ns ss : List ℕ) → IsRisen ns → IsApart (zip ns ss)
+zip_apart [] ss h = tt
+zip_apart (n ∷ ns) [] h = tt
+zip_apart (n ∷ ns) (s ∷ ss) h = (refuted _ (λ t is. not_itself n (zip_found (λ k. nat_cmp n k ≡ Less) ns ss n t h.0 is)), zip_apart ns ss h.1)
+
+zip_all : (g : ℕ → Option ℕ) (ns ss : List ℕ) → length ss ≡ length ns → IsApart (zip ns ss) → ((n s : ℕ) → find nat_cmp n (zip ns ss) ≡ Some s → g n ≡ Some s) → map g ns ≡ map Some ss
+zip_all g [] [] l apart h = refl
+zip_all g [] (s ∷ ss) l apart h = absurd (omega arith)
+zip_all g (n ∷ ns) [] l apart h = absurd (omega arith)
+zip_all g (n ∷ ns) (s ∷ ss) l apart h =
+    let first : g n ≡ Some s = h n s (found_head (n, s) (zip ns ss)) in
+    let rest : map g ns ≡ map Some ss = zip_all g ns ss (omega arith) apart.1 (λ k t is. h k t (found_tail (n, s) (zip ns ss) k t apart is)) in
+    λ i. first i ∷ rest i
+
+-- ---- units that stand in a region
+
+is_so : (b : Bool) → T b → b ≡ true
+is_so true h = refl
+is_so false h = absurd h
+
+same_number : (a b : ℕ) → (a == b) ≡ true → a ≡ b
+same_number a b h = grind (arith, nat_tests)
+
+equal_numbers : (a : ℕ) → (a == a) ≡ true
+equal_numbers a = grind (arith, nat_tests)
+
+module _ (p : ℕ → Bool) where
+  kept_each : (P : ℕ → Type 0) (ns : List ℕ) → AllByRecursion P ns → AllByRecursion (λ n. P n × (p n ≡ true)) (filter p ns)
+  kept_each P [] h = tt
+  kept_each P (n ∷ ns) h = either (kept_each P ns h.1) (p n) refl
+    where
+      either : AllByRecursion (λ n. P n × (p n ≡ true)) (filter p ns) → (b : Bool) → p n ≡ b → AllByRecursion (λ n. P n × (p n ≡ true)) (cond b (n ∷ filter p ns) (filter p ns))
+      either rest true e = ((h.0, e), rest)
+      either rest false e = rest
+
+  kept_risen : (ns : List ℕ) → IsRisen ns → IsRisen (filter p ns)
+  kept_risen [] h = tt
+  kept_risen (n ∷ ns) h = either (kept_risen ns h.1) (p n)
+    where
+      either : IsRisen (filter p ns) → (b : Bool) → IsRisen (cond b (n ∷ filter p ns) (filter p ns))
+      either rest true = (each_so _ _ (λ k both. both.0) (filter p ns) (kept_each (λ k. nat_cmp n k ≡ Less) ns h.0), rest)
+      either rest false = rest
+
+  kept_place : (ns : List ℕ) (n i : ℕ) → i < length ns → get_or ns i 0 ≡ n → p n ≡ true → (j : ℕ) × (j < length (filter p ns)) × (get_or (filter p ns) j 0 ≡ n)
+  kept_place [] n i l at h = absurd (omega arith)
+  kept_place (k ∷ ns) n zero l at h = subst (λ b. (j : ℕ) × (j < length (cond b (k ∷ filter p ns) (filter p ns))) × (get_or (cond b (k ∷ filter p ns) (filter p ns)) j 0 ≡ n)) (sym (ap p at ∙ h)) (0, omega arith, at)
+  kept_place (k ∷ ns) n (suc i) l at h = either (kept_place ns n i (omega arith) at h) (p k)
+    where
+      either : (j : ℕ) × (j < length (filter p ns)) × (get_or (filter p ns) j 0 ≡ n) → (b : Bool) → (j : ℕ) × (j < length (cond b (k ∷ filter p ns) (filter p ns))) × (get_or (cond b (k ∷ filter p ns) (filter p ns)) j 0 ≡ n)
+      either (j, low, is) true = (suc j, omega arith, is)
+      either (j, low, is) false = (j, low, is)
+
+module _ (r : ℕ) where
+  abbrev stands : Unit → Bool
+  stands u = u.region == r
+
+  abbrev listed : List (ℕ × Unit) → List ℕ
+  listed es = numbers_among stands es
+
+  abbrev StandsIn : List (ℕ × Unit) → ℕ → Type 0
+  StandsIn es n = (u : Unit) × (find nat_cmp n es ≡ Some u) × (u.region ≡ r)
+
+  listed_each : (es : List (ℕ × Unit)) → is_sorted nat_cmp es ≡ true → AllByRecursion (StandsIn es) (listed es)
+  listed_each [] s = tt
+  listed_each (e ∷ es) s =
+      let behind = each_so (StandsIn es) (StandsIn (e ∷ es)) (λ n (u, is, here). (u, later e es n u s is, here)) (listed es) (listed_each es (and_parts _ _ s).1) in
+      subst (AllByRecursion (StandsIn (e ∷ es))) (sym (chosen-cons stands e es)) (elim (stands e.1) as (λ b. stands e.1 ≡ b → AllByRecursion (StandsIn (e ∷ es)) (cond b (e.0 ∷ listed es) (listed es))) [
+        | true ↦ λ h. ((e.1, first e es, same_number e.1.region r h), behind)
+        | false ↦ λ _. behind
+      ] refl)
+
+  listed_above : (k : ℕ) (es : List (ℕ × Unit)) → below_all nat_cmp k es ≡ true → AllByRecursion (λ n. nat_cmp k n ≡ Less) (listed es)
+  listed_above k [] h = tt
+  listed_above k (e ∷ es) h =
+      let rest = listed_above k es (and_parts _ _ h).1 in
+      subst (AllByRecursion (λ n. nat_cmp k n ≡ Less)) (sym (chosen-cons stands e es)) (elim (stands e.1) as (λ b. AllByRecursion (λ n. nat_cmp k n ≡ Less) (cond b (e.0 ∷ listed es) (listed es))) [
+        | true ↦ (is_less (nat_cmp k e.0) (and_parts _ _ h).0, rest)
+        | false ↦ rest
+      ])
+
+  listed_risen : (es : List (ℕ × Unit)) → is_sorted nat_cmp es ≡ true → IsRisen (listed es)
+  listed_risen [] s = tt
+  listed_risen (e ∷ es) s =
+      let rest = listed_risen es (and_parts _ _ s).1 in
+      subst IsRisen (sym (chosen-cons stands e es)) (elim (stands e.1) as (λ b. IsRisen (cond b (e.0 ∷ listed es) (listed es))) [
+        | true ↦ (listed_above e.0 es (and_parts _ _ s).0, rest)
+        | false ↦ rest
+      ])
+
+  listed_place : (es : List (ℕ × Unit)) (n : ℕ) (u : Unit) → find nat_cmp n es ≡ Some u → stands u ≡ true → (i : ℕ) × (i < length (listed es)) × (get_or (listed es) i 0 ≡ n)
+  listed_place [] n u is h = none_some u is
+  listed_place (e ∷ es) n u is h =
+      subst (λ (ns : List ℕ). (i : ℕ) × (i < length ns) × (get_or ns i 0 ≡ n)) (sym (chosen-cons stands e es))
+      (elim (nat_cmp n e.0) as (λ o. nat_cmp n e.0 ≡ o → cond (is_eq o) (Some e.1) (find nat_cmp n es) ≡ Some u → (i : ℕ) × (i < length (cond (stands e.1) (e.0 ∷ listed es) (listed es))) × (get_or (cond (stands e.1) (e.0 ∷ listed es) (listed es)) i 0 ≡ n)) [
+        | Less ↦ λ _ g. behind (listed_place es n u g h) (stands e.1)
+        | Equal ↦ λ o g. here (sym (nat_cmp-IsAntisymmetric n e.0 o)) (stands e.1) (let one : e.1 ≡ u = cc in ap stands one ∙ h)
+        | Greater ↦ λ _ g. behind (listed_place es n u g h) (stands e.1)
+      ] refl is)
+    where
+      behind : (i : ℕ) × (i < length (listed es)) × (get_or (listed es) i 0 ≡ n) → (b : Bool) → (i : ℕ) × (i < length (cond b (e.0 ∷ listed es) (listed es))) × (get_or (cond b (e.0 ∷ listed es) (listed es)) i 0 ≡ n)
+      behind (i, low, at) true = (suc i, omega arith, at)
+      behind (i, low, at) false = (i, low, at)
+
+      here : e.0 ≡ n → (b : Bool) → b ≡ true → (i : ℕ) × (i < length (cond b (e.0 ∷ listed es) (listed es))) × (get_or (cond b (e.0 ∷ listed es) (listed es)) i 0 ≡ n)
+      here at true t = (0, omega arith, at)
+      here at false t = absurd (false≢true t)
+
+-- ---- takers
+
+module _ (wants : FinMap nat_cmp ℕ) (units : FinMap nat_cmp Unit) where
+  abbrev Takes : ℕ → ℕ → Type 0
+  Takes r n = ((u : Unit) × (get units n ≡ Some u) × (u.region ≡ r)) × IsThere wants n
+
+  sorted_units : is_sorted nat_cmp (entries units) ≡ true
+  sorted_units = is_so _ (entries_sorted units)
+
+  takers_each : (r : ℕ) → AllByRecursion (Takes r) (takers_in wants units r)
+  takers_each r =
+      each_so _ (Takes r) (λ n ((u, is, here), want). ((u, get-entries units n ∙ is, here), is_there (get wants n) want)) (takers_in wants units r)
+      (kept_each (λ n. is_some (get wants n)) (StandsIn r (entries units)) (numbers_in r units) (listed_each r (entries units) sorted_units))
+
+  takers_risen : (r : ℕ) → IsRisen (takers_in wants units r)
+  takers_risen r = kept_risen (λ n. is_some (get wants n)) (numbers_in r units) (listed_risen r (entries units) sorted_units)
+
+  taker_place : (n want : ℕ) (u : Unit) → get wants n ≡ Some want → get units n ≡ Some u → (i : ℕ) × (i < length (takers_in wants units u.region)) × (get_or (takers_in wants units u.region) i 0 ≡ n)
+  taker_place n want u wanted is =
+      let (i, low, at) = listed_place u.region (entries units) n u (sym (get-entries units n) ∙ is) (equal_numbers u.region) in
+      kept_place (λ k. is_some (get wants k)) (numbers_in u.region units) n i low at (ap is_some wanted)
+
+-- ---- shares of all regions
+
+module _ (pot_of : ℕ → ℕ) (wants : FinMap nat_cmp ℕ) (units : FinMap nat_cmp Unit) where
+  abbrev given_in : ℕ → Entries
+  given_in r = shares_in pot_of wants units r
+
+  given_takes : (r n s : ℕ) → find nat_cmp n (given_in r) ≡ Some s → Takes wants units r n
+  given_takes r n s is = zip_found (Takes wants units r) (takers_in wants units r) (shares (pot_of r) (wants_in wants units r)) n s (takers_each wants units r) is
+
+  given_apart : (r : ℕ) → IsApart (given_in r)
+  given_apart r = zip_apart (takers_in wants units r) (shares (pot_of r) (wants_in wants units r)) (takers_risen wants units r)
+
+  gives_one : (n : ℕ) → GivesOne given_in n
+  gives_one n q r s t is also =
+      let ((u, at, here), _) = given_takes q n s is in
+      let ((v, at_too, here_too), _) = given_takes r n t also in
+      let unit : u ≡ v = cc in
+      let region : q ≡ r = sym here ∙ ap (λ (w : Unit). w.region) unit ∙ here_too in
+      let share : Some s ≡ Some t = sym is ∙ ap (λ k. find nat_cmp n (given_in k)) region ∙ also in
+      cc
+
+  -- the shares that were put in turn
+  put_all : (rs : List ℕ) → with_each empty (flat_map given_in rs) ≡ from_entries (flat_map given_in rs)
+  put_all rs = with_each-from_entries given_in given_apart gives_one rs
+
+module _ (pot_of : ℕ → ℕ) (wants : FinMap nat_cmp ℕ) (c : State) where
+  put_is : with_each empty (flat_map (shares_in pot_of wants c.units) (keys c.regions)) ≡ pot_shares pot_of wants c
+  unfolding pot_shares
+  put_is = put_all pot_of wants c.units (keys c.regions)
+
+  -- once no region is left to come
+  pub all_put : (given : FinMap nat_cmp ℕ) (coming : List (ℕ × Region)) → coming ≡ []
+      → with_each given (flat_map (shares_in pot_of wants c.units) (map (λ e. e.0) coming)) ≡ with_each empty (flat_map (shares_in pot_of wants c.units) (keys c.regions))
+      → given ≡ pot_shares pot_of wants c
+  all_put given [] none so_far = so_far ∙ put_is
+  all_put given (e ∷ coming) none so_far = cc
+
+  found_is : (n : ℕ) → share_of pot_of wants c n ≡ find nat_cmp n (flat_map (shares_in pot_of wants c.units) (keys c.regions))
+  unfolding pot_shares
+  found_is n = get-from_entries nat_cmp_total (flat_map (shares_in pot_of wants c.units) (keys c.regions)) n
+
+  among : (r : ℕ) → IsThere c.regions r → list_any (eq_by_cmp nat_cmp r) (keys c.regions) ≡ true
+  among r (v, is) = sym (contains_key-keys c.regions r) ∙ ap is_some is
+
+  given_is : (r n s : ℕ) → IsThere c.regions r → find nat_cmp n (shares_in pot_of wants c.units r) ≡ Some s → share_of pot_of wants c n ≡ Some s
+  given_is r n s region is = found_is n ∙ there (shares_in pot_of wants c.units) n r s (gives_one pot_of wants c.units n) is (keys c.regions) (among r region)
+
+-- ---- the laws
+
+pub shares_each_pot : SharesEachPot
+shares_each_pot pot_of wants c r region =
+    let takers = takers_in wants c.units r in
+    let given = shares (pot_of r) (wants_in wants c.units r) in
+    let long : length given ≡ length takers = length-shares (pot_of r) (wants_in wants c.units r) ∙ length-map takers (want_of wants) in
+    zip_all (share_of pot_of wants c) takers given long (given_apart pot_of wants c.units r) (λ n s is. given_is pot_of wants c r n s region is)
+
+pub each_taker_gets : EachTakerGets
+each_taker_gets pot_of wants c n want u wanted is region =
+    let r = u.region in
+    let takers = takers_in wants c.units r in
+    let given = shares (pot_of r) (wants_in wants c.units r) in
+    let (i, low, at) = taker_place wants c.units n want u wanted is in
+    let long : length given ≡ length takers = length-shares (pot_of r) (wants_in wants c.units r) ∙ length-map takers (want_of wants) in
+    let share : share_of pot_of wants c n ≡ Some (get_or given i 0) =
+    ap (share_of pot_of wants c) (sym at) ∙ sym (get_or-map (share_of pot_of wants c) takers i 0 None low)
+    ∙ ap (λ os. get_or os i None) (shares_each_pot pot_of wants c r region) ∙ get_or-map Some given i 0 None (omega arith) in
+    let amount : get_or (wants_in wants c.units r) i 0 ≡ want = get_or-map (want_of wants) takers i 0 0 low ∙ ap (want_of wants) at ∙ ap (λ o. unwrap_or o 0) wanted in
+    (get_or given i 0, share, subst (λ w. get_or given i 0 ≤ w) amount (share_at_most (pot_of r) (wants_in wants c.units r) i))
+
+pub only_takers_get : OnlyTakersGet
+only_takers_get pot_of wants c n s is =
+    let (r, region, given) = somewhere (shares_in pot_of wants c.units) n s (keys c.regions) (sym (found_is pot_of wants c n) ∙ is) in
+    let ((u, at, here), (want, wanted)) = given_takes pot_of wants c.units r n s given in
+    let stands : IsThere c.regions u.region = subst (IsThere c.regions) (sym here) (is_there (get c.regions r) (contains_key-keys c.regions r ∙ region)) in
+    let (t, also, low) = each_taker_gets pot_of wants c n want u wanted at stands in
+    let same : t ≡ s = cc in
+    (want, u, wanted, subst (λ k. k ≤ want) same low, at, stands)
+
+amounts : (g : ℕ → Option ℕ) (ns ss : List ℕ) → map g ns ≡ map Some ss → map (λ n. unwrap_or (g n) 0) ns ≡ ss
+amounts g ns ss h = mapped ns ∙ ap (map (λ o. unwrap_or o 0)) h ∙ back ss
+  where
+    mapped : (ns : List ℕ) → map (λ n. unwrap_or (g n) 0) ns ≡ map (λ o. unwrap_or o 0) (map g ns)
+    mapped [] = refl
+    mapped (n ∷ ns) = ap (λ l. unwrap_or (g n) 0 ∷ l) (mapped ns)
+
+    back : (ss : List ℕ) → map (λ o. unwrap_or o 0) (map Some ss) ≡ ss
+    back [] = refl
+    back (s ∷ ss) = ap (λ l. s ∷ l) (back ss)
+
+pub gives_each_pot : GivesEachPot
+gives_each_pot pot_of wants c r region =
+    ap sum (amounts (share_of pot_of wants c) (takers_in wants c.units r) (shares (pot_of r) (wants_in wants c.units r)) (shares_each_pot pot_of wants c r region))
+    ∙ all_is_given (pot_of r) (wants_in wants c.units r)
+
+pub other_regions_do_not_count : OtherRegionsDoNotCount
+other_regions_do_not_count pot_of other_pots wants other_wants c other r here there pots takers wanted =
+    shares_each_pot pot_of wants c r here
+    ∙ ap (map Some) (ap (λ p. shares p (wants_in wants c.units r)) pots ∙ ap (shares (other_pots r)) wanted)
+    ∙ sym (shares_each_pot other_pots other_wants other r there) ∙ ap (map (share_of other_pots other_wants other)) (sym takers)

@@ -1,0 +1,10 @@
+use Rattle.std.proofs.Common.{◌≡◌, map}
+use Rattle.std.specs.List.{flat_map}
+use Rattle.std.specs.FinMap.{empty, keys}
+use Rattle.atl_market.specs.Pots.{shares_in, with_each}
+use Rattle.atl_market.proofs.pots.pot_shares.Given as goal
+
+abbrev pub invariant-loop-region : goal.invariant-loop-region
+invariant-loop-region g l =
+    with_each l.given (flat_map (shares_in (g.P.Pots.pot_of l.pots) l.wants l.campaign.what.units) (map (λ e. e.0) l.region-iterator))
+    ≡ with_each empty (flat_map (shares_in (g.P.Pots.pot_of l.pots) l.wants l.campaign.what.units) (keys l.campaign.what.regions))

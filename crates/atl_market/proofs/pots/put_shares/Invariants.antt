@@ -1,0 +1,7 @@
+use Rattle.std.proofs.Common.{◌≡◌, drop}
+use Rattle.std.specs.List.{zip}
+use Rattle.atl_market.specs.Pots.{with_each}
+use Rattle.atl_market.proofs.pots.put_shares.Given as goal
+
+abbrev pub invariant-loop-i : goal.invariant-loop-i
+invariant-loop-i l = with_each l.given (zip (drop l.i l.takers) (drop l.i l.shares)) ≡ with_each l.initial.given (zip l.takers l.shares)

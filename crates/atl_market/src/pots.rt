@@ -1,0 +1,129 @@
+//! Pots of regions, all shared at once.
+ghost use Rattle.std.specs.Prelude.{◌≡◌, ◌≤◌, All, IfOk, OnOk, length, map};
+ghost use Rattle.std.specs.List.{zip};
+ghost use Rattle.atl_tables.specs.Limits.{most_amount};
+ghost use Rattle.atl_market.specs.Pots.{AreWants, EachTakerGets, GivesEachPot, OnlyTakersGet, OtherRegionsDoNotCount, SharesEachPot, pot_shares, shares_in, takers_among, want_of, with_each};
+
+use crate::shares::share;
+use atl_state::Campaign;
+use atl_tables::Numbered;
+use std::alloc::{AllocError, Global};
+
+/// What there is to share in each region.
+pub trait Pots {
+    ghost use Rattle.std.specs.Prelude.{ℕ};
+
+    // By the number of the region.
+    ghost pot_of: { Self → ℕ → ℕ };
+
+    /// The pot of a region, at most 999,999,999.
+    fn pot(&self, region: u32) -> u64
+        ensures value { result ≡ pot_of self.now region }
+        ensures bound { result ≤ most_amount };
+}
+
+/// Those of these units that have a want.
+fn takers_of(alloc: Global, units: &[u32], wants: &Numbered<u32>) -> Result<Vec<u32>, AllocError>
+    ensures { IfOk result (λ takers. takers.items ≡ takers_among wants.now units.now) }
+{
+    let mut takers = Vec::new(alloc);
+    for number in units {
+        if wants.get(*number).is_some() {
+            takers.push(*number)?;
+        }
+    }
+    Ok(takers)
+}
+
+/// What a unit wants.
+fn want_of(wants: &Numbered<u32>, number: u32) -> u64
+    requires { AreWants wants.now }
+    ensures value { result ≡ want_of wants.now number }
+    ensures bound { result ≤ most_amount }
+{
+    match wants.get(number) {
+        Some(want) => u64::from(*want),
+        None => 0,
+    }
+}
+
+/// What these units want.
+fn wants_of(alloc: Global, takers: &[u32], wants: &Numbered<u32>) -> Result<Vec<u64>, AllocError>
+    requires { AreWants wants.now }
+    ensures value { IfOk result (λ wanted. wanted.items ≡ map (want_of wants.now) takers.now) }
+    ensures bound { IfOk result (λ wanted. All (λ want. want ≤ most_amount) wanted.items) }
+{
+    let mut wanted = Vec::new(alloc);
+    for number in takers {
+        wanted.push(want_of(wants, *number))?;
+    }
+    Ok(wanted)
+}
+
+/// Puts each unit's share under its number.
+fn put_shares(takers: &[u32], shares: &[u64], given: &mut Numbered<u32>) -> Result<(), AllocError>
+    requires length { length shares.now ≡ length takers.now }
+    requires bound { All (λ share. share ≤ most_amount) shares.now }
+    ensures { OnOk result (given.new ≡ with_each given.old (zip takers.now shares.now)) }
+{
+    for i in 0..takers.len() {
+        given.insert(takers[i], shares[i] as u32)?;
+    }
+    Ok(())
+}
+
+/// Puts the shares of one region's pot. It goes over the units that stand there, and no further.
+fn share_region<P: Pots>(
+    alloc: Global,
+    campaign: &Campaign,
+    pots: &P,
+    wants: &Numbered<u32>,
+    region: u32,
+    given: &mut Numbered<u32>,
+) -> Result<(), AllocError>
+    requires { AreWants wants.now }
+    ensures { OnOk result (given.new ≡ with_each given.old (shares_in (P.pot_of pots.now) wants.now campaign.now.what.units region)) }
+{
+    let takers = takers_of(alloc, campaign.in_region(region), wants)?;
+    if takers.is_empty() {
+        return Ok(());
+    }
+    let wanted = wants_of(alloc, &takers, wants)?;
+    let shares = share(alloc, pots.pot(region), &wanted)?;
+    put_shares(&takers, &shares, given)
+}
+
+/// What units get of the pots of their regions, by unit, all at once. Those of a region's units that have a want share its
+/// pot, in unit order, by what they want; each want is at most 999,999,999. Who has no want, or stands in no region of the
+/// campaign, gets nothing and is not listed. It goes over the regions and their units once. AllocError without memory. See
+/// docs/RULES.md, "Shares".
+pub fn pot_shares<P: Pots>(
+    alloc: Global,
+    campaign: &Campaign,
+    pots: &P,
+    wants: &Numbered<u32>,
+) -> Result<Numbered<u32>, AllocError>
+    requires { AreWants wants.now }
+    ensures definition { IfOk result (λ given. given ≡ pot_shares (P.pot_of pots.now) wants.now campaign.now.what) }
+{
+    let mut given = Numbered::new(alloc);
+    for (region, _) in campaign.regions() {
+        share_region(alloc, campaign, pots, wants, region, &mut given)?;
+    }
+    Ok(given)
+}
+
+/// Does nothing. Its clauses are the laws of who gets something: only units that have a want and stand in a region of the
+/// campaign do, each of them does, and none gets more than it wants.
+pub fn takers_alone_get()
+    ensures only { OnlyTakersGet }
+    ensures each { EachTakerGets }
+{}
+
+/// Does nothing. Its clauses are the laws of one region: its takers get the shares of its pot in unit order, which add up to
+/// the pot or to all their wants, whichever is less; and no other region counts. See docs/RULES.md, "Shares".
+pub fn each_pot_is_shared()
+    ensures shares { SharesEachPot }
+    ensures sum { GivesEachPot }
+    ensures alone { OtherRegionsDoNotCount }
+{}
