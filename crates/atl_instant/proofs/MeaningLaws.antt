@@ -5,7 +5,8 @@ use Rattle.std.proofs.lemmas.Int.{ints}
 use Rattle.std.proofs.Math.Nat.{suc-mul}
 use Rattle.atl_tables.specs.Planet.{Planet}
 use Rattle.atl_state.specs.State.{State}
-use Rattle.atl_state.specs.Books.{amount_in}
+use Rattle.atl_state.specs.Books.{IsWithin, amount_in}
+use Rattle.atl_state.specs.Good.{IsSound, amount_bound}
 use Rattle.atl_instant.specs.Meaning.{Condition, Changing, LeavesWell, IsNear, HasRoom, HaveRoom, either_changes}
 
 neither : (a b : Bool) → (a || b) ≡ false → (a ≡ false) × (b ≡ false)
@@ -30,6 +31,15 @@ less_room j k a l room = record { above = omega (arith, ints, room.above); below
 -- room for more is room for less
 pub room_less : (j k : ℕ) (c : State) → j ≤ k → HaveRoom k c → HaveRoom j c
 room_less j k c l room e t = less_room j k (amount_in c.books e t) l (room e t)
+
+-- a sound campaign has room for a month
+pub room_when_sound : (w : Planet) (c : State) (change : ℕ) → change ≤ 5000000000000000000 → IsSound w c → HaveRoom change c
+room_when_sound w c change l sound e t =
+    let few : amount_bound c ≤ 3000000000000000000 = omega (arith, sound.steady.numbers.month, sound.steady.numbers.few_factions) in
+    within (amount_in c.books e t) (amount_bound c) few (sound.amounts e t)
+  where
+    within : (a : ℤ) (bound : ℕ) → bound ≤ 3000000000000000000 → IsWithin bound a → HasRoom change a
+    within a bound few h = record { above = omega (arith, ints, h.most); below = omega (arith, ints, h.least) }
 
 -- behind one step there is room for the next
 pub room_behind : {leaves : Condition} {changing : Changing} (j k : ℕ) (w : Planet) (c d : State) → LeavesWell leaves changing j w c d → HaveRoom (j + k) c → HaveRoom k d

@@ -1,0 +1,2 @@
+//! Tests of atl_month by its public calls alone.
+mod season;
