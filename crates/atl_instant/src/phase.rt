@@ -15,6 +15,7 @@ pub trait Phase {
 
     // What it needs of a campaign, and what it leaves.
     ghost needs: { Condition };
+
     ghost leaves: { Condition };
 
     // The entries of the books that it may change.

@@ -2,5 +2,7 @@
 #![tactic(auto)]
 
 pub mod season;
+pub mod settling;
 
 pub use season::SeasonPhase;
+pub use settling::{Purse, Settled, settle};

@@ -1,2 +1,3 @@
 //! Tests of atl_month by its public calls alone.
 mod season;
+mod settling;
