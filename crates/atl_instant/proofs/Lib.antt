@@ -5,3 +5,4 @@ pub mod MappedLaws
 pub mod OrderLaws
 pub mod WrittenLaws
 pub mod MeaningLaws
+pub mod BookingLaws

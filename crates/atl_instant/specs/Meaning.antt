@@ -1,5 +1,5 @@
 -- What a phase of the month is, and what each phase keeps.
-use Rattle.std.specs.Prelude.{◌≡◌, ℕ, ℤ, pos, ◌+ℤ◌, ◌≤ℤ◌, ◌+◌, ◌==◌, Bool, false, ◌||◌}
+use Rattle.std.specs.Prelude.{ℕ, ℤ, pos, ◌+ℤ◌, ◌≤ℤ◌, ◌+◌, ◌*◌, ◌==◌, if◌then◌else◌}
 use Rattle.atl_tables.specs.Planet.{Planet}
 use Rattle.atl_state.specs.declared.books.Entry.{Entry}
 use Rattle.atl_state.specs.declared.books.Thing.{Thing}
@@ -31,44 +31,56 @@ Follows leaves needs = (w : Planet) (c : State) → leaves w c → needs w c
 abbrev pub both_need : Condition → Condition → Condition → Condition
 both_need needs between follows w c = needs w c × Follows between follows
 
+-- What stays, from a campaign and what the month carries to the campaign behind: what a phase leaves to the units whose own faction wrote no order of it.
+abbrev pub Keeping : Type 1
+Keeping = Planet → Course → State → State → Type 0
+
+abbrev pub both_keep : Meaning → Keeping → Keeping → Keeping
+both_keep first early late w m before after =
+    let between = first w before m in
+    early w m before between.0 × late w between.1 between.0 after
+
 -- ---- the books
 
--- which entries a phase may change, of which things
-abbrev pub Changing : Type 0
-Changing = Entry → Thing → Bool
+-- by how much a phase may move each amount of the books at most; one that it moves by 0 stays
+abbrev pub Moving : Type 0
+Moving = Entry → Thing → ℕ
 
-abbrev pub either_changes : Changing → Changing → Changing
-either_changes first second e t = first e t || second e t
+abbrev pub both_move : Moving → Moving → Moving
+both_move first second e t = first e t + second e t
+
+-- so many steps, each of which may move the amounts so far
+abbrev pub moved_times : ℕ → Moving → Moving
+moved_times steps moving e t = steps * moving e t
 
 -- one amount alone
-abbrev pub changes_only : Entry → Thing → Changing
-changes_only e t f u = amount_number f u == amount_number e t
+abbrev pub moves_only : ℕ → Entry → Thing → Moving
+moves_only most e t f u = if amount_number f u == amount_number e t then most else 0
 
--- a phase changes each amount by less than this
-abbrev pub most_change : ℕ
-most_change = 100000000000000
+-- a phase moves each amount by less than 10^14
+abbrev pub most_moved : ℕ
+most_moved = 99999999999999
 
--- two amounts differ by less than a bound
-pub record IsNear (bound : ℕ) (before after : ℤ) : Type 0 where
-  pub above : (after +ℤ pos 1) ≤ℤ (before +ℤ pos bound)
-  pub below : (before +ℤ pos 1) ≤ℤ (after +ℤ pos bound)
+-- two amounts differ by so much at most
+pub record IsNear (most : ℕ) (before after : ℤ) : Type 0 where
+  pub above : after ≤ℤ (before +ℤ pos most)
+  pub below : before ≤ℤ (after +ℤ pos most)
 
 -- no amount ever passes this in size
 abbrev pub amount_limit : ℕ
-amount_limit = 9000000000000000000 + most_change
+amount_limit = 9000000000000000000 + most_moved
 
--- an amount that may still change by so much
-pub record HasRoom (change : ℕ) (amount : ℤ) : Type 0 where
-  pub above : (amount +ℤ pos change) ≤ℤ pos amount_limit
-  pub below : pos change ≤ℤ (amount +ℤ pos amount_limit)
+-- an amount that may still be moved so far
+pub record HasRoom (most : ℕ) (amount : ℤ) : Type 0 where
+  pub above : (amount +ℤ pos most) ≤ℤ pos amount_limit
+  pub below : pos most ≤ℤ (amount +ℤ pos amount_limit)
 
--- each amount of the books may; by what a phase changes it, where no amount passes 9*10^18 in size
-abbrev pub HaveRoom : ℕ → State → Type 0
-HaveRoom change c = (e : Entry) (t : Thing) → HasRoom change (amount_in c.books e t)
+-- each amount of the books may: so it is where none passes 9*10^18 in size
+abbrev pub HaveRoom : Moving → State → Type 0
+HaveRoom moving c = (e : Entry) (t : Thing) → HasRoom (moving e t) (amount_in c.books e t)
 
--- The campaign is as a phase leaves it, the books balance where they did before, no other entries are changed than those that the phase may change, and each amount by less than a bound.
-pub record LeavesWell (leaves : Condition) (changing : Changing) (bound : ℕ) (w : Planet) (before after : State) : Type 0 where
+-- The campaign is as a phase leaves it, the books balance where they did before, and no amount of them is moved further than the phase may move it.
+pub record LeavesWell (leaves : Condition) (moving : Moving) (w : Planet) (before after : State) : Type 0 where
   pub leaves_it : leaves w after
   pub balances : Balances before → Balances after
-  pub others : (e : Entry) (t : Thing) → changing e t ≡ false → amount_in after.books e t ≡ amount_in before.books e t
-  pub little : (e : Entry) (t : Thing) → IsNear bound (amount_in before.books e t) (amount_in after.books e t)
+  pub near : (e : Entry) (t : Thing) → IsNear (moving e t) (amount_in before.books e t) (amount_in after.books e t)

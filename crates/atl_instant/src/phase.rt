@@ -1,7 +1,7 @@
 //! A phase of the month.
-ghost use Rattle.std.specs.Prelude.{◌≡◌, ℕ, ◌+◌, IfOk};
+ghost use Rattle.std.specs.Prelude.{◌≡◌, IfOk};
 ghost use Rattle.atl_state.specs.Covers.{MarksChanges};
-ghost use Rattle.atl_instant.specs.Meaning.{Meaning, Condition, Changing, LeavesWell, HaveRoom, then_also, both_need, either_changes};
+ghost use Rattle.atl_instant.specs.Meaning.{Meaning, Condition, Keeping, Moving, LeavesWell, HaveRoom, then_also, both_need, both_keep, both_move};
 
 use crate::month::Month;
 use atl_state::Campaign;
@@ -18,11 +18,11 @@ pub trait Phase {
 
     ghost leaves: { Condition };
 
-    // The entries of the books that it may change.
-    ghost changing: { Changing };
+    // By how much it may move each amount of the books: by less than 10^14 for a phase, and so far for each of some phases.
+    ghost moving: { Moving };
 
-    // It changes each amount of the books by less than this: 10^14 for a phase, and so much for each of some phases.
-    ghost bound: { ℕ };
+    // What it leaves to the units whose own faction wrote no order of it.
+    ghost keeps: { Keeping };
 
     /// Runs the phase. AllocError without memory; the campaign and the month are then given up.
     fn run(
@@ -33,9 +33,10 @@ pub trait Phase {
         month: Month,
     ) -> Result<(Campaign, Month), AllocError>
         requires needs { needs world.now campaign.what }
-        requires room { HaveRoom bound campaign.what }
+        requires room { HaveRoom moving campaign.what }
         ensures meaning { IfOk result (λ r. (r.0.what, r.1) ≡ meaning world.now campaign.what month) }
-        ensures leaves { IfOk result (λ r. LeavesWell leaves changing bound world.now campaign.what r.0.what) }
+        ensures leaves { IfOk result (λ r. LeavesWell leaves moving world.now campaign.what r.0.what) }
+        ensures keeps { IfOk result (λ r. keeps world.now month campaign.what r.0.what) }
         ensures marks { IfOk result (λ r. MarksChanges campaign r.0) };
 }
 
@@ -46,9 +47,9 @@ impl<P: Phase, Q: Phase> Phase for (P, Q) {
 
     ghost leaves = { Q.leaves };
 
-    ghost changing = { either_changes P.changing Q.changing };
+    ghost moving = { both_move P.moving Q.moving };
 
-    ghost bound = { P.bound + Q.bound };
+    ghost keeps = { both_keep P.meaning P.keeps Q.keeps };
 
     fn run(
         &self,

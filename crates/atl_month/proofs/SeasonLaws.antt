@@ -1,6 +1,6 @@
 -- The season leaves a campaign well.
-use Rattle.std.proofs.Common.{◌≡◌, ◌≢◌, ◌==◌, ◌||◌, ℕ, ◌+◌, ◌-◌, ◌*◌, ◌/◌, ◌%◌, ◌≤◌, min, Bool, true, false, cond, Option, Some, None, List, [], ◌∷◌, length, map, refl, sym, ap, ◌∙◌, inl, inr, ◌⊎◌, arith}
-use Rattle.std.specs.Prelude.{ℤ, pos, negsuc, ◌+ℤ◌, ◌≤ℤ◌, fold, zip, option_and_then}
+use Rattle.std.proofs.Common.{◌≡◌, ◌≢◌, ◌==◌, ◌||◌, ℕ, ◌+◌, ◌-◌, ◌*◌, ◌/◌, ◌%◌, ◌≤◌, min, Bool, true, false, cond, Option, Some, None, List, [], ◌∷◌, length, map, refl, sym, ap, subst, ◌∙◌, inl, inr, ◌⊎◌, arith}
+use Rattle.std.specs.Prelude.{ℤ, pos, ◌+ℤ◌, fold, zip, option_and_then, if◌then◌else◌}
 use Rattle.std.specs.List.{slice_get}
 use Rattle.std.specs.FinMap.{entries, get, len-entries}
 use Rattle.std.specs.Int.{w64}
@@ -29,9 +29,10 @@ use Rattle.atl_state.proofs.BookLaws.{IsGrid-with_booked, amount-with_booked, bo
 use Rattle.atl_state.proofs.CoverLaws.{marks-amount, marks-region, marks-trans}
 use Rattle.atl_state.proofs.RegionLaws.{amount-other, region-changed, steady-amount, steady-region, total-amount, total-region}
 use Rattle.atl_state.proofs.EveryLaws.{none_some}
-use Rattle.atl_instant.specs.Meaning.{HasRoom, HaveRoom, IsNear, LeavesWell, amount_limit, most_change}
-use Rattle.atl_instant.proofs.MeaningLaws.{fold_leaves_well, room_behind, room_less, well_unchanged, well_within}
-use Rattle.atl_month.specs.Season.{births, income, region_bound, season, season_at, season_changes, season_in, terrain_of, with_growth}
+use Rattle.atl_instant.specs.Meaning.{HaveRoom, IsNear, LeavesWell, moved_times, moves_only, most_moved}
+use Rattle.atl_instant.proofs.MeaningLaws.{fold_leaves_well, near_twice, room_behind_one, room_for_one, well_unchanged, well_within}
+use Rattle.atl_instant.proofs.BookingLaws.{booked-near, within-pos}
+use Rattle.atl_month.specs.Season.{births, grows_by, income, season, season_at, season_in, terrain_of, with_growth}
 
 -- ---- how much there is
 
@@ -45,25 +46,6 @@ pub income_fits : (per_peasant limit peasants money : ℕ) → limit ≤ most_am
 income_fits per_peasant limit peasants money l m = omega (arith, least (peasants * per_peasant) (limit - money))
 
 -- ---- the books of a region's season
-
-near_booked : (x y : ℤ) (n : ℕ) → n ≤ most_amount → (y ≡ x +ℤ pos n) ⊎ (y ≡ x) → IsNear 1000000000 x y
-near_booked x y n l h = elim h [
-  | inl is ↦ record { above = omega (arith, ints, is); below = omega (arith, ints, is) }
-  | inr is ↦ record { above = omega (arith, ints, is); below = omega (arith, ints, is) }
-]
-
-two_near : (x y z : ℤ) → IsNear 1000000000 x y → IsNear 1000000000 y z → IsNear region_bound x z
-two_near x y z g h = record { above = omega (arith, ints, g.above, h.above); below = omega (arith, ints, g.below, h.below) }
-
-neither : (a b : Bool) → (a || b) ≡ false → (a ≡ false) × (b ≡ false)
-neither true b h = (cc, cc)
-neither false b h = (cc, h)
-
-differ : (a b : ℕ) → (a == b) ≡ false → a ≢ b
-differ a b h = grind (arith, nat_tests)
-
-balanced : (old mid new k m k2 b e : ℕ) → mid + k ≡ old + (k + b) → new + m ≡ mid + (m + e) → new ≡ old + (b + e)
-balanced old mid new k m k2 b e g h = omega arith
 
 module _ (w : Planet) (c : State) (n : ℕ) (r : Region) (born earned : ℕ) (is : get c.regions n ≡ Some r) where
   abbrev peopled : State
@@ -127,36 +109,18 @@ module _ (w : Planet) (c : State) (n : ℕ) (r : Region) (born earned : ℕ) (is
         ∙ ap (λ z. z +ℤ share_of t Money (pos earned)) (sym (booked-with_booked (things_of w) c.books Births People (pos born) grid (omega arith) t))
         ∙ sym (booked-with_booked (things_of w) one_booked Income Money (pos earned) grid_one (omega arith) t)
 
-    growth_keeps_others : (e : Entry) (t : Thing) → season_changes e t ≡ false → amount_in (with_growth c n r born earned).books e t ≡ amount_in c.books e t
-    growth_keeps_others e t h =
-        let (births_apart, income_apart) = neither (amount_number e t == amount_number Births People) (amount_number e t == amount_number Income Money) h in
-        amount-other (things_of w) one_booked e Income t Money (pos earned) grid_one (omega arith) (differ _ _ income_apart)
-        ∙ amount-other (things_of w) c.books e Births t People (pos born) grid (omega arith) (differ _ _ births_apart)
+    growth_near : born ≤ most_amount → earned ≤ most_amount → (e : Entry) (t : Thing) → IsNear (grows_by most_amount e t) (amount_in c.books e t) (amount_in (with_growth c n r born earned).books e t)
+    growth_near b m e t =
+        near_twice (moves_only most_amount Births People e t) (moves_only most_amount Income Money e t) _ _ _
+        (booked-near (things_of w) c.books Births People (pos born) most_amount grid (omega arith) (within-pos born most_amount b) e t)
+        (booked-near (things_of w) one_booked Income Money (pos earned) most_amount grid_one (omega arith) (within-pos earned most_amount m) e t)
 
-    growth_is_little : born ≤ most_amount → earned ≤ most_amount → (e : Entry) (t : Thing) → IsNear region_bound (amount_in c.books e t) (amount_in (with_growth c n r born earned).books e t)
-    growth_is_little b m e t =
-        two_near (amount_in c.books e t) (amount_in one_booked e t) (amount_in (with_booked one_booked Income Money (pos earned)) e t)
-        (near_booked _ _ born b (amount-with_booked (things_of w) c.books Births People (pos born) grid (omega arith) e t))
-        (near_booked _ _ earned m (amount-with_booked (things_of w) one_booked Income Money (pos earned) grid_one (omega arith) e t))
-
-  pub growth_leaves_well : r.peasants + born ≤ most_amount → r.money + earned ≤ most_amount → IsSteady w c → LeavesWell IsSteady season_changes region_bound w c (with_growth c n r born earned)
+  pub growth_leaves_well : r.peasants + born ≤ most_amount → r.money + earned ≤ most_amount → IsSteady w c → LeavesWell IsSteady (grows_by most_amount) w c (with_growth c n r born earned)
   growth_leaves_well p m steady = record {
     leaves_it = growth_steady p m steady;
     balances = growth_balances steady.numbers.books;
-    others = growth_keeps_others steady.numbers.books;
-    little = growth_is_little steady.numbers.books (omega arith) (omega arith);
+    near = growth_near steady.numbers.books (omega arith) (omega arith);
   }
-
--- ---- room for what is booked
-
-pub births_booked : (c : State) (born things : ℕ) → IsGrid things c.books → 2 ≤ things → born ≤ most_amount → HaveRoom region_bound c
-    → HasRoom 1000000000 (amount_in (with_booked c.books Births People (pos born)) Income Money)
-births_booked c born things grid two b room =
-    after (amount_in c.books Income Money) (amount_in (with_booked c.books Births People (pos born)) Income Money) (room Income Money)
-    (near_booked _ _ born b (amount-with_booked things c.books Births People (pos born) grid (omega arith) Income Money))
-  where
-    after : (x y : ℤ) → HasRoom region_bound x → IsNear 1000000000 x y → HasRoom 1000000000 y
-    after x y room near = record { above = omega (arith, ints, room.above, near.above); below = omega (arith, ints, room.below, near.below) }
 
 -- ---- what the growth of a region marks
 
@@ -180,14 +144,7 @@ growth_marks things c d e f g n peasants money born earned d_is d_marks e_is e_m
     marks_by : (a b m : Marked) → b.what ≡ m.what → b.marks ≡ m.marks → MarksChanges a m → MarksChanges a b
     marks_by a b m what marks h = rw (what, marks) (record { stay = h.stay; covers = h.covers })
 
--- ---- what the calls of a region's season need
-
-by_sign : (z : ℤ) → z ≤ℤ pos amount_limit → pos 0 ≤ℤ (z +ℤ pos amount_limit) → FitsSigned w64 z
-by_sign (pos n) most less = record { sfits = omega (arith, ints, most) }
-by_sign (negsuc n) most less = record { sfits = omega (arith, ints, less) }
-
-pub booking_fits : (x : ℤ) (n : ℕ) → n ≤ most_amount → HasRoom 1000000000 x → FitsSigned w64 (x +ℤ pos n)
-booking_fits x n l room = by_sign (x +ℤ pos n) (omega (arith, ints, room.above)) (omega (arith, ints, room.below))
+-- ---- the terrains of a world
 
 terrain_in : (w : Planet) (o : Option RegionPlan) (t : Terrain) → IsWorld w → option_and_then (λ (p : RegionPlan). slice_get w.terrains p.terrain) o ≡ Some t → (t.peasant_limit ≤ most_amount) × (t.money_limit ≤ most_amount)
 terrain_in w None t world is = none_some t is
@@ -198,14 +155,14 @@ limits_fit w n t world is = terrain_in w (get w.regions n) t world is
 
 -- ---- the season of a region, and of all
 
-pub season_at_leaves_well : (w : Planet) → IsWorld w → (c : State) (x : ℕ × ℕ) → IsSteady w c → LeavesWell IsSteady season_changes region_bound w c (season_at w c x)
+pub season_at_leaves_well : (w : Planet) → IsWorld w → (c : State) (x : ℕ × ℕ) → IsSteady w c → LeavesWell IsSteady (grows_by most_amount) w c (season_at w c x)
 unfolding season_at
 season_at_leaves_well w world c (n, word) steady = by_terrain (terrain_of w n) refl
   where
-    same : LeavesWell IsSteady season_changes region_bound w c c
-    same = well_within 1 region_bound w c c (omega arith) (well_unchanged w c steady)
+    same : LeavesWell IsSteady (grows_by most_amount) w c c
+    same = well_unchanged (grows_by most_amount) w c steady
 
-    by_region : (t : Terrain) → terrain_of w n ≡ Some t → (o : Option Region) → get c.regions n ≡ o → LeavesWell IsSteady season_changes region_bound w c (season_in w c n word (Some t) o)
+    by_region : (t : Terrain) → terrain_of w n ≡ Some t → (o : Option Region) → get c.regions n ≡ o → LeavesWell IsSteady (grows_by most_amount) w c (season_in w c n word (Some t) o)
     by_region t here None is = same
     by_region t here (Some r) is =
         let born = births w.rules.growth t.peasant_limit word r.peasants in
@@ -215,7 +172,7 @@ season_at_leaves_well w world c (n, word) steady = by_terrain (terrain_of w n) r
         (births_fit w.rules.growth t.peasant_limit word r.peasants peasant_limit peasants)
         (income_fits w.rules.income t.money_limit (r.peasants + born) r.money money_limit money) steady
 
-    by_terrain : (o : Option Terrain) → terrain_of w n ≡ o → LeavesWell IsSteady season_changes region_bound w c (season_in w c n word o (get c.regions n))
+    by_terrain : (o : Option Terrain) → terrain_of w n ≡ o → LeavesWell IsSteady (grows_by most_amount) w c (season_in w c n word o (get c.regions n))
     by_terrain None is = same
     by_terrain (Some t) is = by_region t is (get c.regions n) refl
 
@@ -224,13 +181,39 @@ length-zip [] ys = omega arith
 length-zip (x ∷ xs) [] = omega arith
 length-zip (x ∷ xs) (y ∷ ys) = omega (arith, length-zip xs ys)
 
-pub season_leaves_well : (w : Planet) → IsWorld w → (c : State) (words : List ℕ) → IsSteady w c → LeavesWell IsSteady season_changes most_change w c (season w c words)
+pub grows_little : (k : ℕ) → k ≤ 2500 → (e : Entry) (t : Thing) → moved_times k (grows_by most_amount) e t ≤ grows_by most_moved e t
+grows_little k few e t = scaled (amount_number e t == amount_number Births People) (amount_number e t == amount_number Income Money)
+  where
+    scaled : (a b : Bool) → k * ((if a then most_amount else 0) + (if b then most_amount else 0)) ≤ (if a then most_moved else 0) + (if b then most_moved else 0)
+    scaled true true = omega (arith, few)
+    scaled true false = omega (arith, few)
+    scaled false true = omega (arith, few)
+    scaled false false = omega (arith, few)
+
+pub season_leaves_well : (w : Planet) → IsWorld w → (c : State) (words : List ℕ) → IsSteady w c → LeavesWell IsSteady (grows_by most_moved) w c (season w c words)
 season_leaves_well w world c words steady =
     let numbers = map (λ (e : ℕ × RegionPlan). e.0) (entries w.regions) in
     let pairs = zip numbers words in
     let few : length pairs ≤ 2500 = omega (arith, length-zip numbers words, length-map (entries w.regions) (λ (e : ℕ × RegionPlan). e.0), len-entries w.regions, world.few_regions) in
-    well_within (1 + length pairs * region_bound) most_change w c (season w c words) (omega (arith, few))
-    (fold_leaves_well region_bound w (season_at w) (season_at_leaves_well w world) c pairs steady)
+    well_within (moved_times (length pairs) (grows_by most_amount)) (grows_by most_moved) w c (season w c words) (grows_little (length pairs) few)
+    (fold_leaves_well (grows_by most_amount) w (season_at w) (season_at_leaves_well w world) c pairs steady)
+
+-- the season changes no unit
+season_in_keeps : (w : Planet) (c : State) (n word : ℕ) (o : Option Terrain) (p : Option Region) → (season_in w c n word o p).units ≡ c.units
+season_in_keeps w c n word (Some t) (Some r) = refl
+season_in_keeps w c n word (Some t) None = refl
+season_in_keeps w c n word None p = refl
+
+pub season_at_keeps : (w : Planet) (c : State) (x : ℕ × ℕ) → (season_at w c x).units ≡ c.units
+unfolding season_at
+season_at_keeps w c (n, word) = season_in_keeps w c n word (terrain_of w n) (get c.regions n)
+
+each_keeps : (w : Planet) (c : State) (xs : List (ℕ × ℕ)) → (fold (season_at w) c xs).units ≡ c.units
+each_keeps w c [] = refl
+each_keeps w c (x ∷ xs) = each_keeps w (season_at w c x) xs ∙ season_at_keeps w c x
+
+pub season_keeps_units : (w : Planet) (c : State) (words : List ℕ) → (season w c words).units ≡ c.units
+season_keeps_units w c words = each_keeps w c (zip (map (λ (e : ℕ × RegionPlan). e.0) (entries w.regions)) words)
 
 -- ---- the loop over the regions
 
@@ -243,8 +226,11 @@ season_goes_on w c d all regions rest words tail n word plan listed given is who
     ∙ whole
 
 pub room_goes_on : (w : Planet) → IsWorld w → (c d : State) (regions rest : List (ℕ × RegionPlan)) (n word : ℕ) (plan : RegionPlan)
-    → regions ≡ (n, plan) ∷ rest → d ≡ season_at w c (n, word) → IsSteady w c → HaveRoom (length regions * region_bound) c → HaveRoom (length rest * region_bound) d
+    → regions ≡ (n, plan) ∷ rest → d ≡ season_at w c (n, word) → IsSteady w c → HaveRoom (moved_times (length regions) (grows_by most_amount)) c → HaveRoom (moved_times (length rest) (grows_by most_amount)) d
 room_goes_on w world c d regions rest n word plan listed is steady room =
-    let all : region_bound + length rest * region_bound ≤ length regions * region_bound = omega (arith, ap length listed) in
-    let well = season_at_leaves_well w world c (n, word) steady in
-    rw is (room_behind region_bound (length rest * region_bound) w c (season_at w c (n, word)) well (room_less (region_bound + length rest * region_bound) (length regions * region_bound) c all room))
+    rw is (room_behind_one (grows_by most_amount) w (season_at w) (season_at_leaves_well w world) c (n, word) (n, plan) rest steady (subst (λ (l : List (ℕ × RegionPlan)). HaveRoom (moved_times (length l) (grows_by most_amount)) c) listed room))
+
+pub room_now : (w : Planet) → IsWorld w → (c : State) (regions rest : List (ℕ × RegionPlan)) (n : ℕ) (plan : RegionPlan)
+    → regions ≡ (n, plan) ∷ rest → HaveRoom (moved_times (length regions) (grows_by most_amount)) c → HaveRoom (grows_by most_amount) c
+room_now w world c regions rest n plan listed room =
+    room_for_one (grows_by most_amount) w (season_at w) (season_at_leaves_well w world) c (n, plan) rest (subst (λ (l : List (ℕ × RegionPlan)). HaveRoom (moved_times (length l) (grows_by most_amount)) c) listed room)

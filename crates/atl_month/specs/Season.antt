@@ -1,5 +1,5 @@
 -- The season of a month: what each region has of births and of income. See docs/RULES.md, "Season".
-use Rattle.std.specs.Prelude.{ℕ, pos, ◌+◌, ◌-◌, ◌*◌, ◌/◌, ◌%◌, min, List, map, fold, zip, Option, Some, None, option_and_then}
+use Rattle.std.specs.Prelude.{◌≡◌, ℕ, pos, ◌+◌, ◌-◌, ◌*◌, ◌/◌, ◌%◌, min, List, map, fold, zip, Option, Some, None, option_and_then}
 use Rattle.std.specs.List.{slice_get}
 use Rattle.std.specs.FinMap.{entries, get}
 use Rattle.atl_tables.specs.Planet.{Planet}
@@ -9,7 +9,7 @@ use Rattle.atl_state.specs.declared.books.Thing.TheVariants.{Money, People}
 use Rattle.atl_state.specs.declared.records.Region.{Region}
 use Rattle.atl_state.specs.State.{State, with_amount, with_peasants, with_region_money}
 use Rattle.atl_instant.specs.Course.{Course}
-use Rattle.atl_instant.specs.Meaning.{Changing, changes_only, either_changes}
+use Rattle.atl_instant.specs.Meaning.{Keeping, Moving, both_move, moves_only}
 
 -- The terrain of a region of the world.
 abbrev pub terrain_of : Planet → ℕ → Option Terrain
@@ -48,10 +48,10 @@ season w c words = fold (season_at w) c (zip (map (λ e. e.0) (entries w.regions
 abbrev pub season_meaning : Planet → State → Course → State × Course
 season_meaning w c m = (season w c m.words, m)
 
--- births are of people, income is of money
-abbrev pub season_changes : Changing
-season_changes = either_changes (changes_only Births People) (changes_only Income Money)
+-- births are of people, income is of money, each by so much at most
+abbrev pub grows_by : ℕ → Moving
+grows_by most = both_move (moves_only most Births People) (moves_only most Income Money)
 
--- the season of one region changes each amount by less than this
-abbrev pub region_bound : ℕ
-region_bound = 2000000000
+-- the season changes no unit
+abbrev pub season_keeps : Keeping
+season_keeps w m before after = after.units ≡ before.units

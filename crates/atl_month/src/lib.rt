@@ -1,8 +1,10 @@
 //! The end of a month: what each unit needs, what each region grows, and who leaves the campaign.
 #![tactic(auto)]
 
+pub mod close;
 pub mod season;
 pub mod settling;
 
+pub use close::close_month;
 pub use season::SeasonPhase;
 pub use settling::{Purse, Settled, settle};

@@ -6,8 +6,8 @@ ghost use Rattle.atl_tables.specs.Limits.{most_amount, most_growth, most_per_hea
 ghost use Rattle.atl_state.specs.Books.{IsGrid};
 ghost use Rattle.atl_state.specs.Covers.{MarksChanges};
 ghost use Rattle.atl_state.specs.Good.{IsSteady};
-ghost use Rattle.atl_instant.specs.Meaning.{HaveRoom, most_change};
-ghost use Rattle.atl_month.specs.Season.{births, income, region_bound, season, season_at, season_changes, season_meaning, terrain_of, with_growth};
+ghost use Rattle.atl_instant.specs.Meaning.{HaveRoom, most_moved};
+ghost use Rattle.atl_month.specs.Season.{births, grows_by, income, season, season_at, season_keeps, season_meaning, terrain_of, with_growth};
 
 use atl_instant::{Month, Phase};
 use atl_state::{Campaign, Entry, Region, Thing};
@@ -48,7 +48,7 @@ fn terrain_of(world: &World, region: u32) -> Option<&Terrain>
 fn grow(campaign: &mut Campaign, number: u32, region: Region, born: u32, earned: u32)
     requires there { map.get campaign.old.what.regions number ≡ Some region }
     requires grid { (things : ℕ) × (2 ≤ things) × IsGrid things campaign.old.what.books }
-    requires room { HaveRoom region_bound campaign.old.what }
+    requires room { HaveRoom (grows_by most_amount) campaign.old.what }
     requires peasants { region.peasants + born ≤ most_amount }
     requires money { region.money + earned ≤ most_amount }
     ensures what { campaign.new.what ≡ with_growth campaign.old.what number region born earned }
@@ -64,7 +64,7 @@ fn grow(campaign: &mut Campaign, number: u32, region: Region, born: u32, earned:
 #[tactic(auto, unfolding(crate::specs::Season::season_at))]
 fn turn_region(world: &World, campaign: &mut Campaign, number: u32, word: u32)
     requires steady { IsSteady world.now campaign.old.what }
-    requires room { HaveRoom region_bound campaign.old.what }
+    requires room { HaveRoom (grows_by most_amount) campaign.old.what }
     ensures what { campaign.new.what ≡ season_at world.now campaign.old.what (number, word) }
     ensures marks { MarksChanges campaign.old campaign.new }
 {
@@ -90,7 +90,7 @@ fn turn_region(world: &World, campaign: &mut Campaign, number: u32, word: u32)
 /// The season of the regions, as far as there are words.
 fn turn_regions(world: &World, campaign: &mut Campaign, words: &[u32])
     requires steady { IsSteady world.now campaign.old.what }
-    requires room { HaveRoom most_change campaign.old.what }
+    requires room { HaveRoom (grows_by most_moved) campaign.old.what }
     ensures what { campaign.new.what ≡ season world.now campaign.old.what words.now }
     ensures marks { MarksChanges campaign.old campaign.new }
     ensures world { IsWorld world.now }
@@ -112,9 +112,9 @@ impl Phase for SeasonPhase {
 
     ghost leaves = { IsSteady };
 
-    ghost changing = { season_changes };
+    ghost moving = { grows_by most_moved };
 
-    ghost bound = { most_change };
+    ghost keeps = { season_keeps };
 
     fn run(
         &self,

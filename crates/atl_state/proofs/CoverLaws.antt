@@ -72,7 +72,7 @@ or-true : (b : Bool) → (b || true) ≡ true
 or-true true = refl
 or-true false = refl
 
-put_stays : (marks : FinSet nat_cmp) (n : ℕ) → StaysMarked marks (insert marks n)
+pub put_stays : (marks : FinSet nat_cmp) (n : ℕ) → StaysMarked marks (insert marks n)
 put_stays marks n k h = contains-insert nat_cmp_total marks n k ∙ ap (λ b. eq_by_cmp nat_cmp k n || b) h ∙ or-true (eq_by_cmp nat_cmp k n)
 
 ties : (k n : ℕ) → k ≡ n → eq_by_cmp nat_cmp k n ≡ true
@@ -82,7 +82,7 @@ put_there : (marks : FinSet nat_cmp) (n k : ℕ) → k ≡ n → contains (inser
 put_there marks n k e = contains-insert nat_cmp_total marks n k ∙ ap (λ b. b || contains marks k) (ties k n e)
 
 -- what is not marked is another one than what was just put
-apart_by : (marks : FinSet nat_cmp) (n k : ℕ) → contains (insert marks n) k ≡ false → k ≢ n
+pub apart_by : (marks : FinSet nat_cmp) (n k : ℕ) → contains (insert marks n) k ≡ false → k ≢ n
 apart_by marks n k free same = true_false (sym (put_there marks n k same) ∙ free)
 
 -- a region that is changed and marked

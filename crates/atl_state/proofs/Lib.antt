@@ -35,3 +35,4 @@ pub mod RuleLaws
 pub mod GuardLaws
 pub mod DifferLaws
 pub mod AmountLaws
+pub mod HoldingLaws

@@ -74,7 +74,7 @@ module _ (w : Planet) (c : State) (regions : FinMap nat_cmp Region) (books : Lis
 -- ---- a region
 
 module _ {V : Type 0} where
-  same_len : (m : FinMap nat_cmp V) (n : ℕ) (u v : V) → get m n ≡ Some u → len (insert m n v) ≡ len m
+  pub same_len : (m : FinMap nat_cmp V) (n : ℕ) (u v : V) → get m n ≡ Some u → len (insert m n v) ≡ len m
   same_len m n u v is = len-insert nat_cmp_total m n v ∙ ap (λ o. cond (is_some o) (len m) (len m + 1)) is
 
   there_again : (m : FinMap nat_cmp V) (k n : ℕ) (u v : V) → get m k ≡ Some u → IsThere (insert m k v) n → IsThere m n

@@ -3,9 +3,12 @@ use Rattle.std.proofs.lemmas.Int.{to_z-of_z}
 use Rattle.atl_state.specs.declared.books.Entry.TheVariants.{Births}
 use Rattle.atl_state.specs.declared.books.Thing.TheVariants.{People}
 use Rattle.atl_state.specs.Books.{amount_in}
-use Rattle.atl_month.specs.Season.{region_bound}
-use Rattle.atl_instant.proofs.MeaningLaws.{room_less}
-use Rattle.atl_month.proofs.SeasonLaws.{births_booked, booking_fits, growth_marks}
+use Rattle.atl_tables.specs.Limits.{most_amount}
+use Rattle.atl_state.specs.declared.books.Entry.TheVariants.{Income}
+use Rattle.atl_state.specs.declared.books.Thing.TheVariants.{Money}
+use Rattle.atl_instant.specs.Meaning.{moves_only}
+use Rattle.atl_instant.proofs.BookingLaws.{booked-room, booking_fits, within-pos}
+use Rattle.atl_month.proofs.SeasonLaws.{growth_marks}
 use Rattle.atl_month.proofs.season.grow.Goals as goal
 
 pub book-requires-clause-fits : goal.book-requires-clause-fits
@@ -13,17 +16,17 @@ book-requires-clause-fits c =
     let same : to_z w64 (of_z w64 c.from.result) ≡ c.from.result = search (rules, to_z-of_z) in
     let before = c.args.campaign.now.what in
     rw (same, c.from.ensures, c.set_region_money.ensures.what, c.set_peasants.ensures.what)
-    (booking_fits (amount_in before.books Births People) c.args.born (omega (arith, c.requires.peasants)) (room_less 1000000000 region_bound before (omega arith) c.requires.room Births People))
+    (booking_fits (amount_in before.books Births People) (pos c.args.born) most_amount (within-pos c.args.born most_amount (omega (arith, c.requires.peasants))) (c.requires.room Births People))
 
 pub book-requires-2-clause-fits : goal.book-requires-2-clause-fits
 book-requires-2-clause-fits c =
     let one : to_z w64 (of_z w64 c.from.result) ≡ c.from.result = search (rules, to_z-of_z) in
     let same : to_z w64 (of_z w64 c.from-2.result) ≡ c.from-2.result = search (rules, to_z-of_z) in
-    let before = c.args.campaign.now.what in
+    let books = c.args.campaign.now.what.books in
     let (things, two, grid) = c.requires.grid in
     rw (same, c.from-2.ensures, c.book.ensures.what, one, c.from.ensures, c.set_region_money.ensures.what, c.set_peasants.ensures.what)
-    (booking_fits _ c.args.earned (omega (arith, c.requires.money))
-    (births_booked before c.args.born things grid two (omega (arith, c.requires.peasants)) c.requires.room))
+    (booking_fits _ (pos c.args.earned) most_amount (within-pos c.args.earned most_amount (omega (arith, c.requires.money)))
+    (booked-room things books Births People (pos c.args.born) most_amount grid (omega arith) (within-pos c.args.born most_amount (omega (arith, c.requires.peasants))) (moves_only most_amount Income Money) c.requires.room Income Money))
 
 pub returns-clause-marks : goal.returns-clause-marks
 returns-clause-marks c =

@@ -2,11 +2,12 @@ use Rattle.std.proofs.Common.{◌≡◌, ◌+◌, ◌*◌, ◌≤◌, ◌∷◌,
 use Rattle.std.specs.Prelude.{fold, zip}
 use Rattle.std.proofs.lemmas.List.{drop_more}
 use Rattle.std.specs.FinMap.{entries, len-entries}
+use Rattle.atl_tables.specs.Limits.{most_amount}
 use Rattle.atl_state.proofs.CoverLaws.{marks-refl, marks-trans}
-use Rattle.atl_instant.specs.Meaning.{most_change}
+use Rattle.atl_instant.specs.Meaning.{moved_times, most_moved}
 use Rattle.atl_instant.proofs.MeaningLaws.{room_less}
-use Rattle.atl_month.specs.Season.{region_bound, season_at}
-use Rattle.atl_month.proofs.SeasonLaws.{room_goes_on, season_at_leaves_well, season_goes_on}
+use Rattle.atl_month.specs.Season.{grows_by, season_at}
+use Rattle.atl_month.proofs.SeasonLaws.{grows_little, room_goes_on, room_now, season_at_leaves_well, season_goes_on}
 use Rattle.atl_month.proofs.season.turn_regions.Goals as goal
 
 pub loop-number-init : goal.loop-number-init
@@ -17,7 +18,7 @@ loop-number-init c =
       tt,
       ap (λ l. fold (season_at c.args.world.now) c.args.campaign.now.what (zip (map (λ e. e.0) l) c.args.words.now)) listed,
       c.requires.steady,
-      room_less (length c.into_iter-number-iterator.result * region_bound) most_change c.args.campaign.now.what (omega (arith, few)) c.requires.room,
+      room_less (moved_times (length c.into_iter-number-iterator.result) (grows_by most_amount)) (grows_by most_moved) c.args.campaign.now.what (grows_little (length c.into_iter-number-iterator.result) few) c.requires.room,
       marks-refl c.args.campaign.now,
     )
 
@@ -44,3 +45,9 @@ loop-number-preserved c =
       room_goes_on w world before after regions c.next.new.self n word c.in-Some.field-0-1.now listed is steady room,
       marks-trans c.args.campaign.now c.loop-number.campaign c.turn_region.new.campaign marks c.turn_region.ensures.marks,
     )
+
+pub turn_region-requires-clause-room : goal.turn_region-requires-clause-room
+turn_region-requires-clause-room c =
+    let (_, _, whole, steady, room, marks) = c.loop-number.invariant in
+    let listed : c.loop-number.number-iterator ≡ (c.in-Some.number, c.in-Some.field-0-1.now) ∷ c.next.new.self = search rules in
+    room_now c.args.world.now c.regions.ensures.world c.loop-number.campaign.what c.loop-number.number-iterator c.next.new.self c.in-Some.number c.in-Some.field-0-1.now listed room

@@ -1,9 +1,10 @@
 use Rattle.std.proofs.Common.{◌≡◌, ◌*◌, length, map}
 use Rattle.std.specs.Prelude.{fold, zip, drop}
+use Rattle.atl_tables.specs.Limits.{most_amount}
 use Rattle.atl_state.specs.Covers.{MarksChanges}
 use Rattle.atl_state.specs.Good.{IsSteady}
-use Rattle.atl_instant.specs.Meaning.{HaveRoom}
-use Rattle.atl_month.specs.Season.{region_bound, season, season_at}
+use Rattle.atl_instant.specs.Meaning.{HaveRoom, moved_times}
+use Rattle.atl_month.specs.Season.{grows_by, season, season_at}
 use Rattle.atl_month.proofs.season.turn_regions.Given as goal
 
 abbrev pub invariant-loop-number : goal.invariant-loop-number
@@ -12,5 +13,5 @@ invariant-loop-number l =
     (goal.iterator-loop-number).is_finite l.number-iterator ×
     (fold (season_at l.world) l.campaign.what (zip (map (λ e. e.0) l.number-iterator) (drop l.place l.words)) ≡ season l.world l.initial.campaign.what l.words) ×
     IsSteady l.world l.campaign.what ×
-    HaveRoom (length l.number-iterator * region_bound) l.campaign.what ×
+    HaveRoom (moved_times (length l.number-iterator) (grows_by most_amount)) l.campaign.what ×
     MarksChanges l.initial.campaign l.campaign

@@ -1,0 +1,51 @@
+-- What is booked moves one amount of the books, and no other.
+use Rattle.std.proofs.Common.{◌≡◌, ◌≢◌, ◌==◌, ℕ, ◌+◌, ◌≤◌, ◌<◌, Bool, true, false, List, inl, inr, ◌⊎◌, refl, arith}
+use Rattle.std.specs.Prelude.{ℤ, pos, negsuc, ◌+ℤ◌, ◌≤ℤ◌, if◌then◌else◌}
+use Rattle.std.specs.Int.{w64}
+use Rattle.std.specs.Int.RustNames.{FitsSigned}
+use Rattle.std.proofs.lemmas.Int.{ints}
+use Rattle.std.proofs.lemmas.Bool.Decides.{nat_tests}
+use Rattle.atl_state.specs.declared.books.Entry.{Entry}
+use Rattle.atl_state.specs.declared.books.Thing.{Thing}
+use Rattle.atl_state.specs.Books.{IsGrid, IsWithin, amount_in, thing_place, with_booked}
+use Rattle.atl_state.specs.Marks.{amount_number}
+use Rattle.atl_state.proofs.BookLaws.{amount-with_booked}
+use Rattle.atl_state.proofs.RegionLaws.{amount-other}
+use Rattle.atl_instant.specs.Meaning.{HasRoom, IsNear, Moving, amount_limit, moves_only}
+use Rattle.atl_instant.proofs.MeaningLaws.{near_room}
+
+differ : (a b : ℕ) → (a == b) ≡ false → a ≢ b
+differ a b h = grind (arith, nat_tests)
+
+near_by : (x y z : ℤ) (n : ℕ) → IsWithin n z → (y ≡ x +ℤ z) ⊎ (y ≡ x) → IsNear n x y
+near_by x y z n small h = elim h [
+  | inl is ↦ record { above = omega (arith, ints, small.most, is); below = omega (arith, ints, small.least, is) }
+  | inr is ↦ record { above = omega (arith, ints, is); below = omega (arith, ints, is) }
+]
+
+near_same : (x y : ℤ) → y ≡ x → IsNear 0 x y
+near_same x y is = record { above = omega (arith, ints, is); below = omega (arith, ints, is) }
+
+module _ (things : ℕ) (books : List (List ℤ)) (e : Entry) (t : Thing) (z : ℤ) (n : ℕ) (grid : IsGrid things books) (inside : thing_place t < things) (small : IsWithin n z) where
+  pub booked-near : (f : Entry) (u : Thing) → IsNear (moves_only n e t f u) (amount_in books f u) (amount_in (with_booked books e t z) f u)
+  booked-near f u = by_number (amount_number f u == amount_number e t) refl
+    where
+      by_number : (b : Bool) → (amount_number f u == amount_number e t) ≡ b → IsNear (if b then n else 0) (amount_in books f u) (amount_in (with_booked books e t z) f u)
+      by_number true is = near_by _ _ z n small (amount-with_booked things books e t z grid inside f u)
+      by_number false is = near_same _ _ (amount-other things books f e u t z grid inside (differ _ _ is))
+
+  -- behind it there is room for what else is to be booked
+  pub booked-room : (next : Moving) → ((f : Entry) (u : Thing) → HasRoom (moves_only n e t f u + next f u) (amount_in books f u)) → (f : Entry) (u : Thing) → HasRoom (next f u) (amount_in (with_booked books e t z) f u)
+  booked-room next room f u = near_room (moves_only n e t f u) (next f u) _ _ (booked-near f u) (room f u)
+
+by_sign : (z : ℤ) → z ≤ℤ pos amount_limit → pos 0 ≤ℤ (z +ℤ pos amount_limit) → FitsSigned w64 z
+by_sign (pos n) most less = record { sfits = omega (arith, ints, most) }
+by_sign (negsuc n) most less = record { sfits = omega (arith, ints, less) }
+
+-- where there is room, so much more can be booked
+pub booking_fits : (x z : ℤ) (n : ℕ) → IsWithin n z → HasRoom n x → FitsSigned w64 (x +ℤ z)
+booking_fits x z n small room = by_sign (x +ℤ z) (omega (arith, ints, room.above, small.most)) (omega (arith, ints, room.below, small.least))
+
+-- what is added, and what is taken away
+pub within-pos : (k n : ℕ) → k ≤ n → IsWithin n (pos k)
+within-pos k n l = record { most = omega (arith, ints); least = omega (arith, ints) }

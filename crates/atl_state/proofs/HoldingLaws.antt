@@ -1,0 +1,222 @@
+-- How a campaign changes with what one unit holds.
+use Rattle.std.proofs.Common.{◌≡◌, ◌≢◌, ◌==◌, ◌⊎◌, ℕ, ◌+◌, ◌*◌, ◌≤◌, ◌<◌, Bool, true, false, cond, Option, Some, None, length, refl, sym, ap, subst, ◌∙◌, inl, inr, arith}
+use Rattle.std.specs.Prelude.{IsTrue, option_map}
+use Rattle.std.specs.Ordering.{nat_cmp, is_eq}
+use Rattle.std.specs.Cmp.{nat_cmp_total, ranked}
+use Rattle.std.specs.declared.cmp.Ordering.TheVariants.{Less, Equal, Greater}
+use Rattle.std.specs.FinMap.{FinMap, get, insert, len, get-insert, nat_cmp-IsAntisymmetric}
+use Rattle.std.specs.FinSet.{contains}
+use Rattle.atl_tables.specs.Names.{name_ok}
+use Rattle.atl_tables.specs.Planet.{Planet}
+use Rattle.atl_tables.specs.Sums.{sum_over, changed_at}
+use Rattle.atl_tables.specs.Tracking.{marked_with}
+use Rattle.atl_tables.proofs.SumLaws.{numbers_where-insert_known, sum_over-insert_known}
+use Rattle.atl_state.specs.Covers.{MarksChanges, bare, goods_under}
+use Rattle.atl_state.specs.Limits.{holding_limit, most_days}
+use Rattle.atl_state.specs.declared.books.Thing.{Thing}
+use Rattle.atl_state.specs.declared.records.Region.{Region}
+use Rattle.atl_state.specs.declared.records.Structure.{Structure}
+use Rattle.atl_state.specs.declared.records.Unit.{Unit}
+use Rattle.atl_state.specs.Good.{AreAfloat, AreDays, AreInRange, AreKnown, AreNamed, AreNumbered, AreOfOneFaction, AreOwned, Every, GoneHaveNone, IsBuilt, IsOwned, IsPlaced, IsSteady, IsThere, guards}
+use Rattle.atl_state.specs.Held.{Held, IsHolding}
+use Rattle.atl_state.specs.Lending.{lent, with_held}
+use Rattle.atl_state.specs.Marking.{mark_unit_row}
+use Rattle.atl_state.specs.State.{Marked, State, numbers_of, unit_changed, with_money}
+use Rattle.atl_state.specs.Totals.{held, kept, total}
+use Rattle.atl_state.proofs.CoverLaws.{apart_by, marks-refl, put_stays}
+use Rattle.atl_state.proofs.EveryLaws.{every-insert, get-insert_other, none_some, there-insert}
+use Rattle.atl_state.proofs.RegionLaws.{get-insert_same, same_len}
+
+-- What a unit of a steady campaign may hold in the place of what it holds: within the limits, of what the world has, and it guards only if it did.
+pub record MayHold (w : Planet) (u : Unit) (h : Held) : Type 0 where
+  pub limits : IsHolding h
+  pub name : IsTrue (name_ok h.name)
+  pub items : Every (λ i amount. i < length w.items) h.items
+  pub skills : Every (λ s days. s < length w.skills) h.days
+  pub days : Every (λ s days. (1 ≤ days) × (days ≤ most_days * h.men)) h.days
+  pub guard : guards (record u { holding = h }) ≡ true → guards u ≡ true
+
+-- other money, up to the limit
+pub may_hold_money : (w : Planet) (c : State) (n money : ℕ) (u : Unit) → get c.units n ≡ Some u → money ≤ holding_limit → IsSteady w c → MayHold w u (record u.holding { money = money })
+may_hold_money w c n money u is most steady =
+    let place = steady.known.units n u is in
+    let holding = (steady.numbers.units n u is).1 in
+    record {
+      limits = record { men = holding.men; money = most; items = holding.items };
+      name = steady.names.units n u is;
+      items = place.items;
+      skills = place.skills;
+      days = steady.days n u is;
+      guard = λ g. g;
+    }
+
+module _ (w : Planet) (c : State) (n : ℕ) (u : Unit) (h : Held) (is : get c.units n ≡ Some u) where
+  abbrev new_unit : Unit
+  new_unit = record u { holding = h }
+
+  abbrev supplied : State
+  supplied = record c { units = insert c.units n new_unit }
+
+  -- another number than one under which there is no unit
+  free_apart : (k : ℕ) → get c.units k ≡ None → k ≢ n
+  free_apart k free same = none_some u (sym free ∙ ap (get c.units) same ∙ is)
+
+  numbers_kept : IsHolding h → AreInRange w c → AreInRange w supplied
+  numbers_kept limits old = record {
+    month = old.month;
+    few_factions = old.few_factions;
+    few_regions = old.few_regions;
+    few_units = omega (arith, same_len c.units n u new_unit is, old.few_units);
+    few_structures = old.few_structures;
+    next_unit_least = old.next_unit_least;
+    next_unit_most = old.next_unit_most;
+    factions = old.factions;
+    regions = old.regions;
+    units = every-insert (λ k x. (1 ≤ k) × IsHolding x.holding) c.units n new_unit ((old.units n u is).0, limits) old.units;
+    structures = old.structures;
+    books = old.books;
+  }
+
+  known_kept : MayHold w u h → AreKnown w c → AreKnown w supplied
+  known_kept may old = record {
+    regions = old.regions;
+    units = every-insert (λ k x. IsPlaced w supplied x) c.units n new_unit
+        (let p = old.units n u is in record { faction = p.faction; region = p.region; structure = p.structure; items = may.items; skills = may.skills })
+        (λ k x there. let p = old.units k x there in record { faction = p.faction; region = p.region; structure = p.structure; items = p.items; skills = p.skills });
+    structures = λ k s there. let b = old.structures k s there in record { kind = b.kind; region = b.region; owner = λ owned. there-insert c.units n s.owner new_unit (b.owner owned) };
+    mail = old.mail;
+    reports = old.reports;
+  }
+
+  next_kept : AreNumbered c → AreNumbered supplied
+  next_kept old = record {
+    factions = old.factions;
+    structures = old.structures;
+    units = λ k above. get-insert_other c.units n k new_unit (free_apart k (old.units k above)) ∙ old.units k above;
+  }
+
+  gone_kept : GoneHaveNone c → GoneHaveNone supplied
+  gone_kept old m f there gone = numbers_where-insert_known (λ x. x.faction == m) c.units n u new_unit is refl ∙ old m f there gone
+
+  -- a unit of the structure is still inside it
+  inside_still : (k m : ℕ) → (x : Unit) × (get c.units k ≡ Some x) × (x.structure ≡ m) → (x : Unit) × (get supplied.units k ≡ Some x) × (x.structure ≡ m)
+  inside_still k m (x, there, inside) =
+      elim (nat_cmp k n) as (λ o. nat_cmp k n ≡ o → (y : Unit) × (get supplied.units k ≡ Some y) × (y.structure ≡ m)) [
+        | Less ↦ λ o. (x, get-insert_other c.units n k new_unit (λ same. let l = ranked k n Less (sym o) in absurd (omega arith)) ∙ there, inside)
+        | Equal ↦ λ o.
+            let same : k ≡ n = nat_cmp-IsAntisymmetric k n o in
+            let one : Some x ≡ Some u = sym there ∙ ap (get c.units) same ∙ is in
+            (new_unit, ap (get supplied.units) same ∙ get-insert_same c.units n new_unit, sym (ap (λ p. structure_in p x) one) ∙ inside)
+        | Greater ↦ λ o. (x, get-insert_other c.units n k new_unit (λ same. let l = ranked k n Greater (sym o) in absurd (omega arith)) ∙ there, inside)
+      ] refl
+    where
+      structure_in : Option Unit → Unit → ℕ
+      structure_in (Some y) z = y.structure
+      structure_in None z = z.structure
+
+  owners_kept : AreOwned c → AreOwned supplied
+  owners_kept old m s there =
+      let o = old m s there in
+      record {
+        owned = λ some. inside_still s.owner m (o.owned some);
+        ownerless = λ none. every-insert (λ k x. x.structure ≢ m) c.units n new_unit (o.ownerless none n u is) (o.ownerless none);
+      }
+
+  water_kept : AreAfloat w c → AreAfloat w supplied
+  water_kept old = record {
+    units = every-insert _ c.units n new_unit (old.units n u is) old.units;
+    structures = old.structures;
+  }
+
+  -- those that pass a test are still of one faction, if the unit passes it only where it did
+  module _ (test : Unit → Bool) (only : test new_unit ≡ true → test u ≡ true) where
+    abbrev Agree : Unit → Unit → Type 0
+    Agree x y = test x ≡ true → test y ≡ true → x.region ≡ y.region → x.faction ≡ y.faction
+
+    pub of_one_faction_kept : AreOfOneFaction test c → AreOfOneFaction test supplied
+    of_one_faction_kept old =
+        every-insert (λ k x. Every (λ m y. Agree x y) supplied.units) c.units n new_unit
+        (every-insert (λ m y. Agree new_unit y) c.units n new_unit (λ g k same. refl) (λ m y there g k same. old n u is m y there (only g) k same))
+        (λ k x here. every-insert (λ m y. Agree x y) c.units n new_unit (λ g k2 same. old k x here n u is g (only k2) same) (old k x here))
+
+  pub steady-held : MayHold w u h → IsSteady w c → IsSteady w supplied
+  steady-held may old = record {
+    numbers = numbers_kept may.limits old.numbers;
+    names = record {
+      pass = old.names.pass;
+      factions = old.names.factions;
+      joined = old.names.joined;
+      units = every-insert (λ k x. IsTrue (name_ok x.holding.name)) c.units n new_unit may.name old.names.units;
+      structures = old.names.structures;
+    };
+    known = known_kept may old.known;
+    next = next_kept old.next;
+    days = every-insert (λ k x. Every (λ s days. (1 ≤ days) × (days ≤ most_days * x.holding.men)) x.holding.days) c.units n new_unit may.days old.days;
+    gone = gone_kept old.gone;
+    owners = owners_kept old.owners;
+    water = water_kept old.water;
+    guarded = of_one_faction_kept guards may.guard old.guarded;
+  }
+
+  regrouped : (r a b p q : ℕ) → a + p ≡ b + q → (a + r) + p ≡ (b + r) + q
+  regrouped r a b p q e = omega arith
+
+  pub total-held : (t : Thing) → total supplied t + held t u.holding ≡ total c t + held t h
+  unfolding total
+  total-held t =
+      let there = λ (x : Unit). held t x.holding in
+      regrouped (sum_over (λ (r : Region). kept t r) c.regions) (sum_over there supplied.units) (sum_over there c.units) (held t u.holding) (held t h)
+      (sum_over-insert_known there c.units n u new_unit is)
+
+-- ---- what is marked
+
+-- a unit whose row is changed and marked, and whose goods stay
+pub marks-unit_row : (f : Unit → Unit) → ((u : Unit) → goods_under (Some (f u)) ≡ goods_under (Some u)) → (c : Marked) (n : ℕ) → MarksChanges c (record { what = unit_changed f c.what n; marks = mark_unit_row c n })
+marks-unit_row f same c n = by_unit (get c.what.units n) refl
+  where
+    goods_kept : (u : Unit) → get c.what.units n ≡ Some u → (k : ℕ) → goods_under (get (insert c.what.units n (f u)) k) ≡ goods_under (get c.what.units k)
+    goods_kept u is k =
+        ap goods_under (get-insert nat_cmp_total c.what.units n (f u) k)
+        ∙ elim (nat_cmp k n) as (λ o. nat_cmp k n ≡ o → goods_under (cond (is_eq o) (Some (f u)) (get c.what.units k)) ≡ goods_under (get c.what.units k)) [
+          | Less ↦ λ o. refl
+          | Equal ↦ λ o. same u ∙ sym (ap goods_under (ap (get c.what.units) (nat_cmp-IsAntisymmetric k n o) ∙ is))
+          | Greater ↦ λ o. refl
+        ] refl
+
+    by_unit : (o : Option Unit) → get c.what.units n ≡ o → MarksChanges c (record { what = record c.what { units = changed_at f c.what.units n o }; marks = record c.marks { units = marked_with c.marks.units n o } })
+    by_unit None is = marks-refl c
+    by_unit (Some u) is = record {
+      stay = record { factions = λ k h. h; regions = λ k h. h; structures = λ k h. h; mail = λ k h. h; reports = λ k h. h; units = put_stays c.marks.units n; goods = λ k h. h; books = λ k h. h; row = λ h. h };
+      covers = record {
+        factions = λ k free. refl;
+        regions = λ k free. refl;
+        structures = λ k free. refl;
+        mail = λ k free. refl;
+        reports = λ k free. refl;
+        units = λ k free. ap (option_map bare) (get-insert_other c.what.units n k (f u) (apart_by c.marks.units n k free));
+        goods = λ k free. goods_kept u is k;
+        books = λ e t free. refl;
+        row = λ free. refl;
+      };
+    }
+
+-- a unit's holding that was lent
+pub marks-lent : (c : Marked) (n : ℕ) (h : Held) → MarksChanges c (lent c n h)
+marks-lent c n h = by_unit (get c.what.units n) refl
+  where
+    by_unit : (o : Option Unit) → get c.what.units n ≡ o → MarksChanges c (record { what = with_held c.what n h o; marks = record c.marks { units = marked_with c.marks.units n o; goods = marked_with c.marks.goods n o } })
+    by_unit None is = marks-refl c
+    by_unit (Some u) is = record {
+      stay = record { factions = λ k g. g; regions = λ k g. g; structures = λ k g. g; mail = λ k g. g; reports = λ k g. g; units = put_stays c.marks.units n; goods = put_stays c.marks.goods n; books = λ k g. g; row = λ g. g };
+      covers = record {
+        factions = λ k free. refl;
+        regions = λ k free. refl;
+        structures = λ k free. refl;
+        mail = λ k free. refl;
+        reports = λ k free. refl;
+        units = λ k free. ap (option_map bare) (get-insert_other c.what.units n k (record u { holding = h }) (apart_by c.marks.units n k free));
+        goods = λ k free. ap goods_under (get-insert_other c.what.units n k (record u { holding = h }) (apart_by c.marks.goods n k free));
+        books = λ e t free. refl;
+        row = λ free. refl;
+      };
+    }
