@@ -1,5 +1,5 @@
 -- What several steps leave, each of which leaves a campaign well.
-use Rattle.std.proofs.Common.{◌≡◌, ℕ, ◌+◌, ◌*◌, ◌≤◌, List, [], ◌∷◌, length, sym, arith}
+use Rattle.std.proofs.Common.{◌≡◌, ℕ, ◌+◌, ◌*◌, ◌≤◌, List, [], ◌∷◌, length, refl, sym, ◌∙◌, arith}
 use Rattle.std.specs.Prelude.{ℤ, pos, fold}
 use Rattle.std.proofs.lemmas.Int.{ints}
 use Rattle.std.proofs.Math.Nat.{suc-mul}
@@ -10,7 +10,7 @@ use Rattle.atl_state.specs.declared.books.Thing.{Thing}
 use Rattle.atl_state.specs.Books.{IsWithin, amount_in}
 use Rattle.atl_state.specs.Good.{IsSound, amount_bound}
 use Rattle.atl_instant.specs.Course.{Course}
-use Rattle.atl_instant.specs.Meaning.{Condition, HasRoom, HaveRoom, IsNear, Keeping, LeavesWell, Meaning, Moving, both_keep, both_move, moved_times}
+use Rattle.atl_instant.specs.Meaning.{Condition, HasRoom, HaveRoom, IsNear, IsSameMonth, Keeping, LeavesWell, Meaning, Moving, both_keep, both_move, moved_times}
 
 pub near_twice : (j k : ℕ) (a b c : ℤ) → IsNear j a b → IsNear k b c → IsNear (j + k) a c
 near_twice j k a b c g h = record { above = omega (arith, ints, g.above, h.above); below = omega (arith, ints, g.below, h.below) }
@@ -48,9 +48,21 @@ room_when_sound w c moving l sound e t =
 pub room_behind : {leaves : Condition} (j k : Moving) (w : Planet) (c d : State) → LeavesWell leaves j w c d → HaveRoom (both_move j k) c → HaveRoom k d
 room_behind j k w c d well room e t = near_room (j e t) (k e t) (amount_in c.books e t) (amount_in d.books e t) (well.near e t) (room e t)
 
+pub same_month : (c : State) → IsSameMonth c c
+same_month c = record { month = refl; reports = refl; count = refl; factions = λ n there. there }
+
+same_month_twice : (a b c : State) → IsSameMonth a b → IsSameMonth b c → IsSameMonth a c
+same_month_twice a b c one two = record {
+  month = two.month ∙ one.month;
+  reports = two.reports ∙ one.reports;
+  count = two.count ∙ one.count;
+  factions = λ n there. one.factions n (two.factions n there);
+}
+
 pub both_leave_well : {between leaves : Condition} (j k : Moving) (w : Planet) (a b c : State) → LeavesWell between j w a b → LeavesWell leaves k w b c → LeavesWell leaves (both_move j k) w a c
 both_leave_well j k w a b c one two = record {
   leaves_it = two.leaves_it;
+  same_month = same_month_twice a b c one.same_month two.same_month;
   balances = λ h. two.balances (one.balances h);
   near = λ e t. near_twice (j e t) (k e t) (amount_in a.books e t) (amount_in b.books e t) (amount_in c.books e t) (one.near e t) (two.near e t);
 }
@@ -61,10 +73,10 @@ pub both_keep_well : (first : Meaning) (early late : Keeping) (w : Planet) (m n 
 both_keep_well first early late w m n a b c is one two = rw (sym is) (one, two)
 
 pub well_within : {leaves : Condition} (j k : Moving) (w : Planet) (a b : State) → MovesLess j k → LeavesWell leaves j w a b → LeavesWell leaves k w a b
-well_within j k w a b l h = record { leaves_it = h.leaves_it; balances = h.balances; near = λ e t. near_more (j e t) (k e t) (amount_in a.books e t) (amount_in b.books e t) (l e t) (h.near e t) }
+well_within j k w a b l h = record { leaves_it = h.leaves_it; same_month = h.same_month; balances = h.balances; near = λ e t. near_more (j e t) (k e t) (amount_in a.books e t) (amount_in b.books e t) (l e t) (h.near e t) }
 
 pub well_unchanged : {leaves : Condition} (moving : Moving) (w : Planet) (c : State) → leaves w c → LeavesWell leaves moving w c c
-well_unchanged moving w c h = record { leaves_it = h; balances = λ b. b; near = λ e t. near_same (moving e t) (amount_in c.books e t) }
+well_unchanged moving w c h = record { leaves_it = h; same_month = same_month c; balances = λ b. b; near = λ e t. near_same (moving e t) (amount_in c.books e t) }
 
 -- so does a fold of steps each of which does
 module _ {A : Type 0} {leaves : Condition} (moving : Moving) (w : Planet) (step : State → A → State) (each : (c : State) (x : A) → leaves w c → LeavesWell leaves moving w c (step c x)) where

@@ -1,9 +1,11 @@
 -- What a phase of the month is, and what each phase keeps.
-use Rattle.std.specs.Prelude.{ℕ, ℤ, pos, ◌+ℤ◌, ◌≤ℤ◌, ◌+◌, ◌*◌, ◌==◌, if◌then◌else◌}
+use Rattle.std.specs.Prelude.{◌≡◌, ℕ, ℤ, pos, ◌+ℤ◌, ◌≤ℤ◌, ◌+◌, ◌*◌, ◌==◌, if◌then◌else◌}
+use Rattle.std.specs.FinMap.{len}
 use Rattle.atl_tables.specs.Planet.{Planet}
 use Rattle.atl_state.specs.declared.books.Entry.{Entry}
 use Rattle.atl_state.specs.declared.books.Thing.{Thing}
 use Rattle.atl_state.specs.Books.{amount_in}
+use Rattle.atl_state.specs.Good.{IsThere}
 use Rattle.atl_state.specs.Marks.{amount_number}
 use Rattle.atl_state.specs.State.{State}
 use Rattle.atl_state.specs.Totals.{Balances}
@@ -79,8 +81,16 @@ pub record HasRoom (most : ℕ) (amount : ℤ) : Type 0 where
 abbrev pub HaveRoom : Moving → State → Type 0
 HaveRoom moving c = (e : Entry) (t : Thing) → HasRoom (moving e t) (amount_in c.books e t)
 
--- The campaign is as a phase leaves it, the books balance where they did before, and no amount of them is moved further than the phase may move it.
+-- Within a month the month isn't counted, no report is made, and no faction joins; one that is gone is still there.
+pub record IsSameMonth (before after : State) : Type 0 where
+  pub month : after.month ≡ before.month
+  pub reports : after.reports ≡ before.reports
+  pub count : len after.factions ≡ len before.factions
+  pub factions : (n : ℕ) → IsThere after.factions n → IsThere before.factions n
+
+-- The campaign is as a phase leaves it and of the same month, the books balance where they did before, and no amount of them is moved further than the phase may move it.
 pub record LeavesWell (leaves : Condition) (moving : Moving) (w : Planet) (before after : State) : Type 0 where
   pub leaves_it : leaves w after
+  pub same_month : IsSameMonth before after
   pub balances : Balances before → Balances after
   pub near : (e : Entry) (t : Thing) → IsNear (moving e t) (amount_in before.books e t) (amount_in after.books e t)

@@ -1,1 +1,3 @@
 pub mod SeasonLaws
+pub mod MonthLaws
+pub mod SettlingLaws

@@ -118,6 +118,7 @@ module _ (w : Planet) (c : State) (n : ℕ) (r : Region) (born earned : ℕ) (is
   pub growth_leaves_well : r.peasants + born ≤ most_amount → r.money + earned ≤ most_amount → IsSteady w c → LeavesWell IsSteady (grows_by most_amount) w c (with_growth c n r born earned)
   growth_leaves_well p m steady = record {
     leaves_it = growth_steady p m steady;
+    same_month = record { month = refl; reports = refl; count = refl; factions = λ k there. there };
     balances = growth_balances steady.numbers.books;
     near = growth_near steady.numbers.books (omega arith) (omega arith);
   }

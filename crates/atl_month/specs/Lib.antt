@@ -1,3 +1,5 @@
 pub mod Season
+pub mod Swept
 pub mod Settling
+pub mod Accounts
 pub mod Month

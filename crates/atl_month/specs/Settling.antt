@@ -1,5 +1,6 @@
--- The upkeep of the units of one faction in one region, in the order of their numbers. See docs/RULES.md, "Upkeep".
-use Rattle.std.specs.Prelude.{ℕ, ◌+◌, ◌-◌, ◌*◌, ◌/◌, List, [], ◌∷◌, map, min, sum, ◌≤◌}
+-- The upkeep of units. See docs/RULES.md, "Upkeep".
+use Rattle.std.specs.Prelude.{ℕ, ◌+◌, ◌-◌, ◌*◌, ◌/◌, ◌++◌, ◌==◌, ◌&&◌, Bool, List, [], ◌∷◌, filter, min, ◌≤◌}
+use Rattle.std.specs.List.{sum_by}
 use Rattle.atl_state.specs.Limits.{holding_limit, men_limit}
 use Rattle.atl_month.specs.declared.settling.Purse.{Purse}
 use Rattle.atl_month.specs.declared.settling.Settled.{Settled}
@@ -8,6 +9,8 @@ use Rattle.atl_month.specs.declared.settling.Settled.{Settled}
 pub record IsPurse (purse : Purse) : Type 0 where
   pub men : purse.men ≤ men_limit
   pub money : purse.money ≤ holding_limit
+
+-- ---- a unit by itself
 
 -- what a unit pays of its own upkeep
 abbrev pub paid_by : ℕ → Purse → ℕ
@@ -21,6 +24,23 @@ left_of maintenance purse = purse.money - paid_by maintenance purse
 abbrev pub short_of : ℕ → Purse → ℕ
 short_of maintenance purse = maintenance * purse.men - paid_by maintenance purse
 
+-- ---- the units of a faction in a region
+
+abbrev pub is_of : (region faction : ℕ) → Purse → Bool
+is_of region faction purse = (purse.region == region) && (purse.faction == faction)
+
+abbrev pub left_among : ℕ → (region faction : ℕ) → List Purse → ℕ
+left_among maintenance region faction purses = sum_by (left_of maintenance) (filter (is_of region faction) purses)
+
+abbrev pub short_among : ℕ → (region faction : ℕ) → List Purse → ℕ
+short_among maintenance region faction purses = sum_by (short_of maintenance) (filter (is_of region faction) purses)
+
+-- what those with money left give to those who are short
+abbrev pub given_among : ℕ → (region faction : ℕ) → List Purse → ℕ
+given_among maintenance region faction purses = min (left_among maintenance region faction purses) (short_among maintenance region faction purses)
+
+-- ---- a unit among them
+
 -- what one gets of an amount, behind others who want so much together
 abbrev pub dealt : (amount before want : ℕ) → ℕ
 dealt amount before want = min (before + want) amount - min before amount
@@ -29,22 +49,21 @@ dealt amount before want = min (before + want) amount - min before amount
 abbrev pub starved_of : (maintenance short : ℕ) → ℕ
 starved_of maintenance short = (short + (maintenance - 1)) / maintenance
 
--- one unit, behind others with so much left and so much short
-abbrev pub settled_one : (maintenance amount left short : ℕ) → Purse → Settled
-settled_one maintenance amount left short purse = record {
-  money = left_of maintenance purse - dealt amount left (left_of maintenance purse);
-  starved = starved_of maintenance (short_of maintenance purse - dealt amount short (short_of maintenance purse));
-}
+-- one of all units, behind those of lower numbers
+abbrev pub settled_one : ℕ → (all before : List Purse) → Purse → Settled
+settled_one maintenance all before purse =
+    let given = given_among maintenance purse.region purse.faction all in
+    let left = left_of maintenance purse in
+    let short = short_of maintenance purse in
+    record {
+      paid = paid_by maintenance purse + dealt given (left_among maintenance purse.region purse.faction before) left;
+      starved = starved_of maintenance (short - dealt given (short_among maintenance purse.region purse.faction before) short);
+    }
 
-abbrev pub settled_behind : (maintenance amount left short : ℕ) → List Purse → List Settled
-settled_behind maintenance amount left short [] = []
-settled_behind maintenance amount left short (purse ∷ purses) =
-    settled_one maintenance amount left short purse
-    ∷ settled_behind maintenance amount (left + left_of maintenance purse) (short + short_of maintenance purse) purses
+abbrev pub settled_behind : ℕ → (all before rest : List Purse) → List Settled
+settled_behind maintenance all before [] = []
+settled_behind maintenance all before (purse ∷ rest) = settled_one maintenance all before purse ∷ settled_behind maintenance all (before ++ purse ∷ []) rest
 
--- what those with money left give to those who are short
-abbrev pub given_among : ℕ → List Purse → ℕ
-given_among maintenance purses = min (sum (map (left_of maintenance) purses)) (sum (map (short_of maintenance) purses))
-
+-- all units, in the order of their numbers
 abbrev pub settled_of : ℕ → List Purse → List Settled
-settled_of maintenance purses = settled_behind maintenance (given_among maintenance purses) 0 0 purses
+settled_of maintenance purses = settled_behind maintenance purses [] purses

@@ -1,6 +1,7 @@
 //! The end of a month: what each unit needs, what each region grows, and who leaves the campaign.
 #![tactic(auto)]
 
+mod accounts;
 pub mod close;
 pub mod season;
 pub mod settling;

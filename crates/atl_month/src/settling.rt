@@ -1,69 +1,96 @@
-//! The upkeep of the units of one faction in one region.
-ghost use Rattle.std.specs.Prelude.{◌≡◌, ◌≤◌, All, IfOk, map, sum};
+//! What upkeep takes from units.
+ghost use Rattle.std.specs.Prelude.{◌≡◌, ◌≤◌, [], ℕ, All, IfOk};
 ghost use Rattle.atl_tables.specs.Limits.{most_per_head};
+ghost use Rattle.atl_month.specs.Accounts.{IsOpen, account_at, account_behind, account_of, settled_by};
 ghost use Rattle.atl_month.specs.Settling.{settled_of, left_of, short_of, IsPurse};
 
+use crate::accounts::{Account, Accounts, account_of, put_account};
+use atl_tables::Numbered;
 use std::alloc::{AllocError, Global};
 
-/// What a unit has before upkeep: its men and its money.
+/// What upkeep sees of a unit: the numbers of its region and of its faction, its men and its money.
 #[derive(Drop, Clone, Copy, Debug, PartialEq, Eq)]
 pub struct Purse {
+    pub region: u32,
+    pub faction: u32,
     pub men: u32,
     pub money: u32,
 }
 
-/// What a unit has after upkeep: its money, and how many of its men starve.
+/// What upkeep takes from a unit: the money that it pays, for itself and for others, and how many of its men starve.
 #[derive(Drop, Clone, Copy, Debug, PartialEq, Eq)]
 pub struct Settled {
-    pub money: u32,
+    pub paid: u32,
     pub starved: u32,
 }
 
-/// The sums of what is left of all money, and of what is short.
-fn sums(maintenance: u64, purses: &[Purse]) -> (u128, u128)
+/// What a unit has left of its money behind its own upkeep, and what it is short of.
+fn balance(maintenance: u32, purse: &Purse) -> (u64, u64)
     requires most { maintenance ≤ most_per_head }
-    requires purses { All IsPurse purses.now }
-    ensures left { result.0 ≡ sum (map (left_of maintenance) purses.now) }
-    ensures short { result.1 ≡ sum (map (short_of maintenance) purses.now) }
+    requires purse { IsPurse purse.now }
+    ensures { result ≡ (left_of maintenance purse.now, short_of maintenance purse.now) }
 {
-    let mut left: u128 = 0;
-    let mut short: u128 = 0;
-    for purse in purses {
-        let due = maintenance * u64::from(purse.men);
-        let money = u64::from(purse.money);
-        let paid = money.min(due);
-        left += u128::from(money - paid);
-        short += u128::from(due - paid);
-    }
-    (left, short)
+    let due = u64::from(maintenance) * u64::from(purse.men);
+    let money = u64::from(purse.money);
+    (money.saturating_sub(due), due.saturating_sub(money))
 }
 
-/// What upkeep leaves to each of these units of one faction in one region, in the order of their numbers. The maintenance is
-/// money of a man a month. AllocError without memory. See docs/RULES.md, "Upkeep".
+/// The accounts of these units, with nothing given yet.
+fn open(alloc: Global, maintenance: u32, purses: &[Purse]) -> Result<Accounts, AllocError>
+    requires most { maintenance ≤ most_per_head }
+    requires purses { All IsPurse purses.now }
+    ensures { IfOk result (λ accounts. (region faction : ℕ) → account_at accounts region faction ≡ account_of maintenance purses.now [] region faction) }
+{
+    let mut accounts = Numbered::new(alloc);
+    for purse in purses {
+        let (left, short) = balance(maintenance, purse);
+        let mut account = account_of(&accounts, purse);
+        account.left += u128::from(left);
+        account.short += u128::from(short);
+        put_account(alloc, &mut accounts, purse, account)?;
+    }
+    Ok(accounts)
+}
+
+/// Settles a unit out of the account of its faction in its region.
+fn settle_one(maintenance: u32, account: &mut Account, purse: &Purse) -> Settled
+    requires some { 1 ≤ maintenance }
+    requires most { maintenance ≤ most_per_head }
+    requires purse { IsPurse purse.now }
+    requires account { IsOpen account.old }
+    ensures settled { result ≡ settled_by maintenance account.old purse.now }
+    ensures account { account.new ≡ account_behind maintenance account.old purse.now }
+{
+    let (left, short) = balance(maintenance, purse);
+    let amount = account.left.min(account.short);
+    let given = u128::from(left).min(amount - account.given);
+    let covered = u128::from(short).min(amount - account.covered);
+    account.given += given;
+    account.covered += covered;
+    let own = u64::from(purse.money) - left;
+    let maintenance = u64::from(maintenance);
+    let short = short - covered as u64;
+    Settled {
+        paid: (own + given as u64) as u32,
+        starved: ((short + (maintenance - 1)) / maintenance) as u32,
+    }
+}
+
+/// What upkeep takes from each of these units, in the order of their numbers: the units of one faction in one region pay for each
+/// other. The maintenance is money of a man a month. AllocError without memory. See docs/RULES.md, "Upkeep".
 pub fn settle(alloc: Global, maintenance: u32, purses: &[Purse]) -> Result<Vec<Settled>, AllocError>
     requires some { 1 ≤ maintenance }
     requires most { maintenance ≤ most_per_head }
     requires purses { All IsPurse purses.now }
     ensures definition { IfOk result (λ list. list.items ≡ settled_of maintenance purses.now) }
 {
-    let maintenance = u64::from(maintenance);
-    let (left, short) = sums(maintenance, purses);
-    let mut to_give = left.min(short);
-    let mut to_cover = to_give;
+    let mut accounts = open(alloc, maintenance, purses)?;
     let mut list = Vec::new(alloc);
     for purse in purses {
-        let due = maintenance * u64::from(purse.men);
-        let money = u64::from(purse.money);
-        let paid = money.min(due);
-        let given = to_give.min(u128::from(money - paid));
-        let covered = to_cover.min(u128::from(due - paid));
-        to_give -= given;
-        to_cover -= covered;
-        let short = due - paid - covered as u64;
-        list.push(Settled {
-            money: (money - paid - given as u64) as u32,
-            starved: ((short + (maintenance - 1)) / maintenance) as u32,
-        })?;
+        let mut account = account_of(&accounts, purse);
+        let settled = settle_one(maintenance, &mut account, purse);
+        put_account(alloc, &mut accounts, purse, account)?;
+        list.push(settled)?;
     }
     Ok(list)
 }

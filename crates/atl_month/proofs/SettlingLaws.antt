@@ -1,0 +1,189 @@
+-- The accounts of upkeep, unit by unit.
+use Rattle.std.proofs.Common.{◌≡◌, ◌≢◌, ◌==◌, ◌&&◌, ◌++◌, ℕ, ◌+◌, ◌-◌, ◌*◌, ◌≤◌, min, Bool, true, false, cond, List, [], ◌∷◌, length, filter, sum_by, Option, Some, None, refl, sym, ap, ◌∙◌, arith}
+use Rattle.std.specs.Ordering.{nat_cmp, is_eq}
+use Rattle.std.specs.Cmp.{nat_cmp_total, ranked}
+use Rattle.std.specs.declared.cmp.Ordering.TheVariants.{Less, Equal, Greater}
+use Rattle.std.specs.FinMap.{FinMap, empty, get, insert, get-empty, get-insert, nat_cmp-IsAntisymmetric}
+use Rattle.std.proofs.lemmas.Bool.Decides.{nat_tests}
+use Rattle.std.proofs.lemmas.List.Elements.{filter-append}
+use Rattle.std.proofs.lemmas.List.Sums.{sum_by-append}
+use Rattle.atl_state.proofs.EveryLaws.{get-insert_other}
+use Rattle.atl_state.proofs.RegionLaws.{get-insert_same}
+use Rattle.atl_month.specs.declared.accounts.Account.{Account}
+use Rattle.atl_month.specs.declared.settling.Purse.{Purse}
+use Rattle.atl_month.specs.declared.settling.Settled.{Settled}
+use Rattle.atl_month.specs.Accounts.{AccountMap, IsFew, IsOpen, account_at, account_behind, account_in, account_of, account_or, accounts_under, counted, settled_by, with_account}
+use Rattle.atl_month.specs.Settling.{dealt, given_among, is_of, left_among, left_of, paid_by, settled_one, short_among, short_of, starved_of}
+
+-- ---- an account that is put
+
+module _ (m : AccountMap) (r f : ℕ) (a : Account) where
+  abbrev put : AccountMap
+  put = with_account m r f a
+
+  put_same : account_at put r f ≡ a
+  put_same = ap (account_in f) (get-insert_same m r (insert (accounts_under (get m r)) f a)) ∙ ap account_or (get-insert_same (accounts_under (get m r)) f a)
+
+  other_region : (s g : ℕ) → s ≢ r → account_at put s g ≡ account_at m s g
+  other_region s g apart = ap (account_in g) (get-insert_other m r s (insert (accounts_under (get m r)) f a) apart)
+
+  under_is : (g : ℕ) (o : Option (FinMap nat_cmp Account)) → account_or (get (accounts_under o) g) ≡ account_in g o
+  under_is g None = ap account_or (get-empty nat_cmp g)
+  under_is g (Some accounts) = refl
+
+  other_faction : (g : ℕ) → g ≢ f → account_at put r g ≡ account_at m r g
+  other_faction g apart =
+      ap (account_in g) (get-insert_same m r (insert (accounts_under (get m r)) f a))
+      ∙ ap account_or (get-insert_other (accounts_under (get m r)) f g a apart) ∙ under_is g (get m r)
+
+  pub account_put : (s g : ℕ) → account_at put s g ≡ cond ((r == s) && (f == g)) a (account_at m s g)
+  account_put s g = by_region (r == s) refl
+    where
+      by_faction : r ≡ s → (c : Bool) → (f == g) ≡ c → account_at put s g ≡ cond c a (account_at m s g)
+      by_faction same true is = let one : f ≡ g = grind (arith, nat_tests) in rw (← same, ← one) put_same
+      by_faction same false is = let apart : g ≢ f = grind (arith, nat_tests) in rw (← same) (other_faction g apart)
+
+      by_region : (b : Bool) → (r == s) ≡ b → account_at put s g ≡ cond (b && (f == g)) a (account_at m s g)
+      by_region true is = by_faction (grind (arith, nat_tests)) (f == g) refl
+      by_region false is = let apart : s ≢ r = grind (arith, nat_tests) in other_region s g apart
+
+-- ---- a unit more
+
+module _ (amount : Purse → ℕ) (test : Purse → Bool) (xs : List Purse) (p : Purse) where
+  pub among_more : sum_by amount (filter test (xs ++ p ∷ [])) ≡ sum_by amount (filter test xs) + cond (test p) (amount p) 0
+  among_more = ap (sum_by amount) (filter-append test xs (p ∷ [])) ∙ sum_by-append amount (filter test xs) (filter test (p ∷ [])) ∙ ap (λ n. sum_by amount (filter test xs) + n) (one (test p))
+    where
+      one : (b : Bool) → sum_by amount (cond b (p ∷ []) []) ≡ cond b (amount p) 0
+      one true = omega arith
+      one false = refl
+
+abbrev account : (left short given covered : ℕ) → Account
+account left short given covered = record { left = left; short = short; given = given; covered = covered }
+
+account_is : (a b c d e f g h : ℕ) → a ≡ e → b ≡ f → c ≡ g → d ≡ h → account a b c d ≡ account e f g h
+account_is a b c d e f g h x y z u = rw (x, y, z, u) refl
+
+-- The account of each unit is so behind a unit's, if that unit's is so, and those of others stay so.
+pub each_account : (P : ℕ → ℕ → Account → Type 0) (m : AccountMap) (p : Purse) (a : Account)
+    → P p.region p.faction a → ((s g : ℕ) → is_of s g p ≡ false → P s g (account_at m s g)) → (s g : ℕ) → P s g (account_at (with_account m p.region p.faction a) s g)
+each_account P m p a here others s g = by_test (is_of s g p) refl
+  where
+    both : (b c : Bool) → (b && c) ≡ true → (b ≡ true) × (c ≡ true)
+    both true true h = (refl, refl)
+    both true false h = cc
+    both false c h = cc
+
+    at : (test : Bool) → is_of s g p ≡ test → account_at (with_account m p.region p.faction a) s g ≡ cond test a (account_at m s g)
+    at test is = account_put m p.region p.faction a s g ∙ ap (λ b. cond b a (account_at m s g)) is
+
+    by_test : (test : Bool) → is_of s g p ≡ test → P s g (account_at (with_account m p.region p.faction a) s g)
+    by_test true is =
+        let (first, second) = both (p.region == s) (p.faction == g) is in
+        let region : p.region ≡ s = grind (arith, nat_tests) in
+        let faction : p.faction ≡ g = grind (arith, nat_tests) in
+        rw (at true is, ← region, ← faction) here
+    by_test false is = rw (at false is) (others s g is)
+
+true_same : (n : ℕ) → (n == n) ≡ true
+true_same n = grind (arith, nat_tests)
+
+own : (p : Purse) → is_of p.region p.faction p ≡ true
+own p = rw (true_same p.region, true_same p.faction) refl
+
+-- ---- the units are counted
+
+-- before the first unit
+pub no_accounts : (m s g : ℕ) → account_at empty s g ≡ account_of m [] [] s g
+no_accounts m s g = ap (account_in g) (get-empty nat_cmp s)
+
+pub none_few : (s g : ℕ) → IsFew 0 (account_at empty s g)
+none_few s g = rw (ap (account_in g) (get-empty nat_cmp s)) (record { left = omega arith; short = omega arith })
+
+module _ (m : ℕ) (before : List Purse) (p : Purse) where
+  abbrev more : List Purse
+  more = before ++ p ∷ []
+
+  left_more : (s g : ℕ) → left_among m s g more ≡ left_among m s g before + cond (is_of s g p) (left_of m p) 0
+  left_more s g = among_more (left_of m) (is_of s g) before p
+
+  short_more : (s g : ℕ) → short_among m s g more ≡ short_among m s g before + cond (is_of s g p) (short_of m p) 0
+  short_more s g = among_more (short_of m) (is_of s g) before p
+
+  left_own : left_among m p.region p.faction more ≡ left_among m p.region p.faction before + left_of m p
+  left_own = left_more p.region p.faction ∙ ap (λ b. left_among m p.region p.faction before + cond b (left_of m p) 0) (own p)
+
+  short_own : short_among m p.region p.faction more ≡ short_among m p.region p.faction before + short_of m p
+  short_own = short_more p.region p.faction ∙ ap (λ b. short_among m p.region p.faction before + cond b (short_of m p) 0) (own p)
+
+  left_other : (s g : ℕ) → is_of s g p ≡ false → left_among m s g more ≡ left_among m s g before
+  left_other s g is = left_more s g ∙ ap (λ b. left_among m s g before + cond b (left_of m p) 0) is ∙ nothing (left_among m s g before)
+    where
+      nothing : (n : ℕ) → n + 0 ≡ n
+      nothing n = omega arith
+
+  short_other : (s g : ℕ) → is_of s g p ≡ false → short_among m s g more ≡ short_among m s g before
+  short_other s g is = short_more s g ∙ ap (λ b. short_among m s g before + cond b (short_of m p) 0) is ∙ nothing (short_among m s g before)
+    where
+      nothing : (n : ℕ) → n + 0 ≡ n
+      nothing n = omega arith
+
+  none_given : (x y : ℕ) → min 0 x ≡ min 0 y
+  none_given x y = omega arith
+
+  pub opened_more : (accounts : AccountMap) (a : Account) → ((s g : ℕ) → account_at accounts s g ≡ account_of m before [] s g) → a ≡ counted m p (account_at accounts p.region p.faction)
+      → (s g : ℕ) → account_at (with_account accounts p.region p.faction a) s g ≡ account_of m more [] s g
+  opened_more accounts a each is =
+      each_account (λ s g b. b ≡ account_of m more [] s g) accounts p a
+      (is ∙ ap (counted m p) (each p.region p.faction) ∙ account_is _ _ _ _ _ _ _ _ (sym left_own) (sym short_own) (none_given _ _) (none_given _ _))
+      (λ s g apart. each s g ∙ account_is _ _ _ _ _ _ _ _ (sym (left_other s g apart)) (sym (short_other s g apart)) (none_given _ _) (none_given _ _))
+
+pub few_more : (m n : ℕ) (accounts : AccountMap) (p : Purse) (a : Account) → left_of m p ≤ 999999999 → short_of m p ≤ 999999000
+    → ((s g : ℕ) → IsFew n (account_at accounts s g)) → a ≡ counted m p (account_at accounts p.region p.faction)
+    → (s g : ℕ) → IsFew (n + 1) (account_at (with_account accounts p.region p.faction a) s g)
+few_more m n accounts p a left short each is =
+    let old = each p.region p.faction in
+    each_account (λ s g b. IsFew (n + 1) b) accounts p a
+    (rw is (record { left = omega (arith, old.left, left); short = omega (arith, old.short, short) }))
+    (λ s g apart. let o = each s g in record { left = omega (arith, o.left); short = omega (arith, o.short) })
+
+-- ---- the units are settled
+
+next_dealt : (before want amount : ℕ) → min before amount + min (amount - min before amount) want ≡ min (before + want) amount
+next_dealt before want amount = omega arith
+
+is_dealt : (before want amount : ℕ) → min (amount - min before amount) want ≡ min (before + want) amount - min before amount
+is_dealt before want amount = omega arith
+
+module _ (m : ℕ) (all before : List Purse) (p : Purse) (accounts : AccountMap) (each : (s g : ℕ) → account_at accounts s g ≡ account_of m all before s g) where
+  abbrev now : Account
+  now = account_of m all before p.region p.faction
+
+  abbrev amount : ℕ
+  amount = given_among m p.region p.faction all
+
+  pub settled_more : (a : Account) → a ≡ account_behind m (account_at accounts p.region p.faction) p
+      → (s g : ℕ) → account_at (with_account accounts p.region p.faction a) s g ≡ account_of m all (before ++ p ∷ []) s g
+  settled_more a is =
+      each_account (λ s g b. b ≡ account_of m all (before ++ p ∷ []) s g) accounts p a
+      (is ∙ ap (λ b. account_behind m b p) (each p.region p.faction)
+      ∙ account_is _ _ _ _ _ _ _ _ refl refl
+      (next_dealt (left_among m p.region p.faction before) (left_of m p) amount ∙ sym (ap (λ n. min n amount) (left_own m before p)))
+      (next_dealt (short_among m p.region p.faction before) (short_of m p) amount ∙ sym (ap (λ n. min n amount) (short_own m before p))))
+      (λ s g apart. each s g ∙ account_is _ _ _ _ _ _ _ _ refl refl
+      (sym (ap (λ n. min n (given_among m s g all)) (left_other m before p s g apart)))
+      (sym (ap (λ n. min n (given_among m s g all)) (short_other m before p s g apart))))
+
+  pub settled_is : settled_by m (account_at accounts p.region p.faction) p ≡ settled_one m all before p
+  settled_is =
+      ap (λ b. settled_by m b p) (each p.region p.faction)
+      ∙ same_settled _ _ _ _ (ap (λ n. paid_by m p + n) (is_dealt (left_among m p.region p.faction before) (left_of m p) amount))
+      (ap (λ n. starved_of m (short_of m p - n)) (is_dealt (short_among m p.region p.faction before) (short_of m p) amount))
+    where
+      settled : (paid starved : ℕ) → Settled
+      settled paid starved = record { paid = paid; starved = starved }
+
+      same_settled : (a b c d : ℕ) → a ≡ c → b ≡ d → settled a b ≡ settled c d
+      same_settled a b c d x y = rw (x, y) refl
+
+  pub account_open : IsOpen (account_at accounts p.region p.faction)
+  account_open = rw (each p.region p.faction) (record { given = omega arith; covered = omega arith })

@@ -1,0 +1,74 @@
+-- What the code keeps while it settles upkeep.
+use Rattle.std.specs.Prelude.{◌≡◌, ℕ, ◌+◌, ◌-◌, ◌*◌, ◌≤◌, List, min, Option, Some, None}
+use Rattle.std.specs.Ordering.{nat_cmp}
+use Rattle.std.specs.FinMap.{FinMap, empty, get, insert}
+use Rattle.atl_month.specs.declared.accounts.Account.{Account}
+use Rattle.atl_month.specs.declared.settling.Purse.{Purse}
+use Rattle.atl_month.specs.declared.settling.Settled.{Settled}
+use Rattle.atl_month.specs.Settling.{given_among, left_among, left_of, paid_by, short_among, short_of, starved_of}
+
+abbrev pub AccountMap : Type 0
+AccountMap = FinMap nat_cmp (FinMap nat_cmp Account)
+
+abbrev pub no_account : Account
+no_account = record { left = 0; short = 0; given = 0; covered = 0 }
+
+abbrev pub account_or : Option Account → Account
+account_or None = no_account
+account_or (Some a) = a
+
+abbrev pub account_in : ℕ → Option (FinMap nat_cmp Account) → Account
+account_in faction None = no_account
+account_in faction (Some m) = account_or (get m faction)
+
+-- the account of a faction in a region
+abbrev pub account_at : AccountMap → (region faction : ℕ) → Account
+account_at m region faction = account_in faction (get m region)
+
+abbrev pub accounts_under : Option (FinMap nat_cmp Account) → FinMap nat_cmp Account
+accounts_under None = empty
+accounts_under (Some m) = m
+
+abbrev pub with_account : AccountMap → (region faction : ℕ) → Account → AccountMap
+with_account m region faction a = insert m region (insert (accounts_under (get m region)) faction a)
+
+-- what is to be given of an account
+abbrev pub to_give : Account → ℕ
+to_give a = min a.left a.short
+
+-- an account with one unit more
+abbrev pub counted : ℕ → Purse → Account → Account
+counted maintenance purse a = record a { left = a.left + left_of maintenance purse; short = a.short + short_of maintenance purse }
+
+-- a unit that is settled out of its account
+abbrev pub settled_by : ℕ → Account → Purse → Settled
+settled_by maintenance a purse = record {
+  paid = paid_by maintenance purse + min (to_give a - a.given) (left_of maintenance purse);
+  starved = starved_of maintenance (short_of maintenance purse - min (to_give a - a.covered) (short_of maintenance purse));
+}
+
+-- the account behind it
+abbrev pub account_behind : ℕ → Account → Purse → Account
+account_behind maintenance a purse = record a {
+  given = a.given + min (to_give a - a.given) (left_of maintenance purse);
+  covered = a.covered + min (to_give a - a.covered) (short_of maintenance purse);
+}
+
+-- not more was given and covered than was to be given
+pub record IsOpen (a : Account) : Type 0 where
+  pub given : a.given ≤ to_give a
+  pub covered : a.covered ≤ to_give a
+
+-- the accounts of all these units, of which so many were settled
+abbrev pub account_of : ℕ → (all before : List Purse) → (region faction : ℕ) → Account
+account_of maintenance all before region faction = record {
+  left = left_among maintenance region faction all;
+  short = short_among maintenance region faction all;
+  given = min (left_among maintenance region faction before) (given_among maintenance region faction all);
+  covered = min (short_among maintenance region faction before) (given_among maintenance region faction all);
+}
+
+-- an account of so many units at most
+pub record IsFew (n : ℕ) (a : Account) : Type 0 where
+  pub left : a.left ≤ 999999999 * n
+  pub short : a.short ≤ 999999000 * n

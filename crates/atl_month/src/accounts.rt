@@ -1,0 +1,55 @@
+//! What the units of each faction in each region have for their upkeep together.
+ghost use Rattle.std.specs.Prelude.{◌≡◌, OnOk};
+ghost use Rattle.atl_month.specs.Accounts.{account_at, with_account};
+
+use crate::settling::Purse;
+use atl_tables::Numbered;
+use std::alloc::{AllocError, Global};
+
+/// What is left of the money of a faction's units in a region, and what they are short, together; and how much of it was
+/// given and covered so far. All of it money.
+#[derive(Drop, Clone, Copy, Debug, PartialEq, Eq)]
+pub(crate) struct Account {
+    pub(crate) left: u128,
+    pub(crate) short: u128,
+    pub(crate) given: u128,
+    pub(crate) covered: u128,
+}
+
+/// By region, and then by faction.
+pub(crate) type Accounts = Numbered<Numbered<Account>>;
+
+/// The account of the units of a purse's faction in its region.
+pub(crate) fn account_of(accounts: &Accounts, purse: &Purse) -> Account
+    ensures { result ≡ account_at accounts.now purse.now.region purse.now.faction }
+{
+    let found = match accounts.get(purse.region) {
+        Some(of_region) => of_region.get(purse.faction).copied(),
+        None => None,
+    };
+    found.unwrap_or(Account {
+        left: 0,
+        short: 0,
+        given: 0,
+        covered: 0,
+    })
+}
+
+/// Puts the account of a purse's faction in its region. Without memory the accounts are to be given up.
+pub(crate) fn put_account(
+    alloc: Global,
+    accounts: &mut Accounts,
+    purse: &Purse,
+    account: Account,
+) -> Result<(), AllocError>
+    ensures { OnOk result (accounts.new ≡ with_account accounts.old purse.now.region purse.now.faction account) }
+{
+    match accounts.get_mut(purse.region) {
+        Some(of_region) => of_region.insert(purse.faction, account),
+        None => {
+            let mut of_region = Numbered::new(alloc);
+            of_region.insert(purse.faction, account)?;
+            accounts.insert(purse.region, of_region)
+        }
+    }
+}
