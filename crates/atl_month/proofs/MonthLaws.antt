@@ -14,8 +14,9 @@ use Rattle.atl_state.specs.State.{State, numbers_of}
 use Rattle.atl_state.specs.Totals.{Balances, total}
 use Rattle.atl_state.proofs.EveryLaws.{every-empty}
 use Rattle.atl_instant.specs.Meaning.{HaveRoom, IsNear, IsSameMonth, LeavesWell, Moving, most_moved}
+use Rattle.atl_instant.proofs.CourseLaws.{mailings_have_no_order}
 use Rattle.atl_instant.proofs.MeaningLaws.{MovesLess, room_when_sound}
-use Rattle.atl_month.specs.Month.{finished, phases_move}
+use Rattle.atl_month.specs.Month.{MonthHasNoOrder, finished, month_of, phases_move}
 use Rattle.atl_month.specs.Season.{season}
 use Rattle.atl_month.proofs.SeasonLaws.{season_keeps_factions, season_keeps_units}
 use Rattle.atl_month.specs.Swept.{IsSwept}
@@ -135,3 +136,7 @@ season_swept w c d words sound is well = record {
 
     factions : d.factions ≡ c.factions
     factions = ap (λ (s : State). s.factions) is ∙ season_keeps_factions w c words
+
+-- in which order mailings come isn't seen
+pub month_has_no_order : MonthHasNoOrder
+month_has_no_order w c words mailings others own same = ap (λ readings. month_of w c readings words) (mailings_have_no_order mailings others own same)

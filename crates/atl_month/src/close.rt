@@ -7,7 +7,7 @@ ghost use Rattle.atl_state.specs.Good.{IsGood, IsSound};
 ghost use Rattle.atl_state.specs.Limits.{last_month};
 ghost use Rattle.atl_instant.specs.Course.{HaveOwnFactions, by_faction};
 ghost use Rattle.atl_instant.specs.Meaning.{LeavesWell};
-ghost use Rattle.atl_month.specs.Month.{finished, month_of, phases, phases_move};
+ghost use Rattle.atl_month.specs.Month.{MonthHasNoOrder, finished, month_of, phases, phases_move};
 ghost use Rattle.atl_month.specs.Swept.{IsSwept};
 
 use crate::season::SeasonPhase;
@@ -58,3 +58,9 @@ pub fn close_month(
     let (campaign, month) = run_phases(alloc, world, campaign, month)?;
     Ok((campaign, month.into_events()))
 }
+
+/// The mailings of a month in another order make the same month: neither the campaign nor the events tell in which order they were
+/// given.
+pub fn months_have_no_order()
+    ensures { MonthHasNoOrder }
+{}
