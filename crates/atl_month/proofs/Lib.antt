@@ -1,3 +1,9 @@
+pub mod RemovedLaws
+pub mod LeavingLaws
+pub mod GoneLaws
+pub mod PassingLaws
+pub mod SweepLaws
+pub mod SweepAllLaws
 pub mod SeasonLaws
 pub mod MonthLaws
 pub mod SettlingLaws

@@ -3,3 +3,4 @@ pub mod Swept
 pub mod Settling
 pub mod Accounts
 pub mod Month
+pub mod Sweep
