@@ -7,3 +7,4 @@ pub mod SweepAllLaws
 pub mod SeasonLaws
 pub mod MonthLaws
 pub mod SettlingLaws
+pub mod UpkeepLaws

@@ -2,5 +2,6 @@ pub mod Season
 pub mod Swept
 pub mod Settling
 pub mod Accounts
+pub mod Upkeep
 pub mod Month
 pub mod Sweep

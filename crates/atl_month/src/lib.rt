@@ -2,10 +2,12 @@
 #![tactic(auto)]
 
 mod accounts;
-pub mod close;
-pub mod season;
-pub mod settling;
+mod close;
+mod season;
+mod settling;
+mod upkeep;
 
-pub use close::close_month;
+pub use close::{close_month, months_have_no_order};
 pub use season::SeasonPhase;
 pub use settling::{Purse, Settled, settle};
+pub use upkeep::UpkeepPhase;

@@ -1,4 +1,4 @@
-//! Upkeep of a faction's units in a region, worked out by hand.
+//! What upkeep takes from units of two factions and two regions, worked out by hand.
 ghost use Rattle.std.specs.Prelude.{All, IfOk};
 ghost use Rattle.atl_month.specs.Settling.{IsPurse};
 
@@ -10,30 +10,43 @@ use std::test::Fail;
 /// Money of a man a month.
 const MAINTENANCE: u32 = 10;
 
-/// The men and the money of each unit; the money that each has then, and how many of its men starve.
-const SETTLED: [(&[(u16, u16)], &str); 8] = [
+/// The region, the faction, the men and the money of each unit; the money that each pays, and how many of its men starve.
+const SETTLED: [(&[(u8, u8, u16, u16)], &str); 11] = [
     (&[], ""),
-    (&[(3, 25), (1, 18)], "0 0;3 0;"),
-    (&[(3, 25)], "0 1;"),
+    (&[(1, 1, 3, 25), (1, 1, 1, 18)], "25 0;15 0;"),
+    (&[(1, 1, 3, 25)], "25 1;"),
     // A unit without men pays for others too, on both sides of it.
-    (&[(0, 7), (1, 0), (0, 9)], "0 0;0 0;6 0;"),
+    (&[(1, 1, 0, 7), (1, 1, 1, 0), (1, 1, 0, 9)], "7 0;0 0;3 0;"),
     // The first who is short is covered first, and the first who has something left gives first.
-    (&[(1, 0), (1, 0), (0, 15)], "0 0;0 1;0 0;"),
-    (&[(0, 8), (0, 8), (1, 0)], "0 0;6 0;0 0;"),
-    (&[(5, 0)], "0 5;"),
-    (&[(2, 9)], "0 2;"),
+    (
+        &[(1, 1, 1, 0), (1, 1, 1, 0), (1, 1, 0, 15)],
+        "0 0;0 1;15 0;",
+    ),
+    (&[(1, 1, 0, 8), (1, 1, 0, 8), (1, 1, 1, 0)], "8 0;2 0;0 0;"),
+    (&[(1, 1, 5, 0)], "0 5;"),
+    (&[(1, 1, 2, 9)], "9 2;"),
+    // Nobody pays for another faction, or for another region.
+    (&[(1, 1, 1, 0), (1, 2, 0, 50)], "0 1;0 0;"),
+    (&[(1, 1, 1, 0), (2, 1, 0, 50)], "0 1;0 0;"),
+    (
+        &[(1, 1, 3, 25), (1, 2, 2, 9), (1, 1, 1, 18)],
+        "25 0;9 2;15 0;",
+    ),
 ];
 
 fn row_is(rt: &impl Abort, row: usize, told: &str, wanted: &str) {
     assert_eq!(rt; told, wanted, "at {row}");
 }
 
-fn purses_of(alloc: Global, units: &[(u16, u16)]) -> Result<Vec<Purse>, AllocError>
+fn purses_of(alloc: Global, units: &[(u8, u8, u16, u16)]) -> Result<Vec<Purse>, AllocError>
     ensures { IfOk result (λ purses. All IsPurse purses.items) }
 {
     let mut purses = Vec::new(alloc);
-    for (men, money) in units {
+    for (region, faction, men, money) in units {
         purses.push(Purse {
+            unit: 1,
+            region: u32::from(*region),
+            faction: u32::from(*faction),
             men: u32::from(*men),
             money: u32::from(*money),
         })?;
@@ -41,11 +54,11 @@ fn purses_of(alloc: Global, units: &[(u16, u16)]) -> Result<Vec<Purse>, AllocErr
     Ok(purses)
 }
 
-fn told_of(alloc: Global, units: &[(u16, u16)]) -> Result<String, Fail> {
+fn told_of(alloc: Global, units: &[(u8, u8, u16, u16)]) -> Result<String, Fail> {
     let purses = purses_of(alloc, units)?;
     let mut told = String::new(alloc);
     for unit in settle(alloc, MAINTENANCE, &purses)?.iter() {
-        let part = format!(in alloc; "{} {};", unit.money, unit.starved)?;
+        let part = format!(in alloc; "{} {};", unit.paid, unit.starved)?;
         told.push_str(&part)?;
     }
     Ok(told)
