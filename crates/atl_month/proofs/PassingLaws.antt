@@ -32,7 +32,7 @@ use Rattle.atl_state.proofs.RegionLaws.{changed-known, get-insert_same, steady-a
 use Rattle.atl_instant.specs.Meaning.{IsNear, IsSameMonth, Moving, both_move, moves_only}
 use Rattle.atl_instant.proofs.MeaningLaws.{near_twice}
 use Rattle.atl_instant.proofs.BookingLaws.{booked-near}
-use Rattle.atl_month.specs.Sweep.{IsKept, item_to, money_to, passed_item, passed_money, passed_on, taken_of, with_lost}
+use Rattle.atl_month.specs.Sweep.{IsKept, item_to, money_to, moving_items, passed_item, passed_money, passed_on, taken_of, with_lost}
 use Rattle.atl_month.proofs.RemovedLaws.{every-remove}
 
 -- ---- more than is booked
@@ -324,10 +324,6 @@ module _ (w : Planet) (c : State) (n k : ℕ) (apart : n ≢ k) (steady : IsStea
 abbrev pub owing_items : List (ℕ × ℕ) → Thing → ℕ
 owing_items [] s = 0
 owing_items (e ∷ es) s = part_of s (Item e.0) e.1 + owing_items es s
-
-abbrev pub moving_items : List (ℕ × ℕ) → Moving
-moving_items [] e s = 0
-moving_items (x ∷ xs) e s = moves_only x.1 Lost (Item x.0) e s + moving_items xs e s
 
 pub pass_items : (w : Planet) (c : State) (n k : ℕ) → n ≢ k → (es : List (ℕ × ℕ)) → EachOf (λ i a. i < length w.items) es → IsSteady w c
     → PassesOn w n (owing_items es) (moving_items es) c (fold (passed_item k) c es)

@@ -80,8 +80,8 @@ first_of q [] low = (λ some. absurd (some refl), λ none k h. absurd h)
 first_of q (n ∷ ns) low =
     let rest = first_of q ns (λ k h. low k (inr h)) in
     elim (q n) as (λ b. q n ≡ b →
-      (first_or_zero (cond b (n ∷ filter q ns) (filter q ns)) ≢ 0 → IsListed (first_or_zero (cond b (n ∷ filter q ns) (filter q ns))) (n ∷ ns) × (q (first_or_zero (cond b (n ∷ filter q ns) (filter q ns))) ≡ true))
-      × (first_or_zero (cond b (n ∷ filter q ns) (filter q ns)) ≡ 0 → (k : ℕ) → IsListed k (n ∷ ns) → q k ≡ false)) [
+    (first_or_zero (cond b (n ∷ filter q ns) (filter q ns)) ≢ 0 → IsListed (first_or_zero (cond b (n ∷ filter q ns) (filter q ns))) (n ∷ ns) × (q (first_or_zero (cond b (n ∷ filter q ns) (filter q ns))) ≡ true))
+    × (first_or_zero (cond b (n ∷ filter q ns) (filter q ns)) ≡ 0 → (k : ℕ) → IsListed k (n ∷ ns) → q k ≡ false)) [
       | true ↦ λ t. (λ some. (inl refl, t), λ none. let least = low n (inl refl) in absurd (omega arith))
       | false ↦ λ t. (λ some. let found = rest.0 some in (inr found.0, found.1), λ none k h. passed t (rest.1 none) k h)
     ] refl
@@ -110,9 +110,10 @@ module _ {V : Type 0} (p : V → Bool) where
   each_listed : (es : List (ℕ × V)) → EachOf (λ n v. p v ≡ true → IsListed n (chosen es)) es
   each_listed [] = tt
   each_listed (e ∷ es) =
-      let same = sym (chosen-cons p e es) in
-      (λ t. subst (IsListed e.0) same (foremost e.0 (chosen es) (p e.1) t),
-      all_further (chosen es) (chosen (e ∷ es)) (λ k h. subst (IsListed k) same (further e.0 (chosen es) (p e.1) k h)) es (each_listed es))
+      let same = sym (chosen-cons p e es) in (
+        λ t. subst (IsListed e.0) same (foremost e.0 (chosen es) (p e.1) t),
+        all_further (chosen es) (chosen (e ∷ es)) (λ k h. subst (IsListed k) same (further e.0 (chosen es) (p e.1) k h)) es (each_listed es),
+      )
 
   pub passing_listed : (m : FinMap nat_cmp V) → Every (λ n v. p v ≡ true → IsListed n (numbers_where p m)) m
   passing_listed m = every-from_each (λ n v. p v ≡ true → IsListed n (numbers_where p m)) m (each_listed (entries m))

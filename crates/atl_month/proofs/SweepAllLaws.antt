@@ -96,9 +96,12 @@ module _ (w : Planet) (c : State) (n : ℕ) (steady : IsSteady w c) where
           (λ m v there. let (apart, was) = others_were w c n u is (without u.holding.men t) steady m v there in (λ none. apart, was))
       by_men u is false t =
           subst (λ b. Were (if b then without_unit (passed_on c (receiver c u.region u.faction) u) n else c)) (sym t)
-          (λ m v there. (λ none own.
-          let one : Some v ≡ Some u = sym there ∙ ap (get c.units) own ∙ is in
-          has_some u.holding.men t (sym (ap (λ o. men_in o v) one) ∙ none), (v, there, kept-refl v)))
+          (λ m v there. (
+            λ none own.
+                let one : Some v ≡ Some u = sym there ∙ ap (get c.units) own ∙ is in
+                has_some u.holding.men t (sym (ap (λ o. men_in o v) one) ∙ none),
+            (v, there, kept-refl v),
+          ))
 
       by_unit : (o : Option Unit) → get c.units n ≡ o → Were (swept_in c n o)
       by_unit None is = λ m v there. (λ none own. none_some v (sym is ∙ ap (get c.units) (sym own) ∙ there), (v, there, kept-refl v))

@@ -31,12 +31,12 @@ use Rattle.atl_state.proofs.BookLaws.{entry_small}
 use Rattle.atl_state.proofs.EveryLaws.{each-from_every, none_some, not_below, sorted}
 use Rattle.atl_instant.specs.Meaning.{IsNear, IsSameMonth, LeavesWell, Moving, both_move, moved_times, moves_only, most_moved}
 use Rattle.atl_instant.proofs.MeaningLaws.{MovesLess, both_leave_well, fold_leaves_well, near_more, well_unchanged, well_within}
-use Rattle.atl_month.specs.Sweep.{IsKept, first_receiver, gone_at, is_empty, loses_by, may_receive, menless, passed_item, passed_money, passed_on, receiver, remaining, sweep, sweep_keeps, swept_at, swept_in}
+use Rattle.atl_month.specs.Sweep.{IsKept, first_receiver, gone_at, is_empty, loses_by, may_receive, menless, moving_items, passed_item, passed_money, passed_on, receiver, remaining, sweep, sweep_keeps, swept_at, swept_in}
 use Rattle.atl_month.specs.Swept.{IsSwept}
 use Rattle.atl_month.proofs.RemovedLaws.{IsListed, first_of, get-remove_other, listed_passing, passing_listed, still}
 use Rattle.atl_month.proofs.LeavingLaws.{only_reduced, steady-without, total-without}
 use Rattle.atl_month.proofs.GoneLaws.{as_gone, count-gone, get-gone, get-gone_other, known-gone, steady-gone, total-gone}
-use Rattle.atl_month.proofs.PassingLaws.{Owes, PassesOn, kept-refl, kept-trans, moving_items, owing_items, part_of, pass_items, pass_money, passes-trans}
+use Rattle.atl_month.proofs.PassingLaws.{Owes, PassesOn, kept-refl, kept-trans, owing_items, part_of, pass_items, pass_money, passes-trans}
 
 -- ---- how much of each thing a unit passes on
 
@@ -76,7 +76,7 @@ of_item j (e ∷ es) s =
 abbrev owing_all : Held → Thing → ℕ
 owing_all h s = part_of s Money h.money + owing_items (entries h.items) s
 
-abbrev moving_all : Held → Moving
+abbrev pub moving_all : Held → Moving
 moving_all h = both_move (moves_only h.money Lost Money) (moving_items (entries h.items))
 
 all_owed : (h : Held) → h.men ≡ 0 → (s : Thing) → owing_all h s ≡ held s h
@@ -216,6 +216,13 @@ module _ (w : Planet) (c : State) (n : ℕ) (u : Unit) (is : get c.units n ≡ S
       rest : (a h b o : ℕ) (z : ℤ) → a + h ≡ b → o ≡ h → pos b ≡ z +ℤ pos (0 + o) → pos a ≡ z
       rest a h b o z e f g = omega (arith, ints, e, f, g)
 
+  less_less : (a b d : ℕ) → a ≤ b → b ≤ d → a ≤ d
+  less_less a b d k l = omega arith
+
+  pub moves_little : (e : Entry) (s : Thing) → moving_all u.holding e s ≤ loses_by most_amount e s
+  moves_little e s =
+      less_less (moving_all u.holding e s) (of_lost e (held s u.holding)) (loses_by most_amount e s) (all_moved u.holding none e s) (little_lost u.holding none (steady.numbers.units n u is).1.money held_within e s)
+
   pub swept_leaves_well : LeavesWell IsSteady (loses_by most_amount) w c swept
   swept_leaves_well =
       let only = only_reduced w passed n u there_still in
@@ -231,12 +238,9 @@ module _ (w : Planet) (c : State) (n : ℕ) (u : Unit) (is : get c.units n ≡ S
         near = λ e s.
             subst (λ (books : List (List ℤ)). IsNear (loses_by most_amount e s) (amount_in c.books e s) (amount_in books e s)) (sym only.books)
             (near_more (moving_all u.holding e s) (loses_by most_amount e s) (amount_in c.books e s) (amount_in passed.books e s)
-            (less_less (moving_all u.holding e s) (of_lost e (held s u.holding)) (loses_by most_amount e s) (all_moved u.holding none e s) (little_lost u.holding none (steady.numbers.units n u is).1.money held_within e s))
+            (moves_little e s)
             (passing.near e s));
       }
-    where
-      less_less : (a b d : ℕ) → a ≤ b → b ≤ d → a ≤ d
-      less_less a b d k l = omega arith
 
   -- a unit other than the one that goes keeps all
   pub others_keep : Every (λ m x. m ≢ n → (v : Unit) × (get swept.units m ≡ Some v) × IsKept x v) c.units
