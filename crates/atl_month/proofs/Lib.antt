@@ -1,3 +1,10 @@
+pub mod RemovedLaws
+pub mod LeavingLaws
+pub mod GoneLaws
+pub mod PassingLaws
+pub mod SweepLaws
+pub mod SweepAllLaws
+pub mod SweepRunLaws
 pub mod SeasonLaws
 pub mod MonthLaws
 pub mod SettlingLaws

@@ -4,3 +4,4 @@ pub mod Settling
 pub mod Accounts
 pub mod Upkeep
 pub mod Month
+pub mod Sweep

@@ -5,9 +5,11 @@ mod accounts;
 mod close;
 mod season;
 mod settling;
+mod sweep;
 mod upkeep;
 
 pub use close::{close_month, months_have_no_order};
 pub use season::SeasonPhase;
 pub use settling::{Purse, Settled, settle};
+pub use sweep::SweepPhase;
 pub use upkeep::UpkeepPhase;

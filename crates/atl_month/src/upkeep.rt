@@ -78,11 +78,7 @@ fn supply(alloc: Global, settled: &Settled, holding: &mut Holding) -> Result<(),
 }
 
 /// Takes from a unit that is there what upkeep takes from it.
-fn supply_unit(
-    alloc: Global,
-    campaign: &mut Campaign,
-    settled: &Settled,
-) -> Result<(), AllocError>
+fn supply_unit(alloc: Global, campaign: &mut Campaign, settled: &Settled) -> Result<(), AllocError>
     ensures { OnOk result ((u : Unit) → finmap.get campaign.old.what.units settled.now.unit ≡ Some u → campaign.new ≡ lent campaign.old settled.now.unit (supplied settled.now u.holding)) }
 {
     match campaign.unit_mut(settled.unit) {

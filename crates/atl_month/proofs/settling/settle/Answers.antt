@@ -23,6 +23,6 @@ loop-purse-preserved c =
     record {
       each = λ s g. rw (put, more) (settled_more m purses (take i purses) p old c.loop-purse.invariant.each account is s g);
       rest =
-        rw (pushed, more, one) (append_assoc c.loop-purse.list.items (settled_one m purses (take i purses) p ∷ []) (settled_behind m purses (take i purses ++ p ∷ []) (drop (i + 1) purses)))
-        ∙ sym (ap (λ xs. c.loop-purse.list.items ++ settled_behind m purses (take i purses) xs) behind) ∙ c.loop-purse.invariant.rest;
+          rw (pushed, more, one) (append_assoc c.loop-purse.list.items (settled_one m purses (take i purses) p ∷ []) (settled_behind m purses (take i purses ++ p ∷ []) (drop (i + 1) purses)))
+          ∙ sym (ap (λ xs. c.loop-purse.list.items ++ settled_behind m purses (take i purses) xs) behind) ∙ c.loop-purse.invariant.rest;
     }

@@ -37,7 +37,7 @@ loop-settled-preserved c =
       rest = ap (λ (d : State). fold upkeep_at d (drop (i + 1) list)) is ∙ sym (ap (fold upkeep_at before) behind) ∙ old.rest;
       steady = rw is well.leaves_it;
       room =
-        rw is (room_behind_one (takes_up_to most_amount) w upkeep_at (upkeep_at_leaves_well w) before s s (drop (i + 1) list) old.steady
-        (subst (λ (l : List Settled). HaveRoom (moved_times (length l) (takes_up_to most_amount)) before) behind old.room));
+          rw is (room_behind_one (takes_up_to most_amount) w upkeep_at (upkeep_at_leaves_well w) before s s (drop (i + 1) list) old.steady
+          (subst (λ (l : List Settled). HaveRoom (moved_times (length l) (takes_up_to most_amount)) before) behind old.room));
       marks = marks-trans c.args.campaign.now c.loop-settled.campaign c.upkeep_of.new.campaign old.marks marked;
     }

@@ -1,0 +1,148 @@
+-- How a campaign changes as a faction without units leaves it.
+use Rattle.std.proofs.Common.{◌≡◌, ◌≢◌, ◌==◌, ℕ, ◌+◌, ◌≤◌, Bool, true, false, List, [], Option, Some, None, refl, sym, ap, subst, ◌∙◌, arith}
+use Rattle.std.specs.Prelude.{IsTrue, option_map}
+use Rattle.std.specs.Ordering.{nat_cmp}
+use Rattle.std.specs.FinMap.{FinMap, get, insert, len}
+use Rattle.atl_tables.specs.Names.{name_ok, pass_ok}
+use Rattle.atl_tables.specs.Planet.{Planet}
+use Rattle.atl_tables.specs.Sums.{changed_at}
+use Rattle.atl_tables.specs.Tracking.{marked_with}
+use Rattle.atl_state.specs.Covers.{MarksChanges}
+use Rattle.atl_state.specs.declared.books.Thing.{Thing}
+use Rattle.atl_state.specs.declared.records.Faction.{Faction}
+use Rattle.atl_state.specs.Good.{AreInRange, AreKnown, AreNamed, AreNumbered, Every, GoneHaveNone, IsSteady, IsThere}
+use Rattle.atl_state.specs.Marking.{mark_faction}
+use Rattle.atl_state.specs.State.{Marked, State, numbers_of, with_gone}
+use Rattle.atl_state.specs.Totals.{total}
+use Rattle.atl_state.proofs.CoverLaws.{apart_by, marks-refl, put_stays}
+use Rattle.atl_state.proofs.EveryLaws.{every-insert, get-insert_other, none_some, there-insert}
+use Rattle.atl_state.proofs.RegionLaws.{changed-known, get-insert_same, same_len}
+
+abbrev pub as_gone : Faction → Faction
+as_gone f = record f { gone = true }
+
+module _ (c : State) (n : ℕ) (x : Faction) (is : get c.factions n ≡ Some x) where
+  abbrev factions : FinMap nat_cmp Faction
+  factions = insert c.factions n (as_gone x)
+
+  abbrev left : State
+  left = record c { factions = factions }
+
+  free_apart : (k : ℕ) → get c.factions k ≡ None → k ≢ n
+  free_apart k free same = none_some x (sym free ∙ ap (get c.factions) same ∙ is)
+
+  none_kept : (k : ℕ) → get c.factions k ≡ None → get factions k ≡ None
+  none_kept k none = get-insert_other c.factions n k (as_gone x) (free_apart k none) ∙ none
+
+  there : (k : ℕ) → IsThere c.factions k → IsThere factions k
+  there k h = there-insert c.factions n k (as_gone x) h
+
+  numbers_kept : (w : Planet) → AreInRange w c → AreInRange w left
+  numbers_kept w old = record {
+    month = old.month;
+    few_factions = omega (arith, same_len c.factions n x (as_gone x) is, old.few_factions);
+    few_regions = old.few_regions;
+    few_units = old.few_units;
+    few_structures = old.few_structures;
+    next_unit_least = old.next_unit_least;
+    next_unit_most = old.next_unit_most;
+    factions = every-insert (λ k f. f.number ≡ k) c.factions n (as_gone x) (old.factions n x is) old.factions;
+    regions = old.regions;
+    units = old.units;
+    structures = old.structures;
+    books = old.books;
+  }
+
+  abbrev JoinedOnce : ℕ → Faction → ℕ → Faction → Type 0
+  JoinedOnce k f m g = f.joined_as ≡ g.joined_as → k ≡ m
+
+  names_kept : AreNamed c → AreNamed left
+  names_kept old = record {
+    pass = old.pass;
+    factions = every-insert (λ k f. IsTrue (name_ok f.joined_as) × IsTrue (name_ok f.name) × IsTrue (pass_ok f.pass)) c.factions n (as_gone x) (old.factions n x is) old.factions;
+    joined = every-insert (λ k f. Every (λ m g. JoinedOnce k f m g) factions) c.factions n (as_gone x)
+        (every-insert (λ m g. JoinedOnce n (as_gone x) m g) c.factions n (as_gone x) (λ same. refl) (old.joined n x is))
+        (λ k f here. every-insert (λ m g. JoinedOnce k f m g) c.factions n (as_gone x) (old.joined k f here n x is) (old.joined k f here));
+    units = old.units;
+    structures = old.structures;
+  }
+
+  known_kept : (w : Planet) → AreKnown w c → AreKnown w left
+  known_kept w old = record {
+    regions = old.regions;
+    units = λ k u here. let p = old.units k u here in record { faction = there u.faction p.faction; region = p.region; structure = p.structure; items = p.items; skills = p.skills };
+    structures = λ k s here. let b = old.structures k s here in record { kind = b.kind; region = b.region; owner = b.owner };
+    mail = λ k text here. there k (old.mail k text here);
+    reports = λ k text here. there k (old.reports k text here);
+  }
+
+  next_kept : AreNumbered c → AreNumbered left
+  next_kept old = record {
+    factions = record { first = none_kept 0 old.factions.first; count = old.factions.count ∙ ap (λ l. l + 1) (sym (same_len c.factions n x (as_gone x) is)); free = λ k l. none_kept k (old.factions.free k l) };
+    structures = old.structures;
+    units = old.units;
+  }
+
+  steady_gone : (w : Planet) → numbers_of n c.units ≡ [] → IsSteady w c → IsSteady w left
+  steady_gone w none old = record {
+    numbers = numbers_kept w old.numbers;
+    names = names_kept old.names;
+    known = known_kept w old.known;
+    next = next_kept old.next;
+    days = old.days;
+    gone = every-insert (λ k f. f.gone ≡ true → numbers_of k c.units ≡ []) c.factions n (as_gone x) (λ gone. none) old.gone;
+    owners = λ k s here. let o = old.owners k s here in record { owned = o.owned; ownerless = o.ownerless };
+    water = record { units = old.water.units; structures = old.water.structures };
+    guarded = old.guarded;
+  }
+
+  gone-known : with_gone c n ≡ left
+  gone-known = ap (λ m. record c { factions = m }) (changed-known as_gone c.factions n x is)
+
+  pub steady-gone : (w : Planet) → numbers_of n c.units ≡ [] → IsSteady w c → IsSteady w (with_gone c n)
+  steady-gone w none old = subst (IsSteady w) (sym gone-known) (steady_gone w none old)
+
+  -- no faction comes, and none is removed
+  pub count-gone : len (with_gone c n).factions ≡ len c.factions
+  count-gone = ap (λ (d : State). len d.factions) gone-known ∙ same_len c.factions n x (as_gone x) is
+
+  was_there : (k : ℕ) → IsThere factions k → IsThere c.factions k
+  was_there k (f, here) = every-insert (λ k f. IsThere c.factions k) c.factions n (as_gone x) (x, is) (λ k f here. (f, here)) k f here
+
+  pub known-gone : (k : ℕ) → IsThere (with_gone c n).factions k → IsThere c.factions k
+  known-gone k h = was_there k (subst (λ (d : State). IsThere d.factions k) gone-known h)
+
+  pub get-gone : get (with_gone c n).factions n ≡ Some (as_gone x)
+  get-gone = ap (λ (d : State). get d.factions n) gone-known ∙ get-insert_same c.factions n (as_gone x)
+
+  pub get-gone_other : (k : ℕ) → k ≢ n → get (with_gone c n).factions k ≡ get c.factions k
+  get-gone_other k apart = ap (λ (d : State). get d.factions k) gone-known ∙ get-insert_other c.factions n k (as_gone x) apart
+
+-- where there is no such faction nothing changes
+pub none-gone : (c : State) (n : ℕ) → get c.factions n ≡ None → with_gone c n ≡ c
+none-gone c n is = ap (λ o. record c { factions = changed_at as_gone c.factions n o }) is
+
+pub total-gone : (c : State) (n : ℕ) (t : Thing) → total (with_gone c n) t ≡ total c t
+unfolding total
+total-gone c n t = refl
+
+-- a faction that left, and is marked
+pub marks-gone_faction : (c : Marked) (n : ℕ) → MarksChanges c (record { what = with_gone c.what n; marks = mark_faction c n })
+marks-gone_faction c n = by_faction (get c.what.factions n) refl
+  where
+    by_faction : (o : Option Faction) → get c.what.factions n ≡ o → MarksChanges c (record { what = record c.what { factions = changed_at as_gone c.what.factions n o }; marks = record c.marks { factions = marked_with c.marks.factions n o } })
+    by_faction None is = marks-refl c
+    by_faction (Some f) is = record {
+      stay = record { factions = put_stays c.marks.factions n; regions = λ k h. h; structures = λ k h. h; mail = λ k h. h; reports = λ k h. h; units = λ k h. h; goods = λ k h. h; books = λ k h. h; row = λ h. h };
+      covers = record {
+        factions = λ k free. get-insert_other c.what.factions n k (as_gone f) (apart_by c.marks.factions n k free);
+        regions = λ k free. refl;
+        structures = λ k free. refl;
+        mail = λ k free. refl;
+        reports = λ k free. refl;
+        units = λ k free. refl;
+        goods = λ k free. refl;
+        books = λ e t free. refl;
+        row = λ free. refl;
+      };
+    }

@@ -1,0 +1,383 @@
+-- How a campaign changes as a unit leaves it.
+use Rattle.std.proofs.Common.{◌≡◌, ◌≢◌, ◌==◌, ℕ, ◌+◌, ◌≤◌, ◌<◌, Bool, true, false, cond, length, not, filter, List, Option, Some, None, refl, sym, ap, subst, ◌∙◌, inl, inr, arith}
+use Rattle.std.specs.Prelude.{option_map, if◌then◌else◌}
+use Rattle.std.proofs.lemmas.Bool.Decides.{nat_tests}
+use Rattle.std.specs.declared.cmp.Ordering.TheVariants.{Less, Equal, Greater}
+use Rattle.std.specs.Ordering.{nat_cmp}
+use Rattle.std.specs.Cmp.{ranked}
+use Rattle.std.specs.FinMap.{FinMap, get, insert, len, nat_cmp-IsAntisymmetric, remove}
+use Rattle.atl_tables.specs.Planet.{Planet}
+use Rattle.atl_tables.specs.Sums.{changed, changed_at, sum_over}
+use Rattle.atl_tables.specs.Tracking.{marked_with}
+use Rattle.atl_state.specs.Covers.{MarksChanges, bare, goods_under}
+use Rattle.atl_state.specs.declared.books.Thing.{Thing}
+use Rattle.atl_state.specs.declared.records.Region.{Region}
+use Rattle.atl_state.specs.declared.records.Structure.{Structure}
+use Rattle.atl_state.specs.declared.records.Unit.{Unit}
+use Rattle.atl_state.specs.Good.{AreAfloat, AreInRange, AreKnown, AreNumbered, AreOwned, Every, GoneHaveNone, IsAboard, IsBuilt, IsOwned, IsPlaced, IsSteady, is_land_at, is_ship, size_of}
+use Rattle.atl_state.specs.Marking.{gone_marked, gone_marked_at, handed_marked, mark_structure, taken_marked}
+use Rattle.atl_state.specs.Owners.{handed, heir, is_owned_by, without_unit, without_unit_at}
+use Rattle.atl_state.specs.State.{Marked, State, numbers_inside, numbers_of, structure_changed, with_owner}
+use Rattle.atl_state.specs.Totals.{held, kept, total}
+use Rattle.atl_state.proofs.CoverLaws.{apart_by, marks-refl, marks-trans, put_stays}
+use Rattle.atl_state.proofs.EveryLaws.{every-insert, get-insert_other, none_some}
+use Rattle.atl_state.proofs.OwnerLaws.{gone-what, taken_none}
+use Rattle.atl_state.proofs.RegionLaws.{changed-known, get-insert_same, same_len}
+use Rattle.atl_month.proofs.RemovedLaws.{IsListed, every-insert_other, every-remove, fewer, first_of, get-remove_other, listed_passing, none_passing, nothing_listed, passing_listed, still, sum_over-remove}
+
+-- a structure with another owner
+abbrev pub owned_by : ℕ → Structure → Structure
+owned_by n s = record s { owner = n }
+
+module _ (w : Planet) (c : State) (n : ℕ) (u : Unit) (is : get c.units n ≡ Some u) where
+  abbrev left : FinMap nat_cmp Unit
+  left = remove c.units n
+
+  abbrev reduced : FinMap nat_cmp Structure → State
+  reduced structures = record c { units = left; structures = structures }
+
+  -- the structures as they were, but for their owners, who are among the units that are left
+  pub record AreReowned (structures : FinMap nat_cmp Structure) : Type 0 where
+    pub count : len structures ≡ len c.structures
+    pub back : Every (λ k x. (y : Structure) × (o : ℕ) × (get c.structures k ≡ Some y) × (owned_by o y ≡ x)) structures
+    pub forth : Every (λ k y. (o : ℕ) × (get structures k ≡ Some (owned_by o y))) c.structures
+    pub owned : Every (λ k x. IsOwned (reduced structures) k x) structures
+
+  module _ (structures : FinMap nat_cmp Structure) (re : AreReowned structures) where
+    abbrev after : State
+    after = reduced structures
+
+    -- what doesn't speak of owners is still so
+    every_owned : (P : ℕ → Structure → Type 0) → ((k o : ℕ) (y : Structure) → P k y → P k (owned_by o y)) → Every P c.structures → Every P structures
+    every_owned P free old k x there = let (y, o, was, same) = re.back k x there in subst (P k) same (free k o y (old k y was))
+
+    none_kept : (k : ℕ) → get c.structures k ≡ None → get structures k ≡ None
+    none_kept k none = by_option (get structures k) refl
+      where
+        by_option : (o : Option Structure) → get structures k ≡ o → o ≡ None
+        by_option None e = refl
+        by_option (Some x) e = let (y, p, was, same) = re.back k x e in none_some y (sym none ∙ was)
+
+    numbers_left : AreInRange w c → AreInRange w after
+    numbers_left old = record {
+      month = old.month;
+      few_factions = old.few_factions;
+      few_regions = old.few_regions;
+      few_units = omega (arith, fewer c.units n, old.few_units);
+      few_structures = omega (arith, re.count, old.few_structures);
+      next_unit_least = old.next_unit_least;
+      next_unit_most = old.next_unit_most;
+      factions = old.factions;
+      regions = old.regions;
+      units = every-remove c.units n _ old.units;
+      structures = every_owned (λ k s. (1 ≤ s.done) × (s.done ≤ size_of w s.kind)) (λ k o y h. h) old.structures;
+      books = old.books;
+    }
+
+    placed_left : AreKnown w c → Every (λ k v. IsPlaced w after v) left
+    placed_left old k v there =
+        let p = old.units k v (still c.units n k v there).1 in
+        record {
+          faction = p.faction;
+          region = p.region;
+          structure = λ some. let (s, at, inside) = p.structure some in let (o, new) = re.forth v.structure s at in (owned_by o s, new, inside);
+          items = p.items;
+          skills = p.skills;
+        }
+
+    built_left : AreKnown w c → Every (λ k s. IsBuilt w after s) structures
+    built_left old k x there =
+        let (y, o, was, same) = re.back k x there in
+        let b = old.structures k y was in
+        record {
+          kind = subst (λ (s : Structure). s.kind < length w.kinds) same b.kind;
+          region = subst (λ (s : Structure). (r : Region) × (get c.regions s.region ≡ Some r)) same b.region;
+          owner = λ some. let (v, here, inside) = (re.owned k x there).owned some in (v, here);
+        }
+
+    next_left : AreNumbered c → AreNumbered after
+    next_left old = record {
+      factions = old.factions;
+      structures = record { first = none_kept 0 old.structures.first; count = old.structures.count ∙ ap (λ l. l + 1) (sym re.count); free = λ k l. none_kept k (old.structures.free k l) };
+      units = λ k l. none_left k (old.units k l);
+    }
+      where
+        none_left : (k : ℕ) → get c.units k ≡ None → get left k ≡ None
+        none_left k none = by_option (get left k) refl
+          where
+            by_option : (o : Option Unit) → get left k ≡ o → o ≡ None
+            by_option None e = refl
+            by_option (Some x) e = none_some x (sym none ∙ (still c.units n k x e).1)
+
+    gone_left : GoneHaveNone c → GoneHaveNone after
+    gone_left old m f there gone =
+        let test = λ (v : Unit). v.faction == m in
+        nothing_listed test left (every-remove c.units n (λ k v. test v ≡ false) (none_passing test c.units (old m f there gone)))
+
+    water_left : AreAfloat w c → AreAfloat w after
+    water_left old = record {
+      units = λ k v there sea.
+          let (s, at, ship) = old.units k v (still c.units n k v there).1 sea in
+          let (o, new) = re.forth v.structure s at in
+          (owned_by o s, new, ship);
+      structures = every_owned (λ k s. is_land_at w s.region ≡ false → (is_ship w s ≡ true) × (s.done ≡ size_of w s.kind)) (λ k o y h. h) old.structures;
+    }
+
+    pub steady_left : IsSteady w c → IsSteady w after
+    steady_left old = record {
+      numbers = numbers_left old.numbers;
+      names = record {
+        pass = old.names.pass;
+        factions = old.names.factions;
+        joined = old.names.joined;
+        units = every-remove c.units n _ old.names.units;
+        structures = every_owned _ (λ k o y h. h) old.names.structures;
+      };
+      known = record { regions = old.known.regions; units = placed_left old.known; structures = built_left old.known; mail = old.known.mail; reports = old.known.reports };
+      next = next_left old.next;
+      days = every-remove c.units n _ old.days;
+      gone = gone_left old.gone;
+      owners = re.owned;
+      water = water_left old.water;
+      guarded = λ k v there m x here. old.guarded k v (still c.units n k v there).1 m x (still c.units n m x here).1;
+    }
+
+  -- ---- who owns the structures
+
+  abbrev structure_in : Option Unit → Unit → ℕ
+  structure_in (Some y) z = y.structure
+  structure_in None z = z.structure
+
+  module _ (old : AreOwned c) (low : Every (λ k v. 1 ≤ k) c.units) where
+    -- what the unit owns is what it is inside
+    owns_own : (k : ℕ) (x : Structure) → get c.structures k ≡ Some x → x.owner ≡ n → u.structure ≡ k
+    owns_own k x there own =
+        let least = low n u is in
+        let (v, at, inside) = (old k x there).owned (λ none. absurd (omega (arith, own, none, least))) in
+        let one : Some v ≡ Some u = sym at ∙ ap (get c.units) own ∙ is in
+        sym (ap (λ o. structure_in o u) one) ∙ inside
+
+    -- who owns another structure still does
+    still_owned : (k : ℕ) (x : Structure) (structures : FinMap nat_cmp Structure) → get c.structures k ≡ Some x → x.owner ≢ n → IsOwned (reduced structures) k x
+    still_owned k x structures there apart =
+        let o = old k x there in
+        record {
+          owned = λ some. let (v, at, inside) = o.owned some in (v, get-remove_other c.units n x.owner apart ∙ at, inside);
+          ownerless = λ none. every-remove c.units n (λ m v. v.structure ≢ k) (o.ownerless none);
+        }
+
+    -- where the unit owns nothing
+    as_they_were : is_owned_by (get c.structures u.structure) n ≡ false → AreReowned c.structures
+    as_they_were free = record {
+      count = refl;
+      back = λ k x there. (x, x.owner, there, refl);
+      forth = λ k y there. (y.owner, there);
+      owned = λ k x there. still_owned k x c.structures there (λ own. not_owner k x there own);
+    }
+      where
+        owner_test : (o : Option Structure) (x : Structure) → o ≡ Some x → x.owner ≡ n → is_owned_by o n ≡ false → ⊥
+        owner_test None x e own f = none_some x e
+        owner_test (Some y) x e own f =
+            let same : y.owner ≡ x.owner = ap (λ (p : Option Structure). owner_in p x) e in
+            let t : (y.owner == n) ≡ true = (let eq : y.owner ≡ n = same ∙ own in grind (arith, nat_tests)) in
+            absurd (true_false (sym t ∙ f))
+          where
+            owner_in : Option Structure → Structure → ℕ
+            owner_in (Some z) d = z.owner
+            owner_in None d = d.owner
+
+            true_false : true ≡ false → ⊥
+            true_false e = cc
+
+        not_owner : (k : ℕ) (x : Structure) → get c.structures k ≡ Some x → x.owner ≡ n → ⊥
+        not_owner k x there own = owner_test (get c.structures u.structure) x (ap (get c.structures) (owns_own k x there own) ∙ there) own free
+
+    -- where it owns the structure that it is inside
+    module _ (mine : Structure) (here : get c.structures u.structure ≡ Some mine) where
+      abbrev next : ℕ
+      next = heir c u.structure n
+
+      abbrev handed_on : FinMap nat_cmp Structure
+      handed_on = insert c.structures u.structure (owned_by next mine)
+
+      abbrev among : List ℕ
+      among = numbers_inside u.structure c.units
+
+      is_other : (k : ℕ) → not (k == n) ≡ true → k ≢ n
+      is_other k t same = let e : (k == n) ≡ true = grind (arith, nat_tests) in other_not (k == n) t e
+        where
+          other_not : (b : Bool) → not b ≡ true → b ≡ true → ⊥
+          other_not true a b = cc
+          other_not false a b = cc
+
+      is_same : (k : ℕ) → not (k == n) ≡ false → k ≡ n
+      is_same k t = let e : (k == n) ≡ true = flipped (k == n) t in grind (arith, nat_tests)
+        where
+          flipped : (b : Bool) → not b ≡ false → b ≡ true
+          flipped true a = refl
+          flipped false a = cc
+
+      inside_test : (v : Unit) (k : ℕ) → (v.structure == k) ≡ true → v.structure ≡ k
+      inside_test v k t = grind (arith, nat_tests)
+
+      inside_passes : (v : Unit) (k : ℕ) → v.structure ≡ k → (v.structure == k) ≡ true
+      inside_passes v k e = grind (arith, nat_tests)
+
+      abbrev inside : Unit → Bool
+      inside v = v.structure == u.structure
+
+      listed_low : (k : ℕ) → IsListed k among → 1 ≤ k
+      listed_low k h = let (v, at, t) = listed_passing inside c.units k h in low k v at
+
+      heir_owns : IsOwned (reduced handed_on) u.structure (owned_by next mine)
+      heir_owns =
+          let first = first_of (λ k. not (k == n)) among listed_low in
+          record {
+            owned = λ some.
+                let (listed, other) = first.0 some in
+                let (v, at, t) = listed_passing inside c.units next listed in
+                (v, get-remove_other c.units n next (is_other next other) ∙ at, inside_test v u.structure t);
+            ownerless = λ none k v there within.
+                let (apart, at) = still c.units n k v there in
+                apart (is_same k (first.1 none k (passing_listed inside c.units k v at (inside_passes v u.structure within))));
+          }
+
+      as_handed_on : AreReowned handed_on
+      as_handed_on = record {
+        count = same_len c.structures u.structure mine (owned_by next mine) here;
+        back = every-insert (λ k x. (y : Structure) × (o : ℕ) × (get c.structures k ≡ Some y) × (owned_by o y ≡ x)) c.structures u.structure (owned_by next mine) (mine, next, here, refl) (λ k x there. (x, x.owner, there, refl));
+        forth = λ k y there. new_owner k y there;
+        owned = every-insert_other (λ k x. IsOwned (reduced handed_on) k x) c.structures u.structure (owned_by next mine) heir_owns
+            (λ k x apart there. still_owned k x handed_on there (λ own. apart (sym (owns_own k x there own))));
+      }
+        where
+          new_owner : (k : ℕ) (y : Structure) → get c.structures k ≡ Some y → (o : ℕ) × (get handed_on k ≡ Some (owned_by o y))
+          new_owner k y there =
+              elim (nat_cmp k u.structure) as (λ o. nat_cmp k u.structure ≡ o → (p : ℕ) × (get handed_on k ≡ Some (owned_by p y))) [
+                | Less ↦ λ o. (y.owner, get-insert_other c.structures u.structure k (owned_by next mine) (λ same. let l = ranked k u.structure Less (sym o) in absurd (omega arith)) ∙ there)
+                | Equal ↦ λ o.
+                    let same : k ≡ u.structure = nat_cmp-IsAntisymmetric k u.structure o in
+                    let one : Some y ≡ Some mine = sym there ∙ ap (get c.structures) same ∙ here in
+                    (next, ap (get handed_on) same ∙ get-insert_same c.structures u.structure (owned_by next mine) ∙ ap (option_map (owned_by next)) (sym one))
+                | Greater ↦ λ o. (y.owner, get-insert_other c.structures u.structure k (owned_by next mine) (λ same. let l = ranked k u.structure Greater (sym o) in absurd (omega arith)) ∙ there)
+              ] refl
+
+  -- ---- the campaign without the unit
+
+  abbrev gone_from : State
+  gone_from = record c { units = left }
+
+  without-known : without_unit c n ≡ handed gone_from u.structure n (heir c u.structure n)
+  unfolding without_unit
+  without-known = ap (without_unit_at c n) is
+
+  steady_handed : IsSteady w c → IsSteady w (handed gone_from u.structure n (heir c u.structure n))
+  steady_handed old = by_owner (get c.structures u.structure) refl
+    where
+      low : Every (λ k v. 1 ≤ k) c.units
+      low k v there = (old.numbers.units k v there).0
+
+      by_test : (s : Structure) → get c.structures u.structure ≡ Some s → (b : Bool) → is_owned_by (get c.structures u.structure) n ≡ b
+          → IsSteady w (if b then with_owner gone_from u.structure (heir c u.structure n) else gone_from)
+      by_test s here true t =
+          subst (λ (m : FinMap nat_cmp Structure). IsSteady w (reduced m)) (sym (changed-known (owned_by (heir c u.structure n)) c.structures u.structure s here))
+          (steady_left (insert c.structures u.structure (owned_by (heir c u.structure n) s)) (as_handed_on old.owners low s here) old)
+      by_test s here false t = steady_left c.structures (as_they_were old.owners low t) old
+
+      by_owner : (o : Option Structure) → get c.structures u.structure ≡ o → IsSteady w (if is_owned_by o n then with_owner gone_from u.structure (heir c u.structure n) else gone_from)
+      by_owner None here = steady_left c.structures (as_they_were old.owners low (ap (λ o. is_owned_by o n) here)) old
+      by_owner (Some s) here = by_test s here (is_owned_by (Some s) n) (ap (λ o. is_owned_by o n) here)
+
+  pub steady-without : IsSteady w c → IsSteady w (without_unit c n)
+  steady-without old = subst (IsSteady w) (sym without-known) (steady_handed old)
+
+  pub total-without : (t : Thing) → total (without_unit c n) t + held t u.holding ≡ total c t
+  unfolding total
+  total-without t =
+      ap (λ (d : State). total d t + held t u.holding) without-known ∙ by_test (is_owned_by (get c.structures u.structure) n)
+    where
+      regrouped : (a b s h : ℕ) → a + h ≡ b → (a + s) + h ≡ b + s
+      regrouped a b s h e = omega arith
+
+      by_test : (b : Bool) → total (if b then with_owner gone_from u.structure (heir c u.structure n) else gone_from) t + held t u.holding ≡ total c t
+      by_test true = regrouped _ _ _ _ (sum_over-remove c.units n (λ (x : Unit). held t x.holding) u is)
+      by_test false = regrouped _ _ _ _ (sum_over-remove c.units n (λ (x : Unit). held t x.holding) u is)
+
+  -- no other part of the campaign changes
+  pub record IsOnlyReduced (d : State) : Type 0 where
+    pub units : d.units ≡ remove c.units n
+    pub factions : d.factions ≡ c.factions
+    pub regions : d.regions ≡ c.regions
+    pub books : d.books ≡ c.books
+    pub month : d.month ≡ c.month
+    pub reports : d.reports ≡ c.reports
+
+  pub only_reduced : IsOnlyReduced (without_unit c n)
+  only_reduced = subst IsOnlyReduced (sym without-known) (by_test (is_owned_by (get c.structures u.structure) n))
+    where
+      by_test : (b : Bool) → IsOnlyReduced (if b then with_owner gone_from u.structure (heir c u.structure n) else gone_from)
+      by_test true = record { units = refl; factions = refl; regions = refl; books = refl; month = refl; reports = refl }
+      by_test false = record { units = refl; factions = refl; regions = refl; books = refl; month = refl; reports = refl }
+
+-- ---- what is marked
+
+-- a structure that is changed and marked
+pub marks-structure : (f : Structure → Structure) (c : Marked) (n : ℕ) → MarksChanges c (record { what = structure_changed f c.what n; marks = mark_structure c n })
+marks-structure f c n = by_structure (get c.what.structures n) refl
+  where
+    by_structure : (o : Option Structure) → get c.what.structures n ≡ o → MarksChanges c (record { what = record c.what { structures = changed_at f c.what.structures n o }; marks = record c.marks { structures = marked_with c.marks.structures n o } })
+    by_structure None is = marks-refl c
+    by_structure (Some s) is = record {
+      stay = record { factions = λ k h. h; regions = λ k h. h; structures = put_stays c.marks.structures n; mail = λ k h. h; reports = λ k h. h; units = λ k h. h; goods = λ k h. h; books = λ k h. h; row = λ h. h };
+      covers = record {
+        factions = λ k free. refl;
+        regions = λ k free. refl;
+        structures = λ k free. get-insert_other c.what.structures n k (f s) (apart_by c.marks.structures n k free);
+        mail = λ k free. refl;
+        reports = λ k free. refl;
+        units = λ k free. refl;
+        goods = λ k free. refl;
+        books = λ e t free. refl;
+        row = λ free. refl;
+      };
+    }
+
+pub marks-handed : (c : Marked) (s from to : ℕ) → MarksChanges c (handed_marked c s from to)
+marks-handed c s from to = by_test (is_owned_by (get c.what.structures s) from)
+  where
+    by_test : (b : Bool) → MarksChanges c (if b then record { what = with_owner c.what s to; marks = mark_structure c s } else c)
+    by_test true = marks-structure (owned_by to) c s
+    by_test false = marks-refl c
+
+-- a unit that is taken out
+pub marks-taken : (c : Marked) (n : ℕ) → MarksChanges c (taken_marked c n)
+marks-taken c n = by_unit (get c.what.units n) refl
+  where
+    by_unit : (o : Option Unit) → get c.what.units n ≡ o → MarksChanges c (taken_marked c n)
+    by_unit None is = subst (MarksChanges c) (taken_none c n is) (marks-refl c)
+    by_unit (Some u) is =
+        subst (λ (o : Option Unit). MarksChanges c (record { what = record c.what { units = remove c.what.units n }; marks = record c.marks { units = marked_with c.marks.units n o; goods = marked_with c.marks.goods n o } })) (sym is) (record {
+          stay = record { factions = λ k h. h; regions = λ k h. h; structures = λ k h. h; mail = λ k h. h; reports = λ k h. h; units = put_stays c.marks.units n; goods = put_stays c.marks.goods n; books = λ k h. h; row = λ h. h };
+          covers = record {
+            factions = λ k free. refl;
+            regions = λ k free. refl;
+            structures = λ k free. refl;
+            mail = λ k free. refl;
+            reports = λ k free. refl;
+            units = λ k free. ap (option_map bare) (get-remove_other c.what.units n k (apart_by c.marks.units n k free));
+            goods = λ k free. ap goods_under (get-remove_other c.what.units n k (apart_by c.marks.goods n k free));
+            books = λ e t free. refl;
+            row = λ free. refl;
+          };
+        })
+
+marks_gone : (c : Marked) (n : ℕ) (o : Option Unit) → MarksChanges c (gone_marked_at c n o)
+marks_gone c n None = marks-refl c
+marks_gone c n (Some u) = marks-trans c (taken_marked c n) (gone_marked_at c n (Some u)) (marks-taken c n) (marks-handed (taken_marked c n) u.structure n (heir c.what u.structure n))
+
+-- a unit that went, and what marks that
+pub marks-without : (c d : Marked) (n : ℕ) → d.what ≡ without_unit c.what n → d.marks ≡ (gone_marked c n).marks → MarksChanges c d
+unfolding gone_marked
+marks-without c d n what marks =
+    let all = marks_gone c n (get c.what.units n) in
+    rw (what ∙ sym (gone-what c n), marks) (record { stay = all.stay; covers = all.covers })

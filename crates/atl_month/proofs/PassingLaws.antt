@@ -1,0 +1,333 @@
+-- What a unit without men passes on.
+use Rattle.std.proofs.Common.{◌≡◌, ◌≢◌, ◌==◌, ℕ, suc, ◌+◌, ◌-◌, ◌≤◌, ◌<◌, min, Bool, true, false, cond, List, [], ◌∷◌, length, Option, Some, None, refl, sym, ap, subst, ◌∙◌, inl, inr, ◌⊎◌, arith}
+use Rattle.std.specs.Prelude.{ℤ, pos, neg_ℤ, ◌+ℤ◌, fold, unwrap_or, if◌then◌else◌}
+use Rattle.std.proofs.lemmas.Int.{ints}
+use Rattle.std.proofs.lemmas.Bool.Decides.{nat_tests}
+use Rattle.std.proofs.lemmas.Bool.{and_parts}
+use Rattle.std.specs.declared.cmp.Ordering.TheVariants.{Less, Equal, Greater}
+use Rattle.std.specs.Ordering.{nat_cmp, is_eq}
+use Rattle.std.specs.Cmp.{nat_cmp_total, ranked}
+use Rattle.std.specs.FinMap.{FinMap, entries, find, get, get-entries, get-insert, get-remove, insert, is_sorted, nat_cmp-IsAntisymmetric, remove}
+use Rattle.atl_tables.specs.Planet.{Planet}
+use Rattle.atl_tables.specs.Limits.{most_amount}
+use Rattle.atl_state.specs.Books.{IsGrid, IsWithin, amount_in, booked, entry_place, thing_place, with_booked}
+use Rattle.atl_state.specs.declared.books.Entry.{Entry}
+use Rattle.atl_state.specs.declared.books.Entry.TheVariants.{Lost}
+use Rattle.atl_state.specs.declared.books.Thing.{Thing}
+use Rattle.atl_state.specs.declared.books.Thing.TheVariants.{Item, Money, People}
+use Rattle.atl_state.specs.declared.records.Unit.{Unit}
+use Rattle.atl_state.specs.Deciding.{EachOf}
+use Rattle.atl_state.specs.Founding.{things_of}
+use Rattle.atl_state.specs.Good.{Every, IsSteady}
+use Rattle.atl_state.specs.Held.{AreAmounts, Held, amount_of, with_amount_of}
+use Rattle.atl_state.specs.Lending.{with_held}
+use Rattle.atl_state.specs.Limits.{holding_limit}
+use Rattle.atl_state.specs.Marks.{amount_number}
+use Rattle.atl_state.specs.State.{State, with_amount, with_money}
+use Rattle.atl_state.specs.Totals.{Balances, held, total}
+use Rattle.atl_state.proofs.BookLaws.{booked-with_booked, entry_small, share_of}
+use Rattle.atl_state.proofs.EveryLaws.{every-insert, get-insert_other, not_below, sorted}
+use Rattle.atl_state.proofs.HoldingLaws.{MayHold, may_hold_money, steady-held, total-held}
+use Rattle.atl_state.proofs.RegionLaws.{changed-known, get-insert_same, steady-amount, total-amount}
+use Rattle.atl_instant.specs.Meaning.{IsNear, IsSameMonth, Moving, both_move, moves_only}
+use Rattle.atl_instant.proofs.MeaningLaws.{near_twice}
+use Rattle.atl_instant.proofs.BookingLaws.{booked-near}
+use Rattle.atl_month.specs.Sweep.{IsKept, item_to, money_to, moving_items, passed_item, passed_money, passed_on, taken_of, with_lost}
+use Rattle.atl_month.proofs.RemovedLaws.{every-remove}
+
+-- ---- more than is booked
+
+-- there is so much more of a thing than is booked
+abbrev pub Owes : State → Thing → ℕ → Type 0
+Owes c s more = pos (total c s) ≡ booked c.books s +ℤ pos more
+
+-- how much of a thing an amount of another is
+abbrev pub part_of : Thing → Thing → ℕ → ℕ
+part_of s t amount = cond (thing_place s == thing_place t) amount 0
+
+-- ---- a unit that keeps all
+
+pub kept-refl : (u : Unit) → IsKept u u
+kept-refl u = record { faction = refl; region = refl; structure = refl; name = refl; men = refl; guard = refl; days = refl; money = omega arith; items = λ i. omega arith }
+
+pub kept-trans : (u v x : Unit) → IsKept u v → IsKept v x → IsKept u x
+kept-trans u v x one two = record {
+  faction = two.faction ∙ one.faction;
+  region = two.region ∙ one.region;
+  structure = two.structure ∙ one.structure;
+  name = two.name ∙ one.name;
+  men = two.men ∙ one.men;
+  guard = two.guard ∙ one.guard;
+  days = two.days ∙ one.days;
+  money = omega (arith, one.money, two.money);
+  items = λ i. omega (arith, one.items i, two.items i);
+}
+
+-- ---- what passing on does
+
+-- What a campaign was, and what it is once something of a unit was passed on: there is so much more of each thing than is booked, so far were the amounts of the books moved, and each unit keeps all.
+pub record PassesOn (w : Planet) (n : ℕ) (owing : Thing → ℕ) (moving : Moving) (c d : State) : Type 0 where
+  pub steady : IsSteady w d
+  pub owes : (s : Thing) (x : ℕ) → Owes c s x → Owes d s (x + owing s)
+  pub near : (e : Entry) (s : Thing) → IsNear (moving e s) (amount_in c.books e s) (amount_in d.books e s)
+  pub same : IsSameMonth c d
+  pub unit : get d.units n ≡ get c.units n
+  pub forth : Every (λ m u. (v : Unit) × (get d.units m ≡ Some v) × IsKept u v) c.units
+  pub back : Every (λ m v. (u : Unit) × (get c.units m ≡ Some u) × IsKept u v) d.units
+
+pub passes-refl : (w : Planet) (n : ℕ) (c : State) → IsSteady w c → PassesOn w n (λ s. 0) (λ e s. 0) c c
+passes-refl w n c steady = record {
+  steady = steady;
+  owes = λ s x h. subst (Owes c s) (plain x) h;
+  near = λ e s. record { above = omega (arith, ints); below = omega (arith, ints) };
+  same = record { month = refl; reports = refl; count = refl; factions = λ k h. h };
+  unit = refl;
+  forth = λ m u is. (u, is, kept-refl u);
+  back = λ m v is. (v, is, kept-refl v);
+}
+  where
+    plain : (x : ℕ) → x ≡ x + 0
+    plain x = omega arith
+
+pub passes-trans : {o p : Thing → ℕ} {i j : Moving} (w : Planet) (n : ℕ) (a b c : State) → PassesOn w n o i a b → PassesOn w n p j b c → PassesOn w n (λ s. o s + p s) (both_move i j) a c
+passes-trans {o} {p} {i} {j} w n a b c one two = record {
+  steady = two.steady;
+  owes = λ s x h. subst (Owes c s) (grouped x (o s) (p s)) (two.owes s (x + o s) (one.owes s x h));
+  near = λ e s. near_twice (i e s) (j e s) (amount_in a.books e s) (amount_in b.books e s) (amount_in c.books e s) (one.near e s) (two.near e s);
+  same = record {
+    month = two.same.month ∙ one.same.month;
+    reports = two.same.reports ∙ one.same.reports;
+    count = two.same.count ∙ one.same.count;
+    factions = λ k h. one.same.factions k (two.same.factions k h);
+  };
+  unit = two.unit ∙ one.unit;
+  forth = λ m u is. let (v, there, kept) = one.forth m u is in let (x, behind, more) = two.forth m v there in (x, behind, kept-trans u v x kept more);
+  back = λ m x is. let (v, there, more) = two.back m x is in let (u, before, kept) = one.back m v there in (u, before, kept-trans u v x kept more);
+}
+  where
+    grouped : (x y z : ℕ) → (x + y) + z ≡ x + (y + z)
+    grouped x y z = omega arith
+
+-- what is taken from an amount is at most so much
+within-lost : (k n : ℕ) → k ≤ n → IsWithin n (neg_ℤ (pos k))
+within-lost k n l = record { most = omega (arith, ints); least = omega (arith, ints) }
+
+owed : (b : Bool) (taken lost x before after : ℕ) (books : ℤ) → after ≡ before + cond b taken 0 → pos before ≡ books +ℤ pos x
+    → pos after ≡ (books +ℤ cond b (neg_ℤ (pos lost)) (pos 0)) +ℤ pos (x + cond b (taken + lost) 0)
+owed true taken lost x before after books e h = omega (arith, ints, e, h)
+owed false taken lost x before after books e h = omega (arith, ints, e, h)
+
+owed_all : (b : Bool) (lost x all : ℕ) (books : ℤ) → pos all ≡ books +ℤ pos x → pos all ≡ (books +ℤ cond b (neg_ℤ (pos lost)) (pos 0)) +ℤ pos (x + cond b lost 0)
+owed_all true lost x all books h = omega (arith, ints, h)
+owed_all false lost x all books h = omega (arith, ints, h)
+
+module _ (w : Planet) (c : State) (n : ℕ) (t : Thing) (inside : thing_place t < things_of w) (steady : IsSteady w c) where
+  -- an amount that nobody takes
+  pub all_lost : (amount : ℕ) → PassesOn w n (λ s. part_of s t amount) (moves_only amount Lost t) c (with_lost c t amount)
+  all_lost amount = record {
+    steady = steady-amount w c Lost t (neg_ℤ (pos amount)) steady;
+    owes = λ s x h.
+        ap pos (total-amount c Lost t s (neg_ℤ (pos amount)))
+        ∙ owed_all (thing_place s == thing_place t) amount x (total c s) (booked c.books s) h
+        ∙ ap (λ z. z +ℤ pos (x + part_of s t amount)) (sym (booked-with_booked (things_of w) c.books Lost t (neg_ℤ (pos amount)) steady.numbers.books inside s));
+    near = booked-near (things_of w) c.books Lost t (neg_ℤ (pos amount)) amount steady.numbers.books inside (within-lost amount amount (omega arith));
+    same = record { month = refl; reports = refl; count = refl; factions = λ k h. h };
+    unit = refl;
+    forth = λ m u is. (u, is, kept-refl u);
+    back = λ m v is. (v, is, kept-refl v);
+  }
+
+  -- an amount of which a unit takes a part
+  module _ (k : ℕ) (v : Unit) (h : Held) (is : get c.units k ≡ Some v) (apart : n ≢ k) (may : MayHold w v h) (kept : IsKept v (record v { holding = h })) (taken lost : ℕ)
+      (more : (s : Thing) → held s h ≡ held s v.holding + part_of s t taken) where
+    abbrev given : State
+    given = with_held c k h (Some v)
+
+    grown : (s : Thing) → total given s ≡ total c s + part_of s t taken
+    grown s = sum (total given s) (held s v.holding) (total c s) (held s h) (part_of s t taken) (total-held w c k v h is s) (more s)
+      where
+        sum : (a x b y p : ℕ) → a + x ≡ b + y → y ≡ x + p → a ≡ b + p
+        sum a x b y p e f = omega (arith, e, f)
+
+    pub part_lost : PassesOn w n (λ s. part_of s t (taken + lost)) (moves_only (taken + lost) Lost t) c (with_lost given t lost)
+    part_lost = record {
+      steady = steady-amount w given Lost t (neg_ℤ (pos lost)) (steady-held w c k v h is may steady);
+      owes = λ s x e.
+          ap pos (total-amount given Lost t s (neg_ℤ (pos lost)))
+          ∙ owed (thing_place s == thing_place t) taken lost x (total c s) (total given s) (booked c.books s) (grown s) e
+          ∙ ap (λ z. z +ℤ pos (x + part_of s t (taken + lost))) (sym (booked-with_booked (things_of w) c.books Lost t (neg_ℤ (pos lost)) steady.numbers.books inside s));
+      near = booked-near (things_of w) c.books Lost t (neg_ℤ (pos lost)) (taken + lost) steady.numbers.books inside (within-lost lost (taken + lost) (omega arith));
+      same = record { month = refl; reports = refl; count = refl; factions = λ m h. h };
+      unit = get-insert_other c.units k n (record v { holding = h }) apart;
+      forth = λ m u there. new_unit m u there;
+      back = every-insert (λ m x. (u : Unit) × (get c.units m ≡ Some u) × IsKept u x) c.units k (record v { holding = h }) (v, is, kept) (λ m x there. (x, there, kept-refl x));
+    }
+      where
+        new_unit : (m : ℕ) (u : Unit) → get c.units m ≡ Some u → (x : Unit) × (get (insert c.units k (record v { holding = h })) m ≡ Some x) × IsKept u x
+        new_unit m u there =
+            elim (nat_cmp m k) as (λ o. nat_cmp m k ≡ o → (x : Unit) × (get (insert c.units k (record v { holding = h })) m ≡ Some x) × IsKept u x) [
+              | Less ↦ λ o. (u, get-insert_other c.units k m (record v { holding = h }) (λ same. let l = ranked m k Less (sym o) in absurd (omega arith)) ∙ there, kept-refl u)
+              | Equal ↦ λ o.
+                  let same : m ≡ k = nat_cmp-IsAntisymmetric m k o in
+                  let one : Some v ≡ Some u = sym is ∙ ap (get c.units) (sym same) ∙ there in
+                  (record v { holding = h }, ap (get (insert c.units k (record v { holding = h }))) same ∙ get-insert_same c.units k (record v { holding = h }), subst (λ (p : Option Unit). KeptOr p) one kept)
+              | Greater ↦ λ o. (u, get-insert_other c.units k m (record v { holding = h }) (λ same. let l = ranked m k Greater (sym o) in absurd (omega arith)) ∙ there, kept-refl u)
+            ] refl
+          where
+            KeptOr : Option Unit → Type 0
+            KeptOr None = IsKept v v
+            KeptOr (Some y) = IsKept y (record v { holding = h })
+
+-- ---- so much more of an item
+
+every_amount : (P : ℕ → ℕ → Type 0) (items : FinMap nat_cmp ℕ) (i amount : ℕ) → (1 ≤ amount → P i amount) → Every P items → Every P (with_amount_of items i amount)
+every_amount P items i amount here old = by_zero (amount == 0) refl
+  where
+    by_zero : (b : Bool) → (amount == 0) ≡ b → Every P (if b then remove items i else insert items i amount)
+    by_zero true is = every-remove items i P old
+    by_zero false is = let some : 1 ≤ amount = grind (arith, nat_tests) in every-insert P items i amount (here some) old
+
+set_amount : (items : FinMap nat_cmp ℕ) (i amount j : ℕ) → amount_of (with_amount_of items i amount) j ≡ cond (is_eq (nat_cmp j i)) amount (amount_of items j)
+set_amount items i amount j = by_zero (amount == 0) refl
+  where
+    put : (b : Bool) → unwrap_or (cond b (Some amount) (get items j)) 0 ≡ cond b amount (amount_of items j)
+    put true = refl
+    put false = refl
+
+    taken : (b : Bool) → 0 ≡ amount → unwrap_or (cond b None (get items j)) 0 ≡ cond b amount (amount_of items j)
+    taken true e = e
+    taken false e = refl
+
+    by_zero : (b : Bool) → (amount == 0) ≡ b → amount_of (if b then remove items i else insert items i amount) j ≡ cond (is_eq (nat_cmp j i)) amount (amount_of items j)
+    by_zero true is =
+        let none : 0 ≡ amount = grind (arith, nat_tests) in
+        ap (λ (o : Option ℕ). unwrap_or o 0) (get-remove nat_cmp_total items i j) ∙ taken (is_eq (nat_cmp j i)) none
+    by_zero false is = ap (λ (o : Option ℕ). unwrap_or o 0) (get-insert nat_cmp_total items i amount j) ∙ put (is_eq (nat_cmp j i))
+
+nothing_added : (b : Bool) (x n : ℕ) → b ≡ false → x ≡ x + cond b n 0
+nothing_added true x n e = cc
+nothing_added false x n e = omega arith
+
+more_amount : (items : FinMap nat_cmp ℕ) (i n j : ℕ) → amount_of (with_amount_of items i (amount_of items i + n)) j ≡ amount_of items j + cond (2 + j == 2 + i) n 0
+more_amount items i n j =
+    set_amount items i (amount_of items i + n) j
+    ∙ elim (nat_cmp j i) as (λ o. nat_cmp j i ≡ o → cond (is_eq o) (amount_of items i + n) (amount_of items j) ≡ amount_of items j + cond (2 + j == 2 + i) n 0) [
+      | Less ↦ λ o. let l = ranked j i Less (sym o) in nothing_added (2 + j == 2 + i) (amount_of items j) n (below l)
+      | Equal ↦ λ o. here (nat_cmp-IsAntisymmetric j i o)
+      | Greater ↦ λ o. let l = ranked j i Greater (sym o) in nothing_added (2 + j == 2 + i) (amount_of items j) n (above l)
+    ] refl
+  where
+    below : j < i → (2 + j == 2 + i) ≡ false
+    below l = grind (arith, nat_tests)
+
+    above : i < j → (2 + j == 2 + i) ≡ false
+    above l = grind (arith, nat_tests)
+
+    here : j ≡ i → amount_of items i + n ≡ amount_of items j + cond (2 + j == 2 + i) n 0
+    here same =
+        let tie : (2 + j == 2 + i) ≡ true = grind (arith, nat_tests) in
+        ap (λ k. amount_of items k + n) (sym same) ∙ ap (λ b. amount_of items j + cond b n 0) (sym tie)
+
+-- ---- the part that a unit takes, and the rest
+
+whole : (amount have : ℕ) → taken_of amount have + (amount - taken_of amount have) ≡ amount
+whole amount have = omega (arith, least amount (holding_limit - have))
+  where
+    least : (a b : ℕ) → min a b ≤ a
+    least a b = omega arith
+
+fits : (amount have : ℕ) → have ≤ holding_limit → have + taken_of amount have ≤ holding_limit
+fits amount have l = omega (arith, least amount (holding_limit - have))
+  where
+    least : (a b : ℕ) → min a b ≤ b
+    least a b = omega arith
+
+module _ (w : Planet) (c : State) (n k : ℕ) (apart : n ≢ k) (steady : IsSteady w c) where
+  abbrev Passed : Thing → ℕ → State → Type 0
+  Passed t amount d = PassesOn w n (λ s. part_of s t amount) (moves_only amount Lost t) c d
+
+  more_money : (h : Held) (n : ℕ) (s : Thing) → held s (record h { money = h.money + n }) ≡ held s h + part_of s Money n
+  more_money h n Money = refl
+  more_money h n People = nothing_added false h.men n refl
+  more_money h n (Item i) = nothing_added (2 + i == 0) (amount_of h.items i) n (let e : (2 + i == 0) ≡ false = grind (arith, nat_tests) in e)
+
+  pub pass_money : (amount : ℕ) → Passed Money amount (passed_money c k amount)
+  unfolding passed_money
+  pass_money amount = by_unit (get c.units k) refl
+    where
+      by_unit : (o : Option Unit) → get c.units k ≡ o → Passed Money amount (money_to c k amount o)
+      by_unit None is = all_lost w c n Money (omega arith) steady amount
+      by_unit (Some v) is =
+          let taken = taken_of amount v.holding.money in
+          let money = v.holding.money + taken in
+          let h = record v.holding { money = money } in
+          let most = (steady.numbers.units k v is).1.money in
+          subst (Passed Money amount) (ap (λ m. with_lost (record c { units = m }) Money (amount - taken)) (sym (changed-known (λ u. record u { holding = record u.holding { money = money } }) c.units k v is)))
+          (subst (λ a. Passed Money a (with_lost (with_held c k h (Some v)) Money (amount - taken))) (whole amount v.holding.money)
+          (part_lost w c n Money (omega arith) steady k v h is apart (may_hold_money w c k money v is (fits amount v.holding.money most) steady)
+          (record { faction = refl; region = refl; structure = refl; name = refl; men = refl; guard = refl; days = refl; money = omega arith; items = λ i. omega arith })
+          taken (amount - taken) (more_money v.holding taken)))
+
+  more_item : (h : Held) (i n : ℕ) (s : Thing) → held s (record h { items = with_amount_of h.items i (amount_of h.items i + n) }) ≡ held s h + part_of s (Item i) n
+  more_item h i n Money = nothing_added (0 == 2 + i) h.money n (let e : (0 == 2 + i) ≡ false = grind (arith, nat_tests) in e)
+  more_item h i n People = nothing_added (1 == 2 + i) h.men n (let e : (1 == 2 + i) ≡ false = grind (arith, nat_tests) in e)
+  more_item h i n (Item j) = more_amount h.items i n j
+
+  held_within : (v : Unit) (i : ℕ) → get c.units k ≡ Some v → amount_of v.holding.items i ≤ holding_limit
+  held_within v i is = by_option (get v.holding.items i) refl
+    where
+      by_option : (o : Option ℕ) → get v.holding.items i ≡ o → unwrap_or o 0 ≤ holding_limit
+      by_option None e = omega arith
+      by_option (Some a) e = ((steady.numbers.units k v is).1.items i a e).1
+
+  pub pass_item : (i amount : ℕ) → i < length w.items → Passed (Item i) amount (passed_item k c (i, amount))
+  unfolding passed_item
+  pass_item i amount known = by_unit (get c.units k) refl
+    where
+      inside : thing_place (Item i) < things_of w
+      inside = omega (arith, known)
+
+      by_unit : (o : Option Unit) → get c.units k ≡ o → Passed (Item i) amount (item_to c k i amount o)
+      by_unit None is = all_lost w c n (Item i) inside steady amount
+      by_unit (Some v) is =
+          let have = amount_of v.holding.items i in
+          let taken = taken_of amount have in
+          let items = with_amount_of v.holding.items i (have + taken) in
+          let most = fits amount have (held_within v i is) in
+          let place = steady.known.units k v is in
+          let holding = (steady.numbers.units k v is).1 in
+          subst (λ a. Passed (Item i) a (with_lost (with_held c k (record v.holding { items = items }) (Some v)) (Item i) (amount - taken))) (whole amount have)
+          (part_lost w c n (Item i) inside steady k v (record v.holding { items = items }) is apart
+          (record {
+            limits = record { men = holding.men; money = holding.money; items = every_amount (λ j a. (1 ≤ a) × (a ≤ holding_limit)) v.holding.items i (have + taken) (λ some. (some, most)) holding.items };
+            name = steady.names.units k v is;
+            items = every_amount (λ j a. j < length w.items) v.holding.items i (have + taken) (λ some. known) place.items;
+            skills = place.skills;
+            days = steady.days k v is;
+            guard = λ g. g;
+          })
+          (record {
+            faction = refl;
+            region = refl;
+            structure = refl;
+            name = refl;
+            men = refl;
+            guard = refl;
+            days = refl;
+            money = omega arith;
+            items = λ j. omega (arith, more_amount v.holding.items i taken j);
+          })
+          taken (amount - taken) (more_item v.holding i taken))
+
+-- ---- all that a unit has
+
+abbrev pub owing_items : List (ℕ × ℕ) → Thing → ℕ
+owing_items [] s = 0
+owing_items (e ∷ es) s = part_of s (Item e.0) e.1 + owing_items es s
+
+pub pass_items : (w : Planet) (c : State) (n k : ℕ) → n ≢ k → (es : List (ℕ × ℕ)) → EachOf (λ i a. i < length w.items) es → IsSteady w c
+    → PassesOn w n (owing_items es) (moving_items es) c (fold (passed_item k) c es)
+pass_items w c n k apart [] known steady = passes-refl w n c steady
+pass_items w c n k apart ((i, a) ∷ es) known steady =
+    let one = pass_item w c n k apart steady i a known.0 in
+    passes-trans w n c (passed_item k c (i, a)) (fold (passed_item k) (passed_item k c (i, a)) es) one (pass_items w (passed_item k c (i, a)) n k apart es known.1 one.steady)

@@ -1,0 +1,144 @@
+-- A map from which a value is taken, and the numbers that a list has.
+use Rattle.std.proofs.Common.{◌≡◌, ◌≢◌, ℕ, zero, suc, ◌<◌, ◌≤◌, ◌-◌, ◌+◌, Bool, true, false, cond, List, [], ◌∷◌, length, get_or, filter, map, Option, Some, None, refl, sym, ap, subst, ◌∙◌, inl, inr, ◌⊎◌, arith}
+use Rattle.std.specs.declared.cmp.Ordering.TheVariants.{Less, Equal, Greater}
+use Rattle.std.specs.Ordering.{nat_cmp, is_eq}
+use Rattle.std.specs.Cmp.{nat_cmp_total, ranked}
+use Rattle.std.specs.FinMap.{FinMap, contains_key, entries, get, get-insert, get-remove, insert, len, len-remove, nat_cmp-IsAntisymmetric, remove}
+use Rattle.atl_tables.specs.Sums.{numbers_where, sum_over}
+use Rattle.atl_tables.proofs.SumLaws.{chosen-cons, put_back, sum_over-insert_new}
+use Rattle.atl_state.specs.Deciding.{EachOf}
+use Rattle.atl_state.specs.Good.{Every}
+use Rattle.atl_state.specs.Owners.{first_or_zero}
+use Rattle.atl_state.proofs.EveryLaws.{every-from_each, none_some, passes-listed}
+
+-- ---- a value that is taken out
+
+module _ {V : Type 0} (m : FinMap nat_cmp V) (k : ℕ) where
+  pub get-remove_other : (n : ℕ) → n ≢ k → get (remove m k) n ≡ get m n
+  get-remove_other n apart =
+      get-remove nat_cmp_total m k n ∙ elim (nat_cmp n k) as (λ o. nat_cmp n k ≡ o → cond (is_eq o) None (get m n) ≡ get m n) [
+        | Less ↦ λ _. refl
+        | Equal ↦ λ o. absurd (apart (nat_cmp-IsAntisymmetric n k o))
+        | Greater ↦ λ _. refl
+      ] refl
+
+  pub get-remove_same : get (remove m k) k ≡ None
+  get-remove_same =
+      get-remove nat_cmp_total m k k ∙ elim (nat_cmp k k) as (λ o. nat_cmp k k ≡ o → cond (is_eq o) None (get m k) ≡ None) [
+        | Less ↦ λ o. let l = ranked k k Less (sym o) in absurd (omega arith)
+        | Equal ↦ λ _. refl
+        | Greater ↦ λ o. let l = ranked k k Greater (sym o) in absurd (omega arith)
+      ] refl
+
+  -- what is still there was there under another number
+  pub still : (n : ℕ) (v : V) → get (remove m k) n ≡ Some v → (n ≢ k) × (get m n ≡ Some v)
+  still n v is =
+      elim (nat_cmp n k) as (λ o. nat_cmp n k ≡ o → cond (is_eq o) None (get m n) ≡ Some v → (n ≢ k) × (get m n ≡ Some v)) [
+        | Less ↦ λ o e. (λ same. let l = ranked n k Less (sym o) in absurd (omega arith), e)
+        | Equal ↦ λ o e. none_some v e
+        | Greater ↦ λ o e. (λ same. let l = ranked n k Greater (sym o) in absurd (omega arith), e)
+      ] refl (sym (get-remove nat_cmp_total m k n) ∙ is)
+
+  pub every-remove : (P : ℕ → V → Type 0) → Every P m → Every P (remove m k)
+  every-remove P old n v is = old n v (still n v is).1
+
+  pub fewer : len (remove m k) ≤ len m
+  fewer = let is = len-remove nat_cmp_total m k in less (contains_key m k) (len (remove m k)) (len m) is
+    where
+      less : (b : Bool) (x y : ℕ) → x ≡ cond b (y - 1) y → x ≤ y
+      less true x y h = omega arith
+      less false x y h = omega arith
+
+  pub sum_over-remove : (f : V → ℕ) (v : V) → get m k ≡ Some v → sum_over f (remove m k) + f v ≡ sum_over f m
+  sum_over-remove f v is = sym (sum_over-insert_new f (remove m k) k v get-remove_same) ∙ ap (sum_over f) (sym (put_back m k v is))
+
+-- one value more, and what is so of all others
+pub every-insert_other : {V : Type 0} (P : ℕ → V → Type 0) (m : FinMap nat_cmp V) (k : ℕ) (v : V) → P k v → ((n : ℕ) (x : V) → n ≢ k → get m n ≡ Some x → P n x) → Every P (insert m k v)
+every-insert_other P m k v here others n x is =
+    elim (nat_cmp n k) as (λ o. nat_cmp n k ≡ o → cond (is_eq o) (Some v) (get m n) ≡ Some x → P n x) [
+      | Less ↦ λ o e. others n x (λ same. let l = ranked n k Less (sym o) in absurd (omega arith)) e
+      | Equal ↦ λ o same. let at : n ≡ k = nat_cmp-IsAntisymmetric n k o in let one : v ≡ x = cc in rw (at, ← one) here
+      | Greater ↦ λ o e. others n x (λ same. let l = ranked n k Greater (sym o) in absurd (omega arith)) e
+    ] refl (sym (get-insert nat_cmp_total m k v n) ∙ is)
+
+-- ---- the numbers that a list has
+
+abbrev pub IsListed : ℕ → List ℕ → Type 0
+IsListed k [] = ⊥
+IsListed k (n ∷ ns) = (k ≡ n) ⊎ IsListed k ns
+
+place_in : (k d : ℕ) (ns : List ℕ) → IsListed k ns → (i : ℕ) × (i < length ns) × (get_or ns i d ≡ k)
+place_in k d [] h = absurd h
+place_in k d (n ∷ ns) (inl same) = (0, omega arith, sym same)
+place_in k d (n ∷ ns) (inr rest) = let (i, l, at) = place_in k d ns rest in (suc i, omega arith, at)
+
+-- the first number that passes a test, or 0, where each is 1 or more
+pub first_of : (q : ℕ → Bool) (ns : List ℕ) → ((k : ℕ) → IsListed k ns → 1 ≤ k) →
+    (first_or_zero (filter q ns) ≢ 0 → IsListed (first_or_zero (filter q ns)) ns × (q (first_or_zero (filter q ns)) ≡ true))
+    × (first_or_zero (filter q ns) ≡ 0 → (k : ℕ) → IsListed k ns → q k ≡ false)
+first_of q [] low = (λ some. absurd (some refl), λ none k h. absurd h)
+first_of q (n ∷ ns) low =
+    let rest = first_of q ns (λ k h. low k (inr h)) in
+    elim (q n) as (λ b. q n ≡ b →
+    (first_or_zero (cond b (n ∷ filter q ns) (filter q ns)) ≢ 0 → IsListed (first_or_zero (cond b (n ∷ filter q ns) (filter q ns))) (n ∷ ns) × (q (first_or_zero (cond b (n ∷ filter q ns) (filter q ns))) ≡ true))
+    × (first_or_zero (cond b (n ∷ filter q ns) (filter q ns)) ≡ 0 → (k : ℕ) → IsListed k (n ∷ ns) → q k ≡ false)) [
+      | true ↦ λ t. (λ some. (inl refl, t), λ none. let least = low n (inl refl) in absurd (omega arith))
+      | false ↦ λ t. (λ some. let found = rest.0 some in (inr found.0, found.1), λ none k h. passed t (rest.1 none) k h)
+    ] refl
+  where
+    passed : q n ≡ false → ((k : ℕ) → IsListed k ns → q k ≡ false) → (k : ℕ) → IsListed k (n ∷ ns) → q k ≡ false
+    passed t others k (inl same) = ap q same ∙ t
+    passed t others k (inr h) = others k h
+
+module _ {V : Type 0} (p : V → Bool) where
+  abbrev chosen : List (ℕ × V) → List ℕ
+  chosen es = map (λ e. e.0) (filter (λ e. p e.1) es)
+
+  -- a number whose value passes is listed
+  further : (n : ℕ) (ns : List ℕ) (b : Bool) (k : ℕ) → IsListed k ns → IsListed k (cond b (n ∷ ns) ns)
+  further n ns true k h = inr h
+  further n ns false k h = h
+
+  foremost : (n : ℕ) (ns : List ℕ) (b : Bool) → b ≡ true → IsListed n (cond b (n ∷ ns) ns)
+  foremost n ns true h = inl refl
+  foremost n ns false h = cc
+
+  all_further : (ks ns : List ℕ) → ((k : ℕ) → IsListed k ks → IsListed k ns) → (es : List (ℕ × V)) → EachOf (λ n v. p v ≡ true → IsListed n ks) es → EachOf (λ n v. p v ≡ true → IsListed n ns) es
+  all_further ks ns more [] h = tt
+  all_further ks ns more (e ∷ es) h = (λ t. more e.0 (h.0 t), all_further ks ns more es h.1)
+
+  each_listed : (es : List (ℕ × V)) → EachOf (λ n v. p v ≡ true → IsListed n (chosen es)) es
+  each_listed [] = tt
+  each_listed (e ∷ es) =
+      let same = sym (chosen-cons p e es) in (
+        λ t. subst (IsListed e.0) same (foremost e.0 (chosen es) (p e.1) t),
+        all_further (chosen es) (chosen (e ∷ es)) (λ k h. subst (IsListed k) same (further e.0 (chosen es) (p e.1) k h)) es (each_listed es),
+      )
+
+  pub passing_listed : (m : FinMap nat_cmp V) → Every (λ n v. p v ≡ true → IsListed n (numbers_where p m)) m
+  passing_listed m = every-from_each (λ n v. p v ≡ true → IsListed n (numbers_where p m)) m (each_listed (entries m))
+
+  -- and a number that is listed has such a value
+  pub listed_passing : (m : FinMap nat_cmp V) (k : ℕ) → IsListed k (numbers_where p m) → (v : V) × (get m k ≡ Some v) × (p v ≡ true)
+  listed_passing m k h =
+      let (i, l, at) = place_in k 0 (numbers_where p m) h in
+      let (v, is, t) = passes-listed p m i 0 l in
+      (v, ap (get m) (sym at) ∙ is, t)
+
+  -- where none passes, none is listed
+  not_true : (b : Bool) → (b ≡ true → ⊥) → b ≡ false
+  not_true true h = absurd (h refl)
+  not_true false h = refl
+
+  pub none_passing : (m : FinMap nat_cmp V) → numbers_where p m ≡ [] → Every (λ n v. p v ≡ false) m
+  none_passing m none n v is = not_true (p v) (λ t. subst (IsListed n) none (passing_listed m n v is t))
+
+  none_listed : (ns : List ℕ) → ((k : ℕ) → IsListed k ns → ⊥) → ns ≡ []
+  none_listed [] h = refl
+  none_listed (n ∷ ns) h = absurd (h n (inl refl))
+
+  true_not_false : {P : Type 0} (b : Bool) → b ≡ true → b ≡ false → P
+  true_not_false b t f = cc
+
+  pub nothing_listed : (m : FinMap nat_cmp V) → Every (λ n v. p v ≡ false) m → numbers_where p m ≡ []
+  nothing_listed m none = none_listed (numbers_where p m) (λ k h. let (v, is, t) = listed_passing m k h in true_not_false (p v) t (none k v is))

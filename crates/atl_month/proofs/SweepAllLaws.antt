@@ -1,0 +1,289 @@
+-- The sweep of all units without men, and of the factions without units.
+use Rattle.std.proofs.Common.{◌≡◌, ◌≢◌, ◌==◌, ◌&&◌, ℕ, suc, ◌+◌, ◌*◌, ◌≤◌, ◌<◌, not, Bool, true, false, cond, List, [], ◌∷◌, length, filter, map, Option, Some, None, refl, sym, ap, subst, ◌∙◌, inl, inr, ◌⊎◌, arith}
+use Rattle.std.specs.Prelude.{ℤ, pos, fold, if◌then◌else◌}
+use Rattle.std.proofs.lemmas.Bool.Decides.{nat_tests}
+use Rattle.std.proofs.lemmas.Bool.{cases_eq}
+use Rattle.std.specs.Ordering.{nat_cmp}
+use Rattle.std.specs.FinMap.{FinMap, entries, get, len, len-entries}
+use Rattle.atl_tables.specs.Planet.{Planet}
+use Rattle.atl_tables.specs.Limits.{most_amount}
+use Rattle.atl_tables.specs.Sums.{numbers_where}
+use Rattle.atl_tables.proofs.SumLaws.{chosen-cons}
+use Rattle.atl_state.specs.Books.{amount_in, entry_place, thing_place}
+use Rattle.atl_state.specs.declared.books.Entry.{Entry}
+use Rattle.atl_state.specs.declared.books.Entry.TheVariants.{Lost}
+use Rattle.atl_state.specs.declared.books.Thing.{Thing}
+use Rattle.atl_state.specs.declared.books.Thing.TheVariants.{People}
+use Rattle.atl_state.specs.declared.records.Faction.{Faction}
+use Rattle.atl_state.specs.declared.records.Unit.{Unit}
+use Rattle.atl_state.specs.Good.{Every, HaveMen, IsSteady, IsThere, NoneAreGone}
+use Rattle.atl_state.specs.Owners.{without_unit}
+use Rattle.atl_state.specs.State.{State, numbers_of, with_gone}
+use Rattle.atl_state.specs.Totals.{Balances}
+use Rattle.atl_state.proofs.EveryLaws.{none_some}
+use Rattle.atl_instant.specs.Meaning.{IsNear, IsSameMonth, LeavesWell, Moving, both_move, moved_times, most_moved}
+use Rattle.atl_instant.proofs.MeaningLaws.{both_leave_well, fold_leaves_well, near_same, well_unchanged, well_within}
+use Rattle.atl_month.specs.Sweep.{IsKept, gone_at, is_empty, loses_by, menless, passed_on, receiver, remaining, sweep, sweep_keeps, swept_at, swept_in}
+use Rattle.atl_month.specs.Swept.{IsSwept}
+use Rattle.atl_month.proofs.RemovedLaws.{IsListed, passing_listed}
+use Rattle.atl_month.proofs.GoneLaws.{as_gone, count-gone, get-gone, get-gone_other, known-gone, none-gone, steady-gone, total-gone}
+use Rattle.atl_month.proofs.PassingLaws.{kept-refl, kept-trans}
+use Rattle.atl_month.proofs.SweepLaws.{others_keep, others_were, swept_leaves_well}
+
+-- ---- one unit
+
+abbrev men_in : Option Unit → Unit → ℕ
+men_in (Some y) z = y.holding.men
+men_in None z = z.holding.men
+
+without : (n : ℕ) → (n == 0) ≡ true → n ≡ 0
+without n t = grind (arith, nat_tests)
+
+has_some : (n : ℕ) → (n == 0) ≡ false → n ≢ 0
+has_some n t = grind (arith, nat_tests)
+
+module _ (w : Planet) (c : State) (n : ℕ) (steady : IsSteady w c) where
+  pub swept_at_leaves_well : LeavesWell IsSteady (loses_by most_amount) w c (swept_at c n)
+  unfolding swept_at
+  swept_at_leaves_well = by_unit (get c.units n) refl
+    where
+      by_men : (u : Unit) → get c.units n ≡ Some u → (b : Bool) → (u.holding.men == 0) ≡ b → LeavesWell IsSteady (loses_by most_amount) w c (swept_in c n (Some u))
+      by_men u is true t =
+          subst (λ b. LeavesWell IsSteady (loses_by most_amount) w c (if b then without_unit (passed_on c (receiver c u.region u.faction) u) n else c)) (sym t) (swept_leaves_well w c n u is (without u.holding.men t) steady)
+      by_men u is false t = subst (λ b. LeavesWell IsSteady (loses_by most_amount) w c (if b then without_unit (passed_on c (receiver c u.region u.faction) u) n else c)) (sym t) (well_unchanged (loses_by most_amount) w c steady)
+
+      by_unit : (o : Option Unit) → get c.units n ≡ o → LeavesWell IsSteady (loses_by most_amount) w c (swept_in c n o)
+      by_unit None is = well_unchanged (loses_by most_amount) w c steady
+      by_unit (Some u) is = by_men u is (u.holding.men == 0) refl
+
+  abbrev Kept : State → Type 0
+  Kept d = Every (λ m x. 1 ≤ x.holding.men → (v : Unit) × (get d.units m ≡ Some v) × IsKept x v) c.units
+
+  -- a unit with men keeps all
+  pub swept_at_keeps : Kept (swept_at c n)
+  unfolding swept_at
+  swept_at_keeps = by_unit (get c.units n) refl
+    where
+      same : Kept c
+      same m x there some = (x, there, kept-refl x)
+
+      all_but_it : (u : Unit) (is : get c.units n ≡ Some u) (none : u.holding.men ≡ 0) → Kept (without_unit (passed_on c (receiver c u.region u.faction) u) n)
+      all_but_it u is none m x there some =
+          others_keep w c n u is none steady m x there (λ own.
+          let one : Some x ≡ Some u = sym there ∙ ap (get c.units) own ∙ is in
+          let men = ap (λ o. men_in o x) one in
+          absurd (omega (arith, men, none, some)))
+
+      by_men : (u : Unit) → get c.units n ≡ Some u → (b : Bool) → (u.holding.men == 0) ≡ b → Kept (swept_in c n (Some u))
+      by_men u is true t = subst (λ b. Kept (if b then without_unit (passed_on c (receiver c u.region u.faction) u) n else c)) (sym t) (all_but_it u is (without u.holding.men t))
+      by_men u is false t = subst (λ b. Kept (if b then without_unit (passed_on c (receiver c u.region u.faction) u) n else c)) (sym t) same
+
+      by_unit : (o : Option Unit) → get c.units n ≡ o → Kept (swept_in c n o)
+      by_unit None is = same
+      by_unit (Some u) is = by_men u is (u.holding.men == 0) refl
+
+  abbrev Were : State → Type 0
+  Were d = Every (λ m v. (v.holding.men ≡ 0 → m ≢ n) × ((x : Unit) × (get c.units m ≡ Some x) × IsKept x v)) d.units
+
+  -- each unit that is left was there, and it isn't this one, unless that has men
+  pub swept_at_were : Were (swept_at c n)
+  unfolding swept_at
+  swept_at_were = by_unit (get c.units n) refl
+    where
+      by_men : (u : Unit) → get c.units n ≡ Some u → (b : Bool) → (u.holding.men == 0) ≡ b → Were (swept_in c n (Some u))
+      by_men u is true t =
+          subst (λ b. Were (if b then without_unit (passed_on c (receiver c u.region u.faction) u) n else c)) (sym t)
+          (λ m v there. let (apart, was) = others_were w c n u is (without u.holding.men t) steady m v there in (λ none. apart, was))
+      by_men u is false t =
+          subst (λ b. Were (if b then without_unit (passed_on c (receiver c u.region u.faction) u) n else c)) (sym t)
+          (λ m v there. (
+            λ none own.
+                let one : Some v ≡ Some u = sym there ∙ ap (get c.units) own ∙ is in
+                has_some u.holding.men t (sym (ap (λ o. men_in o v) one) ∙ none),
+            (v, there, kept-refl v),
+          ))
+
+      by_unit : (o : Option Unit) → get c.units n ≡ o → Were (swept_in c n o)
+      by_unit None is = λ m v there. (λ none own. none_some v (sym is ∙ ap (get c.units) (sym own) ∙ there), (v, there, kept-refl v))
+      by_unit (Some u) is = by_men u is (u.holding.men == 0) refl
+
+-- ---- all units
+
+-- each unit without men is listed
+abbrev AreListed : List ℕ → State → Type 0
+AreListed ns c = Every (λ m v. v.holding.men ≡ 0 → IsListed m ns) c.units
+
+behind_it : (m n : ℕ) (ns : List ℕ) → m ≢ n → IsListed m (n ∷ ns) → IsListed m ns
+behind_it m n ns apart (inl same) = absurd (apart same)
+behind_it m n ns apart (inr rest) = rest
+
+at_least_one : (n : ℕ) → (n ≡ 0 → ⊥) → 1 ≤ n
+at_least_one n some = by_test (n == 0) refl
+  where
+    by_test : (b : Bool) → (n == 0) ≡ b → 1 ≤ n
+    by_test true t = absurd (some (without n t))
+    by_test false t = let one = has_some n t in grind (arith, nat_tests)
+
+module _ (w : Planet) where
+  pub all_have_men : (ns : List ℕ) (c : State) → IsSteady w c → AreListed ns c → HaveMen (fold swept_at c ns)
+  all_have_men [] c steady listed = λ m v there. at_least_one v.holding.men (listed m v there)
+  all_have_men (n ∷ ns) c steady listed =
+      all_have_men ns (swept_at c n) (swept_at_leaves_well w c n steady).leaves_it (λ m v there none.
+      let (apart, (x, was, kept)) = swept_at_were w c n steady m v there in
+      behind_it m n ns (apart none) (listed m x was (sym kept.men ∙ none)))
+
+  pub all_keep : (ns : List ℕ) (c : State) → IsSteady w c → Every (λ m x. 1 ≤ x.holding.men → (v : Unit) × (get (fold swept_at c ns).units m ≡ Some v) × IsKept x v) c.units
+  all_keep [] c steady m x there some = (x, there, kept-refl x)
+  all_keep (n ∷ ns) c steady m x there some =
+      let (v, here, kept) = swept_at_keeps w c n steady m x there some in
+      let (y, behind, more) = all_keep ns (swept_at c n) (swept_at_leaves_well w c n steady).leaves_it m v here (omega (arith, kept.men, some)) in
+      (y, behind, kept-trans x v y kept more)
+
+-- ---- factions
+
+none_at : (ns : List ℕ) → is_empty ns ≡ true → ns ≡ []
+none_at [] h = refl
+none_at (n ∷ ns) h = cc
+
+some_at : (ns : List ℕ) → ns ≡ [] → is_empty ns ≡ false → ⊥
+some_at [] e h = cc
+some_at (n ∷ ns) e h = cc
+
+-- nothing of the books moves
+abbrev pub nothing_moves : Moving
+nothing_moves e t = 0
+
+module _ (c : State) (n : ℕ) where
+  pub gone_at_units : (gone_at c n).units ≡ c.units
+  gone_at_units = by_test (is_empty (numbers_of n c.units))
+    where
+      by_test : (b : Bool) → (if b then with_gone c n else c).units ≡ c.units
+      by_test true = refl
+      by_test false = refl
+
+  pub gone_at_leaves_well : (w : Planet) → IsSteady w c → LeavesWell IsSteady nothing_moves w c (gone_at c n)
+  gone_at_leaves_well w steady = by_test (is_empty (numbers_of n c.units)) refl
+    where
+      by_faction : numbers_of n c.units ≡ [] → (o : Option Faction) → get c.factions n ≡ o → LeavesWell IsSteady nothing_moves w c (with_gone c n)
+      by_faction none None is = subst (LeavesWell IsSteady nothing_moves w c) (sym (none-gone c n is)) (well_unchanged nothing_moves w c steady)
+      by_faction none (Some f) is = record {
+        leaves_it = steady-gone c n f is w none steady;
+        same_month = record { month = refl; reports = refl; count = count-gone c n f is; factions = known-gone c n f is };
+        balances = λ old t. ap pos (total-gone c n t) ∙ old t;
+        near = λ e t. near_same 0 (amount_in c.books e t);
+      }
+
+      by_test : (b : Bool) → is_empty (numbers_of n c.units) ≡ b → LeavesWell IsSteady nothing_moves w c (if b then with_gone c n else c)
+      by_test true t = by_faction (none_at (numbers_of n c.units) t) (get c.factions n) refl
+      by_test false t = well_unchanged nothing_moves w c steady
+
+  abbrev Remains : State → Type 0
+  Remains d = Every (λ m f. numbers_of m c.units ≡ [] → f.gone ≡ false → (m ≢ n) × (get c.factions m ≡ Some f)) d.factions
+
+  pub gone_at_remains : Remains (gone_at c n)
+  gone_at_remains = by_test (is_empty (numbers_of n c.units)) refl
+    where
+      by_faction : (o : Option Faction) → get c.factions n ≡ o → Remains (with_gone c n)
+      by_faction None is =
+          subst Remains (sym (none-gone c n is)) (λ m f there none stays. (λ own. none_some f (sym is ∙ ap (get c.factions) (sym own) ∙ there), there))
+      by_faction (Some x) is = λ m f there none stays.
+          elim (cases_eq m n) [
+            | inl own ↦
+                let one : Some (as_gone x) ≡ Some f = sym (get-gone c n x is) ∙ ap (get (with_gone c n).factions) (sym own) ∙ there in
+                absurd (both_ways f.gone (sym (ap (λ o. gone_in o f) one)) stays)
+            | inr apart ↦ (apart, sym (get-gone_other c n x is m apart) ∙ there)
+          ]
+        where
+          gone_in : Option Faction → Faction → Bool
+          gone_in (Some y) z = y.gone
+          gone_in None z = z.gone
+
+          both_ways : (b : Bool) → b ≡ true → b ≡ false → ⊥
+          both_ways b e f = cc
+
+      by_test : (b : Bool) → is_empty (numbers_of n c.units) ≡ b → Remains (if b then with_gone c n else c)
+      by_test true t = by_faction (get c.factions n) refl
+      by_test false t = λ m f there none stays. (λ own. some_at (numbers_of n c.units) (ap (λ k. numbers_of k c.units) (sym own) ∙ none) t, there)
+
+-- each faction that has no unit, and is not gone, is listed
+abbrev AreToGo : List ℕ → State → Type 0
+AreToGo ns c = Every (λ m f. numbers_of m c.units ≡ [] → f.gone ≡ false → IsListed m ns) c.factions
+
+not_false : (b : Bool) → (b ≡ false → ⊥) → b ≡ true
+not_false true h = refl
+not_false false h = absurd (h refl)
+
+all_are_gone : (ns : List ℕ) (c : State) → AreToGo ns c → NoneAreGone (fold gone_at c ns)
+all_are_gone [] c listed = λ m f there none. not_false f.gone (listed m f there none)
+all_are_gone (n ∷ ns) c listed =
+    all_are_gone ns (gone_at c n) (λ m f there none stays.
+    let here : numbers_of m c.units ≡ [] = ap (numbers_of m) (sym (gone_at_units c n)) ∙ none in
+    let (apart, was) = gone_at_remains c n m f there here stays in
+    behind_it m n ns apart (listed m f was here stays))
+
+units_stay : (ns : List ℕ) (c : State) → (fold gone_at c ns).units ≡ c.units
+units_stay [] c = refl
+units_stay (n ∷ ns) c = units_stay ns (gone_at c n) ∙ gone_at_units c n
+
+-- ---- the phase
+
+length-numbers : {V : Type 0} (p : V → Bool) (es : List (ℕ × V)) → length (map (λ e. e.0) (filter (λ e. p e.1) es)) ≤ length es
+length-numbers p [] = omega arith
+length-numbers p (e ∷ es) = subst (λ ns. length ns ≤ length (e ∷ es)) (sym (chosen-cons p e es)) (one_more (p e.1) e.0 _ (length-numbers p es))
+  where
+    one_more : (b : Bool) (n : ℕ) (ns : List ℕ) → length ns ≤ length es → length (cond b (n ∷ ns) ns) ≤ suc (length es)
+    one_more true n ns l = omega arith
+    one_more false n ns l = omega arith
+
+pub loses_little : (k : ℕ) → k ≤ 10000 → (e : Entry) (t : Thing) → moved_times k (loses_by most_amount) e t ≤ loses_by most_moved e t
+loses_little k few e t = scaled ((entry_place e == entry_place Lost) && not (thing_place t == thing_place People))
+  where
+    scaled : (b : Bool) → k * (if b then most_amount else 0) ≤ (if b then most_moved else 0)
+    scaled true = omega (arith, few)
+    scaled false = omega (arith, few)
+
+pub few_menless : (w : Planet) (c : State) → IsSteady w c → length (menless c) ≤ 10000
+few_menless w c steady = omega (arith, length-numbers (λ (u : Unit). u.holding.men == 0) (entries c.units), len-entries c.units, steady.numbers.few_units)
+
+moves_none : (k : ℕ) (e : Entry) (t : Thing) → moved_times k nothing_moves e t ≤ nothing_moves e t
+moves_none k e t = omega arith
+
+module _ (w : Planet) (c : State) (steady : IsSteady w c) where
+  abbrev units_swept : State
+  units_swept = fold swept_at c (menless c)
+
+  units_well : LeavesWell IsSteady (loses_by most_moved) w c units_swept
+  units_well =
+      well_within (moved_times (length (menless c)) (loses_by most_amount)) (loses_by most_moved) w c units_swept (loses_little (length (menless c)) (few_menless w c steady))
+      (fold_leaves_well (loses_by most_amount) w swept_at (λ d n. swept_at_leaves_well w d n) c (menless c) steady)
+
+  factions_well : LeavesWell IsSteady nothing_moves w units_swept (sweep c)
+  factions_well =
+      well_within (moved_times (length (remaining units_swept)) nothing_moves) nothing_moves w units_swept (sweep c) (moves_none (length (remaining units_swept)))
+      (fold_leaves_well nothing_moves w gone_at (λ d n. gone_at_leaves_well d n w) units_swept (remaining units_swept) units_well.leaves_it)
+
+  both_well : LeavesWell IsSteady (loses_by most_moved) w c (sweep c)
+  both_well =
+      well_within (both_move (loses_by most_moved) nothing_moves) (loses_by most_moved) w c (sweep c) (λ e t. omega arith)
+      (both_leave_well (loses_by most_moved) nothing_moves w c units_swept (sweep c) units_well factions_well)
+
+  have_men : HaveMen (sweep c)
+  have_men =
+      subst (λ (units : FinMap nat_cmp Unit). Every (λ n u. 1 ≤ u.holding.men) units) (sym (units_stay (remaining units_swept) units_swept))
+      (all_have_men w (menless c) c steady (λ m v there none. passing_listed (λ (u : Unit). u.holding.men == 0) c.units m v there (let t : (v.holding.men == 0) ≡ true = grind (arith, nat_tests) in t)))
+
+  are_gone : NoneAreGone (sweep c)
+  are_gone = all_are_gone (remaining units_swept) units_swept (λ m f there none stays. passing_listed (λ (x : Faction). not x.gone) units_swept.factions m f there (ap not stays))
+
+  pub sweep_leaves_well : LeavesWell IsSwept (loses_by most_moved) w c (sweep c)
+  sweep_leaves_well = record {
+    leaves_it = record { steady = both_well.leaves_it; men = have_men; gone = are_gone };
+    same_month = both_well.same_month;
+    balances = both_well.balances;
+    near = both_well.near;
+  }
+
+  pub sweep_keeps_all : Every (λ n u. 1 ≤ u.holding.men → (v : Unit) × (get (sweep c).units n ≡ Some v) × IsKept u v) c.units
+  sweep_keeps_all n u is some =
+      let (v, there, kept) = all_keep w (menless c) c steady n u is some in
+      (v, ap (λ (units : FinMap nat_cmp Unit). get units n) (units_stay (remaining units_swept) units_swept) ∙ there, kept)

@@ -1,0 +1,257 @@
+-- The sweep leaves a campaign well.
+use Rattle.std.proofs.Common.{◌≡◌, ◌≢◌, ◌==◌, ◌&&◌, ℕ, suc, ◌+◌, ◌*◌, ◌≤◌, ◌<◌, not, Bool, true, false, cond, List, [], ◌∷◌, length, filter, map, Option, Some, None, refl, sym, ap, subst, ◌∙◌, inl, inr, ◌⊎◌, arith}
+use Rattle.std.specs.Prelude.{ℤ, pos, ◌+ℤ◌, fold, nat_lt, unwrap_or, if◌then◌else◌}
+use Rattle.std.proofs.lemmas.Int.{ints}
+use Rattle.std.proofs.lemmas.Bool.Decides.{nat_tests}
+use Rattle.std.proofs.lemmas.Bool.{and_parts, cases_eq}
+use Rattle.std.proofs.lemmas.List.{length-map}
+use Rattle.std.specs.declared.cmp.Ordering.TheVariants.{Less, Equal, Greater}
+use Rattle.std.specs.Ordering.{nat_cmp, is_eq}
+use Rattle.std.specs.Cmp.{ranked}
+use Rattle.std.specs.FinMap.{FinMap, entries, find, get, get-entries, is_sorted, len, len-entries, nat_cmp-IsAntisymmetric, remove}
+use Rattle.atl_tables.specs.Planet.{Planet}
+use Rattle.atl_tables.specs.Limits.{most_amount}
+use Rattle.atl_tables.specs.Sums.{numbers_where}
+use Rattle.atl_state.specs.Books.{IsGrid, amount_in, booked, entry_place, thing_place}
+use Rattle.atl_state.specs.declared.books.Entry.{Entry}
+use Rattle.atl_state.specs.declared.books.Entry.TheVariants.{Lost}
+use Rattle.atl_state.specs.declared.books.Thing.{Thing}
+use Rattle.atl_state.specs.declared.books.Thing.TheVariants.{Item, Money, People}
+use Rattle.atl_state.specs.declared.records.Faction.{Faction}
+use Rattle.atl_state.specs.declared.records.Unit.{Unit}
+use Rattle.atl_state.specs.Deciding.{EachOf}
+use Rattle.atl_state.specs.Good.{Every, HaveMen, IsSteady, IsThere, NoneAreGone}
+use Rattle.atl_state.specs.Held.{Held, amount_of}
+use Rattle.atl_state.specs.Limits.{entry_count, holding_limit}
+use Rattle.atl_state.specs.Marks.{amount_number}
+use Rattle.atl_state.specs.Owners.{first_or_zero, without_unit}
+use Rattle.atl_state.specs.State.{State, numbers_in, numbers_of, with_gone}
+use Rattle.atl_state.specs.Totals.{Balances, held, total}
+use Rattle.atl_state.proofs.BookLaws.{entry_small}
+use Rattle.atl_state.proofs.EveryLaws.{each-from_every, none_some, not_below, sorted}
+use Rattle.atl_instant.specs.Meaning.{IsNear, IsSameMonth, LeavesWell, Moving, both_move, moved_times, moves_only, most_moved}
+use Rattle.atl_instant.proofs.MeaningLaws.{MovesLess, both_leave_well, fold_leaves_well, near_more, well_unchanged, well_within}
+use Rattle.atl_month.specs.Sweep.{IsKept, first_receiver, gone_at, is_empty, loses_by, may_receive, menless, moving_items, passed_item, passed_money, passed_on, receiver, remaining, sweep, sweep_keeps, swept_at, swept_in}
+use Rattle.atl_month.specs.Swept.{IsSwept}
+use Rattle.atl_month.proofs.RemovedLaws.{IsListed, first_of, get-remove_other, listed_passing, passing_listed, still}
+use Rattle.atl_month.proofs.LeavingLaws.{only_reduced, steady-without, total-without}
+use Rattle.atl_month.proofs.GoneLaws.{as_gone, count-gone, get-gone, get-gone_other, known-gone, steady-gone, total-gone}
+use Rattle.atl_month.proofs.PassingLaws.{Owes, PassesOn, kept-refl, kept-trans, owing_items, part_of, pass_items, pass_money, passes-trans}
+
+-- ---- how much of each thing a unit passes on
+
+no_money : (es : List (ℕ × ℕ)) → owing_items es Money ≡ 0
+no_money [] = refl
+no_money (e ∷ es) = let apart : (0 == 2 + e.0) ≡ false = grind (arith, nat_tests) in ap (λ b. cond b e.1 0 + owing_items es Money) apart ∙ ap (λ n. 0 + n) (no_money es)
+
+no_people : (es : List (ℕ × ℕ)) → owing_items es People ≡ 0
+no_people [] = refl
+no_people (e ∷ es) = let apart : (1 == 2 + e.0) ≡ false = grind (arith, nat_tests) in ap (λ b. cond b e.1 0 + owing_items es People) apart ∙ ap (λ n. 0 + n) (no_people es)
+
+of_item : (j : ℕ) (es : List (ℕ × ℕ)) → is_sorted nat_cmp es ≡ true → owing_items es (Item j) ≡ unwrap_or (find nat_cmp j es) 0
+of_item j [] s = refl
+of_item j (e ∷ es) s =
+    let rest = of_item j es (and_parts _ _ s).1 in
+    elim (nat_cmp j e.0) as (λ o. nat_cmp j e.0 ≡ o → cond (2 + j == 2 + e.0) e.1 0 + owing_items es (Item j) ≡ unwrap_or (cond (is_eq o) (Some e.1) (find nat_cmp j es)) 0) [
+      | Less ↦ λ o. let l = ranked j e.0 Less (sym o) in other (let t : (2 + j == 2 + e.0) ≡ false = grind (arith, nat_tests) in t) rest
+      | Equal ↦ λ o.
+          let same : j ≡ e.0 = nat_cmp-IsAntisymmetric j e.0 o in
+          here (let t : (2 + j == 2 + e.0) ≡ true = grind (arith, nat_tests) in t)
+          (rest ∙ ap (λ k. unwrap_or (find nat_cmp k es) 0) same ∙ ap (λ (p : Option ℕ). unwrap_or p 0) (not_below e.0 es (and_parts _ _ s).0))
+      | Greater ↦ λ o. let l = ranked j e.0 Greater (sym o) in other (let t : (2 + j == 2 + e.0) ≡ false = grind (arith, nat_tests) in t) rest
+    ] refl
+  where
+    other : {n : ℕ} → (2 + j == 2 + e.0) ≡ false → owing_items es (Item j) ≡ n → cond (2 + j == 2 + e.0) e.1 0 + owing_items es (Item j) ≡ n
+    other {n} t rest = ap (λ b. cond b e.1 0 + owing_items es (Item j)) t ∙ nothing (owing_items es (Item j)) ∙ rest
+      where
+        nothing : (x : ℕ) → 0 + x ≡ x
+        nothing x = omega arith
+
+    here : (2 + j == 2 + e.0) ≡ true → owing_items es (Item j) ≡ 0 → cond (2 + j == 2 + e.0) e.1 0 + owing_items es (Item j) ≡ e.1
+    here t none = ap (λ b. cond b e.1 0 + owing_items es (Item j)) t ∙ ap (λ n. e.1 + n) none ∙ plain e.1
+      where
+        plain : (x : ℕ) → x + 0 ≡ x
+        plain x = omega arith
+
+abbrev owing_all : Held → Thing → ℕ
+owing_all h s = part_of s Money h.money + owing_items (entries h.items) s
+
+abbrev pub moving_all : Held → Moving
+moving_all h = both_move (moves_only h.money Lost Money) (moving_items (entries h.items))
+
+all_owed : (h : Held) → h.men ≡ 0 → (s : Thing) → owing_all h s ≡ held s h
+all_owed h none Money = ap (λ n. h.money + n) (no_money (entries h.items)) ∙ plain h.money
+  where
+    plain : (x : ℕ) → x + 0 ≡ x
+    plain x = omega arith
+all_owed h none People = ap (λ n. 0 + n) (no_people (entries h.items)) ∙ sym none
+all_owed h none (Item j) =
+    let apart : (2 + j == 0) ≡ false = grind (arith, nat_tests) in
+    ap (λ b. cond b h.money 0 + owing_items (entries h.items) (Item j)) apart ∙ nothing (owing_items (entries h.items) (Item j))
+    ∙ of_item j (entries h.items) (sorted h.items) ∙ ap (λ (o : Option ℕ). unwrap_or o 0) (sym (get-entries h.items j))
+  where
+    nothing : (x : ℕ) → 0 + x ≡ x
+    nothing x = omega arith
+
+-- ---- how far it moves the books
+
+-- an amount of what is lost
+abbrev of_lost : Entry → ℕ → ℕ
+of_lost e n = cond (entry_place e == 7) n 0
+
+one_moved : (a : ℕ) (t : Thing) (e : Entry) (s : Thing) → moves_only a Lost t e s ≤ of_lost e (part_of s t a)
+one_moved a t e s = by_number (amount_number e s == amount_number Lost t) refl
+  where
+    at_place : (b d : Bool) → b ≡ true → d ≡ true → a ≤ cond b (cond d a 0) 0
+    at_place true true f g = omega arith
+    at_place true false f g = cc
+    at_place false d f g = cc
+
+    by_number : (b : Bool) → (amount_number e s == amount_number Lost t) ≡ b → (if b then a else 0) ≤ of_lost e (part_of s t a)
+    by_number true is =
+        let same : entry_count * thing_place s + entry_place e ≡ entry_count * thing_place t + 7 = grind (arith, nat_tests) in
+        let small = entry_small e in
+        let thing : thing_place s ≡ thing_place t = omega arith in
+        let entry : entry_place e ≡ 7 = omega arith in
+        at_place (entry_place e == 7) (thing_place s == thing_place t) (let f : (entry_place e == 7) ≡ true = grind (arith, nat_tests) in f) (let g : (thing_place s == thing_place t) ≡ true = grind (arith, nat_tests) in g)
+    by_number false is = omega arith
+
+lost_sum : (e : Entry) (x y m n : ℕ) → x ≤ of_lost e m → y ≤ of_lost e n → x + y ≤ of_lost e (m + n)
+lost_sum e x y m n = by_test (entry_place e == 7)
+  where
+    by_test : (b : Bool) → x ≤ cond b m 0 → y ≤ cond b n 0 → x + y ≤ cond b (m + n) 0
+    by_test true k l = omega arith
+    by_test false k l = omega arith
+
+items_moved : (es : List (ℕ × ℕ)) (e : Entry) (s : Thing) → moving_items es e s ≤ of_lost e (owing_items es s)
+items_moved [] e s = omega arith
+items_moved (x ∷ xs) e s = lost_sum e (moves_only x.1 Lost (Item x.0) e s) (moving_items xs e s) (part_of s (Item x.0) x.1) (owing_items xs s) (one_moved x.1 (Item x.0) e s) (items_moved xs e s)
+
+all_moved : (h : Held) → h.men ≡ 0 → (e : Entry) (s : Thing) → moving_all h e s ≤ of_lost e (held s h)
+all_moved h none e s =
+    subst (λ n. moving_all h e s ≤ of_lost e n) (all_owed h none s)
+    (lost_sum e (moves_only h.money Lost Money e s) (moving_items (entries h.items) e s) (part_of s Money h.money) (owing_items (entries h.items) s) (one_moved h.money Money e s) (items_moved (entries h.items) e s))
+
+-- within what a unit may hold
+little_lost : (h : Held) → h.men ≡ 0 → h.money ≤ holding_limit → ((i : ℕ) → amount_of h.items i ≤ holding_limit) → (e : Entry) (s : Thing) → of_lost e (held s h) ≤ loses_by most_amount e s
+little_lost h none money items e Money = by_test (entry_place e == 7)
+  where
+    by_test : (b : Bool) → cond b h.money 0 ≤ (if b && not false then most_amount else 0)
+    by_test true = money
+    by_test false = omega arith
+little_lost h none money items e People = by_test (entry_place e == 7)
+  where
+    by_test : (b : Bool) → cond b h.men 0 ≤ (if b && not true then most_amount else 0)
+    by_test true = omega (arith, none)
+    by_test false = omega arith
+little_lost h none money items e (Item j) = let apart : (2 + j == 1) ≡ false = grind (arith, nat_tests) in by_test (entry_place e == 7) (2 + j == 1) apart
+  where
+    by_test : (b d : Bool) → d ≡ false → cond b (amount_of h.items j) 0 ≤ (if b && not d then most_amount else 0)
+    by_test true false f = items j
+    by_test true true f = cc
+    by_test false d f = omega arith
+
+-- ---- who gets it
+
+module _ (w : Planet) (c : State) (n : ℕ) (u : Unit) (is : get c.units n ≡ Some u) (none : u.holding.men ≡ 0) (steady : IsSteady w c) where
+  not_received : (faction : ℕ) → may_receive faction (get c.units n) ≡ true → ⊥
+  not_received faction t = without_men (u.faction == faction) u.holding.men none (sym (ap (may_receive faction) is) ∙ t)
+    where
+      without_men : (b : Bool) (men : ℕ) → men ≡ 0 → (b && nat_lt 0 men) ≡ true → ⊥
+      without_men b men e t = let f : nat_lt 0 men ≡ false = grind (arith, nat_tests) in both b (nat_lt 0 men) f t
+        where
+          both : (a d : Bool) → d ≡ false → (a && d) ≡ true → ⊥
+          both true d f g = cc
+          both false d f g = cc
+
+  receiver_apart : (region faction : ℕ) → n ≢ receiver c region faction
+  receiver_apart region faction same =
+      let test = λ (m : ℕ). may_receive faction (get c.units m) in
+      let among = numbers_in region c.units in
+      let low : (k : ℕ) → IsListed k among → 1 ≤ k = λ k h. let (v, there, t) = listed_passing (λ (v : Unit). v.region == region) c.units k h in (steady.numbers.units k v there).0 in
+      let first = first_of test among low in
+      let least = (steady.numbers.units n u is).0 in
+      let some : receiver c region faction ≢ 0 = λ zero. absurd (omega (arith, same, zero, least)) in
+      not_received faction (ap test same ∙ (first.0 some).1)
+
+  abbrev to : ℕ
+  to = receiver c u.region u.faction
+
+  known : EachOf (λ i a. i < length w.items) (entries u.holding.items)
+  known = each-from_every (λ i a. i < length w.items) u.holding.items (steady.known.units n u is).items
+
+  abbrev passed : State
+  passed = passed_on c to u
+
+  passing : PassesOn w n (owing_all u.holding) (moving_all u.holding) c passed
+  passing =
+      let apart = receiver_apart u.region u.faction in
+      let money = pass_money w c n to apart steady u.holding.money in
+      passes-trans w n c (passed_money c to u.holding.money) passed money (pass_items w (passed_money c to u.holding.money) n to apart (entries u.holding.items) known money.steady)
+
+  held_within : (i : ℕ) → amount_of u.holding.items i ≤ holding_limit
+  held_within i = by_option (get u.holding.items i) refl
+    where
+      by_option : (o : Option ℕ) → get u.holding.items i ≡ o → unwrap_or o 0 ≤ holding_limit
+      by_option None e = omega arith
+      by_option (Some a) e = ((steady.numbers.units n u is).1.items i a e).1
+
+  there_still : get passed.units n ≡ Some u
+  there_still = passing.unit ∙ is
+
+  abbrev swept : State
+  swept = without_unit passed n
+
+  balanced : Balances c → Balances swept
+  balanced old s =
+      let before : Owes passed s (0 + owing_all u.holding s) = passing.owes s 0 (old s ∙ plain _) in
+      let total_is = total-without w passed n u there_still s in
+      let only = only_reduced w passed n u there_still in
+      rest (total swept s) (held s u.holding) (total passed s) (owing_all u.holding s) (booked passed.books s) total_is (all_owed u.holding none s) before
+      ∙ ap (λ (books : List (List ℤ)). booked books s) (sym only.books)
+    where
+      plain : (z : ℤ) → z ≡ z +ℤ pos 0
+      plain z = omega (arith, ints)
+
+      rest : (a h b o : ℕ) (z : ℤ) → a + h ≡ b → o ≡ h → pos b ≡ z +ℤ pos (0 + o) → pos a ≡ z
+      rest a h b o z e f g = omega (arith, ints, e, f, g)
+
+  less_less : (a b d : ℕ) → a ≤ b → b ≤ d → a ≤ d
+  less_less a b d k l = omega arith
+
+  pub moves_little : (e : Entry) (s : Thing) → moving_all u.holding e s ≤ loses_by most_amount e s
+  moves_little e s =
+      less_less (moving_all u.holding e s) (of_lost e (held s u.holding)) (loses_by most_amount e s) (all_moved u.holding none e s) (little_lost u.holding none (steady.numbers.units n u is).1.money held_within e s)
+
+  pub swept_leaves_well : LeavesWell IsSteady (loses_by most_amount) w c swept
+  swept_leaves_well =
+      let only = only_reduced w passed n u there_still in
+      record {
+        leaves_it = steady-without w passed n u there_still passing.steady;
+        same_month = record {
+          month = only.month ∙ passing.same.month;
+          reports = only.reports ∙ passing.same.reports;
+          count = ap len only.factions ∙ passing.same.count;
+          factions = λ k h. passing.same.factions k (subst (λ (m : FinMap nat_cmp Faction). IsThere m k) only.factions h);
+        };
+        balances = balanced;
+        near = λ e s.
+            subst (λ (books : List (List ℤ)). IsNear (loses_by most_amount e s) (amount_in c.books e s) (amount_in books e s)) (sym only.books)
+            (near_more (moving_all u.holding e s) (loses_by most_amount e s) (amount_in c.books e s) (amount_in passed.books e s)
+            (moves_little e s)
+            (passing.near e s));
+      }
+
+  -- a unit other than the one that goes keeps all
+  pub others_keep : Every (λ m x. m ≢ n → (v : Unit) × (get swept.units m ≡ Some v) × IsKept x v) c.units
+  others_keep m x there apart =
+      let only = only_reduced w passed n u there_still in
+      let (v, here, kept) = passing.forth m x there in
+      (v, ap (λ (units : FinMap nat_cmp Unit). get units m) only.units ∙ get-remove_other passed.units n m apart ∙ here, kept)
+
+  -- and each unit that is left was there
+  pub others_were : Every (λ m v. (m ≢ n) × ((x : Unit) × (get c.units m ≡ Some x) × IsKept x v)) swept.units
+  others_were m v there =
+      let only = only_reduced w passed n u there_still in
+      let (apart, here) = still passed.units n m v (sym (ap (λ (units : FinMap nat_cmp Unit). get units m) only.units) ∙ there) in
+      (apart, passing.back m v here)

@@ -1,0 +1,32 @@
+use Rattle.std.proofs.Common.{rules, ◌≡◌, length}
+use Rattle.atl_tables.specs.Limits.{most_amount}
+use Rattle.atl_state.proofs.CoverLaws.{marks-trans}
+use Rattle.atl_instant.specs.Meaning.{most_moved, moved_times}
+use Rattle.atl_instant.proofs.MeaningLaws.{room_less}
+use Rattle.atl_month.specs.Sweep.{loses_by, menless, sweep}
+use Rattle.atl_month.proofs.SweepAllLaws.{few_menless, loses_little, sweep_keeps_all, sweep_leaves_well}
+use Rattle.atl_month.proofs.sweep.SweepPhasePhase.run.Goals as goal
+
+pub sweep_units-requires-clause-room : goal.sweep_units-requires-clause-room
+sweep_units-requires-clause-room c =
+    let w = c.args.world.now in
+    let before = c.args.campaign.what in
+    let list : c.deref.result.now ≡ menless before = search rules in
+    rw list (room_less (moved_times (length (menless before)) (loses_by most_amount)) (loses_by most_moved) before (loses_little (length (menless before)) (few_menless w before c.requires.needs)) c.requires.room)
+
+pub returns-clause-leaves : goal.returns-clause-leaves
+returns-clause-leaves c =
+    let w = c.args.world.now in
+    let before = c.args.campaign.what in
+    let is : c.sweep_factions.new.campaign.what ≡ sweep before = search rules in
+    rw is (sweep_leaves_well w before c.requires.needs)
+
+pub returns-clause-keeps : goal.returns-clause-keeps
+returns-clause-keeps c =
+    let w = c.args.world.now in
+    let before = c.args.campaign.what in
+    let is : c.sweep_factions.new.campaign.what ≡ sweep before = search rules in
+    rw is (sweep_keeps_all w before c.requires.needs)
+
+pub returns-clause-marks : goal.returns-clause-marks
+returns-clause-marks c = marks-trans c.args.campaign c.sweep_units.new.campaign c.sweep_factions.new.campaign c.in_ok-sweep_units.ensures.marks c.sweep_factions.ensures.marks

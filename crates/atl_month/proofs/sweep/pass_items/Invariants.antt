@@ -1,0 +1,17 @@
+use Rattle.std.proofs.Common.{◌≡◌, ◌<◌, length, drop}
+use Rattle.std.specs.Prelude.{fold}
+use Rattle.atl_state.specs.Covers.{MarksChanges}
+use Rattle.atl_state.specs.Deciding.{EachOf}
+use Rattle.atl_state.specs.Good.{IsSteady}
+use Rattle.atl_instant.specs.Meaning.{HaveRoom}
+use Rattle.atl_month.specs.Sweep.{moving_items, passed_item}
+use Rattle.atl_month.proofs.sweep.pass_items.Given as goal
+
+abbrev pub invariant-loop-item : goal.invariant-loop-item
+invariant-loop-item l = record {
+  rest : fold (passed_item l.to) l.campaign.what (drop l.item-index l.items) ≡ fold (passed_item l.to) l.initial.campaign.what l.items;
+  steady : IsSteady l.world l.campaign.what;
+  known : EachOf (λ i amount. i < length l.world.items) (drop l.item-index l.items);
+  room : HaveRoom (moving_items (drop l.item-index l.items)) l.campaign.what;
+  marks : MarksChanges l.initial.campaign l.campaign;
+}

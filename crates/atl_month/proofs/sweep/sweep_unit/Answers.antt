@@ -1,0 +1,44 @@
+use Rattle.std.proofs.Common.{rules, ◌≡◌, ◌<◌, ℕ, List, length, sym, ap, subst, ◌∙◌, arith}
+use Rattle.std.specs.FinMap.{entries, get}
+use Rattle.atl_tables.specs.Limits.{most_amount}
+use Rattle.atl_state.specs.declared.books.Entry.TheVariants.{Lost}
+use Rattle.atl_state.specs.declared.books.Thing.TheVariants.{Money}
+use Rattle.atl_state.specs.Books.{amount_in}
+use Rattle.atl_state.specs.Deciding.{EachOf}
+use Rattle.atl_state.proofs.CoverLaws.{marks-trans}
+use Rattle.atl_state.proofs.EveryLaws.{each-from_every}
+use Rattle.atl_instant.specs.Meaning.{HaveRoom}
+use Rattle.atl_month.specs.Sweep.{moving_items, passed_money}
+use Rattle.atl_month.proofs.LeavingLaws.{marks-without}
+use Rattle.atl_month.proofs.SweepRunLaws.{items_room, less_room, money_steady}
+use Rattle.atl_month.proofs.sweep.sweep_unit.Goals as goal
+
+pub pass_money-requires-clause-room : goal.pass_money-requires-clause-room
+pass_money-requires-clause-room c =
+    less_room c.money-money.result most_amount (amount_in c.args.campaign.now.what.books Lost Money) (omega (arith, c.money-money.ensures.value, c.money-money.ensures.fits)) (c.requires.room Lost Money)
+
+pub pass_items-requires-clause-steady : goal.pass_items-requires-clause-steady
+pass_items-requires-clause-steady c = rw c.pass_money.ensures.what (money_steady c.args.world.now c.args.campaign.now.what c.requires.steady c.first_receiver-to.result c.money-money.result)
+
+pub pass_items-requires-clause-known : goal.pass_items-requires-clause-known
+pass_items-requires-clause-known c =
+    let w = c.args.world.now in
+    let u = c.in-Some.unit.now in
+    let there = sym c.in-Some.ensures in
+    let list : c.deref.result.now ≡ entries u.holding.items = search rules in
+    rw list (each-from_every (λ i amount. i < length w.items) u.holding.items (c.requires.steady.known.units c.args.number u there).items)
+
+pub pass_items-requires-clause-room : goal.pass_items-requires-clause-room
+pass_items-requires-clause-room c =
+    let w = c.args.world.now in
+    let u = c.in-Some.unit.now in
+    let there = sym c.in-Some.ensures in
+    let list : c.deref.result.now ≡ entries u.holding.items = search rules in
+    let none : u.holding.men ≡ 0 = search rules in
+    rw (list, c.pass_money.ensures.what, c.money-money.ensures.value) (items_room w c.args.campaign.now.what c.requires.steady c.args.number c.first_receiver-to.result u there none c.requires.room)
+
+pub returns-clause-marks : goal.returns-clause-marks
+returns-clause-marks c =
+    marks-trans c.args.campaign.now c.pass_money.new.campaign c.remove_unit.new.self c.pass_money.ensures.marks
+    (marks-trans c.pass_money.new.campaign c.pass_items.new.campaign c.remove_unit.new.self c.in_ok-pass_items.ensures.marks
+    (marks-without c.pass_items.new.campaign c.remove_unit.new.self c.args.number c.remove_unit.ensures.what c.remove_unit.ensures.marks))

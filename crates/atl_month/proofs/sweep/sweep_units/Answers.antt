@@ -1,0 +1,40 @@
+use Rattle.std.proofs.Common.{◌≡◌, ◌∷◌, ◌+◌, ℕ, List, length, drop, get_or, sym, ap, subst, ◌∙◌}
+use Rattle.std.specs.Prelude.{fold}
+use Rattle.std.proofs.lemmas.List.{drop_more}
+use Rattle.atl_tables.specs.Limits.{most_amount}
+use Rattle.atl_state.specs.State.{State}
+use Rattle.atl_state.proofs.CoverLaws.{marks-trans}
+use Rattle.atl_instant.specs.Meaning.{HaveRoom, moved_times}
+use Rattle.atl_instant.proofs.MeaningLaws.{room_behind_one, room_for_one}
+use Rattle.atl_month.specs.Sweep.{loses_by, swept_at}
+use Rattle.atl_month.proofs.SweepAllLaws.{swept_at_leaves_well}
+use Rattle.atl_month.proofs.sweep.sweep_units.Goals as goal
+
+pub sweep_unit-requires-clause-room : goal.sweep_unit-requires-clause-room
+sweep_unit-requires-clause-room c =
+    let w = c.args.world.now in
+    let list = c.args.numbers.now in
+    let i = c.loop-number.number-index in
+    let n : ℕ = get_or list i 0 in
+    let behind : drop i list ≡ n ∷ drop (i + 1) list = drop_more list i _ c.loop-number-test.true in
+    room_for_one (loses_by most_amount) w swept_at (λ d m. swept_at_leaves_well w d m) c.loop-number.campaign.what n (drop (i + 1) list)
+    (subst (λ (l : List ℕ). HaveRoom (moved_times (length l) (loses_by most_amount)) c.loop-number.campaign.what) behind c.loop-number.invariant.room)
+
+pub loop-number-preserved : goal.loop-number-preserved
+loop-number-preserved c =
+    let w = c.args.world.now in
+    let list = c.args.numbers.now in
+    let i = c.loop-number.number-index in
+    let n : ℕ = get_or list i 0 in
+    let before = c.loop-number.campaign.what in
+    let old = c.loop-number.invariant in
+    let behind : drop i list ≡ n ∷ drop (i + 1) list = drop_more list i _ c.loop-number-test.true in
+    let is : c.sweep_unit.new.campaign.what ≡ swept_at before n = c.in_ok-sweep_unit.ensures.what in
+    record {
+      rest = ap (λ (d : State). fold swept_at d (drop (i + 1) list)) is ∙ sym (ap (fold swept_at before) behind) ∙ old.rest;
+      steady = rw is (swept_at_leaves_well w before n old.steady).leaves_it;
+      room =
+        rw is (room_behind_one (loses_by most_amount) w swept_at (λ d m. swept_at_leaves_well w d m) before n n (drop (i + 1) list) old.steady
+        (subst (λ (l : List ℕ). HaveRoom (moved_times (length l) (loses_by most_amount)) before) behind old.room));
+      marks = marks-trans c.args.campaign.now c.loop-number.campaign c.sweep_unit.new.campaign old.marks c.in_ok-sweep_unit.ensures.marks;
+    }

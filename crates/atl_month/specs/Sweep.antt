@@ -1,0 +1,131 @@
+-- The sweep of a month: units without men go, and factions without units. See docs/RULES.md, "Sweep".
+use Rattle.std.specs.Prelude.{◌≡◌, ◌≤◌, ◌+◌, ◌-◌, ◌==◌, ◌&&◌, not, min, ℕ, pos, neg_ℤ, nat_lt, Bool, true, false, List, [], ◌∷◌, filter, fold, Option, Some, None, if◌then◌else◌}
+use Rattle.std.specs.FinMap.{entries, get}
+use Rattle.atl_tables.specs.Planet.{Planet}
+use Rattle.atl_tables.specs.Sums.{numbers_where}
+use Rattle.atl_state.specs.Books.{entry_place, thing_place}
+use Rattle.atl_state.specs.declared.books.Entry.TheVariants.{Lost}
+use Rattle.atl_state.specs.declared.books.Thing.{Thing}
+use Rattle.atl_state.specs.declared.books.Thing.TheVariants.{Item, Money, People}
+use Rattle.atl_state.specs.declared.records.Unit.{Unit}
+use Rattle.atl_state.specs.Good.{Every}
+use Rattle.atl_state.specs.Held.{amount_of, with_amount_of}
+use Rattle.atl_state.specs.Lending.{with_held}
+use Rattle.atl_state.specs.Limits.{holding_limit}
+use Rattle.atl_state.specs.Owners.{first_or_zero, without_unit}
+use Rattle.atl_state.specs.State.{State, numbers_in, numbers_of, with_amount, with_gone, with_money}
+use Rattle.atl_instant.specs.Course.{Course}
+use Rattle.atl_instant.specs.Meaning.{Keeping, Moving, moves_only}
+
+-- ---- who gets what a unit leaves
+
+-- a unit of a faction, with men
+abbrev pub may_receive : ℕ → Option Unit → Bool
+may_receive faction None = false
+may_receive faction (Some v) = (v.faction == faction) && nat_lt 0 v.holding.men
+
+-- the first of some numbers whose unit is of a faction and has men; 0 where there is none
+abbrev pub first_receiver : State → (faction : ℕ) → List ℕ → ℕ
+first_receiver c faction numbers = first_or_zero (filter (λ n. may_receive faction (get c.units n)) numbers)
+
+-- the lowest-numbered unit with men of a faction in a region
+abbrev pub receiver : State → (region faction : ℕ) → ℕ
+receiver c region faction = first_receiver c faction (numbers_in region c.units)
+
+-- ---- what it gets, up to its room
+
+abbrev pub with_lost : State → Thing → ℕ → State
+with_lost c t amount = with_amount c Lost t (neg_ℤ (pos amount))
+
+-- how much of an amount goes to a unit that has so much already
+abbrev pub taken_of : (amount have : ℕ) → ℕ
+taken_of amount have = min amount (holding_limit - have)
+
+abbrev pub money_to : State → (to amount : ℕ) → Option Unit → State
+money_to c to amount None = with_lost c Money amount
+money_to c to amount (Some v) =
+    let taken = taken_of amount v.holding.money in
+    with_lost (with_money c to (v.holding.money + taken)) Money (amount - taken)
+
+-- money that goes to a unit, where it is there; the rest is lost
+unfoldable pub passed_money : State → (to amount : ℕ) → State
+passed_money c to amount = money_to c to amount (get c.units to)
+
+abbrev pub item_to : State → (to item amount : ℕ) → Option Unit → State
+item_to c to item amount None = with_lost c (Item item) amount
+item_to c to item amount (Some v) =
+    let have = amount_of v.holding.items item in
+    let taken = taken_of amount have in
+    with_lost (with_held c to (record v.holding { items = with_amount_of v.holding.items item (have + taken) }) (Some v)) (Item item) (amount - taken)
+
+-- so much of an item
+unfoldable pub passed_item : ℕ → State → ℕ × ℕ → State
+passed_item to c (item, amount) = item_to c to item amount (get c.units to)
+
+-- ---- units without men
+
+abbrev pub passed_on : State → ℕ → Unit → State
+passed_on c to u = fold (passed_item to) (passed_money c to u.holding.money) (entries u.holding.items)
+
+-- A unit without men gives its money and each item to the lowest-numbered unit with men of its faction in its region, and is removed.
+abbrev pub swept_in : State → ℕ → Option Unit → State
+swept_in c n None = c
+swept_in c n (Some u) = if u.holding.men == 0 then without_unit (passed_on c (receiver c u.region u.faction) u) n else c
+
+unfoldable pub swept_at : State → ℕ → State
+swept_at c n = swept_in c n (get c.units n)
+
+-- the units without men, in the order of their numbers
+abbrev pub menless : State → List ℕ
+menless c = numbers_where (λ u. u.holding.men == 0) c.units
+
+-- ---- factions without units
+
+abbrev pub is_empty : List ℕ → Bool
+is_empty [] = true
+is_empty (n ∷ ns) = false
+
+-- a faction that has no unit is gone
+abbrev pub gone_at : State → ℕ → State
+gone_at c n = if is_empty (numbers_of n c.units) then with_gone c n else c
+
+-- the factions that are not gone
+abbrev pub remaining : State → List ℕ
+remaining c = numbers_where (λ f. not f.gone) c.factions
+
+-- ---- the phase
+
+-- the units first, and then the factions
+abbrev pub sweep : State → State
+sweep c =
+    let swept = fold swept_at c (menless c) in
+    fold gone_at swept (remaining swept)
+
+-- it brings no event
+abbrev pub sweep_meaning : Planet → State → Course → State × Course
+sweep_meaning w c m = (sweep c, m)
+
+-- money and items may be lost, so much of each at most
+abbrev pub loses_by : ℕ → Moving
+loses_by most e t = if (entry_place e == entry_place Lost) && not (thing_place t == thing_place People) then most else 0
+
+-- for proofs alone: what so much of some items may move
+abbrev pub moving_items : List (ℕ × ℕ) → Moving
+moving_items [] e t = 0
+moving_items (x ∷ xs) e t = moves_only x.1 Lost (Item x.0) e t + moving_items xs e t
+
+-- a unit with all that it had, and perhaps more money and more items
+pub record IsKept (u v : Unit) : Type 0 where
+  pub faction : v.faction ≡ u.faction
+  pub region : v.region ≡ u.region
+  pub structure : v.structure ≡ u.structure
+  pub name : v.holding.name ≡ u.holding.name
+  pub men : v.holding.men ≡ u.holding.men
+  pub guard : v.holding.guard ≡ u.holding.guard
+  pub days : v.holding.days ≡ u.holding.days
+  pub money : u.holding.money ≤ v.holding.money
+  pub items : (i : ℕ) → amount_of u.holding.items i ≤ amount_of v.holding.items i
+
+-- the sweep takes nothing from a unit with men
+abbrev pub sweep_keeps : Keeping
+sweep_keeps w m before after = Every (λ n u. 1 ≤ u.holding.men → (v : Unit) × (get after.units n ≡ Some v) × IsKept u v) before.units

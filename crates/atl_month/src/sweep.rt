@@ -1,0 +1,282 @@
+//! The sweep of a month.
+ghost use Rattle.std.specs.Prelude.{ℕ, ◌≡◌, ◌≤◌, ◌<◌, ◌+◌, IfOk, OnOk, Some, fold, length};
+ghost use Rattle.std.specs.FinMap as map;
+ghost use Rattle.atl_tables.specs.Limits.{most_amount};
+ghost use Rattle.atl_tables.specs.Planet.{IsWorld};
+ghost use Rattle.atl_state.specs.Books.{IsGrid, amount_in, thing_place};
+ghost use Rattle.atl_state.specs.Covers.{MarksChanges};
+ghost use Rattle.atl_state.specs.Deciding.{EachOf};
+ghost use Rattle.atl_state.specs.Good.{Every, IsSteady};
+ghost use Rattle.atl_state.specs.Held.{with_amount_of};
+ghost use Rattle.atl_state.specs.Lending.{lent};
+ghost use Rattle.atl_state.specs.Marking.{mark_amount};
+ghost use Rattle.atl_state.specs.declared.books.Entry.TheVariants.{Lost};
+ghost use Rattle.atl_state.specs.declared.books.Thing.TheVariants.{Item, Money};
+ghost use Rattle.atl_state.specs.declared.records.Unit.{Unit};
+ghost use Rattle.atl_instant.specs.Meaning.{HasRoom, HaveRoom, most_moved, moved_times};
+ghost use Rattle.atl_month.specs.Sweep.{first_receiver, gone_at, loses_by, may_receive, menless, moving_items, passed_item, passed_money, receiver, remaining, sweep, sweep_keeps, sweep_meaning, swept_at, taken_of, with_lost};
+ghost use Rattle.atl_month.specs.Swept.{IsSwept};
+
+use atl_instant::{Month, Phase};
+use atl_state::{Campaign, Entry, Holding, Thing};
+use atl_tables::World;
+use atl_tables::limits::MOST_AMOUNT;
+use std::alloc::{AllocError, Global};
+
+/// Units without men go: each leaves its money and its items to a unit of its faction in its region, and what that one has no
+/// room for is lost. Then factions without units are gone. See docs/RULES.md, "Sweep".
+pub struct SweepPhase;
+
+/// Whether a unit is of a faction, and has men.
+fn may_receive(campaign: &Campaign, faction: u32, number: u32) -> bool
+    ensures { result ≡ may_receive faction (map.get campaign.now.what.units number) }
+{
+    match campaign.unit(number) {
+        Some(unit) => unit.faction == faction && 0 < unit.holding.men(),
+        None => false,
+    }
+}
+
+/// The first of some numbers whose unit is of a faction and has men, or 0.
+fn first_receiver(campaign: &Campaign, faction: u32, numbers: &[u32]) -> u32
+    ensures { result ≡ first_receiver campaign.now.what faction numbers.now }
+{
+    for number in numbers.iter() {
+        if may_receive(campaign, faction, *number) {
+            return *number;
+        }
+    }
+    0
+}
+
+/// How much of an amount goes to a unit that has so much already.
+fn taken_of(amount: u32, have: u32) -> u32
+    ensures { result ≡ taken_of amount have }
+{
+    amount.min(MOST_AMOUNT.saturating_sub(have))
+}
+
+/// An amount is lost.
+fn lose(campaign: &mut Campaign, thing: Thing, amount: u32)
+    requires there { thing_place thing < length campaign.old.what.books }
+    requires room { HasRoom amount (amount_in campaign.old.what.books Lost thing) }
+    ensures what { campaign.new.what ≡ with_lost campaign.old.what thing amount }
+    ensures marks { campaign.new.marks ≡ mark_amount campaign.old Lost thing }
+{
+    campaign.book(Entry::Lost, thing, -i64::from(amount));
+}
+
+/// Money goes to a unit, up to its room, and the rest is lost.
+#[tactic(auto, unfolding(crate::specs::Sweep::passed_money))]
+fn pass_money(campaign: &mut Campaign, to: u32, amount: u32)
+    requires grid { (things : ℕ) × (2 ≤ things) × IsGrid things campaign.old.what.books }
+    requires room { HasRoom amount (amount_in campaign.old.what.books Lost Money) }
+    ensures what { campaign.new.what ≡ passed_money campaign.old.what to amount }
+    ensures marks { MarksChanges campaign.old campaign.new }
+{
+    match campaign.unit(to) {
+        Some(unit) => {
+            let money = unit.holding.money();
+            let taken = taken_of(amount, money);
+            campaign.set_money(to, money + taken);
+            lose(campaign, Thing::Money, amount - taken);
+        }
+        None => lose(campaign, Thing::Money, amount),
+    }
+}
+
+/// Sets how much of an item a unit holds that is there.
+fn set_amount(
+    campaign: &mut Campaign,
+    number: u32,
+    item: u32,
+    amount: u32,
+) -> Result<(), AllocError>
+    requires { amount ≤ most_amount }
+    ensures { OnOk result ((u : Unit) → map.get campaign.old.what.units number ≡ Some u → campaign.new ≡ lent campaign.old number (record u.holding { items = with_amount_of u.holding.items item amount })) }
+{
+    match campaign.unit_mut(number) {
+        Some(holding) => holding.set_amount(item, amount),
+        None => Ok(()),
+    }
+}
+
+/// So much of an item goes to a unit, up to its room, and the rest is lost.
+#[tactic(auto, unfolding(crate::specs::Sweep::passed_item))]
+fn pass_item(
+    world: &World,
+    campaign: &mut Campaign,
+    to: u32,
+    item: u16,
+    amount: u32,
+) -> Result<(), AllocError>
+    requires steady { IsSteady world.now campaign.old.what }
+    requires known { item < length world.now.items }
+    requires room { HasRoom amount (amount_in campaign.old.what.books Lost (Item item)) }
+    ensures what { OnOk result (campaign.new.what ≡ passed_item to campaign.old.what (item, amount)) }
+    ensures marks { OnOk result (MarksChanges campaign.old campaign.new) }
+{
+    let number = u32::from(item);
+    match campaign.unit(to) {
+        Some(unit) => {
+            let have = unit.holding.amount(number);
+            let taken = taken_of(amount, have);
+            set_amount(campaign, to, number, have + taken)?;
+            lose(campaign, Thing::Item(item), amount - taken);
+        }
+        None => lose(campaign, Thing::Item(item), amount),
+    }
+    Ok(())
+}
+
+/// Items go to a unit.
+fn pass_items(
+    world: &World,
+    campaign: &mut Campaign,
+    to: u32,
+    items: &[(u16, u32)],
+) -> Result<(), AllocError>
+    requires steady { IsSteady world.now campaign.old.what }
+    requires known { EachOf (λ i amount. i < length world.now.items) items.now }
+    requires room { HaveRoom (moving_items items.now) campaign.old.what }
+    ensures what { OnOk result (campaign.new.what ≡ fold (passed_item to) campaign.old.what items.now) }
+    ensures marks { OnOk result (MarksChanges campaign.old campaign.new) }
+{
+    for (item, amount) in items.iter() {
+        pass_item(world, campaign, to, *item, *amount)?;
+    }
+    Ok(())
+}
+
+/// How much a unit holds of each item of the world.
+fn items_of(alloc: Global, world: &World, holding: &Holding) -> Result<Vec<(u16, u32)>, AllocError>
+    requires known { Every (λ i amount. i < length world.now.items) holding.now.items }
+    ensures { IfOk result (λ list. list.items ≡ map.entries holding.now.items) }
+{
+    let count = world.items().len();
+    let mut list = Vec::new(alloc);
+    for (item, amount) in holding.items() {
+        if (item as usize) < count {
+            list.push((item as u16, *amount))?;
+        }
+    }
+    Ok(list)
+}
+
+/// A unit without men passes on what it has, and is removed.
+#[tactic(auto, unfolding(crate::specs::Sweep::swept_at))]
+fn sweep_unit(
+    alloc: Global,
+    world: &World,
+    campaign: &mut Campaign,
+    number: u32,
+) -> Result<(), AllocError>
+    requires steady { IsSteady world.now campaign.old.what }
+    requires room { HaveRoom (loses_by most_amount) campaign.old.what }
+    ensures what { OnOk result (campaign.new.what ≡ swept_at campaign.old.what number) }
+    ensures marks { OnOk result (MarksChanges campaign.old campaign.new) }
+{
+    let Some(unit) = campaign.unit(number) else {
+        return Ok(());
+    };
+    if unit.holding.men() != 0 {
+        return Ok(());
+    }
+    let money = unit.holding.money();
+    let items = items_of(alloc, world, &unit.holding)?;
+    let to = first_receiver(campaign, unit.faction, campaign.in_region(unit.region));
+    pass_money(campaign, to, money);
+    pass_items(world, campaign, to, &items)?;
+    campaign.remove_unit(number);
+    Ok(())
+}
+
+/// The numbers of the units without men.
+fn menless(alloc: Global, campaign: &Campaign) -> Result<Vec<u32>, AllocError>
+    ensures { IfOk result (λ list. list.items ≡ menless campaign.now.what) }
+{
+    let mut list = Vec::new(alloc);
+    for (number, unit) in campaign.units() {
+        if unit.holding.men() == 0 {
+            list.push(number)?;
+        }
+    }
+    Ok(list)
+}
+
+/// Units without men go.
+fn sweep_units(
+    alloc: Global,
+    world: &World,
+    campaign: &mut Campaign,
+    numbers: &[u32],
+) -> Result<(), AllocError>
+    requires steady { IsSteady world.now campaign.old.what }
+    requires room { HaveRoom (moved_times (length numbers.now) (loses_by most_amount)) campaign.old.what }
+    ensures what { OnOk result (campaign.new.what ≡ fold swept_at campaign.old.what numbers.now) }
+    ensures marks { OnOk result (MarksChanges campaign.old campaign.new) }
+{
+    for number in numbers.iter() {
+        sweep_unit(alloc, world, campaign, *number)?;
+    }
+    Ok(())
+}
+
+/// The numbers of the factions that are not gone.
+fn remaining(alloc: Global, campaign: &Campaign) -> Result<Vec<u32>, AllocError>
+    ensures { IfOk result (λ list. list.items ≡ remaining campaign.now.what) }
+{
+    let mut list = Vec::new(alloc);
+    for (number, faction) in campaign.factions() {
+        if !faction.gone {
+            list.push(number)?;
+        }
+    }
+    Ok(list)
+}
+
+/// A faction without units is gone.
+fn sweep_faction(campaign: &mut Campaign, number: u32)
+    ensures what { campaign.new.what ≡ gone_at campaign.old.what number }
+    ensures marks { MarksChanges campaign.old campaign.new }
+{
+    if campaign.of_faction(number).is_empty() {
+        campaign.set_gone(number);
+    }
+}
+
+/// Factions without units are gone.
+fn sweep_factions(campaign: &mut Campaign, numbers: &[u32])
+    ensures what { campaign.new.what ≡ fold gone_at campaign.old.what numbers.now }
+    ensures marks { MarksChanges campaign.old campaign.new }
+{
+    for number in numbers.iter() {
+        sweep_faction(campaign, *number);
+    }
+}
+
+impl Phase for SweepPhase {
+    ghost meaning = { sweep_meaning };
+
+    ghost needs = { IsSteady };
+
+    ghost leaves = { IsSwept };
+
+    ghost moving = { loses_by most_moved };
+
+    ghost keeps = { sweep_keeps };
+
+    fn run(
+        &self,
+        alloc: Global,
+        world: &World,
+        mut campaign: Campaign,
+        month: Month,
+    ) -> Result<(Campaign, Month), AllocError> {
+        let numbers = menless(alloc, &campaign)?;
+        sweep_units(alloc, world, &mut campaign, &numbers)?;
+        let factions = remaining(alloc, &campaign)?;
+        sweep_factions(&mut campaign, &factions);
+        Ok((campaign, month))
+    }
+}
