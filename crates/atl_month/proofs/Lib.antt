@@ -6,3 +6,4 @@ pub mod SeasonLaws
 pub mod MonthLaws
 pub mod SettlingLaws
 pub mod UpkeepLaws
+pub mod AloneLaws

@@ -40,7 +40,7 @@ use Rattle.atl_instant.proofs.BookingLaws.{booked-near, within-neg}
 use Rattle.atl_month.specs.declared.settling.Purse.{Purse}
 use Rattle.atl_month.specs.declared.settling.Settled.{Settled}
 use Rattle.atl_month.specs.Settling.{settled_behind}
-use Rattle.atl_month.specs.Upkeep.{IsSuppliedFrom, days_with, men_starved, money_paid, purse_of, purses_of, settlements, supplied, takes_up_to, upkeep, upkeep_at, upkeep_in, with_men}
+use Rattle.atl_month.specs.Upkeep.{days_with, men_starved, money_paid, purse_of, purses_of, settlements, supplied, takes_up_to, upkeep, upkeep_at, upkeep_in, with_men}
 
 -- ---- what a unit may hold behind it
 
@@ -246,60 +246,6 @@ upkeep_leaves_well w c steady =
     let list = settlements w c in
     well_within (moved_times (length list) (takes_up_to most_amount)) (takes_up_to most_moved) w c (upkeep c list) (takes_little (length list) (few_settlements w c steady))
     (fold_leaves_well (takes_up_to most_amount) w upkeep_at (upkeep_at_leaves_well w) c list steady)
-
--- ---- what stays
-
-supplied_same : (u : Unit) → IsSuppliedFrom u u
-supplied_same u = record { faction = refl; region = refl; structure = refl; name = refl; guard = refl; items = refl; men = omega arith; money = omega arith }
-
-supplied_twice : (u v x : Unit) → IsSuppliedFrom u v → IsSuppliedFrom v x → IsSuppliedFrom u x
-supplied_twice u v x g h = record {
-  faction = h.faction ∙ g.faction;
-  region = h.region ∙ g.region;
-  structure = h.structure ∙ g.structure;
-  name = h.name ∙ g.name;
-  guard = h.guard ∙ g.guard;
-  items = h.items ∙ g.items;
-  men = omega (arith, g.men, h.men);
-  money = omega (arith, g.money, h.money);
-}
-
-abbrev Supplies : State → State → Type 0
-Supplies before after = Every (λ n u. (v : Unit) × (get after.units n ≡ Some v) × IsSuppliedFrom u v) before.units
-
-supplied_one : (s : Settled) (u : Unit) → IsSuppliedFrom u (record u { holding = supplied s u.holding })
-supplied_one s u = by_men (u.holding.men - men_starved s u.holding == u.holding.men)
-  where
-    by_men : (b : Bool) → IsSuppliedFrom u (record u { holding = record (if b then u.holding else record u.holding { men = u.holding.men - men_starved s u.holding; days = days_with (u.holding.men - men_starved s u.holding) u.holding.men u.holding.days }) { money = u.holding.money - money_paid s u.holding } })
-    by_men true = record { faction = refl; region = refl; structure = refl; name = refl; guard = refl; items = refl; men = omega arith; money = omega arith }
-    by_men false = record { faction = refl; region = refl; structure = refl; name = refl; guard = refl; items = refl; men = omega arith; money = omega arith }
-
-some_same : {x y : Unit} → Some x ≡ Some y → x ≡ y
-some_same e = cc
-
-upkeep_at_keeps : (c : State) (s : Settled) → Supplies c (upkeep_at c s)
-unfolding upkeep_at
-upkeep_at_keeps c s = by_unit (get c.units s.unit) refl
-  where
-    by_unit : (o : Option Unit) → get c.units s.unit ≡ o → Supplies c (upkeep_in c s o)
-    by_unit None is n v there = (v, there, supplied_same v)
-    by_unit (Some u) is n v there =
-        let new : Unit = record u { holding = supplied s u.holding } in
-        elim (nat_cmp n s.unit) as (λ o. nat_cmp n s.unit ≡ o → (x : Unit) × (get (insert c.units s.unit new) n ≡ Some x) × IsSuppliedFrom v x) [
-          | Less ↦ λ o. (v, get-insert_other c.units s.unit n new (λ same. let l = ranked n s.unit Less (sym o) in absurd (omega arith)) ∙ there, supplied_same v)
-          | Equal ↦ λ o.
-              let same : n ≡ s.unit = nat_cmp-IsAntisymmetric n s.unit o in
-              let one : v ≡ u = some_same (sym there ∙ ap (get c.units) same ∙ is) in
-              (new, ap (get (insert c.units s.unit new)) same ∙ get-insert_same c.units s.unit new, rw one (supplied_one s u))
-          | Greater ↦ λ o. (v, get-insert_other c.units s.unit n new (λ same. let l = ranked n s.unit Greater (sym o) in absurd (omega arith)) ∙ there, supplied_same v)
-        ] refl
-
-pub upkeep_keeps_units : (c : State) (list : List Settled) → Supplies c (upkeep c list)
-upkeep_keeps_units c [] n u is = (u, is, supplied_same u)
-upkeep_keeps_units c (s ∷ list) n u is =
-    let (v, there, first) = upkeep_at_keeps c s n u is in
-    let (x, at, later) = upkeep_keeps_units (upkeep_at c s) list n v there in
-    (x, at, supplied_twice u v x first later)
 
 -- ---- the code, step by step
 

@@ -1,5 +1,5 @@
 -- The upkeep of a month. See docs/RULES.md, "Upkeep".
-use Rattle.std.specs.Prelude.{◌≡◌, ◌≤◌, ℕ, pos, neg_ℤ, ◌-◌, ◌*◌, ◌/◌, ◌==◌, not, ◌++◌, min, Bool, List, map, filter, fold, Option, Some, None, if◌then◌else◌}
+use Rattle.std.specs.Prelude.{◌≡◌, ℕ, nat_lt, pos, neg_ℤ, ◌-◌, ◌*◌, ◌/◌, ◌==◌, not, ◌++◌, min, Bool, List, map, filter, fold, Option, Some, None, if◌then◌else◌}
 use Rattle.std.specs.Ordering.{nat_cmp}
 use Rattle.std.specs.FinMap.{FinMap, empty, entries, get}
 use Rattle.atl_tables.specs.Planet.{Planet}
@@ -17,7 +17,7 @@ use Rattle.atl_instant.specs.Course.{Course}
 use Rattle.atl_instant.specs.Meaning.{Keeping, Moving, both_move, moves_only}
 use Rattle.atl_month.specs.declared.settling.Purse.{Purse}
 use Rattle.atl_month.specs.declared.settling.Settled.{Settled}
-use Rattle.atl_month.specs.Settling.{settled_of}
+use Rattle.atl_month.specs.Settling.{is_of, settled_of, settled_one}
 
 -- ---- what a unit has to give for it
 
@@ -79,16 +79,14 @@ upkeep_meaning w c m = (upkeep c (settlements w c), record m { events = m.events
 abbrev pub takes_up_to : ℕ → Moving
 takes_up_to most = both_move (moves_only most Upkeep Money) (moves_only most Starved People)
 
--- a unit with less money and fewer men, and all else as it was
-pub record IsSuppliedFrom (u v : Unit) : Type 0 where
-  pub faction : v.faction ≡ u.faction
-  pub region : v.region ≡ u.region
-  pub structure : v.structure ≡ u.structure
-  pub name : v.holding.name ≡ u.holding.name
-  pub guard : v.holding.guard ≡ u.holding.guard
-  pub items : v.holding.items ≡ u.holding.items
-  pub men : v.holding.men ≤ u.holding.men
-  pub money : v.holding.money ≤ u.holding.money
+-- the units of a unit's faction in its region
+abbrev pub peers_of : State → Unit → List Purse
+peers_of c u = filter (is_of u.region u.faction) (purses_of c)
 
+-- what upkeep takes from a unit, as they alone tell
+abbrev pub settled_alone : Planet → State → ℕ → Unit → Settled
+settled_alone w c n u = settled_one w.rules.maintenance (peers_of c u) (filter (λ p. nat_lt p.unit n) (peers_of c u)) (purse_of (n, u))
+
+-- It takes from each unit what follows from the units of its faction in its region alone.
 abbrev pub upkeep_keeps : Keeping
-upkeep_keeps w m before after = Every (λ n u. (v : Unit) × (get after.units n ≡ Some v) × IsSuppliedFrom u v) before.units
+upkeep_keeps w m before after = Every (λ n u. get after.units n ≡ Some (record u { holding = supplied (settled_alone w before n u) u.holding })) before.units

@@ -1,3 +1,5 @@
 //! Tests of atl_month by its public calls alone.
+mod campaigns;
 mod season;
 mod settling;
+mod upkeep;

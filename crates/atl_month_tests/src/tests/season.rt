@@ -1,8 +1,8 @@
 //! Births and income of three regions, worked out by hand.
-ghost use Rattle.std.specs.Prelude.{IfOk};
 ghost use Rattle.atl_state.specs.Good.{IsGood};
 
-use atl_instant::{Month, Phase};
+use super::campaigns::{booked, month_of};
+use atl_instant::Phase;
 use atl_month::SeasonPhase;
 use atl_state::{Campaign, Entry, Thing, founded};
 use atl_tables::{World, read_world};
@@ -85,17 +85,6 @@ fn row_is(rt: &impl Abort, row: usize, told: &str, wanted: &str) {
     assert_eq!(rt; told, wanted, "at {row}");
 }
 
-fn booked(campaign: &Campaign, entry: Entry, thing: Thing) -> i64 {
-    if campaign.things() < 2 {
-        return 0;
-    }
-    match thing {
-        Thing::Money => campaign.booked(entry, Thing::Money),
-        Thing::People => campaign.booked(entry, Thing::People),
-        Thing::Item(_) => 0,
-    }
-}
-
 fn told_of(alloc: Global, campaign: &Campaign) -> Result<String, Fail> {
     let mut told = String::new(alloc);
     for (number, region) in campaign.regions() {
@@ -107,11 +96,6 @@ fn told_of(alloc: Global, campaign: &Campaign) -> Result<String, Fail> {
     let part = format!(in alloc; "{} {}", births, income)?;
     told.push_str(&part)?;
     Ok(told)
-}
-
-fn month_of(alloc: Global, words: &[u32]) -> Result<Month, AllocError> {
-    let words = Vec::from_slice(alloc, words)?;
-    Ok(Month::new(alloc, Vec::new(alloc), words))
 }
 
 fn after_one(

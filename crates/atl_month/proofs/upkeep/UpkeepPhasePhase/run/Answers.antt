@@ -3,7 +3,8 @@ use Rattle.atl_tables.specs.Limits.{most_amount}
 use Rattle.atl_instant.specs.Meaning.{most_moved, moved_times}
 use Rattle.atl_instant.proofs.MeaningLaws.{room_less}
 use Rattle.atl_month.specs.Upkeep.{settlements, takes_up_to, upkeep}
-use Rattle.atl_month.proofs.UpkeepLaws.{few_settlements, takes_little, upkeep_keeps_units, upkeep_leaves_well}
+use Rattle.atl_month.proofs.AloneLaws.{upkeep_is_of_peers}
+use Rattle.atl_month.proofs.UpkeepLaws.{few_settlements, takes_little, upkeep_leaves_well}
 use Rattle.atl_month.proofs.upkeep.UpkeepPhasePhase.run.Goals as goal
 
 pub upkeep_of_all-requires-clause-room : goal.upkeep_of_all-requires-clause-room
@@ -25,4 +26,4 @@ returns-clause-keeps c =
     let w = c.args.world.now in
     let before = c.args.campaign.what in
     let is : c.upkeep_of_all.new.campaign.what ≡ upkeep before (settlements w before) = search rules in
-    rw is (upkeep_keeps_units before (settlements w before))
+    rw is (upkeep_is_of_peers w before)

@@ -1,5 +1,5 @@
 use Rattle.std.specs.List.{IsDistinct}
-use Rattle.atl_month_tests.proofs.tests.season.month_of.Goals as goal
+use Rattle.atl_month_tests.proofs.tests.campaigns.month_of.Goals as goal
 
 pub new-requires-2 : goal.new-requires-2
 unfolding IsDistinct
