@@ -1,6 +1,3 @@
-pub mod RemovedLaws
-pub mod LeavingLaws
-pub mod GoneLaws
 pub mod PassingLaws
 pub mod SweepLaws
 pub mod SweepAllLaws

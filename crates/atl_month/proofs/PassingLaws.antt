@@ -1,16 +1,14 @@
 -- What a unit without men passes on.
-use Rattle.std.proofs.Common.{◌≡◌, ◌≢◌, ◌==◌, ℕ, suc, ◌+◌, ◌-◌, ◌≤◌, ◌<◌, min, Bool, true, false, cond, List, [], ◌∷◌, length, Option, Some, None, refl, sym, ap, subst, ◌∙◌, inl, inr, ◌⊎◌, arith}
+use Rattle.std.proofs.Common.{◌≡◌, ◌≢◌, ◌==◌, ℕ, ◌+◌, ◌-◌, ◌≤◌, ◌<◌, min, Bool, true, false, cond, List, [], ◌∷◌, length, Option, Some, None, refl, sym, ap, subst, ◌∙◌, arith}
 use Rattle.std.specs.Prelude.{ℤ, pos, neg_ℤ, ◌+ℤ◌, fold, unwrap_or, if◌then◌else◌}
 use Rattle.std.proofs.lemmas.Int.{ints}
 use Rattle.std.proofs.lemmas.Bool.Decides.{nat_tests}
-use Rattle.std.proofs.lemmas.Bool.{and_parts}
 use Rattle.std.specs.declared.cmp.Ordering.TheVariants.{Less, Equal, Greater}
 use Rattle.std.specs.Ordering.{nat_cmp, is_eq}
 use Rattle.std.specs.Cmp.{nat_cmp_total, ranked}
-use Rattle.std.specs.FinMap.{FinMap, entries, find, get, get-entries, get-insert, get-remove, insert, is_sorted, nat_cmp-IsAntisymmetric, remove}
+use Rattle.std.specs.FinMap.{FinMap, get, get-insert, get-remove, insert, nat_cmp-IsAntisymmetric, remove}
 use Rattle.atl_tables.specs.Planet.{Planet}
-use Rattle.atl_tables.specs.Limits.{most_amount}
-use Rattle.atl_state.specs.Books.{IsGrid, IsWithin, amount_in, booked, entry_place, thing_place, with_booked}
+use Rattle.atl_state.specs.Books.{IsWithin, amount_in, booked, thing_place}
 use Rattle.atl_state.specs.declared.books.Entry.{Entry}
 use Rattle.atl_state.specs.declared.books.Entry.TheVariants.{Lost}
 use Rattle.atl_state.specs.declared.books.Thing.{Thing}
@@ -19,21 +17,20 @@ use Rattle.atl_state.specs.declared.records.Unit.{Unit}
 use Rattle.atl_state.specs.Deciding.{EachOf}
 use Rattle.atl_state.specs.Founding.{things_of}
 use Rattle.atl_state.specs.Good.{Every, IsSteady}
-use Rattle.atl_state.specs.Held.{AreAmounts, Held, amount_of, with_amount_of}
+use Rattle.atl_state.specs.Held.{Held, amount_of, with_amount_of}
 use Rattle.atl_state.specs.Lending.{with_held}
 use Rattle.atl_state.specs.Limits.{holding_limit}
-use Rattle.atl_state.specs.Marks.{amount_number}
-use Rattle.atl_state.specs.State.{State, with_amount, with_money}
-use Rattle.atl_state.specs.Totals.{Balances, held, total}
-use Rattle.atl_state.proofs.BookLaws.{booked-with_booked, entry_small, share_of}
-use Rattle.atl_state.proofs.EveryLaws.{every-insert, get-insert_other, not_below, sorted}
+use Rattle.atl_state.specs.State.{State}
+use Rattle.atl_state.specs.Totals.{held, total}
+use Rattle.atl_state.proofs.BookLaws.{booked-with_booked}
+use Rattle.atl_state.proofs.EveryLaws.{every-insert, get-insert_other}
 use Rattle.atl_state.proofs.HoldingLaws.{MayHold, may_hold_money, steady-held, total-held}
 use Rattle.atl_state.proofs.RegionLaws.{changed-known, get-insert_same, steady-amount, total-amount}
 use Rattle.atl_instant.specs.Meaning.{IsNear, IsSameMonth, Moving, both_move, moves_only}
 use Rattle.atl_instant.proofs.MeaningLaws.{near_twice}
 use Rattle.atl_instant.proofs.BookingLaws.{booked-near}
-use Rattle.atl_month.specs.Sweep.{IsKept, item_to, money_to, moving_items, passed_item, passed_money, passed_on, taken_of, with_lost}
-use Rattle.atl_month.proofs.RemovedLaws.{every-remove}
+use Rattle.atl_month.specs.Sweep.{IsKept, item_to, money_to, moving_items, passed_item, passed_money, taken_of, with_lost}
+use Rattle.atl_state.proofs.RemovedLaws.{every-remove}
 
 -- ---- more than is booked
 
@@ -180,7 +177,7 @@ module _ (w : Planet) (c : State) (n : ℕ) (t : Thing) (inside : thing_place t 
 
 -- ---- so much more of an item
 
-every_amount : (P : ℕ → ℕ → Type 0) (items : FinMap nat_cmp ℕ) (i amount : ℕ) → (1 ≤ amount → P i amount) → Every P items → Every P (with_amount_of items i amount)
+pub every_amount : (P : ℕ → ℕ → Type 0) (items : FinMap nat_cmp ℕ) (i amount : ℕ) → (1 ≤ amount → P i amount) → Every P items → Every P (with_amount_of items i amount)
 every_amount P items i amount here old = by_zero (amount == 0) refl
   where
     by_zero : (b : Bool) → (amount == 0) ≡ b → Every P (if b then remove items i else insert items i amount)

@@ -1,13 +1,12 @@
 -- The sweep of all units without men, and of the factions without units.
-use Rattle.std.proofs.Common.{◌≡◌, ◌≢◌, ◌==◌, ◌&&◌, ℕ, suc, ◌+◌, ◌*◌, ◌≤◌, ◌<◌, not, Bool, true, false, cond, List, [], ◌∷◌, length, filter, map, Option, Some, None, refl, sym, ap, subst, ◌∙◌, inl, inr, ◌⊎◌, arith}
-use Rattle.std.specs.Prelude.{ℤ, pos, fold, if◌then◌else◌}
+use Rattle.std.proofs.Common.{◌≡◌, ◌≢◌, ◌==◌, ◌&&◌, ℕ, suc, ◌*◌, ◌≤◌, not, Bool, true, false, cond, List, [], ◌∷◌, length, filter, map, Option, Some, None, refl, sym, ap, subst, ◌∙◌, inl, inr, arith}
+use Rattle.std.specs.Prelude.{pos, fold, if◌then◌else◌}
 use Rattle.std.proofs.lemmas.Bool.Decides.{nat_tests}
 use Rattle.std.proofs.lemmas.Bool.{cases_eq}
 use Rattle.std.specs.Ordering.{nat_cmp}
-use Rattle.std.specs.FinMap.{FinMap, entries, get, len, len-entries}
+use Rattle.std.specs.FinMap.{FinMap, entries, get, len-entries}
 use Rattle.atl_tables.specs.Planet.{Planet}
 use Rattle.atl_tables.specs.Limits.{most_amount}
-use Rattle.atl_tables.specs.Sums.{numbers_where}
 use Rattle.atl_tables.proofs.SumLaws.{chosen-cons}
 use Rattle.atl_state.specs.Books.{amount_in, entry_place, thing_place}
 use Rattle.atl_state.specs.declared.books.Entry.{Entry}
@@ -16,17 +15,16 @@ use Rattle.atl_state.specs.declared.books.Thing.{Thing}
 use Rattle.atl_state.specs.declared.books.Thing.TheVariants.{People}
 use Rattle.atl_state.specs.declared.records.Faction.{Faction}
 use Rattle.atl_state.specs.declared.records.Unit.{Unit}
-use Rattle.atl_state.specs.Good.{Every, HaveMen, IsSteady, IsThere, NoneAreGone}
+use Rattle.atl_state.specs.Good.{Every, HaveMen, IsSteady, NoneAreGone}
 use Rattle.atl_state.specs.Owners.{without_unit}
 use Rattle.atl_state.specs.State.{State, numbers_of, with_gone}
-use Rattle.atl_state.specs.Totals.{Balances}
 use Rattle.atl_state.proofs.EveryLaws.{none_some}
-use Rattle.atl_instant.specs.Meaning.{IsNear, IsSameMonth, LeavesWell, Moving, both_move, moved_times, most_moved}
+use Rattle.atl_instant.specs.Meaning.{LeavesWell, Moving, both_move, moved_times, most_moved}
 use Rattle.atl_instant.proofs.MeaningLaws.{both_leave_well, fold_leaves_well, near_same, well_unchanged, well_within}
-use Rattle.atl_month.specs.Sweep.{IsKept, gone_at, is_empty, loses_by, menless, passed_on, receiver, remaining, sweep, sweep_keeps, swept_at, swept_in}
+use Rattle.atl_month.specs.Sweep.{IsKept, gone_at, is_empty, loses_by, menless, passed_on, receiver, remaining, sweep, swept_at, swept_in}
 use Rattle.atl_month.specs.Swept.{IsSwept}
-use Rattle.atl_month.proofs.RemovedLaws.{IsListed, passing_listed}
-use Rattle.atl_month.proofs.GoneLaws.{as_gone, count-gone, get-gone, get-gone_other, known-gone, none-gone, steady-gone, total-gone}
+use Rattle.atl_state.proofs.RemovedLaws.{IsListed, passing_listed}
+use Rattle.atl_state.proofs.GoneLaws.{as_gone, count-gone, get-gone, get-gone_other, known-gone, none-gone, steady-gone, total-gone}
 use Rattle.atl_month.proofs.PassingLaws.{kept-refl, kept-trans}
 use Rattle.atl_month.proofs.SweepLaws.{others_keep, others_were, swept_leaves_well}
 

@@ -1,18 +1,16 @@
 -- The sweep leaves a campaign well.
-use Rattle.std.proofs.Common.{◌≡◌, ◌≢◌, ◌==◌, ◌&&◌, ℕ, suc, ◌+◌, ◌*◌, ◌≤◌, ◌<◌, not, Bool, true, false, cond, List, [], ◌∷◌, length, filter, map, Option, Some, None, refl, sym, ap, subst, ◌∙◌, inl, inr, ◌⊎◌, arith}
-use Rattle.std.specs.Prelude.{ℤ, pos, ◌+ℤ◌, fold, nat_lt, unwrap_or, if◌then◌else◌}
+use Rattle.std.proofs.Common.{◌≡◌, ◌≢◌, ◌==◌, ◌&&◌, ℕ, ◌+◌, ◌*◌, ◌≤◌, ◌<◌, not, Bool, true, false, cond, List, [], ◌∷◌, length, Option, Some, None, refl, sym, ap, subst, ◌∙◌, arith}
+use Rattle.std.specs.Prelude.{ℤ, pos, ◌+ℤ◌, nat_lt, unwrap_or, if◌then◌else◌}
 use Rattle.std.proofs.lemmas.Int.{ints}
 use Rattle.std.proofs.lemmas.Bool.Decides.{nat_tests}
-use Rattle.std.proofs.lemmas.Bool.{and_parts, cases_eq}
-use Rattle.std.proofs.lemmas.List.{length-map}
+use Rattle.std.proofs.lemmas.Bool.{and_parts}
 use Rattle.std.specs.declared.cmp.Ordering.TheVariants.{Less, Equal, Greater}
 use Rattle.std.specs.Ordering.{nat_cmp, is_eq}
 use Rattle.std.specs.Cmp.{ranked}
-use Rattle.std.specs.FinMap.{FinMap, entries, find, get, get-entries, is_sorted, len, len-entries, nat_cmp-IsAntisymmetric, remove}
+use Rattle.std.specs.FinMap.{FinMap, entries, find, get, get-entries, is_sorted, len, nat_cmp-IsAntisymmetric}
 use Rattle.atl_tables.specs.Planet.{Planet}
 use Rattle.atl_tables.specs.Limits.{most_amount}
-use Rattle.atl_tables.specs.Sums.{numbers_where}
-use Rattle.atl_state.specs.Books.{IsGrid, amount_in, booked, entry_place, thing_place}
+use Rattle.atl_state.specs.Books.{amount_in, booked, entry_place, thing_place}
 use Rattle.atl_state.specs.declared.books.Entry.{Entry}
 use Rattle.atl_state.specs.declared.books.Entry.TheVariants.{Lost}
 use Rattle.atl_state.specs.declared.books.Thing.{Thing}
@@ -20,23 +18,21 @@ use Rattle.atl_state.specs.declared.books.Thing.TheVariants.{Item, Money, People
 use Rattle.atl_state.specs.declared.records.Faction.{Faction}
 use Rattle.atl_state.specs.declared.records.Unit.{Unit}
 use Rattle.atl_state.specs.Deciding.{EachOf}
-use Rattle.atl_state.specs.Good.{Every, HaveMen, IsSteady, IsThere, NoneAreGone}
+use Rattle.atl_state.specs.Good.{Every, IsSteady, IsThere}
 use Rattle.atl_state.specs.Held.{Held, amount_of}
 use Rattle.atl_state.specs.Limits.{entry_count, holding_limit}
 use Rattle.atl_state.specs.Marks.{amount_number}
-use Rattle.atl_state.specs.Owners.{first_or_zero, without_unit}
-use Rattle.atl_state.specs.State.{State, numbers_in, numbers_of, with_gone}
+use Rattle.atl_state.specs.Owners.{without_unit}
+use Rattle.atl_state.specs.State.{State, numbers_in}
 use Rattle.atl_state.specs.Totals.{Balances, held, total}
 use Rattle.atl_state.proofs.BookLaws.{entry_small}
-use Rattle.atl_state.proofs.EveryLaws.{each-from_every, none_some, not_below, sorted}
-use Rattle.atl_instant.specs.Meaning.{IsNear, IsSameMonth, LeavesWell, Moving, both_move, moved_times, moves_only, most_moved}
-use Rattle.atl_instant.proofs.MeaningLaws.{MovesLess, both_leave_well, fold_leaves_well, near_more, well_unchanged, well_within}
-use Rattle.atl_month.specs.Sweep.{IsKept, first_receiver, gone_at, is_empty, loses_by, may_receive, menless, moving_items, passed_item, passed_money, passed_on, receiver, remaining, sweep, sweep_keeps, swept_at, swept_in}
-use Rattle.atl_month.specs.Swept.{IsSwept}
-use Rattle.atl_month.proofs.RemovedLaws.{IsListed, first_of, get-remove_other, listed_passing, passing_listed, still}
-use Rattle.atl_month.proofs.LeavingLaws.{only_reduced, steady-without, total-without}
-use Rattle.atl_month.proofs.GoneLaws.{as_gone, count-gone, get-gone, get-gone_other, known-gone, steady-gone, total-gone}
-use Rattle.atl_month.proofs.PassingLaws.{Owes, PassesOn, kept-refl, kept-trans, owing_items, part_of, pass_items, pass_money, passes-trans}
+use Rattle.atl_state.proofs.EveryLaws.{each-from_every, not_below, sorted}
+use Rattle.atl_instant.specs.Meaning.{IsNear, LeavesWell, Moving, both_move, moves_only}
+use Rattle.atl_instant.proofs.MeaningLaws.{near_more}
+use Rattle.atl_month.specs.Sweep.{IsKept, loses_by, may_receive, moving_items, passed_money, passed_on, receiver}
+use Rattle.atl_state.proofs.RemovedLaws.{IsListed, first_of, get-remove_other, listed_passing, still}
+use Rattle.atl_state.proofs.LeavingLaws.{only_reduced, steady-without, total-without}
+use Rattle.atl_month.proofs.PassingLaws.{Owes, PassesOn, owing_items, part_of, pass_items, pass_money, passes-trans}
 
 -- ---- how much of each thing a unit passes on
 

@@ -1,5 +1,5 @@
 -- What the code of the sweep marks, and how far it may book.
-use Rattle.std.proofs.Common.{◌≡◌, ◌≢◌, ◌==◌, ℕ, suc, ◌+◌, ◌≤◌, ◌<◌, Bool, true, false, List, [], ◌∷◌, length, Option, Some, refl, sym, ap, subst, ◌∙◌, arith}
+use Rattle.std.proofs.Common.{◌≡◌, ◌≢◌, ◌==◌, ℕ, suc, ◌+◌, ◌≤◌, ◌<◌, Bool, true, false, List, ◌∷◌, length, Some, refl, sym, ap, subst, ◌∙◌, arith}
 use Rattle.std.specs.Prelude.{ℤ, pos, neg_ℤ, if◌then◌else◌}
 use Rattle.std.proofs.lemmas.Int.{ints}
 use Rattle.std.specs.FinMap.{entries, get}
@@ -24,7 +24,7 @@ use Rattle.atl_state.proofs.ListLaws.{same_number}
 use Rattle.atl_instant.specs.Meaning.{HasRoom, HaveRoom, IsNear, Moving, both_move, moves_only}
 use Rattle.atl_instant.proofs.MeaningLaws.{near_room, room_less}
 use Rattle.atl_month.specs.Sweep.{item_to, loses_by, moving_items, passed_item, passed_money, with_lost}
-use Rattle.atl_month.proofs.GoneLaws.{marks-gone_faction}
+use Rattle.atl_state.proofs.GoneLaws.{marks-gone_faction}
 use Rattle.atl_month.proofs.PassingLaws.{PassesOn, part_of, pass_item, pass_money}
 use Rattle.atl_month.proofs.SweepLaws.{moves_little, moving_all}
 

@@ -36,3 +36,6 @@ pub mod GuardLaws
 pub mod DifferLaws
 pub mod AmountLaws
 pub mod HoldingLaws
+pub mod RemovedLaws
+pub mod LeavingLaws
+pub mod GoneLaws

@@ -1,6 +1,5 @@
-use Rattle.std.proofs.Common.{rules, ◌≡◌, ◌<◌, length, sym, subst}
+use Rattle.std.proofs.Common.{rules, ◌≡◌, ◌<◌, length}
 use Rattle.std.specs.FinMap.{entries}
-use Rattle.atl_state.specs.Deciding.{EachOf}
 use Rattle.atl_state.proofs.EveryLaws.{each-from_every}
 use Rattle.atl_month.proofs.sweep.items_of.Goals as goal
 

@@ -1,4 +1,4 @@
-use Rattle.std.proofs.Common.{◌≡◌, ◌+◌, ◌-◌, ◌<◌, length, sym, ap, arith}
+use Rattle.std.proofs.Common.{◌+◌, ◌-◌, sym, ap, arith}
 use Rattle.atl_state.specs.declared.books.Entry.TheVariants.{Lost}
 use Rattle.atl_state.specs.declared.books.Thing.TheVariants.{Item}
 use Rattle.atl_state.specs.Books.{amount_in}

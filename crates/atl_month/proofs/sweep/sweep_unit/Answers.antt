@@ -1,15 +1,12 @@
-use Rattle.std.proofs.Common.{rules, ◌≡◌, ◌<◌, ℕ, List, length, sym, ap, subst, ◌∙◌, arith}
-use Rattle.std.specs.FinMap.{entries, get}
+use Rattle.std.proofs.Common.{rules, ◌≡◌, ◌<◌, length, sym, arith}
+use Rattle.std.specs.FinMap.{entries}
 use Rattle.atl_tables.specs.Limits.{most_amount}
 use Rattle.atl_state.specs.declared.books.Entry.TheVariants.{Lost}
 use Rattle.atl_state.specs.declared.books.Thing.TheVariants.{Money}
 use Rattle.atl_state.specs.Books.{amount_in}
-use Rattle.atl_state.specs.Deciding.{EachOf}
 use Rattle.atl_state.proofs.CoverLaws.{marks-trans}
 use Rattle.atl_state.proofs.EveryLaws.{each-from_every}
-use Rattle.atl_instant.specs.Meaning.{HaveRoom}
-use Rattle.atl_month.specs.Sweep.{moving_items, passed_money}
-use Rattle.atl_month.proofs.LeavingLaws.{marks-without}
+use Rattle.atl_state.proofs.LeavingLaws.{marks-without}
 use Rattle.atl_month.proofs.SweepRunLaws.{items_room, less_room, money_steady}
 use Rattle.atl_month.proofs.sweep.sweep_unit.Goals as goal
 

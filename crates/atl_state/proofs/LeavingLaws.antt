@@ -1,5 +1,5 @@
 -- How a campaign changes as a unit leaves it.
-use Rattle.std.proofs.Common.{◌≡◌, ◌≢◌, ◌==◌, ℕ, ◌+◌, ◌≤◌, ◌<◌, Bool, true, false, cond, length, not, filter, List, Option, Some, None, refl, sym, ap, subst, ◌∙◌, inl, inr, arith}
+use Rattle.std.proofs.Common.{◌≡◌, ◌≢◌, ◌==◌, ℕ, ◌+◌, ◌≤◌, ◌<◌, Bool, true, false, length, not, List, Option, Some, None, refl, sym, ap, subst, ◌∙◌, arith}
 use Rattle.std.specs.Prelude.{option_map, if◌then◌else◌}
 use Rattle.std.proofs.lemmas.Bool.Decides.{nat_tests}
 use Rattle.std.specs.declared.cmp.Ordering.TheVariants.{Less, Equal, Greater}
@@ -7,23 +7,23 @@ use Rattle.std.specs.Ordering.{nat_cmp}
 use Rattle.std.specs.Cmp.{ranked}
 use Rattle.std.specs.FinMap.{FinMap, get, insert, len, nat_cmp-IsAntisymmetric, remove}
 use Rattle.atl_tables.specs.Planet.{Planet}
-use Rattle.atl_tables.specs.Sums.{changed, changed_at, sum_over}
+use Rattle.atl_tables.specs.Sums.{changed_at}
 use Rattle.atl_tables.specs.Tracking.{marked_with}
 use Rattle.atl_state.specs.Covers.{MarksChanges, bare, goods_under}
 use Rattle.atl_state.specs.declared.books.Thing.{Thing}
 use Rattle.atl_state.specs.declared.records.Region.{Region}
 use Rattle.atl_state.specs.declared.records.Structure.{Structure}
 use Rattle.atl_state.specs.declared.records.Unit.{Unit}
-use Rattle.atl_state.specs.Good.{AreAfloat, AreInRange, AreKnown, AreNumbered, AreOwned, Every, GoneHaveNone, IsAboard, IsBuilt, IsOwned, IsPlaced, IsSteady, is_land_at, is_ship, size_of}
+use Rattle.atl_state.specs.Good.{AreAfloat, AreInRange, AreKnown, AreNumbered, AreOwned, Every, GoneHaveNone, IsBuilt, IsOwned, IsPlaced, IsSteady, is_land_at, is_ship, size_of}
 use Rattle.atl_state.specs.Marking.{gone_marked, gone_marked_at, handed_marked, mark_structure, taken_marked}
 use Rattle.atl_state.specs.Owners.{handed, heir, is_owned_by, without_unit, without_unit_at}
-use Rattle.atl_state.specs.State.{Marked, State, numbers_inside, numbers_of, structure_changed, with_owner}
-use Rattle.atl_state.specs.Totals.{held, kept, total}
+use Rattle.atl_state.specs.State.{Marked, State, numbers_inside, structure_changed, with_owner}
+use Rattle.atl_state.specs.Totals.{held, total}
 use Rattle.atl_state.proofs.CoverLaws.{apart_by, marks-refl, marks-trans, put_stays}
 use Rattle.atl_state.proofs.EveryLaws.{every-insert, get-insert_other, none_some}
 use Rattle.atl_state.proofs.OwnerLaws.{gone-what, taken_none}
 use Rattle.atl_state.proofs.RegionLaws.{changed-known, get-insert_same, same_len}
-use Rattle.atl_month.proofs.RemovedLaws.{IsListed, every-insert_other, every-remove, fewer, first_of, get-remove_other, listed_passing, none_passing, nothing_listed, passing_listed, still, sum_over-remove}
+use Rattle.atl_state.proofs.RemovedLaws.{IsListed, every-insert_other, every-remove, fewer, first_of, get-remove_other, listed_passing, none_passing, nothing_listed, passing_listed, still, sum_over-remove}
 
 -- a structure with another owner
 abbrev pub owned_by : ℕ → Structure → Structure

@@ -1,6 +1,6 @@
 -- How a campaign changes as a faction without units leaves it.
-use Rattle.std.proofs.Common.{◌≡◌, ◌≢◌, ◌==◌, ℕ, ◌+◌, ◌≤◌, Bool, true, false, List, [], Option, Some, None, refl, sym, ap, subst, ◌∙◌, arith}
-use Rattle.std.specs.Prelude.{IsTrue, option_map}
+use Rattle.std.proofs.Common.{◌≡◌, ◌≢◌, ℕ, ◌+◌, true, [], Option, Some, None, refl, sym, ap, subst, ◌∙◌, arith}
+use Rattle.std.specs.Prelude.{IsTrue}
 use Rattle.std.specs.Ordering.{nat_cmp}
 use Rattle.std.specs.FinMap.{FinMap, get, insert, len}
 use Rattle.atl_tables.specs.Names.{name_ok, pass_ok}
@@ -10,7 +10,7 @@ use Rattle.atl_tables.specs.Tracking.{marked_with}
 use Rattle.atl_state.specs.Covers.{MarksChanges}
 use Rattle.atl_state.specs.declared.books.Thing.{Thing}
 use Rattle.atl_state.specs.declared.records.Faction.{Faction}
-use Rattle.atl_state.specs.Good.{AreInRange, AreKnown, AreNamed, AreNumbered, Every, GoneHaveNone, IsSteady, IsThere}
+use Rattle.atl_state.specs.Good.{AreInRange, AreKnown, AreNamed, AreNumbered, Every, IsSteady, IsThere}
 use Rattle.atl_state.specs.Marking.{mark_faction}
 use Rattle.atl_state.specs.State.{Marked, State, numbers_of, with_gone}
 use Rattle.atl_state.specs.Totals.{total}
