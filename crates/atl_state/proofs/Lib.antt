@@ -36,3 +36,4 @@ pub mod GuardLaws
 pub mod DifferLaws
 pub mod AmountLaws
 pub mod HoldingLaws
+pub mod PostLaws
