@@ -1,4 +1,4 @@
--- Mailings by faction.
+-- What was read, by faction.
 use Rattle.std.proofs.Common.{◌≡◌, ℕ, suc, ◌+◌, ◌<◌, ◌≤◌, ◌⊎◌, nat_lt, true, false, cond, List, [], ◌∷◌, map, length, get_or, slice_get, Some, None, refl, sym, ap, ◌∙◌, subst, IsPermutation, arith}
 use mathlib.Core.Logic.{inl, inr}
 use Rattle.std.specs.declared.cmp.Ordering.TheVariants.{Less, Equal, Greater}
@@ -16,52 +16,77 @@ use Rattle.atl_instant.specs.Collecting.{AreByFaction}
 use Rattle.std.specs.FinMap.{find, get, get-from_entries, nat_cmp-IsAntisymmetric}
 use Rattle.std.proofs.lemmas.List.Sorted.{IsPermutation-map, searchable_from_sorted}
 use Rattle.atl_orders.specs.declared.mailing.Mailing.{Mailing}
+use Rattle.atl_orders.specs.Mailing.{Reading, reading_of}
 use Rattle.atl_instant.specs.Course.{HaveOwnFactions, HaveNoOrder, by_faction}
 use Rattle.atl_instant.proofs.ListedLaws.{find_is, from_entries-permutation, keyed_order, strictly}
 
-abbrev pub by_its_faction : Mailing → ℕ × Mailing
-by_its_faction m = (m.faction, m)
+abbrev pub by_its_faction : Reading → ℕ × Reading
+by_its_faction r = (r.faction, r)
 
-pub keys_of-factions : (ms : List Mailing) → keys_of (map by_its_faction ms) ≡ map (λ m. m.faction) ms
+pub keys_of-factions : (rs : List Reading) → keys_of (map by_its_faction rs) ≡ map (λ r. r.faction) rs
 keys_of-factions [] = refl
-keys_of-factions (m ∷ ms) = ap (λ ks. m.faction ∷ ks) (keys_of-factions ms)
+keys_of-factions (r ∷ rs) = ap (λ ks. r.faction ∷ ks) (keys_of-factions rs)
+
+-- a reading is of the faction that its mailing is of
+pub factions_read : (ms : List Mailing) → map (λ r. r.faction) (map reading_of ms) ≡ map (λ m. m.faction) ms
+factions_read [] = refl
+factions_read (m ∷ ms) = ap (λ fs. m.faction ∷ fs) (factions_read ms)
+
+pub keys_of-read : (ms : List Mailing) → keys_of (map by_its_faction (map reading_of ms)) ≡ map (λ m. m.faction) ms
+keys_of-read ms = keys_of-factions (map reading_of ms) ∙ factions_read ms
 
 pub mailings_have_no_order : HaveNoOrder
 mailings_have_no_order ms ns apart p =
-    from_entries-permutation nat_cmp_total nat_cmp-IsAntisymmetric (map by_its_faction ms) (map by_its_faction ns) (IsPermutation-map by_its_faction ms ns p)
-    (subst (IsDistinct (eq_by_cmp nat_cmp)) (sym (keys_of-factions ms)) apart)
+    let rs = map reading_of ms in
+    let ss = map reading_of ns in
+    from_entries-permutation nat_cmp_total nat_cmp-IsAntisymmetric (map by_its_faction rs) (map by_its_faction ss) (IsPermutation-map by_its_faction rs ss (IsPermutation-map reading_of ms ns p))
+    (subst (IsDistinct (eq_by_cmp nat_cmp)) (sym (keys_of-read ms)) apart)
 
--- mailings that are sorted by faction
+-- ---- mailings that are sorted by faction
+
+abbrev under_faction : Mailing → ℕ × Mailing
+under_faction m = (m.faction, m)
+
+keys_of-mailings : (ms : List Mailing) → keys_of (map under_faction ms) ≡ map (λ m. m.faction) ms
+keys_of-mailings [] = refl
+keys_of-mailings (m ∷ ms) = ap (λ ks. m.faction ∷ ks) (keys_of-mailings ms)
+
 pub rise : (ms : List Mailing) → HaveOwnFactions ms → IsSortedByKey (λ m. m.faction) nat_cmp ms → AreByFaction ms
 rise ms apart up =
-    subst (IsStrictlySortedBy nat_cmp) (keys_of-factions ms) (strictly nat_cmp_total nat_cmp-IsAntisymmetric (map by_its_faction ms)
-    (subst (IsDistinct (eq_by_cmp nat_cmp)) (sym (keys_of-factions ms)) apart) (keyed_order nat_cmp (λ m. m.faction) ms up))
+    subst (IsStrictlySortedBy nat_cmp) (keys_of-mailings ms) (strictly nat_cmp_total nat_cmp-IsAntisymmetric (map under_faction ms)
+    (subst (IsDistinct (eq_by_cmp nat_cmp)) (sym (keys_of-mailings ms)) apart) (keyed_order nat_cmp (λ m. m.faction) ms up))
 
 pub own_factions-moved : (ms ns : List Mailing) → IsPermutation ms ns → HaveOwnFactions ms → HaveOwnFactions ns
 own_factions-moved ms ns p = IsDistinct-IsPermutation (eq_by_cmp nat_cmp) (eq_by_cmp_equiv nat_cmp_total).symm (map (λ m. m.faction) ms) (map (λ m. m.faction) ns) (IsPermutation-map (λ m. m.faction) ms ns p)
 
 -- ---- a mailing that is looked for
 
-pub found_at : (ms : List Mailing) (f i : ℕ) (d : Mailing) → AreByFaction ms → i < length ms → nat_cmp (get_or ms i d).faction f ≡ Equal → get (by_faction ms) f ≡ Some (get_or ms i d)
+pub found_at : (ms : List Mailing) (f i : ℕ) (d : Mailing) → AreByFaction ms → i < length ms → nat_cmp (get_or ms i d).faction f ≡ Equal → get (by_faction (map reading_of ms)) f ≡ Some (reading_of (get_or ms i d))
 found_at ms f i d rise h tie =
-    let es = map by_its_faction ms in
+    let rs = map reading_of ms in
+    let es = map by_its_faction rs in
     let m = get_or ms i d in
+    let last = reading_of d in
     let same : m.faction ≡ f = nat_cmp-IsAntisymmetric m.faction f tie in
-    let apart = subst (IsDistinct (eq_by_cmp nat_cmp)) (sym (keys_of-factions ms)) (IsDistinct-from_sorted nat_cmp (map (λ m. m.faction) ms) rise) in
-    let long : length es ≡ length ms = length-map ms by_its_faction in
-    let there : slice_get es i ≡ Some (m.faction, m) = slice_get-get_or es i (by_its_faction d) (omega arith) ∙ ap Some (get_or-map by_its_faction ms i d (by_its_faction d) h) in
+    let apart = subst (IsDistinct (eq_by_cmp nat_cmp)) (sym (keys_of-read ms)) (IsDistinct-from_sorted nat_cmp (map (λ m. m.faction) ms) rise) in
+    let many : length rs ≡ length ms = length-map ms reading_of in
+    let long : length es ≡ length rs = length-map rs by_its_faction in
+    let there : slice_get es i ≡ Some (m.faction, reading_of m) =
+    slice_get-get_or es i (by_its_faction last) (omega arith) ∙ ap Some (get_or-map by_its_faction rs i last (by_its_faction last) (omega arith))
+    ∙ ap (λ r. Some (by_its_faction r)) (get_or-map reading_of ms i d last h) in
     get-from_entries nat_cmp_total es f ∙ find_is nat_cmp_total nat_cmp-IsAntisymmetric f es ∙ ap (λ k. lookup (eq_by_cmp nat_cmp k) es) (sym same)
-    ∙ lookup_from_place (eq_by_cmp_equiv nat_cmp_total) es i m.faction m apart there
+    ∙ lookup_from_place (eq_by_cmp_equiv nat_cmp_total) es i m.faction (reading_of m) apart there
 
-unfound : (ms : List Mailing) (f : ℕ) → ((j : ℕ) (d : Mailing) → j < length ms → eq_by_cmp nat_cmp (get_or ms j d).faction f ≡ false) → find nat_cmp f (map by_its_faction ms) ≡ None
+unfound : (ms : List Mailing) (f : ℕ) → ((j : ℕ) (d : Mailing) → j < length ms → eq_by_cmp nat_cmp (get_or ms j d).faction f ≡ false) → find nat_cmp f (map by_its_faction (map reading_of ms)) ≡ None
 unfound [] f h = refl
 unfound (m ∷ ms) f h =
-    ap (λ b. cond b (Some m) (find nat_cmp f (map by_its_faction ms))) ((eq_by_cmp_equiv nat_cmp_total).symm f m.faction ∙ h 0 m (omega arith))
+    let es = map by_its_faction (map reading_of ms) in
+    ap (λ b. cond b (Some (reading_of m)) (find nat_cmp f es)) ((eq_by_cmp_equiv nat_cmp_total).symm f m.faction ∙ h 0 m (omega arith))
     ∙ unfound ms f (λ j d l. h (suc j) d (omega arith))
 
-pub missing : (ms : List Mailing) (f i : ℕ) → IsPartitionPoint (λ m. nat_cmp m.faction f ≡ Less) (λ m. nat_cmp m.faction f ≡ Greater) ms i → get (by_faction ms) f ≡ None
+pub missing : (ms : List Mailing) (f i : ℕ) → IsPartitionPoint (λ m. nat_cmp m.faction f ≡ Less) (λ m. nat_cmp m.faction f ≡ Greater) ms i → get (by_faction (map reading_of ms)) f ≡ None
 missing ms f i h =
-    get-from_entries nat_cmp_total (map by_its_faction ms) f ∙ unfound ms f (λ j d l. either j d l (trichotomy j))
+    get-from_entries nat_cmp_total (map by_its_faction (map reading_of ms)) f ∙ unfound ms f (λ j d l. either j d l (trichotomy j))
   where
     trichotomy : (j : ℕ) → (j < i) ⊎ (i ≤ j)
     trichotomy j = elim (nat_lt j i) as (λ b. nat_lt j i ≡ b → (j < i) ⊎ (i ≤ j)) [ true ↦ λ e. inl (grind (arith, nat_tests)) | false ↦ λ e. inr (grind (arith, nat_tests)) ] refl

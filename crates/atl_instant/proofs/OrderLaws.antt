@@ -11,9 +11,9 @@ use Rattle.std.specs.FinMap.{entries, values, from_entries, slice_cmp-IsAntisymm
 use Rattle.std.proofs.lemmas.Map.Keys.{sorted_head, sorted_tail}
 use Rattle.std.proofs.lemmas.List.Folds.{flat_map-map}
 use Rattle.std.proofs.lemmas.List.Sorted.{IsPermutation-map}
-use Rattle.atl_orders.specs.declared.mailing.Entry.{Entry}
 use Rattle.atl_orders.specs.declared.mailing.Mailing.{Mailing}
 use Rattle.atl_orders.specs.declared.verb.Verb.{Verb}
+use Rattle.atl_orders.specs.Mailing.{EntrySaid, Reading, reading_of}
 use Rattle.atl_tables.proofs.Maps.{entries_of}
 use Rattle.atl_state.proofs.KeyLaws.{IsDistinct-map}
 use Rattle.atl_state.proofs.BackLaws.{append_apart, append_each}
@@ -26,7 +26,7 @@ use Rattle.atl_instant.specs.Collecting.{AreByFaction, all_tasks, key_by}
 use Rattle.atl_instant.specs.PhaseOrders.{written}
 use Rattle.atl_instant.proofs.ListedLaws.{entries-sorted, keyed_order}
 use Rattle.atl_instant.proofs.MappedLaws.{with_value, entries-with_value}
-use Rattle.atl_instant.proofs.CourseLaws.{by_its_faction, keys_of-factions}
+use Rattle.atl_instant.proofs.CourseLaws.{by_its_faction, factions_read, keys_of-factions}
 
 -- ---- keys that differ
 
@@ -64,10 +64,10 @@ module _ (aliases : Aliases) (a : Arrangement) where
   abbrev IsBehind : ℕ → ℕ → Task → Type 0
   IsBehind faction place t = (t.faction ≡ faction) × (place ≤ t.place)
 
-  behind : (p : Task → Bool) (faction : ℕ) (text : List ℕ) (low place : ℕ) (es : List Entry) → low ≤ place → AllByRecursion (IsBehind faction low) (filter p (tasks_from aliases faction text place es))
-  behind p faction text low place [] le = tt
-  behind p faction text low place (e ∷ es) le =
-      let rest = behind p faction text low (place + 1) es (omega arith) in
+  behind : (p : Task → Bool) (faction : ℕ) (low place : ℕ) (es : List EntrySaid) → low ≤ place → AllByRecursion (IsBehind faction low) (filter p (tasks_from aliases faction place es))
+  behind p faction low place [] le = tt
+  behind p faction low place (e ∷ es) le =
+      let rest = behind p faction low (place + 1) es (omega arith) in
       kept _ _ (p _) (refl, le) rest
     where
       kept : (ts : List Task) (t : Task) (b : Bool) → IsBehind faction low t → AllByRecursion (IsBehind faction low) ts → AllByRecursion (IsBehind faction low) (cond b (t ∷ ts) ts)
@@ -78,35 +78,35 @@ module _ (aliases : Aliases) (a : Arrangement) where
   apart_behind t faction [] h = tt
   apart_behind t faction (u ∷ ts) h = (other_place a t u (omega (arith, h.0.1)), apart_behind t faction ts h.1)
 
-  pub apart_within : (p : Task → Bool) (faction : ℕ) (text : List ℕ) (place : ℕ) (es : List Entry) → IsDistinct (same_key a) (filter p (tasks_from aliases faction text place es))
+  pub apart_within : (p : Task → Bool) (faction : ℕ) (place : ℕ) (es : List EntrySaid) → IsDistinct (same_key a) (filter p (tasks_from aliases faction place es))
   unfolding IsDistinct
-  apart_within p faction text place [] = tt
-  apart_within p faction text place (e ∷ es) =
-      kept _ _ (p _) (apart_behind _ faction (filter p (tasks_from aliases faction text (place + 1) es)) (behind p faction text (place + 1) (place + 1) es (omega arith))) (apart_within p faction text (place + 1) es)
+  apart_within p faction place [] = tt
+  apart_within p faction place (e ∷ es) =
+      kept _ _ (p _) (apart_behind _ faction (filter p (tasks_from aliases faction (place + 1) es)) (behind p faction (place + 1) (place + 1) es (omega arith))) (apart_within p faction (place + 1) es)
     where
       kept : (ts : List Task) (t : Task) (b : Bool) → AllByRecursion (λ u. same_key a t u ≡ false) ts → IsDistinct (same_key a) ts → IsDistinct (same_key a) (cond b (t ∷ ts) ts)
       kept ts t true h r = (h, r)
       kept ts t false h r = r
 
   -- and across them
-  of_faction : (p : Task → Bool) (faction : ℕ) (text : List ℕ) (place : ℕ) (es : List Entry) (Q : ℕ → Type 0) → Q faction → AllByRecursion (λ t. Q t.faction) (filter p (tasks_from aliases faction text place es))
-  of_faction p faction text place [] Q q = tt
-  of_faction p faction text place (e ∷ es) Q q = kept _ _ (p _) q (of_faction p faction text (place + 1) es Q q)
+  of_faction : (p : Task → Bool) (faction : ℕ) (place : ℕ) (es : List EntrySaid) (Q : ℕ → Type 0) → Q faction → AllByRecursion (λ t. Q t.faction) (filter p (tasks_from aliases faction place es))
+  of_faction p faction place [] Q q = tt
+  of_faction p faction place (e ∷ es) Q q = kept _ _ (p _) q (of_faction p faction (place + 1) es Q q)
     where
       kept : (ts : List Task) (t : Task) (b : Bool) → Q t.faction → AllByRecursion (λ t. Q t.faction) ts → AllByRecursion (λ t. Q t.faction) (cond b (t ∷ ts) ts)
       kept ts t true h r = (h, r)
       kept ts t false h r = r
 
   module _ (is_of : Verb → Bool) where
-    abbrev from_mailing : Mailing → List Task
-    from_mailing m = tasks_for is_of (tasks_of aliases m.faction m)
+    abbrev from_mailing : Reading → List Task
+    from_mailing r = tasks_for is_of (tasks_of aliases r.faction r)
 
-    later : (n : ℕ) (ms : List Mailing) → AllByRecursion (λ y. nat_cmp n y ≡ Less) (map (λ m. m.faction) ms) → AllByRecursion (λ t. n < t.faction) (all_tasks is_of aliases ms)
+    later : (n : ℕ) (rs : List Reading) → AllByRecursion (λ y. nat_cmp n y ≡ Less) (map (λ r. r.faction) rs) → AllByRecursion (λ t. n < t.faction) (all_tasks is_of aliases rs)
     later n [] h = tt
-    later n (m ∷ ms) h =
-        append_each (λ t. n < t.faction) (from_mailing m) (all_tasks is_of aliases ms)
-        (of_faction _ m.faction m.text 0 m.entries (λ f. n < f) (ranked n m.faction Less (sym h.0)))
-        (later n ms h.1)
+    later n (r ∷ rs) h =
+        append_each (λ t. n < t.faction) (from_mailing r) (all_tasks is_of aliases rs)
+        (of_faction _ r.faction 0 r.entries (λ f. n < f) (ranked n r.faction Less (sym h.0)))
+        (later n rs h.1)
 
     before : (n : ℕ) (t : Task) (us : List Task) → t.faction ≡ n → AllByRecursion (λ u. n < u.faction) us → AllByRecursion (λ u. same_key a t u ≡ false) us
     before n t [] e h = tt
@@ -116,17 +116,17 @@ module _ (aliases : Aliases) (a : Arrangement) where
     all_before n [] us e h = tt
     all_before n (t ∷ ts) us e h = (before n t us e.0 h, all_before n ts us e.1 h)
 
-    pub all_apart : (ms : List Mailing) → AreByFaction ms → IsDistinct (same_key a) (all_tasks is_of aliases ms)
+    pub all_apart : (rs : List Reading) → IsStrictlySortedBy nat_cmp (map (λ r. r.faction) rs) → IsDistinct (same_key a) (all_tasks is_of aliases rs)
     unfolding IsDistinct
     all_apart [] h = tt
-    all_apart (m ∷ ms) h =
-        let fs = map (λ m. m.faction) ms in
-        append_apart (same_key a) (from_mailing m) (all_tasks is_of aliases ms)
-        (apart_within _ m.faction m.text 0 m.entries)
-        (all_apart ms (sorted_tail nat_cmp m.faction fs h))
-        (all_before m.faction (from_mailing m) (all_tasks is_of aliases ms)
-        (of_faction _ m.faction m.text 0 m.entries (λ f. f ≡ m.faction) refl)
-        (later m.faction ms (sorted_head nat_cmp m.faction fs h)))
+    all_apart (r ∷ rs) h =
+        let fs = map (λ r. r.faction) rs in
+        append_apart (same_key a) (from_mailing r) (all_tasks is_of aliases rs)
+        (apart_within _ r.faction 0 r.entries)
+        (all_apart rs (sorted_tail nat_cmp r.faction fs h))
+        (all_before r.faction (from_mailing r) (all_tasks is_of aliases rs)
+        (of_faction _ r.faction 0 r.entries (λ f. f ≡ r.faction) refl)
+        (later r.faction rs (sorted_head nat_cmp r.faction fs h)))
 
 -- ---- as they are collected, and as the map lists them
 
@@ -157,18 +157,20 @@ values-written [] = refl
 values-written (e ∷ es) = ap (λ ws. written e.1 ∷ ws) (values-written es)
 
 module _ (is_of : Verb → Bool) (a : Arrangement) (aliases : Aliases) where
-  tasks_of_all : (ms : List Mailing) → AreByFaction ms → flat_map (λ e. tasks_for is_of (tasks_of aliases e.0 e.1)) (entries (by_faction ms)) ≡ all_tasks is_of aliases ms
-  tasks_of_all ms h =
-      ap (flat_map (λ e. tasks_for is_of (tasks_of aliases e.0 e.1))) (entries_of (map by_its_faction ms) (subst (IsStrictlySortedBy nat_cmp) (sym (keys_of-factions ms)) h))
-      ∙ flat_map-map (λ e. tasks_for is_of (tasks_of aliases e.0 e.1)) by_its_faction ms
+  tasks_of_all : (rs : List Reading) → IsStrictlySortedBy nat_cmp (map (λ r. r.faction) rs) → flat_map (λ e. tasks_for is_of (tasks_of aliases e.0 e.1)) (entries (by_faction rs)) ≡ all_tasks is_of aliases rs
+  tasks_of_all rs h =
+      ap (flat_map (λ e. tasks_for is_of (tasks_of aliases e.0 e.1))) (entries_of (map by_its_faction rs) (subst (IsStrictlySortedBy nat_cmp) (sym (keys_of-factions rs)) h))
+      ∙ flat_map-map (λ e. tasks_for is_of (tasks_of aliases e.0 e.1)) by_its_faction rs
 
-  pub sorted_orders : (ms : List Mailing) (list : List Written) → AreByFaction ms → IsPermutation (map written (all_tasks is_of aliases ms)) list → IsSortedByKey (key_by a) (slice_cmp nat_cmp) list →
-      list ≡ map written (values (orders_of is_of a aliases (by_faction ms)))
+  pub sorted_orders : (ms : List Mailing) (list : List Written) → AreByFaction ms → IsPermutation (map written (all_tasks is_of aliases (map reading_of ms))) list → IsSortedByKey (key_by a) (slice_cmp nat_cmp) list →
+      list ≡ map written (values (orders_of is_of a aliases (by_faction (map reading_of ms))))
   sorted_orders ms list h p up =
-      let ts = all_tasks is_of aliases ms in
-      let apart = subst (IsDistinct (eq_by_cmp (slice_cmp nat_cmp))) (sym (keys-written a ts)) (IsDistinct-map (key_of a) (eq_by_cmp (slice_cmp nat_cmp)) ts (all_apart aliases a is_of ms h)) in
+      let rs = map reading_of ms in
+      let ts = all_tasks is_of aliases rs in
+      let rise = subst (IsStrictlySortedBy nat_cmp) (sym (factions_read ms)) h in
+      let apart = subst (IsDistinct (eq_by_cmp (slice_cmp nat_cmp))) (sym (keys-written a ts)) (IsDistinct-map (key_of a) (eq_by_cmp (slice_cmp nat_cmp)) ts (all_apart aliases a is_of rs rise)) in
       let listed = entries-sorted nat_list_cmp_total (slice_cmp-IsAntisymmetric nat_cmp-IsAntisymmetric) (map (keyed a) (map written ts)) (map (keyed a) list) (IsPermutation-map (keyed a) (map written ts) list p) apart (keyed_order (slice_cmp nat_cmp) (key_by a) list up) in
       sym (unkeyed a list)
       ∙ ap (map (λ e. e.1)) (listed ∙ ap (λ es. entries (from_entries {R = slice_cmp nat_cmp} es)) (pairs-written a ts) ∙ entries-with_value (slice_cmp nat_cmp) written nat_list_cmp_total (map (paired a) ts))
       ∙ values-written (entries (from_entries (map (paired a) ts)))
-      ∙ ap (λ us. map written (values (from_entries {R = slice_cmp nat_cmp} (map (paired a) us)))) (sym (tasks_of_all ms h))
+      ∙ ap (λ us. map written (values (from_entries {R = slice_cmp nat_cmp} (map (paired a) us)))) (sym (tasks_of_all rs rise))

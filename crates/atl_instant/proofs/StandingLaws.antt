@@ -1,5 +1,5 @@
 -- The greatest line of each unit, line by line.
-use Rattle.std.proofs.Common.{◌≡◌, ℕ, ◌+◌, ◌<◌, ◌==◌, ◌&&◌, if◌then◌else◌, max, Bool, true, false, cond, List, drop, length, get_or, Some, refl, sym, ap, ◌∙◌, arith}
+use Rattle.std.proofs.Common.{◌≡◌, ℕ, ◌+◌, ◌<◌, ◌==◌, ◌&&◌, if◌then◌else◌, max, Bool, true, false, cond, List, drop, map, length, get_or, Some, refl, sym, ap, ◌∙◌, arith}
 use Rattle.std.specs.Prelude.{unwrap_or}
 use Rattle.std.specs.Ordering.{nat_cmp, eq_by_cmp}
 use Rattle.std.specs.Cmp.{nat_cmp_total, unsigned_ties}
@@ -9,6 +9,7 @@ use Rattle.atl_orders.specs.declared.mailing.Entry.{Entry}
 use Rattle.atl_orders.specs.declared.order.Order.{Order}
 use Rattle.atl_orders.specs.declared.order.Order.TheVariants as orders
 use Rattle.atl_orders.specs.declared.order.Span.{Span}
+use Rattle.atl_orders.specs.Mailing.{entry_said}
 use Rattle.atl_orders.specs.Orders.{said, verb_of_order}
 use Rattle.atl_state.proofs.KeyLaws.{next_of}
 use Rattle.atl_instant.specs.declared.standing.Slot.{Slot}
@@ -65,12 +66,12 @@ noted_at lines u line unit n =
 
 module _ (slot : Slot) (aliases : Aliases) (faction : ℕ) (text : List ℕ) where
   abbrev rest_from : ℕ → List Entry → ℕ → ℕ
-  rest_from i es unit = last_line slot unit (tasks_from aliases faction text i (drop i es))
+  rest_from i es unit = last_line slot unit (tasks_from aliases faction i (map (entry_said text) (drop i es)))
 
   opened : (es : List Entry) (i : ℕ) (e : Entry) (b : Bool) (unit : ℕ) → i < length es → e ≡ get_or es i e → is_slot slot (slot_of (verb_of_order e.order)) ≡ b →
       rest_from i es unit ≡ max (if (unit_of aliases faction e.target == unit) && b then e.line else 0) (rest_from (i + 1) es unit)
   opened es i e b unit h is b_is =
-      ap (λ ds. last_line slot unit (tasks_from aliases faction text i ds)) (next_of es i e h is)
+      ap (λ ds. last_line slot unit (tasks_from aliases faction i (map (entry_said text) ds))) (next_of es i e h is)
       ∙ ap (λ c. max (if (unit_of aliases faction e.target == unit) && c then e.line else 0) (rest_from (i + 1) es unit)) (ap (λ v. is_slot slot (slot_of v)) (verb_of-said text e.order) ∙ b_is)
 
   pub noted : (es : List Entry) (i : ℕ) (e : Entry) (lines : FinMap nat_cmp ℕ) (unit : ℕ) → i < length es → e ≡ get_or es i e → is_slot slot (slot_of (verb_of_order e.order)) ≡ true →

@@ -9,8 +9,7 @@ use Rattle.std.specs.List.{AllByRecursion}
 use Rattle.std.specs.FinMap.{FinMap, entries, entries-insert, from_entries, get, put}
 use Rattle.std.specs.FinMap.Entries.{by_order}
 use Rattle.std.proofs.lemmas.List.Elements.{All-from_recursion}
-use Rattle.atl_orders.specs.declared.mailing.Entry.{Entry}
-use Rattle.atl_orders.specs.declared.mailing.Mailing.{Mailing}
+use Rattle.atl_orders.specs.Mailing.{EntrySaid, Reading}
 use Rattle.atl_state.specs.Deciding.{EachOf}
 use Rattle.atl_state.proofs.EveryLaws.{each-from_every}
 use Rattle.atl_state.proofs.BackLaws.{append_each}
@@ -48,39 +47,39 @@ module _ {K X : Type 0} (R : K → K → Ordering) (P : X → Type 0) where
 
 -- ---- the orders of a mailing
 
-module _ (aliases : Aliases) (mailings : FinMap nat_cmp Mailing) where
-  in_mailing : (p : Task → Bool) (f : ℕ) (m : Mailing) → get mailings f ≡ Some m → (place : ℕ) (es : List Entry) → ((j : ℕ) (e : Entry) → slice_get es j ≡ Some e → slice_get m.entries (place + j) ≡ Some e) →
-      AllByRecursion (IsInMailing aliases mailings) (filter p (tasks_from aliases f m.text place es))
-  in_mailing p f m h place [] whole = tt
-  in_mailing p f m h place (e ∷ es) whole =
+module _ (aliases : Aliases) (readings : FinMap nat_cmp Reading) where
+  in_mailing : (p : Task → Bool) (f : ℕ) (r : Reading) → get readings f ≡ Some r → (place : ℕ) (es : List EntrySaid) → ((j : ℕ) (e : EntrySaid) → slice_get es j ≡ Some e → slice_get r.entries (place + j) ≡ Some e) →
+      AllByRecursion (IsInMailing aliases readings) (filter p (tasks_from aliases f place es))
+  in_mailing p f r h place [] whole = tt
+  in_mailing p f r h place (e ∷ es) whole =
       let first : place + 0 ≡ place = omega arith in
       kept _ _ (p _)
       (record {
-        mailing = m;
+        reading = r;
         entry = e;
         of_faction = h;
-        at_place = subst (λ n. slice_get m.entries n ≡ Some e) first (whole 0 e refl);
+        at_place = subst (λ n. slice_get r.entries n ≡ Some e) first (whole 0 e refl);
         for_unit = refl;
         on_line = refl;
         says = refl;
       })
-      (in_mailing p f m h (place + 1) es (λ j x is. let next : place + suc j ≡ (place + 1) + j = omega arith in subst (λ n. slice_get m.entries n ≡ Some x) next (whole (suc j) x is)))
+      (in_mailing p f r h (place + 1) es (λ j x is. let next : place + suc j ≡ (place + 1) + j = omega arith in subst (λ n. slice_get r.entries n ≡ Some x) next (whole (suc j) x is)))
     where
-      kept : (ts : List Task) (t : Task) (b : Bool) → IsInMailing aliases mailings t → AllByRecursion (IsInMailing aliases mailings) ts → AllByRecursion (IsInMailing aliases mailings) (cond b (t ∷ ts) ts)
+      kept : (ts : List Task) (t : Task) (b : Bool) → IsInMailing aliases readings t → AllByRecursion (IsInMailing aliases readings) ts → AllByRecursion (IsInMailing aliases readings) (cond b (t ∷ ts) ts)
       kept ts t true h r = (h, r)
       kept ts t false h r = r
 
-  in_mailings : (is_of : _) (es : List (ℕ × Mailing)) → EachOf (λ f m. get mailings f ≡ Some m) es → AllByRecursion (IsInMailing aliases mailings) (flat_map (λ e. tasks_for is_of (tasks_of aliases e.0 e.1)) es)
+  in_mailings : (is_of : _) (es : List (ℕ × Reading)) → EachOf (λ f r. get readings f ≡ Some r) es → AllByRecursion (IsInMailing aliases readings) (flat_map (λ e. tasks_for is_of (tasks_of aliases e.0 e.1)) es)
   in_mailings is_of [] h = tt
   in_mailings is_of (e ∷ es) h =
-      append_each (IsInMailing aliases mailings) (tasks_for is_of (tasks_of aliases e.0 e.1)) (flat_map (λ e. tasks_for is_of (tasks_of aliases e.0 e.1)) es)
+      append_each (IsInMailing aliases readings) (tasks_for is_of (tasks_of aliases e.0 e.1)) (flat_map (λ e. tasks_for is_of (tasks_of aliases e.0 e.1)) es)
       (in_mailing _ e.0 e.1 h.0 0 e.1.entries (λ j x is. let at : j ≡ 0 + j = omega arith in subst (λ n. slice_get e.1.entries n ≡ Some x) at is)) (in_mailings is_of es h.1)
 
 pub orders_are_in_mailings : OrdersAreInMailings
-orders_are_in_mailings is_of a aliases mailings =
-    let P = IsInMailing aliases mailings in
-    let ts = flat_map (λ e. tasks_for is_of (tasks_of aliases e.0 e.1)) (entries mailings) in
+orders_are_in_mailings is_of a aliases readings =
+    let P = IsInMailing aliases readings in
+    let ts = flat_map (λ e. tasks_for is_of (tasks_of aliases e.0 e.1)) (entries readings) in
     let es = map (λ t. (key_of a t, t)) ts in
     All-from_recursion P _ (unkeyed_values (slice_cmp nat_cmp) P (entries (from_entries es))
     (values-listed (slice_cmp nat_cmp) P nat_list_cmp_total es (keyed_values (slice_cmp nat_cmp) P (key_of a) ts
-    (in_mailings aliases mailings is_of (entries mailings) (each-from_every (λ f m. get mailings f ≡ Some m) mailings (λ f m is. is))))))
+    (in_mailings aliases readings is_of (entries readings) (each-from_every (λ f r. get readings f ≡ Some r) readings (λ f r is. is))))))

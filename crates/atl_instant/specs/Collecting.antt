@@ -6,6 +6,7 @@ use Rattle.std.specs.List.Sorted.{IsStrictlySortedBy}
 use Rattle.std.specs.FinMap.{FinMap, get}
 use Rattle.atl_orders.specs.declared.mailing.Mailing.{Mailing}
 use Rattle.atl_orders.specs.declared.verb.Verb.{Verb}
+use Rattle.atl_orders.specs.Mailing.{Reading}
 use Rattle.atl_instant.specs.declared.standing.Slot.{Slot}
 use Rattle.atl_instant.specs.declared.standing.Slot.TheVariants.{MonthLong, Taxing, Recruiting}
 use Rattle.atl_instant.specs.declared.standing.LastLines.{LastLines}
@@ -37,8 +38,8 @@ stands_by lines unit line None = true
 stands_by lines unit line (Some slot) = line == line_under (lines_in lines slot) unit
 
 -- the orders of all mailings for a phase
-abbrev pub all_tasks : (Verb → Bool) → Aliases → List Mailing → List Task
-all_tasks is_of aliases mailings = flat_map (λ m. tasks_for is_of (tasks_of aliases m.faction m)) mailings
+abbrev pub all_tasks : (Verb → Bool) → Aliases → List Reading → List Task
+all_tasks is_of aliases readings = flat_map (λ r. tasks_for is_of (tasks_of aliases r.faction r)) readings
 
 abbrev pub key_by : Arrangement → Written → List ℕ
 key_by ByUnit w = w.unit ∷ w.line ∷ w.faction ∷ w.place ∷ []

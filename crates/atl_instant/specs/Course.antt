@@ -1,13 +1,22 @@
 -- What contracts see of a month.
-use Rattle.std.specs.Prelude.{◌≡◌, ℕ, List, map, refl, Option, Some, None}
+use Rattle.std.specs.Prelude.{◌≡◌, ℕ, List, map, refl, Option, Some, None, option_map}
+use Rattle.std.specs.Borrow.{Bor, u8}
 use Rattle.std.specs.Ordering.{nat_cmp, eq_by_cmp}
 use Rattle.std.specs.List.{IsDistinct, slice_get}
 use Rattle.std.specs.List.Sorted.{IsPermutation}
 use Rattle.std.specs.Coded.{Coded, code_by, coded×, coded_ℕ, coded_list}
 use Rattle.std.specs.FinMap.{FinMap, code, empty, from_entries, get, insert}
-use Rattle.atl_orders.specs.declared.mailing.Entry.{Entry}
+use Rattle.atl_tables.specs.contracts.sequence.Sequence as sequence
 use Rattle.atl_orders.specs.declared.mailing.Mailing.{Mailing}
-use Rattle.atl_orders.specs.contracts.mailing.Mailing as mailing
+use Rattle.atl_orders.specs.declared.fault.FaultyLine.{FaultyLine}
+use Rattle.atl_orders.specs.declared.order.Order.{Order}
+use Rattle.atl_orders.specs.declared.order.Span.{Span}
+use Rattle.atl_orders.specs.declared.order.UnitRef.{UnitRef}
+use Rattle.atl_orders.specs.contracts.fault.FaultyLine as faulty
+use Rattle.atl_orders.specs.contracts.order.Order as order
+use Rattle.atl_orders.specs.contracts.order.UnitRef as target
+use Rattle.atl_orders.specs.Mailing.{EntrySaid, Reading, reading_of}
+use Rattle.atl_orders.specs.Orders.{Said, said}
 use Rattle.atl_state.specs.declared.event.Event.{Event}
 use Rattle.atl_state.specs.contracts.event.Event as event
 
@@ -15,20 +24,42 @@ use Rattle.atl_state.specs.contracts.event.Event as event
 abbrev pub Aliases : Type 0
 Aliases = FinMap nat_cmp (FinMap nat_cmp ℕ)
 
--- The mailings by faction, the units that FORM made, the words of the dice, and the events so far.
+-- What was read, by faction, the units that FORM made, the words of the dice, and the events so far.
 pub record Course : Type 0 where
-  pub mailings : FinMap nat_cmp Mailing
+  pub readings : FinMap nat_cmp Reading
   pub aliases : Aliases
   pub words : List ℕ
   pub events : List Event
 
+-- ---- how the logic stores it
+
+-- an order whose name is a text
+abbrev pub said_code : Coded Said
+said_code = (order.the_row (sequence.the_row u8)).coded
+
+abbrev pub entry_code : Coded EntrySaid
+entry_code =
+    code_by (ℕ × (UnitRef × Said)) (coded× coded_ℕ (coded× target.the_row.coded said_code))
+    (λ e. (e.line, (e.target, e.said)))
+    (λ p. record { line = p.0; target = p.1.0; said = p.1.1 })
+    (λ _. refl)
+
+abbrev pub reading_code : Coded Reading
+reading_code =
+    code_by (ℕ × (List EntrySaid × List FaultyLine)) (coded× coded_ℕ (coded× (coded_list entry_code) (coded_list faulty.the_row.coded)))
+    (λ r. (r.faction, (r.entries, r.faults)))
+    (λ p. record { faction = p.0; entries = p.1.0; faults = p.1.1 })
+    (λ _. refl)
+
 abbrev pub course_code : Coded Course
 course_code =
-    code_by (FinMap nat_cmp Mailing × (Aliases × (List ℕ × List Event)))
-    (coded× (code coded_ℕ mailing.the_row.coded) (coded× (code coded_ℕ (code coded_ℕ coded_ℕ)) (coded× (coded_list coded_ℕ) (coded_list event.the_row.coded))))
-    (λ c. (c.mailings, (c.aliases, (c.words, c.events))))
-    (λ p. record { mailings = p.0; aliases = p.1.0; words = p.1.1.0; events = p.1.1.1 })
+    code_by (FinMap nat_cmp Reading × (Aliases × (List ℕ × List Event)))
+    (coded× (code coded_ℕ reading_code) (coded× (code coded_ℕ (code coded_ℕ coded_ℕ)) (coded× (coded_list coded_ℕ) (coded_list event.the_row.coded))))
+    (λ c. (c.readings, (c.aliases, (c.words, c.events))))
+    (λ p. record { readings = p.0; aliases = p.1.0; words = p.1.1.0; events = p.1.1.1 })
     (λ _. refl)
+
+-- ---- aliases
 
 -- the unit that a faction's FORM made under an alias
 abbrev pub alias_in : ℕ → Option (FinMap nat_cmp ℕ) → Option ℕ
@@ -52,18 +83,24 @@ with_alias aliases faction alias unit = insert aliases faction (insert (units_un
 abbrev pub HaveOwnFactions : List Mailing → Type 0
 HaveOwnFactions mailings = IsDistinct (eq_by_cmp nat_cmp) (map (λ m. m.faction) mailings)
 
--- the mailings, by their factions
-abbrev pub by_faction : List Mailing → FinMap nat_cmp Mailing
-by_faction mailings = from_entries (map (λ m. (m.faction, m)) mailings)
+-- readings by their factions
+abbrev pub by_faction : List Reading → FinMap nat_cmp Reading
+by_faction readings = from_entries (map (λ r. (r.faction, r)) readings)
 
 -- in which order mailings come isn't seen
 abbrev pub HaveNoOrder : Type 0
-HaveNoOrder = (mailings others : List Mailing) → HaveOwnFactions mailings → IsPermutation mailings others → by_faction mailings ≡ by_faction others
+HaveNoOrder =
+    (mailings others : List Mailing) → HaveOwnFactions mailings → IsPermutation mailings others →
+    by_faction (map reading_of mailings) ≡ by_faction (map reading_of others)
 
--- the order that stands at a place of a faction's mailing, from 0 on
-abbrev pub entry_in : ℕ → Option Mailing → Option Entry
-entry_in place None = None
-entry_in place (Some m) = slice_get m.entries place
+-- what is said at a place of a faction's mailing, from 0 on
+abbrev pub order_in : ℕ → Option Reading → Option Said
+order_in place None = None
+order_in place (Some r) = option_map (λ e. e.said) (slice_get r.entries place)
 
-abbrev pub entry_at : FinMap nat_cmp Mailing → ℕ → ℕ → Option Entry
-entry_at mailings faction place = entry_in place (get mailings faction)
+abbrev pub order_at : FinMap nat_cmp Reading → ℕ → ℕ → Option Said
+order_at readings faction place = order_in place (get readings faction)
+
+-- what an order of the code says, by the text of its mailing
+abbrev pub said_of : Bor Mailing × Bor (Order Span) → Said
+said_of p = said p.0.now.text p.1.now

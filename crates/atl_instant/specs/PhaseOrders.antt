@@ -4,13 +4,12 @@ use Rattle.std.specs.List.{All, flat_map, slice_get}
 use Rattle.std.specs.Ordering.{nat_cmp}
 use Rattle.std.specs.Cmp.Lexicographic.{slice_cmp}
 use Rattle.std.specs.FinMap.{FinMap, entries, from_entries, get, values}
-use Rattle.atl_orders.specs.declared.mailing.Entry.{Entry}
-use Rattle.atl_orders.specs.declared.mailing.Mailing.{Mailing}
 use Rattle.atl_orders.specs.declared.order.UnitRef.{UnitRef}
 use Rattle.atl_orders.specs.declared.order.UnitRef.TheVariants.{Number, Alias}
 use Rattle.atl_orders.specs.declared.verb.Verb.{Verb}
 use Rattle.atl_orders.specs.declared.verb.Verb.TheVariants as verbs
-use Rattle.atl_orders.specs.Orders.{Said, said, verb_of_order}
+use Rattle.atl_orders.specs.Mailing.{EntrySaid, Reading}
+use Rattle.atl_orders.specs.Orders.{Said, verb_of_order}
 use Rattle.atl_instant.specs.Course.{Aliases, alias_unit}
 use Rattle.atl_instant.specs.declared.standing.Slot.{Slot}
 use Rattle.atl_instant.specs.declared.standing.Slot.TheVariants.{MonthLong, Taxing, Recruiting}
@@ -33,15 +32,15 @@ abbrev pub unit_of : Aliases → ℕ → UnitRef → ℕ
 unit_of aliases faction (Number n) = n
 unit_of aliases faction (Alias alias) = unwrap_or (alias_unit aliases faction alias) 0
 
-abbrev pub tasks_from : Aliases → ℕ → List ℕ → ℕ → List Entry → List Task
-tasks_from aliases faction text place [] = []
-tasks_from aliases faction text place (e ∷ es) =
-    record { faction = faction; unit = unit_of aliases faction e.target; line = e.line; place = place; said = said text e.order }
-    ∷ tasks_from aliases faction text (place + 1) es
+abbrev pub tasks_from : Aliases → ℕ → ℕ → List EntrySaid → List Task
+tasks_from aliases faction place [] = []
+tasks_from aliases faction place (e ∷ es) =
+    record { faction = faction; unit = unit_of aliases faction e.target; line = e.line; place = place; said = e.said }
+    ∷ tasks_from aliases faction (place + 1) es
 
 -- the orders of a faction's mailing
-abbrev pub tasks_of : Aliases → ℕ → Mailing → List Task
-tasks_of aliases faction m = tasks_from aliases faction m.text 0 m.entries
+abbrev pub tasks_of : Aliases → ℕ → Reading → List Task
+tasks_of aliases faction r = tasks_from aliases faction 0 r.entries
 
 -- ---- the orders that stand
 
@@ -73,6 +72,10 @@ is_slot Taxing (Some Taxing) = true
 is_slot Recruiting (Some Recruiting) = true
 is_slot slot other = false
 
+-- the verbs that take the whole month
+abbrev pub is_month_long : Verb → Bool
+is_month_long verb = is_slot MonthLong (slot_of verb)
+
 -- the greatest line of the orders in a slot of a unit; 0 where there is none
 abbrev pub last_line : Slot → ℕ → List Task → ℕ
 last_line slot unit [] = 0
@@ -99,9 +102,9 @@ key_of ByUnit t = t.unit ∷ t.line ∷ t.faction ∷ t.place ∷ []
 key_of ByFaction t = t.faction ∷ t.line ∷ t.unit ∷ t.place ∷ []
 
 -- The orders of all mailings for a phase, in the order of their keys.
-abbrev pub orders_of : (Verb → Bool) → Arrangement → Aliases → FinMap nat_cmp Mailing → FinMap (slice_cmp nat_cmp) Task
-orders_of is_of arrangement aliases mailings =
-    from_entries (map (λ t. (key_of arrangement t, t)) (flat_map (λ e. tasks_for is_of (tasks_of aliases e.0 e.1)) (entries mailings)))
+abbrev pub orders_of : (Verb → Bool) → Arrangement → Aliases → FinMap nat_cmp Reading → FinMap (slice_cmp nat_cmp) Task
+orders_of is_of arrangement aliases readings =
+    from_entries (map (λ t. (key_of arrangement t, t)) (flat_map (λ e. tasks_for is_of (tasks_of aliases e.0 e.1)) (entries readings)))
 
 -- what the code knows of an order
 abbrev pub written : Task → Written
@@ -110,17 +113,17 @@ written t = record { unit = t.unit; line = t.line; faction = t.faction; verb = v
 -- ---- a law
 
 -- an order that stands in the mailing of its faction, as it is said there
-pub record IsInMailing (aliases : Aliases) (mailings : FinMap nat_cmp Mailing) (t : Task) : Type 0 where
-  pub mailing : Mailing
-  pub entry : Entry
-  pub of_faction : get mailings t.faction ≡ Some mailing
-  pub at_place : slice_get mailing.entries t.place ≡ Some entry
+pub record IsInMailing (aliases : Aliases) (readings : FinMap nat_cmp Reading) (t : Task) : Type 0 where
+  pub reading : Reading
+  pub entry : EntrySaid
+  pub of_faction : get readings t.faction ≡ Some reading
+  pub at_place : slice_get reading.entries t.place ≡ Some entry
   pub for_unit : unit_of aliases t.faction entry.target ≡ t.unit
   pub on_line : entry.line ≡ t.line
-  pub says : said mailing.text entry.order ≡ t.said
+  pub says : entry.said ≡ t.said
 
 -- each order of a phase does
 abbrev pub OrdersAreInMailings : Type 0
 OrdersAreInMailings =
-    (is_of : Verb → Bool) (arrangement : Arrangement) (aliases : Aliases) (mailings : FinMap nat_cmp Mailing) →
-    All (IsInMailing aliases mailings) (values (orders_of is_of arrangement aliases mailings))
+    (is_of : Verb → Bool) (arrangement : Arrangement) (aliases : Aliases) (readings : FinMap nat_cmp Reading) →
+    All (IsInMailing aliases readings) (values (orders_of is_of arrangement aliases readings))

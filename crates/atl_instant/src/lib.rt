@@ -8,6 +8,6 @@ mod standing;
 mod written;
 
 pub use month::{Month, mailings_have_no_order};
-pub use orders::{PhaseVerbs, orders_are_in_mailings};
+pub use orders::{MonthLongVerbs, PhaseVerbs, orders_are_in_mailings};
 pub use phase::Phase;
 pub use written::{Arrangement, Written};

@@ -1,13 +1,14 @@
 //! What a month carries from phase to phase.
-ghost use Rattle.std.specs.Prelude.{◌≡◌, ◌++◌, ◌∷◌, [], IfOk, OnOk, OnErr, map, option_copied};
+ghost use Rattle.std.specs.Prelude.{◌≡◌, ◌++◌, ◌∷◌, [], IfOk, OnOk, OnErr, map, option_copied, option_map};
 ghost use Rattle.std.specs.FinMap.{empty, get, values};
-ghost use Rattle.atl_instant.specs.Course.{HaveOwnFactions, HaveNoOrder, alias_unit, by_faction, entry_at, with_alias};
+ghost use Rattle.atl_orders.specs.Mailing.{reading_of};
+ghost use Rattle.atl_instant.specs.Course.{HaveOwnFactions, HaveNoOrder, alias_unit, by_faction, order_at, said_of, with_alias};
 ghost use Rattle.atl_instant.specs.PhaseOrders.{orders_of, written};
 ghost use Rattle.atl_instant.specs.Collecting.{AreByFaction};
 
 use crate::orders::{PhaseVerbs, orders_of};
 use crate::written::{Arrangement, Written};
-use atl_orders::{Entry, Mailing};
+use atl_orders::{Mailing, Order};
 use atl_state::Event;
 use atl_tables::Numbered;
 use std::alloc::{AllocError, Global};
@@ -36,6 +37,8 @@ impl Drop for Month {
 }
 
 impl Model for Month {
+    ghost use Rattle.std.specs.Prelude.{map};
+    ghost use Rattle.atl_orders.specs.Mailing.{reading_of};
     ghost use Rattle.atl_instant.specs.Course.{Course, course_code, by_faction};
     ghost use Rattle.atl_instant.specs.Collecting.{AreByFaction};
 
@@ -44,7 +47,7 @@ impl Model for Month {
     ghost coded = { course_code };
 
     ghost view = { λ a. record {
-      mailings = by_faction a.mailings.items;
+      readings = by_faction (map reading_of a.mailings.items);
       aliases = a.aliases;
       words = a.words.items;
       events = a.events.items;
@@ -57,7 +60,7 @@ impl Month {
     /// A month with these mailings, no two of one faction, and these words, before its first phase. It takes no memory.
     pub fn new(alloc: Global, mut mailings: Vec<Mailing>, words: Vec<u32>) -> Month
         requires { HaveOwnFactions mailings.items }
-        ensures { result ≡ record { mailings = by_faction mailings.items; aliases = empty; words = words.items; events = [] } }
+        ensures { result ≡ record { readings = by_faction (map reading_of mailings.items); aliases = empty; words = words.items; events = [] } }
     {
         sort(&mut mailings);
         Month {
@@ -126,19 +129,25 @@ impl Month {
         phase: &P,
         arrangement: Arrangement,
     ) -> Result<Vec<Written>, AllocError>
-        ensures { IfOk result (λ list. list.items ≡ map written (values (orders_of P.is_of arrangement self.now.aliases self.now.mailings))) }
+        ensures { IfOk result (λ list. list.items ≡ map written (values (orders_of P.is_of arrangement self.now.aliases self.now.readings))) }
     {
         orders_of(alloc, phase, arrangement, &self.aliases, &self.mailings)
     }
 
-    /// The order at a place of a faction's mailing, from 0 on.
-    pub fn entry(&self, faction: u32, place: usize) -> Option<&Entry>
-        ensures { option_copied result ≡ entry_at self.now.mailings faction place }
+    /// The mailing of a faction.
+    pub fn mailing(&self, faction: u32) -> Option<&Mailing>
+        ensures { option_map reading_of (option_copied result) ≡ get self.now.readings faction }
     {
-        match mailing_of(&self.mailings, faction) {
-            Some(mailing) => mailing.entries.as_slice().get(place),
-            None => None,
-        }
+        mailing_of(&self.mailings, faction)
+    }
+
+    /// The order at a place of a faction's mailing, from 0 on, and the mailing, which has the name that the order gives.
+    pub fn order(&self, faction: u32, place: usize) -> Option<(&Mailing, &Order)>
+        ensures { option_map said_of result ≡ order_at self.now.readings faction place }
+    {
+        let mailing = mailing_of(&self.mailings, faction)?;
+        let entry = mailing.entries.as_slice().get(place)?;
+        Some((mailing, &entry.order))
     }
 
     /// The number of the unit that a faction's FORM made under an alias.
@@ -153,7 +162,7 @@ impl Month {
 fn sort(mailings: &mut Vec<Mailing>)
     requires { HaveOwnFactions mailings.old.items }
     ensures sorted { AreByFaction mailings.new.items }
-    ensures same { by_faction mailings.new.items ≡ by_faction mailings.old.items }
+    ensures same { by_faction (map reading_of mailings.new.items) ≡ by_faction (map reading_of mailings.old.items) }
 {
     mailings.sort_unstable_by_key(|mailing| mailing.faction);
 }
@@ -182,7 +191,7 @@ fn put_alias(
 /// The mailing of a faction, of mailings that are sorted by their factions.
 fn mailing_of(mailings: &[Mailing], faction: u32) -> Option<&Mailing>
     requires { AreByFaction mailings.now }
-    ensures { option_copied result ≡ get (by_faction mailings.now) faction }
+    ensures { option_map reading_of (option_copied result) ≡ get (by_faction (map reading_of mailings.now)) faction }
 {
     match mailings.binary_search_by_key(&faction, |mailing| mailing.faction) {
         Ok(place) => Some(&mailings[place]),

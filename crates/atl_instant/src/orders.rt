@@ -5,11 +5,12 @@ ghost use Rattle.std.specs.List.Sorted.{IsPermutation, IsSortedByKey};
 ghost use Rattle.std.specs.Cmp.Lexicographic.{slice_cmp};
 ghost use Rattle.std.specs.Ordering.{nat_cmp};
 ghost use Rattle.atl_orders.specs.declared.verb.Verb.{Verb};
+ghost use Rattle.atl_orders.specs.Mailing.{reading_of};
 ghost use Rattle.atl_instant.specs.Course.{by_faction};
-ghost use Rattle.atl_instant.specs.PhaseOrders.{OrdersAreInMailings, tasks_of, tasks_for, orders_of, written};
+ghost use Rattle.atl_instant.specs.PhaseOrders.{OrdersAreInMailings, is_month_long, tasks_of, tasks_for, orders_of, written};
 ghost use Rattle.atl_instant.specs.Collecting.{AreByFaction, AreLastLines, all_tasks, key_by};
 
-use crate::standing::{LastLines, slot_of, unit_of};
+use crate::standing::{LastLines, Slot, is_slot, slot_of, unit_of};
 use crate::written::{Arrangement, Written};
 use atl_orders::{Mailing, Verb};
 use atl_tables::Numbered;
@@ -25,6 +26,18 @@ pub trait PhaseVerbs {
         ensures { result ≡ is_of verb };
 }
 
+/// The verbs that take the whole month. With these a month has one order for each unit to which a mailing gives such an
+/// order: the one that stands.
+pub struct MonthLongVerbs;
+
+impl PhaseVerbs for MonthLongVerbs {
+    ghost is_of = { is_month_long };
+
+    fn has(&self, verb: Verb) -> bool {
+        is_slot(Slot::MonthLong, slot_of(verb))
+    }
+}
+
 /// Puts the orders of a mailing that stand, and are of a phase, behind others.
 fn collect_standing<P: PhaseVerbs>(
     phase: &P,
@@ -33,8 +46,8 @@ fn collect_standing<P: PhaseVerbs>(
     lines: &LastLines,
     list: &mut Vec<Written>,
 ) -> Result<(), AllocError>
-    requires { AreLastLines (tasks_of aliases.now mailing.now.faction mailing.now) lines.now }
-    ensures { OnOk result (list.new.items ≡ list.old.items ++ map written (tasks_for P.is_of (tasks_of aliases.now mailing.now.faction mailing.now))) }
+    requires { AreLastLines (tasks_of aliases.now mailing.now.faction (reading_of mailing.now)) lines.now }
+    ensures { OnOk result (list.new.items ≡ list.old.items ++ map written (tasks_for P.is_of (tasks_of aliases.now mailing.now.faction (reading_of mailing.now)))) }
 {
     let entries = mailing.entries.as_slice();
     for place in 0..entries.len() {
@@ -62,7 +75,7 @@ fn collect_mailing<P: PhaseVerbs>(
     mailing: &Mailing,
     list: &mut Vec<Written>,
 ) -> Result<(), AllocError>
-    ensures { OnOk result (list.new.items ≡ list.old.items ++ map written (tasks_for P.is_of (tasks_of aliases.now mailing.now.faction mailing.now))) }
+    ensures { OnOk result (list.new.items ≡ list.old.items ++ map written (tasks_for P.is_of (tasks_of aliases.now mailing.now.faction (reading_of mailing.now)))) }
 {
     let lines = LastLines::of(alloc, aliases, mailing)?;
     collect_standing(phase, aliases, mailing, &lines, list)
@@ -75,7 +88,7 @@ fn collected<P: PhaseVerbs>(
     aliases: &Numbered<Numbered<u32>>,
     mailings: &[Mailing],
 ) -> Result<Vec<Written>, AllocError>
-    ensures { IfOk result (λ list. list.items ≡ map written (all_tasks P.is_of aliases.now mailings.now)) }
+    ensures { IfOk result (λ list. list.items ≡ map written (all_tasks P.is_of aliases.now (map reading_of mailings.now))) }
 {
     let mut list = Vec::new(alloc);
     for mailing in mailings {
@@ -94,7 +107,7 @@ pub(crate) fn orders_of<P: PhaseVerbs>(
     mailings: &[Mailing],
 ) -> Result<Vec<Written>, AllocError>
     requires { AreByFaction mailings.now }
-    ensures { IfOk result (λ list. list.items ≡ map written (values (orders_of P.is_of arrangement aliases.now (by_faction mailings.now)))) }
+    ensures { IfOk result (λ list. list.items ≡ map written (values (orders_of P.is_of arrangement aliases.now (by_faction (map reading_of mailings.now))))) }
 {
     let mut list = collected(alloc, phase, aliases, mailings)?;
     sort(&mut list, arrangement);

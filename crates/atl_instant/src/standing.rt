@@ -1,6 +1,7 @@
 //! Which orders of a mailing stand.
 ghost use Rattle.std.specs.Prelude.{◌≡◌, ℕ, IfOk, OnOk, max};
 ghost use Rattle.std.specs.FinMap as map;
+ghost use Rattle.atl_orders.specs.Mailing.{reading_of};
 ghost use Rattle.atl_instant.specs.Course.{alias_unit};
 ghost use Rattle.atl_instant.specs.PhaseOrders.{unit_of, slot_of, is_slot, last_line, tasks_of};
 ghost use Rattle.atl_instant.specs.Collecting.{AreLastLines, line_under, lines_in, stands_by};
@@ -46,7 +47,8 @@ pub(crate) fn slot_of(verb: Verb) -> Option<Slot>
     }
 }
 
-fn is_slot(slot: Slot, other: Option<Slot>) -> bool
+/// Whether a slot is the other.
+pub(crate) fn is_slot(slot: Slot, other: Option<Slot>) -> bool
     ensures { result ≡ is_slot slot other }
 {
     match (slot, other) {
@@ -92,7 +94,7 @@ fn last_lines(
     aliases: &Numbered<Numbered<u32>>,
     mailing: &Mailing,
 ) -> Result<Numbered<u32>, AllocError>
-    ensures { IfOk result (λ lines. (unit : ℕ) → line_under lines unit ≡ last_line slot unit (tasks_of aliases.now mailing.now.faction mailing.now)) }
+    ensures { IfOk result (λ lines. (unit : ℕ) → line_under lines unit ≡ last_line slot unit (tasks_of aliases.now mailing.now.faction (reading_of mailing.now))) }
 {
     let mut lines = Numbered::new(alloc);
     for entry in mailing.entries.as_slice() {
@@ -127,7 +129,7 @@ impl LastLines {
         aliases: &Numbered<Numbered<u32>>,
         mailing: &Mailing,
     ) -> Result<LastLines, AllocError>
-        ensures { IfOk result (AreLastLines (tasks_of aliases.now mailing.now.faction mailing.now)) }
+        ensures { IfOk result (AreLastLines (tasks_of aliases.now mailing.now.faction (reading_of mailing.now))) }
     {
         let month_long = last_lines(alloc, Slot::MonthLong, aliases, mailing)?;
         let taxing = last_lines(alloc, Slot::Taxing, aliases, mailing)?;

@@ -180,7 +180,7 @@ module _ (m : ℕ) (all before : List Purse) (p : Purse) (accounts : AccountMap)
       (ap (λ n. starved_of m (short_of m p - n)) (is_dealt (short_among m p.region p.faction before) (short_of m p) amount))
     where
       settled : (paid starved : ℕ) → Settled
-      settled paid starved = record { paid = paid; starved = starved }
+      settled paid starved = record { unit = p.unit; faction = p.faction; paid = paid; starved = starved }
 
       same_settled : (a b c d : ℕ) → a ≡ c → b ≡ d → settled a b ≡ settled c d
       same_settled a b c d x y = rw (x, y) refl

@@ -43,6 +43,8 @@ counted maintenance purse a = record a { left = a.left + left_of maintenance pur
 -- a unit that is settled out of its account
 abbrev pub settled_by : ℕ → Account → Purse → Settled
 settled_by maintenance a purse = record {
+  unit = purse.unit;
+  faction = purse.faction;
   paid = paid_by maintenance purse + min (to_give a - a.given) (left_of maintenance purse);
   starved = starved_of maintenance (short_of maintenance purse - min (to_give a - a.covered) (short_of maintenance purse));
 }

@@ -2,4 +2,5 @@ pub mod Season
 pub mod Swept
 pub mod Settling
 pub mod Accounts
+pub mod Upkeep
 pub mod Month

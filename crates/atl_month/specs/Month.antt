@@ -1,16 +1,12 @@
 -- A month: its phases, one after the other. See docs/RULES.md, "Closing a month".
-use Rattle.std.specs.Prelude.{ℕ, ◌+◌, List, [], map}
+use Rattle.std.specs.Prelude.{ℕ, ◌+◌, List, []}
 use Rattle.std.specs.Ordering.{nat_cmp}
-use Rattle.std.specs.FinMap.{FinMap, from_entries}
+use Rattle.std.specs.FinMap.{FinMap}
 use Rattle.atl_tables.specs.Planet.{Planet}
 use Rattle.atl_orders.specs.Mailing.{Reading}
 use Rattle.atl_state.specs.declared.event.Event.{Event}
 use Rattle.atl_state.specs.State.{State, with_month, without_mail}
 use Rattle.atl_month.specs.Season.{season}
-
--- readings by their factions
-abbrev pub by_faction : List Reading → FinMap nat_cmp Reading
-by_faction readings = from_entries (map (λ r. (r.faction, r)) readings)
 
 -- the campaign behind the phases of a month, and what came of the orders
 unfoldable pub month_of : Planet → State → FinMap nat_cmp Reading → List ℕ → State × List Event

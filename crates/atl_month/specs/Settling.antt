@@ -56,6 +56,8 @@ settled_one maintenance all before purse =
     let left = left_of maintenance purse in
     let short = short_of maintenance purse in
     record {
+      unit = purse.unit;
+      faction = purse.faction;
       paid = paid_by maintenance purse + dealt given (left_among maintenance purse.region purse.faction before) left;
       starved = starved_of maintenance (short - dealt given (short_among maintenance purse.region purse.faction before) short);
     }

@@ -5,8 +5,8 @@ ghost use Rattle.atl_orders.specs.Mailing.{IsReadWith, reading_of};
 ghost use Rattle.atl_state.specs.Covers.{MarksChanges};
 ghost use Rattle.atl_state.specs.Good.{IsGood};
 ghost use Rattle.atl_state.specs.Limits.{last_month};
-ghost use Rattle.atl_instant.specs.Course.{HaveOwnFactions};
-ghost use Rattle.atl_month.specs.Month.{by_faction, finished, month_of};
+ghost use Rattle.atl_instant.specs.Course.{HaveOwnFactions, by_faction};
+ghost use Rattle.atl_month.specs.Month.{finished, month_of};
 
 use atl_orders::Mailing;
 use atl_state::{Campaign, Event};

@@ -5,7 +5,9 @@ mod accounts;
 pub mod close;
 pub mod season;
 pub mod settling;
+pub mod upkeep;
 
 pub use close::close_month;
 pub use season::SeasonPhase;
 pub use settling::{Purse, Settled, settle};
+pub use upkeep::UpkeepPhase;

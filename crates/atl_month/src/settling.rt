@@ -8,18 +8,22 @@ use crate::accounts::{Account, Accounts, account_of, put_account};
 use atl_tables::Numbered;
 use std::alloc::{AllocError, Global};
 
-/// What upkeep sees of a unit: the numbers of its region and of its faction, its men and its money.
+/// What upkeep sees of a unit: its number, the numbers of its region and of its faction, its men and its money.
 #[derive(Drop, Clone, Copy, Debug, PartialEq, Eq)]
 pub struct Purse {
+    pub unit: u32,
     pub region: u32,
     pub faction: u32,
     pub men: u32,
     pub money: u32,
 }
 
-/// What upkeep takes from a unit: the money that it pays, for itself and for others, and how many of its men starve.
+/// What upkeep takes from a unit: its number and that of its faction, the money that it pays, for itself and for others, and how
+/// many of its men starve.
 #[derive(Drop, Clone, Copy, Debug, PartialEq, Eq)]
 pub struct Settled {
+    pub unit: u32,
+    pub faction: u32,
     pub paid: u32,
     pub starved: u32,
 }
@@ -71,6 +75,8 @@ fn settle_one(maintenance: u32, account: &mut Account, purse: &Purse) -> Settled
     let maintenance = u64::from(maintenance);
     let short = short - covered as u64;
     Settled {
+        unit: purse.unit,
+        faction: purse.faction,
         paid: (own + given as u64) as u32,
         starved: ((short + (maintenance - 1)) / maintenance) as u32,
     }

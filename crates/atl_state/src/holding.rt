@@ -195,4 +195,12 @@ impl Holding {
     {
         self.guard = guard;
     }
+
+    /// Puts other days of study in the place of all that there are: of each skill over all men, where they are not 0. It takes
+    /// no memory.
+    pub fn set_all_days(&mut self, days: Numbered<u32>)
+        ensures { self.new ≡ record self.old { days = days } }
+    {
+        self.days = days;
+    }
 }

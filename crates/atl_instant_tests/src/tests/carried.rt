@@ -1,7 +1,9 @@
 //! Which orders phases have, and in which order, by hand.
 use super::months::{month, world};
 use super::phases::{Forming, Giving, Recruiting, Studying, Working};
-use atl_instant::{Arrangement, Month, PhaseVerbs, mailings_have_no_order, orders_are_in_mailings};
+use atl_instant::{
+    Arrangement, Month, MonthLongVerbs, PhaseVerbs, mailings_have_no_order, orders_are_in_mailings,
+};
 use atl_orders::Verb;
 use atl_state::{Event, EventVerb, Outcome};
 use atl_tables::World;
@@ -137,6 +139,43 @@ fn formed(alloc: Global, world: &World) -> Result<Month, Fail> {
     Ok(month)
 }
 
+/// The month-long orders that stand.
+fn month_long_are(
+    rt: &impl Abort,
+    alloc: Global,
+    world: &World,
+    texts: &[&str],
+    wanted: &str,
+) -> Result<(), Fail> {
+    let month = month(alloc, world, texts)?;
+    let mut told = String::new(alloc);
+    tell(
+        alloc,
+        &month,
+        &MonthLongVerbs,
+        Arrangement::ByUnit,
+        &mut told,
+    )?;
+    row_is(rt, wanted, told.as_str(), wanted);
+    Ok(())
+}
+
+#[test]
+fn month_long_orders(rt: HostRuntime) -> Result<(), Fail> {
+    let world = world(rt.alloc())?;
+    let first =
+        "#ATLANTIS 1\nUNIT 2\nWORK\nTAX\nMOVE north\nUNIT 1\nSTUDY sailing\nBUILD\nGIVE 2 1 wood";
+    let second =
+        "#ATLANTIS 2\nUNIT 2\nSAIL east\nUNIT 3\nTEACH 1\nUNIT 4\nPRODUCE wood\nUNIT 5\nTAX";
+    month_long_are(
+        &rt,
+        rt.alloc(),
+        &world,
+        &[second, first],
+        "1 8 1 BUILD;2 3 2 SAIL;2 5 1 MOVE;3 5 2 TEACH;4 7 2 PRODUCE;|",
+    )
+}
+
 fn aliases_are(rt: &impl Abort, month: &Month) {
     assert!(rt; month.alias(1, 1) == Some(7));
     assert!(rt; month.alias(1, 2).is_none());
@@ -171,12 +210,29 @@ const EVENT: Event = Event {
     outcome: Outcome::Done(7),
 };
 
-/// The orders that stand at places, as far as there are any.
-fn entries_are(rt: &impl Abort, month: &Month) {
-    assert!(rt; month.entry(1, 1).map(|entry| entry.line) == Some(4));
-    assert!(rt; month.entry(2, 3).map(|entry| entry.line) == Some(7));
-    assert!(rt; month.entry(2, 4).is_none());
-    assert!(rt; month.entry(3, 0).is_none());
+fn is_verb(rt: &impl Abort, told: Option<Verb>, wanted: Option<Verb>) {
+    assert!(rt; told == wanted);
+}
+
+/// The verb of the order at a place of a faction's mailing.
+fn verb_at(month: &Month, faction: u32, place: usize) -> Option<Verb> {
+    let (_, order) = month.order(faction, place)?;
+    Some(order.verb())
+}
+
+/// The orders at places, as far as there are any, and the mailings.
+fn orders_are(rt: &impl Abort, month: &Month) {
+    is_verb(rt, verb_at(month, 1, 1), Some(Verb::Work));
+    is_verb(rt, verb_at(month, 2, 1), Some(Verb::Study));
+    is_verb(rt, verb_at(month, 2, 4), None);
+    is_verb(rt, verb_at(month, 3, 0), None);
+    assert!(rt;
+        month
+            .mailing(2)
+            .map(|mailing| mailing.entries.as_slice().len())
+            == Some(4)
+    );
+    assert!(rt; month.mailing(3).is_none());
 }
 
 fn events_are(rt: &impl Abort, mut month: Month) -> Result<(), Fail> {
@@ -190,11 +246,11 @@ fn events_are(rt: &impl Abort, mut month: Month) -> Result<(), Fail> {
 }
 
 #[test]
-fn entries_and_events(rt: HostRuntime) -> Result<(), Fail> {
+fn orders_and_events(rt: HostRuntime) -> Result<(), Fail> {
     mailings_have_no_order();
     orders_are_in_mailings();
     let world = world(rt.alloc())?;
     let month = formed(rt.alloc(), &world)?;
-    entries_are(&rt, &month);
+    orders_are(&rt, &month);
     events_are(&rt, month)
 }

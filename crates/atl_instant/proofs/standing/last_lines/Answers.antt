@@ -1,5 +1,6 @@
-use Rattle.std.proofs.Common.{◌≡◌, ◌+◌, ◌<◌, max, sym, ap, ◌∙◌, rules, length, drop, get_or}
+use Rattle.std.proofs.Common.{◌≡◌, ◌+◌, ◌<◌, max, sym, ap, ◌∙◌, rules, length, drop, map, get_or}
 use Rattle.std.specs.FinMap.{insert}
+use Rattle.atl_orders.specs.Mailing.{entry_said}
 use Rattle.atl_orders.specs.Orders.{verb_of_order}
 use Rattle.atl_instant.specs.PhaseOrders.{is_slot, slot_of, last_line, tasks_from}
 use Rattle.atl_instant.specs.Collecting.{line_under}
@@ -18,7 +19,7 @@ loop-entry-preserved c unit =
     let inside : i < length m.entries = search rules in
     let at : e ≡ get_or m.entries i e = c.entry-item.is ∙ ap (λ es. get_or es i e) c.as_slice-entry-items.ensures in
     let flag : c.is_slot.result ≡ is_slot c.args.slot (slot_of (verb_of_order e.order)) = c.is_slot.ensures ∙ ap (is_slot c.args.slot) (c.slot_of.ensures ∙ ap slot_of c.verb.ensures) in
-    let rest = last_line c.args.slot unit (tasks_from c.args.aliases.now m.faction m.text (i + 1) (drop (i + 1) m.entries)) in
+    let rest = last_line c.args.slot unit (tasks_from c.args.aliases.now m.faction (i + 1) (map (entry_said m.text) (drop (i + 1) m.entries))) in
     elim c.if-is_slot.branch [
       | then-is_slot+in_ok-note w ↦
           let u = w.unit_of-unit in

@@ -18,7 +18,7 @@ loop-purse-preserved c =
     let m = c.args.maintenance in
     let purses = c.args.purses.now in
     let i = c.loop-purse.purse-index in
-    let p : Purse = get_or purses i (record { region = 0; faction = 0; men = 0; money = 0 }) in
+    let p : Purse = get_or purses i (record { unit = 0; region = 0; faction = 0; men = 0; money = 0 }) in
     let old = c.loop-purse.accounts in
     let old_account = c.account_of-account.result in
     let account : Account = record old_account { left = old_account.left + c.balance-left.result.0; short = old_account.short + c.balance-left.result.1 } in

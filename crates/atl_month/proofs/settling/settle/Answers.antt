@@ -11,7 +11,7 @@ loop-purse-preserved c =
     let m = c.args.maintenance in
     let purses = c.args.purses.now in
     let i = c.loop-purse.purse-index in
-    let p : Purse = get_or purses i (record { region = 0; faction = 0; men = 0; money = 0 }) in
+    let p : Purse = get_or purses i (record { unit = 0; region = 0; faction = 0; men = 0; money = 0 }) in
     let old = c.loop-purse.accounts in
     let account = c.settle_one-settled.new.account in
     let more : take (i + 1) purses ≡ take i purses ++ p ∷ [] = take_more purses i _ c.loop-purse-test.true in

@@ -1,0 +1,94 @@
+-- The upkeep of a month. See docs/RULES.md, "Upkeep".
+use Rattle.std.specs.Prelude.{◌≡◌, ◌≤◌, ℕ, pos, neg_ℤ, ◌-◌, ◌*◌, ◌/◌, ◌==◌, not, ◌++◌, min, Bool, List, map, filter, fold, Option, Some, None, if◌then◌else◌}
+use Rattle.std.specs.Ordering.{nat_cmp}
+use Rattle.std.specs.FinMap.{FinMap, empty, entries, get}
+use Rattle.atl_tables.specs.Planet.{Planet}
+use Rattle.atl_state.specs.declared.books.Entry.TheVariants.{Starved, Upkeep}
+use Rattle.atl_state.specs.declared.books.Thing.TheVariants.{Money, People}
+use Rattle.atl_state.specs.declared.event.Event.{Event}
+use Rattle.atl_state.specs.declared.event.EventVerb.TheVariants as verb
+use Rattle.atl_state.specs.declared.event.Outcome.TheVariants as outcome
+use Rattle.atl_state.specs.declared.records.Unit.{Unit}
+use Rattle.atl_state.specs.Good.{Every}
+use Rattle.atl_state.specs.Held.{Held, with_amount_of}
+use Rattle.atl_state.specs.Lending.{with_held}
+use Rattle.atl_state.specs.State.{State, with_amount}
+use Rattle.atl_instant.specs.Course.{Course}
+use Rattle.atl_instant.specs.Meaning.{Keeping, Moving, both_move, moves_only}
+use Rattle.atl_month.specs.declared.settling.Purse.{Purse}
+use Rattle.atl_month.specs.declared.settling.Settled.{Settled}
+use Rattle.atl_month.specs.Settling.{settled_of}
+
+-- ---- what a unit has to give for it
+
+-- the days of each skill that stay with so many men of these
+abbrev pub days_with : (left men : ℕ) → FinMap nat_cmp ℕ → FinMap nat_cmp ℕ
+days_with left men days = fold (λ kept e. with_amount_of kept e.0 (e.1 * left / men)) empty (entries days)
+
+-- fewer men, with their part of the days
+abbrev pub with_men : ℕ → Held → Held
+with_men left h = if left == h.men then h else record h { men = left; days = days_with left h.men h.days }
+
+abbrev pub money_paid : Settled → Held → ℕ
+money_paid s h = min s.paid h.money
+
+abbrev pub men_starved : Settled → Held → ℕ
+men_starved s h = min s.starved h.men
+
+-- what a unit holds behind it
+abbrev pub supplied : Settled → Held → Held
+supplied s h = record (with_men (h.men - men_starved s h) h) { money = h.money - money_paid s h }
+
+-- the campaign behind the upkeep of a unit, which is booked
+abbrev pub upkeep_in : State → Settled → Option Unit → State
+upkeep_in c s None = c
+upkeep_in c s (Some u) =
+    with_amount (with_amount (with_held c s.unit (supplied s u.holding) (Some u)) Upkeep Money (neg_ℤ (pos (money_paid s u.holding)))) Starved People (neg_ℤ (pos (men_starved s u.holding)))
+
+unfoldable pub upkeep_at : State → Settled → State
+upkeep_at c s = upkeep_in c s (get c.units s.unit)
+
+-- ---- all units
+
+abbrev pub purse_of : ℕ × Unit → Purse
+purse_of (n, u) = record { unit = n; region = u.region; faction = u.faction; men = u.holding.men; money = u.holding.money }
+
+-- what each unit has before it, in the order of their numbers
+abbrev pub purses_of : State → List Purse
+purses_of c = map purse_of (entries c.units)
+
+abbrev pub settlements : Planet → State → List Settled
+settlements w c = settled_of w.rules.maintenance (purses_of c)
+
+abbrev pub upkeep : State → List Settled → State
+upkeep c list = fold upkeep_at c list
+
+-- a unit's report of those who starved
+abbrev pub starves : Settled → Bool
+starves s = not (s.starved == 0)
+
+abbrev pub starved_event : Settled → Event
+starved_event s = record { faction = s.faction; unit = s.unit; line = 0; verb = verb.Upkeep; outcome = outcome.Starved s.starved }
+
+abbrev pub upkeep_meaning : Planet → State → Course → State × Course
+upkeep_meaning w c m = (upkeep c (settlements w c), record m { events = m.events ++ map starved_event (filter starves (settlements w c)) })
+
+-- ---- what it moves, and what it keeps
+
+-- what is paid is money, and those who starve are people, each up to so much
+abbrev pub takes_up_to : ℕ → Moving
+takes_up_to most = both_move (moves_only most Upkeep Money) (moves_only most Starved People)
+
+-- a unit with less money and fewer men, and all else as it was
+pub record IsSuppliedFrom (u v : Unit) : Type 0 where
+  pub faction : v.faction ≡ u.faction
+  pub region : v.region ≡ u.region
+  pub structure : v.structure ≡ u.structure
+  pub name : v.holding.name ≡ u.holding.name
+  pub guard : v.holding.guard ≡ u.holding.guard
+  pub items : v.holding.items ≡ u.holding.items
+  pub men : v.holding.men ≤ u.holding.men
+  pub money : v.holding.money ≤ u.holding.money
+
+abbrev pub upkeep_keeps : Keeping
+upkeep_keeps w m before after = Every (λ n u. (v : Unit) × (get after.units n ≡ Some v) × IsSuppliedFrom u v) before.units

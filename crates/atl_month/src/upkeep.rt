@@ -1,0 +1,171 @@
+//! The upkeep of a month.
+ghost use Rattle.std.specs.Prelude.{◌≡◌, ◌≤◌, ◌++◌, All, IfOk, ℕ, OnOk, Some, filter, length, map};
+ghost use Rattle.std.specs.FinMap as finmap;
+ghost use Rattle.atl_tables.specs.Limits.{most_amount};
+ghost use Rattle.atl_tables.specs.Planet.{IsWorld};
+ghost use Rattle.atl_state.specs.Books.{IsGrid};
+ghost use Rattle.atl_state.specs.Covers.{MarksChanges};
+ghost use Rattle.atl_state.specs.Good.{IsSteady};
+ghost use Rattle.atl_state.specs.Lending.{lent};
+ghost use Rattle.atl_state.specs.declared.records.Unit.{Unit};
+ghost use Rattle.atl_instant.specs.Meaning.{HaveRoom, most_moved, moved_times};
+ghost use Rattle.atl_month.specs.Settling.{IsPurse};
+ghost use Rattle.atl_month.specs.Upkeep.{days_with, purses_of, starved_event, starves, supplied, takes_up_to, upkeep, upkeep_at, upkeep_keeps, upkeep_meaning};
+
+use crate::settling::{Purse, Settled, settle};
+use atl_instant::{Month, Phase};
+use atl_state::{Campaign, Entry, Event, EventVerb, Holding, Outcome, Thing};
+use atl_tables::{Numbered, World};
+use std::alloc::{AllocError, Global};
+
+/// The upkeep of all units: the units of one faction in one region pay for each other, and whom they can't keep starves. See
+/// docs/RULES.md, "Upkeep".
+pub struct UpkeepPhase;
+
+/// What each unit has before its upkeep.
+fn purses_of(alloc: Global, campaign: &Campaign) -> Result<Vec<Purse>, AllocError>
+    ensures list { IfOk result (λ list. list.items ≡ purses_of campaign.now.what) }
+    ensures each { IfOk result (λ list. All IsPurse list.items) }
+{
+    let mut purses = Vec::new(alloc);
+    for (number, unit) in campaign.units() {
+        purses.push(Purse {
+            unit: number,
+            region: unit.region,
+            faction: unit.faction,
+            men: unit.holding.men(),
+            money: unit.holding.money(),
+        })?;
+    }
+    Ok(purses)
+}
+
+/// The days of each skill that stay with so many of a unit's men.
+fn days_with(alloc: Global, left: u32, holding: &Holding) -> Result<Numbered<u32>, AllocError>
+    requires some { 1 ≤ holding.now.men }
+    requires fewer { left ≤ holding.now.men }
+    ensures { IfOk result (λ days. days ≡ days_with left holding.now.men holding.now.days) }
+{
+    let men = u64::from(holding.men());
+    let mut kept = Numbered::new(alloc);
+    for (skill, days) in holding.days() {
+        let staying = (u64::from(*days) * u64::from(left) / men) as u32;
+        if staying == 0 {
+            kept.remove(skill);
+        } else {
+            kept.insert(skill, staying)?;
+        }
+    }
+    Ok(kept)
+}
+
+/// Takes from a unit's holding what upkeep takes from it.
+fn supply(alloc: Global, settled: &Settled, holding: &mut Holding) -> Result<(), AllocError>
+    ensures { OnOk result (holding.new ≡ supplied settled.now holding.old) }
+{
+    let men = holding.men();
+    let money = holding.money();
+    let left = men - settled.starved.min(men);
+    if left != men {
+        let days = days_with(alloc, left, holding)?;
+        holding.set_men(left);
+        holding.set_all_days(days);
+    }
+    holding.set_money(money - settled.paid.min(money));
+    Ok(())
+}
+
+/// Takes from a unit that is there what upkeep takes from it.
+fn supply_unit(
+    alloc: Global,
+    campaign: &mut Campaign,
+    settled: &Settled,
+) -> Result<(), AllocError>
+    ensures { OnOk result ((u : Unit) → finmap.get campaign.old.what.units settled.now.unit ≡ Some u → campaign.new ≡ lent campaign.old settled.now.unit (supplied settled.now u.holding)) }
+{
+    match campaign.unit_mut(settled.unit) {
+        Some(holding) => supply(alloc, settled, holding),
+        None => Ok(()),
+    }
+}
+
+/// The upkeep of a unit, which is booked.
+#[tactic(auto, unfolding(crate::specs::Upkeep::upkeep_at))]
+fn upkeep_of(alloc: Global, campaign: &mut Campaign, settled: &Settled) -> Result<(), AllocError>
+    requires grid { (things : ℕ) × (2 ≤ things) × IsGrid things campaign.old.what.books }
+    requires room { HaveRoom (takes_up_to most_amount) campaign.old.what }
+    ensures what { OnOk result (campaign.new.what ≡ upkeep_at campaign.old.what settled.now) }
+    ensures marks { OnOk result (MarksChanges campaign.old campaign.new) }
+{
+    let Some(unit) = campaign.unit(settled.unit) else {
+        return Ok(());
+    };
+    let paid = settled.paid.min(unit.holding.money());
+    let starved = settled.starved.min(unit.holding.men());
+    supply_unit(alloc, campaign, settled)?;
+    campaign.book(Entry::Upkeep, Thing::Money, -i64::from(paid));
+    campaign.book(Entry::Starved, Thing::People, -i64::from(starved));
+    Ok(())
+}
+
+/// The upkeep of units.
+fn upkeep_of_all(
+    alloc: Global,
+    world: &World,
+    campaign: &mut Campaign,
+    list: &[Settled],
+) -> Result<(), AllocError>
+    requires steady { IsSteady world.now campaign.old.what }
+    requires room { HaveRoom (moved_times (length list.now) (takes_up_to most_amount)) campaign.old.what }
+    ensures what { OnOk result (campaign.new.what ≡ upkeep campaign.old.what list.now) }
+    ensures marks { OnOk result (MarksChanges campaign.old campaign.new) }
+{
+    for settled in list {
+        upkeep_of(alloc, campaign, settled)?;
+    }
+    Ok(())
+}
+
+/// Tells of those who starve.
+fn tell_starved(month: &mut Month, list: &[Settled]) -> Result<(), AllocError>
+    ensures { OnOk result (month.new ≡ record month.old { events = month.old.events ++ map starved_event (filter starves list.now) }) }
+{
+    for settled in list {
+        if settled.starved != 0 {
+            month.tell(Event {
+                faction: settled.faction,
+                unit: settled.unit,
+                line: 0,
+                verb: EventVerb::Upkeep,
+                outcome: Outcome::Starved(u64::from(settled.starved)),
+            })?;
+        }
+    }
+    Ok(())
+}
+
+impl Phase for UpkeepPhase {
+    ghost meaning = { upkeep_meaning };
+
+    ghost needs = { IsSteady };
+
+    ghost leaves = { IsSteady };
+
+    ghost moving = { takes_up_to most_moved };
+
+    ghost keeps = { upkeep_keeps };
+
+    fn run(
+        &self,
+        alloc: Global,
+        world: &World,
+        mut campaign: Campaign,
+        mut month: Month,
+    ) -> Result<(Campaign, Month), AllocError> {
+        let purses = purses_of(alloc, &campaign)?;
+        let list = settle(alloc, world.rules().maintenance, &purses)?;
+        upkeep_of_all(alloc, world, &mut campaign, &list)?;
+        tell_starved(&mut month, &list)?;
+        Ok((campaign, month))
+    }
+}
