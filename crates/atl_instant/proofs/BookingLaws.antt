@@ -1,6 +1,6 @@
 -- What is booked moves one amount of the books, and no other.
 use Rattle.std.proofs.Common.{◌≡◌, ◌≢◌, ◌==◌, ℕ, ◌+◌, ◌≤◌, ◌<◌, Bool, true, false, List, inl, inr, ◌⊎◌, refl, arith}
-use Rattle.std.specs.Prelude.{ℤ, pos, negsuc, ◌+ℤ◌, ◌≤ℤ◌, if◌then◌else◌}
+use Rattle.std.specs.Prelude.{ℤ, neg_ℤ, pos, negsuc, ◌+ℤ◌, ◌≤ℤ◌, if◌then◌else◌}
 use Rattle.std.specs.Int.{w64}
 use Rattle.std.specs.Int.RustNames.{FitsSigned}
 use Rattle.std.proofs.lemmas.Int.{ints}
@@ -49,3 +49,6 @@ booking_fits x z n small room = by_sign (x +ℤ z) (omega (arith, ints, room.abo
 -- what is added, and what is taken away
 pub within-pos : (k n : ℕ) → k ≤ n → IsWithin n (pos k)
 within-pos k n l = record { most = omega (arith, ints); least = omega (arith, ints) }
+
+pub within-neg : (k n : ℕ) → k ≤ n → IsWithin n (neg_ℤ (pos k))
+within-neg k n l = record { most = omega (arith, ints); least = omega (arith, ints) }

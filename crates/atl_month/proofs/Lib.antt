@@ -1,3 +1,4 @@
 pub mod SeasonLaws
 pub mod MonthLaws
 pub mod SettlingLaws
+pub mod UpkeepLaws

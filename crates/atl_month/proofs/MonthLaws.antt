@@ -1,18 +1,23 @@
 -- A campaign behind the phases of a month is good again once the month is counted and the mail is taken away.
-use Rattle.std.proofs.Common.{◌≡◌, ℕ, ◌+◌, ◌*◌, ◌≤◌, ◌<◌, refl, sym, ap, ◌∙◌, arith}
-use Rattle.std.specs.Prelude.{ℤ}
+use Rattle.std.proofs.Common.{◌≡◌, ◌==◌, ℕ, ◌+◌, ◌*◌, ◌≤◌, ◌<◌, Bool, true, false, List, refl, sym, ap, subst, ◌∙◌, arith}
+use Rattle.std.specs.Prelude.{ℤ, if◌then◌else◌}
 use Rattle.std.specs.FinMap.{get, len}
 use Rattle.std.proofs.lemmas.Int.{ints}
 use Rattle.atl_tables.specs.Planet.{Planet}
+use Rattle.atl_state.specs.declared.books.Entry.TheVariants.{Births, Income}
+use Rattle.atl_state.specs.declared.books.Thing.TheVariants.{Money, People}
 use Rattle.atl_state.specs.Books.{IsWithin, amount_in}
-use Rattle.atl_state.specs.Good.{AreAmountsWithin, AreInRange, AreKnown, IsGood, IsSound, IsSteady, IsThere, amount_bound}
+use Rattle.atl_state.specs.Marks.{amount_number}
+use Rattle.atl_state.specs.Good.{AreAmountsWithin, AreInRange, AreKnown, Every, IsGood, IsSound, IsSteady, IsThere, amount_bound}
 use Rattle.atl_state.specs.Limits.{last_month}
-use Rattle.atl_state.specs.State.{State}
+use Rattle.atl_state.specs.State.{State, numbers_of}
 use Rattle.atl_state.specs.Totals.{Balances, total}
 use Rattle.atl_state.proofs.EveryLaws.{every-empty}
-use Rattle.atl_instant.specs.Meaning.{IsNear, IsSameMonth, LeavesWell, Moving}
-use Rattle.atl_instant.proofs.MeaningLaws.{MovesLess}
-use Rattle.atl_month.specs.Month.{finished}
+use Rattle.atl_instant.specs.Meaning.{HaveRoom, IsNear, IsSameMonth, LeavesWell, Moving, most_moved}
+use Rattle.atl_instant.proofs.MeaningLaws.{MovesLess, room_when_sound}
+use Rattle.atl_month.specs.Month.{finished, phases_move}
+use Rattle.atl_month.specs.Season.{season}
+use Rattle.atl_month.proofs.SeasonLaws.{season_keeps_factions, season_keeps_units}
 use Rattle.atl_month.specs.Swept.{IsSwept}
 
 -- so far a month moves an amount at most
@@ -95,3 +100,38 @@ module _ (w : Planet) (c d : State) (moving : Moving) (little : MovesLess moving
     sound = finished_sound old.sound;
     reported = λ n f is. let there = same.factions n (f, is) in let report = old.reported n there.0 there.1 in (report.0, ap (λ reports. get reports n) same.reports ∙ report.1);
   }
+
+-- ---- the phases
+
+-- no amount is moved further than a month moves it
+pub phases_little : MovesLess phases_move month_moves
+phases_little e t = both (amount_number e t == amount_number Births People) (amount_number e t == amount_number Income Money)
+  where
+    both : (a b : Bool) → (if a then most_moved else 0) + (if b then most_moved else 0) ≤ 200000000000000
+    both true true = omega arith
+    both true false = omega arith
+    both false true = omega arith
+    both false false = omega arith
+
+-- a sound campaign has room for them
+pub phases_room : (w : Planet) (c : State) → IsSound w c → HaveRoom phases_move c
+phases_room w c sound = room_when_sound w c phases_move (λ e t. omega (arith, phases_little e t)) sound
+
+-- the season takes no men and no unit away
+pub season_swept : (w : Planet) (c d : State) (words : List ℕ) → IsSound w c → d ≡ season w c words → LeavesWell IsSteady phases_move w c d → LeavesWell IsSwept phases_move w c d
+season_swept w c d words sound is well = record {
+  leaves_it = record {
+    steady = well.leaves_it;
+    men = subst (Every (λ n u. 1 ≤ u.holding.men)) (sym units) sound.men;
+    gone = λ n f there none. sound.gone n f (sym (ap (λ fs. get fs n) factions) ∙ there) (sym (ap (numbers_of n) units) ∙ none);
+  };
+  same_month = well.same_month;
+  balances = well.balances;
+  near = well.near;
+}
+  where
+    units : d.units ≡ c.units
+    units = ap (λ (s : State). s.units) is ∙ season_keeps_units w c words
+
+    factions : d.factions ≡ c.factions
+    factions = ap (λ (s : State). s.factions) is ∙ season_keeps_factions w c words

@@ -3,20 +3,41 @@ ghost use Rattle.std.specs.Prelude.{◌≡◌, ◌<◌, All, IfOk, length, map};
 ghost use Rattle.std.specs.FinMap.{len};
 ghost use Rattle.atl_orders.specs.Mailing.{IsReadWith, reading_of};
 ghost use Rattle.atl_state.specs.Covers.{MarksChanges};
-ghost use Rattle.atl_state.specs.Good.{IsGood};
+ghost use Rattle.atl_state.specs.Good.{IsGood, IsSound};
 ghost use Rattle.atl_state.specs.Limits.{last_month};
 ghost use Rattle.atl_instant.specs.Course.{HaveOwnFactions, by_faction};
-ghost use Rattle.atl_month.specs.Month.{finished, month_of};
+ghost use Rattle.atl_instant.specs.Meaning.{LeavesWell};
+ghost use Rattle.atl_month.specs.Month.{finished, month_of, phases, phases_move};
+ghost use Rattle.atl_month.specs.Swept.{IsSwept};
 
+use crate::season::SeasonPhase;
+use atl_instant::{Month, Phase};
 use atl_orders::Mailing;
 use atl_state::{Campaign, Event};
 use atl_tables::World;
 use std::alloc::{AllocError, Global};
 
+/// Runs the phases of a month, one after the other.
+fn run_phases(
+    alloc: Global,
+    world: &World,
+    campaign: Campaign,
+    month: Month,
+) -> Result<(Campaign, Month), AllocError>
+    requires sound { IsSound world.now campaign.what }
+    ensures meaning { IfOk result (λ r. (r.0.what, r.1) ≡ phases world.now campaign.what month) }
+    ensures leaves { IfOk result (λ r. LeavesWell IsSwept phases_move world.now campaign.what r.0.what) }
+    ensures marks { IfOk result (λ r. MarksChanges campaign r.0) }
+{
+    let (campaign, month) = SeasonPhase.run(alloc, world, campaign, month)?;
+    Ok((campaign, month))
+}
+
 /// Closes a month: runs its phases over a good campaign, with the mailings of its factions and one word of the dice for each
 /// region, and gives the campaign behind them and what came of the orders. The month isn't counted and the mail is still there:
 /// with these done the campaign is good again. AllocError without memory; the campaign is then given up. See
 /// docs/RULES.md, "Closing a month".
+#[tactic(auto, unfolding(crate::specs::Month::month_of))]
 pub fn close_month(
     alloc: Global,
     world: &World,
@@ -33,5 +54,7 @@ pub fn close_month(
     ensures good { IfOk result (λ r. IsGood world.now (finished r.0.what)) }
     ensures marks { IfOk result (λ r. MarksChanges campaign r.0) }
 {
-    Err(AllocError)
+    let month = Month::new(alloc, mailings, words.to_vec(alloc)?);
+    let (campaign, month) = run_phases(alloc, world, campaign, month)?;
+    Ok((campaign, month.into_events()))
 }

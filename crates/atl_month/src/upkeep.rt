@@ -1,14 +1,16 @@
 //! The upkeep of a month.
-ghost use Rattle.std.specs.Prelude.{◌≡◌, ◌≤◌, ◌++◌, All, IfOk, ℕ, OnOk, Some, filter, length, map};
+ghost use Rattle.std.specs.Prelude.{◌≡◌, ◌≤◌, ◌<◌, ◌++◌, All, IfOk, ℕ, OnOk, Some, filter, length, map, neg_ℤ, pos};
 ghost use Rattle.std.specs.FinMap as finmap;
 ghost use Rattle.atl_tables.specs.Limits.{most_amount};
 ghost use Rattle.atl_tables.specs.Planet.{IsWorld};
-ghost use Rattle.atl_state.specs.Books.{IsGrid};
+ghost use Rattle.atl_state.specs.Books.{IsGrid, amount_in, thing_place};
 ghost use Rattle.atl_state.specs.Covers.{MarksChanges};
 ghost use Rattle.atl_state.specs.Good.{IsSteady};
 ghost use Rattle.atl_state.specs.Lending.{lent};
+ghost use Rattle.atl_state.specs.Marking.{mark_amount};
+ghost use Rattle.atl_state.specs.State.{with_amount};
 ghost use Rattle.atl_state.specs.declared.records.Unit.{Unit};
-ghost use Rattle.atl_instant.specs.Meaning.{HaveRoom, most_moved, moved_times};
+ghost use Rattle.atl_instant.specs.Meaning.{HasRoom, HaveRoom, most_moved, moved_times};
 ghost use Rattle.atl_month.specs.Settling.{IsPurse};
 ghost use Rattle.atl_month.specs.Upkeep.{days_with, purses_of, starved_event, starves, supplied, takes_up_to, upkeep, upkeep_at, upkeep_keeps, upkeep_meaning};
 
@@ -89,6 +91,17 @@ fn supply_unit(
     }
 }
 
+/// Books what is taken away.
+fn book_taken(campaign: &mut Campaign, entry: Entry, thing: Thing, amount: u32)
+    requires there { thing_place thing < length campaign.old.what.books }
+    requires little { amount ≤ most_amount }
+    requires room { HasRoom most_amount (amount_in campaign.old.what.books entry thing) }
+    ensures what { campaign.new.what ≡ with_amount campaign.old.what entry thing (neg_ℤ (pos amount)) }
+    ensures marks { campaign.new.marks ≡ mark_amount campaign.old entry thing }
+{
+    campaign.book(entry, thing, -i64::from(amount));
+}
+
 /// The upkeep of a unit, which is booked.
 #[tactic(auto, unfolding(crate::specs::Upkeep::upkeep_at))]
 fn upkeep_of(alloc: Global, campaign: &mut Campaign, settled: &Settled) -> Result<(), AllocError>
@@ -103,8 +116,8 @@ fn upkeep_of(alloc: Global, campaign: &mut Campaign, settled: &Settled) -> Resul
     let paid = settled.paid.min(unit.holding.money());
     let starved = settled.starved.min(unit.holding.men());
     supply_unit(alloc, campaign, settled)?;
-    campaign.book(Entry::Upkeep, Thing::Money, -i64::from(paid));
-    campaign.book(Entry::Starved, Thing::People, -i64::from(starved));
+    book_taken(campaign, Entry::Upkeep, Thing::Money, paid);
+    book_taken(campaign, Entry::Starved, Thing::People, starved);
     Ok(())
 }
 

@@ -1,0 +1,330 @@
+-- Upkeep leaves a campaign well.
+use Rattle.std.proofs.Common.{◌≡◌, ◌==◌, ℕ, suc, ◌+◌, ◌-◌, ◌*◌, ◌/◌, ◌≤◌, ◌<◌, min, not, Bool, true, false, cond, Option, Some, None, List, [], ◌∷◌, ◌++◌, length, map, filter, refl, sym, ap, subst, ◌∙◌, arith}
+use Rattle.std.specs.Prelude.{IsTrue, nat_lt, ◌&&◌, ℤ, pos, neg_ℤ, ◌+ℤ◌, fold, if◌then◌else◌}
+use Rattle.std.specs.Ordering.{eq_by_cmp, nat_cmp}
+use Rattle.std.specs.Cmp.{nat_cmp_total, ranked}
+use Rattle.std.specs.declared.cmp.Ordering.TheVariants.{Less, Equal, Greater}
+use Rattle.std.specs.FinMap.{FinMap, empty, entries, get, get-remove, insert, len-entries, nat_cmp-IsAntisymmetric, remove}
+use Rattle.std.proofs.Math.Nat.{div-le_of_le-mul, mul-le-mul_right}
+use Rattle.std.proofs.lemmas.List.{length-map}
+use Rattle.std.proofs.lemmas.Int.{ints}
+use Rattle.std.proofs.lemmas.Bool.Decides.{nat_tests}
+use Rattle.atl_tables.specs.Planet.{Planet}
+use Rattle.atl_tables.specs.Limits.{most_amount}
+use Rattle.atl_tables.specs.Names.{name_ok}
+use Rattle.atl_state.specs.declared.books.Entry.{Entry}
+use Rattle.atl_state.specs.declared.books.Entry.TheVariants.{Starved, Upkeep}
+use Rattle.atl_state.specs.declared.books.Thing.{Thing}
+use Rattle.atl_state.specs.declared.books.Thing.TheVariants.{Money, People, Item}
+use Rattle.atl_state.specs.declared.records.Unit.{Unit}
+use Rattle.atl_state.specs.Books.{IsGrid, IsWithin, amount_in, with_booked}
+use Rattle.atl_state.specs.Covers.{MarksChanges}
+use Rattle.atl_state.specs.Founding.{things_of}
+use Rattle.atl_state.specs.Deciding.{EachOf}
+use Rattle.atl_state.specs.Good.{Every, IsSteady, guards}
+use Rattle.atl_state.specs.Held.{AreAmounts, Held, IsHolding, amount_of, with_amount_of}
+use Rattle.atl_state.specs.Lending.{lent, with_held}
+use Rattle.atl_state.specs.Limits.{holding_limit, men_limit, most_days}
+use Rattle.atl_state.specs.Marking.{mark_amount}
+use Rattle.atl_state.specs.Marks.{amount_number}
+use Rattle.atl_state.specs.State.{Marked, State, with_amount}
+use Rattle.atl_state.specs.Totals.{Balances, held, total}
+use Rattle.atl_state.proofs.BookLaws.{IsGrid-with_booked, booked-with_booked, share_of}
+use Rattle.atl_state.proofs.CoverLaws.{marks-amount, marks-trans}
+use Rattle.atl_state.proofs.EveryLaws.{each-from_every, every-empty, every-insert, get-insert_other, none_some}
+use Rattle.atl_state.proofs.HoldingLaws.{MayHold, marks-lent, steady-held, total-held}
+use Rattle.atl_state.proofs.RegionLaws.{get-insert_same, steady-amount, total-amount}
+use Rattle.atl_instant.specs.Meaning.{HaveRoom, IsNear, LeavesWell, moved_times, moves_only, most_moved}
+use Rattle.atl_instant.proofs.MeaningLaws.{fold_leaves_well, near_twice, well_unchanged, well_within}
+use Rattle.atl_instant.proofs.BookingLaws.{booked-near, within-neg}
+use Rattle.atl_month.specs.declared.settling.Purse.{Purse}
+use Rattle.atl_month.specs.declared.settling.Settled.{Settled}
+use Rattle.atl_month.specs.Settling.{settled_behind}
+use Rattle.atl_month.specs.Upkeep.{IsSuppliedFrom, days_with, men_starved, money_paid, purse_of, purses_of, settlements, supplied, takes_up_to, upkeep, upkeep_at, upkeep_in, with_men}
+
+-- ---- what a unit may hold behind it
+
+-- so many days of a skill of the world over so many men
+abbrev IsStudied : Planet → (men skill days : ℕ) → Type 0
+IsStudied w men skill days = (skill < length w.skills) × (1 ≤ days) × (days ≤ most_days * men)
+
+gone_cond : (P : ℕ → Type 0) (b : Bool) (o : Option ℕ) (x : ℕ) → (o ≡ Some x → P x) → cond b None o ≡ Some x → P x
+gone_cond P true o x old is = none_some x is
+gone_cond P false o x old is = old is
+
+module _ (w : Planet) (left men : ℕ) (fewer : left ≤ men) where
+  part : (days : ℕ) → days ≤ most_days * men → days * left / men ≤ most_days * left
+  part days most = div-le_of_le-mul men (scaled days most)
+    where
+      scaled : (days : ℕ) → days ≤ most_days * men → days * left ≤ men * (most_days * left)
+      scaled days most = subst (λ n. days * left ≤ n) (turned most_days men left) (times days (most_days * men) left most)
+        where
+          turned : (k m l : ℕ) → (k * m) * l ≡ m * (k * l)
+          turned k m l = grind arith
+
+          times : (a b l : ℕ) → a ≤ b → a * l ≤ b * l
+          times a b l h = mul-le-mul_right l h
+
+  put_days : (kept : FinMap nat_cmp ℕ) (skill days : ℕ) → Every (IsStudied w left) kept → skill < length w.skills → days ≤ most_days * left → Every (IsStudied w left) (with_amount_of kept skill days)
+  put_days kept skill days old known most = by_zero (days == 0) refl
+    where
+      by_zero : (b : Bool) → (days == 0) ≡ b → Every (IsStudied w left) (if b then remove kept skill else insert kept skill days)
+      by_zero true is = λ n x there. gone_cond (IsStudied w left n) (eq_by_cmp nat_cmp n skill) (get kept n) x (old n x) (sym (get-remove nat_cmp_total kept skill n) ∙ there)
+      by_zero false is =
+          let some : 1 ≤ days = grind (arith, nat_tests) in
+          every-insert (IsStudied w left) kept skill days (known, some, most) old
+
+  days_kept : (es : List (ℕ × ℕ)) (kept : FinMap nat_cmp ℕ) → Every (IsStudied w left) kept → EachOf (IsStudied w men) es
+      → Every (IsStudied w left) (fold (λ (m : FinMap nat_cmp ℕ) (e : ℕ × ℕ). with_amount_of m e.0 (e.1 * left / men)) kept es)
+  days_kept [] kept old each = old
+  days_kept ((skill, days) ∷ es) kept old ((known, some, most), each) = days_kept es (with_amount_of kept skill (days * left / men)) (put_days kept skill (days * left / men) old known (part days most)) each
+
+-- with fewer men it has their part of the days, and all else as it was
+module _ (w : Planet) (h : Held) (left : ℕ) (fewer : left ≤ h.men) (days : Every (IsStudied w h.men) h.days) where
+  abbrev IsWithMen : Held → Type 0
+  IsWithMen k = (k.men ≡ left) × Every (IsStudied w left) k.days × (k.name ≡ h.name) × (k.guard ≡ h.guard) × (k.items ≡ h.items)
+
+  less_men : IsWithMen (with_men left h)
+  less_men = by_men (left == h.men) refl
+    where
+      by_men : (b : Bool) → (left == h.men) ≡ b → IsWithMen (if b then h else record h { men = left; days = days_with left h.men h.days })
+      by_men true is = let same : h.men ≡ left = grind (arith, nat_tests) in (same, subst (λ n. Every (IsStudied w n) h.days) same days, refl, refl, refl)
+      by_men false is = (refl, days_kept w left h.men fewer (entries h.days) empty (every-empty (IsStudied w left)) (each-from_every (IsStudied w h.men) h.days days), refl, refl, refl)
+
+pub least : (a b : ℕ) → min a b ≤ b
+least a b = omega arith
+
+-- ---- the upkeep of a unit that is there
+
+module _ (w : Planet) (c : State) (s : Settled) (u : Unit) (is : get c.units s.unit ≡ Some u) (steady : IsSteady w c) where
+  abbrev old : Held
+  old = u.holding
+
+  abbrev now : Held
+  now = supplied s old
+
+  abbrev left : ℕ
+  left = old.men - men_starved s old
+
+  abbrev paid : ℕ
+  paid = money_paid s old
+
+  abbrev starved : ℕ
+  starved = men_starved s old
+
+  studied : Every (IsStudied w old.men) old.days
+  studied k days there =
+      let skills = (steady.known.units s.unit u is).skills in
+      let range = steady.days s.unit u is k days there in
+      (skills k days there, range.0, range.1)
+
+  with_less : IsWithMen w old left (omega arith) studied (with_men left old)
+  with_less = less_men w old left (omega arith) studied
+
+  guard_kept : guards (record u { holding = now }) ≡ true → guards u ≡ true
+  guard_kept = both_true now.guard old.guard now.men old.men with_less.3 (omega (arith, with_less.0))
+    where
+      both_true : (a b : Bool) (m n : ℕ) → a ≡ b → m ≤ n → (a && nat_lt 0 m) ≡ true → (b && nat_lt 0 n) ≡ true
+      both_true a b m n same fewer is = grind (arith, nat_tests)
+
+  may_hold : MayHold w u now
+  may_hold =
+      let place = steady.known.units s.unit u is in
+      let holding = (steady.numbers.units s.unit u is).1 in
+      let (men, days, name, guard, items) = with_less in
+      record {
+        limits = record { men = omega (arith, men, holding.men); money = omega (arith, holding.money); items = subst AreAmounts (sym items) holding.items };
+        name = subst (λ n. IsTrue (name_ok n)) (sym name) (steady.names.units s.unit u is);
+        items = subst (Every (λ i amount. i < length w.items)) (sym items) place.items;
+        skills = λ k d there. (days k d there).0;
+        days = λ k d there. let (known, some, most) = days k d there in (some, subst (λ n. d ≤ most_days * n) (sym men) most);
+        guard = guard_kept;
+      }
+
+  abbrev held_back : State
+  held_back = with_held c s.unit now (Some u)
+
+  abbrev paid_off : State
+  paid_off = with_amount held_back Upkeep Money (neg_ℤ (pos paid))
+
+  abbrev after : State
+  after = upkeep_in c s (Some u)
+
+  after_steady : IsSteady w after
+  after_steady = steady-amount w paid_off Starved People (neg_ℤ (pos starved)) (steady-amount w held_back Upkeep Money (neg_ℤ (pos paid)) (steady-held w c s.unit u now is may_hold steady))
+
+  total_after : (t : Thing) → pos (total after t) ≡ (pos (total c t) +ℤ share_of t Money (neg_ℤ (pos paid))) +ℤ share_of t People (neg_ℤ (pos starved))
+  total_after t = total_of t (total-amount paid_off Starved People t (neg_ℤ (pos starved))) (total-amount held_back Upkeep Money t (neg_ℤ (pos paid))) (total-held w c s.unit u now is t)
+    where
+      taken : (x y z a l p : ℕ) → x ≡ y → y ≡ z → z + a ≡ total c Money + l → l ≡ a - p → p ≤ a → pos x ≡ (pos (total c Money) +ℤ neg_ℤ (pos p)) +ℤ pos 0
+      taken x y z a l p e f g h k = omega (arith, ints, e, f, g, h, k)
+
+      starved_away : (x y z a l p : ℕ) → x ≡ y → y ≡ z → z + a ≡ total c People + l → l ≡ a - p → p ≤ a → pos x ≡ (pos (total c People) +ℤ pos 0) +ℤ neg_ℤ (pos p)
+      starved_away x y z a l p e f g h k = omega (arith, ints, e, f, g, h, k)
+
+      total_of : (t : Thing) → total after t ≡ total paid_off t → total paid_off t ≡ total held_back t → total held_back t + held t old ≡ total c t + held t now
+          → pos (total after t) ≡ (pos (total c t) +ℤ share_of t Money (neg_ℤ (pos paid))) +ℤ share_of t People (neg_ℤ (pos starved))
+      total_of Money a b g = taken _ _ _ old.money now.money paid a b g refl (least s.paid old.money)
+      total_of People a b g = starved_away _ _ _ old.men now.men starved a b g with_less.0 (least s.starved old.men)
+      total_of (Item i) a b g =
+          let people : (2 + i == 1) ≡ false = grind (arith, nat_tests) in
+          let money : (2 + i == 0) ≡ false = grind (arith, nat_tests) in
+          ap pos (same _ _ _ _ _ a b g (ap (λ m. amount_of m i) with_less.4))
+          ∙ sym (ap (λ q. (pos (total c (Item i)) +ℤ cond (2 + i == 0) (neg_ℤ (pos paid)) (pos 0)) +ℤ cond q (neg_ℤ (pos starved)) (pos 0)) people
+          ∙ ap (λ q. (pos (total c (Item i)) +ℤ cond q (neg_ℤ (pos paid)) (pos 0)) +ℤ pos 0) money ∙ zeros (total c (Item i)))
+        where
+          same : (x y z a l : ℕ) → x ≡ y → y ≡ z → z + a ≡ total c (Item i) + l → l ≡ a → x ≡ total c (Item i)
+          same x y z a l e f g h = omega (arith, e, f, g, h)
+
+          zeros : (x : ℕ) → (pos x +ℤ pos 0) +ℤ pos 0 ≡ pos x
+          zeros x = omega (arith, ints)
+
+  abbrev one_booked : List (List ℤ)
+  one_booked = with_booked c.books Upkeep Money (neg_ℤ (pos paid))
+
+  grid : IsGrid (things_of w) c.books
+  grid = steady.numbers.books
+
+  grid_one : IsGrid (things_of w) one_booked
+  grid_one = IsGrid-with_booked (things_of w) c.books Upkeep Money (neg_ℤ (pos paid)) grid
+
+  upkeep_balances : Balances c → Balances after
+  upkeep_balances before t =
+      total_after t
+      ∙ ap (λ z. (z +ℤ share_of t Money (neg_ℤ (pos paid))) +ℤ share_of t People (neg_ℤ (pos starved))) (before t)
+      ∙ ap (λ z. z +ℤ share_of t People (neg_ℤ (pos starved))) (sym (booked-with_booked (things_of w) c.books Upkeep Money (neg_ℤ (pos paid)) grid (omega arith) t))
+      ∙ sym (booked-with_booked (things_of w) one_booked Starved People (neg_ℤ (pos starved)) grid_one (omega arith) t)
+
+  few_paid : paid ≤ most_amount
+  few_paid = omega (arith, least s.paid old.money, (steady.numbers.units s.unit u is).1.money)
+
+  few_starved : starved ≤ most_amount
+  few_starved = omega (arith, least s.starved old.men, (steady.numbers.units s.unit u is).1.men)
+
+  upkeep_near : (e : Entry) (t : Thing) → IsNear (takes_up_to most_amount e t) (amount_in c.books e t) (amount_in after.books e t)
+  upkeep_near e t =
+      near_twice (moves_only most_amount Upkeep Money e t) (moves_only most_amount Starved People e t) _ _ _
+      (booked-near (things_of w) c.books Upkeep Money (neg_ℤ (pos paid)) most_amount grid (omega arith) (within-neg paid most_amount few_paid) e t)
+      (booked-near (things_of w) one_booked Starved People (neg_ℤ (pos starved)) most_amount grid_one (omega arith) (within-neg starved most_amount few_starved) e t)
+
+  unit_leaves_well : LeavesWell IsSteady (takes_up_to most_amount) w c after
+  unit_leaves_well = record {
+    leaves_it = after_steady;
+    same_month = record { month = refl; reports = refl; count = refl; factions = λ k there. there };
+    balances = upkeep_balances;
+    near = upkeep_near;
+  }
+
+-- ---- the upkeep of all
+
+pub upkeep_at_leaves_well : (w : Planet) (c : State) (s : Settled) → IsSteady w c → LeavesWell IsSteady (takes_up_to most_amount) w c (upkeep_at c s)
+unfolding upkeep_at
+upkeep_at_leaves_well w c s steady = by_unit (get c.units s.unit) refl
+  where
+    by_unit : (o : Option Unit) → get c.units s.unit ≡ o → LeavesWell IsSteady (takes_up_to most_amount) w c (upkeep_in c s o)
+    by_unit None is = well_unchanged (takes_up_to most_amount) w c steady
+    by_unit (Some u) is = unit_leaves_well w c s u is steady
+
+length-settled : (m : ℕ) (all before rest : List Purse) → length (settled_behind m all before rest) ≡ length rest
+length-settled m all before [] = refl
+length-settled m all before (p ∷ rest) = ap suc (length-settled m all (before ++ p ∷ []) rest)
+
+pub few_settlements : (w : Planet) (c : State) → IsSteady w c → length (settlements w c) ≤ 10000
+few_settlements w c steady = omega (arith, length-settled w.rules.maintenance (purses_of c) [] (purses_of c), length-map (entries c.units) purse_of, len-entries c.units, steady.numbers.few_units)
+
+pub takes_little : (k : ℕ) → k ≤ 10000 → (e : Entry) (t : Thing) → moved_times k (takes_up_to most_amount) e t ≤ takes_up_to most_moved e t
+takes_little k few e t = scaled (amount_number e t == amount_number Upkeep Money) (amount_number e t == amount_number Starved People)
+  where
+    scaled : (a b : Bool) → k * ((if a then most_amount else 0) + (if b then most_amount else 0)) ≤ (if a then most_moved else 0) + (if b then most_moved else 0)
+    scaled true true = omega (arith, few)
+    scaled true false = omega (arith, few)
+    scaled false true = omega (arith, few)
+    scaled false false = omega (arith, few)
+
+pub upkeep_leaves_well : (w : Planet) (c : State) → IsSteady w c → LeavesWell IsSteady (takes_up_to most_moved) w c (upkeep c (settlements w c))
+upkeep_leaves_well w c steady =
+    let list = settlements w c in
+    well_within (moved_times (length list) (takes_up_to most_amount)) (takes_up_to most_moved) w c (upkeep c list) (takes_little (length list) (few_settlements w c steady))
+    (fold_leaves_well (takes_up_to most_amount) w upkeep_at (upkeep_at_leaves_well w) c list steady)
+
+-- ---- what stays
+
+supplied_same : (u : Unit) → IsSuppliedFrom u u
+supplied_same u = record { faction = refl; region = refl; structure = refl; name = refl; guard = refl; items = refl; men = omega arith; money = omega arith }
+
+supplied_twice : (u v x : Unit) → IsSuppliedFrom u v → IsSuppliedFrom v x → IsSuppliedFrom u x
+supplied_twice u v x g h = record {
+  faction = h.faction ∙ g.faction;
+  region = h.region ∙ g.region;
+  structure = h.structure ∙ g.structure;
+  name = h.name ∙ g.name;
+  guard = h.guard ∙ g.guard;
+  items = h.items ∙ g.items;
+  men = omega (arith, g.men, h.men);
+  money = omega (arith, g.money, h.money);
+}
+
+abbrev Supplies : State → State → Type 0
+Supplies before after = Every (λ n u. (v : Unit) × (get after.units n ≡ Some v) × IsSuppliedFrom u v) before.units
+
+supplied_one : (s : Settled) (u : Unit) → IsSuppliedFrom u (record u { holding = supplied s u.holding })
+supplied_one s u = by_men (u.holding.men - men_starved s u.holding == u.holding.men)
+  where
+    by_men : (b : Bool) → IsSuppliedFrom u (record u { holding = record (if b then u.holding else record u.holding { men = u.holding.men - men_starved s u.holding; days = days_with (u.holding.men - men_starved s u.holding) u.holding.men u.holding.days }) { money = u.holding.money - money_paid s u.holding } })
+    by_men true = record { faction = refl; region = refl; structure = refl; name = refl; guard = refl; items = refl; men = omega arith; money = omega arith }
+    by_men false = record { faction = refl; region = refl; structure = refl; name = refl; guard = refl; items = refl; men = omega arith; money = omega arith }
+
+some_same : {x y : Unit} → Some x ≡ Some y → x ≡ y
+some_same e = cc
+
+upkeep_at_keeps : (c : State) (s : Settled) → Supplies c (upkeep_at c s)
+unfolding upkeep_at
+upkeep_at_keeps c s = by_unit (get c.units s.unit) refl
+  where
+    by_unit : (o : Option Unit) → get c.units s.unit ≡ o → Supplies c (upkeep_in c s o)
+    by_unit None is n v there = (v, there, supplied_same v)
+    by_unit (Some u) is n v there =
+        let new : Unit = record u { holding = supplied s u.holding } in
+        elim (nat_cmp n s.unit) as (λ o. nat_cmp n s.unit ≡ o → (x : Unit) × (get (insert c.units s.unit new) n ≡ Some x) × IsSuppliedFrom v x) [
+          | Less ↦ λ o. (v, get-insert_other c.units s.unit n new (λ same. let l = ranked n s.unit Less (sym o) in absurd (omega arith)) ∙ there, supplied_same v)
+          | Equal ↦ λ o.
+              let same : n ≡ s.unit = nat_cmp-IsAntisymmetric n s.unit o in
+              let one : v ≡ u = some_same (sym there ∙ ap (get c.units) same ∙ is) in
+              (new, ap (get (insert c.units s.unit new)) same ∙ get-insert_same c.units s.unit new, rw one (supplied_one s u))
+          | Greater ↦ λ o. (v, get-insert_other c.units s.unit n new (λ same. let l = ranked n s.unit Greater (sym o) in absurd (omega arith)) ∙ there, supplied_same v)
+        ] refl
+
+pub upkeep_keeps_units : (c : State) (list : List Settled) → Supplies c (upkeep c list)
+upkeep_keeps_units c [] n u is = (u, is, supplied_same u)
+upkeep_keeps_units c (s ∷ list) n u is =
+    let (v, there, first) = upkeep_at_keeps c s n u is in
+    let (x, at, later) = upkeep_keeps_units (upkeep_at c s) list n v there in
+    (x, at, supplied_twice u v x first later)
+
+-- ---- the code, step by step
+
+pub upkeep_at_is : (c : State) (s : Settled) (u : Unit) → get c.units s.unit ≡ Some u → upkeep_at c s ≡ upkeep_in c s (Some u)
+unfolding upkeep_at
+upkeep_at_is c s u is = ap (upkeep_in c s) is
+
+pub held_back_is : (c d : Marked) (s : Settled) (u : Unit) → get c.what.units s.unit ≡ Some u → d ≡ lent c s.unit (supplied s u.holding) → d.what ≡ with_held c.what s.unit (supplied s u.holding) (Some u)
+held_back_is c d s u there is = ap (λ (m : Marked). m.what) is ∙ ap (with_held c.what s.unit (supplied s u.holding)) there
+
+-- there is a row for money, and one for people
+pub two_rows : (things : ℕ) (books : List (List ℤ)) (e : Entry) (t : Thing) (z : ℤ) → IsGrid things books → 2 ≤ things → 1 < length (with_booked books e t z)
+two_rows things books e t z grid two = omega (arith, (IsGrid-with_booked things books e t z grid).rows, two)
+
+-- what is marked
+pub upkeep_marks : (things : ℕ) (c d e f : Marked) (s : Settled) (h : Held) (x y : ℤ)
+    → d ≡ lent c s.unit h → e.what ≡ with_amount d.what Upkeep Money x → e.marks ≡ mark_amount d Upkeep Money
+    → f.what ≡ with_amount e.what Starved People y → f.marks ≡ mark_amount e Starved People
+    → IsGrid things d.what.books → 2 ≤ things → MarksChanges c f
+upkeep_marks things c d e f s h x y d_is e_is e_marks f_is f_marks grid two =
+    let e_books : e.what.books ≡ with_booked d.what.books Upkeep Money x = ap (λ (s : State). s.books) e_is in
+    let e_grid : IsGrid things e.what.books = rw e_books (IsGrid-with_booked things d.what.books Upkeep Money x grid) in
+    marks-trans c d f (rw d_is (marks-lent c s.unit h))
+    (marks-trans d e f (marks_by d e _ e_is e_marks (marks-amount things d Upkeep Money x grid (omega arith)))
+    (marks_by e f _ f_is f_marks (marks-amount things e Starved People y e_grid (omega arith))))
+  where
+    marks_by : (a b m : Marked) → b.what ≡ m.what → b.marks ≡ m.marks → MarksChanges a m → MarksChanges a b
+    marks_by a b m what marks h = rw (what, marks) (record { stay = h.stay; covers = h.covers })
