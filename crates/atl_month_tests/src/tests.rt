@@ -2,4 +2,5 @@
 mod campaigns;
 mod season;
 mod settling;
+mod sweep;
 mod upkeep;
