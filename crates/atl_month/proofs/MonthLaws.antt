@@ -1,12 +1,15 @@
 -- A campaign behind the phases of a month is good again once the month is counted and the mail is taken away.
-use Rattle.std.proofs.Common.{◌≡◌, ◌==◌, ℕ, ◌+◌, ◌*◌, ◌≤◌, ◌<◌, Bool, true, false, List, refl, sym, ap, subst, ◌∙◌, arith}
+use Rattle.std.proofs.Common.{◌≡◌, ◌==◌, ◌&&◌, not, ℕ, ◌+◌, ◌*◌, ◌≤◌, ◌<◌, Bool, true, false, List, refl, sym, ap, subst, ◌∙◌, arith}
 use Rattle.std.specs.Prelude.{ℤ, if◌then◌else◌}
 use Rattle.std.specs.FinMap.{get, len}
 use Rattle.std.proofs.lemmas.Int.{ints}
+use Rattle.std.proofs.lemmas.Bool.Decides.{nat_tests}
 use Rattle.atl_tables.specs.Planet.{Planet}
-use Rattle.atl_state.specs.declared.books.Entry.TheVariants.{Births, Income}
+use Rattle.atl_state.specs.declared.books.Entry.{Entry}
+use Rattle.atl_state.specs.declared.books.Entry.TheVariants.{Births, Income, Lost, Starved, Upkeep}
+use Rattle.atl_state.specs.declared.books.Thing.{Thing}
 use Rattle.atl_state.specs.declared.books.Thing.TheVariants.{Money, People}
-use Rattle.atl_state.specs.Books.{IsWithin, amount_in}
+use Rattle.atl_state.specs.Books.{IsWithin, amount_in, entry_place, thing_place}
 use Rattle.atl_state.specs.Marks.{amount_number}
 use Rattle.atl_state.specs.Good.{AreAmountsWithin, AreInRange, AreKnown, Every, IsGood, IsSound, IsSteady, IsThere, amount_bound}
 use Rattle.atl_state.specs.Limits.{last_month}
@@ -17,8 +20,7 @@ use Rattle.atl_instant.specs.Meaning.{HaveRoom, IsNear, IsSameMonth, LeavesWell,
 use Rattle.atl_instant.proofs.CourseLaws.{mailings_have_no_order}
 use Rattle.atl_instant.proofs.MeaningLaws.{MovesLess, room_when_sound}
 use Rattle.atl_month.specs.Month.{MonthHasNoOrder, finished, month_of, phases_move}
-use Rattle.atl_month.specs.Season.{season}
-use Rattle.atl_month.proofs.SeasonLaws.{season_keeps_factions, season_keeps_units}
+use Rattle.atl_month.specs.Sweep.{loses_by}
 use Rattle.atl_month.specs.Swept.{IsSwept}
 
 -- so far a month moves an amount at most
@@ -104,38 +106,36 @@ module _ (w : Planet) (c d : State) (moving : Moving) (little : MovesLess moving
 
 -- ---- the phases
 
--- no amount is moved further than a month moves it
+-- no amount is moved further than a month moves it: each of these phases moves others
 pub phases_little : MovesLess phases_move month_moves
-phases_little e t = both (amount_number e t == amount_number Births People) (amount_number e t == amount_number Income Money)
+phases_little e t = both _ _ _ _ (loses_by most_moved e t) (each_other (amount_number e t)) (lost_little e t)
   where
-    both : (a b : Bool) → (if a then most_moved else 0) + (if b then most_moved else 0) ≤ 200000000000000
-    both true true = omega arith
-    both true false = omega arith
-    both false true = omega arith
-    both false false = omega arith
+    lost_little : (e : Entry) (t : Thing) → loses_by most_moved e t ≤ most_moved
+    lost_little e t = either ((entry_place e == entry_place Lost) && not (thing_place t == thing_place People))
+      where
+        either : (b : Bool) → (if b then most_moved else 0) ≤ most_moved
+        either true = omega arith
+        either false = omega arith
+
+    if_all : Bool → Bool → Bool → Bool → ℕ
+    if_all a b c d = ((if a then most_moved else 0) + (if b then most_moved else 0)) + ((if c then most_moved else 0) + (if d then most_moved else 0))
+
+    fourth : (d : Bool) → if_all false false false d ≤ most_moved
+    fourth true = omega arith
+    fourth false = omega arith
+
+    each_other : (x : ℕ) → if_all (x == amount_number Upkeep Money) (x == amount_number Starved People) (x == amount_number Births People) (x == amount_number Income Money) ≤ most_moved
+    each_other x = first (x == amount_number Upkeep Money) (x == amount_number Starved People) (x == amount_number Births People) (x == amount_number Income Money) refl refl refl refl
+      where
+        first : (a b c d : Bool) → (x == amount_number Upkeep Money) ≡ a → (x == amount_number Starved People) ≡ b → (x == amount_number Births People) ≡ c → (x == amount_number Income Money) ≡ d → if_all a b c d ≤ most_moved
+        first a b c d f g h k = grind (arith, nat_tests, f, g, h, k)
+
+    both : (u s b i l : ℕ) → (u + s) + (b + i) ≤ most_moved → l ≤ most_moved → (u + s) + ((b + i) + l) ≤ 200000000000000
+    both u s b i l g h = omega (arith, g, h)
 
 -- a sound campaign has room for them
 pub phases_room : (w : Planet) (c : State) → IsSound w c → HaveRoom phases_move c
 phases_room w c sound = room_when_sound w c phases_move (λ e t. omega (arith, phases_little e t)) sound
-
--- the season takes no men and no unit away
-pub season_swept : (w : Planet) (c d : State) (words : List ℕ) → IsSound w c → d ≡ season w c words → LeavesWell IsSteady phases_move w c d → LeavesWell IsSwept phases_move w c d
-season_swept w c d words sound is well = record {
-  leaves_it = record {
-    steady = well.leaves_it;
-    men = subst (Every (λ n u. 1 ≤ u.holding.men)) (sym units) sound.men;
-    gone = λ n f there none. sound.gone n f (sym (ap (λ fs. get fs n) factions) ∙ there) (sym (ap (numbers_of n) units) ∙ none);
-  };
-  same_month = well.same_month;
-  balances = well.balances;
-  near = well.near;
-}
-  where
-    units : d.units ≡ c.units
-    units = ap (λ (s : State). s.units) is ∙ season_keeps_units w c words
-
-    factions : d.factions ≡ c.factions
-    factions = ap (λ (s : State). s.factions) is ∙ season_keeps_factions w c words
 
 -- in which order mailings come isn't seen
 pub month_has_no_order : MonthHasNoOrder

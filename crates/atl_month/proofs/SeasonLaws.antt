@@ -216,23 +216,6 @@ each_keeps w c (x ∷ xs) = each_keeps w (season_at w c x) xs ∙ season_at_keep
 pub season_keeps_units : (w : Planet) (c : State) (words : List ℕ) → (season w c words).units ≡ c.units
 season_keeps_units w c words = each_keeps w c (zip (map (λ (e : ℕ × RegionPlan). e.0) (entries w.regions)) words)
 
--- and no faction
-season_in_factions : (w : Planet) (c : State) (n word : ℕ) (o : Option Terrain) (p : Option Region) → (season_in w c n word o p).factions ≡ c.factions
-season_in_factions w c n word (Some t) (Some r) = refl
-season_in_factions w c n word (Some t) None = refl
-season_in_factions w c n word None p = refl
-
-season_at_factions : (w : Planet) (c : State) (x : ℕ × ℕ) → (season_at w c x).factions ≡ c.factions
-unfolding season_at
-season_at_factions w c (n, word) = season_in_factions w c n word (terrain_of w n) (get c.regions n)
-
-each_factions : (w : Planet) (c : State) (xs : List (ℕ × ℕ)) → (fold (season_at w) c xs).factions ≡ c.factions
-each_factions w c [] = refl
-each_factions w c (x ∷ xs) = each_factions w (season_at w c x) xs ∙ season_at_factions w c x
-
-pub season_keeps_factions : (w : Planet) (c : State) (words : List ℕ) → (season w c words).factions ≡ c.factions
-season_keeps_factions w c words = each_factions w c (zip (map (λ (e : ℕ × RegionPlan). e.0) (entries w.regions)) words)
-
 -- ---- the loop over the regions
 
 pub season_goes_on : (w : Planet) (c d all : State) (regions rest : List (ℕ × RegionPlan)) (words tail : List ℕ) (n word : ℕ) (plan : RegionPlan)

@@ -16,6 +16,7 @@ use std::alloc::{AllocError, Global};
 
 /// Births and income of the regions, with one word of the dice for each region in the order of their numbers; a region
 /// without a word has neither. See docs/RULES.md, "Season".
+#[derive(Drop, Clone, Copy)]
 pub struct SeasonPhase;
 
 /// How many are born among so many peasants: so many of a hundred as the word says, from 0 to the growth, up to the limit.

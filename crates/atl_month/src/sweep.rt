@@ -25,6 +25,7 @@ use std::alloc::{AllocError, Global};
 
 /// Units without men go: each leaves its money and its items to a unit of its faction in its region, and what that one has no
 /// room for is lost. Then factions without units are gone. See docs/RULES.md, "Sweep".
+#[derive(Drop, Clone, Copy)]
 pub struct SweepPhase;
 
 /// Whether a unit is of a faction, and has men.

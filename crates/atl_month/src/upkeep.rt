@@ -22,6 +22,7 @@ use std::alloc::{AllocError, Global};
 
 /// The upkeep of all units: the units of one faction in one region pay for each other, and whom they can't keep starves. See
 /// docs/RULES.md, "Upkeep".
+#[derive(Drop, Clone, Copy)]
 pub struct UpkeepPhase;
 
 /// What each unit has before its upkeep.

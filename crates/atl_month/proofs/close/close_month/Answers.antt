@@ -1,6 +1,14 @@
-use Rattle.atl_month.specs.Month.{phases_move}
+use Rattle.std.proofs.Common.{rules, ◌≡◌, ℕ, map, subst}
+use Rattle.atl_orders.specs.Mailing.{reading_of}
+use Rattle.atl_instant.specs.Course.{Course, by_faction}
+use Rattle.atl_month.specs.Month.{begun, phases_keep, phases_move}
 use Rattle.atl_month.proofs.MonthLaws.{finished_good, phases_little}
 use Rattle.atl_month.proofs.close.close_month.Goals as goal
 
 pub returns-clause-good : goal.returns-clause-good
 returns-clause-good c = finished_good c.args.world.now c.args.campaign.what c.in_ok-campaign.campaign.what phases_move phases_little c.requires.month c.in_ok-campaign.ensures.leaves c.requires.good
+
+pub returns-clause-keeps : goal.returns-clause-keeps
+returns-clause-keeps c =
+    let is : c.new-month.result ≡ begun (by_faction (map reading_of c.args.mailings.items)) c.args.words.now = search rules in
+    subst (λ (m : Course). phases_keep c.args.world.now m c.args.campaign.what c.in_ok-campaign.campaign.what) is c.in_ok-campaign.ensures.keeps
