@@ -1,6 +1,7 @@
 //! The moderator's program.
 #![tactic(auto)]
 
+mod close;
 mod database;
 mod failure;
 mod files;
@@ -26,7 +27,10 @@ type All = (
     trial::Trial,
     (
         found::Found,
-        (join::Join, (mail::Mail, (report::Report, ()))),
+        (
+            join::Join,
+            (mail::Mail, (close::Close, (report::Report, ()))),
+        ),
     ),
 );
 

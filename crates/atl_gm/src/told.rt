@@ -33,6 +33,7 @@ pub fn tell<R: Print>(rt: &R, answer: &Answer) -> Result<(), Failure> {
     match answer {
         Answer::Joined { faction, unit } => printed(println!(rt; "faction {faction}, unit {unit}")),
         Answer::Mailed { orders, faults } => printed(tell_mailing(rt, *orders, faults.as_slice())),
+        Answer::MonthDone { month } => printed(println!(rt; "month {month} closed")),
         Answer::Text(text) => printed(rt.print(text.as_str())),
         Answer::Refused(refusal) => Err(Failure::Refused(*refusal)),
         Answer::Fault(Fault::Store) => Err(Failure::Store),

@@ -4,3 +4,5 @@ pub mod ListLaws
 pub mod OpenLaws
 pub mod RunLaws
 pub mod StepLaws
+pub mod CloseLaws
+pub mod PostingLaws

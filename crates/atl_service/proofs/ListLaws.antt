@@ -12,7 +12,7 @@ use Rattle.atl_store.specs.Keeps.{Keeps, Stops}
 use Rattle.atl_store.proofs.WorldTextLaws.{world_text_is}
 use Rattle.atl_service.specs.declared.command.Command.{Command}
 use Rattle.atl_service.specs.declared.command.Answer.{Answer}
-use Rattle.atl_service.specs.declared.command.Answer.TheVariants.{Joined, Mailed, Text, Refused, Fault}
+use Rattle.atl_service.specs.declared.command.Answer.TheVariants.{Joined, Mailed, MonthDone, Text, Refused, Fault}
 use Rattle.atl_service.specs.declared.command.Fault.TheVariants.{Memory, Store, Closed}
 use Rattle.atl_service.specs.Step.{step}
 use Rattle.atl_store.specs.Keeps.{HoldsCampaign}
@@ -39,6 +39,7 @@ module _ {S : Type 0} (g : Ghosts S) where
   follows_as t u few many w c (x ∷ cs) [] new same h f = absurd f
   follows_as t u few many w c (x ∷ cs) (Joined n m ∷ rs) new same h f = (f.0, follows_as t u few many w (step w c x).0 cs rs new same h f.1)
   follows_as t u few many w c (x ∷ cs) (Mailed n fs ∷ rs) new same h f = (f.0, follows_as t u few many w (step w c x).0 cs rs new same h f.1)
+  follows_as t u few many w c (x ∷ cs) (MonthDone n ∷ rs) new same h f = (f.0, follows_as t u few many w (step w c x).0 cs rs new same h f.1)
   follows_as t u few many w c (x ∷ cs) (Text r ∷ rs) new same h f = (f.0, follows_as t u few many w (step w c x).0 cs rs new same h f.1)
   follows_as t u few many w c (x ∷ cs) (Refused r ∷ rs) new same h f = (f.0, follows_as t u few many w (step w c x).0 cs rs new same h f.1)
   follows_as t u few many w c (x ∷ cs) (Fault e ∷ rs) new same h f =
@@ -78,6 +79,7 @@ module _ {S : Type 0} (g : Ghosts S) where
       → FollowsAt g old (x ∷ cs) (a ∷ rs) new (Some c)
   first_open old mid new c x (Joined n m) cs rs ran was counts up rest = let k = carried old mid new c x (Joined n m) cs rs ran was counts rest in ((k.0, k.1), k.2)
   first_open old mid new c x (Mailed n fs) cs rs ran was counts up rest = let k = carried old mid new c x (Mailed n fs) cs rs ran was counts rest in ((k.0, k.1), k.2)
+  first_open old mid new c x (MonthDone n) cs rs ran was counts up rest = let k = carried old mid new c x (MonthDone n) cs rs ran was counts rest in ((k.0, k.1), k.2)
   first_open old mid new c x (Text t) cs rs ran was counts up rest = let k = carried old mid new c x (Text t) cs rs ran.0 was counts rest in ((k.0, k.1), k.2)
   first_open old mid new c x (Refused r) cs rs ran was counts up rest =
       let same : mid ≡ old = ran.1 in
@@ -154,6 +156,7 @@ module _ {S : Type 0} (g : Ghosts S) where
   ends text faults w c (x ∷ cs) [] new f = absurd f
   ends text faults w c (x ∷ cs) (Joined n m ∷ rs) new f = further text faults w c x (Joined n m) cs rs new f.0 (ends text faults w (step w c x).0 cs rs new f.1)
   ends text faults w c (x ∷ cs) (Mailed n fs ∷ rs) new f = further text faults w c x (Mailed n fs) cs rs new f.0 (ends text faults w (step w c x).0 cs rs new f.1)
+  ends text faults w c (x ∷ cs) (MonthDone n ∷ rs) new f = further text faults w c x (MonthDone n) cs rs new f.0 (ends text faults w (step w c x).0 cs rs new f.1)
   ends text faults w c (x ∷ cs) (Text r ∷ rs) new f = further text faults w c x (Text r) cs rs new f.0 (ends text faults w (step w c x).0 cs rs new f.1)
   ends text faults w c (x ∷ cs) (Refused r ∷ rs) new f = further text faults w c x (Refused r) cs rs new f.0 (ends text faults w (step w c x).0 cs rs new f.1)
   ends text faults w c (x ∷ cs) (Fault e ∷ rs) new f = inr (record {

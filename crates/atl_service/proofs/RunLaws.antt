@@ -11,7 +11,7 @@ use Rattle.atl_store.proofs.WorldTextLaws.{world_text_is}
 use Rattle.atl_service.specs.declared.command.Command.{Command}
 use Rattle.atl_service.specs.declared.command.Answer.{Answer}
 use Rattle.atl_service.specs.declared.command.Fault.{Fault as Failure}
-use Rattle.atl_service.specs.declared.command.Answer.TheVariants.{Joined, Mailed, Text, Refused, Fault}
+use Rattle.atl_service.specs.declared.command.Answer.TheVariants.{Joined, Mailed, MonthDone, Text, Refused, Fault}
 use Rattle.atl_store.specs.declared.fault.WriteFault.{WriteFault}
 use Rattle.atl_store.specs.declared.fault.WriteFault.TheVariants as write
 use Rattle.atl_store.specs.Keeps.{HoldsCampaign}
@@ -53,6 +53,7 @@ module _ {S : Type 0} (g : Ghosts S) where
     runs_open : (answer : Answer) → Stands g conn w c true → LeavesIdle g conn conn' → Answered answer → RunsOpen g c (shown conn w c true) command answer (shown conn' w c' true)
     runs_open (Joined f u) stands leaves done = record { after = c'; step = done.step_is; same = refl; tables = holding (Joined f u) stands leaves done }
     runs_open (Mailed n fs) stands leaves done = record { after = c'; step = done.step_is; same = refl; tables = holding (Mailed n fs) stands leaves done }
+    runs_open (MonthDone n) stands leaves done = record { after = c'; step = done.step_is; same = refl; tables = holding (MonthDone n) stands leaves done }
     runs_open (Text t) stands leaves done = (record { after = c'; step = done.step_is; same = refl; tables = holding (Text t) stands leaves done }, ap₂ (λ h d. shown h w d true) done.same.1 done.same.0)
     runs_open (Refused r) stands leaves done = (done.step_is ∙ ap (λ d. (d, Refused r)) done.same.0, ap₂ (λ h d. shown h w d true) done.same.1 done.same.0)
     runs_open (Fault f) stands leaves done = absurd done.sound

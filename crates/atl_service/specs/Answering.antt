@@ -15,7 +15,7 @@ use Rattle.atl_service.specs.declared.answering.Unkept.{Unkept}
 use Rattle.atl_service.specs.declared.answering.Unkept.TheVariants as unkept
 use Rattle.atl_service.specs.declared.command.Command.{Command}
 use Rattle.atl_service.specs.declared.command.Answer.{Answer}
-use Rattle.atl_service.specs.declared.command.Answer.TheVariants.{Joined, Mailed, Text, Refused, Fault}
+use Rattle.atl_service.specs.declared.command.Answer.TheVariants.{Joined, Mailed, MonthDone, Text, Refused, Fault}
 use Rattle.atl_service.specs.declared.command.Fault.{Fault as Failure}
 use Rattle.atl_service.specs.declared.command.Fault.TheVariants as fault
 use Rattle.atl_service.specs.declared.command.Refusal.TheVariants as why
@@ -30,6 +30,7 @@ IsSound _ = ⊤
 abbrev pub IfIdle : Answer → Type 0 → Type 0
 IfIdle (Joined _ _) P = ⊤
 IfIdle (Mailed _ _) P = ⊤
+IfIdle (MonthDone _) P = ⊤
 IfIdle (Text _) P = P
 IfIdle (Refused _) P = P
 IfIdle (Fault _) P = ⊤

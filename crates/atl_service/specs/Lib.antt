@@ -1,7 +1,10 @@
 pub mod Numbers
+pub mod Closing
 pub mod Step
 pub mod Engine
 pub mod Answering
+pub mod Months
 pub mod Runs
+pub mod Posting
 pub mod Found
 pub mod Opened

@@ -8,7 +8,7 @@ use Rattle.atl_state.specs.State.{State as Campaign}
 use Rattle.atl_store.specs.Keeps.{Stops}
 use Rattle.atl_service.specs.declared.command.Command.{Command}
 use Rattle.atl_service.specs.declared.command.Answer.{Answer}
-use Rattle.atl_service.specs.declared.command.Answer.TheVariants.{Joined, Mailed, Text, Refused, Fault}
+use Rattle.atl_service.specs.declared.command.Answer.TheVariants.{Joined, Mailed, MonthDone, Text, Refused, Fault}
 use Rattle.atl_service.specs.declared.command.Answer.TheVariants as Answers
 use Rattle.atl_service.specs.declared.command.Fault.{Fault as Failure}
 use Rattle.atl_service.specs.declared.command.Fault.TheVariants.{Memory, Store, Closed}
@@ -36,6 +36,7 @@ pub record Closes {S : Type 0} (g : Ghosts S) (c : Campaign) (old : Engine S) (c
 abbrev pub RunsOpen : {S : Type 0} → Ghosts S → Campaign → Engine S → Command → Answer → Engine S → Type 0
 RunsOpen g c old command (Joined faction unit) new = Accepts g c old command (Joined faction unit) new
 RunsOpen g c old command (Mailed orders faults) new = Accepts g c old command (Mailed orders faults) new
+RunsOpen g c old command (MonthDone month) new = Accepts g c old command (MonthDone month) new
 RunsOpen g c old command (Text report) new = Accepts g c old command (Text report) new × (new ≡ old)
 RunsOpen g c old command (Refused why) new = Refuses c old command (Refused why) new
 RunsOpen g c old command (Fault Memory) new = Closes g c old command new
@@ -65,6 +66,7 @@ abbrev pub Follows : {S : Type 0} → Ghosts S → List ℕ → ℕ → Planet �
 Follows g text faults w c [] [] new = (new.campaign ≡ Some c) × HoldsCampaign g new.conn text c
 Follows g text faults w c (command ∷ cs) (Joined faction unit ∷ rs) new = ((step w c command).1 ≡ Joined faction unit) × Follows g text faults w (step w c command).0 cs rs new
 Follows g text faults w c (command ∷ cs) (Mailed orders faulty ∷ rs) new = ((step w c command).1 ≡ Mailed orders faulty) × Follows g text faults w (step w c command).0 cs rs new
+Follows g text faults w c (command ∷ cs) (MonthDone month ∷ rs) new = ((step w c command).1 ≡ MonthDone month) × Follows g text faults w (step w c command).0 cs rs new
 Follows g text faults w c (command ∷ cs) (Text report ∷ rs) new = ((step w c command).1 ≡ Text report) × Follows g text faults w (step w c command).0 cs rs new
 Follows g text faults w c (command ∷ cs) (Refused why ∷ rs) new = ((step w c command).1 ≡ Refused why) × Follows g text faults w (step w c command).0 cs rs new
 Follows g text faults w c (command ∷ cs) (Fault fault ∷ rs) new =

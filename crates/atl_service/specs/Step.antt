@@ -1,7 +1,7 @@
 -- What one command, and a list of commands, make of a campaign, and how they are answered.
-use Rattle.std.specs.Prelude.{◌==◌, ◌∷◌, [], ℕ, List, length, not, nat_eq, if◌then◌else◌, Option, Some, None, Result, Ok, Err, unwrap_or}
+use Rattle.std.specs.Prelude.{◌==◌, ◌+◌, ◌∷◌, [], ℕ, List, length, not, nat_eq, nat_lt, if◌then◌else◌, Option, Some, None, Result, Ok, Err, unwrap_or}
 use Rattle.std.specs.Cmp.Lexicographic.{pointwise}
-use Rattle.std.specs.FinMap.{get}
+use Rattle.std.specs.FinMap.{get, len}
 use Rattle.atl_tables.specs.Names.{name_ok, pass_ok}
 use Rattle.atl_tables.specs.Planet.{Planet}
 use Rattle.atl_orders.specs.declared.fault.MailFault.{MailFault}
@@ -10,21 +10,21 @@ use Rattle.atl_orders.specs.Mailing.{Reading, reading}
 use Rattle.atl_state.specs.declared.records.Faction.{Faction}
 use Rattle.atl_state.specs.declared.records.JoinFault.{JoinFault}
 use Rattle.atl_state.specs.declared.records.JoinFault.TheVariants.{NameTaken, Full, Memory}
-use Rattle.atl_state.specs.State.{State, with_mail, with_report}
+use Rattle.atl_state.specs.Limits.{last_month}
+use Rattle.atl_state.specs.State.{State, with_mail}
 use Rattle.atl_state.specs.Joining.{join_of}
-use Rattle.atl_report.specs.Sight.{view_of}
-use Rattle.atl_report.specs.Report.{report_of}
+use Rattle.atl_service.specs.Closing.{closed, reported_with}
 use Rattle.atl_service.specs.declared.command.Command.{Command}
-use Rattle.atl_service.specs.declared.command.Command.TheVariants.{Join, Mail, Report}
+use Rattle.atl_service.specs.declared.command.Command.TheVariants.{Join, Mail, Close, Report}
 use Rattle.atl_service.specs.declared.command.Answer.{Answer}
-use Rattle.atl_service.specs.declared.command.Answer.TheVariants.{Joined, Mailed, Text, Refused, Fault}
+use Rattle.atl_service.specs.declared.command.Answer.TheVariants.{Joined, Mailed, MonthDone, Text, Refused, Fault}
 use Rattle.atl_service.specs.declared.command.Refusal.{Refusal}
 use Rattle.atl_service.specs.declared.command.Refusal.TheVariants as why
 use Rattle.atl_service.specs.declared.command.Fault.TheVariants as faults
 
 -- the campaign with a new report for a faction, of what it sees; nothing is told of orders
 abbrev pub reported : Planet → State → ℕ → State
-reported w c faction = with_report c faction (report_of w (view_of c faction) [] [])
+reported w c faction = reported_with w c faction [] []
 
 -- a joining, with the first report
 abbrev pub joined_with : Planet → State → Result (State × (ℕ × ℕ)) JoinFault → State × Answer
@@ -60,6 +60,15 @@ abbrev pub told_of : State → ℕ → Result Faction Refusal → State × Answe
 told_of c faction (Err refusal) = (c, Refused refusal)
 told_of c faction (Ok f) = (c, Text (unwrap_or (get c.reports faction) []))
 
+-- the month after the one last closed, with a word of the dice for each region
+abbrev pub closed_by : Planet → State → ℕ → List ℕ → List ℕ → State × Answer
+closed_by w c month pass words =
+    if not (pointwise nat_eq c.pass pass) then (c, Refused why.WrongPass)
+    else (if not (month == c.month + 1) then (c, Refused why.WrongMonth)
+    else (if nat_lt last_month month then (c, Refused why.MonthLimit)
+    else (if not (length words == len w.regions) then (c, Refused why.WrongDice)
+    else (closed w c words, MonthDone month))))
+
 -- the campaign after a command, and its answer
 unfoldable pub step : Planet → State → Command → State × Answer
 step w c (Join name pass word) =
@@ -67,6 +76,7 @@ step w c (Join name pass word) =
     else (if not (pass_ok pass) then (c, Refused why.BadPassText)
     else joined_with w c (join_of w name pass word c))
 step w c (Mail faction pass text) = mailed_by w c faction text (identified pass (get c.factions faction))
+step w c (Close month pass words) = closed_by w c month pass words
 step w c (Report faction pass) = told_of c faction (identified pass (get c.factions faction))
 
 -- the campaign after a list of commands, and the list of answers

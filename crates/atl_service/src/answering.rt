@@ -4,36 +4,19 @@ ghost use Rattle.std.specs.FinMap as map;
 ghost use Rattle.atl_orders.specs.Mailing.{IsMailingOf};
 ghost use Rattle.atl_state.specs.Good.{IsGood, IsActive};
 ghost use Rattle.atl_state.specs.Marks.{no_marks};
-ghost use Rattle.atl_state.specs.Marking.{mark_report};
 ghost use Rattle.atl_state.specs.State.{with_mail};
-ghost use Rattle.atl_service.specs.Step.{identified, step, reported};
+ghost use Rattle.atl_service.specs.Step.{identified, step};
 ghost use Rattle.atl_service.specs.Answering.{Answers, Denies, GivesUp, IsSound, LeavesIdle, unread};
 
+use crate::closing::close;
 use crate::command::{Answer, Command, Refusal};
+use crate::reporting::store_report;
 use atl_orders::{MailFault, Mailing, read_mailing};
-use atl_report::{report_text, view};
 use atl_state::{Campaign, Faction, JoinFault};
 use atl_store::{WriteFault, write_join, write_mail};
 use atl_tables::{Sequence, Text, World, name_ok, pass_ok};
 use sqlite::{Alter, Connection};
 use std::alloc::{AllocError, Global};
-
-/// Stores a new report for a faction, of what it sees, and marks it. Without memory for it the campaign stays as it is.
-fn store_report(
-    alloc: Global,
-    world: &World,
-    campaign: &mut Campaign,
-    faction: u32,
-) -> Result<(), AllocError>
-    ensures ok { OnOk result (campaign.new.what ≡ reported world.now campaign.old.what faction) }
-    ensures marks { OnOk result (campaign.new.marks ≡ mark_report campaign.old faction) }
-    ensures err { OnErr result (campaign.new ≡ campaign.old) }
-{
-    let seen = view(alloc, world, campaign, faction)?;
-    let text = report_text(alloc, world, &seen, &[], &[])?;
-    campaign.set_report(faction, Text::from_string(text))?;
-    Ok(())
-}
 
 /// The answer to a command Join. The commit is the last call that can fail.
 fn join<S: Alter>(
@@ -64,7 +47,7 @@ fn join<S: Alter>(
         Err(JoinFault::Full) => return Ok(Answer::Refused(Refusal::Full)),
         Err(JoinFault::Memory) => return Err(WriteFault::Memory),
     };
-    store_report(alloc, world, campaign, faction)?;
+    store_report(alloc, world, campaign, faction, &[], &[])?;
     write_join(conn, campaign, faction)?;
     campaign.unmark();
     Ok(Answer::Joined { faction, unit })
@@ -220,6 +203,9 @@ pub(crate) fn answered<S: Alter>(
             pass,
             text,
         } => mail(alloc, world, campaign, conn, *faction, pass, text),
+        Command::Close { month, pass, words } => {
+            close(alloc, world, campaign, conn, *month, pass, words)
+        }
         Command::Report { faction, pass } => { Ok(told(alloc, world, campaign, *faction, pass)?) }
     }
 }

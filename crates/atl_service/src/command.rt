@@ -26,6 +26,13 @@ pub enum Command {
         pass: Sequence<u8>,
         text: Sequence<u8>,
     },
+    /// The moderator closes a month: its number, the moderator's pass text, and one word of the dice for each region, in the
+    /// order of the regions' numbers.
+    Close {
+        month: u32,
+        pass: Sequence<u8>,
+        words: Sequence<u32>,
+    },
     /// A faction asks for its stored report.
     Report {
         faction: u32,
@@ -45,6 +52,11 @@ impl Drop for Command {
                 faction: _,
                 pass: _,
                 text: _,
+            } => {}
+            Command::Close {
+                month: _,
+                pass: _,
+                words: _,
             } => {}
             Command::Report {
                 faction: _,
@@ -79,6 +91,12 @@ pub enum Refusal {
     BadHeader,
     /// The header names another faction.
     WrongFaction,
+    /// The month isn't the one after the month last closed.
+    WrongMonth,
+    /// Month 9,999 was closed, and no month can be closed behind it.
+    MonthLimit,
+    /// There isn't one word for each region.
+    WrongDice,
 }
 
 impl Refusal {
@@ -98,6 +116,9 @@ impl Refusal {
             Refusal::NoHeader => 9,
             Refusal::BadHeader => 10,
             Refusal::WrongFaction => 11,
+            Refusal::WrongMonth => 12,
+            Refusal::MonthLimit => 13,
+            Refusal::WrongDice => 14,
         }
     }
 }
@@ -137,6 +158,10 @@ pub enum Answer {
         orders: usize,
         faults: Sequence<FaultyLine>,
     },
+    /// The number of the month that was closed.
+    MonthDone {
+        month: u32,
+    },
     /// A report.
     Text(Text),
     Refused(Refusal),
@@ -154,6 +179,7 @@ impl Drop for Answer {
                 orders: _,
                 faults: _,
             } => {}
+            Answer::MonthDone { month: _ } => {}
             Answer::Text(_) => {}
             Answer::Refused(_) => {}
             Answer::Fault(_) => {}

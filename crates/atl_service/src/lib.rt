@@ -2,9 +2,13 @@
 #![tactic(auto)]
 
 mod answering;
+mod closing;
 pub mod command;
 mod founding;
+pub mod posting;
+mod reporting;
 pub mod service;
 
 pub use command::{Answer, Cause, Command, Fault, Refusal, Refused};
+pub use posting::only_the_last_mail_counts;
 pub use service::{Service, found, open};

@@ -1,4 +1,5 @@
 //! A club's first commands, and the calls beneath them.
+mod closing;
 mod commands;
 mod compare;
 mod crashes;
@@ -6,6 +7,7 @@ mod damage;
 mod files;
 mod founding;
 mod full;
+mod limits;
 mod mailings;
 mod making;
 mod opening;

@@ -39,3 +39,4 @@ pub mod HoldingLaws
 pub mod RemovedLaws
 pub mod LeavingLaws
 pub mod GoneLaws
+pub mod PostLaws

@@ -1,4 +1,5 @@
 pub mod Assembling
+pub mod Blank
 pub mod Books
 pub mod Checking
 pub mod Covers

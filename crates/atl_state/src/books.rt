@@ -1,5 +1,5 @@
 //! What the books say: signed amounts by entry and thing.
-ghost use Rattle.std.specs.Prelude.{◌≡◌, ◌<◌, ◌≤◌, ◌*◌, ◌+ℤ◌, All, IfOk, length, replicate, slice_set, false, true};
+ghost use Rattle.std.specs.Prelude.{◌≡◌, ◌<◌, ◌≤◌, ◌*◌, ◌+ℤ◌, [], All, IfOk, length, replicate, slice_set, false, true};
 ghost use Rattle.std.specs.Int.{w64};
 ghost use Rattle.std.specs.Int.RustNames.{FitsSigned};
 ghost use Rattle.std.specs.FinSet as set;
@@ -121,6 +121,15 @@ impl Books {
         Ok(Books { rows })
     }
 
+    /// Books of nothing. It takes no memory.
+    pub(crate) fn blank(alloc: Global) -> Books
+        ensures { result ≡ [] }
+    {
+        Books {
+            rows: Vec::new(alloc),
+        }
+    }
+
     pub fn len(&self) -> usize
         ensures value { result ≡ length self.now }
         ensures few { length self.now ≤ 65538 }
@@ -212,6 +221,15 @@ impl AmountMarks {
             flags.extend_from_slice(&[false; ENTRY_COUNT])?;
         }
         Ok(AmountMarks { flags })
+    }
+
+    /// Marks of no amounts. It takes no memory.
+    pub(crate) fn blank(alloc: Global) -> AmountMarks
+        ensures { result ≡ [] }
+    {
+        AmountMarks {
+            flags: Vec::new(alloc),
+        }
     }
 
     /// Whether an amount is marked.

@@ -9,6 +9,7 @@ ghost use Rattle.atl_state.specs.Marking.{mark_mail, mark_report};
 ghost use Rattle.atl_state.specs.Marks.{AreOfThings};
 
 mod assembling;
+mod blank;
 mod coming;
 mod founding;
 mod joining;

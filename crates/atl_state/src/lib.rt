@@ -24,6 +24,6 @@ pub use campaign::{Campaign, founded};
 pub use event::{Event, EventFault, EventVerb, Outcome};
 pub use holding::Holding;
 pub use levels::{carry, goods, level, load};
-pub use limits::{ENTRY_COUNT, LAST_UNIT, MOST_STRUCTURES, MOST_UNITS};
+pub use limits::{ENTRY_COUNT, LAST_MONTH, LAST_UNIT, MOST_STRUCTURES, MOST_UNITS};
 pub use records::{Faction, JoinFault, Region, Structure, Unit};
 pub use row_rules::are_distinct;

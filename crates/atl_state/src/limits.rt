@@ -13,7 +13,7 @@ pub const MOST_STRUCTURES: u32 = 10_000;
 pub const ENTRY_COUNT: usize = 13;
 
 /// The month last closed is at most this one.
-pub(crate) const LAST_MONTH: u32 = 9_999;
+pub const LAST_MONTH: u32 = 9_999;
 
 /// The most men of a unit.
 pub(crate) const MEN_LIMIT: u32 = 999_999;

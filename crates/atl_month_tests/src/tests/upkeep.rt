@@ -117,7 +117,7 @@ fn told_of(alloc: Global, campaign: &Campaign, month: &Month) -> Result<String, 
     Ok(told)
 }
 
-fn behind_upkeep(
+pub(crate) fn behind_upkeep(
     alloc: Global,
     world: &World,
     campaign: Campaign,

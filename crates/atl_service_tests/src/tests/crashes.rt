@@ -1,8 +1,8 @@
-//! A disk that stops at each of its calls, while a campaign is founded and a faction joins. What works on the disk takes
-//! any disk that can crash.
-use super::compare::is_amount;
-use super::making::{join, told};
-use super::tables::{FACTIONS, UNITS, number};
+//! A disk that stops at each of its calls, while a campaign is founded, a faction joins and sends its orders, and a month is
+//! closed. What works on the disk takes any disk that can crash.
+use super::mailings::FAULTY;
+use super::making::{close, join, mail, told};
+use super::tables::{FACTIONS, MAILINGS, MONTH, REGION_MONEY, UNITS, number};
 use super::worlds::SMALL;
 use atl_service::{Cause, Command, Refused, Service, found};
 use sqlite::{Alter, Connection, FileStore, Options};
@@ -11,32 +11,37 @@ use std::alloc::Global;
 use std::process::Abort;
 use std::test::Fail;
 
-/// How far the commands came.
+/// How far a visit came.
 #[derive(Clone, Copy, PartialEq, Eq, Debug)]
 enum Reached {
     Nothing,
-    Founded,
-    Joined,
+    /// A campaign was founded, and so many commands were carried out.
+    Done(usize),
     /// A disk that stopped was answered by another fault than Store, or a command behind it not by Closed.
     Wrong,
 }
 
-/// What a visit to a database tells: how far its commands came, or how many factions are there.
+/// What a visit to a database tells: how far its commands came, or behind how many commands the tables are.
 #[derive(Clone, Copy)]
 struct Told {
     reached: Reached,
-    factions: Option<i64>,
+    stage: Option<usize>,
 }
 
-/// Lets a faction join twice.
-fn joins<S: Alter>(service: &mut Service<S>, command: &Command) -> Reached {
-    let first = service.run(command);
-    let second = service.run(command);
-    match (told(&first), told(&second)) {
-        ("joined", "name taken") => Reached::Joined,
-        ("store", "closed") => Reached::Founded,
-        _ => Reached::Wrong,
+/// Runs the commands, up to the one at which the disk stops; those behind it are to be answered Closed.
+fn run_each<S: Alter>(service: &mut Service<S>, commands: &[Command]) -> Reached {
+    let mut done = 0;
+    let mut stopped = false;
+    for command in commands {
+        let answer = service.run(command);
+        match told(&answer) {
+            "joined" | "mailed" | "month done" if !stopped && done < commands.len() => done += 1,
+            "store" if !stopped => stopped = true,
+            "closed" if stopped => {}
+            _ => return Reached::Wrong,
+        }
     }
+    Reached::Done(done)
 }
 
 fn refused<S: Alter>(refused: Refused<S>) -> (Reached, Connection<S>) {
@@ -48,54 +53,87 @@ fn refused<S: Alter>(refused: Refused<S>) -> (Reached, Connection<S>) {
     (reached, conn)
 }
 
-/// Founds a campaign and lets a faction join.
+/// Founds a campaign and runs the commands.
 fn run<S: Alter>(
     alloc: Global,
     conn: Connection<S>,
-    command: &Command,
+    commands: &[Command],
 ) -> (Reached, Connection<S>) {
     match found(alloc, conn, SMALL, b"gm") {
         Ok(mut service) => {
-            let reached = joins(&mut service, command);
+            let reached = run_each(&mut service, commands);
             (reached, service.end())
         }
         Err(why) => refused(why),
     }
 }
 
-/// How many factions the tables have, where there are tables; a part of a writing is an error.
-fn factions<S: Alter>(conn: &mut Connection<S>) -> Result<Told, Fail> {
-    let factions = number(conn, FACTIONS);
-    let units = number(conn, UNITS);
-    let reports = number(conn, "SELECT count(*) FROM report");
-    let joined = number(conn, "SELECT next_faction - 1 FROM campaign");
-    if units != factions || reports != factions || joined != factions {
+const REPORTS: &str = "SELECT count(*) FROM report";
+
+const JOINED: &str = "SELECT next_faction - 1 FROM campaign";
+
+const QUERIES: [&str; 7] = [
+    MONTH,
+    FACTIONS,
+    UNITS,
+    REPORTS,
+    JOINED,
+    MAILINGS,
+    REGION_MONEY,
+];
+
+/// What the tables answer behind the founding, the joining, the mailing and the closing.
+const STAGES: [[i64; 7]; 4] = [
+    [0, 0, 0, 0, 0, 0, 500],
+    [0, 1, 1, 1, 1, 0, 500],
+    [0, 1, 1, 1, 1, 1, 500],
+    [1, 1, 1, 1, 1, 0, 1500],
+];
+
+fn answers<S: Alter>(conn: &mut Connection<S>, wanted: &[i64]) -> bool {
+    for (sql, amount) in QUERIES.iter().zip(wanted.iter()) {
+        if number(conn, sql) != Some(*amount) {
+            return false;
+        }
+    }
+    true
+}
+
+/// Behind how many commands the tables are, where there are tables; a part of a writing is an error.
+fn stage<S: Alter>(conn: &mut Connection<S>) -> Result<Told, Fail> {
+    let mut stage = None;
+    for (place, wanted) in STAGES.iter().enumerate() {
+        if answers(conn, wanted) {
+            stage = Some(place);
+        }
+    }
+    if stage.is_none() && number(conn, MONTH).is_some() {
         return Err(Fail::new("a part of a writing"));
     }
     Ok(Told {
         reached: Reached::Nothing,
-        factions,
+        stage,
     })
 }
 
-/// Founds a campaign and runs the command; without one it counts the factions.
+/// Founds a campaign and runs the commands; without them it looks at the tables.
 fn visit<S: Alter>(
     alloc: Global,
     conn: Connection<S>,
-    command: Option<&Command>,
+    commands: Option<&[Command]>,
 ) -> (Result<Told, Fail>, Connection<S>) {
-    match command {
-        Some(command) => {
-            let (reached, conn) = run(alloc, conn, command);
+    match commands {
+        Some(commands) => {
+            let (reached, conn) = run(alloc, conn, commands);
             let told = Told {
                 reached,
-                factions: None,
+                stage: None,
             };
             (Ok(told), conn)
         }
         None => {
             let mut conn = conn;
-            (factions(&mut conn), conn)
+            (stage(&mut conn), conn)
         }
     }
 }
@@ -116,28 +154,28 @@ fn visited<D: Crash + Drop>(
     alloc: Global,
     files: Files<D>,
     seed: u64,
-    command: Option<&Command>,
+    commands: Option<&[Command]>,
 ) -> Result<Option<(Told, Files<D>)>, Fail> {
     let Some(conn) = open(alloc, files, seed) else {
         return Ok(None);
     };
-    let (told, conn) = visit(alloc, conn, command);
+    let (told, conn) = visit(alloc, conn, commands);
     let Files { mut log, mut db } = conn.into_store().close();
     log.crash();
     db.crash();
     Ok(Some((told?, Files { log, db })))
 }
 
-/// How far commands came on these files, and the factions that are found after a crash.
+/// How far commands came on these files, and behind how many the tables are after a crash.
 fn stopped<D: Crash + Drop>(
     alloc: Global,
     files: Files<D>,
-    command: &Command,
-) -> Result<(Reached, Option<i64>), Fail> {
-    match visited(alloc, files, 1, Some(command))? {
+    commands: &[Command],
+) -> Result<(Reached, Option<usize>), Fail> {
+    match visited(alloc, files, 1, Some(commands))? {
         Some((told, left)) => {
             let (again, _) = visited(alloc, left, 2, None)?.ok_or("reopen")?;
-            Ok((told.reached, again.factions))
+            Ok((told.reached, again.stage))
         }
         None => Ok((Reached::Nothing, None)),
     }
@@ -152,28 +190,38 @@ fn stopping(alloc: Global, calls: u64) -> Files<Fuse<Memory>> {
 }
 
 /// Asserts that a crash left the campaign before or the one after.
-fn is_whole(rt: &impl Abort, reached: Reached, found: Option<i64>) {
-    match reached {
-        Reached::Nothing => assert!(rt; found.is_none() || found == Some(0)),
-        Reached::Founded => assert!(rt; found == Some(0) || found == Some(1)),
-        Reached::Joined => is_amount(rt, found, Some(1)),
-        Reached::Wrong => assert!(rt; false),
+fn is_whole(rt: &impl Abort, reached: Reached, found: Option<usize>) {
+    match (reached, found) {
+        (Reached::Nothing, None | Some(0)) => {}
+        (Reached::Done(done), Some(stage)) => {
+            assert!(rt; stage == done || done < 3 && stage == done + 1);
+        }
+        _ => assert!(rt; false),
     }
 }
 
-fn stops(rt: &impl Abort, alloc: Global, command: &Command) -> Result<(), Fail> {
+fn stops(rt: &impl Abort, alloc: Global, commands: &[Command]) -> Result<(), Fail> {
     let mut last = Reached::Nothing;
-    for calls in 0..40 {
-        let (reached, found) = stopped(alloc, stopping(alloc, calls), command)?;
+    for calls in 0..120 {
+        let (reached, found) = stopped(alloc, stopping(alloc, calls), commands)?;
         is_whole(rt, reached, found);
         last = reached;
     }
-    assert!(rt; last == Reached::Joined);
+    assert!(rt; last == Reached::Done(3));
     Ok(())
+}
+
+/// A joining, a mailing and a closing.
+fn commands(alloc: Global) -> Result<Vec<Command>, Fail> {
+    let mut commands = Vec::new(alloc);
+    commands.push(join(alloc, "Avalon", "pw", 0)?)?;
+    commands.push(mail(alloc, 1, "pw", FAULTY)?)?;
+    commands.push(close(alloc, 1, "gm", &[0])?)?;
+    Ok(commands)
 }
 
 #[test]
 fn a_stopped_disk_leaves_no_part(rt: HostRuntime) -> Result<(), Fail> {
-    let command = join(rt.alloc(), "Avalon", "pw", 0)?;
-    stops(&rt, rt.alloc(), &command)
+    let commands = commands(rt.alloc())?;
+    stops(&rt, rt.alloc(), &commands)
 }

@@ -5,7 +5,7 @@ use super::tables::{AFTER_JOINING, MAIL_BYTES, MAILINGS};
 use super::worlds::SMALL;
 use std::test::Fail;
 
-const FAULTY: &str =
+pub(crate) const FAULTY: &str =
     "From: a club\r\n\r\n#ATLANTIS 1 secret\r\nUNIT 1 ; the first\r\nATTACK 2\r\nwork\r\n";
 
 const FORMS: &str = "#ATLANTIS 1\nUNIT 1\nFORM 1\nRECRUIT 2\nEND\nPAY NEW 1 100\n#END\n";

@@ -43,6 +43,14 @@ pub(crate) fn long_mail(alloc: Global, pass: &str, feeds: usize) -> Result<Comma
     })
 }
 
+pub(crate) fn close(alloc: Global, month: u32, pass: &str, words: &[u32]) -> Result<Command, Fail> {
+    Ok(Command::Close {
+        month,
+        pass: bytes(alloc, pass)?,
+        words: Sequence::from_slice(alloc, words)?,
+    })
+}
+
 pub(crate) fn report(alloc: Global, faction: u32, pass: &str) -> Result<Command, Fail> {
     Ok(Command::Report {
         faction,
@@ -78,6 +86,7 @@ pub(crate) fn told(answer: &Answer) -> &str {
     match answer {
         Answer::Joined { .. } => "joined",
         Answer::Mailed { .. } => "mailed",
+        Answer::MonthDone { .. } => "month done",
         Answer::Text(text) => text.as_str(),
         Answer::Refused(Refusal::BadName) => "bad name",
         Answer::Refused(Refusal::BadPassText) => "bad pass text",
@@ -90,6 +99,9 @@ pub(crate) fn told(answer: &Answer) -> &str {
         Answer::Refused(Refusal::NoHeader) => "no header",
         Answer::Refused(Refusal::BadHeader) => "bad header",
         Answer::Refused(Refusal::WrongFaction) => "wrong faction",
+        Answer::Refused(Refusal::WrongMonth) => "wrong month",
+        Answer::Refused(Refusal::MonthLimit) => "month limit",
+        Answer::Refused(Refusal::WrongDice) => "wrong dice",
         Answer::Fault(Fault::Memory) => "memory",
         Answer::Fault(Fault::Store) => "store",
         Answer::Fault(Fault::Closed) => "closed",

@@ -23,7 +23,7 @@ fn a_name_is_taken_once(rt: HostRuntime) -> Result<(), Fail> {
     plays(&rt, rt.alloc(), SMALL, &JOINS_TWICE, &AFTER_JOINING)
 }
 
-const NUMBERS: [(Refusal, u8); 11] = [
+const NUMBERS: [(Refusal, u8); 14] = [
     (Refusal::BadName, 1),
     (Refusal::BadPassText, 2),
     (Refusal::NameTaken, 3),
@@ -35,6 +35,9 @@ const NUMBERS: [(Refusal, u8); 11] = [
     (Refusal::NoHeader, 9),
     (Refusal::BadHeader, 10),
     (Refusal::WrongFaction, 11),
+    (Refusal::WrongMonth, 12),
+    (Refusal::MonthLimit, 13),
+    (Refusal::WrongDice, 14),
 ];
 
 #[test]

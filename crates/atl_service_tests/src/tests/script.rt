@@ -1,6 +1,6 @@
 //! A test as a table of steps: what is asked of a service, and what is wanted of it.
 use super::compare::{is_count, is_number};
-use super::making::{begun, join, long_mail, mail, report, tells};
+use super::making::{begun, close, join, long_mail, mail, report, tells};
 use super::tables::holds;
 use atl_service::{Answer, Command, Service};
 use sqlite::{Alter, Connection};
@@ -17,6 +17,8 @@ pub(crate) enum Asked {
     Mail(u32, &'static str, &'static str),
     /// The first faction's pass text, and how many line feeds follow a header of 11 bytes.
     LongMail(&'static str, usize),
+    /// A month, the moderator's pass text and the words of the dice.
+    Close(u32, &'static str, &'static [u32]),
     /// A faction and its pass text.
     Report(u32, &'static str),
 }
@@ -30,6 +32,10 @@ pub(crate) enum Step {
     Joined(Asked, u32, u32),
     /// A mailing that is kept, how many orders it has, and its faulty lines with the numbers of their faults.
     Mailed(Asked, usize, &'static [(u32, u32)]),
+    /// A month that is closed: its number is answered, and it is the campaign's.
+    Closed(Asked, u32),
+    /// The month last closed.
+    Month(u32),
     /// The numbers of the faction and the unit that come next, and how many units there are.
     Numbers(u32, u32, usize),
     /// What the campaign keeps of the first faction's mail.
@@ -41,6 +47,7 @@ pub(crate) fn command_of(alloc: Global, asked: &Asked) -> Result<Command, Fail> 
         Asked::Join(name, pass, word) => join(alloc, name, pass, *word),
         Asked::Mail(faction, pass, text) => mail(alloc, *faction, pass, text),
         Asked::LongMail(pass, feeds) => long_mail(alloc, pass, *feeds),
+        Asked::Close(month, pass, words) => close(alloc, *month, pass, words),
         Asked::Report(faction, pass) => report(alloc, *faction, pass),
     }
 }
@@ -129,6 +136,38 @@ fn asks_to_mail<S: Alter>(
     Ok(())
 }
 
+fn is_closed(rt: &impl Abort, answer: &Answer, wanted: u32) {
+    match answer {
+        Answer::MonthDone { month } => is_number(rt, i64::from(*month), i64::from(wanted)),
+        _ => assert!(rt; false),
+    }
+}
+
+fn has_month<S: Alter>(rt: &impl Abort, service: &Service<S>, month: u32) {
+    match service.campaign() {
+        Some(campaign) => is_number(rt, i64::from(campaign.month()), i64::from(month)),
+        None => assert!(rt; false),
+    }
+}
+
+fn closes<S: Alter>(rt: &impl Abort, service: &mut Service<S>, command: &Command, month: u32) {
+    let answer = service.run(command);
+    is_closed(rt, &answer, month);
+    has_month(rt, service, month);
+}
+
+fn asks_to_close<S: Alter>(
+    rt: &impl Abort,
+    alloc: Global,
+    service: &mut Service<S>,
+    asked: &Asked,
+    month: u32,
+) -> Result<(), Fail> {
+    let command = command_of(alloc, asked)?;
+    closes(rt, service, &command, month);
+    Ok(())
+}
+
 fn has_numbers<S: Alter>(
     rt: &impl Abort,
     service: &Service<S>,
@@ -171,6 +210,8 @@ fn take<S: Alter>(
         Step::Mailed(asked, orders, faulty) => return asks_to_mail(
             rt, alloc, service, asked, *orders, faulty,
         ),
+        Step::Closed(asked, month) => return asks_to_close(rt, alloc, service, asked, *month),
+        Step::Month(month) => has_month(rt, service, *month),
         Step::Numbers(faction, unit, units) => has_numbers(rt, service, *faction, *unit, *units),
         Step::Keeps(text) => keeps(rt, service, text),
     }

@@ -20,6 +20,10 @@ pub(crate) const MAILINGS: &str = "SELECT count(*) FROM mail";
 
 pub(crate) const MAIL_BYTES: &str = "SELECT sum(length(text)) FROM mail";
 
+pub(crate) const MONTH: &str = "SELECT month FROM campaign";
+
+pub(crate) const REGION_MONEY: &str = "SELECT sum(money) FROM region";
+
 /// A number that a query answers.
 pub(crate) fn number<S: Alter>(conn: &mut Connection<S>, sql: &str) -> Option<i64> {
     match conn.query_row(sql, &[]) {

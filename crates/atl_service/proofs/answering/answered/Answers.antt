@@ -18,3 +18,7 @@ returns-in-Mail-clause-ok g c =
 pub returns-in-Mail-clause-err : goal.returns-in-Mail-clause-err
 returns-in-Mail-clause-err g c =
     subst (λ (command : Command). OnErr c.mail.result (GivesUp g.S.Store c.args.world.now c.args.campaign.now.what c.args.conn.now command c.mail.new.conn)) (sym c.in-Mail.is) c.mail.ensures.err
+
+pub returns-in-Close-clause-err : goal.returns-in-Close-clause-err
+returns-in-Close-clause-err g c =
+    subst (λ (command : Command). OnErr c.close.result (GivesUp g.S.Store c.args.world.now c.args.campaign.now.what c.args.conn.now command c.close.new.conn)) (sym c.in-Close.is) c.close.ensures.err

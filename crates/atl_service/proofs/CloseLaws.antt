@@ -1,0 +1,210 @@
+-- The closing of a month: the mail that is read, the reports that are stored, and the campaign behind it.
+use Rattle.std.proofs.Common.{◌≡◌, ◌≢◌, ◌≤◌, ◌<◌, ◌&&◌, ℕ, T, Bool, true, false, cond, List, [], ◌∷◌, ◌++◌, ◌+◌, drop, get_or, map, length, Option, Some, None, is_some, option_map, Result, Ok, Err, refl, sym, ap, ap₂, ◌∙◌, subst, arith}
+use Rattle.std.specs.Prelude.{All, OnOk, fold, nat_lt, unwrap_or}
+use Rattle.std.proofs.lemmas.Bool.Decides.{nat_tests}
+use Rattle.std.proofs.lemmas.Bool.{and_parts}
+use Rattle.std.proofs.lemmas.List.{append-nil, append_assoc, drop_more, map-append}
+use Rattle.std.proofs.lemmas.List.Elements.{All-push}
+use Rattle.std.proofs.lemmas.Map.Keys.{IsDistinct-from_sorted}
+use Rattle.std.specs.List.{AllByRecursion, IsDistinct, flat_map}
+use Rattle.std.specs.declared.cmp.Ordering.TheVariants.{Less}
+use Rattle.std.specs.List.Sorted.{IsStrictlySortedBy}
+use Rattle.std.specs.Ordering.{nat_cmp, eq_by_cmp}
+use Rattle.std.specs.FinMap.{FinMap, contains_key, empty, entries, get, insert, is_sorted, same_entries_map}
+use Rattle.std.specs.FinMap.Entries.{below_all}
+use Rattle.atl_tables.specs.Planet.{Planet, IsWorld}
+use Rattle.atl_tables.specs.Sums.{mapped}
+use Rattle.atl_tables.proofs.MadeLaws.{entries-mapped, insert_last, is_less}
+use Rattle.atl_tables.proofs.Maps.{entries-empty}
+use Rattle.atl_orders.specs.declared.fault.FaultyLine.{FaultyLine}
+use Rattle.atl_orders.specs.declared.fault.MailFault.{MailFault}
+use Rattle.atl_orders.specs.declared.fault.MailFault.TheVariants.{TooLong}
+use Rattle.atl_orders.specs.declared.mailing.Mailing.{Mailing}
+use Rattle.atl_orders.specs.Limits.{most_bytes}
+use Rattle.atl_orders.specs.Lines.{lines}
+use Rattle.atl_orders.specs.Mailing.{IsMailingOf, IsReadWith, Reading, behind_header, header_from, reading, reading_of}
+use Rattle.atl_state.specs.declared.event.Event.{Event}
+use Rattle.atl_state.specs.declared.records.Faction.{Faction}
+use Rattle.atl_state.specs.Covers.{MarksChanges}
+use Rattle.atl_state.specs.Deciding.{EachOf}
+use Rattle.atl_state.specs.Good.{IsGood}
+use Rattle.atl_state.specs.Limits.{most_things}
+use Rattle.atl_state.specs.Marking.{mark_all_mail, mark_report, mark_row}
+use Rattle.atl_state.specs.Marks.{Marks}
+use Rattle.atl_state.specs.State.{State, Marked, with_month, without_mail}
+use Rattle.atl_state.proofs.CoverLaws.{marks-trans}
+use Rattle.atl_state.proofs.EveryLaws.{each-from_every, get-mapped, sorted}
+use Rattle.atl_state.proofs.GoodLaws.{IsGood-with_report}
+use Rattle.atl_state.proofs.PostLaws.{marks-month, marks-no_mail, marks-report}
+use Rattle.atl_instant.specs.Course.{HaveOwnFactions, by_faction}
+use Rattle.atl_month.specs.Month.{finished, month_of}
+use Rattle.atl_report.specs.Report.{report_of}
+use Rattle.atl_report.specs.Sight.{view_of}
+use Rattle.atl_service.specs.declared.closing.ReadMail.{ReadMail}
+use Rattle.atl_service.specs.declared.reporting.Told.{Told}
+use Rattle.atl_service.specs.Months.{HasRead, ReadSoFar, told_to_all}
+use Rattle.atl_service.specs.Closing.{active, closed, faults_in, faults_of, read_of, readings, reported_to, reported_with, told_after}
+
+-- ---- each mail can be read, and no two are of one faction
+
+module _ (w : Planet) (n : ℕ) (text : List ℕ) where
+  abbrev Names : Result Reading MailFault → Type 0
+  Names read = (r : Reading) × (read ≡ Ok r) × (r.faction ≡ n)
+
+  named : (next : ℕ) (rest : List (List ℕ)) → header_from 1 (lines text) ≡ Ok (record { faction = n; next = next; rest = rest }) → Names (behind_header w (header_from 1 (lines text)))
+  named next rest is = rw is (_, refl, refl)
+
+  not_long : (long : Bool) → nat_lt most_bytes (length text) ≡ long → length text ≤ most_bytes → Names (behind_header w (header_from 1 (lines text))) → Names (cond long (Err TooLong) (behind_header w (header_from 1 (lines text))))
+  not_long true is short names = absurd (grind (arith, nat_tests))
+  not_long false is short names = names
+
+  reads : IsMailingOf n text → Names (reading w text)
+  unfolding reading
+  reads sent = not_long (nat_lt most_bytes (length text)) refl sent.short (let (next, rest, is) = sent.header in named next rest is)
+
+module _ (w : Planet) where
+  -- what is read of mail
+  abbrev texts_read : List (ℕ × List ℕ) → List Reading
+  texts_read es = flat_map (λ e. read_of (reading w e.1)) es
+
+  factions_read : (es : List (ℕ × List ℕ)) → EachOf IsMailingOf es → map (λ r. r.faction) (texts_read es) ≡ map (λ e. e.0) es
+  factions_read [] h = refl
+  factions_read (e ∷ es) h =
+      let (r, is, own) = reads w e.0 e.1 h.0 in
+      ap (λ read. map (λ r. r.faction) (read_of read ++ texts_read es)) is ∙ ap₂ (λ n ns. n ∷ ns) own (factions_read es h.1)
+
+rise : {V : Type 0} (k : ℕ) (es : List (ℕ × V)) → below_all nat_cmp k es ≡ true → AllByRecursion (λ n. nat_cmp k n ≡ Less) (map (λ e. e.0) es)
+rise k [] h = tt
+rise k (e ∷ es) h = (is_less (nat_cmp k e.0) (and_parts _ _ h).0, rise k es (and_parts _ _ h).1)
+
+rising : {V : Type 0} (es : List (ℕ × V)) → is_sorted nat_cmp es ≡ true → IsStrictlySortedBy nat_cmp (map (λ e. e.0) es)
+unfolding IsStrictlySortedBy
+rising [] h = tt
+rising (e ∷ es) h = (rise e.0 es (and_parts _ _ h).0, rising es (and_parts _ _ h).1)
+
+factions_of : (ms : List Mailing) → map (λ r. r.faction) (map reading_of ms) ≡ map (λ m. m.faction) ms
+factions_of [] = refl
+factions_of (m ∷ ms) = ap (λ ns. m.faction ∷ ns) (factions_of ms)
+
+-- the mailings of a good campaign
+pub own_factions : (w : Planet) (c : State) (ms : List Mailing) → IsGood w c → map reading_of ms ≡ readings w c → HaveOwnFactions ms
+own_factions w c ms good is =
+    let numbers = map (λ e. e.0) (entries c.mail) in
+    let sent = each-from_every IsMailingOf c.mail (λ n text there. (good.sound.mail n text there).0) in
+    let same : map (λ m. m.faction) ms ≡ numbers = sym (factions_of ms) ∙ ap (map (λ r. r.faction)) is ∙ factions_read w (entries c.mail) sent in
+    subst (IsDistinct (eq_by_cmp nat_cmp)) (sym same) (IsDistinct-from_sorted nat_cmp numbers (rising (entries c.mail) (sorted c.mail)))
+
+-- ---- what is wrong with each mail
+
+pub wrong_under : (w : Planet) (mail : FinMap nat_cmp (List ℕ)) (n : ℕ) → unwrap_or (get (mapped (λ text. faults_of (reading w text)) mail) n) [] ≡ faults_in w (get mail n)
+wrong_under w mail n = ap (λ o. unwrap_or o []) (get-mapped (λ text. faults_of (reading w text)) mail n) ∙ at (get mail n)
+  where
+    at : (o : Option (List ℕ)) → unwrap_or (option_map (λ text. faults_of (reading w text)) o) [] ≡ faults_in w o
+    at None = refl
+    at (Some text) = refl
+
+-- ---- the reports
+
+module _ (w : Planet) (events : List Event) where
+  pub same_reports : (f g : ℕ → List FaultyLine) → ((n : ℕ) → f n ≡ g n) → (c : State) (ns : List ℕ) → fold (reported_to w f events) c ns ≡ fold (reported_to w g events) c ns
+  same_reports f g same c [] = refl
+  same_reports f g same c (n ∷ ns) =
+      ap (λ faults. fold (reported_to w f events) (cond (contains_key c.factions n) (reported_with w c n faults events) c) ns) (same n) ∙ same_reports f g same (reported_to w g events c n) ns
+
+  good_report : (faults : ℕ → List FaultyLine) (c : State) (n : ℕ) → IsGood w c → IsGood w (reported_to w faults events c n)
+  good_report faults c n good = by_faction_there (get c.factions n) refl
+    where
+      by_faction_there : (o : Option Faction) → get c.factions n ≡ o → IsGood w (cond (is_some o) (reported_with w c n (faults n) events) c)
+      by_faction_there None is = good
+      by_faction_there (Some f) is = IsGood-with_report w c n (report_of w (view_of c n) (faults n) events) (f, is) good
+
+  pub good_reports : (faults : ℕ → List FaultyLine) (c : State) (ns : List ℕ) → IsGood w c → IsGood w (fold (reported_to w faults events) c ns)
+  good_reports faults c [] good = good
+  good_reports faults c (n ∷ ns) good = good_reports faults (reported_to w faults events c n) ns (good_report faults c n good)
+
+-- ---- the month
+
+-- the reports behind what a month makes are those of the campaign that is closed
+pub closed_is : (w : Planet) (c after : State) (events : List Event) (words : List ℕ) (faults : FinMap nat_cmp (List FaultyLine)) → (after, events) ≡ month_of w c (by_faction (readings w c)) words
+    → faults ≡ mapped (λ text. faults_of (reading w text)) c.mail → fold (reported_to w (λ n. unwrap_or (get faults n) []) events) (finished after) (active c) ≡ closed w c words
+unfolding closed
+closed_is w c after events words faults is wrong =
+    same_reports w events (λ n. unwrap_or (get faults n) []) (λ n. faults_in w (get c.mail n)) (λ n. ap (λ m. unwrap_or (get m n) []) wrong ∙ wrong_under w c.mail n) (finished after) (active c)
+    ∙ ap (told_after w c) is
+
+-- ---- marks
+
+marked_as : (c d : Marked) (what : State) (marks : Marks) → d.what ≡ what → d.marks ≡ marks → MarksChanges c (record { what = what; marks = marks }) → MarksChanges c d
+marked_as c d what marks is m h = subst (MarksChanges c) (sym (ap₂ (λ s n. record { what = s; marks = n }) is m)) h
+
+pub month_marked : (c d : Marked) (n : ℕ) → d.what ≡ with_month c.what n → d.marks ≡ mark_row c → MarksChanges c d
+month_marked c d n is m = marked_as c d (with_month c.what n) (mark_row c) is m (marks-month c n)
+
+pub mail_marked : (c d : Marked) → d.what ≡ without_mail c.what → d.marks ≡ mark_all_mail c → MarksChanges c d
+mail_marked c d is m = marked_as c d (without_mail c.what) (mark_all_mail c) is m (marks-no_mail c)
+
+pub report_marked : (w : Planet) (c d : Marked) (n : ℕ) (faults : List FaultyLine) (events : List Event) → d.what ≡ reported_with w c.what n faults events → d.marks ≡ mark_report c n → MarksChanges c d
+report_marked w c d n faults events is m = marked_as c d (reported_with w c.what n faults events) (mark_report c n) is m (marks-report c n (report_of w (view_of c.what n) faults events))
+
+-- a month that was run, and is counted, with its mail taken away
+pub turned_marked : (a b c d : Marked) (n : ℕ) → MarksChanges a b → c.what ≡ with_month b.what n → c.marks ≡ mark_row b → d.what ≡ without_mail c.what → d.marks ≡ mark_all_mail c → MarksChanges a d
+turned_marked a b c d n run is m taken t = marks-trans a b d run (marks-trans b c d (month_marked b c n is m) (mail_marked c d taken t))
+
+-- a report that could be stored
+pub stored_marked : {A E : Type 0} (w : Planet) (c d : Marked) (n : ℕ) (faults : List FaultyLine) (events : List Event) (r : Result A E) → OnOk r (d.what ≡ reported_with w c.what n faults events) → OnOk r (d.marks ≡ mark_report c n)
+    → OnOk r (MarksChanges c d)
+stored_marked w c d n faults events (Ok a) is m = report_marked w c d n faults events is m
+stored_marked w c d n faults events (Err e) is m = tt
+
+-- ---- the mail that is read, mail by mail
+
+abbrev wrong_in : Planet → List (ℕ × List ℕ) → List (ℕ × List FaultyLine)
+wrong_in w es = map (λ e. (e.0, faults_of (reading w e.1))) es
+
+abbrev wrong : Planet → State → FinMap nat_cmp (List FaultyLine)
+wrong w c = mapped (λ text. faults_of (reading w text)) c.mail
+
+pub read_begins : (w : Planet) (c : State) (ms : List Mailing) (faults : FinMap nat_cmp (List FaultyLine)) (all : List (ℕ × List ℕ)) → all ≡ entries c.mail → ms ≡ [] → faults ≡ empty → ReadSoFar w c ms faults all
+read_begins w c ms faults all is none none_wrong =
+    rw (is, none, none_wrong) (
+      refl,
+      λ k d h. absurd (omega arith),
+      ap (λ es. es ++ wrong_in w (entries c.mail)) (entries-empty {X = List FaultyLine}) ∙ sym (entries-mapped (λ text. faults_of (reading w text)) c.mail),
+    )
+
+pub read_goes_on : (w : Planet) (c : State) (ms ns : List Mailing) (faults faults' : FinMap nat_cmp (List FaultyLine)) (here rest : List (ℕ × List ℕ)) (n : ℕ) (text : List ℕ) (m : Mailing) → here ≡ (n, text) ∷ rest → ns ≡ ms ++ m ∷ [] → IsReadWith w m → m.text ≡ text
+    → faults' ≡ insert faults n m.faults → ReadSoFar w c ms faults here → ReadSoFar w c ns faults' rest
+read_goes_on w c ms ns faults faults' here rest n text m left one_more read kept put (mailings, all, told) =
+    let is : reading w text ≡ Ok (reading_of m) = ap (reading w) (sym kept) ∙ read in
+    let of_all = subst (λ es. map reading_of ms ++ texts_read w es ≡ readings w c) left mailings in
+    let told_of_all = subst (λ es. entries faults ++ wrong_in w es ≡ entries (wrong w c)) left told in
+    let first : faults_of (reading w text) ≡ m.faults = ap faults_of is in
+    let told_now = subst (λ fs. entries faults ++ (n, fs) ∷ wrong_in w rest ≡ entries (wrong w c)) first told_of_all in (
+      ap (λ xs. map reading_of xs ++ texts_read w rest) one_more ∙ ap (λ xs. xs ++ texts_read w rest) (map-append reading_of ms (m ∷ []))
+          ∙ append_assoc (map reading_of ms) (reading_of m ∷ []) (texts_read w rest) ∙ ap (λ rs. map reading_of ms ++ (read_of rs ++ texts_read w rest)) (sym is) ∙ of_all,
+      subst (All (IsReadWith w)) (sym one_more) (All-push (IsReadWith w) ms m all read),
+      ap (λ fs. entries fs ++ wrong_in w rest) put ∙ ap (λ es. es ++ wrong_in w rest) (insert_last faults (wrong w c) n m.faults (wrong_in w rest) told_now)
+          ∙ append_assoc (entries faults) ((n, m.faults) ∷ []) (wrong_in w rest) ∙ told_now,
+    )
+
+pub read_ends : (w : Planet) (c : State) (r : ReadMail) (rest : List (ℕ × List ℕ)) → rest ≡ [] → ReadSoFar w c r.mailings.items r.faults rest → HasRead w c r
+read_ends w c r rest none (mailings, all, told) = record {
+  readings_are = sym (append-nil (map reading_of r.mailings.items)) ∙ subst (λ es. map reading_of r.mailings.items ++ texts_read w es ≡ readings w c) none mailings;
+  read = all;
+  faults = same_entries_map r.faults (wrong w c) (sym (append-nil (entries r.faults)) ∙ subst (λ es. entries r.faults ++ wrong_in w es ≡ entries (wrong w c)) none told);
+}
+
+-- ---- the reports, one by one
+
+pub told_on : {A B : Type 0} (step : A → B → A) (old new last : A) (all : List B) (i : ℕ) (d : B) → i < length all → new ≡ step old (get_or all i d) → fold step old (drop i all) ≡ last → fold step new (drop (i + 1) all) ≡ last
+told_on step old new last all i d h is whole = ap (λ a. fold step a (drop (i + 1) all)) is ∙ subst (λ l. fold step old l ≡ last) (drop_more all i d h) whole
+
+-- ---- what the store asks for, and what is written
+
+pub few_things : (w : Planet) (c : State) → IsWorld w → IsGood w c → length c.books ≤ most_things
+few_things w c world good = omega (arith, good.sound.steady.numbers.books.rows, world.few_items)
+
+-- the campaign behind the reports of a month
+pub told_is : (w : Planet) (c turned after : State) (words : List ℕ) (told : Told) → told_to_all w turned told ≡ closed w c words → after ≡ told_to_all w turned told → IsGood w turned → (after ≡ closed w c words) × IsGood w after
+told_is w c turned after words told whole is good =
+    (is ∙ whole, subst (IsGood w) (sym is) (good_reports w told.events.items (λ n. unwrap_or (get told.faults n) []) turned told.factions.items good))

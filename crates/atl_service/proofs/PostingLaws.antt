@@ -1,0 +1,100 @@
+-- Mailings that are taken one after the other: only the last one of each faction counts.
+use Rattle.std.proofs.Common.{◌≡◌, ◌==◌, ℕ, Bool, true, false, cond, not, List, [], ◌∷◌, Option, Some, None, Result, Ok, Err, refl, sym, ap, ◌∙◌, subst, arith}
+use Rattle.std.proofs.lemmas.Bool.Decides.{nat_tests}
+use Rattle.std.specs.Option.{option_or}
+use Rattle.std.specs.Ordering.{nat_cmp, eq_by_cmp}
+use Rattle.std.specs.Cmp.{nat_cmp_total, unsigned_ties}
+use Rattle.std.specs.FinMap.{FinMap, get, insert, get-insert, same_map, nat_cmp-IsAntisymmetric}
+use Rattle.atl_tables.specs.Planet.{Planet}
+use Rattle.atl_orders.specs.declared.fault.MailFault.{MailFault}
+use Rattle.atl_orders.specs.declared.fault.MailFault.TheVariants.{TooLong, NoHeader, BadHeader, Memory}
+use Rattle.atl_orders.specs.Mailing.{Reading, reading}
+use Rattle.atl_state.specs.declared.records.Faction.{Faction}
+use Rattle.atl_state.specs.State.{State, with_mail}
+use Rattle.atl_service.specs.declared.command.Command.{Command}
+use Rattle.atl_service.specs.declared.command.Command.TheVariants.{Join, Mail, Close, Report}
+use Rattle.atl_service.specs.declared.command.Answer.{Answer}
+use Rattle.atl_service.specs.declared.command.Answer.TheVariants.{Mailed, Refused}
+use Rattle.atl_service.specs.declared.command.Refusal.{Refusal}
+use Rattle.atl_service.specs.declared.command.Refusal.TheVariants as why
+use Rattle.atl_service.specs.Step.{identified, mailed, mailed_by, run_of, step}
+use Rattle.atl_service.specs.Posting.{AreMailed, IsMailed, OnlyTheLastMailCounts, last_text}
+
+-- ---- one mailing that is taken is kept
+
+module _ (c : State) (faction : ℕ) (text : List ℕ) where
+  abbrev Keeps : State × Answer → Type 0
+  Keeps made = IsMailed made.1 → made.0 ≡ with_mail c faction text
+
+  kept_own : (other : Bool) (done : State × Answer) → Keeps done → Keeps (cond other (c, Refused why.WrongFaction) done)
+  kept_own true done keeps taken = absurd taken
+  kept_own false done keeps taken = keeps taken
+
+  kept_read : (read : Result Reading MailFault) → Keeps (mailed c faction text read)
+  kept_read (Ok r) taken = kept_own (not (r.faction == faction)) _ (λ _. refl) taken
+  kept_read (Err TooLong) taken = absurd taken
+  kept_read (Err NoHeader) taken = absurd taken
+  kept_read (Err BadHeader) taken = absurd taken
+  kept_read (Err Memory) taken = absurd taken
+
+  kept_here : (gone : Bool) (done : State × Answer) → Keeps done → Keeps (cond gone (c, Refused why.Gone) done)
+  kept_here true done keeps taken = absurd taken
+  kept_here false done keeps taken = keeps taken
+
+  kept_by : (w : Planet) (who : Result Faction Refusal) → Keeps (mailed_by w c faction text who)
+  kept_by w (Err refusal) taken = absurd taken
+  kept_by w (Ok f) taken = kept_here f.gone (mailed c faction text (reading w text)) (kept_read (reading w text)) taken
+
+  kept : (w : Planet) (pass : List ℕ) → Keeps (step w c (Mail faction pass text))
+  unfolding step
+  kept w pass = kept_by w (identified pass (get c.factions faction))
+
+-- ---- the mail behind a list of them
+
+abbrev posted : FinMap nat_cmp (List ℕ) → List Command → FinMap nat_cmp (List ℕ)
+posted mail [] = mail
+posted mail (Join _ _ _ ∷ more) = posted mail more
+posted mail (Mail faction _ text ∷ more) = posted (insert mail faction text) more
+posted mail (Close _ _ _ ∷ more) = posted mail more
+posted mail (Report _ _ ∷ more) = posted mail more
+
+run_posts : (w : Planet) (c : State) (sent : List Command) → AreMailed w c sent → (run_of w c sent).0 ≡ record c { mail = posted c.mail sent }
+run_posts w c [] all = refl
+run_posts w c (Join _ _ _ ∷ more) all = absurd all
+run_posts w c (Mail faction pass text ∷ more) all =
+    run_posts w (step w c (Mail faction pass text)).0 more all.1 ∙ ap (λ (d : State). record d { mail = posted d.mail more }) (kept c faction text w pass all.0)
+run_posts w c (Close _ _ _ ∷ more) all = absurd all
+run_posts w c (Report _ _ ∷ more) all = absurd all
+
+-- a faction's mail is then its last text
+get_posted : (mail : FinMap nat_cmp (List ℕ)) (sent : List Command) (n : ℕ) → get (posted mail sent) n ≡ last_text n (get mail n) sent
+get_posted mail [] n = refl
+get_posted mail (Join _ _ _ ∷ more) n = get_posted mail more n
+get_posted mail (Mail faction pass text ∷ more) n =
+    get_posted (insert mail faction text) more n
+    ∙ ap (λ o. last_text n o more) (get-insert nat_cmp_total mail faction text n ∙ ap (λ b. cond b (Some text) (get mail n)) (swapped n faction))
+  where
+    swapped : (a b : ℕ) → eq_by_cmp nat_cmp a b ≡ (b == a)
+    swapped a b = sym (unsigned_ties a b) ∙ grind (arith, nat_tests)
+get_posted mail (Close _ _ _ ∷ more) n = get_posted mail more n
+get_posted mail (Report _ _ ∷ more) n = get_posted mail more n
+
+-- what was there before doesn't matter where something was sent
+last_or : (n : ℕ) (before other : Option (List ℕ)) (sent : List Command) → last_text n (option_or before other) sent ≡ option_or (last_text n before sent) other
+last_or n before other [] = refl
+last_or n before other (Join _ _ _ ∷ more) = last_or n before other more
+last_or n before other (Mail faction pass text ∷ more) = ap (λ o. last_text n o more) (inside (faction == n)) ∙ last_or n (cond (faction == n) (Some text) before) other more
+  where
+    inside : (b : Bool) → cond b (Some text) (option_or before other) ≡ option_or (cond b (Some text) before) other
+    inside true = refl
+    inside false = refl
+last_or n before other (Close _ _ _ ∷ more) = last_or n before other more
+last_or n before other (Report _ _ ∷ more) = last_or n before other more
+
+same_mail : (mail : FinMap nat_cmp (List ℕ)) (sent others : List Command) → ((n : ℕ) → last_text n None sent ≡ last_text n None others) → posted mail sent ≡ posted mail others
+same_mail mail sent others same = same_map nat_cmp_total nat_cmp-IsAntisymmetric (posted mail sent) (posted mail others) (λ n.
+    get_posted mail sent n ∙ last_or n None (get mail n) sent ∙ ap (λ o. option_or o (get mail n)) (same n) ∙ sym (get_posted mail others n ∙ last_or n None (get mail n) others))
+
+pub only_the_last_mail_counts : OnlyTheLastMailCounts
+only_the_last_mail_counts w c sent others month pass words all all_others same =
+    ap (λ d. step w d (Close month pass words)) (run_posts w c sent all ∙ ap (λ mail. record c { mail = mail }) (same_mail c.mail sent others same) ∙ sym (run_posts w c others all_others))

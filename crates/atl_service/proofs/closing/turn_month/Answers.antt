@@ -1,0 +1,19 @@
+use Rattle.std.proofs.Common.{◌≡◌, ◌+◌, refl}
+use Rattle.atl_month.specs.Month.{finished}
+use Rattle.atl_service.proofs.CloseLaws.{closed_is, own_factions, turned_marked}
+use Rattle.atl_service.proofs.closing.turn_month.Goals as goal
+
+pub close_month-requires-clause-own : goal.close_month-requires-clause-own
+close_month-requires-clause-own c = own_factions c.args.world.now c.args.campaign.now.what c.in_ok-mailings.field-0.mailings.items c.requires.good c.in_ok-mailings.ensures.readings_are
+
+pub returns-clause-told : goal.returns-clause-told
+returns-clause-told c =
+    let after = c.in_ok-after.after.what in
+    let done : c.clear_mail.new.self.what ≡ finished after = rw (c.clear_mail.ensures.what, c.set_month.ensures.what, c.month.ensures) refl in
+    rw (done, c.in_ok-factions.ensures)
+    (closed_is c.args.world.now c.args.campaign.now.what after c.in_ok-after.events.items c.args.words.now c.in_ok-mailings.field-0.faults (rw (← c.in_ok-mailings.ensures.readings_are, ← c.replace-before.ensures.value) c.in_ok-after.ensures.definition) c.in_ok-mailings.ensures.faults)
+
+pub returns-clause-marks : goal.returns-clause-marks
+returns-clause-marks c =
+    rw (← c.replace-before.ensures.value)
+    (turned_marked c.replace-before.result c.in_ok-after.after c.set_month.new.self c.clear_mail.new.self (c.month.result + 1) c.in_ok-after.ensures.marks c.set_month.ensures.what c.set_month.ensures.marks c.clear_mail.ensures.what c.clear_mail.ensures.marks)

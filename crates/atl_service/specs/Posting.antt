@@ -1,0 +1,43 @@
+-- Of a faction's mailings only the last one counts.
+use Rattle.std.specs.Prelude.{◌≡◌, ◌==◌, ◌∷◌, [], ℕ, List, ⊤, Option, Some, None, if◌then◌else◌}
+use Rattle.atl_tables.specs.Planet.{Planet}
+use Rattle.atl_state.specs.State.{State}
+use Rattle.atl_service.specs.declared.command.Command.{Command}
+use Rattle.atl_service.specs.declared.command.Command.TheVariants.{Join, Mail, Close, Report}
+use Rattle.atl_service.specs.declared.command.Answer.{Answer}
+use Rattle.atl_service.specs.declared.command.Answer.TheVariants.{Joined, Mailed, MonthDone, Text, Refused, Fault}
+use Rattle.atl_service.specs.Step.{step, run_of}
+
+-- a mailing was taken
+abbrev pub IsMailed : Answer → Type 0
+IsMailed (Joined _ _) = ⊥
+IsMailed (Mailed _ _) = ⊤
+IsMailed (MonthDone _) = ⊥
+IsMailed (Text _) = ⊥
+IsMailed (Refused _) = ⊥
+IsMailed (Fault _) = ⊥
+
+-- from a campaign on, each command is a mailing that is taken
+abbrev pub AreMailed : Planet → State → List Command → Type 0
+AreMailed w c [] = ⊤
+AreMailed w c (Join _ _ _ ∷ more) = ⊥
+AreMailed w c (Mail faction pass text ∷ more) = IsMailed (step w c (Mail faction pass text)).1 × AreMailed w (step w c (Mail faction pass text)).0 more
+AreMailed w c (Close _ _ _ ∷ more) = ⊥
+AreMailed w c (Report _ _ ∷ more) = ⊥
+
+-- the text of a faction's last mailing among these commands; another one where there is none
+abbrev pub last_text : ℕ → Option (List ℕ) → List Command → Option (List ℕ)
+last_text n other [] = other
+last_text n other (Join _ _ _ ∷ more) = last_text n other more
+last_text n other (Mail faction _ text ∷ more) = last_text n (if faction == n then Some text else other) more
+last_text n other (Close _ _ _ ∷ more) = last_text n other more
+last_text n other (Report _ _ ∷ more) = last_text n other more
+
+-- Two lists of mailings that are all taken, with the same last text of each faction: the same closing behind either gives one campaign and one answer.
+abbrev pub OnlyTheLastMailCounts : Type 0
+OnlyTheLastMailCounts =
+    (w : Planet) (c : State) (sent others : List Command) (month : ℕ) (pass words : List ℕ)
+    → AreMailed w c sent
+    → AreMailed w c others
+    → ((n : ℕ) → last_text n None sent ≡ last_text n None others)
+    → step w (run_of w c sent).0 (Close month pass words) ≡ step w (run_of w c others).0 (Close month pass words)

@@ -1,0 +1,144 @@
+//! The closing of a month.
+ghost use Rattle.std.specs.Prelude.{◌≡◌, ◌<◌, false, IfOk, IfErr, OnOk, OnErr, length};
+ghost use Rattle.std.specs.FinMap as map;
+ghost use Rattle.atl_state.specs.Covers.{MarksChanges};
+ghost use Rattle.atl_state.specs.Good.{IsGood};
+ghost use Rattle.atl_state.specs.Limits.{last_month};
+ghost use Rattle.atl_state.specs.Marks.{no_marks};
+ghost use Rattle.atl_service.specs.declared.command.Command.TheVariants as command;
+ghost use Rattle.atl_service.specs.Answering.{Answers, GivesUp, LeavesIdle};
+ghost use Rattle.atl_service.specs.Closing.{active, closed};
+ghost use Rattle.atl_service.specs.Months.{HasRead, MayClose, told_to_all};
+ghost use Rattle.atl_service.specs.Step.{step};
+
+use crate::command::{Answer, Refusal};
+use crate::reporting::{Told, report_to_all};
+use atl_month::close_month;
+use atl_orders::{FaultyLine, Mailing, read_mailing};
+use atl_state::{Campaign, LAST_MONTH};
+use atl_store::{WriteFault, write_changes};
+use atl_tables::{Numbered, Sequence, World};
+use sqlite::{Alter, Connection};
+use std::alloc::{AllocError, Global};
+use std::mem;
+
+/// The mail as it was read: the mailings, and what is wrong with each, by faction.
+#[derive(Drop)]
+pub(crate) struct ReadMail {
+    pub(crate) mailings: Vec<Mailing>,
+    pub(crate) faults: Numbered<Sequence<FaultyLine>>,
+}
+
+/// Reads the mail of a campaign. All of it can be read, as it was when it was kept, so only memory can be wanting.
+fn read_mail(alloc: Global, world: &World, campaign: &Campaign) -> Result<ReadMail, AllocError>
+    ensures { IfOk result (HasRead world.now campaign.now.what) }
+{
+    let mut mailings = Vec::new(alloc);
+    let mut faults = Numbered::new(alloc);
+    for (faction, text) in campaign.mail() {
+        let mailing = match read_mailing(alloc, world, text.as_slice()) {
+            Ok(mailing) => mailing,
+            Err(_) => return Err(AllocError),
+        };
+        let wrong = Sequence::from_slice(alloc, mailing.faults.as_slice())?;
+        faults.insert(faction, wrong)?;
+        mailings.push(mailing)?;
+    }
+    Ok(ReadMail { mailings, faults })
+}
+
+/// The numbers of the factions that aren't gone, in rising order.
+fn active(alloc: Global, campaign: &Campaign) -> Result<Vec<u32>, AllocError>
+    ensures { IfOk result (λ numbers. numbers.items ≡ active campaign.now.what) }
+{
+    let mut numbers = Vec::new(alloc);
+    for (number, faction) in campaign.factions() {
+        if !faction.gone {
+            numbers.push(number)?;
+        }
+    }
+    Ok(numbers)
+}
+
+/// Runs a month, counts it, and takes the mail away. What changed is marked. What is to be told of the month is given. Without
+/// memory the campaign is given up, and something else stands in its place.
+fn turn_month(
+    alloc: Global,
+    world: &World,
+    campaign: &mut Campaign,
+    words: &[u32],
+) -> Result<Told, AllocError>
+    requires good { IsGood world.now campaign.old.what }
+    requires month { campaign.old.what.month < last_month }
+    requires words { length words.now ≡ map.len world.now.regions }
+    ensures told { IfOk result (λ told. told_to_all world.now campaign.new.what told ≡ closed world.now campaign.old.what words.now) }
+    ensures good { OnOk result (IsGood world.now campaign.new.what) }
+    ensures marks { OnOk result (MarksChanges campaign.old campaign.new) }
+{
+    let ReadMail { mailings, faults } = read_mail(alloc, world, campaign)?;
+    let factions = active(alloc, campaign)?;
+    let before = mem::replace(campaign, Campaign::blank(alloc));
+    let (after, events) = close_month(alloc, world, before, mailings, words)?;
+    *campaign = after;
+    campaign.set_month(campaign.month() + 1);
+    campaign.clear_mail();
+    Ok(Told {
+        factions,
+        faults,
+        events,
+    })
+}
+
+/// Whether a month is closed; else the first reason why it is not.
+#[tactic(auto, unfolding(crate::specs::Step::step))]
+fn allowed(
+    world: &World,
+    campaign: &Campaign,
+    month: u32,
+    pass: &Sequence<u8>,
+    words: &Sequence<u32>,
+) -> Result<(), Refusal>
+    requires good { IsGood world.now campaign.now.what }
+    ensures ok { OnOk result (MayClose world.now campaign.now.what month pass.now words.now) }
+    ensures err { IfErr result (λ why. step world.now campaign.now.what (command.Close month pass.now words.now) ≡ (campaign.now.what, Answer.Refused why)) }
+{
+    if campaign.pass().as_bytes() != pass.as_slice() {
+        return Err(Refusal::WrongPass);
+    }
+    if month != campaign.month() + 1 {
+        return Err(Refusal::WrongMonth);
+    }
+    if month > LAST_MONTH {
+        return Err(Refusal::MonthLimit);
+    }
+    if words.len() != world.regions().len() {
+        return Err(Refusal::WrongDice);
+    }
+    Ok(())
+}
+
+/// The answer to a command Close. The commit is the last call that can fail.
+pub(crate) fn close<S: Alter>(
+    alloc: Global,
+    world: &World,
+    campaign: &mut Campaign,
+    conn: &mut Connection<S>,
+    month: u32,
+    pass: &Sequence<u8>,
+    words: &Sequence<u32>,
+) -> Result<Answer, WriteFault>
+    requires good { IsGood world.now campaign.old.what }
+    requires idle { conn.old.in_transaction ≡ false }
+    ensures ok { IfOk result (Answers S.Store world.now campaign.old.what conn.old (command.Close month pass.now words.now) campaign.new.what conn.new) }
+    ensures err { OnErr result (GivesUp S.Store world.now campaign.old.what conn.old (command.Close month pass.now words.now) conn.new) }
+    ensures leaves { LeavesIdle S.Store conn.old conn.new }
+    ensures unmarked { campaign.old.marks ≡ no_marks → OnOk result (campaign.new.marks ≡ no_marks) }
+{
+    if let Err(refusal) = allowed(world, campaign, month, pass, words) {
+        return Ok(Answer::Refused(refusal));
+    }
+    let told = turn_month(alloc, world, campaign, words.as_slice())?;
+    report_to_all(alloc, world, campaign, &told)?;
+    write_changes(conn, campaign)?;
+    Ok(Answer::MonthDone { month })
+}

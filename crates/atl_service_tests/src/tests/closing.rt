@@ -1,0 +1,113 @@
+//! Months that are closed.
+use super::commands::AVALON;
+use super::mailings::FAULTY;
+use super::script::{Asked, Step, plays};
+use super::tables::{
+    AFTER_JOINING, BOOKED, FACTIONS, MAIL_BYTES, MAILINGS, MONEY, MONTH, NEXT, REGION_MONEY,
+    REPORT_BYTES, UNITS,
+};
+use super::worlds::SMALL;
+use std::test::Fail;
+
+const MONTH_ONE: Asked = Asked::Close(1, "gm", &[0]);
+
+/// The unit works for 12 and needs 10, and each of 1,000 peasants brings 1 to the region.
+const AFTER_WORK: &str = "Atlantis report, month 1, faction 1 \"Avalon\".
+Orders:
+Unit 1, line 0, WORK: done 12.
+Region 1 \"Vale\", plain: 1000 peasants, 1500 money.
+Exits: none.
+* Unit 1 \"Unit 1\": 1 men, 1002 money.
+";
+
+/// The unit was told to work, and to attack, which no order is.
+const AFTER_FAULTY: &str = "Atlantis report, month 1, faction 1 \"Avalon\".
+Orders:
+Line 5: 2 UnknownOrder.
+Unit 1, line 6, WORK: done 12.
+Region 1 \"Vale\", plain: 1000 peasants, 1500 money.
+Exits: none.
+* Unit 1 \"Unit 1\": 1 men, 1002 money.
+";
+
+/// The money is 2,502 (500 founded, 1,000 joined, 1,000 of income, 12 of wages, 10 spent on upkeep) and the people are 1,001.
+const AFTER_MONTH_ONE: [(&str, Option<i64>); 9] = [
+    (MONTH, Some(1)),
+    (NEXT, Some(200002)),
+    (FACTIONS, Some(1)),
+    (UNITS, Some(1)),
+    (BOOKED, Some(3503)),
+    (MONEY, Some(1002)),
+    (REGION_MONEY, Some(1500)),
+    (MAILINGS, Some(0)),
+    (MAIL_BYTES, None),
+];
+
+const CLOSED_ONCE: [Step; 3] = [
+    Step::Told(AVALON, "joined"),
+    Step::Closed(MONTH_ONE, 1),
+    Step::Told(Asked::Report(1, "pw"), AFTER_WORK),
+];
+
+const CLOSED_TWICE: [Step; 5] = [
+    Step::Told(AVALON, "joined"),
+    Step::Closed(MONTH_ONE, 1),
+    Step::Told(MONTH_ONE, "wrong month"),
+    Step::Month(1),
+    Step::Told(Asked::Report(1, "pw"), AFTER_WORK),
+];
+
+#[test]
+fn a_month_is_closed_once(rt: HostRuntime) -> Result<(), Fail> {
+    plays(&rt, rt.alloc(), SMALL, &CLOSED_ONCE, &AFTER_MONTH_ONE)?;
+    plays(&rt, rt.alloc(), SMALL, &CLOSED_TWICE, &AFTER_MONTH_ONE)
+}
+
+const ONE_FAULTY: [Step; 5] = [
+    Step::Told(AVALON, "joined"),
+    Step::Mailed(Asked::Mail(1, "pw", FAULTY), 1, &[(5, 2)]),
+    Step::Closed(MONTH_ONE, 1),
+    Step::Keeps(None),
+    Step::Told(Asked::Report(1, "pw"), AFTER_FAULTY),
+];
+
+#[test]
+fn a_faulty_line_is_told_and_the_mail_is_gone(rt: HostRuntime) -> Result<(), Fail> {
+    plays(&rt, rt.alloc(), SMALL, &ONE_FAULTY, &AFTER_MONTH_ONE)
+}
+
+const REFUSED: [Step; 9] = [
+    Step::Told(AVALON, "joined"),
+    Step::Told(Asked::Close(2, "no", &[]), "wrong pass"),
+    Step::Told(Asked::Close(1, "pw", &[0]), "wrong pass"),
+    Step::Told(Asked::Close(0, "gm", &[]), "wrong month"),
+    Step::Told(Asked::Close(2, "gm", &[0]), "wrong month"),
+    Step::Told(Asked::Close(4294967295, "gm", &[0]), "wrong month"),
+    Step::Told(Asked::Close(1, "gm", &[]), "wrong dice"),
+    Step::Told(Asked::Close(1, "gm", &[0, 0]), "wrong dice"),
+    Step::Month(0),
+];
+
+#[test]
+fn a_refused_closing_changes_nothing(rt: HostRuntime) -> Result<(), Fail> {
+    plays(&rt, rt.alloc(), SMALL, &REFUSED, &AFTER_JOINING)
+}
+
+/// What the tables hold where nobody has joined.
+const AFTER_NOBODY: [(&str, Option<i64>); 5] = [
+    (MONTH, Some(2)),
+    (FACTIONS, Some(0)),
+    (REPORT_BYTES, None),
+    (BOOKED, Some(3500)),
+    (REGION_MONEY, Some(2500)),
+];
+
+const NOBODY: [Step; 2] = [
+    Step::Closed(MONTH_ONE, 1),
+    Step::Closed(Asked::Close(2, "gm", &[7]), 2),
+];
+
+#[test]
+fn a_month_without_factions(rt: HostRuntime) -> Result<(), Fail> {
+    plays(&rt, rt.alloc(), SMALL, &NOBODY, &AFTER_NOBODY)
+}

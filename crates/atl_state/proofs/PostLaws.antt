@@ -1,0 +1,81 @@
+-- The month that is counted, the mail that is taken away, and a report that is stored: each is marked.
+use Rattle.std.proofs.Common.{◌≡◌, ◌||◌, ℕ, List, Bool, true, false, Option, Some, None, is_some, refl, sym, ap, ◌∙◌}
+use Rattle.std.specs.Ordering.{nat_cmp}
+use Rattle.std.specs.Cmp.{nat_cmp_total}
+use Rattle.std.specs.FinMap.{FinMap, get, get-empty, keys, empty, contains_key, contains_key-keys}
+use Rattle.std.specs.FinSet.{FinSet, contains, contains-union, contains-from_list, from_list, union}
+use Rattle.atl_state.specs.Covers.{MarksChanges, SameBut, StaysMarked}
+use Rattle.atl_state.specs.Marking.{mark_all_mail, mark_report, mark_row}
+use Rattle.atl_state.specs.State.{Marked, with_month, with_report, without_mail}
+use Rattle.atl_state.proofs.CoverLaws.{apart_by, put_stays}
+use Rattle.atl_state.proofs.EveryLaws.{get-insert_other}
+
+true_false : {P : Type 0} → true ≡ false → P
+true_false e = cc
+
+-- the month that is counted
+pub marks-month : (c : Marked) (n : ℕ) → MarksChanges c (record { what = with_month c.what n; marks = mark_row c })
+marks-month c n = record {
+  stay = record { factions = λ k h. h; regions = λ k h. h; structures = λ k h. h; mail = λ k h. h; reports = λ k h. h; units = λ k h. h; goods = λ k h. h; books = λ k h. h; row = λ h. refl };
+  covers = record {
+    factions = λ k free. refl;
+    regions = λ k free. refl;
+    structures = λ k free. refl;
+    mail = λ k free. refl;
+    reports = λ k free. refl;
+    units = λ k free. refl;
+    goods = λ k free. refl;
+    books = λ e t free. refl;
+    row = λ free. true_false free;
+  };
+}
+
+-- a report that is stored
+pub marks-report : (c : Marked) (n : ℕ) (text : List ℕ) → MarksChanges c (record { what = with_report c.what n text; marks = mark_report c n })
+marks-report c n text = record {
+  stay = record { factions = λ k h. h; regions = λ k h. h; structures = λ k h. h; mail = λ k h. h; reports = put_stays c.marks.reports n; units = λ k h. h; goods = λ k h. h; books = λ k h. h; row = λ h. h };
+  covers = record {
+    factions = λ k free. refl;
+    regions = λ k free. refl;
+    structures = λ k free. refl;
+    mail = λ k free. refl;
+    reports = λ k free. get-insert_other c.what.reports n k text (apart_by c.marks.reports n k free);
+    units = λ k free. refl;
+    goods = λ k free. refl;
+    books = λ e t free. refl;
+    row = λ free. refl;
+  };
+}
+
+-- ---- the mail that is taken away
+
+module _ (marks : FinSet nat_cmp) (mail : FinMap nat_cmp (List ℕ)) where
+  either : (k : ℕ) → contains (union marks (from_list (keys mail))) k ≡ (contains marks k || contains_key mail k)
+  either k = contains-union nat_cmp_total marks (from_list (keys mail)) k ∙ ap (λ b. contains marks k || b) (contains-from_list nat_cmp_total (keys mail) k ∙ sym (contains_key-keys mail k))
+
+  all_stay : StaysMarked marks (union marks (from_list (keys mail)))
+  all_stay k h = either k ∙ ap (λ b. b || contains_key mail k) h
+
+  none_there : (a b : Bool) (o : Option (List ℕ)) → b ≡ is_some o → (a || b) ≡ false → None ≡ o
+  none_there true b o is free = true_false free
+  none_there false b None is free = refl
+  none_there false b (Some text) is free = true_false (sym is ∙ free)
+
+  all_gone : SameBut (union marks (from_list (keys mail))) mail empty
+  all_gone k free = get-empty nat_cmp k ∙ none_there (contains marks k) (contains_key mail k) (get mail k) refl (sym (either k) ∙ free)
+
+pub marks-no_mail : (c : Marked) → MarksChanges c (record { what = without_mail c.what; marks = mark_all_mail c })
+marks-no_mail c = record {
+  stay = record { factions = λ k h. h; regions = λ k h. h; structures = λ k h. h; mail = all_stay c.marks.mail c.what.mail; reports = λ k h. h; units = λ k h. h; goods = λ k h. h; books = λ k h. h; row = λ h. h };
+  covers = record {
+    factions = λ k free. refl;
+    regions = λ k free. refl;
+    structures = λ k free. refl;
+    mail = all_gone c.marks.mail c.what.mail;
+    reports = λ k free. refl;
+    units = λ k free. refl;
+    goods = λ k free. refl;
+    books = λ e t free. refl;
+    row = λ free. refl;
+  };
+}

@@ -1,0 +1,24 @@
+-- A campaign of nothing.
+use Rattle.std.specs.Prelude.{[]}
+use Rattle.std.specs.FinMap.{empty}
+use Rattle.atl_state.specs.Marks.{no_marks}
+use Rattle.atl_state.specs.State.{State, Marked}
+
+abbrev pub nothing : State
+nothing = record {
+  month = 0;
+  pass = [];
+  next_faction = 1;
+  next_unit = 1;
+  next_structure = 1;
+  factions = empty;
+  regions = empty;
+  units = empty;
+  structures = empty;
+  mail = empty;
+  reports = empty;
+  books = [];
+}
+
+abbrev pub blank : Marked
+blank = record { what = nothing; marks = no_marks }

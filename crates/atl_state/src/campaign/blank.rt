@@ -1,0 +1,37 @@
+//! A campaign of nothing.
+ghost use Rattle.std.specs.Prelude.{◌≡◌};
+ghost use Rattle.atl_state.specs.Blank.{blank};
+
+use super::Campaign;
+use crate::books::{AmountMarks, Books};
+use crate::lists::UnitLists;
+use crate::units::Units;
+use atl_tables::{Text, Tracked};
+use std::alloc::Global;
+
+impl Campaign {
+    /// A campaign of nothing, with nothing marked. It stands where a campaign was taken out, and is none that a founding
+    /// gives. It takes no memory.
+    pub fn blank(alloc: Global) -> Campaign
+        ensures { result ≡ blank }
+    {
+        Campaign {
+            alloc,
+            month: 0,
+            pass: Text::from_string(String::new(alloc)),
+            next_faction: 1,
+            next_unit: 1,
+            next_structure: 1,
+            factions: Tracked::new(alloc),
+            regions: Tracked::new(alloc),
+            units: Units::new(alloc),
+            structures: Tracked::new(alloc),
+            mail: Tracked::new(alloc),
+            reports: Tracked::new(alloc),
+            books: Books::blank(alloc),
+            amounts_marked: AmountMarks::blank(alloc),
+            row_marked: false,
+            lists: UnitLists::new(alloc),
+        }
+    }
+}
