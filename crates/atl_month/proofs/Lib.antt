@@ -1,6 +1,7 @@
 pub mod PassingLaws
 pub mod SweepLaws
 pub mod SweepAllLaws
+pub mod ReceiverLaws
 pub mod SweepRunLaws
 pub mod SeasonLaws
 pub mod MonthLaws

@@ -1,5 +1,5 @@
 -- The sweep leaves a campaign well.
-use Rattle.std.proofs.Common.{◌≡◌, ◌≢◌, ◌==◌, ◌&&◌, ℕ, ◌+◌, ◌*◌, ◌≤◌, ◌<◌, not, Bool, true, false, cond, List, [], ◌∷◌, length, Option, Some, None, refl, sym, ap, subst, ◌∙◌, arith}
+use Rattle.std.proofs.Common.{◌≡◌, ◌≢◌, ◌==◌, ◌&&◌, ℕ, ◌+◌, ◌*◌, ◌≤◌, ◌<◌, not, Bool, true, false, cond, List, [], ◌∷◌, length, Option, Some, None, refl, sym, ap, subst, ◌∙◌, inl, arith}
 use Rattle.std.specs.Prelude.{ℤ, pos, ◌+ℤ◌, nat_lt, unwrap_or, if◌then◌else◌}
 use Rattle.std.proofs.lemmas.Int.{ints}
 use Rattle.std.proofs.lemmas.Bool.Decides.{nat_tests}
@@ -10,6 +10,7 @@ use Rattle.std.specs.Cmp.{ranked}
 use Rattle.std.specs.FinMap.{FinMap, entries, find, get, get-entries, is_sorted, len, nat_cmp-IsAntisymmetric}
 use Rattle.atl_tables.specs.Planet.{Planet}
 use Rattle.atl_tables.specs.Limits.{most_amount}
+use Rattle.atl_tables.specs.Sums.{numbers_where}
 use Rattle.atl_state.specs.Books.{amount_in, booked, entry_place, thing_place}
 use Rattle.atl_state.specs.declared.books.Entry.{Entry}
 use Rattle.atl_state.specs.declared.books.Entry.TheVariants.{Lost}
@@ -22,15 +23,15 @@ use Rattle.atl_state.specs.Good.{Every, IsSteady, IsThere}
 use Rattle.atl_state.specs.Held.{Held, amount_of}
 use Rattle.atl_state.specs.Limits.{entry_count, holding_limit}
 use Rattle.atl_state.specs.Marks.{amount_number}
-use Rattle.atl_state.specs.Owners.{without_unit}
-use Rattle.atl_state.specs.State.{State, numbers_in}
+use Rattle.atl_state.specs.Owners.{first_or_zero, without_unit}
+use Rattle.atl_state.specs.State.{State}
 use Rattle.atl_state.specs.Totals.{Balances, held, total}
 use Rattle.atl_state.proofs.BookLaws.{entry_small}
 use Rattle.atl_state.proofs.EveryLaws.{each-from_every, not_below, sorted}
 use Rattle.atl_instant.specs.Meaning.{IsNear, LeavesWell, Moving, both_move, moves_only}
 use Rattle.atl_instant.proofs.MeaningLaws.{near_more}
-use Rattle.atl_month.specs.Sweep.{IsKept, loses_by, may_receive, moving_items, passed_money, passed_on, receiver}
-use Rattle.atl_state.proofs.RemovedLaws.{IsListed, first_of, get-remove_other, listed_passing, still}
+use Rattle.atl_month.specs.Sweep.{IsKept, loses_by, moving_items, passed_money, passed_on, receiver, receives}
+use Rattle.atl_state.proofs.RemovedLaws.{IsListed, get-remove_other, listed_passing, still}
 use Rattle.atl_state.proofs.LeavingLaws.{only_reduced, steady-without, total-without}
 use Rattle.atl_month.proofs.PassingLaws.{Owes, PassesOn, owing_items, part_of, pass_items, pass_money, passes-trans}
 
@@ -149,26 +150,32 @@ little_lost h none money items e (Item j) = let apart : (2 + j == 1) ≡ false =
 
 -- ---- who gets it
 
+pub first_listed : (ns : List ℕ) → first_or_zero ns ≢ 0 → IsListed (first_or_zero ns) ns
+first_listed [] some = absurd (some refl)
+first_listed (n ∷ ns) some = inl refl
+
 module _ (w : Planet) (c : State) (n : ℕ) (u : Unit) (is : get c.units n ≡ Some u) (none : u.holding.men ≡ 0) (steady : IsSteady w c) where
-  not_received : (faction : ℕ) → may_receive faction (get c.units n) ≡ true → ⊥
-  not_received faction t = without_men (u.faction == faction) u.holding.men none (sym (ap (may_receive faction) is) ∙ t)
+  not_received : (region faction : ℕ) (v : Unit) → get c.units n ≡ Some v → receives region faction v ≡ true → ⊥
+  not_received region faction v there t =
+      let both = and_parts (v.region == region) ((v.faction == faction) && nat_lt 0 v.holding.men) t in
+      let men : nat_lt 0 v.holding.men ≡ true = (and_parts (v.faction == faction) (nat_lt 0 v.holding.men) both.1).1 in
+      let one : Some v ≡ Some u = sym there ∙ is in
+      without_men v.holding.men (ap (λ o. men_in o v) one ∙ none) men
     where
-      without_men : (b : Bool) (men : ℕ) → men ≡ 0 → (b && nat_lt 0 men) ≡ true → ⊥
-      without_men b men e t = let f : nat_lt 0 men ≡ false = grind (arith, nat_tests) in both b (nat_lt 0 men) f t
-        where
-          both : (a d : Bool) → d ≡ false → (a && d) ≡ true → ⊥
-          both true d f g = cc
-          both false d f g = cc
+      men_in : Option Unit → Unit → ℕ
+      men_in (Some y) z = y.holding.men
+      men_in None z = z.holding.men
+
+      without_men : (men : ℕ) → men ≡ 0 → nat_lt 0 men ≡ true → ⊥
+      without_men men e t = let some : 1 ≤ men = grind (arith, nat_tests) in absurd (omega (arith, e, some))
 
   receiver_apart : (region faction : ℕ) → n ≢ receiver c region faction
   receiver_apart region faction same =
-      let test = λ (m : ℕ). may_receive faction (get c.units m) in
-      let among = numbers_in region c.units in
-      let low : (k : ℕ) → IsListed k among → 1 ≤ k = λ k h. let (v, there, t) = listed_passing (λ (v : Unit). v.region == region) c.units k h in (steady.numbers.units k v there).0 in
-      let first = first_of test among low in
       let least = (steady.numbers.units n u is).0 in
       let some : receiver c region faction ≢ 0 = λ zero. absurd (omega (arith, same, zero, least)) in
-      not_received faction (ap test same ∙ (first.0 some).1)
+      let listed = first_listed (numbers_where (receives region faction) c.units) some in
+      let (v, there, t) = listed_passing (receives region faction) c.units (receiver c region faction) listed in
+      not_received region faction v (ap (get c.units) same ∙ there) t
 
   abbrev to : ℕ
   to = receiver c u.region u.faction

@@ -5,3 +5,4 @@ pub mod Accounts
 pub mod Upkeep
 pub mod Month
 pub mod Sweep
+pub mod Receivers

@@ -1,5 +1,5 @@
 -- The sweep of a month: units without men go, and factions without units. See docs/RULES.md, "Sweep".
-use Rattle.std.specs.Prelude.{◌≡◌, ◌≤◌, ◌+◌, ◌-◌, ◌==◌, ◌&&◌, not, min, ℕ, pos, neg_ℤ, nat_lt, Bool, true, false, List, [], ◌∷◌, filter, fold, Option, Some, None, if◌then◌else◌}
+use Rattle.std.specs.Prelude.{◌≡◌, ◌≤◌, ◌+◌, ◌-◌, ◌==◌, ◌&&◌, not, min, ℕ, pos, neg_ℤ, nat_lt, Bool, true, false, List, [], ◌∷◌, fold, Option, Some, None, if◌then◌else◌}
 use Rattle.std.specs.FinMap.{entries, get}
 use Rattle.atl_tables.specs.Planet.{Planet}
 use Rattle.atl_tables.specs.Sums.{numbers_where}
@@ -13,24 +13,19 @@ use Rattle.atl_state.specs.Held.{amount_of, with_amount_of}
 use Rattle.atl_state.specs.Lending.{with_held}
 use Rattle.atl_state.specs.Limits.{holding_limit}
 use Rattle.atl_state.specs.Owners.{first_or_zero, without_unit}
-use Rattle.atl_state.specs.State.{State, numbers_in, numbers_of, with_amount, with_gone, with_money}
+use Rattle.atl_state.specs.State.{State, numbers_of, with_amount, with_gone, with_money}
 use Rattle.atl_instant.specs.Course.{Course}
 use Rattle.atl_instant.specs.Meaning.{Keeping, Moving, moves_only}
 
 -- ---- who gets what a unit leaves
 
--- a unit of a faction, with men
-abbrev pub may_receive : ℕ → Option Unit → Bool
-may_receive faction None = false
-may_receive faction (Some v) = (v.faction == faction) && nat_lt 0 v.holding.men
+-- a unit of a faction in a region, with men
+abbrev pub receives : (region faction : ℕ) → Unit → Bool
+receives region faction v = (v.region == region) && ((v.faction == faction) && nat_lt 0 v.holding.men)
 
--- the first of some numbers whose unit is of a faction and has men; 0 where there is none
-abbrev pub first_receiver : State → (faction : ℕ) → List ℕ → ℕ
-first_receiver c faction numbers = first_or_zero (filter (λ n. may_receive faction (get c.units n)) numbers)
-
--- the lowest-numbered unit with men of a faction in a region
+-- the lowest-numbered one; 0 where there is none
 abbrev pub receiver : State → (region faction : ℕ) → ℕ
-receiver c region faction = first_receiver c faction (numbers_in region c.units)
+receiver c region faction = first_or_zero (numbers_where (receives region faction) c.units)
 
 -- ---- what it gets, up to its room
 

@@ -3,6 +3,7 @@
 
 mod accounts;
 mod close;
+mod receivers;
 mod season;
 mod settling;
 mod sweep;

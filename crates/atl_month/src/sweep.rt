@@ -14,9 +14,11 @@ ghost use Rattle.atl_state.specs.declared.books.Entry.TheVariants.{Lost};
 ghost use Rattle.atl_state.specs.declared.books.Thing.TheVariants.{Item, Money};
 ghost use Rattle.atl_state.specs.declared.records.Unit.{Unit};
 ghost use Rattle.atl_instant.specs.Meaning.{HasRoom, HaveRoom, most_moved, moved_times};
-ghost use Rattle.atl_month.specs.Sweep.{first_receiver, gone_at, loses_by, may_receive, menless, moving_items, passed_item, passed_money, receiver, remaining, sweep, sweep_keeps, sweep_meaning, swept_at, taken_of, with_lost};
+ghost use Rattle.atl_month.specs.Sweep.{gone_at, loses_by, menless, moving_items, passed_item, passed_money, remaining, sweep, sweep_keeps, sweep_meaning, swept_at, taken_of, with_lost};
+ghost use Rattle.atl_month.specs.Receivers.{AreReceivers};
 ghost use Rattle.atl_month.specs.Swept.{IsSwept};
 
+use crate::receivers::{Receivers, receiver_in, receivers_of};
 use atl_instant::{Month, Phase};
 use atl_state::{Campaign, Entry, Holding, Thing};
 use atl_tables::World;
@@ -27,28 +29,6 @@ use std::alloc::{AllocError, Global};
 /// room for is lost. Then factions without units are gone. See docs/RULES.md, "Sweep".
 #[derive(Drop, Clone, Copy)]
 pub struct SweepPhase;
-
-/// Whether a unit is of a faction, and has men.
-fn may_receive(campaign: &Campaign, faction: u32, number: u32) -> bool
-    ensures { result ≡ may_receive faction (map.get campaign.now.what.units number) }
-{
-    match campaign.unit(number) {
-        Some(unit) => unit.faction == faction && 0 < unit.holding.men(),
-        None => false,
-    }
-}
-
-/// The first of some numbers whose unit is of a faction and has men, or 0.
-fn first_receiver(campaign: &Campaign, faction: u32, numbers: &[u32]) -> u32
-    ensures { result ≡ first_receiver campaign.now.what faction numbers.now }
-{
-    for number in numbers.iter() {
-        if may_receive(campaign, faction, *number) {
-            return *number;
-        }
-    }
-    0
-}
 
 /// How much of an amount goes to a unit that has so much already.
 fn taken_of(amount: u32, have: u32) -> u32
@@ -169,10 +149,12 @@ fn items_of(alloc: Global, world: &World, holding: &Holding) -> Result<Vec<(u16,
 fn sweep_unit(
     alloc: Global,
     world: &World,
+    receivers: &Receivers,
     campaign: &mut Campaign,
     number: u32,
 ) -> Result<(), AllocError>
     requires steady { IsSteady world.now campaign.old.what }
+    requires receivers { AreReceivers campaign.old.what receivers.now }
     requires room { HaveRoom (loses_by most_amount) campaign.old.what }
     ensures what { OnOk result (campaign.new.what ≡ swept_at campaign.old.what number) }
     ensures marks { OnOk result (MarksChanges campaign.old campaign.new) }
@@ -185,7 +167,7 @@ fn sweep_unit(
     }
     let money = unit.holding.money();
     let items = items_of(alloc, world, &unit.holding)?;
-    let to = first_receiver(campaign, unit.faction, campaign.in_region(unit.region));
+    let to = receiver_in(receivers, unit.region, unit.faction);
     pass_money(campaign, to, money);
     pass_items(world, campaign, to, &items)?;
     campaign.remove_unit(number);
@@ -209,16 +191,18 @@ fn menless(alloc: Global, campaign: &Campaign) -> Result<Vec<u32>, AllocError>
 fn sweep_units(
     alloc: Global,
     world: &World,
+    receivers: &Receivers,
     campaign: &mut Campaign,
     numbers: &[u32],
 ) -> Result<(), AllocError>
     requires steady { IsSteady world.now campaign.old.what }
+    requires receivers { AreReceivers campaign.old.what receivers.now }
     requires room { HaveRoom (moved_times (length numbers.now) (loses_by most_amount)) campaign.old.what }
     ensures what { OnOk result (campaign.new.what ≡ fold swept_at campaign.old.what numbers.now) }
     ensures marks { OnOk result (MarksChanges campaign.old campaign.new) }
 {
     for number in numbers.iter() {
-        sweep_unit(alloc, world, campaign, *number)?;
+        sweep_unit(alloc, world, receivers, campaign, *number)?;
     }
     Ok(())
 }
@@ -274,8 +258,9 @@ impl Phase for SweepPhase {
         mut campaign: Campaign,
         month: Month,
     ) -> Result<(Campaign, Month), AllocError> {
+        let receivers = receivers_of(alloc, &campaign)?;
         let numbers = menless(alloc, &campaign)?;
-        sweep_units(alloc, world, &mut campaign, &numbers)?;
+        sweep_units(alloc, world, &receivers, &mut campaign, &numbers)?;
         let factions = remaining(alloc, &campaign)?;
         sweep_factions(&mut campaign, &factions);
         Ok((campaign, month))

@@ -3,4 +3,5 @@ mod campaigns;
 mod plain;
 mod season;
 mod settling;
+mod sweep;
 mod upkeep;

@@ -7,6 +7,7 @@ use Rattle.atl_state.proofs.CoverLaws.{marks-trans}
 use Rattle.atl_instant.specs.Meaning.{HaveRoom, moved_times}
 use Rattle.atl_instant.proofs.MeaningLaws.{room_behind_one, room_for_one}
 use Rattle.atl_month.specs.Sweep.{loses_by, swept_at}
+use Rattle.atl_month.proofs.ReceiverLaws.{receiver_stays}
 use Rattle.atl_month.proofs.SweepAllLaws.{swept_at_leaves_well}
 use Rattle.atl_month.proofs.sweep.sweep_units.Goals as goal
 
@@ -33,8 +34,9 @@ loop-number-preserved c =
     record {
       rest = ap (λ (d : State). fold swept_at d (drop (i + 1) list)) is ∙ sym (ap (fold swept_at before) behind) ∙ old.rest;
       steady = rw is (swept_at_leaves_well w before n old.steady).leaves_it;
+      receivers = rw is (λ region faction. old.receivers region faction ∙ sym (receiver_stays w before n old.steady region faction));
       room =
-        rw is (room_behind_one (loses_by most_amount) w swept_at (λ d m. swept_at_leaves_well w d m) before n n (drop (i + 1) list) old.steady
-        (subst (λ (l : List ℕ). HaveRoom (moved_times (length l) (loses_by most_amount)) before) behind old.room));
+          rw is (room_behind_one (loses_by most_amount) w swept_at (λ d m. swept_at_leaves_well w d m) before n n (drop (i + 1) list) old.steady
+          (subst (λ (l : List ℕ). HaveRoom (moved_times (length l) (loses_by most_amount)) before) behind old.room));
       marks = marks-trans c.args.campaign.now c.loop-number.campaign c.sweep_unit.new.campaign old.marks c.in_ok-sweep_unit.ensures.marks;
     }

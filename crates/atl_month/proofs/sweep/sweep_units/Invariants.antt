@@ -4,6 +4,7 @@ use Rattle.atl_tables.specs.Limits.{most_amount}
 use Rattle.atl_state.specs.Covers.{MarksChanges}
 use Rattle.atl_state.specs.Good.{IsSteady}
 use Rattle.atl_instant.specs.Meaning.{HaveRoom, moved_times}
+use Rattle.atl_month.specs.Receivers.{AreReceivers}
 use Rattle.atl_month.specs.Sweep.{loses_by, swept_at}
 use Rattle.atl_month.proofs.sweep.sweep_units.Given as goal
 
@@ -11,6 +12,7 @@ abbrev pub invariant-loop-number : goal.invariant-loop-number
 invariant-loop-number l = record {
   rest : fold swept_at l.campaign.what (drop l.number-index l.numbers) ≡ fold swept_at l.initial.campaign.what l.numbers;
   steady : IsSteady l.world l.campaign.what;
+  receivers : AreReceivers l.campaign.what l.receivers;
   room : HaveRoom (moved_times (length (drop l.number-index l.numbers)) (loses_by most_amount)) l.campaign.what;
   marks : MarksChanges l.initial.campaign l.campaign;
 }

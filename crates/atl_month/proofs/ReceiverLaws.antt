@@ -1,0 +1,226 @@
+-- Who receives what units without men leave: from one unit to the next, and while they are swept.
+use Rattle.std.proofs.Common.{◌≡◌, ◌≢◌, ◌==◌, ◌&&◌, ℕ, ◌≤◌, ◌<◌, Bool, true, false, cond, List, [], ◌∷◌, Option, Some, None, refl, sym, ap, subst, ◌∙◌, inl, inr, ◌⊎◌, arith}
+use Rattle.std.specs.Prelude.{nat_lt, unwrap_or, if◌then◌else◌}
+use Rattle.std.proofs.lemmas.Bool.Decides.{nat_tests}
+use Rattle.std.proofs.lemmas.Bool.{and_parts, cases_eq}
+use Rattle.std.specs.Ordering.{nat_cmp}
+use Rattle.std.specs.FinMap.{FinMap, empty, entries, get, get-empty, insert, is_sorted}
+use Rattle.std.specs.FinMap.Entries.{below_all}
+use Rattle.atl_tables.specs.Planet.{Planet}
+use Rattle.atl_tables.specs.Sums.{numbers_among, numbers_where}
+use Rattle.atl_tables.proofs.SumLaws.{chosen-cons}
+use Rattle.atl_state.specs.declared.records.Unit.{Unit}
+use Rattle.atl_state.specs.Good.{Every, IsSteady}
+use Rattle.atl_state.specs.Owners.{first_or_zero}
+use Rattle.atl_state.specs.State.{State}
+use Rattle.atl_state.proofs.EveryLaws.{get-insert_other, sorted}
+use Rattle.atl_state.proofs.ListLaws.{other_number, same_number}
+use Rattle.atl_state.proofs.OrderedLaws.{below}
+use Rattle.atl_state.proofs.RegionLaws.{get-insert_same}
+use Rattle.atl_state.proofs.RemovedLaws.{IsListed, listed_passing, passing_listed}
+use Rattle.atl_month.specs.Receivers.{AreReceivers, ReceiverMap, noted, or_else, receiver_in, receiver_under, receivers_under, with_receiver}
+use Rattle.atl_month.specs.Sweep.{IsKept, receiver, receives, swept_at}
+use Rattle.atl_month.proofs.SweepLaws.{first_listed}
+use Rattle.atl_month.proofs.SweepAllLaws.{swept_at_keeps, swept_at_leaves_well, swept_at_were}
+
+-- ---- the first of those that pass a test
+
+module _ {V : Type 0} (p : V → Bool) where
+  -- what is listed of a number and others
+  either_listed : {P : Type 0} (b : Bool) (n k : ℕ) (ns : List ℕ) → (k ≡ n → P) → (IsListed k ns → P) → IsListed k (cond b (n ∷ ns) ns) → P
+  either_listed true n k ns here rest (inl same) = here same
+  either_listed true n k ns here rest (inr h) = rest h
+  either_listed false n k ns here rest h = rest h
+
+  below_listed : (x k : ℕ) (es : List (ℕ × V)) → below_all nat_cmp x es ≡ true → IsListed k (numbers_among p es) → x < k
+  below_listed x k [] low h = absurd h
+  below_listed x k (e ∷ es) low h =
+      either_listed (p e.1) e.0 k (numbers_among p es) (λ same. let l = below x e.0 (and_parts _ _ low).0 in omega (arith, same, l)) (below_listed x k es (and_parts _ _ low).1)
+      (subst (IsListed k) (chosen-cons p e es) h)
+
+  first_least : (k : ℕ) (es : List (ℕ × V)) → is_sorted nat_cmp es ≡ true → IsListed k (numbers_among p es) → first_or_zero (numbers_among p es) ≤ k
+  first_least k [] s h = absurd h
+  first_least k (e ∷ es) s h =
+      subst (λ ns. first_or_zero ns ≤ k) (sym (chosen-cons p e es))
+      (by_test (p e.1) (first_least k es (and_parts _ _ s).1) (below_listed e.0 k es (and_parts _ _ s).0) (subst (IsListed k) (chosen-cons p e es) h))
+    where
+      by_test : (b : Bool) → (IsListed k (numbers_among p es) → first_or_zero (numbers_among p es) ≤ k) → (IsListed k (numbers_among p es) → e.0 < k)
+          → IsListed k (cond b (e.0 ∷ numbers_among p es) (numbers_among p es)) → first_or_zero (cond b (e.0 ∷ numbers_among p es) (numbers_among p es)) ≤ k
+      by_test true least above (inl same) = omega (arith, same)
+      by_test true least above (inr rest) = let l = above rest in omega arith
+      by_test false least above rest = least rest
+
+  -- what passes in one map passes in the other
+  abbrev PassesIn : FinMap nat_cmp V → ℕ → Type 0
+  PassesIn m k = (v : V) × (get m k ≡ Some v) × (p v ≡ true)
+
+  first_below : (m o : FinMap nat_cmp V) → Every (λ k v. 1 ≤ k) m → ((k : ℕ) → PassesIn o k → PassesIn m k) → first_or_zero (numbers_where p o) ≢ 0
+      → (first_or_zero (numbers_where p m) ≢ 0) × (first_or_zero (numbers_where p m) ≤ first_or_zero (numbers_where p o))
+  first_below m o low also some =
+      let first = first_or_zero (numbers_where p o) in
+      let (v, is, t) = also first (listed_passing p o first (first_listed (numbers_where p o) some)) in
+      let listed = passing_listed p m first v is t in
+      (there (numbers_where p m) (λ k h. let (x, at, u) = listed_passing p m k h in low k x at) first listed, first_least first (entries m) (sorted m) listed)
+    where
+      there : (ns : List ℕ) → ((k : ℕ) → IsListed k ns → 1 ≤ k) → (k : ℕ) → IsListed k ns → first_or_zero ns ≢ 0
+      there [] least k h = absurd h
+      there (n ∷ ns) least k h = let l = least n (inl refl) in λ zero. absurd (omega (arith, zero, l))
+
+  pub same_first : (m o : FinMap nat_cmp V) → Every (λ k v. 1 ≤ k) m → Every (λ k v. 1 ≤ k) o → ((k : ℕ) → PassesIn o k → PassesIn m k) → ((k : ℕ) → PassesIn m k → PassesIn o k)
+      → first_or_zero (numbers_where p m) ≡ first_or_zero (numbers_where p o)
+  same_first m o low deep there back =
+      elim (cases_eq (first_or_zero (numbers_where p m)) 0) [
+        | inl none ↦
+            elim (cases_eq (first_or_zero (numbers_where p o)) 0) [
+              | inl also ↦ none ∙ sym also
+              | inr some ↦ absurd ((first_below m o low there some).0 none)
+            ]
+        | inr some ↦ let (other, more) = first_below o m deep back some in let less = first_below m o low there other in omega (arith, more, less.1)
+      ]
+
+-- ---- while units are swept
+
+module _ (w : Planet) (c : State) (n : ℕ) (steady : IsSteady w c) where
+  passes_still : (region faction : ℕ) (u v : Unit) → IsKept u v → receives region faction u ≡ receives region faction v
+  passes_still region faction u v kept =
+      ap (λ r. (r == region) && ((u.faction == faction) && nat_lt 0 u.holding.men)) (sym kept.region)
+      ∙ ap (λ f. (v.region == region) && ((f == faction) && nat_lt 0 u.holding.men)) (sym kept.faction)
+      ∙ ap (λ m. (v.region == region) && ((v.faction == faction) && nat_lt 0 m)) (sym kept.men)
+
+  has_men : (region faction : ℕ) (u : Unit) → receives region faction u ≡ true → 1 ≤ u.holding.men
+  has_men region faction u t =
+      let both = and_parts (u.region == region) ((u.faction == faction) && nat_lt 0 u.holding.men) t in
+      let men = (and_parts (u.faction == faction) (nat_lt 0 u.holding.men) both.1).1 in
+      grind (arith, nat_tests)
+
+  -- the receivers stay the same
+  pub receiver_stays : (region faction : ℕ) → receiver (swept_at c n) region faction ≡ receiver c region faction
+  receiver_stays region faction =
+      same_first (receives region faction) (swept_at c n).units c.units
+      (λ k v is. ((swept_at_leaves_well w c n steady).leaves_it.numbers.units k v is).0)
+      (λ k v is. (steady.numbers.units k v is).0)
+      (λ k h. let (u, is, t) = h in let (v, there, kept) = swept_at_keeps w c n steady k u is (has_men region faction u t) in (v, there, sym (passes_still region faction u v kept) ∙ t))
+      (λ k h. let (v, is, t) = h in let (apart, (u, was, kept)) = swept_at_were w c n steady k v is in (u, was, passes_still region faction u v kept ∙ t))
+
+-- ---- as they are noted, unit by unit
+
+module _ (m : ReceiverMap) (region faction n : ℕ) where
+  noted_here : receiver_in (with_receiver m region faction n) region faction ≡ n
+  noted_here =
+      ap (receiver_under faction) (get-insert_same m region (insert (receivers_under (get m region)) faction n))
+      ∙ ap (λ o. unwrap_or o 0) (get-insert_same (receivers_under (get m region)) faction n)
+
+  under_none : (f : ℕ) (o : Option (FinMap nat_cmp ℕ)) → unwrap_or (get (receivers_under o) f) 0 ≡ receiver_under f o
+  under_none f None = ap (λ o. unwrap_or o 0) (get-empty nat_cmp f)
+  under_none f (Some x) = refl
+
+  noted_apart : (r f : ℕ) → (r ≢ region) ⊎ (f ≢ faction) → receiver_in (with_receiver m region faction n) r f ≡ receiver_in m r f
+  noted_apart r f h =
+      elim (cases_eq r region) [
+        | inl same ↦
+            elim h [
+              | inl apart ↦ absurd (apart same)
+              | inr apart ↦
+                  ap (λ k. receiver_in (with_receiver m region faction n) k f) same
+                  ∙ ap (receiver_under f) (get-insert_same m region (insert (receivers_under (get m region)) faction n))
+                  ∙ ap (λ o. unwrap_or o 0) (get-insert_other (receivers_under (get m region)) faction f n apart)
+                  ∙ under_none f (get m region) ∙ ap (λ k. receiver_in m k f) (sym same)
+            ]
+        | inr apart ↦ ap (receiver_under f) (get-insert_other m region r (insert (receivers_under (get m region)) faction n) apart)
+      ]
+
+module _ (m : ReceiverMap) (n : ℕ) (u : Unit) (es : List (ℕ × Unit)) (low : 1 ≤ n) where
+  abbrev behind : (region faction : ℕ) → ℕ
+  behind r f = first_or_zero (numbers_among (receives r f) es)
+
+  abbrev GoesOn : (region faction : ℕ) → Type 0
+  GoesOn r f = or_else (receiver_in (noted m n u) r f) (behind r f) ≡ or_else (receiver_in m r f) (first_or_zero (numbers_among (receives r f) ((n, u) ∷ es)))
+
+  first_of_cond : (b : Bool) (x : ℕ) (ns : List ℕ) → first_or_zero (cond b (x ∷ ns) ns) ≡ cond b x (first_or_zero ns)
+  first_of_cond true x ns = refl
+  first_of_cond false x ns = refl
+
+  opened : (r f : ℕ) → first_or_zero (numbers_among (receives r f) ((n, u) ∷ es)) ≡ cond (receives r f u) n (behind r f)
+  opened r f = ap first_or_zero (chosen-cons (receives r f) (n, u) es) ∙ first_of_cond (receives r f u) n (numbers_among (receives r f) es)
+
+  -- for its own faction in its own region
+  own : GoesOn u.region u.faction
+  own =
+      by_tests (nat_lt 0 u.holding.men) (receiver_in m u.region u.faction == 0) refl refl
+      ∙ ap (λ b. or_else x (cond b n F)) (sym passes) ∙ ap (or_else x) (sym (opened u.region u.faction))
+    where
+      x : ℕ
+      x = receiver_in m u.region u.faction
+
+      F : ℕ
+      F = behind u.region u.faction
+
+      passes : receives u.region u.faction u ≡ nat_lt 0 u.holding.men
+      passes = ap (λ a. a && ((u.faction == u.faction) && nat_lt 0 u.holding.men)) (same_number u.region) ∙ ap (λ a. a && nat_lt 0 u.holding.men) (same_number u.faction)
+
+      some_else : (a b : ℕ) → 1 ≤ a → or_else a b ≡ a
+      some_else a b l = by_test (a == 0) refl
+        where
+          by_test : (t : Bool) → (a == 0) ≡ t → (if t then b else a) ≡ a
+          by_test true e = let zero : a ≡ 0 = grind (arith, nat_tests) in absurd (omega (arith, zero, l))
+          by_test false e = refl
+
+      by_tests : (k z : Bool) → nat_lt 0 u.holding.men ≡ k → (receiver_in m u.region u.faction == 0) ≡ z
+          → or_else (receiver_in (noted m n u) u.region u.faction) F ≡ or_else x (cond (nat_lt 0 u.holding.men) n F)
+      by_tests true true k z =
+          ap (λ a. or_else (receiver_in (if a && (x == 0) then with_receiver m u.region u.faction n else m) u.region u.faction) F) k
+          ∙ ap (λ a. or_else (receiver_in (if a then with_receiver m u.region u.faction n else m) u.region u.faction) F) z
+          ∙ ap (λ a. or_else a F) (noted_here m u.region u.faction n) ∙ some_else n F low
+          ∙ ap (λ a. if a then n else x) (sym z) ∙ ap (λ a. or_else x (cond a n F)) (sym k)
+      by_tests true false k z =
+          ap (λ a. or_else (receiver_in (if a && (x == 0) then with_receiver m u.region u.faction n else m) u.region u.faction) F) k
+          ∙ ap (λ a. or_else (receiver_in (if a then with_receiver m u.region u.faction n else m) u.region u.faction) F) z
+          ∙ ap (λ a. if a then F else x) z
+          ∙ ap (λ a. if a then n else x) (sym z) ∙ ap (λ a. or_else x (cond a n F)) (sym k)
+      by_tests false z k e =
+          ap (λ a. or_else (receiver_in (if a && (x == 0) then with_receiver m u.region u.faction n else m) u.region u.faction) F) k
+          ∙ ap (λ a. or_else x (cond a n F)) (sym k)
+
+  -- and for others
+  others : (r f : ℕ) → (r ≢ u.region) ⊎ (f ≢ u.faction) → GoesOn r f
+  others r f apart =
+      ap (λ a. or_else a (behind r f)) (by_test (nat_lt 0 u.holding.men && (receiver_in m u.region u.faction == 0)))
+      ∙ ap (λ b. or_else (receiver_in m r f) (cond b n (behind r f))) (sym (fails apart)) ∙ ap (or_else (receiver_in m r f)) (sym (opened r f))
+    where
+      by_test : (b : Bool) → receiver_in (if b then with_receiver m u.region u.faction n else m) r f ≡ receiver_in m r f
+      by_test true = noted_apart m u.region u.faction n r f apart
+      by_test false = refl
+
+      no_second : (a : Bool) → a && false ≡ false
+      no_second true = refl
+      no_second false = refl
+
+      fails : (r ≢ u.region) ⊎ (f ≢ u.faction) → receives r f u ≡ false
+      fails (inl h) = ap (λ a. a && ((u.faction == f) && nat_lt 0 u.holding.men)) (other_number u.region r (λ e. h (sym e)))
+      fails (inr h) = ap (λ a. (u.region == r) && (a && nat_lt 0 u.holding.men)) (other_number u.faction f (λ e. h (sym e))) ∙ no_second (u.region == r)
+
+  pub noted_goes_on : (r f : ℕ) → GoesOn r f
+  noted_goes_on r f =
+      elim (cases_eq r u.region) [
+        | inl region ↦
+            elim (cases_eq f u.faction) [
+              | inl faction ↦ subst (λ k. GoesOn k f) (sym region) (subst (GoesOn u.region) (sym faction) own)
+              | inr apart ↦ others r f (inr apart)
+            ]
+        | inr apart ↦ others r f (inl apart)
+      ]
+
+pub nothing_noted : (c : State) (m : ReceiverMap) → m ≡ empty → (r f : ℕ) → or_else (receiver_in m r f) (first_or_zero (numbers_among (receives r f) (entries c.units))) ≡ receiver c r f
+nothing_noted c m none r f =
+    ap (λ k. or_else (receiver_under f (get k r)) (first_or_zero (numbers_among (receives r f) (entries c.units)))) none
+    ∙ ap (λ o. or_else (receiver_under f o) (first_or_zero (numbers_among (receives r f) (entries c.units)))) (get-empty nat_cmp r)
+
+pub all_noted : (c : State) (m : ReceiverMap) → ((r f : ℕ) → or_else (receiver_in m r f) (first_or_zero (numbers_among (receives r f) [])) ≡ receiver c r f) → AreReceivers c m
+all_noted c m h r f = plain (receiver_in m r f) ∙ h r f
+  where
+    plain : (x : ℕ) → x ≡ or_else x 0
+    plain x = by_test (x == 0) refl
+      where
+        by_test : (b : Bool) → (x == 0) ≡ b → x ≡ (if b then 0 else x)
+        by_test true e = grind (arith, nat_tests)
+        by_test false e = refl

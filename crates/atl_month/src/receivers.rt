@@ -1,0 +1,68 @@
+//! Who receives what units without men leave.
+ghost use Rattle.std.specs.Prelude.{◌≡◌, ◌≤◌, IfOk, OnOk};
+ghost use Rattle.atl_state.specs.Good.{Every};
+ghost use Rattle.atl_month.specs.Receivers.{AreReceivers, noted, receiver_in, with_receiver};
+
+use atl_state::{Campaign, Unit};
+use atl_tables::Numbered;
+use std::alloc::{AllocError, Global};
+
+/// The lowest-numbered units with men, by region and then by faction.
+pub(crate) type Receivers = Numbered<Numbered<u32>>;
+
+/// The one of a faction in a region, or 0.
+pub(crate) fn receiver_in(receivers: &Receivers, region: u32, faction: u32) -> u32
+    ensures { result ≡ receiver_in receivers.now region faction }
+{
+    let found = match receivers.get(region) {
+        Some(of_region) => of_region.get(faction).copied(),
+        None => None,
+    };
+    found.unwrap_or(0)
+}
+
+/// Puts a unit under its region and its faction. Without memory the receivers are to be given up.
+fn put_receiver(
+    alloc: Global,
+    receivers: &mut Receivers,
+    number: u32,
+    unit: &Unit,
+) -> Result<(), AllocError>
+    ensures { OnOk result (receivers.new ≡ with_receiver receivers.old unit.now.region unit.now.faction number) }
+{
+    match receivers.get_mut(unit.region) {
+        Some(of_region) => of_region.insert(unit.faction, number),
+        None => {
+            let mut of_region = Numbered::new(alloc);
+            of_region.insert(unit.faction, number)?;
+            receivers.insert(unit.region, of_region)
+        }
+    }
+}
+
+/// Notes a unit, if it has men and none was noted before it.
+fn note(
+    alloc: Global,
+    receivers: &mut Receivers,
+    number: u32,
+    unit: &Unit,
+) -> Result<(), AllocError>
+    ensures { OnOk result (receivers.new ≡ noted receivers.old number unit.now) }
+{
+    if 0 < unit.holding.men() && receiver_in(receivers, unit.region, unit.faction) == 0 {
+        put_receiver(alloc, receivers, number, unit)?;
+    }
+    Ok(())
+}
+
+/// The receivers of a campaign, from one pass over its units.
+pub(crate) fn receivers_of(alloc: Global, campaign: &Campaign) -> Result<Receivers, AllocError>
+    requires { Every (λ n u. 1 ≤ n) campaign.now.what.units }
+    ensures { IfOk result (AreReceivers campaign.now.what) }
+{
+    let mut receivers = Numbered::new(alloc);
+    for (number, unit) in campaign.units() {
+        note(alloc, &mut receivers, number, unit)?;
+    }
+    Ok(receivers)
+}
