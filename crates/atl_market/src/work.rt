@@ -22,6 +22,7 @@ use atl_tables::{Numbered, World};
 use std::alloc::{AllocError, Global};
 
 /// Work for wages: by orders, and of the units with men that have no month-long order. See docs/RULES.md, "Work".
+#[derive(Drop, Clone, Copy)]
 pub struct WorkPhase;
 
 /// Whether a unit's own faction wrote an order for it.
