@@ -1,8 +1,6 @@
 -- Units that are no worse off behind one change, and behind the next, are no worse off behind both.
-use Rattle.std.proofs.Common.{◌≡◌, ℕ, Some, refl, ◌∙◌, arith}
-use Rattle.std.specs.FinMap.{get}
+use Rattle.std.proofs.Common.{refl, ◌∙◌, arith}
 use Rattle.atl_state.specs.declared.records.Unit.{Unit}
-use Rattle.atl_state.specs.Held.{amount_of}
 use Rattle.atl_state.specs.State.{State}
 use Rattle.atl_instant.specs.Staying.{AreNoWorse, IsNoWorse}
 
