@@ -6,3 +6,4 @@ pub mod OrderLaws
 pub mod WrittenLaws
 pub mod MeaningLaws
 pub mod BookingLaws
+pub mod StayingLaws

@@ -5,9 +5,11 @@ mod month;
 mod orders;
 mod phase;
 mod standing;
+mod terrain;
 mod written;
 
 pub use month::{Month, mailings_have_no_order};
 pub use orders::{MonthLongVerbs, PhaseVerbs, orders_are_in_mailings};
 pub use phase::Phase;
+pub use terrain::terrain_of;
 pub use written::{Arrangement, Written};

@@ -1,2 +1,4 @@
 pub mod Share
 pub mod Pots
+pub mod PotPhase
+pub mod Work

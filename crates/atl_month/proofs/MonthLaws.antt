@@ -6,7 +6,7 @@ use Rattle.std.proofs.lemmas.Int.{ints}
 use Rattle.std.proofs.lemmas.Bool.Decides.{nat_tests}
 use Rattle.atl_tables.specs.Planet.{Planet}
 use Rattle.atl_state.specs.declared.books.Entry.{Entry}
-use Rattle.atl_state.specs.declared.books.Entry.TheVariants.{Births, Income, Lost, Starved, Upkeep}
+use Rattle.atl_state.specs.declared.books.Entry.TheVariants.{Births, Income, Lost, Starved, Upkeep, Wages}
 use Rattle.atl_state.specs.declared.books.Thing.{Thing}
 use Rattle.atl_state.specs.declared.books.Thing.TheVariants.{Money, People}
 use Rattle.atl_state.specs.Books.{IsWithin, amount_in, entry_place, thing_place}
@@ -108,7 +108,7 @@ module _ (w : Planet) (c d : State) (moving : Moving) (little : MovesLess moving
 
 -- no amount is moved further than a month moves it: each of these phases moves others
 pub phases_little : MovesLess phases_move month_moves
-phases_little e t = both _ _ _ _ (loses_by most_moved e t) (each_other (amount_number e t)) (lost_little e t)
+phases_little e t = both _ _ _ _ _ (loses_by most_moved e t) (each_other (amount_number e t)) (lost_little e t)
   where
     lost_little : (e : Entry) (t : Thing) → loses_by most_moved e t ≤ most_moved
     lost_little e t = either ((entry_place e == entry_place Lost) && not (thing_place t == thing_place People))
@@ -117,21 +117,17 @@ phases_little e t = both _ _ _ _ (loses_by most_moved e t) (each_other (amount_n
         either true = omega arith
         either false = omega arith
 
-    if_all : Bool → Bool → Bool → Bool → ℕ
-    if_all a b c d = ((if a then most_moved else 0) + (if b then most_moved else 0)) + ((if c then most_moved else 0) + (if d then most_moved else 0))
+    if_all : Bool → Bool → Bool → Bool → Bool → ℕ
+    if_all v a b c d = (if v then most_moved else 0) + (((if a then most_moved else 0) + (if b then most_moved else 0)) + ((if c then most_moved else 0) + (if d then most_moved else 0)))
 
-    fourth : (d : Bool) → if_all false false false d ≤ most_moved
-    fourth true = omega arith
-    fourth false = omega arith
-
-    each_other : (x : ℕ) → if_all (x == amount_number Upkeep Money) (x == amount_number Starved People) (x == amount_number Births People) (x == amount_number Income Money) ≤ most_moved
-    each_other x = first (x == amount_number Upkeep Money) (x == amount_number Starved People) (x == amount_number Births People) (x == amount_number Income Money) refl refl refl refl
+    each_other : (x : ℕ) → if_all (x == amount_number Wages Money) (x == amount_number Upkeep Money) (x == amount_number Starved People) (x == amount_number Births People) (x == amount_number Income Money) ≤ most_moved
+    each_other x = first (x == amount_number Wages Money) (x == amount_number Upkeep Money) (x == amount_number Starved People) (x == amount_number Births People) (x == amount_number Income Money) refl refl refl refl refl
       where
-        first : (a b c d : Bool) → (x == amount_number Upkeep Money) ≡ a → (x == amount_number Starved People) ≡ b → (x == amount_number Births People) ≡ c → (x == amount_number Income Money) ≡ d → if_all a b c d ≤ most_moved
-        first a b c d f g h k = grind (arith, nat_tests, f, g, h, k)
+        first : (v a b c d : Bool) → (x == amount_number Wages Money) ≡ v → (x == amount_number Upkeep Money) ≡ a → (x == amount_number Starved People) ≡ b → (x == amount_number Births People) ≡ c → (x == amount_number Income Money) ≡ d → if_all v a b c d ≤ most_moved
+        first v a b c d e f g h k = grind (arith, nat_tests, e, f, g, h, k)
 
-    both : (u s b i l : ℕ) → (u + s) + (b + i) ≤ most_moved → l ≤ most_moved → (u + s) + ((b + i) + l) ≤ 200000000000000
-    both u s b i l g h = omega (arith, g, h)
+    both : (v u s b i l : ℕ) → v + ((u + s) + (b + i)) ≤ most_moved → l ≤ most_moved → v + ((u + s) + ((b + i) + l)) ≤ 200000000000000
+    both v u s b i l g h = omega (arith, g, h)
 
 -- a sound campaign has room for them
 pub phases_room : (w : Planet) (c : State) → IsSound w c → HaveRoom phases_move c

@@ -32,7 +32,8 @@ use Rattle.atl_state.proofs.EveryLaws.{none_some}
 use Rattle.atl_instant.specs.Meaning.{HaveRoom, IsNear, LeavesWell, moved_times, moves_only, most_moved}
 use Rattle.atl_instant.proofs.MeaningLaws.{fold_leaves_well, near_twice, room_behind_one, room_for_one, well_unchanged, well_within}
 use Rattle.atl_instant.proofs.BookingLaws.{booked-near, within-pos}
-use Rattle.atl_month.specs.Season.{births, grows_by, income, season, season_at, season_in, terrain_of, with_growth}
+use Rattle.atl_instant.specs.Terrains.{terrain_of}
+use Rattle.atl_month.specs.Season.{births, grows_by, income, season, season_at, season_in, with_growth}
 
 -- ---- how much there is
 

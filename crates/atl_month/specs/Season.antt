@@ -1,6 +1,5 @@
 -- The season of a month: what each region has of births and of income. See docs/RULES.md, "Season".
-use Rattle.std.specs.Prelude.{◌≡◌, ℕ, pos, ◌+◌, ◌-◌, ◌*◌, ◌/◌, ◌%◌, min, List, map, fold, zip, Option, Some, None, option_and_then}
-use Rattle.std.specs.List.{slice_get}
+use Rattle.std.specs.Prelude.{◌≡◌, ℕ, pos, ◌+◌, ◌-◌, ◌*◌, ◌/◌, ◌%◌, min, List, map, fold, zip, Option, Some, None}
 use Rattle.std.specs.FinMap.{entries, get}
 use Rattle.atl_tables.specs.Planet.{Planet}
 use Rattle.atl_tables.specs.declared.world.Terrain.{Terrain}
@@ -10,10 +9,7 @@ use Rattle.atl_state.specs.declared.records.Region.{Region}
 use Rattle.atl_state.specs.State.{State, with_amount, with_peasants, with_region_money}
 use Rattle.atl_instant.specs.Course.{Course}
 use Rattle.atl_instant.specs.Meaning.{Keeping, Moving, both_move, moves_only}
-
--- The terrain of a region of the world.
-abbrev pub terrain_of : Planet → ℕ → Option Terrain
-terrain_of w n = option_and_then (λ p. slice_get w.terrains p.terrain) (get w.regions n)
+use Rattle.atl_instant.specs.Terrains.{terrain_of}
 
 -- So many of a hundred peasants are born as the word says, from 0 to the growth; at most up to the terrain's limit.
 abbrev pub births : (growth limit word peasants : ℕ) → ℕ

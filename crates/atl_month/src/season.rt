@@ -1,5 +1,5 @@
 //! The season of a month.
-ghost use Rattle.std.specs.Prelude.{ℕ, ◌≡◌, ◌≤◌, ◌<◌, ◌+◌, length, option_copied, Some};
+ghost use Rattle.std.specs.Prelude.{ℕ, ◌≡◌, ◌≤◌, ◌<◌, ◌+◌, length, Some};
 ghost use Rattle.std.specs.FinMap as map;
 ghost use Rattle.atl_tables.specs.Planet.{IsWorld};
 ghost use Rattle.atl_tables.specs.Limits.{most_amount, most_growth, most_per_head};
@@ -7,11 +7,11 @@ ghost use Rattle.atl_state.specs.Books.{IsGrid};
 ghost use Rattle.atl_state.specs.Covers.{MarksChanges};
 ghost use Rattle.atl_state.specs.Good.{IsSteady};
 ghost use Rattle.atl_instant.specs.Meaning.{HaveRoom, most_moved};
-ghost use Rattle.atl_month.specs.Season.{births, grows_by, income, season, season_at, season_keeps, season_meaning, terrain_of, with_growth};
+ghost use Rattle.atl_month.specs.Season.{births, grows_by, income, season, season_at, season_keeps, season_meaning, with_growth};
 
-use atl_instant::{Month, Phase};
+use atl_instant::{Month, Phase, terrain_of};
 use atl_state::{Campaign, Entry, Region, Thing};
-use atl_tables::{Terrain, World};
+use atl_tables::World;
 use std::alloc::{AllocError, Global};
 
 /// Births and income of the regions, with one word of the dice for each region in the order of their numbers; a region
@@ -35,14 +35,6 @@ fn income(per_peasant: u32, limit: u32, peasants: u32, money: u32) -> u32
 {
     let earned = u64::from(peasants) * u64::from(per_peasant);
     earned.min(u64::from(limit.saturating_sub(money))) as u32
-}
-
-/// The terrain of a region of the world.
-fn terrain_of(world: &World, region: u32) -> Option<&Terrain>
-    ensures { option_copied result ≡ terrain_of world.now region }
-{
-    let plan = world.region(region)?;
-    world.terrains().get(usize::from(plan.terrain))
 }
 
 /// A region grows by births and income, which are booked.

@@ -8,7 +8,7 @@ grow-requires-clause-peasants c =
     let terrain = c.in-Some.terrain.now in
     rw c.births-born.ensures
     (births_fit c.rules-rules.result.now.growth terrain.peasant_limit c.args.word region.peasants
-    (limits_fit c.args.world.now c.args.number terrain c.rules-rules.ensures.world (sym c.in-Some.ensures)).0
+    (limits_fit c.args.world.now c.args.number terrain c.rules-rules.ensures.world (sym c.in-Some.ensures.value)).0
     (c.requires.steady.numbers.regions c.args.number region (sym c.in-Some-region.ensures)).0)
 
 pub grow-requires-clause-money : goal.grow-requires-clause-money
@@ -17,5 +17,5 @@ grow-requires-clause-money c =
     let terrain = c.in-Some.terrain.now in
     rw c.income-earned.ensures
     (income_fits c.rules-rules.result.now.income terrain.money_limit (region.peasants + c.births-born.result) region.money
-    (limits_fit c.args.world.now c.args.number terrain c.rules-rules.ensures.world (sym c.in-Some.ensures)).1
+    (limits_fit c.args.world.now c.args.number terrain c.rules-rules.ensures.world (sym c.in-Some.ensures.value)).1
     (c.requires.steady.numbers.regions c.args.number region (sym c.in-Some-region.ensures)).1)

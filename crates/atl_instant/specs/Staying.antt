@@ -1,0 +1,23 @@
+-- What a phase leaves to the units that it takes nothing from.
+use Rattle.std.specs.Prelude.{◌≡◌, ◌≤◌, ℕ, Some}
+use Rattle.std.specs.FinMap.{get}
+use Rattle.atl_state.specs.declared.records.Unit.{Unit}
+use Rattle.atl_state.specs.Good.{Every}
+use Rattle.atl_state.specs.Held.{amount_of}
+use Rattle.atl_state.specs.State.{State}
+
+-- a unit in its place, with its name and its flag, and with no less of anything
+pub record IsNoWorse (before after : Unit) : Type 0 where
+  pub faction : after.faction ≡ before.faction
+  pub region : after.region ≡ before.region
+  pub structure : after.structure ≡ before.structure
+  pub name : after.holding.name ≡ before.holding.name
+  pub guard : after.holding.guard ≡ before.holding.guard
+  pub men : before.holding.men ≤ after.holding.men
+  pub money : before.holding.money ≤ after.holding.money
+  pub items : (i : ℕ) → amount_of before.holding.items i ≤ amount_of after.holding.items i
+  pub days : (s : ℕ) → amount_of before.holding.days s ≤ amount_of after.holding.days s
+
+-- each unit is still there, and no worse off
+abbrev pub AreNoWorse : State → State → Type 0
+AreNoWorse before after = Every (λ n u. (v : Unit) × (get after.units n ≡ Some v) × IsNoWorse u v) before.units

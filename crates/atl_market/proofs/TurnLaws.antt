@@ -1,0 +1,32 @@
+-- What steps in turn leave, each of which leaves a campaign well where it can be taken.
+use Rattle.std.proofs.Common.{◌≡◌, ◌+◌, ◌*◌, List, [], ◌∷◌, length, arith}
+use Rattle.std.specs.Prelude.{fold}
+use Rattle.std.proofs.Math.Nat.{suc-mul}
+use Rattle.atl_tables.specs.Planet.{Planet}
+use Rattle.atl_state.specs.State.{State}
+use Rattle.atl_instant.specs.Meaning.{Condition, HaveRoom, LeavesWell, Moving, both_move, moved_times}
+use Rattle.atl_instant.proofs.MeaningLaws.{MovesLess, both_leave_well, room_behind, room_less, well_unchanged, well_within}
+use Rattle.atl_market.specs.PotPhase.{CanInTurn}
+
+-- one step and the steps behind it move as much as all of them
+pub one_more : {B : Type 0} (moving : Moving) (x : B) (xs : List B) → MovesLess (both_move moving (moved_times (length xs) moving)) (moved_times (length (x ∷ xs)) moving)
+one_more moving x xs e t = let one : length (x ∷ xs) * moving e t ≡ length xs * moving e t + moving e t = suc-mul (length xs) (moving e t) in omega arith
+
+-- room for all steps is room for the first
+pub first_room : {B : Type 0} (moving : Moving) (c : State) (x : B) (xs : List B) → HaveRoom (moved_times (length (x ∷ xs)) moving) c → HaveRoom moving c
+first_room moving c x xs room = room_less moving (moved_times (length (x ∷ xs)) moving) c (λ e t. omega (arith, one_more moving x xs e t)) room
+
+-- and behind it for the others
+pub later_room : {B : Type 0} {leaves : Condition} (moving : Moving) (w : Planet) (c d : State) (x : B) (xs : List B)
+    → LeavesWell leaves moving w c d → HaveRoom (moved_times (length (x ∷ xs)) moving) c → HaveRoom (moved_times (length xs) moving) d
+later_room moving w c d x xs well room =
+    room_behind moving (moved_times (length xs) moving) w c d well
+    (room_less (both_move moving (moved_times (length xs) moving)) (moved_times (length (x ∷ xs)) moving) c (one_more moving x xs) room)
+
+module _ {A : Type 0} {leaves : Condition} (moving : Moving) (w : Planet) (can : State → A → Type 0) (step : State → A → State) (each : (c : State) (x : A) → can c x → LeavesWell leaves moving w c (step c x)) where
+  pub turns_leave_well : (c : State) (xs : List A) → leaves w c → CanInTurn can step c xs → LeavesWell leaves (moved_times (length xs) moving) w c (fold step c xs)
+  turns_leave_well c [] h turns = well_unchanged (moved_times 0 moving) w c h
+  turns_leave_well c (x ∷ xs) h turns =
+      let one = each c x turns.0 in
+      well_within (both_move moving (moved_times (length xs) moving)) (moved_times (length (x ∷ xs)) moving) w c (fold step (step c x) xs) (one_more moving x xs)
+      (both_leave_well moving (moved_times (length xs) moving) w c (step c x) (fold step (step c x) xs) one (turns_leave_well (step c x) xs one.leaves_it turns.1))

@@ -1,0 +1,219 @@
+-- Work leaves a campaign well.
+use Rattle.std.proofs.Common.{◌≡◌, ◌≢◌, ◌==◌, ℕ, ◌+◌, ◌-◌, ◌*◌, ◌/◌, ◌%◌, ◌≤◌, ◌<◌, Bool, true, false, cond, Option, Some, None, List, [], ◌∷◌, length, refl, sym, ap, subst, ◌∙◌, inl, inr, arith}
+use Rattle.std.specs.Prelude.{pos, ◌+ℤ◌, fold, if◌then◌else◌}
+use Rattle.std.specs.List.{AllByRecursion}
+use Rattle.std.specs.Option.{option_map_or}
+use Rattle.std.specs.FinMap.{entries, get, insert}
+use Rattle.std.proofs.lemmas.Int.{ints}
+use Rattle.std.proofs.lemmas.Bool.{cases_eq}
+use Rattle.std.proofs.lemmas.Bool.Decides.{nat_tests}
+use Rattle.std.proofs.Math.Nat.{div-add-mod, mul-le-mul_left, mul_comm}
+use Rattle.atl_tables.specs.Planet.{Planet}
+use Rattle.atl_tables.specs.declared.world.Terrain.{Terrain}
+use Rattle.atl_state.specs.declared.books.Entry.{Entry}
+use Rattle.atl_state.specs.declared.books.Entry.TheVariants.{Wages}
+use Rattle.atl_state.specs.declared.books.Thing.{Thing}
+use Rattle.atl_state.specs.declared.books.Thing.TheVariants.{Money, People, Item}
+use Rattle.atl_state.specs.declared.records.Unit.{Unit}
+use Rattle.atl_state.specs.Books.{IsGrid}
+use Rattle.atl_state.specs.Covers.{MarksChanges}
+use Rattle.atl_state.specs.Deciding.{EachOf}
+use Rattle.atl_state.specs.Founding.{things_of}
+use Rattle.atl_state.specs.Good.{Every, IsSteady}
+use Rattle.atl_state.specs.Held.{Held, amount_of}
+use Rattle.atl_state.specs.Limits.{holding_limit, most_units}
+use Rattle.atl_state.specs.Marking.{mark_amount, mark_unit_row}
+use Rattle.atl_state.specs.Marks.{amount_number}
+use Rattle.atl_state.specs.State.{Marked, State, with_amount, with_money}
+use Rattle.atl_state.specs.Totals.{held, total}
+use Rattle.atl_state.proofs.BackLaws.{Rise, entries_rise}
+use Rattle.atl_state.proofs.BookLaws.{booked-with_booked, share_of}
+use Rattle.atl_state.proofs.CoverLaws.{marks-amount, marks-trans}
+use Rattle.atl_state.proofs.EveryLaws.{each-from_every, get-insert_other}
+use Rattle.atl_state.proofs.HoldingLaws.{marks-unit_row, may_hold_money, steady-held, total-held}
+use Rattle.atl_state.proofs.RegionLaws.{changed-known, get-insert_same, steady-amount, total-amount}
+use Rattle.atl_instant.specs.Meaning.{HaveRoom, LeavesWell, Moving, moved_times, most_moved}
+use Rattle.atl_instant.specs.Staying.{AreNoWorse, IsNoWorse}
+use Rattle.atl_instant.specs.Terrains.{terrain_of}
+use Rattle.atl_instant.specs.declared.written.Written.{Written}
+use Rattle.atl_instant.proofs.BookingLaws.{booked-near, within-pos}
+use Rattle.atl_instant.proofs.MeaningLaws.{room_less, well_within}
+use Rattle.atl_instant.proofs.StayingLaws.{are_no_worse, are_no_worse_twice, no_worse}
+use Rattle.atl_market.specs.PotPhase.{CanInTurn, given_by, shared_out}
+use Rattle.atl_market.specs.Work.{CanWork, earned, places_wanted, with_wages, work_moves, worked, worked_by, working}
+use Rattle.atl_market.proofs.TurnLaws.{first_room, later_room, turns_leave_well}
+use Rattle.atl_market.proofs.WantLaws.{few_given, given_is_wanted}
+
+-- ---- one unit gets its wages
+
+module _ (w : Planet) (c : State) (n : ℕ) (u : Unit) (money : ℕ) (is : get c.units n ≡ Some u) where
+  abbrev paid : Held
+  paid = record u.holding { money = u.holding.money + money }
+
+  abbrev richer : State
+  richer = record c { units = insert c.units n (record u { holding = paid }) }
+
+  richer_is : with_money c n (u.holding.money + money) ≡ richer
+  richer_is = ap (λ m. record c { units = m }) (changed-known (λ (v : Unit). record v { holding = record v.holding { money = u.holding.money + money } }) c.units n u is)
+
+  abbrev wages_paid : State
+  wages_paid = with_amount richer Wages Money (pos money)
+
+  pub wages_are : with_wages c n u.holding.money money ≡ wages_paid
+  wages_are = ap (λ d. with_amount d Wages Money (pos money)) richer_is
+
+  total_paid : (t : Thing) → pos (total wages_paid t) ≡ pos (total c t) +ℤ share_of t Money (pos money)
+  total_paid t = total_of t (total-amount richer Wages Money t (pos money)) (total-held w c n u paid is t)
+    where
+      total_of : (t : Thing) → total wages_paid t ≡ total richer t → total richer t + held t u.holding ≡ total c t + held t paid → pos (total wages_paid t) ≡ pos (total c t) +ℤ share_of t Money (pos money)
+      total_of Money a b = omega (arith, ints, a, b)
+      total_of People a b = omega (arith, ints, a, b)
+      total_of (Item i) a b =
+          let other : (2 + i == 0) ≡ false = grind (arith, nat_tests) in
+          ap pos (same (total wages_paid (Item i)) (total richer (Item i)) (total c (Item i)) (amount_of u.holding.items i) a b)
+          ∙ sym (ap (λ q. pos (total c (Item i)) +ℤ cond q (pos money) (pos 0)) other ∙ zero_more (total c (Item i)))
+        where
+          same : (x y z k : ℕ) → x ≡ y → y + k ≡ z + k → x ≡ z
+          same x y z k a b = omega arith
+
+          zero_more : (x : ℕ) → pos x +ℤ pos 0 ≡ pos x
+          zero_more x = omega (arith, ints)
+
+  pub wages_leave_well : u.holding.money + money ≤ holding_limit → IsSteady w c → LeavesWell IsSteady (work_moves holding_limit) w c wages_paid
+  wages_leave_well fits steady = record {
+    leaves_it = steady-amount w richer Wages Money (pos money) (steady-held w c n u paid is (may_hold_money w c n (u.holding.money + money) u is fits steady) steady);
+    same_month = record { month = refl; reports = refl; count = refl; factions = λ k there. there };
+    balances = λ old t.
+        total_paid t ∙ ap (λ z. z +ℤ share_of t Money (pos money)) (old t)
+        ∙ sym (booked-with_booked (things_of w) c.books Wages Money (pos money) steady.numbers.books (omega arith) t);
+    near = booked-near (things_of w) c.books Wages Money (pos money) holding_limit steady.numbers.books (omega arith) (within-pos money holding_limit (omega (arith, fits)));
+  }
+
+  -- nothing else changes
+  pub wages_leave_others : (k : ℕ) → k ≢ n → get wages_paid.units k ≡ get c.units k
+  wages_leave_others k apart = get-insert_other c.units n k (record u { holding = paid }) apart
+
+  -- ---- and is no worse off
+  abbrev paid_unit : Unit
+  paid_unit = record u { holding = paid }
+
+  paid_no_worse : IsNoWorse u paid_unit
+  paid_no_worse = record { faction = refl; region = refl; structure = refl; name = refl; guard = refl; men = omega arith; money = omega arith; items = λ i. omega arith; days = λ s. omega arith }
+
+  pub wages_no_worse : AreNoWorse c wages_paid
+  wages_no_worse k v there = elim (cases_eq k n) [
+    | inl same ↦
+        let one : Some u ≡ Some v = sym is ∙ ap (get c.units) (sym same) ∙ there in
+        let unit : u ≡ v = cc in
+        (paid_unit, ap (get wages_paid.units) same ∙ get-insert_same c.units n paid_unit, subst (λ x. IsNoWorse x paid_unit) unit paid_no_worse)
+    | inr apart ↦ (v, get-insert_other c.units n k paid_unit apart ∙ there, no_worse v)
+  ]
+
+-- ---- what is marked
+
+pub wages_marks : (things : ℕ) (c d e : Marked) (n money held : ℕ) → d.what ≡ with_money c.what n held → d.marks ≡ mark_unit_row c n
+    → e.what ≡ with_amount d.what Wages Money (pos money) → e.marks ≡ mark_amount d Wages Money → IsGrid things c.what.books → 2 ≤ things → MarksChanges c e
+wages_marks things c d e n money held d_is d_marks e_is e_marks grid two =
+    let books : d.what.books ≡ c.what.books = ap (λ (s : State). s.books) d_is in
+    let d_grid : IsGrid things d.what.books = rw books grid in
+    marks-trans c d e (marks_by c d _ d_is d_marks (marks-unit_row (λ u. record u { holding = record u.holding { money = held } }) (λ u. refl) c n))
+    (marks_by d e _ e_is e_marks (marks-amount things d Wages Money (pos money) d_grid (omega arith)))
+  where
+    marks_by : (a b m : Marked) → b.what ≡ m.what → b.marks ≡ m.marks → MarksChanges a m → MarksChanges a b
+    marks_by a b m what marks h = rw (what, marks) (record { stay = h.stay; covers = h.covers })
+
+-- ---- one step
+
+module _ (w : Planet) (c : State) (e : ℕ × ℕ) where
+  pub worked_is : (u : Unit) → get c.units e.0 ≡ Some u → worked w c e ≡ with_wages c e.0 u.holding.money (earned w u.region e.1)
+  unfolding worked
+  worked_is u is = ap (worked_by w c e) is
+
+  pub worked_well : CanWork w c e → LeavesWell IsSteady (work_moves holding_limit) w c (worked w c e)
+  worked_well can =
+      subst (λ d. LeavesWell IsSteady (work_moves holding_limit) w c d) (sym (worked_is can.unit can.there ∙ wages_are w c e.0 can.unit (earned w can.unit.region e.1) can.there))
+      (wages_leave_well w c e.0 can.unit (earned w can.unit.region e.1) can.there can.fits can.steady)
+
+  pub worked_others : CanWork w c e → (k : ℕ) → k ≢ e.0 → get (worked w c e).units k ≡ get c.units k
+  worked_others can k apart =
+      ap (λ (d : State). get d.units k) (worked_is can.unit can.there ∙ wages_are w c e.0 can.unit (earned w can.unit.region e.1) can.there)
+      ∙ wages_leave_others w c e.0 can.unit (earned w can.unit.region e.1) can.there k apart
+
+  pub worked_no_worse : AreNoWorse c (worked w c e)
+  unfolding worked
+  worked_no_worse = by_unit (get c.units e.0) refl
+    where
+      by_unit : (o : Option Unit) → get c.units e.0 ≡ o → AreNoWorse c (worked_by w c e o)
+      by_unit None is = are_no_worse c
+      by_unit (Some u) is = subst (λ d. AreNoWorse c d) (sym (wages_are w c e.0 u (earned w u.region e.1) is)) (wages_no_worse w c e.0 u (earned w u.region e.1) is)
+
+each_no_worse : (w : Planet) (c : State) (es : List (ℕ × ℕ)) → AreNoWorse c (fold (worked w) c es)
+each_no_worse w c [] = are_no_worse c
+each_no_worse w c (e ∷ es) = are_no_worse_twice c (worked w c e) (fold (worked w) (worked w c e) es) (worked_no_worse w c e) (each_no_worse w (worked w c e) es)
+
+pub work_keeps_units : (w : Planet) (c : State) (os : List Written) → AreNoWorse c (shared_out working w c os)
+unfolding shared_out
+work_keeps_units w c os = each_no_worse w c (entries (given_by working w c os))
+
+-- ---- all steps can be taken
+
+-- a unit is there and has room for the wages of so many places
+abbrev pub HasRoomFor : Planet → State → ℕ × ℕ → Type 0
+HasRoomFor w c e = (u : Unit) × (get c.units e.0 ≡ Some u) × (u.holding.money + earned w u.region e.1 ≤ holding_limit)
+
+module _ (w : Planet) where
+  abbrev step_moves : Moving
+  step_moves = work_moves holding_limit
+
+  still : (c d : State) (n : ℕ) (es : List (ℕ × ℕ)) → ((k : ℕ) → k ≢ n → get d.units k ≡ get c.units k) → AllByRecursion (λ f. n < f.0) es → AllByRecursion (HasRoomFor w c) es → AllByRecursion (HasRoomFor w d) es
+  still c d n [] same above all = tt
+  still c d n (f ∷ es) same above ((u, there, fits), all) = ((u, same f.0 (λ e. absurd (omega (arith, e, above.0))) ∙ there, fits), still c d n es same above.1 all)
+
+  pub work_in_turn : (c : State) (es : List (ℕ × ℕ)) → Rise es → IsSteady w c → HaveRoom (moved_times (length es) step_moves) c → AllByRecursion (HasRoomFor w c) es → CanInTurn (CanWork w) (worked w) c es
+  work_in_turn c [] rise steady room all = tt
+  work_in_turn c (e ∷ es) rise steady room ((u, there, fits), all) =
+      let can : CanWork w c e = record { unit = u; there = there; fits = fits; steady = steady; room = first_room step_moves c e es room } in
+      let well = worked_well w c e can in
+      (can, work_in_turn (worked w c e) es rise.1 well.leaves_it (later_room step_moves w c (worked w c e) e es well room) (still c (worked w c e) e.0 es (worked_others w c e can) rise.0 all))
+
+  -- what a unit wants it has room for
+  wanted_fits : (u : Unit) (o : Option Terrain) (places : ℕ) → u.holding.money ≤ holding_limit → places ≤ places_wanted u o → u.holding.money + places * option_map_or (λ (t : Terrain). t.wage) o 0 ≤ holding_limit
+  wanted_fits u None places fits low = omega (arith, fits)
+  wanted_fits u (Some t) places fits low =
+      let room = holding_limit - u.holding.money in
+      let split : t.wage * (room / t.wage) + room % t.wage ≡ room = div-add-mod room t.wage in
+      let few : places ≤ room / t.wage = omega (arith, low) in
+      let cost : t.wage * places ≤ t.wage * (room / t.wage) = mul-le-mul_left t.wage few in
+      omega (arith, split, cost, fits, mul_comm places t.wage)
+
+  module _ (c : State) (steady : IsSteady w c) (os : List Written) where
+    abbrev shares : List (ℕ × ℕ)
+    shares = entries (given_by working w c os)
+
+    each_fits : Every (λ n places. HasRoomFor w c (n, places)) (given_by working w c os)
+    each_fits n places is =
+        let (u, o, there, low) = given_is_wanted working w c os n places is in
+        (u, there, wanted_fits u (terrain_of w u.region) places (steady.numbers.units n u there).1.money low)
+
+    few : length shares ≤ most_units
+    few = omega (arith, few_given working w c os, steady.numbers.few_units)
+
+    little : (e : Entry) (t : Thing) → moved_times (length shares) step_moves e t ≤ work_moves most_moved e t
+    little e t = scaled (length shares) few (amount_number e t == amount_number Wages Money)
+      where
+        scaled : (k : ℕ) → k ≤ most_units → (b : Bool) → k * (if b then holding_limit else 0) ≤ (if b then most_moved else 0)
+        scaled k few true = omega (arith, few)
+        scaled k few false = omega (arith, few)
+
+    pub can_share_out : HaveRoom (work_moves most_moved) c → CanInTurn (CanWork w) (worked w) c shares
+    can_share_out room = work_in_turn c shares (entries_rise (given_by working w c os)) steady (room_less (moved_times (length shares) step_moves) (work_moves most_moved) c little room) (all_fit shares (each-from_every (λ n places. HasRoomFor w c (n, places)) (given_by working w c os) each_fits))
+      where
+        all_fit : (es : List (ℕ × ℕ)) → EachOf (λ n places. HasRoomFor w c (n, places)) es → AllByRecursion (HasRoomFor w c) es
+        all_fit [] h = tt
+        all_fit (e ∷ es) h = (h.0, all_fit es h.1)
+
+    pub work_leaves_well : HaveRoom (work_moves most_moved) c → LeavesWell IsSteady (work_moves most_moved) w c (shared_out working w c os)
+    unfolding shared_out
+    work_leaves_well room =
+        well_within (moved_times (length shares) step_moves) (work_moves most_moved) w c (fold (worked w) c shares) little
+        (turns_leave_well step_moves w (CanWork w) (worked w) (worked_well w) c shares steady (can_share_out room))

@@ -1,0 +1,13 @@
+use Rattle.std.proofs.Common.{◌≡◌}
+use Rattle.std.specs.Prelude.{fold}
+use Rattle.std.specs.FinMap.{entries}
+use Rattle.atl_state.specs.Covers.{MarksChanges}
+use Rattle.atl_market.specs.PotPhase.{CanInTurn, PotMeaning}
+use Rattle.atl_market.proofs.pot_phase.pay_all.Given as goal
+
+abbrev pub invariant-loop-unit : goal.invariant-loop-unit
+invariant-loop-unit g l = record {
+  can : CanInTurn (g.P.PotPhase.can_pay l.phase l.world) (PotMeaning.paid (g.P.PotPhase.meaning l.phase) l.world) l.campaign.what l.unit-iterator;
+  what : fold (PotMeaning.paid (g.P.PotPhase.meaning l.phase) l.world) l.campaign.what l.unit-iterator ≡ fold (PotMeaning.paid (g.P.PotPhase.meaning l.phase) l.world) l.fn.campaign.what (entries l.given);
+  marks : MarksChanges l.fn.campaign l.campaign;
+}

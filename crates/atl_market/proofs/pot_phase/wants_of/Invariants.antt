@@ -1,0 +1,11 @@
+use Rattle.std.proofs.Common.{◌≡◌, drop}
+use Rattle.std.specs.List.{flat_map}
+use Rattle.atl_market.specs.PotPhase.{want_by, wants_by}
+use Rattle.atl_market.specs.Pots.{AreWants, with_each}
+use Rattle.atl_market.proofs.pot_phase.wants_of.Given as goal
+
+abbrev pub invariant-loop-order : goal.invariant-loop-order
+invariant-loop-order g l = record {
+  value : with_each l.wants (flat_map (want_by (g.P.PotPhase.meaning l.phase) l.world l.campaign.what) (drop l.order-index l.orders)) ≡ wants_by (g.P.PotPhase.meaning l.phase) l.world l.campaign.what l.orders;
+  bound : AreWants l.wants;
+}

@@ -1,0 +1,86 @@
+-- A phase in which the units of each region share a pot. Who takes part and what there is to share is read from the campaign as the phase began, and all pots and all units change at once. See docs/RULES.md, "Pots".
+use Rattle.std.specs.Prelude.{⊤, ℕ, ◌==◌, ◌++◌, List, [], ◌∷◌, map, Option, Some, None, unwrap_or, if◌then◌else◌}
+use Rattle.std.specs.List.{flat_map, fold}
+use Rattle.std.specs.Ordering.{nat_cmp}
+use Rattle.std.specs.FinMap.{FinMap, empty, entries, get}
+use Rattle.atl_tables.specs.Planet.{Planet}
+use Rattle.atl_state.specs.declared.event.Event.{Event}
+use Rattle.atl_state.specs.declared.event.EventFault.{EventFault}
+use Rattle.atl_state.specs.declared.event.EventFault.TheVariants.{NotYours}
+use Rattle.atl_state.specs.declared.event.EventVerb.TheVariants.{Order}
+use Rattle.atl_state.specs.declared.event.Outcome.{Outcome}
+use Rattle.atl_state.specs.declared.event.Outcome.TheVariants.{Done, Fault}
+use Rattle.atl_state.specs.declared.records.Unit.{Unit}
+use Rattle.atl_state.specs.Events.{event_fault_number}
+use Rattle.atl_state.specs.State.{State}
+use Rattle.atl_instant.specs.Course.{Course}
+use Rattle.atl_instant.specs.declared.written.Written.{Written}
+use Rattle.atl_market.specs.Pots.{pot_shares, with_each}
+
+pub record PotMeaning : Type 0 where
+  -- why a unit doesn't carry out an order of its own faction
+  pub fault : Planet → Unit → Written → Option EventFault
+  -- how much of the pot of its region a unit wants by an order
+  pub want : Planet → Unit → Written → ℕ
+  -- what there is to share in a region
+  pub pot : Planet → State → ℕ → ℕ
+  -- what a unit that got so much of the pot is told
+  pub told : Planet → Unit → ℕ → ℕ
+  -- a unit, by its number, gets so much of the pot of its region
+  pub paid : Planet → State → ℕ × ℕ → State
+
+module _ (p : PotMeaning) (w : Planet) (c : State) where
+  -- ---- who takes part
+
+  abbrev pub fault_at : Written → Option Unit → Option EventFault
+  fault_at o None = Some NotYours
+  fault_at o (Some u) = if u.faction == o.faction then p.fault w u o else Some NotYours
+
+  -- why an order isn't carried out
+  abbrev pub fault_of : Written → Option EventFault
+  fault_of o = fault_at o (get c.units o.unit)
+
+  abbrev pub want_at : Written → Option EventFault → Option Unit → List (ℕ × ℕ)
+  want_at o (Some fault) u = []
+  want_at o None (Some u) = (o.unit, p.want w u o) ∷ []
+  want_at o None None = []
+
+  -- the unit of an order without fault, with what it wants
+  abbrev pub want_by : Written → List (ℕ × ℕ)
+  want_by o = want_at o (fault_of o) (get c.units o.unit)
+
+  -- what the units want by their orders
+  abbrev pub wants_by : List Written → FinMap nat_cmp ℕ
+  wants_by os = with_each empty (flat_map want_by os)
+
+  -- what they get
+  abbrev pub given_by : List Written → FinMap nat_cmp ℕ
+  given_by os = pot_shares (p.pot w c) (wants_by os) c
+
+  -- the campaign in which each has got it
+  unfoldable pub shared_out : List Written → State
+  shared_out os = fold (p.paid w) c (entries (given_by os))
+
+  -- ---- what is told
+
+  abbrev pub outcome_at : FinMap nat_cmp ℕ → Written → Option EventFault → Option Unit → Outcome
+  outcome_at given o (Some fault) u = Fault (event_fault_number fault)
+  outcome_at given o None (Some u) = Done (p.told w u (unwrap_or (get given o.unit) 0))
+  outcome_at given o None None = Done 0
+
+  -- what came of an order, where so much was given
+  abbrev pub event_of : FinMap nat_cmp ℕ → Written → Event
+  event_of given o = record { faction = o.faction; unit = o.unit; line = o.line; verb = Order o.verb; outcome = outcome_at given o (fault_of o) (get c.units o.unit) }
+
+  -- an event for each order, in the order of the orders
+  unfoldable pub events_by : List Written → List Event
+  events_by os = map (event_of (given_by os)) os
+
+-- what a phase makes of a campaign and of what the month carries, with the orders that it finds
+abbrev pub pots_meaning : PotMeaning → (State → Course → List Written) → Planet → State → Course → State × Course
+pots_meaning p orders w c m = (shared_out p w c (orders c m), record m { events = m.events ++ events_by p w c (orders c m) })
+
+-- ---- steps in turn, each of which can be taken when its turn comes
+abbrev pub CanInTurn : {X : Type 0} → (State → X → Type 0) → (State → X → State) → State → List X → Type 0
+CanInTurn can step c [] = ⊤
+CanInTurn can step c (x ∷ xs) = can c x × CanInTurn can step (step c x) xs

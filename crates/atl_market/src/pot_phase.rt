@@ -1,0 +1,225 @@
+//! A phase in which the units of each region share a pot.
+ghost use Rattle.std.specs.Prelude.{ℕ, ◌≡◌, ◌≤◌, ◌++◌, IfOk, OnErr, OnOk, fold, map};
+ghost use Rattle.std.specs.FinMap.{entries};
+ghost use Rattle.atl_tables.specs.Limits.{most_amount};
+ghost use Rattle.atl_tables.specs.Planet.{Planet};
+ghost use Rattle.atl_state.specs.Covers.{MarksChanges};
+ghost use Rattle.atl_state.specs.State.{State};
+ghost use Rattle.atl_market.specs.PotPhase.{CanInTurn, PotMeaning, event_of, events_by, fault_of, given_by, shared_out, want_by, wants_by};
+ghost use Rattle.atl_market.specs.Pots.{AreWants, pot_shares, with_each};
+
+use crate::pots::{Pots, pot_shares};
+use atl_instant::{Month, Written};
+use atl_state::{Campaign, Event, EventFault, EventVerb, Outcome, Unit};
+use atl_tables::{Numbered, World};
+use std::alloc::{AllocError, Global};
+
+/// A phase in which the units of each region share a pot.
+pub(crate) trait PotPhase {
+    ghost meaning: { Self → PotMeaning };
+
+    // When a unit, by its number, can get so much of its pot.
+    ghost can_pay: { Self → Planet → State → ℕ × ℕ → Type 0 };
+
+    /// Why a unit doesn't carry out an order of its own faction.
+    fn fault(&self, world: &World, unit: &Unit, order: Written) -> Option<EventFault>
+        ensures { result ≡ PotMeaning.fault (meaning self.now) world.now unit.now order };
+
+    /// How much of the pot of its region a unit wants by an order, at most 999,999,999.
+    fn want(&self, world: &World, unit: &Unit, order: Written) -> u32
+        ensures value { result ≡ PotMeaning.want (meaning self.now) world.now unit.now order }
+        ensures bound { result ≤ most_amount };
+
+    /// What there is to share in a region, at most 999,999,999.
+    fn pot(&self, world: &World, campaign: &Campaign, region: u32) -> u64
+        ensures value { result ≡ PotMeaning.pot (meaning self.now) world.now campaign.now.what region }
+        ensures bound { result ≤ most_amount };
+
+    /// What a unit that got so much of the pot is told.
+    fn told(&self, world: &World, unit: &Unit, share: u32) -> u64
+        ensures { result ≡ PotMeaning.told (meaning self.now) world.now unit.now share };
+
+    /// A unit gets so much of the pot of its region.
+    fn pay(&self, world: &World, campaign: &mut Campaign, unit: u32, share: u32)
+        requires can { can_pay self.now world.now campaign.old.what (unit, share) }
+        ensures what { campaign.new.what ≡ PotMeaning.paid (meaning self.now) world.now campaign.old.what (unit, share) }
+        ensures marks { MarksChanges campaign.old campaign.new };
+}
+
+/// The pots of a phase.
+#[derive(Drop)]
+struct RegionPots<'a, P> {
+    phase: &'a P,
+    world: &'a World,
+    campaign: &'a Campaign,
+}
+
+impl<'a, P: PotPhase> Pots for RegionPots<'a, P> {
+    ghost pot_of = { λ pots. PotMeaning.pot (P.meaning pots.phase.now) pots.world.now pots.campaign.now.what };
+
+    fn pot(&self, region: u32) -> u64 {
+        self.phase.pot(self.world, self.campaign, region)
+    }
+}
+
+/// Why an order isn't carried out.
+fn fault_of<P: PotPhase>(
+    phase: &P,
+    world: &World,
+    campaign: &Campaign,
+    order: Written,
+) -> Option<EventFault>
+    ensures { result ≡ fault_of (P.meaning phase.now) world.now campaign.now.what order }
+{
+    match campaign.unit(order.unit) {
+        Some(unit) => {
+            if unit.faction == order.faction {
+                phase.fault(world, unit, order)
+            } else {
+                Some(EventFault::NotYours)
+            }
+        }
+        None => Some(EventFault::NotYours),
+    }
+}
+
+/// Notes what the unit of an order wants, where the order has no fault.
+#[tactic(auto, using(crate::proofs::WantLaws::one_want))]
+fn note_want<P: PotPhase>(
+    phase: &P,
+    world: &World,
+    campaign: &Campaign,
+    order: Written,
+    wants: &mut Numbered<u32>,
+) -> Result<(), AllocError>
+    requires { AreWants wants.old }
+    ensures value { OnOk result (wants.new ≡ with_each wants.old (want_by (P.meaning phase.now) world.now campaign.now.what order)) }
+    ensures bound { OnOk result (AreWants wants.new) }
+{
+    let fault = fault_of(phase, world, campaign, order);
+    if let (None, Some(unit)) = (fault, campaign.unit(order.unit)) {
+        wants.insert(order.unit, phase.want(world, unit, order))?;
+    }
+    Ok(())
+}
+
+/// What the units want by their orders, by unit.
+#[tactic(auto, using(crate::proofs::WantLaws::appended_entries))]
+fn wants_of<P: PotPhase>(
+    alloc: Global,
+    phase: &P,
+    world: &World,
+    campaign: &Campaign,
+    orders: &[Written],
+) -> Result<Numbered<u32>, AllocError>
+    ensures value { IfOk result (λ wants. wants ≡ wants_by (P.meaning phase.now) world.now campaign.now.what orders.now) }
+    ensures bound { IfOk result (λ wants. AreWants wants) }
+{
+    let mut wants = Numbered::new(alloc);
+    for order in orders {
+        note_want(phase, world, campaign, *order, &mut wants)?;
+    }
+    Ok(wants)
+}
+
+/// What the units get, by unit.
+fn given_of<P: PotPhase>(
+    alloc: Global,
+    phase: &P,
+    world: &World,
+    campaign: &Campaign,
+    orders: &[Written],
+) -> Result<Numbered<u32>, AllocError>
+    ensures { IfOk result (λ given. given ≡ given_by (P.meaning phase.now) world.now campaign.now.what orders.now) }
+{
+    let wants = wants_of(alloc, phase, world, campaign, orders)?;
+    let pots = RegionPots {
+        phase,
+        world,
+        campaign,
+    };
+    pot_shares(alloc, campaign, &pots, &wants)
+}
+
+/// What came of an order, where so much was given.
+fn event_of<P: PotPhase>(
+    phase: &P,
+    world: &World,
+    campaign: &Campaign,
+    given: &Numbered<u32>,
+    order: Written,
+) -> Event
+    ensures { result ≡ event_of (P.meaning phase.now) world.now campaign.now.what given.now order }
+{
+    let outcome = match (
+        fault_of(phase, world, campaign, order),
+        campaign.unit(order.unit),
+    ) {
+        (Some(fault), _) => Outcome::Fault(fault.number()),
+        (None, Some(unit)) => {
+            let share = given.get(order.unit).copied().unwrap_or(0);
+            Outcome::Done(phase.told(world, unit, share))
+        }
+        (None, None) => Outcome::Done(0),
+    };
+    Event {
+        faction: order.faction,
+        unit: order.unit,
+        line: order.line,
+        verb: EventVerb::Order(order.verb),
+        outcome,
+    }
+}
+
+/// Tells of each order, where so much was given.
+fn tell_all<P: PotPhase>(
+    phase: &P,
+    world: &World,
+    campaign: &Campaign,
+    month: &mut Month,
+    orders: &[Written],
+    given: &Numbered<u32>,
+) -> Result<(), AllocError>
+    ensures { OnOk result (month.new ≡ record month.old { events = month.old.events ++ map (event_of (P.meaning phase.now) world.now campaign.now.what given.now) orders.now }) }
+{
+    for order in orders {
+        month.tell(event_of(phase, world, campaign, given, *order))?;
+    }
+    Ok(())
+}
+
+/// Each unit gets what it was given.
+fn pay_all<P: PotPhase>(phase: &P, world: &World, campaign: &mut Campaign, given: &Numbered<u32>)
+    requires can { CanInTurn (P.can_pay phase.now world.now) (PotMeaning.paid (P.meaning phase.now) world.now) campaign.old.what (entries given.now) }
+    ensures what { campaign.new.what ≡ fold (PotMeaning.paid (P.meaning phase.now) world.now) campaign.old.what (entries given.now) }
+    ensures marks { MarksChanges campaign.old campaign.new }
+{
+    for (unit, share) in given.iter() {
+        phase.pay(world, campaign, unit, *share);
+    }
+}
+
+/// Shares the pots of all regions among the units by their orders, all at once: who takes part, what each wants and what
+/// there is to share is read from the campaign as it is handed in. Each order gets an event. It goes over the orders, and
+/// over the regions and their units, once. AllocError without memory; the campaign is then unchanged, and some of the events
+/// may have come to the month. See docs/RULES.md, "Pots".
+#[tactic(auto, unfolding(crate::specs::PotPhase::shared_out, crate::specs::PotPhase::events_by))]
+pub(crate) fn share_out<P: PotPhase>(
+    alloc: Global,
+    phase: &P,
+    world: &World,
+    campaign: &mut Campaign,
+    month: &mut Month,
+    orders: &[Written],
+) -> Result<(), AllocError>
+    requires can { CanInTurn (P.can_pay phase.now world.now) (PotMeaning.paid (P.meaning phase.now) world.now) campaign.old.what (entries (given_by (P.meaning phase.now) world.now campaign.old.what orders.now)) }
+    ensures what { OnOk result (campaign.new.what ≡ shared_out (P.meaning phase.now) world.now campaign.old.what orders.now) }
+    ensures events { OnOk result (month.new ≡ record month.old { events = month.old.events ++ events_by (P.meaning phase.now) world.now campaign.old.what orders.now }) }
+    ensures marks { OnOk result (MarksChanges campaign.old campaign.new) }
+    ensures err { OnErr result (campaign.new ≡ campaign.old) }
+{
+    let given = given_of(alloc, phase, world, campaign, orders)?;
+    tell_all(phase, world, campaign, month, orders, &given)?;
+    pay_all(phase, world, campaign, &given);
+    Ok(())
+}

@@ -1,0 +1,234 @@
+//! WORK: units take the places of their region's terrain, each of which pays the wage.
+ghost use Rattle.std.specs.Prelude.{ℕ, ◌≡◌, ◌≤◌, ◌+◌, ◌++◌, filter, IfOk, OnOk};
+ghost use Rattle.std.specs.List.{flat_map};
+ghost use Rattle.std.specs.List.Sorted.{IsPermutation, IsSortedByKey};
+ghost use Rattle.std.specs.Cmp.Lexicographic.{slice_cmp};
+ghost use Rattle.std.specs.Ordering.{nat_cmp};
+ghost use Rattle.std.specs.FinMap as finmap;
+ghost use Rattle.atl_state.specs.Books.{IsGrid};
+ghost use Rattle.atl_state.specs.Covers.{MarksChanges};
+ghost use Rattle.atl_state.specs.Good.{IsSteady};
+ghost use Rattle.atl_state.specs.Limits.{holding_limit};
+ghost use Rattle.atl_instant.specs.Meaning.{HaveRoom, most_moved};
+ghost use Rattle.atl_instant.specs.Terrains.{terrain_of};
+ghost use Rattle.atl_market.specs.PotPhase.{events_by, shared_out};
+ghost use Rattle.atl_market.specs.Work.{CanWork, PaysAllAtOnce, all_work, earned, idle_work, is_own, is_work, long_orders, own_lines, places_at, places_wanted, wage_at, with_wages, work_fault, work_keeps, work_key, work_meaning, work_moves, work_orders, working};
+
+use crate::pot_phase::{PotPhase, share_out};
+use atl_instant::{Arrangement, Month, MonthLongVerbs, Phase, Written, terrain_of};
+use atl_orders::Verb;
+use atl_state::{Campaign, Entry, EventFault, Thing, Unit};
+use atl_tables::{Numbered, World};
+use std::alloc::{AllocError, Global};
+
+/// Work for wages: by orders, and of the units with men that have no month-long order. See docs/RULES.md, "Work".
+#[derive(Drop, Clone, Copy)]
+pub struct WorkPhase;
+
+/// Whether a unit's own faction wrote an order for it.
+fn is_own(campaign: &Campaign, order: Written) -> bool
+    ensures { result ≡ is_own order (finmap.get campaign.now.what.units order.unit) }
+{
+    match campaign.unit(order.unit) {
+        Some(unit) => unit.faction == order.faction,
+        None => false,
+    }
+}
+
+/// By unit, the line of the order that its own faction wrote.
+fn own_lines(
+    alloc: Global,
+    campaign: &Campaign,
+    orders: &[Written],
+) -> Result<Numbered<u32>, AllocError>
+    ensures { IfOk result (λ lines. lines ≡ own_lines campaign.now.what orders.now) }
+{
+    let mut lines = Numbered::new(alloc);
+    for order in orders {
+        if is_own(campaign, *order) {
+            lines.insert(order.unit, order.line)?;
+        }
+    }
+    Ok(lines)
+}
+
+fn is_work(verb: Verb) -> bool
+    ensures { result ≡ is_work verb }
+{
+    matches!(verb, Verb::Work)
+}
+
+/// The orders of WORK among the month-long ones.
+fn written_work(alloc: Global, orders: &[Written]) -> Result<Vec<Written>, AllocError>
+    ensures { IfOk result (λ list. list.items ≡ filter (λ o. is_work o.verb) orders.now) }
+{
+    let mut list = Vec::new(alloc);
+    for order in orders {
+        if is_work(order.verb) {
+            list.push(*order)?;
+        }
+    }
+    Ok(list)
+}
+
+/// Puts the work of the units without an order behind other orders.
+fn add_idle(
+    alloc: Global,
+    campaign: &Campaign,
+    orders: &[Written],
+    list: &mut Vec<Written>,
+) -> Result<(), AllocError>
+    ensures { OnOk result (list.new.items ≡ list.old.items ++ idle_work campaign.now.what orders.now) }
+{
+    let lines = own_lines(alloc, campaign, orders)?;
+    for (number, unit) in campaign.units() {
+        if unit.holding.men() > 0 && lines.get(number).is_none() {
+            list.push(Written {
+                unit: number,
+                line: 0,
+                faction: unit.faction,
+                verb: Verb::Work,
+                place: 0,
+            })?;
+        }
+    }
+    Ok(())
+}
+
+/// Sorts orders by unit, line and faction.
+fn sort(list: &mut Vec<Written>)
+    ensures moved { IsPermutation list.old.items list.new.items }
+    ensures sorted { IsSortedByKey work_key (slice_cmp nat_cmp) list.new.items }
+{
+    list.sort_unstable_by_key(
+        |written|
+            ensures { result ≡ work_key written.now }
+        {
+            [
+                written.unit as usize,
+                written.line as usize,
+                written.faction as usize,
+                written.place,
+            ]
+        },
+    );
+}
+
+/// The orders of WORK, with the work of the units that have none.
+fn work_orders(
+    alloc: Global,
+    campaign: &Campaign,
+    month: &Month,
+) -> Result<Vec<Written>, AllocError>
+    ensures { IfOk result (λ list. list.items ≡ work_orders campaign.now.what month.now) }
+{
+    let orders = month.orders(alloc, &MonthLongVerbs, Arrangement::ByUnit)?;
+    let mut list = written_work(alloc, &orders)?;
+    add_idle(alloc, campaign, &orders, &mut list)?;
+    sort(&mut list);
+    Ok(list)
+}
+
+/// The wage of a region's terrain.
+fn wage_at(world: &World, region: u32) -> u32
+    ensures { result ≡ wage_at world.now region }
+{
+    match terrain_of(world, region) {
+        Some(terrain) => terrain.wage,
+        None => 0,
+    }
+}
+
+/// What so many places in a region pay.
+fn earned(world: &World, region: u32, places: u32) -> u64
+    ensures { result ≡ earned world.now region places }
+{
+    u64::from(places) * u64::from(wage_at(world, region))
+}
+
+/// A unit that held so much gets its wages, which are booked.
+fn pay_wages(campaign: &mut Campaign, number: u32, held: u32, money: u32)
+    requires fits { held + money ≤ holding_limit }
+    requires grid { (things : ℕ) × (2 ≤ things) × IsGrid things campaign.old.what.books }
+    requires room { HaveRoom (work_moves holding_limit) campaign.old.what }
+    ensures what { campaign.new.what ≡ with_wages campaign.old.what number held money }
+    ensures marks { MarksChanges campaign.old campaign.new }
+{
+    campaign.set_money(number, held + money);
+    campaign.book(Entry::Wages, Thing::Money, i64::from(money));
+}
+
+impl PotPhase for WorkPhase {
+    ghost meaning = { λ _. working };
+
+    ghost can_pay = { λ _. CanWork };
+
+    fn fault(&self, _world: &World, unit: &Unit, _order: Written) -> Option<EventFault> {
+        if unit.holding.men() == 0 {
+            Some(EventFault::NoMen)
+        } else {
+            None
+        }
+    }
+
+    fn want(&self, world: &World, unit: &Unit, _order: Written) -> u32 {
+        match terrain_of(world, unit.region) {
+            Some(terrain) => {
+                let room = 999_999_999 - unit.holding.money();
+                unit.holding.men().min(room / terrain.wage)
+            }
+            None => 0,
+        }
+    }
+
+    fn pot(&self, world: &World, _campaign: &Campaign, region: u32) -> u64 {
+        match terrain_of(world, region) {
+            Some(terrain) => u64::from(terrain.places),
+            None => 0,
+        }
+    }
+
+    fn told(&self, world: &World, unit: &Unit, share: u32) -> u64 {
+        earned(world, unit.region, share)
+    }
+
+    #[tactic(auto, unfolding(crate::specs::Work::worked))]
+    fn pay(&self, world: &World, campaign: &mut Campaign, number: u32, share: u32) {
+        let (region, held) = match campaign.unit(number) {
+            Some(unit) => (unit.region, unit.holding.money()),
+            None => return,
+        };
+        let money = earned(world, region, share) as u32;
+        pay_wages(campaign, number, held, money);
+    }
+}
+
+impl Phase for WorkPhase {
+    ghost meaning = { work_meaning };
+
+    ghost needs = { IsSteady };
+
+    ghost leaves = { IsSteady };
+
+    ghost moving = { work_moves most_moved };
+
+    ghost keeps = { work_keeps };
+
+    fn run(
+        &self,
+        alloc: Global,
+        world: &World,
+        mut campaign: Campaign,
+        mut month: Month,
+    ) -> Result<(Campaign, Month), AllocError> {
+        let orders = work_orders(alloc, &campaign, &month)?;
+        share_out(alloc, self, world, &mut campaign, &mut month, &orders)?;
+        Ok((campaign, month))
+    }
+}
+
+/// Does nothing. Its clause is the law that all units are paid at once: each by what it held and where it stood as the phase
+/// began, and nothing else of a unit changes. See docs/RULES.md, "Work".
+pub fn work_pays_all_at_once()
+    ensures { PaysAllAtOnce }
+{}
