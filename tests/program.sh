@@ -116,6 +116,27 @@ if [ -n "$has_sqlite" ]; then
   check 'a file that sqlite3 made' 0 "$report" '' report --db "$work/packed.db" --faction 1 --pass pw
 fi
 
+# Months of a file: the unit works for 12 and needs 10, and its faction is told of a line that is no order.
+closed=$work/closed.db
+check 'a founding to be closed' 0 'founded, 1 regions' '' found --world "$small" --db "$closed" --pass gm
+check 'a joining to be closed' 0 'faction 1, unit 1' '' join --db "$closed" --name Avalon --pass pw --seed 0
+printf '#ATLANTIS 1\nUNIT 1\nATTACK 2\nwork\n' >"$mailing"
+check 'orders to be closed' 0 '1 orders, 1 faults
+line 3: 2 UnknownOrder' '' mail --db "$closed" --faction 1 --pass pw --file "$mailing"
+refused 'a closing by a player' "$closed" 'refused: 6 WrongPass' close --db "$closed" --month 1 --pass pw --seed 0
+refused 'a month too early' "$closed" 'refused: 12 WrongMonth' close --db "$closed" --month 2 --pass gm --seed 0
+check 'a closing' 0 'month 1 closed' '' close --db "$closed" --month 1 --pass gm --seed 0
+whole "$closed"
+refused 'a closing once more' "$closed" 'refused: 12 WrongMonth' close --db "$closed" --month 1 --pass gm --seed 0
+check 'a report of a month' 0 'Atlantis report, month 1, faction 1 "Avalon".
+Orders:
+Line 3: 2 UnknownOrder.
+Unit 1, line 4, WORK: done 12.
+Region 1 "Vale", plain: 1000 peasants, 1500 money.
+Exits: none.
+* Unit 1 "Unit 1": 1 men, 1002 money.' '' report --db "$closed" --faction 1 --pass pw
+check 'a month that is no number' 2 '' - close --db "$closed" --month x --pass gm --seed 0
+
 # Where the dice lay a faction on an island: the words of seed 3 are 1686128983 and 2024058790, and there are three regions with land.
 island='Atlantis report, month 0, faction 1 "Avalon".
 Orders:
