@@ -6,7 +6,7 @@ use super::tables::{
     AFTER_JOINING, BOOKED, FACTIONS, MAIL_BYTES, MAILINGS, MONEY, MONTH, NEXT, REGION_MONEY,
     REPORT_BYTES, UNITS,
 };
-use super::worlds::SMALL;
+use super::worlds::{BARREN, SMALL};
 use std::test::Fail;
 
 const MONTH_ONE: Asked = Asked::Close(1, "gm", &[0]);
@@ -110,4 +110,35 @@ const NOBODY: [Step; 2] = [
 #[test]
 fn a_month_without_factions(rt: HostRuntime) -> Result<(), Fail> {
     plays(&rt, rt.alloc(), SMALL, &NOBODY, &AFTER_NOBODY)
+}
+
+/// Nobody finds work, and the unit's 5 money don't keep its one man for a month: he starves, and the faction is gone.
+const AFTER_STARVING: &str = "Atlantis report, month 1, faction 1 \"Avalon\".
+Orders:
+Unit 1, line 0, WORK: done 0.
+Unit 1: 1 starved.
+";
+
+const STARVED: [Step; 6] = [
+    Step::Joined(AVALON, 1, 1),
+    Step::Closed(MONTH_ONE, 1),
+    Step::Told(Asked::Report(1, "pw"), AFTER_STARVING),
+    Step::Told(Asked::Mail(1, "pw", FAULTY), "gone"),
+    Step::Closed(Asked::Close(2, "gm", &[0]), 2),
+    Step::Told(Asked::Report(1, "pw"), AFTER_STARVING),
+];
+
+/// The 5 money are spent and the man is dead, but the number of his unit isn't given again.
+const AFTER_ALL_STARVED: [(&str, Option<i64>); 6] = [
+    (MONTH, Some(2)),
+    (NEXT, Some(200002)),
+    (FACTIONS, Some(1)),
+    (UNITS, Some(0)),
+    (MAILINGS, Some(0)),
+    (REGION_MONEY, Some(2500)),
+];
+
+#[test]
+fn a_faction_that_starves_is_gone(rt: HostRuntime) -> Result<(), Fail> {
+    plays(&rt, rt.alloc(), BARREN, &STARVED, &AFTER_ALL_STARVED)
 }

@@ -166,3 +166,29 @@ peasants = 100
 money = 50
 south = 3
 "#;
+
+/// The same where nobody finds work, and who joins has money for half a month.
+pub(crate) const BARREN: &str = "[rules]
+maintenance = 10
+tax_per_man = 10
+recruit_price = 50
+recruit_fraction = 4
+growth = 0
+income = 1
+start_money = 5
+man_weight = 10
+man_carry = 5
+[[terrain]]
+name = \"plain\"
+land = true
+wage = 12
+places = 0
+money_limit = 5000
+peasant_limit = 2000
+[[region]]
+number = 1
+name = \"Vale\"
+terrain = \"plain\"
+peasants = 1000
+money = 500
+";
