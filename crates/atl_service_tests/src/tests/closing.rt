@@ -3,8 +3,8 @@ use super::commands::AVALON;
 use super::mailings::FAULTY;
 use super::script::{Asked, Step, plays};
 use super::tables::{
-    AFTER_JOINING, BOOKED, FACTIONS, MAIL_BYTES, MAILINGS, MONEY, MONTH, NEXT, REGION_MONEY,
-    REPORT_BYTES, UNITS,
+    AFTER_JOINING, BOOKED, FACTIONS, INCOME, MAIL_BYTES, MAILINGS, MONEY, MONTH, NEXT,
+    REGION_MONEY, REPORT_BYTES, UNITS, UPKEEP, WAGES,
 };
 use super::worlds::{BARREN, SMALL};
 use std::test::Fail;
@@ -31,12 +31,15 @@ Exits: none.
 ";
 
 /// The money is 2,502 (500 founded, 1,000 joined, 1,000 of income, 12 of wages, 10 spent on upkeep) and the people are 1,001.
-const AFTER_MONTH_ONE: [(&str, Option<i64>); 9] = [
+const AFTER_MONTH_ONE: [(&str, Option<i64>); 12] = [
     (MONTH, Some(1)),
     (NEXT, Some(200002)),
     (FACTIONS, Some(1)),
     (UNITS, Some(1)),
     (BOOKED, Some(3503)),
+    (INCOME, Some(1000)),
+    (WAGES, Some(12)),
+    (UPKEEP, Some(-10)),
     (MONEY, Some(1002)),
     (REGION_MONEY, Some(1500)),
     (MAILINGS, Some(0)),

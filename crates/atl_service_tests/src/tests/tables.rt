@@ -24,6 +24,13 @@ pub(crate) const MONTH: &str = "SELECT month FROM campaign";
 
 pub(crate) const REGION_MONEY: &str = "SELECT sum(money) FROM region";
 
+/// What is booked of money: income, wages and upkeep.
+pub(crate) const INCOME: &str = "SELECT amount FROM books WHERE entry = 3 AND thing = 0";
+
+pub(crate) const WAGES: &str = "SELECT amount FROM books WHERE entry = 4 AND thing = 0";
+
+pub(crate) const UPKEEP: &str = "SELECT amount FROM books WHERE entry = 7 AND thing = 0";
+
 /// A number that a query answers.
 pub(crate) fn number<S: Alter>(conn: &mut Connection<S>, sql: &str) -> Option<i64> {
     match conn.query_row(sql, &[]) {
