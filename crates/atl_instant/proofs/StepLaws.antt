@@ -8,6 +8,7 @@ use Rattle.std.specs.Ordering.{nat_cmp}
 use Rattle.std.proofs.lemmas.Int.{ints}
 use Rattle.atl_tables.specs.Planet.{Planet}
 use Rattle.atl_orders.specs.declared.verb.Verb.{Verb}
+use Rattle.atl_orders.specs.Bounds.{IsEntry, IsOrderOf, IsReading}
 use Rattle.atl_orders.specs.Mailing.{EntrySaid, Reading}
 use Rattle.atl_orders.specs.Orders.{Said}
 use Rattle.atl_state.specs.declared.books.Entry.{Entry}
@@ -17,7 +18,7 @@ use Rattle.atl_state.specs.declared.records.Unit.{Unit}
 use Rattle.atl_state.specs.Books.{amount_in}
 use Rattle.atl_state.specs.State.{State}
 use Rattle.atl_instant.specs.Course.{Aliases, Course, order_at, order_in}
-use Rattle.atl_instant.specs.Fit.{AreFit, IsFit}
+use Rattle.atl_instant.specs.Fit.{AreFit}
 use Rattle.atl_instant.specs.Meaning.{Condition, HasRoom, HaveRoom, IsNear, LeavesWell, Moving}
 use Rattle.atl_instant.specs.PhaseOrders.{IsInMailing, Task, orders_of, written}
 use Rattle.atl_instant.specs.Carrying.{carried_said, carried_written, task_of}
@@ -98,14 +99,14 @@ pub carried_other : (step : Step) (w : Planet) (a : Aliases) (c : State) (t : Ta
 carried_other step w a c t other = rw (sym other) refl
 
 module _ (step : Step) (is_taken : Said → Bool) {holds : Condition} {reserve : Reserve} {moving : Moving} {concerns : Concern} {spares : Sparing} (orderly : IsOrderly step holds reserve moving concerns spares) (w : Planet) where
-  pub carried_well : (a : Aliases) (c : State) (t : Task) → holds w c → IsFit w t.said → StepsWell holds reserve w c (carried step w a c t).0
+  pub carried_well : (a : Aliases) (c : State) (t : Task) → holds w c → IsOrderOf w t.said → StepsWell holds reserve w c (carried step w a c t).0
   carried_well a c t h fit = by_test (is_own c t) refl
     where
       by_test : (b : Bool) → is_own c t ≡ b → StepsWell holds reserve w c (carried step w a c t).0
       by_test true own = rw own (orderly.well w a c t h fit own)
       by_test false other = rw other (well_same w c h)
 
-  pub order_well : (c : State) (m : Course) (t : Task) → holds w c → IsFit w t.said → StepsWell holds reserve w c (one_order step is_taken w (c, m) t).0
+  pub order_well : (c : State) (m : Course) (t : Task) → holds w c → IsOrderOf w t.said → StepsWell holds reserve w c (one_order step is_taken w (c, m) t).0
   order_well c m t h fit = by_test (is_taken t.said) refl
     where
       by_test : (b : Bool) → is_taken t.said ≡ b → StepsWell holds reserve w c (one_order step is_taken w (c, m) t).0
@@ -126,7 +127,7 @@ module _ (step : Step) (is_taken : Said → Bool) {holds : Condition} {reserve :
       by_test true is = rw is (carried_spares m.aliases c t h n u there other)
       by_test false is = rw is (record { unit = u; there = there; spared = orderly.sparing.same u })
 
-  orders_spare_one : (c : State) (m : Course) (ts : List Task) → holds w c → AllByRecursion (λ t. IsFit w t.said) ts → (n : ℕ) (u : Unit) → get c.units n ≡ Some u → AllByRecursion (λ t. concerns t n u.faction → ⊥) ts
+  orders_spare_one : (c : State) (m : Course) (ts : List Task) → holds w c → AllByRecursion (λ t. IsOrderOf w t.said) ts → (n : ℕ) (u : Unit) → get c.units n ≡ Some u → AllByRecursion (λ t. concerns t n u.faction → ⊥) ts
       → IsSpared spares (fold (one_order step is_taken w) (c, m) ts).0 n u
   orders_spare_one c m [] h fit n u there others = record { unit = u; there = there; spared = orderly.sparing.same u }
   orders_spare_one c m (t ∷ ts) h fit n u there others =
@@ -137,37 +138,37 @@ module _ (step : Step) (is_taken : Said → Bool) {holds : Condition} {reserve :
       record { unit = rest.unit; there = rest.there; spared = orderly.sparing.again u one.unit rest.unit one.spared rest.spared }
 
   -- each unit that none of some orders concerns
-  pub orders_spare : (c : State) (m : Course) (ts : List Task) → holds w c → All (λ t. IsFit w t.said) ts → AreSpared concerns spares ts c (fold (one_order step is_taken w) (c, m) ts).0
+  pub orders_spare : (c : State) (m : Course) (ts : List Task) → holds w c → All (λ t. IsOrderOf w t.said) ts → AreSpared concerns spares ts c (fold (one_order step is_taken w) (c, m) ts).0
   orders_spare c m ts h fit n u there others =
-      orders_spare_one c m ts h (recursion_from_All (λ t. IsFit w t.said) ts fit) n u there (recursion_from_All (λ t. concerns t n u.faction → ⊥) ts others)
+      orders_spare_one c m ts h (recursion_from_All (λ t. IsOrderOf w t.said) ts fit) n u there (recursion_from_All (λ t. concerns t n u.faction → ⊥) ts others)
 
 -- ---- the orders of a phase
 
 module _ (w : Planet) where
-  abbrev EntryIsFit : EntrySaid → Type 0
-  EntryIsFit e = IsFit w e.said
-
-  fit_at : (es : List EntrySaid) (k : ℕ) (e : EntrySaid) → AllByRecursion EntryIsFit es → slice_get es k ≡ Some e → IsFit w e.said
+  fit_at : (es : List EntrySaid) (k : ℕ) (e : EntrySaid) → AllByRecursion (IsEntry w) es → slice_get es k ≡ Some e → IsEntry w e
   fit_at [] k e all is = cc
-  fit_at (x ∷ es) zero e all is = subst EntryIsFit (Some_same is) all.0
+  fit_at (x ∷ es) zero e all is = subst (IsEntry w) (Some_same is) all.0
   fit_at (x ∷ es) (suc k) e all is = fit_at es k e all.1 is
 
-  module _ (aliases : Aliases) (readings : FinMap nat_cmp Reading) (fit : AreFit w readings) where
-    in_mailing_fit : (t : Task) → IsInMailing aliases readings t → IsFit w t.said
-    in_mailing_fit t h = subst (IsFit w) h.says (fit_at h.reading.entries t.place h.entry (recursion_from_All EntryIsFit h.reading.entries (fit t.faction h.reading h.of_faction)) h.at_place)
+  entry_fit : (r : Reading) (k : ℕ) (e : EntrySaid) → IsReading w r → slice_get r.entries k ≡ Some e → IsOrderOf w e.said
+  entry_fit r k e fit is = (fit_at r.entries k e (recursion_from_All (IsEntry w) r.entries fit.entries) is).order
 
-    pub orders_fit : (is_of : Verb → Bool) → All (λ t. IsFit w t.said) (values (orders_of is_of ByUnit aliases readings))
+  module _ (aliases : Aliases) (readings : FinMap nat_cmp Reading) (fit : AreFit w readings) where
+    in_mailing_fit : (t : Task) → IsInMailing aliases readings t → IsOrderOf w t.said
+    in_mailing_fit t h = subst (IsOrderOf w) h.says (entry_fit h.reading t.place h.entry (fit t.faction h.reading h.of_faction) h.at_place)
+
+    pub orders_fit : (is_of : Verb → Bool) → All (λ t. IsOrderOf w t.said) (values (orders_of is_of ByUnit aliases readings))
     orders_fit is_of k d l = in_mailing_fit _ (orders_are_in_mailings is_of ByUnit aliases readings k d l)
 
   -- what is said at a place of a faction's mailing
-  pub said_fit : (readings : FinMap nat_cmp Reading) (faction place : ℕ) (s : Said) → AreFit w readings → order_at readings faction place ≡ Some s → IsFit w s
+  pub said_fit : (readings : FinMap nat_cmp Reading) (faction place : ℕ) (s : Said) → AreFit w readings → order_at readings faction place ≡ Some s → IsOrderOf w s
   said_fit readings faction place s fit is = by_reading (get readings faction) refl is
     where
-      by_entry : (r : Reading) (o : Option EntrySaid) → get readings faction ≡ Some r → slice_get r.entries place ≡ o → option_map (λ e. e.said) o ≡ Some s → IsFit w s
+      by_entry : (r : Reading) (o : Option EntrySaid) → get readings faction ≡ Some r → slice_get r.entries place ≡ o → option_map (λ e. e.said) o ≡ Some s → IsOrderOf w s
       by_entry r None there at none = cc
-      by_entry r (Some e) there at some = subst (IsFit w) (Some_same some) (fit_at r.entries place e (recursion_from_All EntryIsFit r.entries (fit faction r there)) at)
+      by_entry r (Some e) there at some = subst (IsOrderOf w) (Some_same some) (entry_fit r place e (fit faction r there) at)
 
-      by_reading : (o : Option Reading) → get readings faction ≡ o → order_in place o ≡ Some s → IsFit w s
+      by_reading : (o : Option Reading) → get readings faction ≡ o → order_in place o ≡ Some s → IsOrderOf w s
       by_reading None there none = cc
       by_reading (Some r) there some = by_entry r (slice_get r.entries place) there refl some
 

@@ -18,7 +18,7 @@ use Rattle.atl_state.specs.Events.{event_fault_number}
 use Rattle.atl_state.specs.State.{State}
 use Rattle.atl_state.specs.Totals.{Balances}
 use Rattle.atl_instant.specs.Course.{Aliases, Course}
-use Rattle.atl_instant.specs.Fit.{IsFit}
+use Rattle.atl_orders.specs.Bounds.{IsOrderOf}
 use Rattle.atl_instant.specs.Meaning.{Condition, IsSameMonth, Keeping, Meaning, Moving}
 use Rattle.atl_instant.specs.PhaseOrders.{Task, orders_of}
 use Rattle.atl_instant.specs.declared.written.Arrangement.TheVariants.{ByUnit}
@@ -113,7 +113,7 @@ pub record IsSparing (spares : Sparing) : Type 0 where
   pub faction : (u v : Unit) → spares u v → v.faction ≡ u.faction
 
 pub record IsOrderly (step : Step) (holds : Condition) (reserve : Reserve) (moving : Moving) (concerns : Concern) (spares : Sparing) : Type 0 where
-  pub well : (w : Planet) (a : Aliases) (c : State) (t : Task) → holds w c → IsFit w t.said → is_own c t ≡ true → StepsWell holds reserve w c (step w a c t).0
+  pub well : (w : Planet) (a : Aliases) (c : State) (t : Task) → holds w c → IsOrderOf w t.said → is_own c t ≡ true → StepsWell holds reserve w c (step w a c t).0
   pub sparing : IsSparing spares
   pub spared : (w : Planet) (a : Aliases) (c : State) (t : Task) → holds w c → is_own c t ≡ true → (n : ℕ) (u : Unit) → get c.units n ≡ Some u → (concerns t n u.faction → ⊥) → IsSpared spares (step w a c t).0 n u
   pub bounded : (w : Planet) (c : State) → holds w c → (e : Entry) (t : Thing) → reserve c e t ≤ moving e t

@@ -3,7 +3,8 @@ ghost use Rattle.std.specs.Prelude.{◌≡◌, Bool, IfOk, List, OnOk, Some, tru
 ghost use Rattle.atl_orders.specs.Orders.{Said, said};
 ghost use Rattle.atl_state.specs.Covers.{MarksChanges};
 ghost use Rattle.atl_instant.specs.Course.{order_at, said_of};
-ghost use Rattle.atl_instant.specs.Fit.{AreFit, IsFit};
+ghost use Rattle.atl_orders.specs.Bounds.{IsOrderOf};
+ghost use Rattle.atl_instant.specs.Fit.{AreFit};
 ghost use Rattle.atl_instant.specs.Meaning.{Condition, HaveRoom, LeavesWell, Moving};
 ghost use Rattle.atl_instant.specs.Steps.{Concern, IsOrderly, Reserve, Sparing, Step, StepsWell, carried, carried_out, is_own, spares_others, told};
 ghost use Rattle.atl_instant.specs.Carrying.{carried_written, task_of};
@@ -56,7 +57,7 @@ pub trait OrderPhase: PhaseVerbs {
         requires holds { holds world.now campaign.old.what }
         requires room { HaveRoom (reserve campaign.old.what) campaign.old.what }
         requires own { is_own campaign.old.what (task_of order (said mailing.now.text what.now)) ≡ true }
-        requires fit { IsFit world.now (said mailing.now.text what.now) }
+        requires fit { IsOrderOf world.now (said mailing.now.text what.now) }
         ensures step { IfOk result (λ outcome. (campaign.new.what, outcome) ≡ step world.now month.now.aliases campaign.old.what (task_of order (said mailing.now.text what.now))) }
         ensures marks { OnOk result (MarksChanges campaign.old campaign.new) };
 
@@ -87,7 +88,7 @@ fn outcome_of<P: OrderPhase>(
 ) -> Result<Outcome, AllocError>
     requires holds { P.holds world.now campaign.old.what }
     requires room { HaveRoom (P.reserve campaign.old.what) campaign.old.what }
-    requires fit { IsFit world.now (said mailing.now.text what.now) }
+    requires fit { IsOrderOf world.now (said mailing.now.text what.now) }
     ensures step { IfOk result (λ outcome. (campaign.new.what, outcome) ≡ carried P.step world.now month.now.aliases campaign.old.what (task_of order (said mailing.now.text what.now))) }
     ensures marks { OnOk result (MarksChanges campaign.old campaign.new) }
 {
