@@ -5,7 +5,7 @@ use Rattle.std.specs.declared.cmp.Ordering.TheVariants.{Less, Equal, Greater}
 use Rattle.std.specs.List.{AllByRecursion}
 use Rattle.std.specs.Ordering.{nat_cmp}
 use Rattle.std.specs.Cmp.{ranked}
-use Rattle.std.specs.FinMap.{FinMap, entries, get}
+use Rattle.std.specs.FinMap.{FinMap, entries, get, insert}
 use Rattle.std.proofs.lemmas.Bool.{cases_eq, false≢true}
 use Rattle.std.proofs.lemmas.Bool.Decides.{nat_tests}
 use Rattle.std.proofs.lemmas.List.Sums.{sum_by-cons}
@@ -14,10 +14,10 @@ use Rattle.atl_state.specs.declared.records.Region.{Region}
 use Rattle.atl_state.specs.declared.records.Unit.{Unit}
 use Rattle.atl_state.specs.Deciding.{EachOf}
 use Rattle.atl_state.specs.Good.{Every, IsThere}
-use Rattle.atl_state.specs.State.{State}
+use Rattle.atl_state.specs.State.{State, region_changed}
 use Rattle.atl_state.proofs.BackLaws.{Rise, entries_rise}
-use Rattle.atl_state.proofs.EveryLaws.{each-from_every}
-use Rattle.atl_state.proofs.OrderLaws.{each_so}
+use Rattle.atl_state.proofs.EveryLaws.{each-from_every, get-insert_other}
+use Rattle.atl_state.proofs.RegionLaws.{changed-known, get-insert_same}
 use Rattle.atl_market.specs.Pots.{amount_given, pot_shares, takers_in, wants_in}
 use Rattle.atl_market.proofs.PotLaws.{IsRisen, gives_each_pot, only_takers_get, taker_place, takers_risen}
 
@@ -148,3 +148,46 @@ module _ (pot_of : ℕ → ℕ) (wants : FinMap nat_cmp ℕ) (c : State) (r : �
       let given = pot_shares pot_of wants c in
       let few = drawn_among c.units r amount takers (entries given) (takers_risen wants c.units r) (entries_rise given) (all_listed (entries given) (each-from_every (λ n share. Listed c.units r amount takers (n, share)) given listed)) in
       least (drawn c.units r (entries given)) (pot_of r) (sum (wants_in wants c.units r)) (subst (λ s. drawn c.units r (entries given) ≤ s) (gives_each_pot pot_of wants c r there) few)
+
+-- ---- one unit draws after the other
+
+module _ (units : FinMap nat_cmp Unit) (stock : Region → ℕ) where
+  -- each region has enough for what its units are to draw
+  abbrev pub HaveEnough : State → List (ℕ × ℕ) → Type 0
+  HaveEnough d es = (r : ℕ) (q : Region) → get d.regions r ≡ Some q → drawn units r es ≤ stock q
+
+  -- regions of which one has so much less
+  abbrev pub HaveLess : State → State → ℕ → Region → ℕ → Type 0
+  HaveLess d after r q share = (k : ℕ) (x : Region) → get after.regions k ≡ Some x → ((k ≡ r) × (stock x + share ≡ stock q)) ⊎ (get d.regions k ≡ Some x)
+
+  module _ (d : State) (e : ℕ × ℕ) (es : List (ℕ × ℕ)) (u : Unit) (q : Region) (enough : HaveEnough d (e ∷ es)) (there : get units e.0 ≡ Some u) (around : get d.regions u.region ≡ Some q) where
+    itself : (a : ℕ) → (a == a) ≡ true
+    itself a = grind (arith, nat_tests)
+
+    pub first_draws : e.1 + drawn units u.region es ≤ stock q
+    first_draws = subst (λ b. cond b e.1 0 + drawn units u.region es ≤ stock q) (ap (stands_in u.region) there ∙ itself u.region) (enough u.region q around)
+
+    left_over : (share rest less all : ℕ) → share + rest ≤ all → less + share ≡ all → rest ≤ less
+    left_over share rest less all h k = omega (arith, h, k)
+
+    fewer : (b : Bool) (rest all : ℕ) → cond b e.1 0 + rest ≤ all → rest ≤ all
+    fewer true rest all h = omega (arith, h)
+    fewer false rest all h = omega (arith, h)
+
+    pub others_draw : (after : State) → HaveLess d after u.region q e.1 → HaveEnough after es
+    others_draw after less k x is = elim (less k x is) [
+      | inl here ↦ subst (λ r. drawn units r es ≤ stock x) (sym here.0) (left_over e.1 (drawn units u.region es) (stock x) (stock q) first_draws here.1)
+      | inr there ↦ fewer (stands_in k (get units e.0)) (drawn units k es) (stock x) (enough k x there)
+    ]
+
+-- a region that is changed, and the others
+pub changed_regions : (f : Region → Region) (c : State) (n : ℕ) (r : Region) → get c.regions n ≡ Some r → (k : ℕ) (x : Region) → get (region_changed f c n).regions k ≡ Some x → ((k ≡ n) × (x ≡ f r)) ⊎ (get c.regions k ≡ Some x)
+changed_regions f c n r is k x found =
+    let put : get (insert c.regions n (f r)) k ≡ Some x = sym (ap (λ m. get m k) (changed-known f c.regions n r is)) ∙ found in
+    elim (cases_eq k n) [
+      | inl same ↦
+          let new : Some (f r) ≡ Some x = sym (get-insert_same c.regions n (f r)) ∙ ap (get (insert c.regions n (f r))) (sym same) ∙ put in
+          let value : x ≡ f r = cc in
+          inl (same, value)
+      | inr apart ↦ inr (sym (get-insert_other c.regions n k (f r) apart) ∙ put)
+    ]

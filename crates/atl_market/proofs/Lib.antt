@@ -3,6 +3,8 @@ pub mod PotLaws
 pub mod TurnLaws
 pub mod WantLaws
 pub mod DrawLaws
+pub mod PurseLaws
+pub mod TaxLaws
 pub mod WorkLaws
 pub mod WorkOrderLaws
 pub mod PaidLaws
