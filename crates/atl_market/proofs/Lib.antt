@@ -2,6 +2,9 @@ pub mod ShareLaws
 pub mod PotLaws
 pub mod TurnLaws
 pub mod WantLaws
+pub mod DrawLaws
+pub mod PurseLaws
+pub mod TaxLaws
 pub mod WorkLaws
 pub mod WorkOrderLaws
 pub mod PaidLaws

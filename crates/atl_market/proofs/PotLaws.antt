@@ -191,7 +191,7 @@ zip_found P (k ∷ ns) (t ∷ ss) n s h is =
     ] refl is
 
 -- numbers that rise
-abbrev IsRisen : List ℕ → Type 0
+abbrev pub IsRisen : List ℕ → Type 0
 IsRisen [] = ⊤
 IsRisen (n ∷ ns) = AllByRecursion (λ k. nat_cmp n k ≡ Less) ns × IsRisen ns
 
@@ -316,10 +316,10 @@ module _ (wants : FinMap nat_cmp ℕ) (units : FinMap nat_cmp Unit) where
       each_so _ (Takes r) (λ n ((u, is, here), want). ((u, get-entries units n ∙ is, here), is_there (get wants n) want)) (takers_in wants units r)
       (kept_each (λ n. is_some (get wants n)) (StandsIn r (entries units)) (numbers_in r units) (listed_each r (entries units) sorted_units))
 
-  takers_risen : (r : ℕ) → IsRisen (takers_in wants units r)
+  pub takers_risen : (r : ℕ) → IsRisen (takers_in wants units r)
   takers_risen r = kept_risen (λ n. is_some (get wants n)) (numbers_in r units) (listed_risen r (entries units) sorted_units)
 
-  taker_place : (n want : ℕ) (u : Unit) → get wants n ≡ Some want → get units n ≡ Some u → (i : ℕ) × (i < length (takers_in wants units u.region)) × (get_or (takers_in wants units u.region) i 0 ≡ n)
+  pub taker_place : (n want : ℕ) (u : Unit) → get wants n ≡ Some want → get units n ≡ Some u → (i : ℕ) × (i < length (takers_in wants units u.region)) × (get_or (takers_in wants units u.region) i 0 ≡ n)
   taker_place n want u wanted is =
       let (i, low, at) = listed_place u.region (entries units) n u (sym (get-entries units n) ∙ is) (equal_numbers u.region) in
       kept_place (λ k. is_some (get wants k)) (numbers_in u.region units) n i low at (ap is_some wanted)

@@ -4,8 +4,10 @@
 mod pot_phase;
 pub mod pots;
 pub mod shares;
+pub mod tax;
 pub mod work;
 
 pub use pots::{Pots, pot_shares};
 pub use shares::share;
+pub use tax::TaxPhase;
 pub use work::{WorkPhase, work_pays_all_at_once};

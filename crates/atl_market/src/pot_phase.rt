@@ -18,6 +18,9 @@ use std::alloc::{AllocError, Global};
 pub(crate) trait PotPhase {
     ghost meaning: { Self → PotMeaning };
 
+    // What it needs of the campaign.
+    ghost needs: { Self → Planet → State → Type 0 };
+
     // When a unit, by its number, can get so much of its pot.
     ghost can_pay: { Self → Planet → State → ℕ × ℕ → Type 0 };
 
@@ -32,6 +35,7 @@ pub(crate) trait PotPhase {
 
     /// What there is to share in a region, at most 999,999,999.
     fn pot(&self, world: &World, campaign: &Campaign, region: u32) -> u64
+        requires { needs self.now world.now campaign.now.what }
         ensures value { result ≡ PotMeaning.pot (meaning self.now) world.now campaign.now.what region }
         ensures bound { result ≤ most_amount };
 
@@ -56,6 +60,8 @@ struct RegionPots<'a, P> {
 
 impl<'a, P: PotPhase> Pots for RegionPots<'a, P> {
     ghost pot_of = { λ pots. PotMeaning.pot (P.meaning pots.phase.now) pots.world.now pots.campaign.now.what };
+
+    ghost ready = { λ pots. P.needs pots.phase.now pots.world.now pots.campaign.now.what };
 
     fn pot(&self, region: u32) -> u64 {
         self.phase.pot(self.world, self.campaign, region)
@@ -130,6 +136,7 @@ fn given_of<P: PotPhase>(
     campaign: &Campaign,
     orders: &[Written],
 ) -> Result<Numbered<u32>, AllocError>
+    requires { P.needs phase.now world.now campaign.now.what }
     ensures { IfOk result (λ given. given ≡ given_by (P.meaning phase.now) world.now campaign.now.what orders.now) }
 {
     let wants = wants_of(alloc, phase, world, campaign, orders)?;
@@ -171,21 +178,22 @@ fn event_of<P: PotPhase>(
     }
 }
 
-/// Tells of each order, where so much was given.
-fn tell_all<P: PotPhase>(
+/// What came of each order, where so much was given.
+fn events_of<P: PotPhase>(
+    alloc: Global,
     phase: &P,
     world: &World,
     campaign: &Campaign,
-    month: &mut Month,
     orders: &[Written],
     given: &Numbered<u32>,
-) -> Result<(), AllocError>
-    ensures { OnOk result (month.new ≡ record month.old { events = month.old.events ++ map (event_of (P.meaning phase.now) world.now campaign.now.what given.now) orders.now }) }
+) -> Result<Vec<Event>, AllocError>
+    ensures { IfOk result (λ events. events.items ≡ map (event_of (P.meaning phase.now) world.now campaign.now.what given.now) orders.now) }
 {
+    let mut events = Vec::new(alloc);
     for order in orders {
-        month.tell(event_of(phase, world, campaign, given, *order))?;
+        events.push(event_of(phase, world, campaign, given, *order))?;
     }
-    Ok(())
+    Ok(events)
 }
 
 /// Each unit gets what it was given.
@@ -200,26 +208,36 @@ fn pay_all<P: PotPhase>(phase: &P, world: &World, campaign: &mut Campaign, given
 }
 
 /// Shares the pots of all regions among the units by their orders, all at once: who takes part, what each wants and what
-/// there is to share is read from the campaign as it is handed in. Each order gets an event. It goes over the orders, and
-/// over the regions and their units, once. AllocError without memory; the campaign is then unchanged, and some of the events
-/// may have come to the month. See docs/RULES.md, "Pots".
+/// there is to share is read from the campaign as it is handed in. The answer is an event for each order. It goes over the
+/// orders, and over the regions and their units, once. AllocError without memory; the campaign is then unchanged. See
+/// docs/RULES.md, "Pots".
 #[tactic(auto, unfolding(crate::specs::PotPhase::shared_out, crate::specs::PotPhase::events_by))]
 pub(crate) fn share_out<P: PotPhase>(
     alloc: Global,
     phase: &P,
     world: &World,
     campaign: &mut Campaign,
-    month: &mut Month,
     orders: &[Written],
-) -> Result<(), AllocError>
+) -> Result<Vec<Event>, AllocError>
+    requires needs { P.needs phase.now world.now campaign.old.what }
     requires can { CanInTurn (P.can_pay phase.now world.now) (PotMeaning.paid (P.meaning phase.now) world.now) campaign.old.what (entries (given_by (P.meaning phase.now) world.now campaign.old.what orders.now)) }
     ensures what { OnOk result (campaign.new.what ≡ shared_out (P.meaning phase.now) world.now campaign.old.what orders.now) }
-    ensures events { OnOk result (month.new ≡ record month.old { events = month.old.events ++ events_by (P.meaning phase.now) world.now campaign.old.what orders.now }) }
+    ensures events { IfOk result (λ events. events.items ≡ events_by (P.meaning phase.now) world.now campaign.old.what orders.now) }
     ensures marks { OnOk result (MarksChanges campaign.old campaign.new) }
     ensures err { OnErr result (campaign.new ≡ campaign.old) }
 {
     let given = given_of(alloc, phase, world, campaign, orders)?;
-    tell_all(phase, world, campaign, month, orders, &given)?;
+    let events = events_of(alloc, phase, world, campaign, orders, &given)?;
     pay_all(phase, world, campaign, &given);
+    Ok(events)
+}
+
+/// Tells what came of the orders. AllocError without memory; some of the events may have come to the month.
+pub(crate) fn tell_all(month: &mut Month, events: &[Event]) -> Result<(), AllocError>
+    ensures { OnOk result (month.new ≡ record month.old { events = month.old.events ++ events.now }) }
+{
+    for event in events {
+        month.tell(*event)?;
+    }
     Ok(())
 }

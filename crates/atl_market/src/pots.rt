@@ -16,8 +16,12 @@ pub trait Pots {
     // By the number of the region.
     ghost pot_of: { Self → ℕ → ℕ };
 
+    // When they can be asked for.
+    ghost ready: { Self → Type 0 };
+
     /// The pot of a region, at most 999,999,999.
     fn pot(&self, region: u32) -> u64
+        requires { ready self.now }
         ensures value { result ≡ pot_of self.now region }
         ensures bound { result ≤ most_amount };
 }
@@ -81,7 +85,8 @@ fn share_region<P: Pots>(
     region: u32,
     given: &mut Numbered<u32>,
 ) -> Result<(), AllocError>
-    requires { AreWants wants.now }
+    requires ready { P.ready pots.now }
+    requires wants { AreWants wants.now }
     ensures { OnOk result (given.new ≡ with_each given.old (shares_in (P.pot_of pots.now) wants.now campaign.now.what.units region)) }
 {
     let takers = takers_of(alloc, campaign.in_region(region), wants)?;
@@ -103,7 +108,8 @@ pub fn pot_shares<P: Pots>(
     pots: &P,
     wants: &Numbered<u32>,
 ) -> Result<Numbered<u32>, AllocError>
-    requires { AreWants wants.now }
+    requires ready { P.ready pots.now }
+    requires wants { AreWants wants.now }
     ensures definition { IfOk result (λ given. given ≡ pot_shares (P.pot_of pots.now) wants.now campaign.now.what) }
 {
     let mut given = Numbered::new(alloc);

@@ -14,7 +14,7 @@ ghost use Rattle.atl_instant.specs.Terrains.{terrain_of};
 ghost use Rattle.atl_market.specs.PotPhase.{events_by, shared_out};
 ghost use Rattle.atl_market.specs.Work.{CanWork, PaysAllAtOnce, all_work, earned, idle_work, is_own, is_work, long_orders, own_lines, places_at, places_wanted, wage_at, with_wages, work_fault, work_keeps, work_key, work_meaning, work_moves, work_orders, working};
 
-use crate::pot_phase::{PotPhase, share_out};
+use crate::pot_phase::{PotPhase, share_out, tell_all};
 use atl_instant::{Arrangement, Month, MonthLongVerbs, Phase, Written, terrain_of};
 use atl_orders::Verb;
 use atl_state::{Campaign, Entry, EventFault, Thing, Unit};
@@ -161,6 +161,8 @@ fn pay_wages(campaign: &mut Campaign, number: u32, held: u32, money: u32)
 impl PotPhase for WorkPhase {
     ghost meaning = { λ _. working };
 
+    ghost needs = { λ _. IsSteady };
+
     ghost can_pay = { λ _. CanWork };
 
     fn fault(&self, _world: &World, unit: &Unit, _order: Written) -> Option<EventFault> {
@@ -222,7 +224,8 @@ impl Phase for WorkPhase {
         mut month: Month,
     ) -> Result<(Campaign, Month), AllocError> {
         let orders = work_orders(alloc, &campaign, &month)?;
-        share_out(alloc, self, world, &mut campaign, &mut month, &orders)?;
+        let events = share_out(alloc, self, world, &mut campaign, &orders)?;
+        tell_all(&mut month, &events)?;
         Ok((campaign, month))
     }
 }

@@ -1,5 +1,5 @@
 //! Pots of two regions, worked out by hand.
-ghost use Rattle.std.specs.Prelude.{IfOk};
+ghost use Rattle.std.specs.Prelude.{IfOk, ⊤};
 ghost use Rattle.atl_market.specs.Pots.{AreWants};
 ghost use Rattle.atl_market_tests.specs.Places.{pot_in};
 
@@ -54,6 +54,8 @@ struct Places {
 
 impl Pots for Places {
     ghost pot_of = { λ places. pot_in places.first places.second };
+
+    ghost ready = { λ _. ⊤ };
 
     fn pot(&self, region: u32) -> u64 {
         match region {

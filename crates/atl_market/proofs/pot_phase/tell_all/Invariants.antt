@@ -1,8 +1,7 @@
-use Rattle.std.proofs.Common.{◌≡◌, ◌++◌, drop, map}
-use Rattle.atl_market.specs.PotPhase.{event_of}
+use Rattle.std.proofs.Common.{◌≡◌, ◌++◌, drop}
 use Rattle.atl_market.proofs.pot_phase.tell_all.Given as goal
 
-abbrev pub invariant-loop-order : goal.invariant-loop-order
-invariant-loop-order g l =
-    record l.month { events = l.month.events ++ map (event_of (g.P.PotPhase.meaning l.phase) l.world l.campaign.what l.given) (drop l.order-index l.orders) }
-    ≡ record l.fn.month { events = l.fn.month.events ++ map (event_of (g.P.PotPhase.meaning l.phase) l.world l.campaign.what l.given) l.orders }
+abbrev pub invariant-loop-event : goal.invariant-loop-event
+invariant-loop-event l =
+    record l.month { events = l.month.events ++ drop l.event-index l.events }
+    ≡ record l.fn.month { events = l.fn.month.events ++ l.events }

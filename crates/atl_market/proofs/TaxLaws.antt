@@ -1,0 +1,215 @@
+-- Tax leaves a campaign well.
+use Rattle.std.proofs.Common.{◌≡◌, ◌≢◌, ℕ, ◌+◌, ◌-◌, ◌≤◌, ◌<◌, ◌⊎◌, Option, Some, None, List, [], ◌∷◌, length, refl, sym, ap, subst, ◌∙◌, inl, inr, arith}
+use Rattle.std.specs.Prelude.{fold, pos, min}
+use Rattle.std.specs.List.{AllByRecursion}
+use Rattle.std.specs.Option.{option_map_or}
+use Rattle.std.specs.FinMap.{entries, get}
+use Rattle.atl_tables.specs.Limits.{most_amount}
+use Rattle.atl_tables.specs.Planet.{Planet}
+use Rattle.atl_state.specs.declared.books.Thing.{Thing}
+use Rattle.atl_state.specs.declared.books.Thing.TheVariants.{Money, People, Item}
+use Rattle.atl_state.specs.declared.records.Region.{Region}
+use Rattle.atl_state.specs.declared.records.Unit.{Unit}
+use Rattle.atl_state.specs.Books.{amount_in}
+use Rattle.atl_state.specs.Covers.{MarksChanges}
+use Rattle.atl_state.specs.Deciding.{EachOf}
+use Rattle.atl_state.specs.Good.{Every, IsEarly, IsSteady, IsThere}
+use Rattle.atl_state.specs.Held.{amount_of}
+use Rattle.atl_state.specs.Limits.{holding_limit}
+use Rattle.atl_state.specs.Marking.{mark_region, mark_unit_row}
+use Rattle.atl_state.specs.State.{Marked, State, region_changed, with_money, with_region_money}
+use Rattle.atl_state.specs.Totals.{held, kept, total}
+use Rattle.atl_state.proofs.BackLaws.{Rise, entries_rise}
+use Rattle.atl_state.proofs.CoverLaws.{marks-region, marks-trans}
+use Rattle.atl_state.proofs.EveryLaws.{each-from_every}
+use Rattle.atl_state.proofs.HoldingLaws.{marks-unit_row, may_hold_money, of_one_faction_kept, steady-held, total-held}
+use Rattle.atl_state.proofs.RegionLaws.{steady-region, total-region}
+use Rattle.atl_instant.specs.Meaning.{LeavesWell, moved_times}
+use Rattle.atl_instant.specs.Staying.{AreNoWorse}
+use Rattle.atl_instant.specs.declared.written.Written.{Written}
+use Rattle.atl_instant.proofs.MeaningLaws.{near_same, well_within}
+use Rattle.atl_instant.proofs.StayingLaws.{are_no_worse, are_no_worse_twice}
+use Rattle.atl_market.specs.PotPhase.{CanInTurn, given_by, shared_out}
+use Rattle.atl_market.specs.Tax.{CanTax, tax_moves, tax_wanted, taxed, taxed_by, taxed_from, taxing, with_tax}
+use Rattle.atl_market.proofs.DrawLaws.{HaveEnough, HaveLess, changed_regions, drawn, first_draws, others_draw, pot_is_enough}
+use Rattle.atl_market.proofs.PurseLaws.{others_stay, paid, richer, richer_is, richer_no_worse}
+use Rattle.atl_market.proofs.TurnLaws.{turns_leave_well}
+use Rattle.atl_market.proofs.WantLaws.{given_is_wanted}
+
+abbrev money_of : Region → ℕ
+money_of q = q.money
+
+-- ---- one unit takes its share
+
+abbrev drain : Region → ℕ → Region → Region
+drain q share r = record r { money = q.money - share }
+
+abbrev drained : State → ℕ → Unit → Region → ℕ → State
+drained c n u q share = region_changed (drain q share) (richer c n u share) u.region
+
+module _ (w : Planet) (c : State) (n : ℕ) (u : Unit) (q : Region) (share : ℕ) (is : get c.units n ≡ Some u) (around : get c.regions u.region ≡ Some q) where
+  abbrev after : State
+  after = drained c n u q share
+
+  pub tax_is : with_tax c n u q share ≡ after
+  tax_is = ap (λ d. with_region_money d u.region (q.money - share)) (richer_is c n u share is)
+
+  module _ (enough : share ≤ q.money) where
+    same_total : (t : Thing) → total after t + kept t q ≡ total (richer c n u share) t + kept t (drain q share q)
+        → total (richer c n u share) t + held t u.holding ≡ total c t + held t (paid c n u share) → total after t ≡ total c t
+    same_total Money a b = omega (arith, a, b, enough)
+    same_total People a b = omega (arith, a, b)
+    same_total (Item i) a b = same (total after (Item i)) (total (richer c n u share) (Item i)) (total c (Item i)) (amount_of u.holding.items i) a b
+      where
+        same : (x y z k : ℕ) → x + 0 ≡ y + 0 → y + k ≡ z + k → x ≡ z
+        same x y z k a b = omega (arith, a, b)
+
+    pub tax_leaves_well : u.holding.money + share ≤ holding_limit → IsEarly w c → LeavesWell IsEarly tax_moves w c after
+    tax_leaves_well fits early =
+        let steady = early.steady in
+        let limits = steady.numbers.regions u.region q around in
+        record {
+          leaves_it = record {
+            steady = steady-region (drain q share) (richer c n u share) u.region q around w limits.0 (omega (arith, limits.1))
+                (steady-held w c n u (paid c n u share) is (may_hold_money w c n (u.holding.money + share) u is fits steady) steady);
+            flags = of_one_faction_kept w c n u (paid c n u share) is (λ v. v.holding.guard) (λ g. g) early.flags;
+          };
+          same_month = record { month = refl; reports = refl; count = refl; factions = λ k there. there };
+          balances = λ old t. ap pos (same_total t (total-region (drain q share) (richer c n u share) u.region q around t) (total-held w c n u (paid c n u share) is t)) ∙ old t;
+          near = λ e t. near_same 0 (amount_in c.books e t);
+        }
+
+    -- what the region has then
+    pub tax_drains : HaveLess c.units money_of c after u.region q share
+    tax_drains k x found = elim (changed_regions (drain q share) (richer c n u share) u.region q around k x found) [
+      | inl here ↦ let less : x.money ≡ q.money - share = ap money_of here.1 in inl (here.0, omega (arith, less, enough))
+      | inr there ↦ inr there
+    ]
+
+-- ---- what is marked
+
+pub tax_marks : (c d e : Marked) (n money region left : ℕ) → d.what ≡ with_money c.what n money → d.marks ≡ mark_unit_row c n
+    → e.what ≡ with_region_money d.what region left → e.marks ≡ mark_region d region → MarksChanges c e
+tax_marks c d e n money region left d_is d_marks e_is e_marks =
+    marks-trans c d e (marks_by c d _ d_is d_marks (marks-unit_row (λ u. record u { holding = record u.holding { money = money } }) (λ u. refl) c n))
+    (marks_by d e _ e_is e_marks (marks-region (λ r. record r { money = left }) d region))
+  where
+    marks_by : (a b m : Marked) → b.what ≡ m.what → b.marks ≡ m.marks → MarksChanges a m → MarksChanges a b
+    marks_by a b m what marks h = rw (what, marks) (record { stay = h.stay; covers = h.covers })
+
+-- ---- one step
+
+module _ (w : Planet) (c : State) (e : ℕ × ℕ) where
+  taxed_is : (u : Unit) (q : Region) → get c.units e.0 ≡ Some u → get c.regions u.region ≡ Some q → taxed c e ≡ drained c e.0 u q e.1
+  unfolding taxed
+  taxed_is u q is around = ap (taxed_by c e) is ∙ ap (taxed_from c e u) around ∙ tax_is w c e.0 u q e.1 is around
+
+  pub taxed_well : CanTax w c e → LeavesWell IsEarly tax_moves w c (taxed c e)
+  taxed_well can =
+      subst (λ d. LeavesWell IsEarly tax_moves w c d) (sym (taxed_is can.unit can.region can.there can.around))
+      (tax_leaves_well w c e.0 can.unit can.region e.1 can.there can.around can.enough can.fits can.early)
+
+  taxed_others : CanTax w c e → (k : ℕ) → k ≢ e.0 → get (taxed c e).units k ≡ get c.units k
+  taxed_others can k apart = ap (λ (d : State). get d.units k) (taxed_is can.unit can.region can.there can.around) ∙ others_stay c e.0 can.unit e.1 can.there k apart
+
+  taxed_drains : (can : CanTax w c e) → HaveLess c.units money_of c (taxed c e) can.unit.region can.region e.1
+  taxed_drains can = subst (λ d. HaveLess c.units money_of c d can.unit.region can.region e.1) (sym (taxed_is can.unit can.region can.there can.around)) (tax_drains w c e.0 can.unit can.region e.1 can.there can.around can.enough)
+
+  taxed_no_worse : AreNoWorse c (taxed c e)
+  unfolding taxed
+  taxed_no_worse = by_unit (get c.units e.0) refl
+    where
+      by_region : (u : Unit) → get c.units e.0 ≡ Some u → (o : Option Region) → AreNoWorse c (taxed_from c e u o)
+      by_region u is None = are_no_worse c
+      by_region u is (Some q) = subst (λ (d : State). AreNoWorse c (with_region_money d u.region (q.money - e.1))) (sym (richer_is c e.0 u e.1 is)) (λ k v there. richer_no_worse c e.0 u e.1 is k v there)
+
+      by_unit : (o : Option Unit) → get c.units e.0 ≡ o → AreNoWorse c (taxed_by c e o)
+      by_unit None is = are_no_worse c
+      by_unit (Some u) is = by_region u is (get c.regions u.region)
+
+each_no_worse : (w : Planet) (c : State) (es : List (ℕ × ℕ)) → AreNoWorse c (fold taxed c es)
+each_no_worse w c [] = are_no_worse c
+each_no_worse w c (e ∷ es) = are_no_worse_twice c (taxed c e) (fold taxed (taxed c e) es) (taxed_no_worse w c e) (each_no_worse w (taxed c e) es)
+
+pub tax_keeps_units : (w : Planet) (c : State) (os : List Written) → AreNoWorse c (shared_out taxing w c os)
+unfolding shared_out
+tax_keeps_units w c os = each_no_worse w c (entries (given_by taxing w c os))
+
+-- ---- all steps can be taken
+
+module _ (w : Planet) (c : State) where
+  -- a unit is there and has room for so much
+  abbrev HasRoomFor : ℕ × ℕ → Type 0
+  HasRoomFor e = (u : Unit) × (get c.units e.0 ≡ Some u) × (u.holding.money + e.1 ≤ holding_limit)
+
+  -- c as the phase began, d as it is, with what is still to be taken
+  record AreReady (d : State) (es : List (ℕ × ℕ)) : Type 0 where
+    early : IsEarly w d
+    rise : Rise es
+    same : AllByRecursion (λ e. get d.units e.0 ≡ get c.units e.0) es
+    fits : AllByRecursion HasRoomFor es
+    enough : HaveEnough c.units money_of d es
+
+  first_can : (d : State) (e : ℕ × ℕ) (es : List (ℕ × ℕ)) → AreReady d (e ∷ es) → CanTax w d e
+  first_can d e es ready =
+      let (u, there, fits) = ready.fits.0 in
+      let now : get d.units e.0 ≡ Some u = ready.same.0 ∙ there in
+      let (q, around) = (ready.early.steady.known.units e.0 u now).region in
+      let draws = first_draws c.units money_of d e es u q ready.enough there around in
+      record { unit = u; there = now; region = q; around = around; fits = fits; enough = omega (arith, draws); early = ready.early }
+
+  still : (d after : State) (n : ℕ) (es : List (ℕ × ℕ)) → ((k : ℕ) → k ≢ n → get after.units k ≡ get d.units k) → AllByRecursion (λ f. n < f.0) es
+      → AllByRecursion (λ e. get d.units e.0 ≡ get c.units e.0) es → AllByRecursion (λ e. get after.units e.0 ≡ get c.units e.0) es
+  still d after n [] same above all = tt
+  still d after n (f ∷ es) same above all = (same f.0 (λ e. absurd (omega (arith, e, above.0))) ∙ all.0, still d after n es same above.1 all.1)
+
+  all_can : (d : State) (es : List (ℕ × ℕ)) → AreReady d es → CanInTurn (CanTax w) taxed d es
+  all_can d [] ready = tt
+  all_can d (e ∷ es) ready =
+      let (u, there, fits) = ready.fits.0 in
+      let can = first_can d e es ready in
+      (can, all_can (taxed d e) es (record {
+        early = (taxed_well w d e can).leaves_it;
+        rise = ready.rise.1;
+        same = still d (taxed d e) e.0 es (taxed_others w d e can) ready.rise.0 ready.same.1;
+        fits = ready.fits.1;
+        enough = others_draw c.units money_of d e es can.unit can.region ready.enough (sym ready.same.0 ∙ can.there) can.around (taxed d e) (taxed_drains w d e can);
+      }))
+
+  module _ (early : IsEarly w c) (os : List Written) where
+    abbrev shares : List (ℕ × ℕ)
+    shares = entries (given_by taxing w c os)
+
+    all_fit : (es : List (ℕ × ℕ)) → EachOf (λ n share. HasRoomFor (n, share)) es → AllByRecursion HasRoomFor es
+    all_fit [] h = tt
+    all_fit (e ∷ es) h = (h.0, all_fit es h.1)
+
+    wanted_fits : (money men share : ℕ) → money ≤ holding_limit → share ≤ min men (holding_limit - money) → money + share ≤ holding_limit
+    wanted_fits money men share fits low = omega (arith, fits, low)
+
+    each_fits : Every (λ n share. HasRoomFor (n, share)) (given_by taxing w c os)
+    each_fits n share is =
+        let (u, o, there, low) = given_is_wanted taxing w c os n share is in
+        (u, there, wanted_fits u.holding.money _ share (early.steady.numbers.units n u there).1.money low)
+
+    untouched : (es : List (ℕ × ℕ)) → AllByRecursion (λ e. get c.units e.0 ≡ get c.units e.0) es
+    untouched [] = tt
+    untouched (e ∷ es) = (refl, untouched es)
+
+    all_enough : HaveEnough c.units money_of c shares
+    all_enough r q around = subst (λ pot. drawn c.units r shares ≤ pot) (ap (λ o. option_map_or money_of o 0) around) (pot_is_enough _ _ c r (q, around))
+
+    pub can_share_out : CanInTurn (CanTax w) taxed c shares
+    can_share_out = all_can c shares (record {
+      early = early;
+      rise = entries_rise (given_by taxing w c os);
+      same = untouched shares;
+      fits = all_fit shares (each-from_every (λ n share. HasRoomFor (n, share)) (given_by taxing w c os) each_fits);
+      enough = all_enough;
+    })
+
+    pub all_taxes_leave_well : LeavesWell IsEarly tax_moves w c (shared_out taxing w c os)
+    unfolding shared_out
+    all_taxes_leave_well =
+        well_within (moved_times (length shares) tax_moves) tax_moves w c (fold taxed c shares) (λ e t. omega arith)
+        (turns_leave_well tax_moves w (CanTax w) taxed (taxed_well w) c shares early can_share_out)

@@ -1,0 +1,18 @@
+use Rattle.std.proofs.Common.{subst, sym}
+use Rattle.atl_state.specs.Good.{IsEarly}
+use Rattle.atl_instant.specs.Meaning.{LeavesWell}
+use Rattle.atl_instant.specs.Staying.{AreNoWorse}
+use Rattle.atl_market.specs.Tax.{tax_moves}
+use Rattle.atl_market.proofs.TaxLaws.{all_taxes_leave_well, can_share_out, tax_keeps_units}
+use Rattle.atl_market.proofs.tax.TaxPhasePhase.run.Goals as goal
+
+pub share_out-requires : goal.share_out-requires
+share_out-requires c = record { needs = c.requires.needs; can = can_share_out c.args.world.now c.args.campaign.what c.requires.needs c.deref.result.now }
+
+pub returns-clause-leaves : goal.returns-clause-leaves
+returns-clause-leaves c =
+    subst (λ d. LeavesWell IsEarly tax_moves c.args.world.now c.args.campaign.what d) (sym c.in_ok-events.ensures.what)
+    (all_taxes_leave_well c.args.world.now c.args.campaign.what c.requires.needs c.deref.result.now)
+
+pub returns-clause-keeps : goal.returns-clause-keeps
+returns-clause-keeps c = subst (λ d. AreNoWorse c.args.campaign.what d) (sym c.in_ok-events.ensures.what) (tax_keeps_units c.args.world.now c.args.campaign.what c.deref.result.now)

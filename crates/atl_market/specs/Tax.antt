@@ -1,0 +1,88 @@
+-- TAX: the units on guard share the money of their region. See docs/RULES.md, "Tax".
+use Rattle.std.specs.Prelude.{◌≡◌, ◌≤◌, ◌+◌, ◌-◌, ◌*◌, ◌==◌, ℕ, Bool, true, false, List, map, min, Option, Some, None, not, if◌then◌else◌}
+use Rattle.std.specs.Option.{option_map_or}
+use Rattle.std.specs.FinMap.{get, values}
+use Rattle.atl_tables.specs.Planet.{Planet}
+use Rattle.atl_orders.specs.declared.verb.Verb.{Verb}
+use Rattle.atl_orders.specs.declared.verb.Verb.TheVariants as verbs
+use Rattle.atl_state.specs.declared.event.EventFault.{EventFault}
+use Rattle.atl_state.specs.declared.event.EventFault.TheVariants.{NoMen, NotGuarding}
+use Rattle.atl_state.specs.declared.records.Region.{Region}
+use Rattle.atl_state.specs.declared.records.Unit.{Unit}
+use Rattle.atl_state.specs.Good.{IsEarly}
+use Rattle.atl_state.specs.Limits.{holding_limit}
+use Rattle.atl_state.specs.State.{State, with_money, with_region_money}
+use Rattle.atl_instant.specs.Course.{Course}
+use Rattle.atl_instant.specs.Meaning.{Keeping, Meaning, Moving}
+use Rattle.atl_instant.specs.PhaseOrders.{orders_of, written}
+use Rattle.atl_instant.specs.Staying.{AreNoWorse}
+use Rattle.atl_instant.specs.declared.written.Arrangement.TheVariants.{ByUnit}
+use Rattle.atl_instant.specs.declared.written.Written.{Written}
+use Rattle.atl_market.specs.PotPhase.{PotMeaning, pots_meaning}
+
+abbrev pub is_tax : Verb → Bool
+is_tax verbs.Tax = true
+is_tax verb = false
+
+-- the orders of TAX that stand
+abbrev pub tax_orders : State → Course → List Written
+tax_orders c m = map written (values (orders_of is_tax ByUnit m.aliases m.readings))
+
+-- why a unit takes no tax
+abbrev pub tax_fault : Unit → Option EventFault
+tax_fault u = if u.holding.men == 0 then Some NoMen else (if u.holding.guard then None else Some NotGuarding)
+
+-- as much as its men take, as far as it has room for it
+abbrev pub tax_wanted : Planet → Unit → ℕ
+tax_wanted w u = min (u.holding.men * w.rules.tax_per_man) (holding_limit - u.holding.money)
+
+-- the money of a region
+abbrev pub money_at : State → ℕ → ℕ
+money_at c region = option_map_or (λ q. q.money) (get c.regions region) 0
+
+-- so much money goes from a region to a unit in it
+abbrev pub with_tax : State → ℕ → Unit → Region → ℕ → State
+with_tax c n u q share = with_region_money (with_money c n (u.holding.money + share)) u.region (q.money - share)
+
+abbrev pub taxed_from : State → ℕ × ℕ → Unit → Option Region → State
+taxed_from c e u None = c
+taxed_from c e u (Some q) = with_tax c e.0 u q e.1
+
+abbrev pub taxed_by : State → ℕ × ℕ → Option Unit → State
+taxed_by c e None = c
+taxed_by c e (Some u) = taxed_from c e u (get c.regions u.region)
+
+-- a unit, by its number, takes so much of its region's money
+unfoldable pub taxed : State → ℕ × ℕ → State
+taxed c e = taxed_by c e (get c.units e.0)
+
+-- A unit is told how much it took.
+abbrev pub taxing : PotMeaning
+taxing = record {
+  fault = λ w u o. tax_fault u;
+  want = λ w u o. tax_wanted w u;
+  pot = λ w c region. money_at c region;
+  told = λ w u share. share;
+  paid = λ w c e. taxed c e;
+}
+
+abbrev pub tax_meaning : Meaning
+tax_meaning = pots_meaning taxing tax_orders
+
+-- what a region's people pay was theirs: no entry of the books changes
+abbrev pub tax_moves : Moving
+tax_moves e t = 0
+
+-- tax takes nothing from any unit
+abbrev pub tax_keeps : Keeping
+tax_keeps w m before after = AreNoWorse before after
+
+-- ---- a unit, by its number, can take so much: it is there, and has room for it, and the region has it
+pub record CanTax (w : Planet) (c : State) (e : ℕ × ℕ) : Type 0 where
+  pub unit : Unit
+  pub there : get c.units e.0 ≡ Some unit
+  pub region : Region
+  pub around : get c.regions unit.region ≡ Some region
+  pub fits : unit.holding.money + e.1 ≤ holding_limit
+  pub enough : e.1 ≤ region.money
+  pub early : IsEarly w c

@@ -1,0 +1,108 @@
+//! TAX: units on guard take the money of their region.
+ghost use Rattle.std.specs.Prelude.{◌≡◌, ◌≤◌};
+ghost use Rattle.atl_state.specs.Covers.{MarksChanges};
+ghost use Rattle.atl_state.specs.Good.{IsEarly};
+ghost use Rattle.atl_state.specs.Limits.{holding_limit};
+ghost use Rattle.atl_state.specs.State.{with_money, with_region_money};
+ghost use Rattle.atl_market.specs.Tax.{CanTax, is_tax, tax_fault, tax_keeps, tax_meaning, tax_moves, tax_wanted, taxed, taxing};
+
+use crate::pot_phase::{PotPhase, share_out, tell_all};
+use atl_instant::{Arrangement, Month, Phase, PhaseVerbs, Written};
+use atl_orders::Verb;
+use atl_state::{Campaign, EventFault, Unit};
+use atl_tables::World;
+use std::alloc::{AllocError, Global};
+
+/// Tax: the units on guard share the money of their region. See docs/RULES.md, "Tax".
+#[derive(Drop, Clone, Copy)]
+pub struct TaxPhase;
+
+impl PhaseVerbs for TaxPhase {
+    ghost is_of = { is_tax };
+
+    fn has(&self, verb: Verb) -> bool {
+        matches!(verb, Verb::Tax)
+    }
+}
+
+/// A unit has so much money, and its region so much.
+fn hand_over(campaign: &mut Campaign, unit: u32, money: u32, region: u32, left: u32)
+    requires { money ≤ holding_limit }
+    ensures what { campaign.new.what ≡ with_region_money (with_money campaign.old.what unit money) region left }
+    ensures marks { MarksChanges campaign.old campaign.new }
+{
+    campaign.set_money(unit, money);
+    campaign.set_region_money(region, left);
+}
+
+impl PotPhase for TaxPhase {
+    ghost meaning = { λ _. taxing };
+
+    ghost needs = { λ _. IsEarly };
+
+    ghost can_pay = { λ _. CanTax };
+
+    fn fault(&self, _world: &World, unit: &Unit, _order: Written) -> Option<EventFault> {
+        if unit.holding.men() == 0 {
+            Some(EventFault::NoMen)
+        } else if unit.holding.guard() {
+            None
+        } else {
+            Some(EventFault::NotGuarding)
+        }
+    }
+
+    fn want(&self, world: &World, unit: &Unit, _order: Written) -> u32 {
+        let room = 999_999_999 - unit.holding.money();
+        (unit.holding.men() * world.rules().tax_per_man).min(room)
+    }
+
+    fn pot(&self, _world: &World, campaign: &Campaign, region: u32) -> u64 {
+        match campaign.region(region) {
+            Some(found) => u64::from(found.money),
+            None => 0,
+        }
+    }
+
+    fn told(&self, _world: &World, _unit: &Unit, share: u32) -> u64 {
+        u64::from(share)
+    }
+
+    #[tactic(auto, unfolding(crate::specs::Tax::taxed))]
+    fn pay(&self, _world: &World, campaign: &mut Campaign, number: u32, share: u32) {
+        let (region, held) = match campaign.unit(number) {
+            Some(unit) => (unit.region, unit.holding.money()),
+            None => return,
+        };
+        let money = match campaign.region(region) {
+            Some(found) => found.money,
+            None => return,
+        };
+        hand_over(campaign, number, held + share, region, money - share);
+    }
+}
+
+impl Phase for TaxPhase {
+    ghost meaning = { tax_meaning };
+
+    ghost needs = { IsEarly };
+
+    ghost leaves = { IsEarly };
+
+    ghost moving = { tax_moves };
+
+    ghost keeps = { tax_keeps };
+
+    fn run(
+        &self,
+        alloc: Global,
+        world: &World,
+        mut campaign: Campaign,
+        mut month: Month,
+    ) -> Result<(Campaign, Month), AllocError> {
+        let orders = month.orders(alloc, self, Arrangement::ByUnit)?;
+        let events = share_out(alloc, self, world, &mut campaign, &orders)?;
+        tell_all(&mut month, &events)?;
+        Ok((campaign, month))
+    }
+}
