@@ -4,6 +4,7 @@ pub mod SweepAllLaws
 pub mod ReceiverLaws
 pub mod SweepRunLaws
 pub mod SeasonLaws
+pub mod MoveLaws
 pub mod MonthLaws
 pub mod SettlingLaws
 pub mod UpkeepLaws

@@ -1,17 +1,14 @@
 -- A campaign behind the phases of a month is good again once the month is counted and the mail is taken away.
-use Rattle.std.proofs.Common.{◌≡◌, ◌==◌, ◌&&◌, not, ℕ, ◌+◌, ◌*◌, ◌≤◌, ◌<◌, Bool, true, false, List, [], ◌∷◌, map, refl, sym, ap, subst, ◌∙◌, arith}
-use Rattle.std.specs.Prelude.{ℤ, if◌then◌else◌}
+use Rattle.std.proofs.Common.{◌≡◌, ◌&&◌, ℕ, ◌+◌, ◌*◌, ◌≤◌, ◌<◌, Bool, true, false, List, [], ◌∷◌, map, refl, sym, ap, subst, ◌∙◌, arith}
+use Rattle.std.specs.Prelude.{ℤ, nat_lt}
 use Rattle.std.specs.FinMap.{get, len}
 use Rattle.std.proofs.lemmas.Int.{ints}
 use Rattle.std.proofs.lemmas.Bool.Decides.{nat_tests}
 use Rattle.atl_tables.specs.Planet.{Planet}
 use Rattle.atl_state.specs.declared.books.Entry.{Entry}
-use Rattle.atl_state.specs.declared.books.Entry.TheVariants.{Births, Income, Lost, Starved, Upkeep, Wages}
 use Rattle.atl_state.specs.declared.books.Thing.{Thing}
-use Rattle.atl_state.specs.declared.books.Thing.TheVariants.{Money, People}
-use Rattle.atl_state.specs.Books.{IsWithin, amount_in, entry_place, thing_place}
-use Rattle.atl_state.specs.Marks.{amount_number}
-use Rattle.atl_state.specs.Good.{AreAmountsWithin, AreInRange, AreKnown, Every, IsGood, IsSound, IsSteady, IsThere, amount_bound}
+use Rattle.atl_state.specs.Books.{IsWithin, amount_in}
+use Rattle.atl_state.specs.Good.{AreAmountsWithin, AreInRange, AreKnown, Every, IsEarly, IsGood, IsSound, IsSteady, IsThere, amount_bound}
 use Rattle.atl_state.specs.Limits.{last_month}
 use Rattle.atl_state.specs.State.{State, numbers_of}
 use Rattle.atl_state.specs.Totals.{Balances, total}
@@ -23,16 +20,12 @@ use Rattle.atl_orders.specs.declared.mailing.Mailing.{Mailing}
 use Rattle.atl_state.proofs.EveryLaws.{every-empty, every-insert}
 use Rattle.atl_instant.specs.Course.{by_faction}
 use Rattle.atl_instant.specs.Fit.{AreFit}
-use Rattle.atl_instant.specs.Meaning.{HaveRoom, IsNear, IsSameMonth, LeavesWell, Moving, most_moved}
+use Rattle.atl_instant.specs.Meaning.{HaveRoom, IsNear, IsSameMonth, LeavesWell, Moving}
 use Rattle.atl_instant.proofs.CourseLaws.{mailings_have_no_order}
 use Rattle.atl_instant.proofs.MeaningLaws.{MovesLess, room_when_sound}
 use Rattle.atl_month.specs.Month.{MonthHasNoOrder, finished, month_of, phases_move}
-use Rattle.atl_month.specs.Sweep.{loses_by}
 use Rattle.atl_month.specs.Swept.{IsSwept}
-
--- so far a month moves an amount at most
-abbrev pub month_moves : Moving
-month_moves e t = 200000000000000
+use Rattle.atl_month.proofs.MoveLaws.{month_moves, phases_little}
 
 module _ (w : Planet) (d : State) where
   finished_range : d.month < last_month → AreInRange w d → AreInRange w (finished d)
@@ -111,34 +104,23 @@ module _ (w : Planet) (c d : State) (moving : Moving) (little : MovesLess moving
     reported = λ n f is. let there = same.factions n (f, is) in let report = old.reported n there.0 there.1 in (report.0, ap (λ reports. get reports n) same.reports ∙ report.1);
   }
 
--- ---- the phases
-
--- no amount is moved further than a month moves it: each of these phases moves others
-pub phases_little : MovesLess phases_move month_moves
-phases_little e t = both _ _ _ _ _ (loses_by most_moved e t) (each_other (amount_number e t)) (lost_little e t)
-  where
-    lost_little : (e : Entry) (t : Thing) → loses_by most_moved e t ≤ most_moved
-    lost_little e t = either ((entry_place e == entry_place Lost) && not (thing_place t == thing_place People))
-      where
-        either : (b : Bool) → (if b then most_moved else 0) ≤ most_moved
-        either true = omega arith
-        either false = omega arith
-
-    if_all : Bool → Bool → Bool → Bool → Bool → ℕ
-    if_all v a b c d = (if v then most_moved else 0) + (((if a then most_moved else 0) + (if b then most_moved else 0)) + ((if c then most_moved else 0) + (if d then most_moved else 0)))
-
-    each_other : (x : ℕ) → if_all (x == amount_number Wages Money) (x == amount_number Upkeep Money) (x == amount_number Starved People) (x == amount_number Births People) (x == amount_number Income Money) ≤ most_moved
-    each_other x = first (x == amount_number Wages Money) (x == amount_number Upkeep Money) (x == amount_number Starved People) (x == amount_number Births People) (x == amount_number Income Money) refl refl refl refl refl
-      where
-        first : (v a b c d : Bool) → (x == amount_number Wages Money) ≡ v → (x == amount_number Upkeep Money) ≡ a → (x == amount_number Starved People) ≡ b → (x == amount_number Births People) ≡ c → (x == amount_number Income Money) ≡ d → if_all v a b c d ≤ most_moved
-        first v a b c d e f g h k = grind (arith, nat_tests, e, f, g, h, k)
-
-    both : (v u s b i l : ℕ) → v + ((u + s) + (b + i)) ≤ most_moved → l ≤ most_moved → v + ((u + s) + ((b + i) + l)) ≤ 200000000000000
-    both v u s b i l g h = omega (arith, g, h)
-
--- a sound campaign has room for them
+-- a sound campaign has room for the phases of a month
 pub phases_room : (w : Planet) (c : State) → IsSound w c → HaveRoom phases_move c
 phases_room w c sound = room_when_sound w c phases_move (λ e t. omega (arith, phases_little e t)) sound
+
+-- every unit of a sound campaign has men, so that those with a flag guard
+pub sound_early : (w : Planet) (c : State) → IsSound w c → IsEarly w c
+sound_early w c sound = record {
+  steady = sound.steady;
+  flags = λ n u here m v there flag other. sound.steady.guarded n u here m v there (on_guard u.holding.guard u.holding.men flag (sound.men n u here)) (on_guard v.holding.guard v.holding.men other (sound.men m v there));
+}
+  where
+    above : (men : ℕ) → 1 ≤ men → nat_lt 0 men ≡ true
+    above men some = grind (arith, nat_tests, some)
+
+    on_guard : (flag : Bool) (men : ℕ) → flag ≡ true → 1 ≤ men → (flag && nat_lt 0 men) ≡ true
+    on_guard true men is some = above men some
+    on_guard false men is some = is
 
 -- in which order mailings come isn't seen
 pub month_has_no_order : MonthHasNoOrder

@@ -10,6 +10,7 @@ use Rattle.atl_state.specs.declared.event.Event.{Event}
 use Rattle.atl_state.specs.State.{State, with_month, without_mail}
 use Rattle.atl_instant.specs.Course.{Course, HaveOwnFactions, by_faction}
 use Rattle.atl_instant.specs.Meaning.{Keeping, Meaning, Moving, both_keep, both_move, most_moved, then_also}
+use Rattle.atl_market.specs.Tax.{tax_keeps, tax_meaning, tax_moves}
 use Rattle.atl_market.specs.Work.{work_keeps, work_meaning, work_moves}
 use Rattle.atl_month.specs.Season.{grows_by, season_keeps, season_meaning}
 use Rattle.atl_month.specs.Sweep.{loses_by, sweep_keeps, sweep_meaning}
@@ -21,7 +22,7 @@ begun readings words = record { readings = readings; aliases = empty; words = wo
 
 -- the phases, one after the other
 abbrev pub phases : Meaning
-phases = then_also work_meaning (then_also upkeep_meaning (then_also season_meaning sweep_meaning))
+phases = then_also (then_also tax_meaning work_meaning) (then_also upkeep_meaning (then_also season_meaning sweep_meaning))
 
 -- the campaign behind the phases of a month, and what came of the orders
 unfoldable pub month_of : Planet → State → FinMap nat_cmp Reading → List ℕ → State × List Event
@@ -35,11 +36,11 @@ MonthHasNoOrder =
 
 -- by how much they move each amount of the books
 abbrev pub phases_move : Moving
-phases_move = both_move (work_moves most_moved) (both_move (takes_up_to most_moved) (both_move (grows_by most_moved) (loses_by most_moved)))
+phases_move = both_move (both_move tax_moves (work_moves most_moved)) (both_move (takes_up_to most_moved) (both_move (grows_by most_moved) (loses_by most_moved)))
 
 -- and what each of them keeps
 abbrev pub phases_keep : Keeping
-phases_keep = both_keep work_meaning work_keeps (both_keep upkeep_meaning upkeep_keeps (both_keep season_meaning season_keeps sweep_keeps))
+phases_keep = both_keep (then_also tax_meaning work_meaning) (both_keep tax_meaning tax_keeps work_keeps) (both_keep upkeep_meaning upkeep_keeps (both_keep season_meaning season_keeps sweep_keeps))
 
 -- a campaign whose month is counted, and whose mail is taken away
 abbrev pub finished : State → State

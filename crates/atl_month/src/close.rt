@@ -15,7 +15,7 @@ use crate::season::SeasonPhase;
 use crate::sweep::SweepPhase;
 use crate::upkeep::UpkeepPhase;
 use atl_instant::{Month, Phase};
-use atl_market::WorkPhase;
+use atl_market::{TaxPhase, WorkPhase};
 use atl_orders::Mailing;
 use atl_state::{Campaign, Event};
 use atl_tables::World;
@@ -35,7 +35,8 @@ fn run_phases(
     ensures keeps { IfOk result (λ r. phases_keep world.now month campaign.what r.0.what) }
     ensures marks { IfOk result (λ r. MarksChanges campaign r.0) }
 {
-    let phases = (WorkPhase, (UpkeepPhase, (SeasonPhase, SweepPhase)));
+    let orders = (TaxPhase, WorkPhase);
+    let phases = (orders, (UpkeepPhase, (SeasonPhase, SweepPhase)));
     let (campaign, month) = phases.run(alloc, world, campaign, month)?;
     Ok((campaign, month))
 }

@@ -4,7 +4,8 @@ use Rattle.atl_orders.specs.Mailing.{IsReadWith, reading_of}
 use Rattle.atl_instant.specs.Fit.{AreFit}
 use Rattle.atl_instant.specs.Course.{Course, by_faction}
 use Rattle.atl_month.specs.Month.{begun, phases_keep, phases_move}
-use Rattle.atl_month.proofs.MonthLaws.{finished_good, phases_little, read_fit}
+use Rattle.atl_month.proofs.MonthLaws.{finished_good, read_fit}
+use Rattle.atl_month.proofs.MoveLaws.{phases_little}
 use Rattle.atl_month.proofs.close.close_month.Goals as goal
 
 pub returns-clause-good : goal.returns-clause-good
