@@ -8,3 +8,10 @@ pub mod MeaningLaws
 pub mod BookingLaws
 pub mod StayingLaws
 pub mod StepLaws
+pub mod OutcomeLaws
+pub mod AmountsLaws
+pub mod HavingLaws
+pub mod MovingLaws
+pub mod GiveLaws
+pub mod TransferLaws
+pub mod GuardingLaws

@@ -7,3 +7,7 @@ pub mod Staying
 pub mod Fit
 pub mod Steps
 pub mod Carrying
+pub mod Outcomes
+pub mod Give
+pub mod Transfer
+pub mod Guard

@@ -1,17 +1,24 @@
 //! The month that is played out at once: what it carries from phase to phase, and the orders of a phase.
 #![tactic(auto)]
 
+mod give;
+mod guard;
 mod month;
 mod orders;
+mod outcome;
 mod phase;
 mod standing;
 mod steps;
 mod terrain;
+mod transfer;
 mod written;
 
+pub use give::GivePhase;
+pub use guard::GuardPhase;
 pub use month::{Month, mailings_have_no_order};
 pub use orders::{MonthLongVerbs, PhaseVerbs, orders_are_in_mailings};
 pub use phase::Phase;
 pub use steps::{OrderPhase, carry_out_orders};
 pub use terrain::terrain_of;
+pub use transfer::TransferPhase;
 pub use written::{Arrangement, Written};

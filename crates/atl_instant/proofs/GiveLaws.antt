@@ -1,0 +1,204 @@
+-- GIVE and PAY leave a campaign well.
+use Rattle.std.proofs.Common.{◌≡◌, ◌≢◌, ◌==◌, ℕ, ◌+◌, ◌-◌, ◌≤◌, ◌<◌, Bool, true, false, cond, not, ◌&&◌, [], ◌∷◌, length, Option, Some, None, refl, sym, ap, subst, ◌∙◌, arith}
+use Rattle.std.specs.Prelude.{⊤, nat_lt, if◌then◌else◌}
+use Rattle.std.proofs.lemmas.Bool.Decides.{nat_tests}
+use Rattle.std.specs.Ordering.{nat_cmp, eq_by_cmp}
+use Rattle.std.specs.FinMap.{get}
+use Rattle.atl_tables.specs.Planet.{Planet}
+use Rattle.atl_orders.specs.declared.order.Order.TheVariants as orders
+use Rattle.atl_orders.specs.Bounds.{IsOrderOf}
+use Rattle.atl_orders.specs.Orders.{Said}
+use Rattle.atl_state.specs.declared.books.Thing.{Thing}
+use Rattle.atl_state.specs.declared.books.Thing.TheVariants as things
+use Rattle.atl_state.specs.declared.event.EventFault.{EventFault}
+use Rattle.atl_state.specs.declared.event.EventFault.TheVariants.{NoRoom, NotEnough, NotHere}
+use Rattle.atl_state.specs.declared.event.Outcome.TheVariants.{Done}
+use Rattle.atl_state.specs.declared.records.Unit.{Unit}
+use Rattle.atl_state.specs.Good.{IsEarly}
+use Rattle.atl_state.specs.Held.{Held, IsHolding, amount_of, with_amount_of}
+use Rattle.atl_state.specs.Lending.{with_held}
+use Rattle.atl_state.specs.Limits.{holding_limit}
+use Rattle.atl_state.specs.State.{State}
+use Rattle.atl_state.specs.Totals.{held}
+use Rattle.atl_instant.specs.Give.{give, give_fault, give_from, give_said, give_step, give_to, given, held_of, with_held_of}
+use Rattle.atl_instant.specs.Course.{Aliases}
+use Rattle.atl_instant.specs.Outcomes.{unless}
+use Rattle.atl_instant.specs.Staying.{IsNoWorse}
+use Rattle.atl_instant.specs.PhaseOrders.{Task, unit_of}
+use Rattle.atl_instant.specs.Steps.{IsOrderly, IsOwnOrder, IsSpared, StepsWell}
+use Rattle.atl_instant.specs.declared.give.Gift.{Gift}
+use Rattle.atl_instant.specs.declared.give.Gift.TheVariants.{Item, Money}
+use Rattle.atl_instant.proofs.AmountsLaws.{alike, amount_within, every_amount, set_amount}
+use Rattle.atl_instant.proofs.HavingLaws.{MayHave, may_have}
+use Rattle.atl_instant.proofs.MovingLaws.{early-moved, moved, receiver_still, spared-moved, steps-moved}
+use Rattle.atl_instant.proofs.OutcomeLaws.{apart_own, none_fits, not_apart, not_less, unless_itself}
+use Rattle.atl_instant.proofs.StayingLaws.{no_worse}
+use Rattle.atl_instant.proofs.StepLaws.{no_worse_spares, well_same}
+
+-- what is so of two units where no fault fits
+pub record CanGive (gift : Gift) (n : ℕ) (itself : Bool) (u v : Unit) : Type 0 where
+  pub here : v.region ≡ u.region
+  pub enough : n ≤ held_of gift u.holding
+  pub room : itself ≡ false → held_of gift v.holding + n ≤ holding_limit
+
+pub can_give : (gift : Gift) (n : ℕ) (itself : Bool) (u v : Unit) → give_fault gift n itself u (Some v) ≡ None → CanGive gift n itself u v
+can_give gift n itself u v is =
+    let little = nat_lt (held_of gift u.holding) n in
+    let full = nat_lt holding_limit (held_of gift v.holding + n) in
+    let one = none_fits (not (v.region == u.region)) NotHere ((little, NotEnough) ∷ (not itself && full, NoRoom) ∷ []) is in
+    let two = none_fits little NotEnough ((not itself && full, NoRoom) ∷ []) one.1 in
+    let three = none_fits (not itself && full) NoRoom [] two.1 in
+    record {
+      here = not_apart v.region u.region one.0;
+      enough = not_less (held_of gift u.holding) n two.0;
+      room = λ other. not_less holding_limit (held_of gift v.holding + n) (unless_itself itself full three.0 other);
+    }
+
+pub held_within : (gift : Gift) (h : Held) → IsHolding h → held_of gift h ≤ holding_limit
+held_within Money h is = is.money
+held_within (Item i) h is = amount_within h i is
+
+-- two units, one after the other
+pub given_is : (c d e : State) (from to : ℕ) (gift : Gift) (n left more : ℕ) (u v : Unit) → to ≢ from → get c.units from ≡ Some u → get c.units to ≡ Some v
+    → d ≡ with_held c from (with_held_of gift u.holding left) (Some u)
+    → ((x : Unit) → get d.units to ≡ Some x → e ≡ with_held d to (with_held_of gift x.holding more) (Some x))
+    → left ≡ held_of gift u.holding - n → more ≡ held_of gift v.holding + n
+    → e ≡ given c from to gift n (Some u) (Some v)
+given_is c d e from to gift n left more u v apart giver receiver first second left_is more_is =
+    let other : (to == from) ≡ false = grind (arith, nat_tests) in
+    let still : get d.units to ≡ Some v = ap (λ (s : State). get s.units to) first ∙ receiver_still c from to u v (with_held_of gift u.holding left) v.holding giver receiver apart in
+    rw (second v still, first, left_is, more_is, other) refl
+
+-- ---- what both hold
+
+-- an item of the world
+abbrev pub IsKnown : Planet → Gift → Type 0
+IsKnown w Money = ⊤
+IsKnown w (Item i) = i < length w.items
+
+pub may_have_of : (w : Planet) (h : Held) (gift : Gift) (amount : ℕ) → IsKnown w gift → amount ≤ holding_limit → MayHave w h → MayHave w (with_held_of gift h amount)
+may_have_of w h Money amount known most may = record {
+  limits = record { men = may.limits.men; money = most; items = may.limits.items };
+  name = may.name;
+  items = may.items;
+  skills = may.skills;
+  days = may.days;
+}
+may_have_of w h (Item i) amount known most may = record {
+  limits = record { men = may.limits.men; money = may.limits.money; items = every_amount (λ j a. (1 ≤ a) × (a ≤ holding_limit)) h.items i amount (λ some. (some, most)) may.limits.items };
+  name = may.name;
+  items = every_amount (λ j a. j < length w.items) h.items i amount (λ some. known) may.items;
+  skills = may.skills;
+  days = may.days;
+}
+
+same_flag : (gift : Gift) (h : Held) (amount : ℕ) → (with_held_of gift h amount).guard ≡ true → h.guard ≡ true
+same_flag Money h amount g = g
+same_flag (Item i) h amount g = g
+
+-- what one has less the other has more
+pub both_hold : (gift : Gift) (n : ℕ) (h k : Held) → n ≤ held_of gift h → (t : Thing) → held t (with_held_of gift h (held_of gift h - n)) + held t (with_held_of gift k (held_of gift k + n)) ≡ held t h + held t k
+both_hold Money n h k l things.Money = omega (arith, l)
+both_hold Money n h k l things.People = refl
+both_hold Money n h k l (things.Item j) = refl
+both_hold (Item i) n h k l things.Money = refl
+both_hold (Item i) n h k l things.People = refl
+both_hold (Item i) n h k l (things.Item j) =
+    let a = amount_of h.items i in
+    let b = amount_of k.items i in
+    let less = set_amount h.items i (a - n) j in
+    let more = set_amount k.items i (b + n) j in
+    ap (λ x. x + amount_of (with_amount_of k.items i (b + n)) j) less ∙ ap (λ x. cond (eq_by_cmp nat_cmp j i) (a - n) (amount_of h.items j) + x) more ∙ by_test (eq_by_cmp nat_cmp j i) refl
+  where
+    sum : (a b n : ℕ) → n ≤ a → (a - n) + (b + n) ≡ a + b
+    sum a b n l = omega arith
+
+    by_test : (q : Bool) → eq_by_cmp nat_cmp j i ≡ q → cond q (amount_of h.items i - n) (amount_of h.items j) + cond q (amount_of k.items i + n) (amount_of k.items j) ≡ amount_of h.items j + amount_of k.items j
+    by_test true is = sum (amount_of h.items i) (amount_of k.items i) n l ∙ ap (λ x. amount_of h.items x + amount_of k.items x) (sym (alike i j is))
+    by_test false is = refl
+
+pub better_off : (gift : Gift) (n : ℕ) (v : Unit) → IsNoWorse v (record v { holding = with_held_of gift v.holding (held_of gift v.holding + n) })
+better_off Money n v = record { faction = refl; region = refl; structure = refl; name = refl; guard = refl; men = omega arith; money = omega arith; items = λ i. omega arith; days = λ s. omega arith }
+better_off (Item i) n v = record { faction = refl; region = refl; structure = refl; name = refl; guard = refl; men = omega arith; money = omega arith; items = λ j. more j; days = λ s. omega arith }
+  where
+    here : (x y n : ℕ) → x ≡ y → x ≤ y + n
+    here x y n is = omega arith
+
+    by_test : (j : ℕ) (q : Bool) → eq_by_cmp nat_cmp j i ≡ q → amount_of v.holding.items j ≤ cond q (amount_of v.holding.items i + n) (amount_of v.holding.items j)
+    by_test j true is = here (amount_of v.holding.items j) (amount_of v.holding.items i) n (ap (amount_of v.holding.items) (alike i j is))
+    by_test j false is = omega arith
+
+    more : (j : ℕ) → amount_of v.holding.items j ≤ amount_of (with_amount_of v.holding.items i (amount_of v.holding.items i + n)) j
+    more j = subst (λ x. amount_of v.holding.items j ≤ x) (sym (set_amount v.holding.items i (amount_of v.holding.items i + n) j)) (by_test j (eq_by_cmp nat_cmp j i) refl)
+
+-- ---- one order
+
+-- the campaign behind what goes from one to another, or to itself
+abbrev behind : State → (from to : ℕ) → Gift → (n : ℕ) → Unit → Unit → (itself : Bool) → State
+behind c from to gift n u v itself =
+    if itself then c
+    else with_held (with_held c from (with_held_of gift u.holding (held_of gift u.holding - n)) (Some u)) to (with_held_of gift v.holding (held_of gift v.holding + n)) (Some v)
+
+-- what is so of the campaign as it is, and of each in which a unit gave so much to another, is so of the campaign behind the order
+pub give_cases : (P : State → Type 0) (c : State) (from to : ℕ) (gift : Gift) (n : ℕ) → P c
+    → ((u v : Unit) (giver : get c.units from ≡ Some u) (receiver : get c.units to ≡ Some v) (apart : to ≢ from) → CanGive gift n false u v
+    → P (moved c from to u v (with_held_of gift u.holding (held_of gift u.holding - n)) (with_held_of gift v.holding (held_of gift v.holding + n)) giver receiver apart))
+    → P (give c from to gift n).0
+unfolding give
+give_cases P c from to gift n same move = by_giver (get c.units from) refl
+  where
+    by_test : (u v : Unit) → get c.units from ≡ Some u → get c.units to ≡ Some v → (b : Bool) → (to == from) ≡ b → CanGive gift n b u v → P (behind c from to gift n u v b)
+    by_test u v giver receiver true is can = same
+    by_test u v giver receiver false is can = let apart : to ≢ from = grind (arith, nat_tests) in move u v giver receiver apart can
+
+    by_fault : (u v : Unit) → get c.units from ≡ Some u → get c.units to ≡ Some v → (f : Option EventFault) → give_fault gift n (to == from) u (Some v) ≡ f → P (unless c f (behind c from to gift n u v (to == from), Done n)).0
+    by_fault u v giver receiver (Some fault) is = same
+    by_fault u v giver receiver None is = by_test u v giver receiver (to == from) refl (can_give gift n (to == from) u v is)
+
+    by_receiver : (u : Unit) → get c.units from ≡ Some u → (o : Option Unit) → get c.units to ≡ o → P (give_to c from to gift n u o).0
+    by_receiver u giver None is = same
+    by_receiver u giver (Some v) receiver = by_fault u v giver receiver (give_fault gift n (to == from) u (Some v)) refl
+
+    by_giver : (o : Option Unit) → get c.units from ≡ o → P (give_from c from to gift n o).0
+    by_giver None is = same
+    by_giver (Some u) giver = by_receiver u giver (get c.units to) refl
+
+module _ (w : Planet) (c : State) (early : IsEarly w c) (from to : ℕ) (gift : Gift) (n : ℕ) where
+  pub give_steps_well : IsKnown w gift → StepsWell IsEarly (λ d e t. 0) w c (give c from to gift n).0
+  give_steps_well known =
+      give_cases (λ d. StepsWell IsEarly (λ d e t. 0) w c d) c from to gift n (well_same w c early)
+      (λ u v giver receiver apart can.
+      let less = with_held_of gift u.holding (held_of gift u.holding - n) in
+      let more = with_held_of gift v.holding (held_of gift v.holding + n) in
+      let least = held_within gift u.holding (early.steady.numbers.units from u giver).1 in
+      steps-moved c from to u v less more giver receiver apart w
+      (early-moved c from to u v less more giver receiver apart w
+      (may_have_of w u.holding gift (held_of gift u.holding - n) known (omega (arith, least)) (may_have w c from u giver early.steady)) (same_flag gift u.holding (held_of gift u.holding - n))
+      (may_have_of w v.holding gift (held_of gift v.holding + n) known (can.room refl) (may_have w c to v receiver early.steady)) (same_flag gift v.holding (held_of gift v.holding + n)) early)
+      (both_hold gift n u.holding v.holding can.enough))
+
+  pub give_spares : (k : ℕ) (x : Unit) → get c.units k ≡ Some x → k ≢ from → IsSpared IsNoWorse (give c from to gift n).0 k x
+  give_spares k x there other =
+      give_cases (λ d. IsSpared IsNoWorse d k x) c from to gift n (record { unit = x; there = there; spared = no_worse x })
+      (λ u v giver receiver apart can.
+      spared-moved c from to u v (with_held_of gift u.holding (held_of gift u.holding - n)) (with_held_of gift v.holding (held_of gift v.holding + n)) giver receiver apart (better_off gift n v) k x there other)
+
+-- ---- the phase
+
+pub give_orderly : IsOrderly give_step IsEarly (λ c e t. 0) (λ e t. 0) IsOwnOrder IsNoWorse
+give_orderly = record {
+  well = λ w a c t early fit own. well w a c t early t.said fit;
+  sparing = no_worse_spares;
+  spared = λ w a c t early own n u there other. spared w a c t early n u there (apart_own c t n u own there other) t.said;
+  bounded = λ w c early e t. omega arith;
+}
+  where
+    well : (w : Planet) (a : Aliases) (c : State) (t : Task) → IsEarly w c → (s : Said) → IsOrderOf w s → StepsWell IsEarly (λ d e t. 0) w c (give_said a c t s).0
+    well w a c t early (orders.Give to n item) (ref, number, known) = give_steps_well w c early t.unit (unit_of a t.faction to) (Item item) n known
+    well w a c t early (orders.Pay to n) fit = give_steps_well w c early t.unit (unit_of a t.faction to) Money n tt
+    well w a c t early other fit = well_same w c early
+
+    spared : (w : Planet) (a : Aliases) (c : State) (t : Task) → IsEarly w c → (n : ℕ) (u : Unit) → get c.units n ≡ Some u → n ≢ t.unit → (s : Said) → IsSpared IsNoWorse (give_said a c t s).0 n u
+    spared w a c t early n u there apart (orders.Give to k item) = give_spares w c early t.unit (unit_of a t.faction to) (Item item) k n u there apart
+    spared w a c t early n u there apart (orders.Pay to k) = give_spares w c early t.unit (unit_of a t.faction to) Money k n u there apart
+    spared w a c t early n u there apart other = record { unit = u; there = there; spared = no_worse u }

@@ -1,0 +1,159 @@
+-- A unit that begins to guard, in a region that no other faction guards.
+use Rattle.std.proofs.Common.{◌≡◌, ◌≢◌, ◌==◌, ℕ, ◌+◌, Bool, true, false, not, ◌&&◌, ◌||◌, List, [], ◌∷◌, Option, Some, None, refl, sym, ap, subst, ◌∙◌, inl, inr, arith}
+use Rattle.std.specs.Prelude.{pos}
+use Rattle.std.specs.List.{list_any}
+use Rattle.std.proofs.lemmas.Bool.Decides.{nat_tests}
+use Rattle.std.specs.FinMap.{get, insert}
+use Rattle.atl_tables.specs.Planet.{Planet}
+use Rattle.atl_orders.specs.declared.order.Order.TheVariants as orders
+use Rattle.atl_orders.specs.Orders.{Said}
+use Rattle.atl_state.specs.Books.{amount_in}
+use Rattle.atl_state.specs.Covers.{MarksChanges}
+use Rattle.atl_state.specs.declared.books.Thing.{Thing}
+use Rattle.atl_state.specs.declared.books.Thing.TheVariants.{Item, Money, People}
+use Rattle.atl_state.specs.declared.event.EventFault.{EventFault}
+use Rattle.atl_state.specs.declared.event.EventFault.TheVariants.{Guarded, NoMen}
+use Rattle.atl_state.specs.declared.event.Outcome.TheVariants.{Done}
+use Rattle.atl_state.specs.declared.records.Unit.{Unit}
+use Rattle.atl_state.specs.Good.{AreOfOneFaction, Every, IsSteady, guards}
+use Rattle.atl_state.specs.Marking.{mark_unit_row}
+use Rattle.atl_state.specs.State.{Marked, State, numbers_in, with_guard}
+use Rattle.atl_state.specs.Totals.{held, total}
+use Rattle.atl_state.proofs.EveryLaws.{every-insert, get-insert_other}
+use Rattle.atl_state.proofs.HoldingLaws.{marks-unit_row, total-held}
+use Rattle.atl_state.proofs.RegionLaws.{changed-known}
+use Rattle.atl_state.proofs.RemovedLaws.{IsListed, passing_listed}
+use Rattle.atl_instant.specs.Guard.{guard, guard_by, guard_concerns, guard_fault, guard_said, guard_step, guards_against, is_guarded_against, sets_flag}
+use Rattle.atl_instant.specs.Outcomes.{unless}
+use Rattle.atl_instant.specs.Staying.{IsNoWorse}
+use Rattle.atl_instant.specs.PhaseOrders.{Task}
+use Rattle.atl_instant.specs.Steps.{IsOrderly, IsSpared, StepsWell}
+use Rattle.atl_instant.proofs.HavingLaws.{may_have, steady-having}
+use Rattle.atl_instant.proofs.OutcomeLaws.{apart_own, none_fits, not_apart}
+use Rattle.atl_instant.proofs.StayingLaws.{no_worse}
+use Rattle.atl_instant.proofs.StepLaws.{drawn_same, no_worse_spares, well_same}
+
+-- ---- who else guards
+
+none_of : (p : ℕ → Bool) (ns : List ℕ) → list_any p ns ≡ false → (k : ℕ) → IsListed k ns → p k ≡ false
+none_of p [] is k listed = absurd listed
+none_of p (n ∷ ns) is k listed = by_test (p n) refl is (λ e h. none_of p ns e k h) listed
+  where
+    by_test : (b : Bool) → p n ≡ b → (b || list_any p ns) ≡ false → (list_any p ns ≡ false → IsListed k ns → p k ≡ false) → IsListed k (n ∷ ns) → p k ≡ false
+    by_test true t e rest h = cc
+    by_test false t e rest (inl same) = ap p same ∙ t
+    by_test false t e rest (inr h) = rest e h
+
+-- a guard of the region is of the faction
+pub own_guards : (c : State) (region faction : ℕ) → is_guarded_against c region faction ≡ false → Every (λ m v. guards v ≡ true → v.region ≡ region → v.faction ≡ faction) c.units
+own_guards c region faction none m v there guarding here =
+    let inside : (v.region == region) ≡ true = grind (arith, nat_tests) in
+    let listed = passing_listed (λ (x : Unit). x.region == region) c.units m v there inside in
+    let no : guards_against faction (get c.units m) ≡ false = none_of (λ n. guards_against faction (get c.units n)) (numbers_in region c.units) none m listed in
+    not_apart v.faction faction (second (guards v) (not (v.faction == faction)) guarding (sym (ap (guards_against faction) there) ∙ no))
+  where
+    second : (a b : Bool) → a ≡ true → (a && b) ≡ false → b ≡ false
+    second true b t e = e
+    second false b t e = cc
+
+-- ---- the campaign behind it
+
+module _ (w : Planet) (c : State) (n : ℕ) (u : Unit) (is : get c.units n ≡ Some u) where
+  abbrev guarding : Unit
+  guarding = record u { holding = record u.holding { guard = true } }
+
+  abbrev flagged : State
+  flagged = record c { units = insert c.units n guarding }
+
+  abbrev Agree : Unit → Unit → Type 0
+  Agree x y = guards x ≡ true → guards y ≡ true → x.region ≡ y.region → x.faction ≡ y.faction
+
+  guards_kept : is_guarded_against c u.region u.faction ≡ false → AreOfOneFaction guards c → AreOfOneFaction guards flagged
+  guards_kept none old =
+      let own = own_guards c u.region u.faction none in
+      every-insert (λ k x. Every (λ m y. Agree x y) flagged.units) c.units n guarding
+      (every-insert (λ m y. Agree guarding y) c.units n guarding (λ g k same. refl) (λ m y there g k same. sym (own m y there k (sym same))))
+      (λ k x here. every-insert (λ m y. Agree x y) c.units n guarding (λ g h same. own k x here g same) (old k x here))
+
+  pub steady-flagged : is_guarded_against c u.region u.faction ≡ false → IsSteady w c → IsSteady w flagged
+  steady-flagged none steady =
+      let may = may_have w c n u is steady in
+      let limits = may.limits in
+      steady-having w c n u guarding.holding is
+      (record { limits = record { men = limits.men; money = limits.money; items = limits.items }; name = may.name; items = may.items; skills = may.skills; days = may.days })
+      (guards_kept none steady.guarded) steady
+
+  held_same : (t : Thing) → held t (record u.holding { guard = true }) ≡ held t u.holding
+  held_same Money = refl
+  held_same People = refl
+  held_same (Item i) = refl
+
+  total_same : (t : Thing) → total flagged t ≡ total c t
+  total_same t = same (total flagged t) (total c t) (held t u.holding) (held t (record u.holding { guard = true })) (total-held w c n u (record u.holding { guard = true }) is t) (held_same t)
+    where
+      same : (a b x y : ℕ) → a + x ≡ b + y → y ≡ x → a ≡ b
+      same a b x y e f = omega arith
+
+  flagged_is : with_guard c n true ≡ flagged
+  flagged_is = ap (λ m. record c { units = m }) (changed-known (λ (x : Unit). record x { holding = record x.holding { guard = true } }) c.units n u is)
+
+  pub flag_steps_well : is_guarded_against c u.region u.faction ≡ false → IsSteady w c → StepsWell IsSteady (λ d e t. 0) w c (with_guard c n true)
+  flag_steps_well none steady =
+      subst (λ d. StepsWell IsSteady (λ d e t. 0) w c d) (sym flagged_is) (record {
+        holds_still = steady-flagged none steady;
+        same_month = record { month = refl; reports = refl; count = refl; factions = λ k there. there };
+        balances = λ old t. ap pos (total_same t) ∙ old t;
+        drawn = λ e t. drawn_same 0 (amount_in c.books e t);
+      })
+
+  pub flag_spares : (k : ℕ) (x : Unit) → get c.units k ≡ Some x → k ≢ n → IsSpared IsNoWorse (with_guard c n true) k x
+  flag_spares k x there apart =
+      subst (λ d. IsSpared IsNoWorse d k x) (sym flagged_is) (record { unit = x; there = get-insert_other c.units n k guarding apart ∙ there; spared = no_worse x })
+
+pub flag_marks : (c d : Marked) (n : ℕ) → d.what ≡ with_guard c.what n true → d.marks ≡ mark_unit_row c n → MarksChanges c d
+flag_marks c d n what marks =
+    let all = marks-unit_row (λ u. record u { holding = record u.holding { guard = true } }) (λ u. refl) c n in
+    rw (what, marks) (record { stay = all.stay; covers = all.covers })
+
+-- ---- one order
+
+-- what is so of the campaign as it is, and of that in which the unit guards, is so of the campaign behind the order
+guard_cases : (P : State → Type 0) (c : State) (n : ℕ) → P c → ((u : Unit) → get c.units n ≡ Some u → is_guarded_against c u.region u.faction ≡ false → P (with_guard c n true)) → P (guard c n).0
+unfolding guard
+guard_cases P c n same flag = by_unit (get c.units n) refl
+  where
+    by_fault : (u : Unit) → get c.units n ≡ Some u → (f : Option EventFault) → guard_fault c u ≡ f → P (unless c f (with_guard c n true, Done 0)).0
+    by_fault u is (Some fault) e = same
+    by_fault u is None e =
+        let one = none_fits (u.holding.men == 0) NoMen ((is_guarded_against c u.region u.faction, Guarded) ∷ []) e in
+        let two = none_fits (is_guarded_against c u.region u.faction) Guarded [] one.1 in
+        flag u is two.0
+
+    by_unit : (o : Option Unit) → get c.units n ≡ o → P (guard_by c n o).0
+    by_unit None is = same
+    by_unit (Some u) is = by_fault u is (guard_fault c u) refl
+
+pub guard_steps_well : (w : Planet) (c : State) (n : ℕ) → IsSteady w c → StepsWell IsSteady (λ d e t. 0) w c (guard c n).0
+guard_steps_well w c n steady = guard_cases (λ d. StepsWell IsSteady (λ d e t. 0) w c d) c n (well_same w c steady) (λ u is none. flag_steps_well w c n u is none steady)
+
+pub guard_spares : Planet → (c : State) (n k : ℕ) (x : Unit) → get c.units k ≡ Some x → k ≢ n → IsSpared IsNoWorse (guard c n).0 k x
+guard_spares w c n k x there apart =
+    guard_cases (λ d. IsSpared IsNoWorse d k x) c n (record { unit = x; there = there; spared = no_worse x }) (λ u is none. flag_spares w c n u is k x there apart)
+
+-- ---- the phase
+
+pub guard_orderly : IsOrderly guard_step IsSteady (λ c e t. 0) (λ e t. 0) guard_concerns IsNoWorse
+guard_orderly = record {
+  well = λ w a c t steady fit own. well w c t steady t.said;
+  sparing = no_worse_spares;
+  spared = λ w a c t steady own n u there other. spared w c t n u there t.said (λ sets. apart_own c t n u own there (λ h. other (h, sets)));
+  bounded = λ w c steady e t. omega arith;
+}
+  where
+    well : (w : Planet) (c : State) (t : Task) → IsSteady w c → (s : Said) → StepsWell IsSteady (λ d e t. 0) w c (guard_said c t s).0
+    well w c t steady (orders.Guard true) = guard_steps_well w c t.unit steady
+    well w c t steady other = well_same w c steady
+
+    spared : (w : Planet) (c : State) (t : Task) (n : ℕ) (u : Unit) → get c.units n ≡ Some u → (s : Said) → (sets_flag s ≡ true → n ≢ t.unit) → IsSpared IsNoWorse (guard_said c t s).0 n u
+    spared w c t n u there (orders.Guard true) apart = guard_spares w c t.unit n u there (apart refl)
+    spared w c t n u there other apart = record { unit = u; there = there; spared = no_worse u }

@@ -1,0 +1,279 @@
+-- TRANSFER leaves a campaign well.
+use Rattle.std.proofs.Common.{◌≡◌, ◌≢◌, ◌==◌, ℕ, ◌+◌, ◌-◌, ◌*◌, ◌/◌, ◌≤◌, ◌<◌, Bool, true, false, cond, not, ◌&&◌, List, [], ◌∷◌, map, length, Option, Some, None, refl, sym, ap, subst, ◌∙◌, inl, inr, arith}
+use Rattle.std.specs.Prelude.{fold, nat_lt, unwrap_or, if◌then◌else◌}
+use Rattle.std.proofs.lemmas.Bool.Decides.{nat_tests}
+use Rattle.std.proofs.lemmas.Bool.{cases_lt}
+use Rattle.std.proofs.Math.Nat.{div-le_of_le-mul, le-div_iff_mul-le, mul-le-mul_right}
+use Rattle.std.specs.Ordering.{nat_cmp, eq_by_cmp}
+use Rattle.std.specs.FinMap.{FinMap, empty, entries, get}
+use Rattle.atl_tables.specs.Planet.{Planet}
+use Rattle.atl_orders.specs.declared.order.Order.TheVariants as orders
+use Rattle.atl_orders.specs.Orders.{Said}
+use Rattle.atl_state.specs.declared.books.Thing.{Thing}
+use Rattle.atl_state.specs.declared.books.Thing.TheVariants as things
+use Rattle.atl_state.specs.declared.event.EventFault.{EventFault}
+use Rattle.atl_state.specs.declared.event.EventFault.TheVariants.{NoRoom, NotEnough, NotHere, NotYours}
+use Rattle.atl_state.specs.declared.event.Outcome.TheVariants.{Done}
+use Rattle.atl_state.specs.declared.records.Unit.{Unit}
+use Rattle.atl_state.specs.Deciding.{EachOf}
+use Rattle.atl_state.specs.Good.{Every, IsEarly}
+use Rattle.atl_state.specs.Held.{Held, amount_of, with_amount_of}
+use Rattle.atl_state.specs.Lending.{with_held}
+use Rattle.atl_state.specs.Limits.{men_limit, most_days}
+use Rattle.atl_state.specs.State.{State}
+use Rattle.atl_state.specs.Totals.{held}
+use Rattle.atl_state.proofs.EveryLaws.{each-from_every, every-empty}
+use Rattle.atl_instant.specs.Course.{Aliases}
+use Rattle.atl_instant.specs.Outcomes.{unless}
+use Rattle.atl_instant.specs.Staying.{IsNoWorse}
+use Rattle.atl_instant.specs.PhaseOrders.{Task, unit_of}
+use Rattle.atl_instant.specs.Steps.{IsOrderly, IsOwnOrder, IsSpared, StepsWell}
+use Rattle.atl_instant.specs.Transfer.{days_going, sent, transfer, transfer_fault, transfer_from, transfer_said, transfer_step, transfer_to, with_days, with_fewer, with_more}
+use Rattle.atl_instant.proofs.AmountsLaws.{alike, every_amount, set_amount}
+use Rattle.atl_instant.proofs.HavingLaws.{MayHave, may_have}
+use Rattle.atl_instant.proofs.MovingLaws.{early-moved, moved, receiver_still, spared-moved, steps-moved}
+use Rattle.atl_instant.proofs.OutcomeLaws.{apart_own, none_fits, not_apart, not_less, unless_itself}
+use Rattle.atl_instant.proofs.StayingLaws.{no_worse}
+use Rattle.atl_instant.proofs.StepLaws.{no_worse_spares, well_same}
+
+-- what is so of two units where no fault fits
+pub record CanSend (n : ℕ) (itself : Bool) (u v : Unit) : Type 0 where
+  pub here : v.region ≡ u.region
+  pub own : v.faction ≡ u.faction
+  pub enough : n ≤ u.holding.men
+  pub room : itself ≡ false → v.holding.men + n ≤ men_limit
+
+pub can_send : (n : ℕ) (itself : Bool) (u v : Unit) → transfer_fault n itself u (Some v) ≡ None → CanSend n itself u v
+can_send n itself u v is =
+    let other = not (v.faction == u.faction) in
+    let little = nat_lt u.holding.men n in
+    let full = nat_lt men_limit (v.holding.men + n) in
+    let one = none_fits (not (v.region == u.region)) NotHere ((other, NotYours) ∷ (little, NotEnough) ∷ (not itself && full, NoRoom) ∷ []) is in
+    let two = none_fits other NotYours ((little, NotEnough) ∷ (not itself && full, NoRoom) ∷ []) one.1 in
+    let three = none_fits little NotEnough ((not itself && full, NoRoom) ∷ []) two.1 in
+    let four = none_fits (not itself && full) NoRoom [] three.1 in
+    record {
+      here = not_apart v.region u.region one.0;
+      own = not_apart v.faction u.faction two.0;
+      enough = not_less u.holding.men n three.0;
+      room = λ apart. not_less men_limit (v.holding.men + n) (unless_itself itself full four.0 apart);
+    }
+
+-- two units, one after the other
+pub sent_is : (c d e : State) (from to n : ℕ) (u v : Unit) (h k : Held) → to ≢ from → get c.units from ≡ Some u → get c.units to ≡ Some v
+    → h ≡ with_fewer n u.holding → k ≡ with_more n u.holding v.holding
+    → d ≡ with_held c from h (Some u) → (get d.units to ≡ Some v → e ≡ with_held d to k (Some v))
+    → e ≡ sent c from to n (Some u) (Some v)
+sent_is c d e from to n u v h k apart sender receiver h_is k_is first second =
+    let other : (to == from) ≡ false = grind (arith, nat_tests) in
+    let still : get d.units to ≡ Some v = ap (λ (s : State). get s.units to) first ∙ receiver_still c from to u v h k sender receiver apart in
+    rw (second still, first, h_is, k_is, other) refl
+
+-- ---- days
+
+abbrev IsStudied : Planet → (men skill days : ℕ) → Type 0
+IsStudied w men skill days = (skill < length w.skills) × (1 ≤ days) × (days ≤ most_days * men)
+
+-- at most so many days of a skill
+pub days_within : (all : FinMap nat_cmp ℕ) (most skill : ℕ) → Every (λ s days. (1 ≤ days) × (days ≤ most)) all → amount_of all skill ≤ most
+days_within all most skill each = by_option (get all skill) refl
+  where
+    by_option : (o : Option ℕ) → get all skill ≡ o → unwrap_or o 0 ≤ most
+    by_option None e = omega arith
+    by_option (Some days) e = (each skill days e).1
+
+-- the part that goes is at most what so many men may have
+pub going_most : (n men days : ℕ) → days ≤ most_days * men → days_going n men days ≤ most_days * n
+going_most n men days most = div-le_of_le-mul men (subst (λ x. days * n ≤ x) (turned most_days men n) (mul-le-mul_right n most))
+  where
+    turned : (k m l : ℕ) → (k * m) * l ≡ m * (k * l)
+    turned k m l = grind arith
+
+-- and so is the rest for those who stay
+rest_within : (k s n d : ℕ) → 0 < s + n → d ≤ k * (s + n) → d - d * n / (s + n) ≤ k * s
+rest_within k s n d some most = elim (cases_lt (k * s) d) [
+  | inl more ↦
+      let y = d - k * s in
+      let whole : k * (s + n) ≡ k * s + k * n = spread k s n in
+      let is : d ≡ k * s + y = omega arith in
+      let few : y ≤ k * n = omega arith in
+      let times : y * (s + n) ≤ d * n = subst (λ x. y * (s + n) ≤ x * n) (sym is) (scaled y few) in
+      let least : y ≤ d * n / (s + n) = (le-div_iff_mul-le some).1 times in
+      omega (arith, least)
+  | inr within ↦ let few : d ≤ k * s = within in omega (arith, few)
+]
+  where
+    spread : (k s n : ℕ) → k * (s + n) ≡ k * s + k * n
+    spread k s n = grind arith
+
+    turned : (k s n y : ℕ) → (k * s + y) * n ≡ (k * n) * s + y * n
+    turned k s n y = grind arith
+
+    sum : (a b c : ℕ) → a ≤ b → a + c ≤ b + c
+    sum a b c l = omega arith
+
+    scaled : (y : ℕ) → y ≤ k * n → y * (s + n) ≤ (k * s + y) * n
+    scaled y few = rw (turned k s n y, spread y s n) (sum (y * s) ((k * n) * s) (y * n) (mul-le-mul_right s few))
+
+pub rest_most : (n men days : ℕ) → n ≤ men → 1 ≤ days → days ≤ most_days * men → days - days_going n men days ≤ most_days * (men - n)
+rest_most n men days fewer some most =
+    let whole : (men - n) + n ≡ men = omega arith in
+    let men_there : 0 < men = some_men men days some most in
+    subst (λ m. days - days * n / m ≤ most_days * (men - n)) whole (rest_within most_days (men - n) n days (omega arith) (subst (λ m. days ≤ most_days * m) (sym whole) most))
+  where
+    some_men : (men days : ℕ) → 1 ≤ days → days ≤ most_days * men → 0 < men
+    some_men men days some most = omega arith
+
+-- each skill of those who stay
+left_each : (w : Planet) (n men : ℕ) → n ≤ men → (es : List (ℕ × ℕ)) (left : FinMap nat_cmp ℕ) → Every (IsStudied w (men - n)) left → EachOf (IsStudied w men) es
+    → Every (IsStudied w (men - n)) (fold (λ (m : FinMap nat_cmp ℕ) (e : ℕ × ℕ). with_amount_of m e.0 (e.1 - days_going n men e.1)) left es)
+left_each w n men fewer [] left old each = old
+left_each w n men fewer ((skill, days) ∷ es) left old ((known, some, most), each) =
+    left_each w n men fewer es (with_amount_of left skill (days - days_going n men days))
+    (every_amount (IsStudied w (men - n)) left skill (days - days_going n men days) (λ left_some. (known, left_some, rest_most n men days fewer some most)) old) each
+
+-- and of those to whom others come
+raised_each : (w : Planet) (n men more : ℕ) (had : FinMap nat_cmp ℕ) → Every (λ s days. (1 ≤ days) × (days ≤ most_days * more)) had → (es : List (ℕ × ℕ)) (all : FinMap nat_cmp ℕ) → Every (IsStudied w (more + n)) all → EachOf (IsStudied w men) es
+    → Every (IsStudied w (more + n)) (with_days all (map (λ e. (e.0, amount_of had e.0 + days_going n men e.1)) es))
+raised_each w n men more had each_had [] all old each = old
+raised_each w n men more had each_had ((skill, days) ∷ es) all old ((known, some, most), each) =
+    let sum : amount_of had skill + days_going n men days ≤ most_days * (more + n) = both most_days more n (amount_of had skill) (days_going n men days) (days_within had (most_days * more) skill each_had) (going_most n men days most) in
+    raised_each w n men more had each_had es (with_amount_of all skill (amount_of had skill + days_going n men days))
+    (every_amount (IsStudied w (more + n)) all skill (amount_of had skill + days_going n men days) (λ raised_some. (known, raised_some, sum)) old) each
+  where
+    both : (k m n a b : ℕ) → a ≤ k * m → b ≤ k * n → a + b ≤ k * (m + n)
+    both k m n a b f g = rw (spread k m n) (omega (arith, f, g))
+      where
+        spread : (k s n : ℕ) → k * (s + n) ≡ k * s + k * n
+        spread k s n = grind arith
+
+-- ---- what both may hold
+
+studied : (w : Planet) (h : Held) → MayHave w h → Every (IsStudied w h.men) h.days
+studied w h may s days there = let range = may.days s days there in (may.skills s days there, range.0, range.1)
+
+pub may_have_fewer : (w : Planet) (n : ℕ) (h : Held) → n ≤ h.men → MayHave w h → MayHave w (with_fewer n h)
+may_have_fewer w n h fewer may =
+    let days = left_each w n h.men fewer (entries h.days) empty (every-empty (IsStudied w (h.men - n))) (each-from_every (IsStudied w h.men) h.days (studied w h may)) in
+    record {
+      limits = record { men = omega (arith, may.limits.men); money = may.limits.money; items = may.limits.items };
+      name = may.name;
+      items = may.items;
+      skills = λ s d there. (days s d there).0;
+      days = λ s d there. let (known, some, most) = days s d there in (some, most);
+    }
+
+pub may_have_more : (w : Planet) (n : ℕ) (other h : Held) → h.men + n ≤ men_limit → MayHave w other → MayHave w h → MayHave w (with_more n other h)
+may_have_more w n other h room from may =
+    let old : Every (IsStudied w (h.men + n)) h.days = (λ s d there. let (known, some, most) = studied w h may s d there in (known, some, wider d h.men n most)) in
+    let days = raised_each w n other.men h.men h.days may.days (entries other.days) h.days old (each-from_every (IsStudied w other.men) other.days (studied w other from)) in
+    record {
+      limits = record { men = room; money = may.limits.money; items = may.limits.items };
+      name = may.name;
+      items = may.items;
+      skills = λ s d there. (days s d there).0;
+      days = λ s d there. let (known, some, most) = days s d there in (some, most);
+    }
+  where
+    wider : (d m n : ℕ) → d ≤ most_days * m → d ≤ most_days * (m + n)
+    wider d m n l = omega arith
+
+pub both_hold : (n : ℕ) (h k : Held) → n ≤ h.men → (t : Thing) → held t (with_fewer n h) + held t (with_more n h k) ≡ held t h + held t k
+both_hold n h k l things.Money = refl
+both_hold n h k l things.People = omega (arith, l)
+both_hold n h k l (things.Item i) = refl
+
+-- ---- no worse off
+
+raised_more : (n men : ℕ) (had : FinMap nat_cmp ℕ) (j : ℕ) (es : List (ℕ × ℕ)) (all : FinMap nat_cmp ℕ) → amount_of had j ≤ amount_of all j
+    → amount_of had j ≤ amount_of (with_days all (map (λ e. (e.0, amount_of had e.0 + days_going n men e.1)) es)) j
+raised_more n men had j [] all more = more
+raised_more n men had j (e ∷ es) all more =
+    raised_more n men had j es (with_amount_of all e.0 (amount_of had e.0 + days_going n men e.1))
+    (subst (λ x. amount_of had j ≤ x) (sym (set_amount all e.0 (amount_of had e.0 + days_going n men e.1) j)) (by_test (eq_by_cmp nat_cmp j e.0) refl))
+  where
+    here : (x y n : ℕ) → x ≡ y → x ≤ y + n
+    here x y n is = omega arith
+
+    by_test : (q : Bool) → eq_by_cmp nat_cmp j e.0 ≡ q → amount_of had j ≤ cond q (amount_of had e.0 + days_going n men e.1) (amount_of all j)
+    by_test true is = here (amount_of had j) (amount_of had e.0) (days_going n men e.1) (ap (amount_of had) (alike e.0 j is))
+    by_test false is = more
+
+pub better_off : (n : ℕ) (other : Held) (v : Unit) → IsNoWorse v (record v { holding = with_more n other v.holding })
+better_off n other v = record {
+  faction = refl;
+  region = refl;
+  structure = refl;
+  name = refl;
+  guard = refl;
+  men = omega arith;
+  money = omega arith;
+  items = λ i. omega arith;
+  days = λ s. raised_more n other.men v.holding.days s (entries other.days) v.holding.days (omega arith);
+}
+
+-- ---- one order
+
+-- the campaign behind men that went from one to another, or to itself
+abbrev behind : State → (from to n : ℕ) → Unit → Unit → (itself : Bool) → State
+behind c from to n u v itself = if itself then c else with_held (with_held c from (with_fewer n u.holding) (Some u)) to (with_more n u.holding v.holding) (Some v)
+
+-- what is so of the campaign as it is, and of each in which men went from one unit to another, is so of the campaign behind the order
+transfer_cases : (P : State → Type 0) (c : State) (from to n : ℕ) → P c
+    → ((u v : Unit) (sender : get c.units from ≡ Some u) (receiver : get c.units to ≡ Some v) (apart : to ≢ from) → CanSend n false u v
+    → P (moved c from to u v (with_fewer n u.holding) (with_more n u.holding v.holding) sender receiver apart))
+    → P (transfer c from to n).0
+unfolding transfer
+transfer_cases P c from to n same move = by_sender (get c.units from) refl
+  where
+    by_test : (u v : Unit) → get c.units from ≡ Some u → get c.units to ≡ Some v → (b : Bool) → (to == from) ≡ b → CanSend n b u v → P (behind c from to n u v b)
+    by_test u v sender receiver true is can = same
+    by_test u v sender receiver false is can = let apart : to ≢ from = grind (arith, nat_tests) in move u v sender receiver apart can
+
+    by_fault : (u v : Unit) → get c.units from ≡ Some u → get c.units to ≡ Some v → (f : Option EventFault) → transfer_fault n (to == from) u (Some v) ≡ f → P (unless c f (behind c from to n u v (to == from), Done n)).0
+    by_fault u v sender receiver (Some fault) is = same
+    by_fault u v sender receiver None is = by_test u v sender receiver (to == from) refl (can_send n (to == from) u v is)
+
+    by_receiver : (u : Unit) → get c.units from ≡ Some u → (o : Option Unit) → get c.units to ≡ o → P (transfer_to c from to n u o).0
+    by_receiver u sender None is = same
+    by_receiver u sender (Some v) receiver = by_fault u v sender receiver (transfer_fault n (to == from) u (Some v)) refl
+
+    by_sender : (o : Option Unit) → get c.units from ≡ o → P (transfer_from c from to n o).0
+    by_sender None is = same
+    by_sender (Some u) sender = by_receiver u sender (get c.units to) refl
+
+module _ (w : Planet) (c : State) (early : IsEarly w c) (from to n : ℕ) where
+  pub transfer_steps_well : StepsWell IsEarly (λ d e t. 0) w c (transfer c from to n).0
+  transfer_steps_well =
+      transfer_cases (λ d. StepsWell IsEarly (λ d e t. 0) w c d) c from to n (well_same w c early)
+      (λ u v sender receiver apart can.
+      let less = with_fewer n u.holding in
+      let more = with_more n u.holding v.holding in
+      let from_may = may_have w c from u sender early.steady in
+      steps-moved c from to u v less more sender receiver apart w
+      (early-moved c from to u v less more sender receiver apart w (may_have_fewer w n u.holding can.enough from_may) (λ g. g)
+      (may_have_more w n u.holding v.holding (can.room refl) from_may (may_have w c to v receiver early.steady)) (λ g. g) early)
+      (both_hold n u.holding v.holding can.enough))
+
+  pub transfer_spares : (k : ℕ) (x : Unit) → get c.units k ≡ Some x → k ≢ from → IsSpared IsNoWorse (transfer c from to n).0 k x
+  transfer_spares k x there other =
+      transfer_cases (λ d. IsSpared IsNoWorse d k x) c from to n (record { unit = x; there = there; spared = no_worse x })
+      (λ u v sender receiver apart can. spared-moved c from to u v (with_fewer n u.holding) (with_more n u.holding v.holding) sender receiver apart (better_off n u.holding v) k x there other)
+
+-- ---- the phase
+
+pub transfer_orderly : IsOrderly transfer_step IsEarly (λ c e t. 0) (λ e t. 0) IsOwnOrder IsNoWorse
+transfer_orderly = record {
+  well = λ w a c t early fit own. well w a c t early t.said;
+  sparing = no_worse_spares;
+  spared = λ w a c t early own n u there other. spared w a c t early n u there (apart_own c t n u own there other) t.said;
+  bounded = λ w c early e t. omega arith;
+}
+  where
+    well : (w : Planet) (a : Aliases) (c : State) (t : Task) → IsEarly w c → (s : Said) → StepsWell IsEarly (λ d e t. 0) w c (transfer_said a c t s).0
+    well w a c t early (orders.Transfer to n) = transfer_steps_well w c early t.unit (unit_of a t.faction to) n
+    well w a c t early other = well_same w c early
+
+    spared : (w : Planet) (a : Aliases) (c : State) (t : Task) → IsEarly w c → (n : ℕ) (u : Unit) → get c.units n ≡ Some u → n ≢ t.unit → (s : Said) → IsSpared IsNoWorse (transfer_said a c t s).0 n u
+    spared w a c t early n u there apart (orders.Transfer to k) = transfer_spares w c early t.unit (unit_of a t.faction to) k n u there apart
+    spared w a c t early n u there apart other = record { unit = u; there = there; spared = no_worse u }

@@ -1,0 +1,234 @@
+//! GIVE and PAY.
+ghost use Rattle.std.specs.Prelude.{◌≡◌, ◌≢◌, ◌≤◌, ◌+◌, IfOk, OnOk, Some, nat_lt, true};
+ghost use Rattle.std.specs.FinMap as map;
+ghost use Rattle.std.specs.Option.{option_copied};
+ghost use Rattle.atl_state.specs.Covers.{MarksChanges};
+ghost use Rattle.atl_state.specs.Good.{Every, IsEarly};
+ghost use Rattle.atl_state.specs.Held.{IsHolding, with_amount_of};
+ghost use Rattle.atl_state.specs.Lending.{lent, with_held};
+ghost use Rattle.atl_state.specs.declared.records.Unit.{Unit};
+ghost use Rattle.atl_state.specs.Limits.{holding_limit};
+ghost use Rattle.atl_instant.specs.Give.{give, give_fault, give_keeps, give_meaning, give_step, given, held_of, is_giving, with_held_of};
+ghost use Rattle.atl_instant.specs.Staying.{IsNoWorse};
+ghost use Rattle.atl_instant.specs.Steps.{IsOwnOrder};
+
+use crate::month::Month;
+use crate::orders::PhaseVerbs;
+use crate::outcome::failed;
+use crate::phase::Phase;
+use crate::steps::{OrderPhase, carry_out_orders};
+use crate::written::Written;
+use atl_orders::{Mailing, Order, Verb};
+use atl_state::{Campaign, EventFault, Holding, Outcome, Unit};
+use atl_tables::World;
+use atl_tables::limits::MOST_AMOUNT;
+use std::alloc::{AllocError, Global};
+
+/// Units give money and items to units of their region, each the whole amount or nothing. See docs/RULES.md, "Giving".
+#[derive(Drop, Clone, Copy)]
+pub struct GivePhase;
+
+/// What a unit gives: money, or an item by its number.
+#[derive(Drop, Clone, Copy, Debug)]
+pub(crate) enum Gift {
+    Money,
+    Item(u16),
+}
+
+/// How much of it is held.
+fn held_of(gift: Gift, holding: &Holding) -> u32
+    ensures { result ≡ held_of gift holding.now }
+{
+    match gift {
+        Gift::Money => holding.money(),
+        Gift::Item(item) => holding.amount(u32::from(item)),
+    }
+}
+
+/// Whether a unit that has so much can't hold so much more.
+fn is_too_much(have: u32, amount: u32) -> bool
+    ensures { result ≡ nat_lt holding_limit (have + amount) }
+{
+    u64::from(have) + u64::from(amount) > u64::from(MOST_AMOUNT)
+}
+
+/// Why so much can't go from a unit to another.
+fn give_fault(
+    gift: Gift,
+    amount: u32,
+    itself: bool,
+    giver: &Unit,
+    receiver: Option<&Unit>,
+) -> Option<EventFault>
+    ensures { result ≡ give_fault gift amount itself giver.now (option_copied receiver.entry) }
+{
+    let Some(receiver) = receiver else {
+        return Some(EventFault::NotHere);
+    };
+    if receiver.region != giver.region {
+        return Some(EventFault::NotHere);
+    }
+    if held_of(gift, &giver.holding) < amount {
+        return Some(EventFault::NotEnough);
+    }
+    if !itself && is_too_much(held_of(gift, &receiver.holding), amount) {
+        return Some(EventFault::NoRoom);
+    }
+    None
+}
+
+/// Sets how much of an item a unit holds that is there.
+fn set_item(campaign: &mut Campaign, number: u32, item: u32, amount: u32) -> Result<(), AllocError>
+    requires { amount ≤ holding_limit }
+    ensures { OnOk result ((u : Unit) → map.get campaign.old.what.units number ≡ Some u → campaign.new ≡ lent campaign.old number (record u.holding { items = with_amount_of u.holding.items item amount })) }
+{
+    match campaign.unit_mut(number) {
+        Some(holding) => holding.set_amount(item, amount),
+        None => Ok(()),
+    }
+}
+
+/// Sets how much of a gift a unit holds that is there.
+fn set_held(campaign: &mut Campaign, number: u32, gift: Gift, amount: u32) -> Result<(), AllocError>
+    requires { amount ≤ holding_limit }
+    ensures what { OnOk result ((u : Unit) → map.get campaign.old.what.units number ≡ Some u → campaign.new.what ≡ with_held campaign.old.what number (with_held_of gift u.holding amount) (Some u)) }
+    ensures marks { OnOk result ((u : Unit) → map.get campaign.old.what.units number ≡ Some u → MarksChanges campaign.old campaign.new) }
+{
+    match gift {
+        Gift::Money => {
+            campaign.set_money(number, amount);
+            Ok(())
+        }
+        Gift::Item(item) => {
+            set_item(campaign, number, u32::from(item), amount)?;
+            Ok(())
+        }
+    }
+}
+
+/// So much goes from one unit to another.
+fn hand_over(
+    campaign: &mut Campaign,
+    from: u32,
+    to: u32,
+    gift: Gift,
+    amount: u32,
+) -> Result<(), AllocError>
+    requires limits { Every (λ n u. IsHolding u.holding) campaign.old.what.units }
+    requires apart { to ≢ from }
+    requires enough { (u : Unit) → map.get campaign.old.what.units from ≡ Some u → amount ≤ held_of gift u.holding }
+    requires room { (v : Unit) → map.get campaign.old.what.units to ≡ Some v → held_of gift v.holding + amount ≤ holding_limit }
+    ensures what { OnOk result (campaign.new.what ≡ given campaign.old.what from to gift amount (map.get campaign.old.what.units from) (map.get campaign.old.what.units to)) }
+    ensures marks { OnOk result (MarksChanges campaign.old campaign.new) }
+{
+    let (Some(giver), Some(receiver)) = (campaign.unit(from), campaign.unit(to)) else {
+        return Ok(());
+    };
+    let left = held_of(gift, &giver.holding) - amount;
+    let more = held_of(gift, &receiver.holding) + amount;
+    set_held(campaign, from, gift, left)?;
+    set_held(campaign, to, gift, more)?;
+    Ok(())
+}
+
+/// Gives so much, or nothing where a fault fits.
+#[tactic(auto, unfolding(crate::specs::Give::give))]
+fn give(
+    campaign: &mut Campaign,
+    from: u32,
+    to: u32,
+    gift: Gift,
+    amount: u32,
+) -> Result<Outcome, AllocError>
+    requires limits { Every (λ n u. IsHolding u.holding) campaign.old.what.units }
+    ensures what { IfOk result (λ outcome. (campaign.new.what, outcome) ≡ give campaign.old.what from to gift amount) }
+    ensures marks { OnOk result (MarksChanges campaign.old campaign.new) }
+{
+    let Some(giver) = campaign.unit(from) else {
+        return Ok(failed(EventFault::NotYours));
+    };
+    let receiver = campaign.unit(to);
+    if let Some(fault) = give_fault(gift, amount, to == from, giver, receiver) {
+        return Ok(failed(fault));
+    }
+    if to != from {
+        hand_over(campaign, from, to, gift, amount)?;
+    }
+    Ok(Outcome::Done(u64::from(amount)))
+}
+
+impl PhaseVerbs for GivePhase {
+    ghost is_of = { is_giving };
+
+    fn has(&self, verb: Verb) -> bool {
+        matches!(verb, Verb::Give | Verb::Pay)
+    }
+}
+
+impl OrderPhase for GivePhase {
+    ghost step = { give_step };
+
+    ghost is_taken = { λ s. true };
+
+    ghost holds = { IsEarly };
+
+    ghost reserve = { λ c e t. 0 };
+
+    ghost moving = { λ e t. 0 };
+
+    ghost concerns = { IsOwnOrder };
+
+    ghost spares = { IsNoWorse };
+
+    fn takes(&self, _: &Order) -> bool {
+        true
+    }
+
+    fn carry_out(
+        &self,
+        _: Global,
+        _: &World,
+        campaign: &mut Campaign,
+        month: &Month,
+        order: Written,
+        _: &Mailing,
+        what: &Order,
+    ) -> Result<Outcome, AllocError> {
+        match what {
+            Order::Give { to, amount, item } => {
+                let receiver = month.unit(order.faction, *to);
+                give(campaign, order.unit, receiver, Gift::Item(*item), *amount)
+            }
+            Order::Pay { to, amount } => {
+                let receiver = month.unit(order.faction, *to);
+                give(campaign, order.unit, receiver, Gift::Money, *amount)
+            }
+            _ => Ok(Outcome::Done(0)),
+        }
+    }
+
+    fn is_orderly(&self) {}
+}
+
+impl Phase for GivePhase {
+    ghost meaning = { give_meaning };
+
+    ghost needs = { IsEarly };
+
+    ghost leaves = { IsEarly };
+
+    ghost moving = { λ e t. 0 };
+
+    ghost keeps = { give_keeps };
+
+    fn run(
+        &self,
+        alloc: Global,
+        world: &World,
+        mut campaign: Campaign,
+        mut month: Month,
+    ) -> Result<(Campaign, Month), AllocError> {
+        carry_out_orders(alloc, self, world, &mut campaign, &mut month)?;
+        Ok((campaign, month))
+    }
+}

@@ -1,0 +1,281 @@
+//! TRANSFER.
+ghost use Rattle.std.specs.Prelude.{◌≡◌, ◌≢◌, ◌≤◌, ◌+◌, ◌*◌, IfOk, OnOk, Some, nat_lt, true};
+ghost use Rattle.std.specs.FinMap as map;
+ghost use Rattle.std.specs.Option.{option_copied};
+ghost use Rattle.atl_state.specs.Covers.{MarksChanges};
+ghost use Rattle.atl_state.specs.Good.{AreDays, Every, IsEarly};
+ghost use Rattle.atl_state.specs.Held.{Held, with_amount_of};
+ghost use Rattle.atl_state.specs.Lending.{lent};
+ghost use Rattle.atl_state.specs.Limits.{men_limit, most_days};
+ghost use Rattle.atl_state.specs.declared.records.Unit.{Unit};
+ghost use Rattle.atl_instant.specs.Transfer.{days_going, days_left, days_raised, is_transferring, sent, transfer, transfer_fault, transfer_keeps, transfer_meaning, transfer_step, with_days};
+ghost use Rattle.atl_instant.specs.Staying.{IsNoWorse};
+ghost use Rattle.atl_instant.specs.Steps.{IsOwnOrder};
+
+use crate::month::Month;
+use crate::orders::PhaseVerbs;
+use crate::outcome::failed;
+use crate::phase::Phase;
+use crate::steps::{OrderPhase, carry_out_orders};
+use crate::written::Written;
+use atl_orders::{Mailing, Order, Verb};
+use atl_state::{Campaign, EventFault, Holding, Outcome, Unit};
+use atl_tables::{Numbered, World};
+use std::alloc::{AllocError, Global};
+
+/// Men go to units of their faction in their region, with their part of the days of study. See docs/RULES.md, "Transferring".
+#[derive(Drop, Clone, Copy)]
+pub struct TransferPhase;
+
+/// The most men of a unit.
+const MEN_LIMIT: u32 = 999_999;
+
+/// The days of a skill that go with so many of a unit's men.
+fn days_going(going: u32, men: u32, days: u32) -> u32
+    requires some { 1 ≤ men }
+    requires fewer { going ≤ men }
+    ensures value { result ≡ days_going going men days }
+    ensures small { result ≤ days }
+{
+    (u64::from(days) * u64::from(going) / u64::from(men)) as u32
+}
+
+/// Sets the days of a skill. Where they are 0 the skill is listed no more.
+fn set_days(all: &mut Numbered<u32>, skill: u32, days: u32) -> Result<(), AllocError>
+    ensures { OnOk result (all.new ≡ with_amount_of all.old skill days) }
+{
+    if days == 0 {
+        all.remove(skill);
+        return Ok(());
+    }
+    all.insert(skill, days)
+}
+
+/// The days of each skill that stay as so many of a unit's men go.
+fn days_left(alloc: Global, going: u32, holding: &Holding) -> Result<Numbered<u32>, AllocError>
+    requires fewer { going ≤ holding.now.men }
+    requires days { Every (λ s days. (1 ≤ days) × (days ≤ most_days * holding.now.men)) holding.now.days }
+    ensures { IfOk result (λ left. left ≡ days_left going holding.now.men holding.now.days) }
+{
+    let men = holding.men();
+    let mut left = Numbered::new(alloc);
+    for (skill, days) in holding.days() {
+        let staying = *days - days_going(going, men, *days);
+        set_days(&mut left, skill, staying)?;
+    }
+    Ok(left)
+}
+
+/// The days that a unit has, once so many men of another come to it, of each skill of these.
+fn days_raised(
+    alloc: Global,
+    going: u32,
+    sender: &Holding,
+    receiver: &Holding,
+) -> Result<Vec<(u32, u32)>, AllocError>
+    requires fewer { going ≤ sender.now.men }
+    requires sent { Every (λ s days. (1 ≤ days) × (days ≤ most_days * sender.now.men)) sender.now.days }
+    requires room { receiver.now.men + going ≤ men_limit }
+    requires had { Every (λ s days. (1 ≤ days) × (days ≤ most_days * receiver.now.men)) receiver.now.days }
+    ensures { IfOk result (λ list. list.items ≡ days_raised going sender.now.men sender.now.days receiver.now.days) }
+{
+    let men = sender.men();
+    let mut list = Vec::new(alloc);
+    for (skill, days) in sender.days() {
+        let coming = days_going(going, men, *days);
+        list.push((skill, receiver.days_of(skill) + coming))?;
+    }
+    Ok(list)
+}
+
+/// Sets the days of some skills.
+fn set_each(holding: &mut Holding, list: &[(u32, u32)]) -> Result<(), AllocError>
+    ensures { OnOk result (holding.new ≡ record holding.old { days = with_days holding.old.days list.now }) }
+{
+    for (skill, days) in list.iter() {
+        holding.set_days(*skill, *days)?;
+    }
+    Ok(())
+}
+
+/// Men go from a unit that is there, and the rest of the days stays.
+fn take_men(campaign: &mut Campaign, number: u32, men: u32, days: Numbered<u32>)
+    requires { men ≤ men_limit }
+    ensures { (u : Unit) → map.get campaign.old.what.units number ≡ Some u → campaign.new ≡ lent campaign.old number (record u.holding { men = men; days = days }) }
+{
+    if let Some(holding) = campaign.unit_mut(number) {
+        holding.set_men(men);
+        holding.set_all_days(days);
+    }
+}
+
+/// Men come to a unit that is there, with days of some skills.
+fn add_men(
+    campaign: &mut Campaign,
+    number: u32,
+    men: u32,
+    list: &[(u32, u32)],
+) -> Result<(), AllocError>
+    requires { men ≤ men_limit }
+    ensures { OnOk result ((u : Unit) → map.get campaign.old.what.units number ≡ Some u → campaign.new ≡ lent campaign.old number (record u.holding { men = men; days = with_days u.holding.days list.now })) }
+{
+    match campaign.unit_mut(number) {
+        Some(holding) => {
+            holding.set_men(men);
+            set_each(holding, list)
+        }
+        None => Ok(()),
+    }
+}
+
+/// So many men go from one unit to another with their days.
+fn send(
+    alloc: Global,
+    campaign: &mut Campaign,
+    from: u32,
+    to: u32,
+    going: u32,
+) -> Result<(), AllocError>
+    requires days { AreDays campaign.old.what }
+    requires apart { to ≢ from }
+    requires enough { (u : Unit) → map.get campaign.old.what.units from ≡ Some u → going ≤ u.holding.men }
+    requires room { (v : Unit) → map.get campaign.old.what.units to ≡ Some v → v.holding.men + going ≤ men_limit }
+    ensures what { OnOk result (campaign.new.what ≡ sent campaign.old.what from to going (map.get campaign.old.what.units from) (map.get campaign.old.what.units to)) }
+    ensures marks { OnOk result (MarksChanges campaign.old campaign.new) }
+{
+    let (Some(sender), Some(receiver)) = (campaign.unit(from), campaign.unit(to)) else {
+        return Ok(());
+    };
+    let left = days_left(alloc, going, &sender.holding)?;
+    let raised = days_raised(alloc, going, &sender.holding, &receiver.holding)?;
+    let staying = sender.holding.men() - going;
+    let more = receiver.holding.men() + going;
+    take_men(campaign, from, staying, left);
+    add_men(campaign, to, more, &raised)?;
+    Ok(())
+}
+
+/// Why so many men can't go from a unit to another.
+fn transfer_fault(
+    going: u32,
+    itself: bool,
+    sender: &Unit,
+    receiver: Option<&Unit>,
+) -> Option<EventFault>
+    ensures { result ≡ transfer_fault going itself sender.now (option_copied receiver.entry) }
+{
+    let Some(receiver) = receiver else {
+        return Some(EventFault::NotHere);
+    };
+    if receiver.region != sender.region {
+        return Some(EventFault::NotHere);
+    }
+    if receiver.faction != sender.faction {
+        return Some(EventFault::NotYours);
+    }
+    if sender.holding.men() < going {
+        return Some(EventFault::NotEnough);
+    }
+    if !itself && u64::from(receiver.holding.men()) + u64::from(going) > u64::from(MEN_LIMIT) {
+        return Some(EventFault::NoRoom);
+    }
+    None
+}
+
+/// Sends so many men, or nobody where a fault fits.
+#[tactic(auto, unfolding(crate::specs::Transfer::transfer))]
+fn transfer(
+    alloc: Global,
+    campaign: &mut Campaign,
+    from: u32,
+    to: u32,
+    going: u32,
+) -> Result<Outcome, AllocError>
+    requires days { AreDays campaign.old.what }
+    ensures what { IfOk result (λ outcome. (campaign.new.what, outcome) ≡ transfer campaign.old.what from to going) }
+    ensures marks { OnOk result (MarksChanges campaign.old campaign.new) }
+{
+    let Some(sender) = campaign.unit(from) else {
+        return Ok(failed(EventFault::NotYours));
+    };
+    let receiver = campaign.unit(to);
+    if let Some(fault) = transfer_fault(going, to == from, sender, receiver) {
+        return Ok(failed(fault));
+    }
+    if to != from {
+        send(alloc, campaign, from, to, going)?;
+    }
+    Ok(Outcome::Done(u64::from(going)))
+}
+
+impl PhaseVerbs for TransferPhase {
+    ghost is_of = { is_transferring };
+
+    fn has(&self, verb: Verb) -> bool {
+        matches!(verb, Verb::Transfer)
+    }
+}
+
+impl OrderPhase for TransferPhase {
+    ghost step = { transfer_step };
+
+    ghost is_taken = { λ s. true };
+
+    ghost holds = { IsEarly };
+
+    ghost reserve = { λ c e t. 0 };
+
+    ghost moving = { λ e t. 0 };
+
+    ghost concerns = { IsOwnOrder };
+
+    ghost spares = { IsNoWorse };
+
+    fn takes(&self, _: &Order) -> bool {
+        true
+    }
+
+    fn carry_out(
+        &self,
+        alloc: Global,
+        _: &World,
+        campaign: &mut Campaign,
+        month: &Month,
+        order: Written,
+        _: &Mailing,
+        what: &Order,
+    ) -> Result<Outcome, AllocError> {
+        match what {
+            Order::Transfer { to, men } => {
+                let receiver = month.unit(order.faction, *to);
+                transfer(alloc, campaign, order.unit, receiver, *men)
+            }
+            _ => Ok(Outcome::Done(0)),
+        }
+    }
+
+    fn is_orderly(&self) {}
+}
+
+impl Phase for TransferPhase {
+    ghost meaning = { transfer_meaning };
+
+    ghost needs = { IsEarly };
+
+    ghost leaves = { IsEarly };
+
+    ghost moving = { λ e t. 0 };
+
+    ghost keeps = { transfer_keeps };
+
+    fn run(
+        &self,
+        alloc: Global,
+        world: &World,
+        mut campaign: Campaign,
+        mut month: Month,
+    ) -> Result<(Campaign, Month), AllocError> {
+        carry_out_orders(alloc, self, world, &mut campaign, &mut month)?;
+        Ok((campaign, month))
+    }
+}
