@@ -8,3 +8,13 @@ pub mod MeaningLaws
 pub mod BookingLaws
 pub mod StayingLaws
 pub mod StepLaws
+pub mod MarkLaws
+pub mod FactionLaws
+pub mod StructureLaws
+pub mod RefitLaws
+pub mod PlacingLaws
+pub mod UnbookedLaws
+pub mod NameLaws
+pub mod PlaceLaws
+pub mod UnitNameLaws
+pub mod FormingLaws

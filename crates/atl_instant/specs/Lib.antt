@@ -7,3 +7,9 @@ pub mod Staying
 pub mod Fit
 pub mod Steps
 pub mod Carrying
+pub mod Outcomes
+pub mod Inside
+pub mod Unbooked
+pub mod Name
+pub mod Place
+pub mod Form

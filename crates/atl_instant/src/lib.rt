@@ -1,17 +1,23 @@
 //! The month that is played out at once: what it carries from phase to phase, and the orders of a phase.
 #![tactic(auto)]
 
+mod inside;
 mod month;
+mod name;
 mod orders;
+mod outcome;
 mod phase;
+mod place;
 mod standing;
 mod steps;
 mod terrain;
 mod written;
 
 pub use month::{Month, mailings_have_no_order};
+pub use name::NamePhase;
 pub use orders::{MonthLongVerbs, PhaseVerbs, orders_are_in_mailings};
 pub use phase::Phase;
+pub use place::PlacePhase;
 pub use steps::{OrderPhase, carry_out_orders};
 pub use terrain::terrain_of;
 pub use written::{Arrangement, Written};

@@ -61,8 +61,9 @@ pub trait OrderPhase: PhaseVerbs {
         ensures step { IfOk result (λ outcome. (campaign.new.what, outcome) ≡ step world.now month.now.aliases campaign.old.what (task_of order (said mailing.now.text what.now))) }
         ensures marks { OnOk result (MarksChanges campaign.old campaign.new) };
 
-    // What each step leaves, and what it spares.
-    ghost orderly: { IsOrderly step holds reserve moving concerns spares };
+    /// What each step leaves, and what it spares.
+    fn is_orderly(&self)
+        ensures { IsOrderly step holds reserve moving concerns spares };
 }
 
 /// Whether the unit of an order is there, and of the faction that wrote it.
@@ -128,6 +129,7 @@ fn carry_one<P: OrderPhase>(
     ensures well { OnOk result (StepsWell P.holds P.reserve world.now campaign.old.what campaign.new.what) }
     ensures marks { OnOk result (MarksChanges campaign.old campaign.new) }
 {
+    phase.is_orderly();
     let event = match month.order(order.faction, order.place) {
         Some((mailing, what)) if phase.takes(what) => {
             let outcome = outcome_of(alloc, phase, world, campaign, month, order, mailing, what)?;
@@ -156,6 +158,7 @@ pub fn carry_out_orders<P: OrderPhase>(
     ensures keeps { OnOk result (spares_others P.concerns P.spares P.is_of world.now month.old campaign.old.what campaign.new.what) }
     ensures marks { OnOk result (MarksChanges campaign.old campaign.new) }
 {
+    phase.is_orderly();
     let orders = month.orders(alloc, phase, Arrangement::ByUnit)?;
     for order in &orders {
         carry_one(alloc, phase, world, campaign, month, *order)?;

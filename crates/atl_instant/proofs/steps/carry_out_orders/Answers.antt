@@ -1,4 +1,4 @@
-use Rattle.std.proofs.Common.{◌≡◌, ◌+◌, [], refl, ap, subst, sym, ◌∙◌, drop, get_or, map, arith}
+use Rattle.std.proofs.Common.{◌≡◌, ◌+◌, [], refl, ap, subst, sym, ◌∙◌, drop, get_or, arith}
 use Rattle.std.proofs.lemmas.List.{drop_all, drop_more}
 use Rattle.std.specs.Prelude.{fold}
 use Rattle.std.specs.FinMap.{values}
@@ -8,7 +8,7 @@ use Rattle.atl_instant.specs.Carrying.{carried_written}
 use Rattle.atl_state.specs.State.{State}
 use Rattle.atl_instant.specs.Course.{Course}
 use Rattle.atl_instant.specs.Fit.{AreFit}
-use Rattle.atl_instant.specs.PhaseOrders.{orders_of, written}
+use Rattle.atl_instant.specs.PhaseOrders.{orders_of}
 use Rattle.atl_instant.specs.Steps.{AreSpared, carried_out}
 use Rattle.atl_instant.specs.declared.written.Written.{Written}
 use Rattle.atl_instant.specs.declared.written.Arrangement.TheVariants.{ByUnit}
@@ -34,7 +34,7 @@ pub carry_one-requires-clause-room : goal.carry_one-requires-clause-room
 carry_one-requires-clause-room g c =
     let P = g.P.OrderPhase in
     room_left c.args.world.now c.args.campaign.now.what c.loop-order.campaign.what c.loop-order.invariant.well
-    (room_reserved P.reserve P.moving c.args.campaign.now.what (g.met.P.OrderPhase.orderly.bounded c.args.world.now c.args.campaign.now.what c.requires.holds) c.requires.room)
+    (room_reserved P.reserve P.moving c.args.campaign.now.what (c.is_orderly.ensures.bounded c.args.world.now c.args.campaign.now.what c.requires.holds) c.requires.room)
 
 pub carry_one-requires-clause-read : goal.carry_one-requires-clause-read
 carry_one-requires-clause-read g c = subst (AreFit c.args.world.now) (sym c.loop-order.invariant.readings) c.requires.read
@@ -70,7 +70,7 @@ returns-clause-meaning g c =
 pub returns-clause-leaves : goal.returns-clause-leaves
 returns-clause-leaves g c =
     leaves_well c.args.world.now c.args.campaign.now.what c.loop-order.campaign.what
-    (g.met.P.OrderPhase.orderly.bounded c.args.world.now c.args.campaign.now.what c.requires.holds) c.loop-order.invariant.well
+    (c.is_orderly.ensures.bounded c.args.world.now c.args.campaign.now.what c.requires.holds) c.loop-order.invariant.well
 
 pub returns-clause-keeps : goal.returns-clause-keeps
 unfolding carried_out
@@ -80,7 +80,7 @@ returns-clause-keeps g c =
     let m = c.args.month.now in
     let ts = values (orders_of g.P.PhaseVerbs.is_of ByUnit m.aliases m.readings) in
     subst (λ d. AreSpared P.concerns P.spares ts c.args.campaign.now.what d) (sym (ap (λ p. p.0) (returns-clause-meaning g c)))
-    (orders_spare P.step P.is_taken g.met.P.OrderPhase.orderly w c.args.campaign.now.what m ts c.requires.holds (orders_fit w m.aliases m.readings c.requires.read g.P.PhaseVerbs.is_of))
+    (orders_spare P.step P.is_taken c.is_orderly.ensures w c.args.campaign.now.what m ts c.requires.holds (orders_fit w m.aliases m.readings c.requires.read g.P.PhaseVerbs.is_of))
 
 pub returns-clause-marks : goal.returns-clause-marks
 returns-clause-marks g c = c.loop-order.invariant.marks

@@ -1,0 +1,17 @@
+-- What an order comes to: the first fault that fits, and nothing changes, or what is done.
+use Rattle.std.specs.Prelude.{Bool, List, [], ◌∷◌, Option, Some, None, if◌then◌else◌}
+use Rattle.atl_state.specs.declared.event.EventFault.{EventFault}
+use Rattle.atl_state.specs.declared.event.Outcome.{Outcome}
+use Rattle.atl_state.specs.declared.event.Outcome.TheVariants.{Fault}
+use Rattle.atl_state.specs.Events.{event_fault_number}
+use Rattle.atl_state.specs.State.{State}
+
+-- the first that fits of some faults
+abbrev pub first_fault : List (Bool × EventFault) → Option EventFault
+first_fault [] = None
+first_fault ((fits, fault) ∷ more) = if fits then Some fault else first_fault more
+
+-- with a fault nothing changes
+abbrev pub unless : State → Option EventFault → State × Outcome → State × Outcome
+unless c (Some fault) done = (c, Fault (event_fault_number fault))
+unless c None done = done

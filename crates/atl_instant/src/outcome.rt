@@ -1,0 +1,13 @@
+//! What orders come to.
+ghost use Rattle.std.specs.Prelude.{◌≡◌};
+ghost use Rattle.atl_state.specs.Events.{event_fault_number};
+ghost use Rattle.atl_state.specs.declared.event.Outcome.TheVariants.{Fault};
+
+use atl_state::{EventFault, Outcome};
+
+/// An order that isn't carried out.
+pub(crate) fn failed(fault: EventFault) -> Outcome
+    ensures { result ≡ Fault (event_fault_number fault) }
+{
+    Outcome::Fault(fault.number())
+}
