@@ -15,3 +15,13 @@ pub mod MovingLaws
 pub mod GiveLaws
 pub mod TransferLaws
 pub mod GuardingLaws
+pub mod MarkLaws
+pub mod FactionLaws
+pub mod StructureLaws
+pub mod RefitLaws
+pub mod PlacingLaws
+pub mod UnbookedLaws
+pub mod NameLaws
+pub mod PlaceLaws
+pub mod UnitNameLaws
+pub mod FormingLaws

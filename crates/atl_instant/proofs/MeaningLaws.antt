@@ -1,6 +1,6 @@
 -- What several steps leave, each of which leaves a campaign well.
 use Rattle.std.proofs.Common.{◌≡◌, ℕ, ◌+◌, ◌*◌, ◌≤◌, List, [], ◌∷◌, length, refl, sym, ◌∙◌, arith}
-use Rattle.std.specs.Prelude.{ℤ, pos, fold}
+use Rattle.std.specs.Prelude.{ℤ, fold}
 use Rattle.std.proofs.lemmas.Int.{ints}
 use Rattle.std.proofs.Math.Nat.{suc-mul}
 use Rattle.atl_tables.specs.Planet.{Planet}

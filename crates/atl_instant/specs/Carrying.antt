@@ -1,5 +1,5 @@
 -- How the code finds what an order says: by its faction and its place. That these are the orders of a phase is proved.
-use Rattle.std.specs.Prelude.{ℕ, Bool, Option, Some, None}
+use Rattle.std.specs.Prelude.{Bool, Option, Some, None}
 use Rattle.atl_tables.specs.Planet.{Planet}
 use Rattle.atl_orders.specs.Orders.{Said}
 use Rattle.atl_state.specs.State.{State}

@@ -11,3 +11,8 @@ pub mod Outcomes
 pub mod Give
 pub mod Transfer
 pub mod Guard
+pub mod Inside
+pub mod Unbooked
+pub mod Name
+pub mod Place
+pub mod Form

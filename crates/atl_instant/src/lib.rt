@@ -3,10 +3,13 @@
 
 mod give;
 mod guard;
+mod inside;
 mod month;
+mod name;
 mod orders;
 mod outcome;
 mod phase;
+mod place;
 mod standing;
 mod steps;
 mod terrain;
@@ -16,8 +19,10 @@ mod written;
 pub use give::GivePhase;
 pub use guard::GuardPhase;
 pub use month::{Month, mailings_have_no_order};
+pub use name::NamePhase;
 pub use orders::{MonthLongVerbs, PhaseVerbs, orders_are_in_mailings};
 pub use phase::Phase;
+pub use place::PlacePhase;
 pub use steps::{OrderPhase, carry_out_orders};
 pub use terrain::terrain_of;
 pub use transfer::TransferPhase;

@@ -1,11 +1,8 @@
-use Rattle.std.proofs.Common.{◌≡◌, drop, map}
+use Rattle.std.proofs.Common.{◌≡◌, drop}
 use Rattle.std.specs.Prelude.{fold}
-use Rattle.std.specs.FinMap.{values}
 use Rattle.atl_state.specs.Covers.{MarksChanges}
 use Rattle.atl_instant.specs.Carrying.{carried_written}
-use Rattle.atl_instant.specs.PhaseOrders.{orders_of, written}
 use Rattle.atl_instant.specs.Steps.{StepsWell}
-use Rattle.atl_instant.specs.declared.written.Arrangement.TheVariants.{ByUnit}
 use Rattle.atl_instant.proofs.steps.carry_out_orders.Given as goal
 
 abbrev pub invariant-loop-order : goal.invariant-loop-order

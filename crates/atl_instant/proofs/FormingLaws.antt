@@ -1,0 +1,192 @@
+-- How a campaign changes as a unit forms another.
+use Rattle.std.proofs.Common.{◌≡◌, ◌≢◌, ◌==◌, ◌||◌, ◌*◌, ℕ, ◌+◌, ◌≤◌, ◌<◌, Bool, true, false, cond, Some, None, length, nat_le, nat_lt, refl, sym, ap, ◌∙◌, arith}
+use Rattle.std.specs.Prelude.{IsTrue, is_some, option_map, unwrap_or}
+use Rattle.std.specs.Ordering.{nat_cmp}
+use Rattle.std.specs.Cmp.{nat_cmp_total}
+use Rattle.std.specs.FinMap.{FinMap, get, get-empty, insert, len, len-insert}
+use Rattle.std.proofs.lemmas.Bool.Decides.{nat_tests}
+use Rattle.atl_tables.specs.Names.{name_ok}
+use Rattle.atl_tables.specs.Planet.{Planet}
+use Rattle.atl_tables.proofs.SumLaws.{numbers_where-insert_other}
+use Rattle.atl_state.specs.Covers.{MarksChanges, bare, goods_under}
+use Rattle.atl_state.specs.Limits.{holding_limit, last_unit, most_days, most_units}
+use Rattle.atl_state.specs.declared.books.Thing.{Thing}
+use Rattle.atl_state.specs.declared.books.Thing.TheVariants.{Item, Money, People}
+use Rattle.atl_state.specs.declared.records.Unit.{Unit}
+use Rattle.atl_state.specs.Good.{AreAfloat, AreInRange, AreKnown, AreNamed, AreNumbered, AreOfOneFaction, AreOwned, Every, GoneHaveNone, IsAboard, IsEarly, IsPlaced, IsSteady, guards, is_land_at}
+use Rattle.atl_state.specs.Held.{IsHolding}
+use Rattle.atl_state.specs.Marking.{mark_unit_begun}
+use Rattle.atl_state.specs.State.{Marked, State, with_unit_begun}
+use Rattle.atl_state.specs.Totals.{held, total}
+use Rattle.atl_state.proofs.CoverLaws.{apart_by, put_stays}
+use Rattle.atl_state.proofs.EveryLaws.{every-empty, every-insert, get-insert_other, none_some, there-insert}
+use Rattle.atl_state.proofs.RemovedLaws.{none_passing}
+use Rattle.atl_state.proofs.TotalLaws.{total-with_unit}
+use Rattle.atl_instant.specs.Form.{is_unit_limit, new_unit}
+use Rattle.atl_instant.specs.Steps.{StepsWell}
+use Rattle.atl_instant.specs.Unbooked.{books_nothing}
+use Rattle.atl_instant.proofs.UnbookedLaws.{unbooked_well}
+use Rattle.atl_instant.proofs.UnitNameLaws.{unit_name_ok}
+
+true_false : {P : Type 0} → true ≡ false → P
+true_false e = cc
+
+len_new : {V : Type 0} (m : FinMap nat_cmp V) (k : ℕ) (v : V) → get m k ≡ None → len (insert m k v) ≡ len m + 1
+len_new m k v h = len-insert nat_cmp_total m k v ∙ ap (λ o. cond (is_some o) (len m) (len m + 1)) h
+
+-- what was there is still there after an insertion where nothing was
+still_there : {V : Type 0} (m : FinMap nat_cmp V) (k q : ℕ) (v x : V) → get m k ≡ None → get m q ≡ Some x → get (insert m k v) q ≡ Some x
+still_there m k q v x free is = get-insert_other m k q v (λ same. none_some x (sym free ∙ ap (get m) (sym same) ∙ is)) ∙ is
+
+few : (u n : ℕ) → (nat_le most_units u || nat_lt last_unit n) ≡ false → (u < most_units) × (n ≤ last_unit)
+few u n h = (grind (arith, nat_tests), grind (arith, nat_tests))
+
+pub room : (c : State) → is_unit_limit c ≡ false → (len c.units < most_units) × (c.next_unit ≤ last_unit)
+room c h = few (len c.units) c.next_unit h
+
+module _ (w : Planet) (c : State) (p : ℕ) (u : Unit) (is : get c.units p ≡ Some u) (early : IsEarly w c) where
+  abbrev child : Unit
+  child = new_unit c.next_unit u.faction u.region u.structure
+
+  abbrev units : FinMap nat_cmp Unit
+  units = insert c.units c.next_unit child
+
+  abbrev begun : State
+  begun = with_unit_begun c child
+
+  old : IsSteady w c
+  old = early.steady
+
+  free : get c.units c.next_unit ≡ None
+  free = old.next.units c.next_unit (omega arith)
+
+  unit_stays : Every (λ n v. get units n ≡ Some v) c.units
+  unit_stays n v there = still_there c.units c.next_unit n child v free there
+
+  numbers_kept : is_unit_limit c ≡ false → AreInRange w begun
+  numbers_kept limit =
+      let r = room c limit in
+      let n = old.numbers in
+      record {
+        month = n.month;
+        few_factions = n.few_factions;
+        few_regions = n.few_regions;
+        few_units = omega (arith, len_new c.units c.next_unit child free, r.0);
+        few_structures = n.few_structures;
+        next_unit_least = omega arith;
+        next_unit_most = omega (arith, r.1);
+        factions = n.factions;
+        regions = n.regions;
+        units = every-insert (λ k x. (1 ≤ k) × IsHolding x.holding) c.units c.next_unit child (n.next_unit_least, record { men = omega arith; money = omega arith; items = every-empty (λ item amount. (1 ≤ amount) × (amount ≤ holding_limit)) }) n.units;
+        structures = n.structures;
+        books = n.books;
+      }
+
+  names_kept : is_unit_limit c ≡ false → AreNamed begun
+  names_kept limit =
+      let n = old.names in
+      record {
+        pass = n.pass;
+        factions = n.factions;
+        joined = n.joined;
+        units = every-insert (λ k x. IsTrue (name_ok x.holding.name)) c.units c.next_unit child (unit_name_ok c.next_unit (room c limit).1) n.units;
+        structures = n.structures;
+      }
+
+  known_kept : AreKnown w begun
+  known_kept =
+      let k = old.known in
+      record {
+        regions = k.regions;
+        units = every-insert (λ n x. IsPlaced w begun x) c.units c.next_unit child
+            (let q = k.units p u is in record { faction = q.faction; region = q.region; structure = q.structure; items = every-empty (λ i amount. i < length w.items); skills = every-empty (λ s days. s < length w.skills) })
+            (λ n x there. let q = k.units n x there in record { faction = q.faction; region = q.region; structure = q.structure; items = q.items; skills = q.skills });
+        structures = λ n s there. let b = k.structures n s there in record { kind = b.kind; region = b.region; owner = λ owned. there-insert c.units c.next_unit s.owner child (b.owner owned) };
+        mail = k.mail;
+        reports = k.reports;
+      }
+
+  next_kept : AreNumbered begun
+  next_kept = record {
+    factions = old.next.factions;
+    structures = old.next.structures;
+    units = λ q above. get-insert_other c.units c.next_unit q child (λ same. omega arith) ∙ old.next.units q (omega arith);
+  }
+
+  gone_kept : GoneHaveNone begun
+  gone_kept m f there gone =
+      let test = λ (x : Unit). x.faction == m in
+      let none = old.gone m f there gone in
+      numbers_where-insert_other test c.units c.next_unit child free (none_passing test c.units none p u is) ∙ none
+
+  owners_kept : AreOwned begun
+  owners_kept n s there =
+      let o = old.owners n s there in
+      record {
+        owned = λ some. let (v, here, inside) = o.owned some in (v, unit_stays s.owner v here, inside);
+        ownerless = λ none. every-insert (λ m x. x.structure ≢ n) c.units c.next_unit child (o.ownerless none p u is) (o.ownerless none);
+      }
+
+  water_kept : AreAfloat w begun
+  water_kept = record {
+    units = every-insert (λ n x. is_land_at w x.region ≡ false → IsAboard w begun x) c.units c.next_unit child (old.water.units p u is) old.water.units;
+    structures = old.water.structures;
+  }
+
+  -- who doesn't pass a test changes nothing of those who do
+  one_faction_kept : (test : Unit → Bool) → test child ≡ false → AreOfOneFaction test c → AreOfOneFaction test begun
+  one_faction_kept test fails one =
+      every-insert (λ n x. Every (λ m y. test x ≡ true → test y ≡ true → x.region ≡ y.region → x.faction ≡ y.faction) units) c.units c.next_unit child (λ m y there e. true_false (sym e ∙ fails))
+      (λ n x there. every-insert (λ m y. test x ≡ true → test y ≡ true → x.region ≡ y.region → x.faction ≡ y.faction) c.units c.next_unit child (λ _ e. true_false (sym e ∙ fails)) (one n x there))
+
+  early_begun : is_unit_limit c ≡ false → IsEarly w begun
+  early_begun limit = record {
+    steady = record {
+      numbers = numbers_kept limit;
+      names = names_kept limit;
+      known = known_kept;
+      next = next_kept;
+      days = every-insert (λ n x. Every (λ s days. (1 ≤ days) × (days ≤ most_days * x.holding.men)) x.holding.days) c.units c.next_unit child (every-empty (λ s days. (1 ≤ days) × (days ≤ most_days * 0))) old.days;
+      gone = gone_kept;
+      owners = owners_kept;
+      water = water_kept;
+      guarded = one_faction_kept guards refl old.guarded;
+    };
+    flags = one_faction_kept (λ x. x.holding.guard) refl early.flags;
+  }
+
+  nothing_held : (t : Thing) → held t child.holding ≡ 0
+  nothing_held Money = refl
+  nothing_held People = refl
+  nothing_held (Item i) = ap (λ o. unwrap_or o 0) (get-empty nat_cmp i)
+
+  none_more : (a b h : ℕ) → a ≡ b + h → h ≡ 0 → a ≡ b
+  none_more a b h e none = omega arith
+
+  same_total : (t : Thing) → total begun t ≡ total c t
+  unfolding total
+  same_total t = none_more (total begun t) (total c t) (held t child.holding) (total-with_unit c c.next_unit child t free) (nothing_held t)
+
+  pub begun_well : is_unit_limit c ≡ false → StepsWell IsEarly books_nothing w c begun
+  begun_well limit = unbooked_well w c begun (early_begun limit) (record { month = refl; reports = refl; count = refl; factions = λ k there. there }) refl same_total
+
+  pub begun_stays : Every (λ n v. get begun.units n ≡ Some v) c.units
+  begun_stays = unit_stays
+
+-- ---- what is marked
+
+pub marks-begun : (c : Marked) (u : Unit) → MarksChanges c (record { what = with_unit_begun c.what u; marks = mark_unit_begun c })
+marks-begun c u = let n = c.what.next_unit in record {
+  stay = record { factions = λ k h. h; regions = λ k h. h; structures = λ k h. h; mail = λ k h. h; reports = λ k h. h; units = put_stays c.marks.units n; goods = put_stays c.marks.goods n; books = λ k h. h; row = λ h. refl };
+  covers = record {
+    factions = λ k free. refl;
+    regions = λ k free. refl;
+    structures = λ k free. refl;
+    mail = λ k free. refl;
+    reports = λ k free. refl;
+    units = λ k free. ap (option_map bare) (get-insert_other c.what.units n k u (apart_by c.marks.units n k free));
+    goods = λ k free. ap goods_under (get-insert_other c.what.units n k u (apart_by c.marks.goods n k free));
+    books = λ e t free. refl;
+    row = λ free. true_false free;
+  };
+}

@@ -1,0 +1,69 @@
+-- Changes of a campaign that are marked.
+use Rattle.std.proofs.Common.{◌≡◌, ◌==◌, ℕ, Bool, true, false, Option, Some, None, refl, sym, ◌∙◌}
+use Rattle.std.specs.Prelude.{Result, Ok, Err, OnOk, if◌then◌else◌}
+use Rattle.std.specs.FinMap.{get}
+use Rattle.atl_tables.specs.Sums.{changed_at}
+use Rattle.atl_tables.specs.Tracking.{marked_with}
+use Rattle.atl_state.specs.Covers.{MarksChanges}
+use Rattle.atl_state.specs.declared.records.Faction.{Faction}
+use Rattle.atl_state.specs.declared.records.Unit.{Unit}
+use Rattle.atl_state.specs.Marking.{handed_marked, mark_faction, place_marked, place_marked_at, put_marked}
+use Rattle.atl_state.specs.Owners.{heir, with_place}
+use Rattle.atl_state.specs.State.{Marked, faction_changed}
+use Rattle.atl_state.proofs.CoverLaws.{apart_by, marks-refl, marks-trans, put_stays}
+use Rattle.atl_state.proofs.EveryLaws.{get-insert_other}
+use Rattle.atl_state.proofs.HoldingLaws.{marks-unit_row}
+use Rattle.atl_state.proofs.LeavingLaws.{marks-handed}
+use Rattle.atl_state.proofs.OwnerLaws.{place-what}
+
+-- by what a call leaves, and what it marks
+pub marks_by : (a b m : Marked) → b.what ≡ m.what → b.marks ≡ m.marks → MarksChanges a m → MarksChanges a b
+marks_by a b m what marks h = rw (what, marks) (record { stay = h.stay; covers = h.covers })
+
+-- a campaign that stays as it is
+pub marks_same : (a b : Marked) → b ≡ a → MarksChanges a b
+marks_same a b is = rw is (marks-refl a)
+
+-- a faction that is changed and marked
+pub marks-faction : (f : Faction → Faction) (c : Marked) (n : ℕ) → MarksChanges c (record { what = faction_changed f c.what n; marks = mark_faction c n })
+marks-faction f c n = by_faction (get c.what.factions n) refl
+  where
+    by_faction : (o : Option Faction) → get c.what.factions n ≡ o → MarksChanges c (record { what = record c.what { factions = changed_at f c.what.factions n o }; marks = record c.marks { factions = marked_with c.marks.factions n o } })
+    by_faction None is = marks-refl c
+    by_faction (Some x) is = record {
+      stay = record { factions = put_stays c.marks.factions n; regions = λ k h. h; structures = λ k h. h; mail = λ k h. h; reports = λ k h. h; units = λ k h. h; goods = λ k h. h; books = λ k h. h; row = λ h. h };
+      covers = record {
+        factions = λ k free. get-insert_other c.what.factions n k (f x) (apart_by c.marks.factions n k free);
+        regions = λ k free. refl;
+        structures = λ k free. refl;
+        mail = λ k free. refl;
+        reports = λ k free. refl;
+        units = λ k free. refl;
+        goods = λ k free. refl;
+        books = λ e t free. refl;
+        row = λ free. refl;
+      };
+    }
+
+-- a unit in another place
+marks_place_at : (c : Marked) (n r s : ℕ) (o : Option Unit) → MarksChanges c (place_marked_at c n r s o)
+marks_place_at c n r s None = marks-refl c
+marks_place_at c n r s (Some u) = by_test (u.structure == s)
+  where
+    one_put : MarksChanges c (put_marked c n r s)
+    one_put = marks-unit_row (λ x. record x { region = r; structure = s }) (λ x. refl) c n
+
+    by_test : (b : Bool) → MarksChanges c (if b then put_marked c n r s else handed_marked (handed_marked (put_marked c n r s) u.structure n (heir c.what u.structure n)) s 0 n)
+    by_test true = one_put
+    by_test false =
+        let next = handed_marked (put_marked c n r s) u.structure n (heir c.what u.structure n) in
+        marks-trans c next (handed_marked next s 0 n) (marks-trans c (put_marked c n r s) next one_put (marks-handed (put_marked c n r s) u.structure n (heir c.what u.structure n))) (marks-handed next s 0 n)
+
+pub marks-place : (c d : Marked) (n r s : ℕ) → d.what ≡ with_place c.what n r s → d.marks ≡ (place_marked c n r s).marks → MarksChanges c d
+unfolding place_marked
+marks-place c d n r s what marks = marks_by c d (place_marked c n r s) (what ∙ sym (place-what c n r s)) marks (marks_place_at c n r s (get c.what.units n))
+
+-- what two clauses say of an answer together
+pub on_ok_both : {A E : Type 0} {P Q R : Type 0} (r : Result A E) → (P → Q → R) → OnOk r P → OnOk r Q → OnOk r R
+on_ok_both (Ok a) f p q = f p q
+on_ok_both (Err e) f p q = tt

@@ -1,0 +1,187 @@
+-- NAME and GUARD 0 leave a campaign well, and spare who doesn't order them.
+use Rattle.std.proofs.Common.{◌≡◌, ◌≢◌, ◌==◌, ℕ, ◌+◌, Bool, true, false, List, Option, Some, None, refl, sym, ap, subst, ◌∙◌, arith}
+use Rattle.std.specs.Prelude.{IsTrue, if◌then◌else◌}
+use Rattle.std.specs.FinMap.{get, insert}
+use Rattle.atl_tables.specs.Names.{name_ok}
+use Rattle.atl_tables.specs.Planet.{Planet}
+use Rattle.atl_orders.specs.declared.order.NameKind.{NameKind}
+use Rattle.atl_orders.specs.declared.order.NameKind.TheVariants as kinds
+use Rattle.atl_orders.specs.declared.order.Order.{Order}
+use Rattle.atl_orders.specs.declared.order.Order.TheVariants as orders
+use Rattle.atl_orders.specs.declared.order.Span.{Span}
+use Rattle.atl_orders.specs.Bounds.{IsOrderOf}
+use Rattle.atl_orders.specs.Orders.{Said, said}
+use Rattle.atl_state.specs.declared.books.Thing.{Thing}
+use Rattle.atl_state.specs.declared.books.Thing.TheVariants.{Item, Money, People}
+use Rattle.atl_state.specs.declared.event.EventFault.{EventFault}
+use Rattle.atl_state.specs.declared.event.Outcome.TheVariants.{Done}
+use Rattle.atl_state.specs.declared.records.Structure.{Structure}
+use Rattle.atl_state.specs.declared.records.Unit.{Unit}
+use Rattle.atl_state.specs.Good.{IsEarly, IsOwned, guards}
+use Rattle.atl_state.specs.Held.{Held}
+use Rattle.atl_state.specs.State.{State, with_faction_name, with_guard, with_structure_name}
+use Rattle.atl_state.specs.Totals.{held, total}
+use Rattle.atl_state.proofs.HoldingLaws.{MayHold, of_one_faction_kept, steady-held, total-held}
+use Rattle.atl_state.proofs.RegionLaws.{changed-known}
+use Rattle.atl_instant.specs.Course.{Aliases}
+use Rattle.atl_instant.specs.Inside.{inside}
+use Rattle.atl_instant.specs.Name.{name_by, name_step, named, structure_fault, structure_named, with_unit_name}
+use Rattle.atl_instant.specs.Outcomes.{unless}
+use Rattle.atl_instant.specs.PhaseOrders.{Task}
+use Rattle.atl_instant.specs.Staying.{IsNoWorse}
+use Rattle.atl_instant.specs.Steps.{IsOrderly, IsOwnOrder, StepsWell, is_own}
+use Rattle.atl_instant.specs.Unbooked.{books_nothing, moves_nothing}
+use Rattle.atl_instant.proofs.FactionLaws.{count-faction_name, known-faction_name, steady-faction_name}
+use Rattle.atl_instant.proofs.RefitLaws.{IsRelabelled, early-relabelled}
+use Rattle.atl_instant.proofs.StructureLaws.{at_number, changed_else, get-changed, len-changed}
+use Rattle.atl_instant.proofs.StepLaws.{no_worse_spares, well_same}
+use Rattle.atl_instant.proofs.UnbookedLaws.{other_spared, own_unit, same_total_of, unbooked_well}
+
+-- an order that is none of the phase changes nothing
+pub name_other : (w : Planet) (c : State) (f n : ℕ) (text : List ℕ) (o : Order Span) → ((what : NameKind) (span : Span) → o ≡ orders.Name what span → ⊥) → ((flag : Bool) → o ≡ orders.Guard flag → ⊥)
+    → (c, Done 0) ≡ name_by w c f n (said text o)
+name_other w c f n text (orders.Name what span) a b = absurd (a what span refl)
+name_other w c f n text (orders.Guard flag) a b = absurd (b flag refl)
+name_other w c f n text other a b = refl
+
+false_true : {P : Type 0} → false ≡ true → P
+false_true e = cc
+
+module _ (w : Planet) (c : State) (n : ℕ) (u : Unit) (is : get c.units n ≡ Some u) (early : IsEarly w c) where
+  abbrev Well : State → Type 0
+  Well d = StepsWell IsEarly books_nothing w c d
+
+  -- ---- the unit's name and its flag
+
+  abbrev with_hold : Held → State
+  with_hold h = record c { units = insert c.units n (record u { holding = h }) }
+
+  same_total : (a b h : ℕ) → a + h ≡ b + h → a ≡ b
+  same_total a b h e = omega arith
+
+  held_well : (h : Held) → MayHold w u h → (h.guard ≡ true → u.holding.guard ≡ true) → ((t : Thing) → held t h ≡ held t u.holding) → Well (with_hold h)
+  held_well h may flag same = unbooked_well w c (with_hold h)
+      (record { steady = steady-held w c n u h is may early.steady; flags = of_one_faction_kept w c n u h is (λ x. x.holding.guard) flag early.flags })
+      (record { month = refl; reports = refl; count = refl; factions = λ k there. there }) refl
+      (λ t. same_total (total (with_hold h) t) (total c t) (held t u.holding) (total-held w c n u h is t ∙ ap (λ k. total c t + k) (same t)))
+
+  may_hold : (h : Held) → IsTrue (name_ok h.name) → h.men ≡ u.holding.men → h.money ≡ u.holding.money → h.items ≡ u.holding.items → h.days ≡ u.holding.days → (guards (record u { holding = h }) ≡ true → guards u ≡ true) → MayHold w u h
+  may_hold h name men money items days guard =
+      let place = early.steady.known.units n u is in
+      let holding = (early.steady.numbers.units n u is).1 in
+      record {
+        limits = record { men = rw men holding.men; money = rw money holding.money; items = rw items holding.items };
+        name = name;
+        items = rw items place.items;
+        skills = rw days place.skills;
+        days = rw (days, men) (early.steady.days n u is);
+        guard = guard;
+      }
+
+  unit_name_well : (name : List ℕ) → IsTrue (name_ok name) → Well (with_unit_name c n name)
+  unit_name_well name ok =
+      let h = record u.holding { name = name } in
+      subst Well (ap (λ m. record c { units = m }) (sym (changed-known (λ (x : Unit). record x { holding = record x.holding { name = name } }) c.units n u is)))
+      (held_well h (may_hold h ok refl refl refl refl (λ g. g)) (λ g. g) same)
+    where
+      same : (t : Thing) → held t (record u.holding { name = name }) ≡ held t u.holding
+      same Money = refl
+      same People = refl
+      same (Item i) = refl
+
+  flag_well : Well (with_guard c n false)
+  flag_well =
+      let h = record u.holding { guard = false } in
+      subst Well (ap (λ m. record c { units = m }) (sym (changed-known (λ (x : Unit). record x { holding = record x.holding { guard = false } }) c.units n u is)))
+      (held_well h (may_hold h (early.steady.names.units n u is) refl refl refl refl (λ g. false_true g)) (λ g. false_true g) same)
+    where
+      same : (t : Thing) → held t (record u.holding { guard = false }) ≡ held t u.holding
+      same Money = refl
+      same People = refl
+      same (Item i) = refl
+
+  -- ---- the names of its faction and of a structure
+
+  faction_well : (name : List ℕ) → IsTrue (name_ok name) → Well (with_faction_name c u.faction name)
+  faction_well name ok =
+      let (x, there) = (early.steady.known.units n u is).faction in
+      unbooked_well w c (with_faction_name c u.faction name)
+      (record { steady = steady-faction_name c u.faction x name there w ok early.steady; flags = early.flags })
+      (record { month = refl; reports = refl; count = count-faction_name c u.faction x name there; factions = known-faction_name c u.faction x name there }) refl (same_total_of c (with_faction_name c u.faction name) refl refl)
+
+  abbrev titled : List ℕ → Structure → Structure
+  titled name s = record s { name = name }
+
+  structure_name_well : (k : ℕ) (name : List ℕ) → IsTrue (name_ok name) → Well (with_structure_name c k name)
+  structure_name_well k name ok =
+      unbooked_well w c (with_structure_name c k name)
+      (early-relabelled w c n u is _ (at_number (titled name) c.structures k) (get-changed (titled name) c.structures k) (len-changed (titled name) c.structures k)
+      (λ q y there. relabelled y (q == k)) (λ q y there. owned q y (q == k) (early.steady.owners q y there)) early)
+      (record { month = refl; reports = refl; count = refl; factions = λ j there. there }) refl (same_total_of c (with_structure_name c k name) refl refl)
+    where
+      relabelled : (y : Structure) (b : Bool) → IsRelabelled y (if b then titled name y else y)
+      relabelled y true = record { kind = refl; region = refl; done = refl; name = λ old. ok }
+      relabelled y false = record { kind = refl; region = refl; done = refl; name = λ old. old }
+
+      owned : (q : ℕ) (y : Structure) (b : Bool) → IsOwned c q y → IsOwned c q (if b then titled name y else y)
+      owned q y true o = record { owned = o.owned; ownerless = o.ownerless }
+      owned q y false o = o
+
+  structure_well : (k : ℕ) (ship : Bool) (name : List ℕ) → IsTrue (name_ok name) → Well (structure_named w c n k ship name).0
+  structure_well k ship name ok = by_fault (structure_fault w n ship (get c.structures k))
+    where
+      by_fault : (o : Option EventFault) → Well (unless c o (with_structure_name c k name, Done 0)).0
+      by_fault (Some fault) = well_same w c early
+      by_fault None = structure_name_well k name ok
+
+  -- ---- an order
+
+  named_well : (what : NameKind) (name : List ℕ) → IsTrue (name_ok name) → Well (named w c u.faction n what name).0
+  named_well kinds.Unit name ok = unit_name_well name ok
+  named_well kinds.Faction name ok = faction_well name ok
+  named_well kinds.Building name ok = structure_well (inside c n) false name ok
+  named_well kinds.Ship name ok = structure_well (inside c n) true name ok
+
+  order_well : (o : Said) → IsOrderOf w o → Well (name_by w c u.faction n o).0
+  order_well (orders.Name what name) fit = named_well what name fit
+  order_well (orders.Guard flag) fit = flag_well
+  order_well other fit = well_same w c early
+
+name_well : (w : Planet) (a : Aliases) (c : State) (t : Task) → IsEarly w c → IsOrderOf w t.said → is_own c t ≡ true → StepsWell IsEarly books_nothing w c (name_step w a c t).0
+unfolding name_step
+name_well w a c t early fit own =
+    let (u, is, of_faction) = own_unit c t own in
+    subst (λ f. StepsWell IsEarly books_nothing w c (name_by w c f t.unit t.said).0) of_faction (order_well w c t.unit u is early t.said fit)
+
+-- ---- other units stay
+
+module _ (w : Planet) (c : State) (f n k : ℕ) (apart : k ≢ n) where
+  abbrev Stays : State → Type 0
+  Stays d = get d.units k ≡ get c.units k
+
+  structure_stays : (j : ℕ) (ship : Bool) (name : List ℕ) → Stays (structure_named w c n j ship name).0
+  structure_stays j ship name = by_fault (structure_fault w n ship (get c.structures j))
+    where
+      by_fault : (o : Option EventFault) → Stays (unless c o (with_structure_name c j name, Done 0)).0
+      by_fault (Some fault) = refl
+      by_fault None = refl
+
+  named_stays : (what : NameKind) (name : List ℕ) → Stays (named w c f n what name).0
+  named_stays kinds.Unit name = changed_else (λ (x : Unit). record x { holding = record x.holding { name = name } }) c.units n k apart (get c.units n)
+  named_stays kinds.Faction name = refl
+  named_stays kinds.Building name = structure_stays (inside c n) false name
+  named_stays kinds.Ship name = structure_stays (inside c n) true name
+
+  order_stays : (o : Said) → Stays (name_by w c f n o).0
+  order_stays (orders.Name what name) = named_stays what name
+  order_stays (orders.Guard flag) = changed_else (λ (x : Unit). record x { holding = record x.holding { guard = false } }) c.units n k apart (get c.units n)
+  order_stays other = refl
+
+pub name_orderly : IsOrderly name_step IsEarly books_nothing moves_nothing IsOwnOrder IsNoWorse
+unfolding name_step
+name_orderly = record {
+  well = name_well;
+  sparing = no_worse_spares;
+  spared = λ w a c t early own k v there apart. other_spared c (name_by w c t.faction t.unit t.said).0 t (λ j other. order_stays w c t.faction t.unit j other t.said) own k v there apart;
+  bounded = λ w c early e t. omega arith;
+}

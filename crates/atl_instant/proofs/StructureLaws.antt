@@ -1,0 +1,113 @@
+-- Structures that change their owners, under each number.
+use Rattle.std.proofs.Common.{◌≡◌, ◌≢◌, ◌==◌, ◌&&◌, ℕ, Bool, true, false, Option, Some, None, refl, sym, ap, ◌∙◌, inl, inr, arith}
+use Rattle.std.specs.Prelude.{option_map, if◌then◌else◌}
+use Rattle.std.specs.Ordering.{nat_cmp}
+use Rattle.std.specs.FinMap.{FinMap, get, len}
+use Rattle.std.proofs.lemmas.Bool.{cases_eq}
+use Rattle.std.proofs.lemmas.Bool.Decides.{nat_tests}
+use Rattle.atl_tables.specs.Sums.{changed, changed_at}
+use Rattle.atl_state.specs.declared.records.Structure.{Structure}
+use Rattle.atl_state.specs.Owners.{handed, is_owned_by}
+use Rattle.atl_state.specs.State.{State, with_owner}
+use Rattle.atl_state.proofs.EveryLaws.{get-insert_other}
+use Rattle.atl_state.proofs.LeavingLaws.{owned_by}
+use Rattle.atl_state.proofs.RegionLaws.{get-insert_same, same_len}
+
+pub equal : (a b : ℕ) → a ≡ b → (a == b) ≡ true
+equal a b same = grind (arith, nat_tests)
+
+pub unequal : (a b : ℕ) → a ≢ b → (a == b) ≡ false
+unequal a b apart = grind (arith, nat_tests)
+
+pub is_equal : (a b : ℕ) → (a == b) ≡ true → a ≡ b
+is_equal a b test = grind (arith, nat_tests)
+
+pub is_unequal : (a b : ℕ) → (a == b) ≡ false → a ≢ b
+is_unequal a b test = grind (arith, nat_tests)
+
+-- ---- a value of a map that is changed
+
+module _ {V : Type 0} (f : V → V) (m : FinMap nat_cmp V) (k : ℕ) where
+  -- f at the value under this number, and no other
+  abbrev pub at_number : ℕ → V → V
+  at_number q v = if q == k then f v else v
+
+  mapped_here : (q : ℕ) → (q == k) ≡ true → (o : Option V) → option_map f o ≡ option_map (at_number q) o
+  mapped_here q t None = refl
+  mapped_here q t (Some v) = ap (λ b. Some (if b then f v else v)) (sym t)
+
+  mapped_else : (q : ℕ) → (q == k) ≡ false → (o : Option V) → o ≡ option_map (at_number q) o
+  mapped_else q t None = refl
+  mapped_else q t (Some v) = ap (λ b. Some (if b then f v else v)) (sym t)
+
+  changed_here : (o : Option V) → get m k ≡ o → get (changed_at f m k o) k ≡ option_map f o
+  changed_here None is = is
+  changed_here (Some v) is = get-insert_same m k (f v)
+
+  pub changed_else : (q : ℕ) → q ≢ k → (o : Option V) → get (changed_at f m k o) q ≡ get m q
+  changed_else q apart None = refl
+  changed_else q apart (Some v) = get-insert_other m k q (f v) apart
+
+  pub get-changed : (q : ℕ) → get (changed f m k) q ≡ option_map (at_number q) (get m q)
+  get-changed q = elim (cases_eq q k) [
+    | inl same ↦
+        ap (get (changed f m k)) same ∙ changed_here (get m k) refl ∙ ap (λ j. option_map f (get m j)) (sym same)
+        ∙ mapped_here q (equal q k same) (get m q)
+    | inr apart ↦ changed_else q apart (get m k) ∙ mapped_else q (unequal q k apart) (get m q)
+  ]
+
+  len_by : (o : Option V) → get m k ≡ o → len (changed_at f m k o) ≡ len m
+  len_by None is = refl
+  len_by (Some v) is = same_len m k v (f v) is
+
+  pub len-changed : len (changed f m k) ≡ len m
+  len-changed = len_by (get m k) refl
+
+-- ---- a structure that goes from one owner to another
+
+-- the structure under a number, where it is this one and the former owner's
+abbrev pub handed_on : (k from to q : ℕ) → Structure → Structure
+handed_on k from to q y = if q == k && y.owner == from then owned_by to y else y
+
+module _ (c : State) (k from to : ℕ) where
+  abbrev after : Bool → State
+  after b = if b then with_owner c k to else c
+
+  here_by : (y : Structure) → get c.structures k ≡ Some y → (b : Bool) → get (after b).structures k ≡ Some (if b then owned_by to y else y)
+  here_by y is true = changed_here (owned_by to) c.structures k (get c.structures k) refl ∙ ap (option_map (owned_by to)) is
+  here_by y is false = is
+
+  here : (o : Option Structure) → get c.structures k ≡ o → get (after (is_owned_by o from)).structures k ≡ option_map (handed_on k from to k) o
+  here None is = is
+  here (Some y) is = here_by y is (y.owner == from) ∙ ap (λ b. Some (if b && y.owner == from then owned_by to y else y)) (sym (equal k k refl))
+
+  else_by : (q : ℕ) → q ≢ k → (b : Bool) → get (after b).structures q ≡ get c.structures q
+  else_by q apart true = changed_else (owned_by to) c.structures k q apart (get c.structures k)
+  else_by q apart false = refl
+
+  unmoved : (q : ℕ) → q ≢ k → (o : Option Structure) → o ≡ option_map (handed_on k from to q) o
+  unmoved q apart None = refl
+  unmoved q apart (Some y) = ap (λ b. Some (if b && y.owner == from then owned_by to y else y)) (sym (unequal q k apart))
+
+  pub get-handed : (q : ℕ) → get (handed c k from to).structures q ≡ option_map (handed_on k from to q) (get c.structures q)
+  get-handed q = elim (cases_eq q k) [
+    | inl same ↦
+        ap (get (handed c k from to).structures) same ∙ here (get c.structures k) refl
+        ∙ ap (λ j. option_map (handed_on k from to j) (get c.structures j)) (sym same)
+    | inr apart ↦ else_by q apart (is_owned_by (get c.structures k) from) ∙ unmoved q apart (get c.structures q)
+  ]
+
+  pub len-handed : len (handed c k from to).structures ≡ len c.structures
+  len-handed = by_test (is_owned_by (get c.structures k) from)
+    where
+      by_test : (b : Bool) → len (after b).structures ≡ len c.structures
+      by_test true = len-changed (owned_by to) c.structures k
+      by_test false = refl
+
+  -- nothing but the structures changes
+  pub handed_is : handed c k from to ≡ record c { structures = (handed c k from to).structures }
+  handed_is = by_test (is_owned_by (get c.structures k) from)
+    where
+      by_test : (b : Bool) → after b ≡ record c { structures = (after b).structures }
+      by_test true = refl
+      by_test false = refl

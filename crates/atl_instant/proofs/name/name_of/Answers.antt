@@ -1,0 +1,7 @@
+use Rattle.std.proofs.Common.{subst, sym, ◌∙◌}
+use Rattle.std.specs.Str.{IsUtf8}
+use Rattle.atl_tables.proofs.NameLaws.{name_ok-IsUtf8}
+use Rattle.atl_instant.proofs.name.name_of.Goals as goal
+
+pub unwrap-letters-requires : goal.unwrap-letters-requires
+unwrap-letters-requires c = c.from_utf8.ensures.succeeds (subst IsUtf8 (sym (c.into_vec.ensures ∙ c.in_ok-bytes.ensures)) (name_ok-IsUtf8 _ c.requires))

@@ -1,0 +1,6 @@
+use Rattle.atl_instant.proofs.MarkLaws.{marks-place, on_ok_both}
+use Rattle.atl_instant.proofs.place.put_inside.Goals as goal
+
+pub returns-clause-marks : goal.returns-clause-marks
+returns-clause-marks c =
+    on_ok_both c.place.result (marks-place c.args.campaign.now c.place.new.self c.args.unit c.region_of-region.result c.args.structure) c.place.ensures.ok c.place.ensures.marks

@@ -1,0 +1,78 @@
+-- NAME and GUARD 0: units give names, and leave their guard. See docs/RULES.md, "Name".
+use Rattle.std.specs.Prelude.{ℕ, ◌==◌, Bool, true, false, not, List, [], ◌∷◌, Option, Some, None, if◌then◌else◌}
+use Rattle.std.specs.FinMap.{get}
+use Rattle.atl_tables.specs.Planet.{Planet}
+use Rattle.atl_orders.specs.declared.order.NameKind.{NameKind}
+use Rattle.atl_orders.specs.declared.order.NameKind.TheVariants as kinds
+use Rattle.atl_orders.specs.declared.order.Order.TheVariants as orders
+use Rattle.atl_orders.specs.declared.verb.Verb.{Verb}
+use Rattle.atl_orders.specs.declared.verb.Verb.TheVariants as verbs
+use Rattle.atl_orders.specs.Orders.{Said}
+use Rattle.atl_state.specs.declared.event.EventFault.{EventFault}
+use Rattle.atl_state.specs.declared.event.EventFault.TheVariants.{NotInside, NotOwner}
+use Rattle.atl_state.specs.declared.event.Outcome.{Outcome}
+use Rattle.atl_state.specs.declared.event.Outcome.TheVariants.{Done}
+use Rattle.atl_state.specs.declared.records.Structure.{Structure}
+use Rattle.atl_state.specs.Good.{is_ship}
+use Rattle.atl_state.specs.State.{State, unit_changed, with_faction_name, with_guard, with_structure_name}
+use Rattle.atl_instant.specs.Inside.{inside}
+use Rattle.atl_instant.specs.Meaning.{Keeping, Meaning}
+use Rattle.atl_instant.specs.Outcomes.{first_fault, unless}
+use Rattle.atl_instant.specs.Staying.{IsNoWorse}
+use Rattle.atl_instant.specs.Steps.{IsOwnOrder, Step, carried_out, spares_others}
+
+-- ---- which orders are of the phase
+
+abbrev pub is_naming : Verb → Bool
+is_naming verbs.Name = true
+is_naming verbs.Guard = true
+is_naming verb = false
+
+-- of the two orders of GUARD the one that clears the flag
+abbrev pub takes_naming : Said → Bool
+takes_naming (orders.Guard flag) = not flag
+takes_naming order = true
+
+-- ---- names
+
+-- a unit with another name
+abbrev pub with_unit_name : State → ℕ → List ℕ → State
+with_unit_name c n name = unit_changed (λ u. record u { holding = record u.holding { name = name } }) c n
+
+-- whether a structure is a ship, or else a building
+abbrev pub is_of_sort : Planet → (ship : Bool) → Structure → Bool
+is_of_sort w ship s = if ship then is_ship w s else not (is_ship w s)
+
+-- why a unit doesn't name the structure that it is inside
+abbrev pub structure_fault : Planet → ℕ → (ship : Bool) → Option Structure → Option EventFault
+structure_fault w n ship None = Some NotInside
+structure_fault w n ship (Some s) = first_fault ((not (is_of_sort w ship s), NotInside) ∷ (not (s.owner == n), NotOwner) ∷ [])
+
+-- a unit inside a structure names it
+abbrev pub structure_named : Planet → State → (n inside : ℕ) → (ship : Bool) → List ℕ → State × Outcome
+structure_named w c n inside ship name = unless c (structure_fault w n ship (get c.structures inside)) (with_structure_name c inside name, Done 0)
+
+-- what a unit of a faction names
+abbrev pub named : Planet → State → (f n : ℕ) → NameKind → List ℕ → State × Outcome
+named w c f n kinds.Unit name = (with_unit_name c n name, Done 0)
+named w c f n kinds.Faction name = (with_faction_name c f name, Done 0)
+named w c f n kinds.Building name = structure_named w c n (inside c n) false name
+named w c f n kinds.Ship name = structure_named w c n (inside c n) true name
+
+abbrev pub name_by : Planet → State → (f n : ℕ) → Said → State × Outcome
+name_by w c f n (orders.Name what name) = named w c f n what name
+name_by w c f n (orders.Guard flag) = (with_guard c n false, Done 0)
+name_by w c f n order = (c, Done 0)
+
+-- what an order of a unit's own faction makes of a campaign
+unfoldable pub name_step : Step
+name_step w a c t = name_by w c t.faction t.unit t.said
+
+-- ---- the phase
+
+abbrev pub name_meaning : Meaning
+name_meaning = carried_out name_step takes_naming is_naming
+
+-- who gives no order of the phase stays
+abbrev pub name_keeps : Keeping
+name_keeps = spares_others IsOwnOrder IsNoWorse is_naming

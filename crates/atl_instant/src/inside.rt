@@ -1,0 +1,25 @@
+//! Where a unit is.
+ghost use Rattle.std.specs.Prelude.{◌≡◌};
+ghost use Rattle.atl_instant.specs.Inside.{inside, region_of};
+
+use atl_state::Campaign;
+
+/// The structure that a unit is inside, or 0.
+pub(crate) fn structure_of(campaign: &Campaign, unit: u32) -> u32
+    ensures { result ≡ inside campaign.now.what unit }
+{
+    match campaign.unit(unit) {
+        Some(found) => found.structure,
+        None => 0,
+    }
+}
+
+/// The region where a unit stands, or 0.
+pub(crate) fn region_of(campaign: &Campaign, unit: u32) -> u32
+    ensures { result ≡ region_of campaign.now.what unit }
+{
+    match campaign.unit(unit) {
+        Some(found) => found.region,
+        None => 0,
+    }
+}

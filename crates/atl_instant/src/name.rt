@@ -1,0 +1,226 @@
+//! NAME and GUARD 0: units give names, and leave their guard.
+ghost use Rattle.std.specs.Prelude.{◌≡◌, IfOk, IsTrue, false};
+ghost use Rattle.std.specs.FinMap as map;
+ghost use Rattle.atl_tables.specs.Names.{name_ok};
+ghost use Rattle.atl_orders.specs.Orders.{name_in};
+ghost use Rattle.atl_state.specs.State.{with_faction_name, with_guard};
+ghost use Rattle.atl_state.specs.Covers.{MarksChanges};
+ghost use Rattle.atl_state.specs.Good.{IsEarly};
+ghost use Rattle.atl_instant.specs.Name.{is_naming, is_of_sort, name_keeps, name_meaning, name_step, named, structure_fault, structure_named, takes_naming, with_unit_name};
+ghost use Rattle.atl_instant.specs.Staying.{IsNoWorse};
+ghost use Rattle.atl_instant.specs.Steps.{IsOwnOrder};
+ghost use Rattle.atl_instant.specs.Unbooked.{books_nothing, moves_nothing};
+
+use crate::inside::structure_of;
+use crate::month::Month;
+use crate::orders::PhaseVerbs;
+use crate::outcome::failed;
+use crate::phase::Phase;
+use crate::steps::{OrderPhase, carry_out_orders};
+use crate::written::Written;
+use atl_orders::{Mailing, NameKind, Order, Span, Verb};
+use atl_state::{Campaign, EventFault, Outcome, Structure};
+use atl_tables::{Text, World};
+use std::alloc::{AllocError, Global};
+
+/// Names that units give to themselves, their factions and their structures, and guards that they leave. See docs/RULES.md,
+/// "Name".
+#[derive(Drop, Clone, Copy)]
+pub struct NamePhase;
+
+/// The name that an order gives, copied from its mailing.
+fn name_of(alloc: Global, mailing: &Mailing, span: Span) -> Result<Text, AllocError>
+    requires { IsTrue (name_ok (name_in mailing.now.text span)) }
+    ensures { IfOk result (λ name. name ≡ name_in mailing.now.text span) }
+{
+    let bytes = mailing.name(alloc, span)?;
+    let letters = String::from_utf8(bytes.into_vec()).unwrap();
+    Ok(Text::from_string(letters))
+}
+
+/// A unit that is there takes a name.
+fn name_unit(campaign: &mut Campaign, unit: u32, name: Text)
+    ensures what { campaign.new.what ≡ with_unit_name campaign.old.what unit name }
+    ensures marks { MarksChanges campaign.old campaign.new }
+{
+    match campaign.unit_mut(unit) {
+        Some(holding) => holding.set_name(name),
+        None => {}
+    }
+}
+
+/// A faction shows another name.
+fn name_faction(campaign: &mut Campaign, faction: u32, name: Text)
+    ensures what { campaign.new.what ≡ with_faction_name campaign.old.what faction name }
+    ensures marks { MarksChanges campaign.old campaign.new }
+{
+    campaign.set_faction_name(faction, name);
+}
+
+/// Whether a structure is a ship, or else a building.
+fn is_of_sort(world: &World, ship: bool, structure: &Structure) -> bool
+    ensures { result ≡ is_of_sort world.now ship structure.now }
+{
+    let is_ship = match world.kinds().get(usize::from(structure.kind)) {
+        Some(kind) => kind.ship,
+        None => false,
+    };
+    is_ship == ship
+}
+
+/// Why a unit doesn't name the structure that it is inside.
+fn structure_fault(
+    world: &World,
+    campaign: &Campaign,
+    unit: u32,
+    inside: u32,
+    ship: bool,
+) -> Option<EventFault>
+    ensures { result ≡ structure_fault world.now unit ship (map.get campaign.now.what.structures inside) }
+{
+    match campaign.structure(inside) {
+        Some(structure) if !is_of_sort(world, ship, structure) => Some(EventFault::NotInside),
+        Some(structure) if structure.owner != unit => Some(EventFault::NotOwner),
+        Some(_) => None,
+        None => Some(EventFault::NotInside),
+    }
+}
+
+/// A unit inside a structure names it.
+fn name_structure(
+    world: &World,
+    campaign: &mut Campaign,
+    unit: u32,
+    inside: u32,
+    ship: bool,
+    name: Text,
+) -> Outcome
+    ensures value { (campaign.new.what, result) ≡ structure_named world.now campaign.old.what unit inside ship name }
+    ensures marks { MarksChanges campaign.old campaign.new }
+{
+    match structure_fault(world, campaign, unit, inside, ship) {
+        Some(fault) => failed(fault),
+        None => {
+            campaign.set_structure_name(inside, name);
+            Outcome::Done(0)
+        }
+    }
+}
+
+/// A unit leaves its guard.
+fn leave_guard(campaign: &mut Campaign, unit: u32)
+    ensures what { campaign.new.what ≡ with_guard campaign.old.what unit false }
+    ensures marks { MarksChanges campaign.old campaign.new }
+{
+    campaign.set_guard(unit, false);
+}
+
+/// A unit of a faction gives a name.
+fn name(
+    world: &World,
+    campaign: &mut Campaign,
+    faction: u32,
+    unit: u32,
+    what: NameKind,
+    name: Text,
+) -> Outcome
+    ensures value { (campaign.new.what, result) ≡ named world.now campaign.old.what faction unit what name }
+    ensures marks { MarksChanges campaign.old campaign.new }
+{
+    match what {
+        NameKind::Unit => name_unit(campaign, unit, name),
+        NameKind::Faction => name_faction(campaign, faction, name),
+        NameKind::Building => {
+            let inside = structure_of(campaign, unit);
+            return name_structure(world, campaign, unit, inside, false, name);
+        }
+        NameKind::Ship => {
+            let inside = structure_of(campaign, unit);
+            return name_structure(world, campaign, unit, inside, true, name);
+        }
+    }
+    Outcome::Done(0)
+}
+
+impl PhaseVerbs for NamePhase {
+    ghost is_of = { is_naming };
+
+    fn has(&self, verb: Verb) -> bool {
+        matches!(verb, Verb::Name | Verb::Guard)
+    }
+}
+
+impl OrderPhase for NamePhase {
+    ghost step = { name_step };
+
+    ghost is_taken = { takes_naming };
+
+    ghost holds = { IsEarly };
+
+    ghost reserve = { books_nothing };
+
+    ghost moving = { moves_nothing };
+
+    ghost concerns = { IsOwnOrder };
+
+    ghost spares = { IsNoWorse };
+
+    fn takes(&self, order: &Order) -> bool {
+        match order {
+            Order::Guard(flag) => !*flag,
+            _ => true,
+        }
+    }
+
+    #[tactic(auto, unfolding(crate::specs::Name::name_step), using(crate::proofs::NameLaws::name_other))]
+    fn carry_out(
+        &self,
+        alloc: Global,
+        world: &World,
+        campaign: &mut Campaign,
+        _month: &Month,
+        order: Written,
+        mailing: &Mailing,
+        what: &Order,
+    ) -> Result<Outcome, AllocError> {
+        match what {
+            Order::Name {
+                what: kind,
+                name: span,
+            } => {
+                let given = name_of(alloc, mailing, *span)?;
+                Ok(name(world, campaign, order.faction, order.unit, *kind, given))
+            }
+            Order::Guard(_) => {
+                leave_guard(campaign, order.unit);
+                Ok(Outcome::Done(0))
+            }
+            _ => Ok(Outcome::Done(0)),
+        }
+    }
+
+    fn is_orderly(&self) {}
+}
+
+impl Phase for NamePhase {
+    ghost meaning = { name_meaning };
+
+    ghost needs = { IsEarly };
+
+    ghost leaves = { IsEarly };
+
+    ghost moving = { moves_nothing };
+
+    ghost keeps = { name_keeps };
+
+    fn run(
+        &self,
+        alloc: Global,
+        world: &World,
+        mut campaign: Campaign,
+        mut month: Month,
+    ) -> Result<(Campaign, Month), AllocError> {
+        carry_out_orders(alloc, self, world, &mut campaign, &mut month)?;
+        Ok((campaign, month))
+    }
+}
