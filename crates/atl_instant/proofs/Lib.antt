@@ -7,3 +7,4 @@ pub mod WrittenLaws
 pub mod MeaningLaws
 pub mod BookingLaws
 pub mod StayingLaws
+pub mod StepLaws

@@ -4,3 +4,6 @@ pub mod PhaseOrders
 pub mod Collecting
 pub mod Terrains
 pub mod Staying
+pub mod Fit
+pub mod Steps
+pub mod Carrying

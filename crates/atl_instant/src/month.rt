@@ -3,12 +3,13 @@ ghost use Rattle.std.specs.Prelude.{◌≡◌, ◌++◌, ◌∷◌, [], IfOk, On
 ghost use Rattle.std.specs.FinMap.{empty, get, values};
 ghost use Rattle.atl_orders.specs.Mailing.{reading_of};
 ghost use Rattle.atl_instant.specs.Course.{HaveOwnFactions, HaveNoOrder, alias_unit, by_faction, order_at, said_of, with_alias};
-ghost use Rattle.atl_instant.specs.PhaseOrders.{orders_of, written};
+ghost use Rattle.atl_instant.specs.PhaseOrders.{orders_of, unit_of, written};
 ghost use Rattle.atl_instant.specs.Collecting.{AreByFaction};
 
 use crate::orders::{PhaseVerbs, orders_of};
+use crate::standing::unit_of;
 use crate::written::{Arrangement, Written};
-use atl_orders::{Mailing, Order};
+use atl_orders::{Mailing, Order, UnitRef};
 use atl_state::Event;
 use atl_tables::Numbered;
 use std::alloc::{AllocError, Global};
@@ -148,6 +149,13 @@ impl Month {
         let mailing = mailing_of(&self.mailings, faction)?;
         let entry = mailing.entries.as_slice().get(place)?;
         Some((mailing, &entry.order))
+    }
+
+    /// The unit that a faction names; 0 for an alias under which no unit was made.
+    pub fn unit(&self, faction: u32, target: UnitRef) -> u32
+        ensures { result ≡ unit_of self.now.aliases faction target }
+    {
+        unit_of(&self.aliases, faction, target)
     }
 
     /// The number of the unit that a faction's FORM made under an alias.

@@ -1,6 +1,7 @@
 //! A phase of the month.
 ghost use Rattle.std.specs.Prelude.{◌≡◌, IfOk};
 ghost use Rattle.atl_state.specs.Covers.{MarksChanges};
+ghost use Rattle.atl_instant.specs.Fit.{AreFit};
 ghost use Rattle.atl_instant.specs.Meaning.{Meaning, Condition, Keeping, Moving, LeavesWell, HaveRoom, then_also, both_need, both_keep, both_move};
 
 use crate::month::Month;
@@ -24,7 +25,8 @@ pub trait Phase {
     // What it leaves to the units whose own faction wrote no order of it.
     ghost keeps: { Keeping };
 
-    /// Runs the phase. AllocError without memory; the campaign and the month are then given up.
+    /// Runs the phase, with orders as they can be read with the world. AllocError without memory; the campaign and the
+    /// month are then given up.
     fn run(
         &self,
         alloc: Global,
@@ -34,9 +36,11 @@ pub trait Phase {
     ) -> Result<(Campaign, Month), AllocError>
         requires needs { needs world.now campaign.what }
         requires room { HaveRoom moving campaign.what }
+        requires read { AreFit world.now month.readings }
         ensures meaning { IfOk result (λ r. (r.0.what, r.1) ≡ meaning world.now campaign.what month) }
         ensures leaves { IfOk result (λ r. LeavesWell leaves moving world.now campaign.what r.0.what) }
         ensures keeps { IfOk result (λ r. keeps world.now month campaign.what r.0.what) }
+        ensures readings { IfOk result (λ r. r.1.readings ≡ month.readings) }
         ensures marks { IfOk result (λ r. MarksChanges campaign r.0) };
 }
 

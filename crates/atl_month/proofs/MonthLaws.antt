@@ -1,5 +1,5 @@
 -- A campaign behind the phases of a month is good again once the month is counted and the mail is taken away.
-use Rattle.std.proofs.Common.{◌≡◌, ◌==◌, ◌&&◌, not, ℕ, ◌+◌, ◌*◌, ◌≤◌, ◌<◌, Bool, true, false, List, refl, sym, ap, subst, ◌∙◌, arith}
+use Rattle.std.proofs.Common.{◌≡◌, ◌==◌, ◌&&◌, not, ℕ, ◌+◌, ◌*◌, ◌≤◌, ◌<◌, Bool, true, false, List, [], ◌∷◌, map, refl, sym, ap, subst, ◌∙◌, arith}
 use Rattle.std.specs.Prelude.{ℤ, if◌then◌else◌}
 use Rattle.std.specs.FinMap.{get, len}
 use Rattle.std.proofs.lemmas.Int.{ints}
@@ -15,7 +15,14 @@ use Rattle.atl_state.specs.Good.{AreAmountsWithin, AreInRange, AreKnown, Every, 
 use Rattle.atl_state.specs.Limits.{last_month}
 use Rattle.atl_state.specs.State.{State, numbers_of}
 use Rattle.atl_state.specs.Totals.{Balances, total}
-use Rattle.atl_state.proofs.EveryLaws.{every-empty}
+use Rattle.std.specs.List.{AllByRecursion}
+use Rattle.atl_orders.proofs.BoundLaws.{readings_keep_bounds}
+use Rattle.atl_orders.specs.Bounds.{IsReading}
+use Rattle.atl_orders.specs.Mailing.{IsReadWith, reading_of}
+use Rattle.atl_orders.specs.declared.mailing.Mailing.{Mailing}
+use Rattle.atl_state.proofs.EveryLaws.{every-empty, every-insert}
+use Rattle.atl_instant.specs.Course.{by_faction}
+use Rattle.atl_instant.specs.Fit.{AreFit}
 use Rattle.atl_instant.specs.Meaning.{HaveRoom, IsNear, IsSameMonth, LeavesWell, Moving, most_moved}
 use Rattle.atl_instant.proofs.CourseLaws.{mailings_have_no_order}
 use Rattle.atl_instant.proofs.MeaningLaws.{MovesLess, room_when_sound}
@@ -136,3 +143,8 @@ phases_room w c sound = room_when_sound w c phases_move (λ e t. omega (arith, p
 -- in which order mailings come isn't seen
 pub month_has_no_order : MonthHasNoOrder
 month_has_no_order w c words mailings others own same = ap (λ readings. month_of w c readings words) (mailings_have_no_order mailings others own same)
+
+-- mailings that were read with a world say what can be read with it
+pub read_fit : (w : Planet) (ms : List Mailing) → AllByRecursion (IsReadWith w) ms → AreFit w (by_faction (map reading_of ms))
+read_fit w [] all = every-empty (λ f r. IsReading w r)
+read_fit w (m ∷ ms) all = every-insert (λ f r. IsReading w r) (by_faction (map reading_of ms)) m.faction (reading_of m) (readings_keep_bounds w m.text (reading_of m) all.0) (read_fit w ms all.1)

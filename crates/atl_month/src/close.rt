@@ -6,6 +6,7 @@ ghost use Rattle.atl_state.specs.Covers.{MarksChanges};
 ghost use Rattle.atl_state.specs.Good.{IsGood, IsSound};
 ghost use Rattle.atl_state.specs.Limits.{last_month};
 ghost use Rattle.atl_instant.specs.Course.{HaveOwnFactions, by_faction};
+ghost use Rattle.atl_instant.specs.Fit.{AreFit};
 ghost use Rattle.atl_instant.specs.Meaning.{LeavesWell};
 ghost use Rattle.atl_month.specs.Month.{MonthHasNoOrder, begun, finished, month_of, phases, phases_keep, phases_move};
 ghost use Rattle.atl_month.specs.Swept.{IsSwept};
@@ -28,6 +29,7 @@ fn run_phases(
     month: Month,
 ) -> Result<(Campaign, Month), AllocError>
     requires sound { IsSound world.now campaign.what }
+    requires read { AreFit world.now month.readings }
     ensures meaning { IfOk result (λ r. (r.0.what, r.1) ≡ phases world.now campaign.what month) }
     ensures leaves { IfOk result (λ r. LeavesWell IsSwept phases_move world.now campaign.what r.0.what) }
     ensures keeps { IfOk result (λ r. phases_keep world.now month campaign.what r.0.what) }

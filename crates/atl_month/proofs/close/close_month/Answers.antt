@@ -1,8 +1,10 @@
 use Rattle.std.proofs.Common.{rules, ◌≡◌, ℕ, map, subst}
-use Rattle.atl_orders.specs.Mailing.{reading_of}
+use Rattle.std.proofs.lemmas.List.Elements.{recursion_from_All}
+use Rattle.atl_orders.specs.Mailing.{IsReadWith, reading_of}
+use Rattle.atl_instant.specs.Fit.{AreFit}
 use Rattle.atl_instant.specs.Course.{Course, by_faction}
 use Rattle.atl_month.specs.Month.{begun, phases_keep, phases_move}
-use Rattle.atl_month.proofs.MonthLaws.{finished_good, phases_little}
+use Rattle.atl_month.proofs.MonthLaws.{finished_good, phases_little, read_fit}
 use Rattle.atl_month.proofs.close.close_month.Goals as goal
 
 pub returns-clause-good : goal.returns-clause-good
@@ -12,3 +14,10 @@ pub returns-clause-keeps : goal.returns-clause-keeps
 returns-clause-keeps c =
     let is : c.new-month.result ≡ begun (by_faction (map reading_of c.args.mailings.items)) c.args.words.now = search rules in
     subst (λ (m : Course). phases_keep c.args.world.now m c.args.campaign.what c.in_ok-campaign.campaign.what) is c.in_ok-campaign.ensures.keeps
+
+pub run_phases-requires-clause-read : goal.run_phases-requires-clause-read
+run_phases-requires-clause-read c =
+    let ms = c.args.mailings.items in
+    let w = c.args.world.now in
+    let is : by_faction (map reading_of ms) ≡ c.new-month.result.readings = search rules in
+    subst (AreFit w) is (read_fit w ms (recursion_from_All (IsReadWith w) ms c.requires.read))

@@ -1,3 +1,5 @@
+use Rattle.std.proofs.Common.{subst, sym}
+use Rattle.atl_instant.specs.Fit.{AreFit}
 use Rattle.atl_state.proofs.CoverLaws.{marks-trans}
 use Rattle.atl_instant.proofs.MeaningLaws.{both_keep_well, both_leave_well, room_behind}
 use Rattle.atl_instant.proofs.phase.Tuple2Phase.run.Goals as goal
@@ -19,3 +21,6 @@ pub returns-clause-keeps : goal.returns-clause-keeps
 returns-clause-keeps g c =
     both_keep_well g.P.Phase.meaning g.P.Phase.keeps g.Q.Phase.keeps c.args.world.now c.args.month c.in_ok-campaign.month c.args.campaign.what c.in_ok-campaign.campaign.what c.in_ok-campaign-2.campaign.what
     c.in_ok-campaign.ensures.meaning c.in_ok-campaign.ensures.keeps c.in_ok-campaign-2.ensures.keeps
+
+pub run-requires-2-clause-read : goal.run-requires-2-clause-read
+run-requires-2-clause-read g c = subst (AreFit c.args.world.now) (sym c.in_ok-campaign.ensures.readings) c.requires.read

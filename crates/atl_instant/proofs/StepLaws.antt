@@ -1,0 +1,214 @@
+-- What a phase leaves that carries its orders out one by one.
+use Rattle.std.proofs.Common.{suc, zero, ◌≡◌, ℕ, ◌≤◌, Bool, true, false, List, [], ◌∷◌, Option, Some, None, map, refl, sym, ap, subst, ◌∙◌, arith}
+use Rattle.std.specs.Prelude.{ℤ, pos, fold, OnOk, Result, Ok, Err, option_map, if◌then◌else◌}
+use Rattle.std.specs.List.{All, AllByRecursion, slice_get}
+use Rattle.std.proofs.lemmas.List.Elements.{recursion_from_All}
+use Rattle.std.specs.FinMap.{FinMap, get, values}
+use Rattle.std.specs.Ordering.{nat_cmp}
+use Rattle.std.proofs.lemmas.Int.{ints}
+use Rattle.atl_tables.specs.Planet.{Planet}
+use Rattle.atl_orders.specs.declared.verb.Verb.{Verb}
+use Rattle.atl_orders.specs.Bounds.{IsEntry, IsOrderOf, IsReading}
+use Rattle.atl_orders.specs.Mailing.{EntrySaid, Reading}
+use Rattle.atl_orders.specs.Orders.{Said}
+use Rattle.atl_state.specs.declared.books.Entry.{Entry}
+use Rattle.atl_state.specs.declared.books.Thing.{Thing}
+use Rattle.atl_state.specs.declared.event.Outcome.TheVariants.{Fault}
+use Rattle.atl_state.specs.declared.records.Unit.{Unit}
+use Rattle.atl_state.specs.Books.{amount_in}
+use Rattle.atl_state.specs.State.{State}
+use Rattle.atl_instant.specs.Course.{Aliases, Course, order_at, order_in}
+use Rattle.atl_instant.specs.Fit.{AreFit}
+use Rattle.atl_instant.specs.Meaning.{Condition, HasRoom, HaveRoom, IsNear, LeavesWell, Moving}
+use Rattle.atl_instant.specs.PhaseOrders.{IsInMailing, Task, orders_of, written}
+use Rattle.atl_instant.specs.Carrying.{carried_said, carried_written, task_of}
+use Rattle.atl_instant.specs.declared.written.Written.{Written}
+use Rattle.atl_instant.specs.Staying.{IsNoWorse}
+use Rattle.atl_instant.specs.Steps.{AreSpared, Concern, IsDrawn, IsOrderly, IsSpared, IsSparing, Reserve, Sparing, Step, StepsWell, and_told, carried, carried_out, is_own, one_order}
+use Rattle.atl_instant.specs.declared.written.Arrangement.TheVariants.{ByUnit}
+use Rattle.atl_instant.proofs.MeaningLaws.{same_month}
+use Rattle.atl_instant.proofs.StayingLaws.{no_worse, no_worse_twice}
+use Rattle.atl_instant.proofs.WrittenLaws.{orders_are_in_mailings}
+
+Some_same : {X : Type 0} {x y : X} → Some x ≡ Some y → x ≡ y
+Some_same e = cc
+
+-- ---- amounts
+
+pub drawn_same : (r : ℕ) (a : ℤ) → IsDrawn r r a a
+drawn_same r a = record { above = omega (arith, ints); below = omega (arith, ints) }
+
+pub drawn_twice : (r s t : ℕ) (a b c : ℤ) → IsDrawn r s a b → IsDrawn s t b c → IsDrawn r t a c
+drawn_twice r s t a b c one two = record { above = omega (arith, ints, one.above, two.above); below = omega (arith, ints, one.below, two.below) }
+
+near_drawn : (r s most : ℕ) (a b : ℤ) → r ≤ most → IsDrawn r s a b → IsNear most a b
+near_drawn r s most a b l h = record { above = omega (arith, ints, h.above); below = omega (arith, ints, h.below) }
+
+room_drawn : (r s : ℕ) (a b : ℤ) → IsDrawn r s a b → HasRoom r a → HasRoom s b
+room_drawn r s a b h room = record { above = omega (arith, ints, h.above, room.above); below = omega (arith, ints, h.below, room.below) }
+
+-- ---- steps
+
+pub well_same : {holds : Condition} {reserve : Reserve} (w : Planet) (c : State) → holds w c → StepsWell holds reserve w c c
+well_same {holds} {reserve} w c h = record { holds_still = h; same_month = same_month c; balances = λ b. b; drawn = λ e t. drawn_same (reserve c e t) (amount_in c.books e t) }
+
+pub well_twice : {holds : Condition} {reserve : Reserve} (w : Planet) (a b c : State) → StepsWell holds reserve w a b → StepsWell holds reserve w b c → StepsWell holds reserve w a c
+well_twice {holds} {reserve} w a b c one two = record {
+  holds_still = two.holds_still;
+  same_month = record {
+    month = two.same_month.month ∙ one.same_month.month;
+    reports = two.same_month.reports ∙ one.same_month.reports;
+    count = two.same_month.count ∙ one.same_month.count;
+    factions = λ n there. one.same_month.factions n (two.same_month.factions n there);
+  };
+  balances = λ h. two.balances (one.balances h);
+  drawn = λ e t. drawn_twice (reserve a e t) (reserve b e t) (reserve c e t) (amount_in a.books e t) (amount_in b.books e t) (amount_in c.books e t) (one.drawn e t) (two.drawn e t);
+}
+
+-- the room for what may still be moved stays
+pub room_left : {holds : Condition} {reserve : Reserve} (w : Planet) (a b : State) → StepsWell holds reserve w a b → HaveRoom (reserve a) a → HaveRoom (reserve b) b
+room_left {holds} {reserve} w a b well room e t = room_drawn (reserve a e t) (reserve b e t) (amount_in a.books e t) (amount_in b.books e t) (well.drawn e t) (room e t)
+
+pub leaves_well : {holds : Condition} {reserve : Reserve} {moving : Moving} (w : Planet) (a b : State) → ((e : Entry) (t : Thing) → reserve a e t ≤ moving e t) → StepsWell holds reserve w a b → LeavesWell holds moving w a b
+leaves_well {holds} {reserve} {moving} w a b l h = record {
+  leaves_it = h.holds_still;
+  same_month = h.same_month;
+  balances = h.balances;
+  near = λ e t. near_drawn (reserve a e t) (reserve b e t) (moving e t) (amount_in a.books e t) (amount_in b.books e t) (l e t) (h.drawn e t);
+}
+
+-- room for all that a phase may move is room for what its orders may still move
+pub room_reserved : (reserve : Reserve) (moving : Moving) (c : State) → ((e : Entry) (t : Thing) → reserve c e t ≤ moving e t) → HaveRoom moving c → HaveRoom (reserve c) c
+room_reserved reserve moving c l room e t = less (reserve c e t) (moving e t) (amount_in c.books e t) (l e t) (room e t)
+  where
+    less : (j k : ℕ) (a : ℤ) → j ≤ k → HasRoom k a → HasRoom j a
+    less j k a l r = record { above = omega (arith, ints, r.above); below = omega (arith, ints, r.below) }
+
+-- ---- what stays
+
+-- a unit that is no worse off is so behind two changes as well
+pub no_worse_spares : IsSparing IsNoWorse
+no_worse_spares = record { same = no_worse; again = no_worse_twice; faction = λ u v h. h.faction }
+
+-- ---- orders
+
+pub carried_own : (step : Step) (w : Planet) (a : Aliases) (c : State) (t : Task) → true ≡ is_own c t → carried step w a c t ≡ step w a c t
+carried_own step w a c t own = rw (sym own) refl
+
+pub carried_other : (step : Step) (w : Planet) (a : Aliases) (c : State) (t : Task) → false ≡ is_own c t → carried step w a c t ≡ (c, Fault 1)
+carried_other step w a c t other = rw (sym other) refl
+
+module _ (step : Step) (is_taken : Said → Bool) {holds : Condition} {reserve : Reserve} {moving : Moving} {concerns : Concern} {spares : Sparing} (orderly : IsOrderly step holds reserve moving concerns spares) (w : Planet) where
+  pub carried_well : (a : Aliases) (c : State) (t : Task) → holds w c → IsOrderOf w t.said → StepsWell holds reserve w c (carried step w a c t).0
+  carried_well a c t h fit = by_test (is_own c t) refl
+    where
+      by_test : (b : Bool) → is_own c t ≡ b → StepsWell holds reserve w c (carried step w a c t).0
+      by_test true own = rw own (orderly.well w a c t h fit own)
+      by_test false other = rw other (well_same w c h)
+
+  pub order_well : (c : State) (m : Course) (t : Task) → holds w c → IsOrderOf w t.said → StepsWell holds reserve w c (one_order step is_taken w (c, m) t).0
+  order_well c m t h fit = by_test (is_taken t.said) refl
+    where
+      by_test : (b : Bool) → is_taken t.said ≡ b → StepsWell holds reserve w c (one_order step is_taken w (c, m) t).0
+      by_test true is = rw is (carried_well m.aliases c t h fit)
+      by_test false is = rw is (well_same w c h)
+
+  carried_spares : (a : Aliases) (c : State) (t : Task) → holds w c → (n : ℕ) (u : Unit) → get c.units n ≡ Some u → (concerns t n u.faction → ⊥) → IsSpared spares (carried step w a c t).0 n u
+  carried_spares a c t h n u there other = by_test (is_own c t) refl
+    where
+      by_test : (b : Bool) → is_own c t ≡ b → IsSpared spares (carried step w a c t).0 n u
+      by_test true own = rw own (orderly.spared w a c t h own n u there other)
+      by_test false is = rw is (record { unit = u; there = there; spared = orderly.sparing.same u })
+
+  order_spares : (c : State) (m : Course) (t : Task) → holds w c → (n : ℕ) (u : Unit) → get c.units n ≡ Some u → (concerns t n u.faction → ⊥) → IsSpared spares (one_order step is_taken w (c, m) t).0 n u
+  order_spares c m t h n u there other = by_test (is_taken t.said) refl
+    where
+      by_test : (b : Bool) → is_taken t.said ≡ b → IsSpared spares (one_order step is_taken w (c, m) t).0 n u
+      by_test true is = rw is (carried_spares m.aliases c t h n u there other)
+      by_test false is = rw is (record { unit = u; there = there; spared = orderly.sparing.same u })
+
+  orders_spare_one : (c : State) (m : Course) (ts : List Task) → holds w c → AllByRecursion (λ t. IsOrderOf w t.said) ts → (n : ℕ) (u : Unit) → get c.units n ≡ Some u → AllByRecursion (λ t. concerns t n u.faction → ⊥) ts
+      → IsSpared spares (fold (one_order step is_taken w) (c, m) ts).0 n u
+  orders_spare_one c m [] h fit n u there others = record { unit = u; there = there; spared = orderly.sparing.same u }
+  orders_spare_one c m (t ∷ ts) h fit n u there others =
+      let next = one_order step is_taken w (c, m) t in
+      let one = order_spares c m t h n u there others.0 in
+      let same_faction = orderly.sparing.faction u one.unit one.spared in
+      let rest = orders_spare_one next.0 next.1 ts (order_well c m t h fit.0).holds_still fit.1 n one.unit one.there (subst (λ f. AllByRecursion (λ t. concerns t n f → ⊥) ts) (sym same_faction) others.1) in
+      record { unit = rest.unit; there = rest.there; spared = orderly.sparing.again u one.unit rest.unit one.spared rest.spared }
+
+  -- each unit that none of some orders concerns
+  pub orders_spare : (c : State) (m : Course) (ts : List Task) → holds w c → All (λ t. IsOrderOf w t.said) ts → AreSpared concerns spares ts c (fold (one_order step is_taken w) (c, m) ts).0
+  orders_spare c m ts h fit n u there others =
+      orders_spare_one c m ts h (recursion_from_All (λ t. IsOrderOf w t.said) ts fit) n u there (recursion_from_All (λ t. concerns t n u.faction → ⊥) ts others)
+
+-- ---- the orders of a phase
+
+module _ (w : Planet) where
+  fit_at : (es : List EntrySaid) (k : ℕ) (e : EntrySaid) → AllByRecursion (IsEntry w) es → slice_get es k ≡ Some e → IsEntry w e
+  fit_at [] k e all is = cc
+  fit_at (x ∷ es) zero e all is = subst (IsEntry w) (Some_same is) all.0
+  fit_at (x ∷ es) (suc k) e all is = fit_at es k e all.1 is
+
+  entry_fit : (r : Reading) (k : ℕ) (e : EntrySaid) → IsReading w r → slice_get r.entries k ≡ Some e → IsOrderOf w e.said
+  entry_fit r k e fit is = (fit_at r.entries k e (recursion_from_All (IsEntry w) r.entries fit.entries) is).order
+
+  module _ (aliases : Aliases) (readings : FinMap nat_cmp Reading) (fit : AreFit w readings) where
+    in_mailing_fit : (t : Task) → IsInMailing aliases readings t → IsOrderOf w t.said
+    in_mailing_fit t h = subst (IsOrderOf w) h.says (entry_fit h.reading t.place h.entry (fit t.faction h.reading h.of_faction) h.at_place)
+
+    pub orders_fit : (is_of : Verb → Bool) → All (λ t. IsOrderOf w t.said) (values (orders_of is_of ByUnit aliases readings))
+    orders_fit is_of k d l = in_mailing_fit _ (orders_are_in_mailings is_of ByUnit aliases readings k d l)
+
+  -- what is said at a place of a faction's mailing
+  pub said_fit : (readings : FinMap nat_cmp Reading) (faction place : ℕ) (s : Said) → AreFit w readings → order_at readings faction place ≡ Some s → IsOrderOf w s
+  said_fit readings faction place s fit is = by_reading (get readings faction) refl is
+    where
+      by_entry : (r : Reading) (o : Option EntrySaid) → get readings faction ≡ Some r → slice_get r.entries place ≡ o → option_map (λ e. e.said) o ≡ Some s → IsOrderOf w s
+      by_entry r None there at none = cc
+      by_entry r (Some e) there at some = subst (IsOrderOf w) (Some_same some) (entry_fit r place e (fit faction r there) at)
+
+      by_reading : (o : Option Reading) → get readings faction ≡ o → order_in place o ≡ Some s → IsOrderOf w s
+      by_reading None there none = cc
+      by_reading (Some r) there some = by_entry r (slice_get r.entries place) there refl some
+
+-- ---- what the code finds is what is written
+
+module _ (step : Step) (is_taken : Said → Bool) (w : Planet) where
+  order_readings : (p : State × Course) (t : Task) → (one_order step is_taken w p t).1.readings ≡ p.1.readings
+  order_readings p t = by_test (is_taken t.said)
+    where
+      by_test : (b : Bool) → (if b then and_told p.1 t (carried step w p.1.aliases p.0 t) else p).1.readings ≡ p.1.readings
+      by_test true = refl
+      by_test false = refl
+
+  pub written_readings : (p : State × Course) (o : Written) → (carried_written step is_taken w p o).1.readings ≡ p.1.readings
+  written_readings p o = by_order (order_at p.1.readings o.faction o.place)
+    where
+      by_order : (s : Option Said) → (carried_said step is_taken w p o s).1.readings ≡ p.1.readings
+      by_order None = refl
+      by_order (Some s) = order_readings p (task_of o s)
+
+  found : (aliases : Aliases) (readings : FinMap nat_cmp Reading) (p : State × Course) (t : Task) → p.1.readings ≡ readings → IsInMailing aliases readings t → carried_written step is_taken w p (written t) ≡ one_order step is_taken w p t
+  found aliases readings p t same h =
+      let at : order_at p.1.readings t.faction t.place ≡ Some t.said =
+      ap (λ m. order_at m t.faction t.place) same ∙ ap (order_in t.place) h.of_faction ∙ ap (option_map (λ (e : EntrySaid). e.said)) h.at_place ∙ ap (λ s. Some s) h.says in
+      ap (carried_said step is_taken w p (written t)) at
+
+  found_each : (aliases : Aliases) (readings : FinMap nat_cmp Reading) (p : State × Course) (ts : List Task) → p.1.readings ≡ readings → AllByRecursion (IsInMailing aliases readings) ts → fold (carried_written step is_taken w) p (map written ts) ≡ fold (one_order step is_taken w) p ts
+  found_each aliases readings p [] same all = refl
+  found_each aliases readings p (t ∷ ts) same all =
+      ap (λ q. fold (carried_written step is_taken w) q (map written ts)) (found aliases readings p t same all.0)
+      ∙ found_each aliases readings (one_order step is_taken w p t) ts (order_readings p t ∙ same) all.1
+
+  pub written_out : (is_of : Verb → Bool) (c : State) (m : Course) → fold (carried_written step is_taken w) (c, m) (map written (values (orders_of is_of ByUnit m.aliases m.readings))) ≡ carried_out step is_taken is_of w c m
+  unfolding carried_out
+  written_out is_of c m =
+      let ts = values (orders_of is_of ByUnit m.aliases m.readings) in
+      found_each m.aliases m.readings (c, m) ts refl (recursion_from_All (IsInMailing m.aliases m.readings) ts (orders_are_in_mailings is_of ByUnit m.aliases m.readings))
+
+-- ---- what is so in any case is so where a call answers Ok
+
+pub where_ok : {T E P : Type 0} (r : Result T E) → P → OnOk r P
+where_ok (Ok x) p = p
+where_ok (Err e) p = tt

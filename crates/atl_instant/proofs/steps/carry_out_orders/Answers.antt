@@ -1,0 +1,86 @@
+use Rattle.std.proofs.Common.{◌≡◌, ◌+◌, [], refl, ap, subst, sym, ◌∙◌, drop, get_or, map, arith}
+use Rattle.std.proofs.lemmas.List.{drop_all, drop_more}
+use Rattle.std.specs.Prelude.{fold}
+use Rattle.std.specs.FinMap.{values}
+use Rattle.atl_state.proofs.CoverLaws.{marks-refl, marks-trans}
+use Rattle.atl_orders.specs.declared.verb.Verb.TheVariants.{Form}
+use Rattle.atl_instant.specs.Carrying.{carried_written}
+use Rattle.atl_state.specs.State.{State}
+use Rattle.atl_instant.specs.Course.{Course}
+use Rattle.atl_instant.specs.Fit.{AreFit}
+use Rattle.atl_instant.specs.PhaseOrders.{orders_of, written}
+use Rattle.atl_instant.specs.Steps.{AreSpared, carried_out}
+use Rattle.atl_instant.specs.declared.written.Written.{Written}
+use Rattle.atl_instant.specs.declared.written.Arrangement.TheVariants.{ByUnit}
+use Rattle.atl_instant.proofs.StepLaws.{leaves_well, orders_fit, orders_spare, room_left, room_reserved, well_same, well_twice, written_out, written_readings}
+use Rattle.atl_instant.proofs.steps.carry_out_orders.Goals as goal
+
+-- what stands where nothing is read
+abbrev none : Written
+none = record { unit = 0; line = 0; faction = 0; verb = Form; place = 0 }
+
+pub loop-order-init : goal.loop-order-init
+loop-order-init g c = record {
+  orders = refl;
+  readings = refl;
+  well = well_same c.args.world.now c.args.campaign.now.what c.requires.holds;
+  marks = marks-refl c.args.campaign.now;
+}
+
+pub carry_one-requires-clause-holds : goal.carry_one-requires-clause-holds
+carry_one-requires-clause-holds g c = c.loop-order.invariant.well.holds_still
+
+pub carry_one-requires-clause-room : goal.carry_one-requires-clause-room
+carry_one-requires-clause-room g c =
+    let P = g.P.OrderPhase in
+    room_left c.args.world.now c.args.campaign.now.what c.loop-order.campaign.what c.loop-order.invariant.well
+    (room_reserved P.reserve P.moving c.args.campaign.now.what (g.met.P.OrderPhase.orderly.bounded c.args.world.now c.args.campaign.now.what c.requires.holds) c.requires.room)
+
+pub carry_one-requires-clause-read : goal.carry_one-requires-clause-read
+carry_one-requires-clause-read g c = subst (AreFit c.args.world.now) (sym c.loop-order.invariant.readings) c.requires.read
+
+pub loop-order-preserved : goal.loop-order-preserved
+loop-order-preserved g c =
+    let P = g.P.OrderPhase in
+    let w = c.args.world.now in
+    let before : State × Course = (c.loop-order.campaign.what, c.loop-order.month) in
+    let one = carried_written P.step P.is_taken w in
+    let xs = c.deref-order-items.result.now in
+    let i = c.loop-order.order-index in
+    let step = c.in_ok-carry_one.ensures.step in
+    record {
+      orders = ap (λ p. fold one p (drop (i + 1) xs)) step ∙ sym (ap (fold one before) (drop_more xs i none c.loop-order-test.true)) ∙ c.loop-order.invariant.orders;
+      readings = ap (λ p. p.1.readings) step ∙ written_readings P.step P.is_taken w before (get_or xs i none) ∙ c.loop-order.invariant.readings;
+      well = well_twice w c.args.campaign.now.what c.loop-order.campaign.what _ c.loop-order.invariant.well c.in_ok-carry_one.ensures.well;
+      marks = marks-trans c.args.campaign.now c.loop-order.campaign _ c.loop-order.invariant.marks c.in_ok-carry_one.ensures.marks;
+    }
+
+pub returns-clause-meaning : goal.returns-clause-meaning
+returns-clause-meaning g c =
+    let P = g.P.OrderPhase in
+    let w = c.args.world.now in
+    let start : State × Course = (c.args.campaign.now.what, c.args.month.now) in
+    let xs = c.deref-order-items.result.now in
+    let i = c.loop-order.order-index in
+    let past : drop i xs ≡ [] = drop_all i xs (omega (arith, c.loop-order-test.false)) in
+    let behind : State × Course = (c.loop-order.campaign.what, c.loop-order.month) in
+    sym (ap (fold (carried_written P.step P.is_taken w) behind) past) ∙ c.loop-order.invariant.orders ∙ ap (fold (carried_written P.step P.is_taken w) start) (c.deref-order-items.ensures.value ∙ c.in_ok-orders.ensures)
+    ∙ written_out P.step P.is_taken w g.P.PhaseVerbs.is_of c.args.campaign.now.what c.args.month.now
+
+pub returns-clause-leaves : goal.returns-clause-leaves
+returns-clause-leaves g c =
+    leaves_well c.args.world.now c.args.campaign.now.what c.loop-order.campaign.what
+    (g.met.P.OrderPhase.orderly.bounded c.args.world.now c.args.campaign.now.what c.requires.holds) c.loop-order.invariant.well
+
+pub returns-clause-keeps : goal.returns-clause-keeps
+unfolding carried_out
+returns-clause-keeps g c =
+    let P = g.P.OrderPhase in
+    let w = c.args.world.now in
+    let m = c.args.month.now in
+    let ts = values (orders_of g.P.PhaseVerbs.is_of ByUnit m.aliases m.readings) in
+    subst (λ d. AreSpared P.concerns P.spares ts c.args.campaign.now.what d) (sym (ap (λ p. p.0) (returns-clause-meaning g c)))
+    (orders_spare P.step P.is_taken g.met.P.OrderPhase.orderly w c.args.campaign.now.what m ts c.requires.holds (orders_fit w m.aliases m.readings c.requires.read g.P.PhaseVerbs.is_of))
+
+pub returns-clause-marks : goal.returns-clause-marks
+returns-clause-marks g c = c.loop-order.invariant.marks

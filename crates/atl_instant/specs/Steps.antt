@@ -1,0 +1,119 @@
+-- A phase that carries its orders out one by one: each sees what the one before left. See docs/RULES.md, "Orders of a month".
+use Rattle.std.specs.Prelude.{ℕ, ℤ, pos, ◌≡◌, ◌≤◌, ◌+ℤ◌, ◌≤ℤ◌, ◌==◌, ◌++◌, Bool, true, false, List, [], ◌∷◌, Option, Some, None, fold, if◌then◌else◌}
+use Rattle.std.specs.List.{All}
+use Rattle.std.specs.FinMap.{get, values}
+use Rattle.atl_tables.specs.Planet.{Planet}
+use Rattle.atl_orders.specs.declared.verb.Verb.{Verb}
+use Rattle.atl_orders.specs.Orders.{Said, verb_of_order}
+use Rattle.atl_state.specs.declared.books.Entry.{Entry}
+use Rattle.atl_state.specs.declared.books.Thing.{Thing}
+use Rattle.atl_state.specs.declared.event.Event.{Event}
+use Rattle.atl_state.specs.declared.event.EventFault.TheVariants.{NotYours}
+use Rattle.atl_state.specs.declared.event.EventVerb.TheVariants.{Order}
+use Rattle.atl_state.specs.declared.event.Outcome.{Outcome}
+use Rattle.atl_state.specs.declared.event.Outcome.TheVariants.{Fault}
+use Rattle.atl_state.specs.declared.records.Unit.{Unit}
+use Rattle.atl_state.specs.Books.{amount_in}
+use Rattle.atl_state.specs.Events.{event_fault_number}
+use Rattle.atl_state.specs.State.{State}
+use Rattle.atl_state.specs.Totals.{Balances}
+use Rattle.atl_instant.specs.Course.{Aliases, Course}
+use Rattle.atl_orders.specs.Bounds.{IsOrderOf}
+use Rattle.atl_instant.specs.Meaning.{Condition, IsSameMonth, Keeping, Meaning, Moving}
+use Rattle.atl_instant.specs.PhaseOrders.{Task, orders_of}
+use Rattle.atl_instant.specs.declared.written.Arrangement.TheVariants.{ByUnit}
+
+-- ---- the orders in turn
+
+-- what an order of a unit's own faction makes of a campaign, and what came of it
+abbrev pub Step : Type 0
+Step = Planet → Aliases → State → Task → State × Outcome
+
+abbrev pub is_of_faction : ℕ → Option Unit → Bool
+is_of_faction faction None = false
+is_of_faction faction (Some u) = u.faction == faction
+
+-- whether the unit is there, and of the faction that wrote the order
+abbrev pub is_own : State → Task → Bool
+is_own c t = is_of_faction t.faction (get c.units t.unit)
+
+-- what any order makes of a campaign: one for a unit that isn't the faction's own changes nothing
+abbrev pub carried : Step → Step
+carried step w a c t = if is_own c t then step w a c t else (c, Fault (event_fault_number NotYours))
+
+-- the event that tells of an order
+abbrev pub told : Task → Outcome → Event
+told t outcome = record { faction = t.faction; unit = t.unit; line = t.line; verb = Order (verb_of_order t.said); outcome = outcome }
+
+abbrev pub and_told : Course → Task → State × Outcome → State × Course
+and_told m t (c, outcome) = (c, record m { events = m.events ++ told t outcome ∷ [] })
+
+-- One order of the verbs of a phase. One that the phase doesn't take is passed over.
+abbrev pub one_order : Step → (Said → Bool) → Planet → State × Course → Task → State × Course
+one_order step is_taken w (c, m) t = if is_taken t.said then and_told m t (carried step w m.aliases c t) else (c, m)
+
+-- all of them
+unfoldable pub carried_out : Step → (Said → Bool) → (Verb → Bool) → Meaning
+carried_out step is_taken is_of w c m = fold (one_order step is_taken w) (c, m) (values (orders_of is_of ByUnit m.aliases m.readings))
+
+-- ---- what a step leaves
+
+-- by how much the amounts of the books may still be moved, from a campaign on
+abbrev pub Reserve : Type 0
+Reserve = State → Moving
+
+-- an amount moves by what its reserve shrinks, at most
+pub record IsDrawn (reserve left : ℕ) (before after : ℤ) : Type 0 where
+  pub above : (after +ℤ pos left) ≤ℤ (before +ℤ pos reserve)
+  pub below : (before +ℤ pos left) ≤ℤ (after +ℤ pos reserve)
+
+-- The campaign holds what it held and is of the same month, the books balance where they did before, and no amount of them moves further than its reserve shrinks.
+pub record StepsWell (holds : Condition) (reserve : Reserve) (w : Planet) (before after : State) : Type 0 where
+  pub holds_still : holds w after
+  pub same_month : IsSameMonth before after
+  pub balances : Balances before → Balances after
+  pub drawn : (e : Entry) (t : Thing) → IsDrawn (reserve before e t) (reserve after e t) (amount_in before.books e t) (amount_in after.books e t)
+
+-- ---- what stays
+
+-- whether an order concerns a unit, by its number and its faction
+abbrev pub Concern : Type 1
+Concern = Task → ℕ → ℕ → Type 0
+
+-- the unit's own faction wrote it for the unit
+pub record IsOwnOrder (t : Task) (n f : ℕ) : Type 0 where
+  pub unit : t.unit ≡ n
+  pub faction : t.faction ≡ f
+
+-- what stays of a unit
+abbrev pub Sparing : Type 1
+Sparing = Unit → Unit → Type 0
+
+-- a unit that stays, and what of it
+pub record IsSpared (spares : Sparing) (after : State) (number : ℕ) (u : Unit) : Type 0 where
+  pub unit : Unit
+  pub there : get after.units number ≡ Some unit
+  pub spared : spares u unit
+
+-- each unit that none of the orders concerns
+abbrev pub AreSpared : Concern → Sparing → List Task → State → State → Type 0
+AreSpared concerns spares ts before after =
+    (n : ℕ) (u : Unit) → get before.units n ≡ Some u → All (λ t. concerns t n u.faction → ⊥) ts → IsSpared spares after n u
+
+-- each unit that no order of a phase concerns
+abbrev pub spares_others : Concern → Sparing → (Verb → Bool) → Keeping
+spares_others concerns spares is_of w m before after = AreSpared concerns spares (values (orders_of is_of ByUnit m.aliases m.readings)) before after
+
+-- ---- what a phase has to show of its step
+
+-- it stays as it is, or comes of two changes, and the unit's faction stays
+pub record IsSparing (spares : Sparing) : Type 0 where
+  pub same : (u : Unit) → spares u u
+  pub again : (u v x : Unit) → spares u v → spares v x → spares u x
+  pub faction : (u v : Unit) → spares u v → v.faction ≡ u.faction
+
+pub record IsOrderly (step : Step) (holds : Condition) (reserve : Reserve) (moving : Moving) (concerns : Concern) (spares : Sparing) : Type 0 where
+  pub well : (w : Planet) (a : Aliases) (c : State) (t : Task) → holds w c → IsOrderOf w t.said → is_own c t ≡ true → StepsWell holds reserve w c (step w a c t).0
+  pub sparing : IsSparing spares
+  pub spared : (w : Planet) (a : Aliases) (c : State) (t : Task) → holds w c → is_own c t ≡ true → (n : ℕ) (u : Unit) → get c.units n ≡ Some u → (concerns t n u.faction → ⊥) → IsSpared spares (step w a c t).0 n u
+  pub bounded : (w : Planet) (c : State) → holds w c → (e : Entry) (t : Thing) → reserve c e t ≤ moving e t
