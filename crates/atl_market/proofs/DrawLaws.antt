@@ -45,6 +45,11 @@ another k n ns above is = elim is [ inl same ↦ absurd (omega (arith, above, sa
 not_this : (k n : ℕ) (ns : List ℕ) → k ≢ n → IsIn k (n ∷ ns) → IsIn k ns
 not_this k n ns apart is = elim is [ inl same ↦ absurd (apart same) | inr rest ↦ rest ]
 
+-- what is so of each number and its share, of them as pairs
+pub all_pairs : (P : ℕ × ℕ → Type 0) (es : List (ℕ × ℕ)) → EachOf (λ n share. P (n, share)) es → AllByRecursion P es
+all_pairs P [] h = tt
+all_pairs P (e ∷ es) h = (h.0, all_pairs P es h.1)
+
 -- ---- what is drawn from one region
 
 abbrev pub stands_in : ℕ → Option Unit → Bool
@@ -136,17 +141,13 @@ module _ (pot_of : ℕ → ℕ) (wants : FinMap nat_cmp ℕ) (c : State) (r : �
       let among : IsIn n (takers_in wants c.units u.region) = place_in (takers_in wants c.units u.region) n i less found in
       (subst (λ k. IsIn n (takers_in wants c.units k)) here among, ap (λ o. unwrap_or o 0) is)
 
-  all_listed : (es : List (ℕ × ℕ)) → EachOf (λ n share. Listed c.units r amount takers (n, share)) es → AllByRecursion (Listed c.units r amount takers) es
-  all_listed [] h = tt
-  all_listed (e ∷ es) h = (h.0, all_listed es h.1)
-
   least : (drawing pot all : ℕ) → drawing ≤ min pot all → drawing ≤ pot
   least drawing pot all h = omega (arith, h)
 
   pub pot_is_enough : IsThere c.regions r → drawn c.units r (entries (pot_shares pot_of wants c)) ≤ pot_of r
   pot_is_enough there =
       let given = pot_shares pot_of wants c in
-      let few = drawn_among c.units r amount takers (entries given) (takers_risen wants c.units r) (entries_rise given) (all_listed (entries given) (each-from_every (λ n share. Listed c.units r amount takers (n, share)) given listed)) in
+      let few = drawn_among c.units r amount takers (entries given) (takers_risen wants c.units r) (entries_rise given) (all_pairs (Listed c.units r amount takers) (entries given) (each-from_every (λ n share. Listed c.units r amount takers (n, share)) given listed)) in
       least (drawn c.units r (entries given)) (pot_of r) (sum (wants_in wants c.units r)) (subst (λ s. drawn c.units r (entries given) ≤ s) (gives_each_pot pot_of wants c r there) few)
 
 -- ---- one unit draws after the other
@@ -191,3 +192,17 @@ changed_regions f c n r is k x found =
           inl (same, value)
       | inr apart ↦ inr (sym (get-insert_other c.regions n k (f r) apart) ∙ put)
     ]
+
+-- ---- units whose turn is still to come are as they were
+
+module _ (c : State) where
+  abbrev pub AreUntouched : State → List (ℕ × ℕ) → Type 0
+  AreUntouched d es = AllByRecursion (λ e. get d.units e.0 ≡ get c.units e.0) es
+
+  pub still : (d after : State) (n : ℕ) (es : List (ℕ × ℕ)) → ((k : ℕ) → k ≢ n → get after.units k ≡ get d.units k) → AllByRecursion (λ f. n < f.0) es → AreUntouched d es → AreUntouched after es
+  still d after n [] same above all = tt
+  still d after n (f ∷ es) same above all = (same f.0 (λ e. absurd (omega (arith, e, above.0))) ∙ all.0, still d after n es same above.1 all.1)
+
+  pub untouched : (es : List (ℕ × ℕ)) → AreUntouched c es
+  untouched [] = tt
+  untouched (e ∷ es) = (refl, untouched es)

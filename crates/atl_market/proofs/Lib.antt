@@ -3,8 +3,11 @@ pub mod PotLaws
 pub mod TurnLaws
 pub mod WantLaws
 pub mod DrawLaws
+pub mod OrderedLaws
 pub mod PurseLaws
+pub mod HavingLaws
 pub mod TaxLaws
+pub mod RecruitLaws
 pub mod WorkLaws
 pub mod WorkOrderLaws
 pub mod PaidLaws

@@ -12,7 +12,6 @@ use Rattle.atl_state.specs.declared.records.Region.{Region}
 use Rattle.atl_state.specs.declared.records.Unit.{Unit}
 use Rattle.atl_state.specs.Books.{amount_in}
 use Rattle.atl_state.specs.Covers.{MarksChanges}
-use Rattle.atl_state.specs.Deciding.{EachOf}
 use Rattle.atl_state.specs.Good.{Every, IsEarly, IsSteady, IsThere}
 use Rattle.atl_state.specs.Held.{amount_of}
 use Rattle.atl_state.specs.Limits.{holding_limit}
@@ -31,7 +30,7 @@ use Rattle.atl_instant.proofs.MeaningLaws.{near_same, well_within}
 use Rattle.atl_instant.proofs.StayingLaws.{are_no_worse, are_no_worse_twice}
 use Rattle.atl_market.specs.PotPhase.{CanInTurn, given_by, shared_out}
 use Rattle.atl_market.specs.Tax.{CanTax, tax_moves, tax_wanted, taxed, taxed_by, taxed_from, taxing, with_tax}
-use Rattle.atl_market.proofs.DrawLaws.{HaveEnough, HaveLess, changed_regions, drawn, first_draws, others_draw, pot_is_enough}
+use Rattle.atl_market.proofs.DrawLaws.{all_pairs, HaveEnough, HaveLess, changed_regions, drawn, first_draws, others_draw, pot_is_enough, still, untouched}
 use Rattle.atl_market.proofs.PurseLaws.{others_stay, paid, richer, richer_is, richer_no_worse}
 use Rattle.atl_market.proofs.TurnLaws.{turns_leave_well}
 use Rattle.atl_market.proofs.WantLaws.{given_is_wanted}
@@ -158,31 +157,24 @@ module _ (w : Planet) (c : State) where
       let draws = first_draws c.units money_of d e es u q ready.enough there around in
       record { unit = u; there = now; region = q; around = around; fits = fits; enough = omega (arith, draws); early = ready.early }
 
-  still : (d after : State) (n : ℕ) (es : List (ℕ × ℕ)) → ((k : ℕ) → k ≢ n → get after.units k ≡ get d.units k) → AllByRecursion (λ f. n < f.0) es
-      → AllByRecursion (λ e. get d.units e.0 ≡ get c.units e.0) es → AllByRecursion (λ e. get after.units e.0 ≡ get c.units e.0) es
-  still d after n [] same above all = tt
-  still d after n (f ∷ es) same above all = (same f.0 (λ e. absurd (omega (arith, e, above.0))) ∙ all.0, still d after n es same above.1 all.1)
-
   all_can : (d : State) (es : List (ℕ × ℕ)) → AreReady d es → CanInTurn (CanTax w) taxed d es
   all_can d [] ready = tt
   all_can d (e ∷ es) ready =
       let (u, there, fits) = ready.fits.0 in
-      let can = first_can d e es ready in
-      (can, all_can (taxed d e) es (record {
-        early = (taxed_well w d e can).leaves_it;
-        rise = ready.rise.1;
-        same = still d (taxed d e) e.0 es (taxed_others w d e can) ready.rise.0 ready.same.1;
-        fits = ready.fits.1;
-        enough = others_draw c.units money_of d e es can.unit can.region ready.enough (sym ready.same.0 ∙ can.there) can.around (taxed d e) (taxed_drains w d e can);
-      }))
+      let can = first_can d e es ready in (
+        can,
+        all_can (taxed d e) es (record {
+          early = (taxed_well w d e can).leaves_it;
+          rise = ready.rise.1;
+          same = still c d (taxed d e) e.0 es (taxed_others w d e can) ready.rise.0 ready.same.1;
+          fits = ready.fits.1;
+          enough = others_draw c.units money_of d e es can.unit can.region ready.enough (sym ready.same.0 ∙ can.there) can.around (taxed d e) (taxed_drains w d e can);
+        }),
+      )
 
   module _ (early : IsEarly w c) (os : List Written) where
     abbrev shares : List (ℕ × ℕ)
     shares = entries (given_by taxing w c os)
-
-    all_fit : (es : List (ℕ × ℕ)) → EachOf (λ n share. HasRoomFor (n, share)) es → AllByRecursion HasRoomFor es
-    all_fit [] h = tt
-    all_fit (e ∷ es) h = (h.0, all_fit es h.1)
 
     wanted_fits : (money men share : ℕ) → money ≤ holding_limit → share ≤ min men (holding_limit - money) → money + share ≤ holding_limit
     wanted_fits money men share fits low = omega (arith, fits, low)
@@ -192,10 +184,6 @@ module _ (w : Planet) (c : State) where
         let (u, o, there, low) = given_is_wanted taxing w c os n share is in
         (u, there, wanted_fits u.holding.money _ share (early.steady.numbers.units n u there).1.money low)
 
-    untouched : (es : List (ℕ × ℕ)) → AllByRecursion (λ e. get c.units e.0 ≡ get c.units e.0) es
-    untouched [] = tt
-    untouched (e ∷ es) = (refl, untouched es)
-
     all_enough : HaveEnough c.units money_of c shares
     all_enough r q around = subst (λ pot. drawn c.units r shares ≤ pot) (ap (λ o. option_map_or money_of o 0) around) (pot_is_enough _ _ c r (q, around))
 
@@ -203,8 +191,8 @@ module _ (w : Planet) (c : State) where
     can_share_out = all_can c shares (record {
       early = early;
       rise = entries_rise (given_by taxing w c os);
-      same = untouched shares;
-      fits = all_fit shares (each-from_every (λ n share. HasRoomFor (n, share)) (given_by taxing w c os) each_fits);
+      same = untouched c shares;
+      fits = all_pairs HasRoomFor shares (each-from_every (λ n share. HasRoomFor (n, share)) (given_by taxing w c os) each_fits);
       enough = all_enough;
     })
 

@@ -1,5 +1,7 @@
 pub mod Share
 pub mod Pots
 pub mod PotPhase
+pub mod Unordered
 pub mod Tax
+pub mod Recruit
 pub mod Work

@@ -1,13 +1,16 @@
 //! Pots, what is shared of them, and the phases in which units share them.
 #![tactic(auto)]
 
+mod booking;
 mod pot_phase;
 pub mod pots;
+pub mod recruit;
 pub mod shares;
 pub mod tax;
 pub mod work;
 
 pub use pots::{Pots, pot_shares};
+pub use recruit::RecruitPhase;
 pub use shares::share;
 pub use tax::TaxPhase;
 pub use work::{WorkPhase, work_pays_all_at_once};

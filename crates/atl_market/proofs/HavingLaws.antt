@@ -1,0 +1,122 @@
+-- How a campaign changes with what one unit holds, where the unit may come to guard.
+use Rattle.std.proofs.Common.{◌≡◌, ◌≢◌, ◌==◌, ◌&&◌, ℕ, ◌+◌, ◌*◌, ◌≤◌, ◌<◌, Bool, true, length, Some, None, refl, sym, ap, ◌∙◌, inl, inr, arith}
+use Rattle.std.specs.Prelude.{IsTrue, nat_lt}
+use Rattle.std.proofs.lemmas.Bool.{and_parts, cases_eq}
+use Rattle.std.specs.FinMap.{get, insert}
+use Rattle.atl_tables.specs.Names.{name_ok}
+use Rattle.atl_tables.specs.Planet.{Planet}
+use Rattle.atl_tables.proofs.SumLaws.{numbers_where-insert_known}
+use Rattle.atl_state.specs.Limits.{most_days}
+use Rattle.atl_state.specs.declared.records.Unit.{Unit}
+use Rattle.atl_state.specs.Good.{AreInRange, AreKnown, AreNumbered, AreOfOneFaction, AreOwned, Every, IsEarly, IsPlaced, IsSteady, guards}
+use Rattle.atl_state.specs.Held.{Held, IsHolding}
+use Rattle.atl_state.specs.State.{State}
+use Rattle.atl_state.proofs.EveryLaws.{every-insert, get-insert_other, none_some, there-insert}
+use Rattle.atl_state.proofs.HoldingLaws.{of_one_faction_kept}
+use Rattle.atl_state.proofs.RegionLaws.{get-insert_same, same_len}
+
+-- What a unit of a campaign may hold: within the limits, and of what the world has.
+pub record MayHave (w : Planet) (h : Held) : Type 0 where
+  pub limits : IsHolding h
+  pub name : IsTrue (name_ok h.name)
+  pub items : Every (λ i amount. i < length w.items) h.items
+  pub skills : Every (λ s days. s < length w.skills) h.days
+  pub days : Every (λ s days. (1 ≤ days) × (days ≤ most_days * h.men)) h.days
+
+-- what a unit of a steady campaign holds
+pub may_have : (w : Planet) (c : State) (n : ℕ) (u : Unit) → get c.units n ≡ Some u → IsSteady w c → MayHave w u.holding
+may_have w c n u is steady =
+    let place = steady.known.units n u is in
+    record { limits = (steady.numbers.units n u is).1; name = steady.names.units n u is; items = place.items; skills = place.skills; days = steady.days n u is }
+
+module _ (w : Planet) (c : State) (n : ℕ) (u : Unit) (h : Held) (is : get c.units n ≡ Some u) where
+  abbrev new_unit : Unit
+  new_unit = record u { holding = h }
+
+  abbrev supplied : State
+  supplied = record c { units = insert c.units n new_unit }
+
+  numbers_kept : IsHolding h → AreInRange w c → AreInRange w supplied
+  numbers_kept limits old = record {
+    month = old.month;
+    few_factions = old.few_factions;
+    few_regions = old.few_regions;
+    few_units = omega (arith, same_len c.units n u new_unit is, old.few_units);
+    few_structures = old.few_structures;
+    next_unit_least = old.next_unit_least;
+    next_unit_most = old.next_unit_most;
+    factions = old.factions;
+    regions = old.regions;
+    units = every-insert (λ k x. (1 ≤ k) × IsHolding x.holding) c.units n new_unit ((old.units n u is).0, limits) old.units;
+    structures = old.structures;
+    books = old.books;
+  }
+
+  known_kept : MayHave w h → AreKnown w c → AreKnown w supplied
+  known_kept may old = record {
+    regions = old.regions;
+    units = every-insert (λ k x. IsPlaced w supplied x) c.units n new_unit
+        (let p = old.units n u is in record { faction = p.faction; region = p.region; structure = p.structure; items = may.items; skills = may.skills })
+        (λ k x there. let p = old.units k x there in record { faction = p.faction; region = p.region; structure = p.structure; items = p.items; skills = p.skills });
+    structures = λ k s there. let b = old.structures k s there in record { kind = b.kind; region = b.region; owner = λ owned. there-insert c.units n s.owner new_unit (b.owner owned) };
+    mail = old.mail;
+    reports = old.reports;
+  }
+
+  -- another number than one under which there is no unit
+  free_apart : (k : ℕ) → get c.units k ≡ None → k ≢ n
+  free_apart k free same = none_some u (sym free ∙ ap (get c.units) same ∙ is)
+
+  next_kept : AreNumbered c → AreNumbered supplied
+  next_kept old = record {
+    factions = old.factions;
+    structures = old.structures;
+    units = λ k above. get-insert_other c.units n k new_unit (free_apart k (old.units k above)) ∙ old.units k above;
+  }
+
+  -- a unit of the structure is still inside it
+  inside_still : (k m : ℕ) → (x : Unit) × (get c.units k ≡ Some x) × (x.structure ≡ m) → (x : Unit) × (get supplied.units k ≡ Some x) × (x.structure ≡ m)
+  inside_still k m (x, there, inside) = elim (cases_eq k n) [
+    | inl same ↦
+        let one : Some u ≡ Some x = sym is ∙ ap (get c.units) (sym same) ∙ there in
+        let unit : u ≡ x = cc in
+        (new_unit, ap (get supplied.units) same ∙ get-insert_same c.units n new_unit, ap (λ (y : Unit). y.structure) unit ∙ inside)
+    | inr apart ↦ (x, get-insert_other c.units n k new_unit apart ∙ there, inside)
+  ]
+
+  owners_kept : AreOwned c → AreOwned supplied
+  owners_kept old m s there =
+      let o = old m s there in
+      record {
+        owned = λ some. inside_still s.owner m (o.owned some);
+        ownerless = λ none. every-insert (λ k x. x.structure ≢ m) c.units n new_unit (o.ownerless none n u is) (o.ownerless none);
+      }
+
+  -- it is steady where the guards of each region are of one faction
+  pub steady-having : MayHave w h → AreOfOneFaction guards supplied → IsSteady w c → IsSteady w supplied
+  steady-having may guarded old = record {
+    numbers = numbers_kept may.limits old.numbers;
+    names = record {
+      pass = old.names.pass;
+      factions = old.names.factions;
+      joined = old.names.joined;
+      units = every-insert (λ k x. IsTrue (name_ok x.holding.name)) c.units n new_unit may.name old.names.units;
+      structures = old.names.structures;
+    };
+    known = known_kept may old.known;
+    next = next_kept old.next;
+    days = every-insert (λ k x. Every (λ s days. (1 ≤ days) × (days ≤ most_days * x.holding.men)) x.holding.days) c.units n new_unit may.days old.days;
+    gone = λ m f there gone. numbers_where-insert_known (λ x. x.faction == m) c.units n u new_unit is refl ∙ old.gone m f there gone;
+    owners = owners_kept old.owners;
+    water = record { units = every-insert _ c.units n new_unit (old.water.units n u is) old.water.units; structures = old.water.structures };
+    guarded = guarded;
+  }
+
+  -- so it is where all flags of each region are, and the unit has one only if it had
+  pub early-having : MayHave w h → (h.guard ≡ true → u.holding.guard ≡ true) → IsEarly w c → IsEarly w supplied
+  early-having may flag early =
+      let flags = of_one_faction_kept w c n u h is (λ x. x.holding.guard) flag early.flags in
+      record { steady = steady-having may (λ k x here m y there g k2 same. flags k x here m y there (flagged x g) (flagged y k2) same) early.steady; flags = flags }
+    where
+      flagged : (x : Unit) → guards x ≡ true → x.holding.guard ≡ true
+      flagged x g = (and_parts x.holding.guard (nat_lt 0 x.holding.men) g).0

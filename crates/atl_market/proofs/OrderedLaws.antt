@@ -1,0 +1,83 @@
+-- A unit without an order of its own faction gets nothing, and stays as it is.
+use Rattle.std.proofs.Common.{◌≡◌, ◌≢◌, ◌==◌, ◌&&◌, ◌||◌, ℕ, Bool, true, false, cond, List, [], ◌∷◌, ◌++◌, Option, Some, None, refl, sym, ap, subst, ◌∙◌, arith}
+use Rattle.std.specs.Prelude.{fold}
+use Rattle.std.specs.List.{AllByRecursion, flat_map}
+use Rattle.std.specs.Ordering.{nat_cmp}
+use Rattle.std.specs.FinMap.{FinMap, empty, entries, get, get-empty, insert}
+use Rattle.std.proofs.lemmas.Bool.{false≢true}
+use Rattle.std.proofs.lemmas.Bool.Decides.{nat_tests}
+use Rattle.atl_tables.specs.Planet.{Planet}
+use Rattle.atl_state.specs.declared.event.EventFault.{EventFault}
+use Rattle.atl_state.specs.declared.event.EventFault.TheVariants.{NotYours}
+use Rattle.atl_state.specs.declared.records.Unit.{Unit}
+use Rattle.atl_state.specs.State.{State}
+use Rattle.atl_state.proofs.EveryLaws.{each-from_every, get-insert_other, none_some}
+use Rattle.atl_instant.specs.declared.written.Written.{Written}
+use Rattle.atl_instant.proofs.StayingLaws.{no_worse}
+use Rattle.atl_market.specs.PotPhase.{PotMeaning, fault_at, fault_of, given_by, shared_out, want_at, want_by, wants_by}
+use Rattle.atl_market.specs.Pots.{with_each}
+use Rattle.atl_market.specs.Unordered.{OthersAreNoWorse, is_ordered}
+use Rattle.atl_market.proofs.DrawLaws.{all_pairs}
+use Rattle.atl_market.proofs.PotLaws.{only_takers_get}
+use Rattle.atl_market.proofs.WantLaws.{appended_entries}
+
+neither : (a b : Bool) → (a || b) ≡ false → (a ≡ false) × (b ≡ false)
+neither true b h = absurd (false≢true (sym h))
+neither false b h = (refl, h)
+
+-- ---- who wants nothing
+
+module _ (p : PotMeaning) (w : Planet) (c : State) (n : ℕ) (u : Unit) (there : get c.units n ≡ Some u) where
+  abbrev own : Written → Bool
+  own o = o.unit == n && o.faction == u.faction
+
+  same_faction : (o : Written) → fault_at p w c o (Some u) ≡ None → (u.faction == o.faction) ≡ true
+  same_faction o is = by_test (u.faction == o.faction) is
+    where
+      by_test : (b : Bool) → cond b (p.fault w u o) (Some NotYours) ≡ None → b ≡ true
+      by_test true h = refl
+      by_test false h = none_some NotYours (sym h)
+
+  no_order : (o : Written) → o.unit ≡ n → (u.faction == o.faction) ≡ true → own o ≡ false → ⊥
+  no_order o unit faction is = false≢true (sym (clash o.unit n o.faction u.faction unit faction is))
+    where
+      clash : (a b f g : ℕ) → a ≡ b → (g == f) ≡ true → (a == b && f == g) ≡ false → true ≡ false
+      clash a b f g same one none = grind (arith, nat_tests)
+
+  unwanted_by : (m : FinMap nat_cmp ℕ) (o : Written) (f : Option EventFault) (v : Option Unit) → fault_at p w c o v ≡ f → get c.units o.unit ≡ v → own o ≡ false → get (with_each m (want_at p w c o f v)) n ≡ get m n
+  unwanted_by m o (Some f) v is at none = refl
+  unwanted_by m o None None is at none = refl
+  unwanted_by m o None (Some v) is at none =
+      get-insert_other m o.unit n (p.want w v o) (λ same.
+      let one : Some v ≡ Some u = sym at ∙ ap (get c.units) (sym same) ∙ there in
+      let unit : v ≡ u = cc in
+      no_order o (sym same) (same_faction o (subst (λ x. fault_at p w c o (Some x) ≡ None) unit is)) none)
+
+  unwanted : (m : FinMap nat_cmp ℕ) (os : List Written) → is_ordered os n u ≡ false → get (with_each m (flat_map (want_by p w c) os)) n ≡ get m n
+  unwanted m [] none = refl
+  unwanted m (o ∷ os) none =
+      let (first, rest) = neither _ _ none in
+      ap (λ (k : FinMap nat_cmp ℕ). get k n) (appended_entries m (want_by p w c o) (flat_map (want_by p w c) os))
+      ∙ unwanted (with_each m (want_by p w c o)) os rest
+      ∙ unwanted_by m o (fault_of p w c o) (get c.units o.unit) refl refl first
+
+  -- gets nothing
+  not_given : (os : List Written) → is_ordered os n u ≡ false → (share : ℕ) → get (given_by p w c os) n ≡ Some share → ⊥
+  not_given os none share is =
+      let (want, v, wanted, low, at, region) = only_takers_get (p.pot w c) (wants_by p w c os) c n share is in
+      none_some want (sym (get-empty nat_cmp n) ∙ sym (unwanted empty os none) ∙ wanted)
+
+-- ---- and nothing happens to it
+
+module _ (step : State → ℕ × ℕ → State) (others : (c : State) (e : ℕ × ℕ) (k : ℕ) → k ≢ e.0 → get (step c e).units k ≡ get c.units k) where
+  pub passed_over : (c : State) (es : List (ℕ × ℕ)) (n : ℕ) → AllByRecursion (λ e. n ≢ e.0) es → get (fold step c es).units n ≡ get c.units n
+  passed_over c [] n apart = refl
+  passed_over c (e ∷ es) n apart = passed_over (step c e) es n apart.1 ∙ others c e n apart.0
+
+pub others_no_worse : (p : PotMeaning) (w : Planet) → ((c : State) (e : ℕ × ℕ) (k : ℕ) → k ≢ e.0 → get (p.paid w c e).units k ≡ get c.units k)
+    → (c : State) (os : List Written) → OthersAreNoWorse os c (shared_out p w c os)
+unfolding shared_out
+others_no_worse p w others c os n u there none =
+    let given = given_by p w c os in
+    let apart = each-from_every (λ k share. n ≢ k) given (λ k share is same. not_given p w c n u there os none share (ap (get given) same ∙ is)) in
+    (u, passed_over (p.paid w) others c (entries given) n (all_pairs (λ e. n ≢ e.0) (entries given) apart) ∙ there, no_worse u)

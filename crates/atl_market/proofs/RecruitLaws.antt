@@ -1,0 +1,286 @@
+-- Recruiting leaves a campaign well.
+use Rattle.std.proofs.Common.{◌≡◌, ◌≢◌, ◌==◌, ℕ, ◌+◌, ◌-◌, ◌*◌, ◌/◌, ◌≤◌, ◌<◌, ◌⊎◌, Bool, true, false, cond, Option, Some, None, List, [], ◌∷◌, length, refl, sym, ap, subst, ◌∙◌, inl, inr, arith}
+use Rattle.std.specs.Prelude.{ℤ, fold, pos, neg_ℤ, ◌+ℤ◌, min, if◌then◌else◌}
+use Rattle.std.specs.List.{AllByRecursion}
+use Rattle.std.specs.Ordering.{nat_cmp}
+use Rattle.std.specs.FinMap.{FinMap, entries, get, insert}
+use Rattle.std.proofs.lemmas.Int.{ints}
+use Rattle.std.proofs.lemmas.Bool.Decides.{nat_tests}
+use Rattle.std.proofs.Math.Nat.{div-le_self, mul-div-le, mul-le-mul_right, mul_comm}
+use Rattle.atl_tables.specs.Planet.{Planet}
+use Rattle.atl_orders.specs.Mailing.{Reading}
+use Rattle.atl_state.specs.declared.books.Entry.{Entry}
+use Rattle.atl_state.specs.declared.books.Entry.TheVariants.{Recruiting}
+use Rattle.atl_state.specs.declared.books.Thing.{Thing}
+use Rattle.atl_state.specs.declared.books.Thing.TheVariants.{Money, People, Item}
+use Rattle.atl_state.specs.declared.records.Region.{Region}
+use Rattle.atl_state.specs.declared.records.Unit.{Unit}
+use Rattle.atl_state.specs.Books.{IsGrid}
+use Rattle.atl_state.specs.Covers.{MarksChanges}
+use Rattle.atl_state.specs.Founding.{things_of}
+use Rattle.atl_state.specs.Good.{Every, IsEarly}
+use Rattle.atl_state.specs.Held.{Held, amount_of}
+use Rattle.atl_state.specs.Lending.{lent, with_held, with_holding}
+use Rattle.atl_state.specs.Limits.{holding_limit, men_limit, most_units}
+use Rattle.atl_state.specs.Marking.{mark_amount, mark_region}
+use Rattle.atl_state.specs.Marks.{amount_number}
+use Rattle.atl_state.specs.State.{Marked, State, region_changed, with_amount, with_peasants}
+use Rattle.atl_state.specs.Totals.{held, kept, total}
+use Rattle.atl_state.proofs.BackLaws.{Rise, entries_rise}
+use Rattle.atl_state.proofs.BookLaws.{booked-with_booked, share_of}
+use Rattle.atl_state.proofs.CoverLaws.{marks-amount, marks-region, marks-trans}
+use Rattle.atl_state.proofs.EveryLaws.{each-from_every, get-insert_other}
+use Rattle.atl_state.proofs.HoldingLaws.{marks-lent, total-held}
+use Rattle.atl_state.proofs.RegionLaws.{steady-amount, steady-region, total-amount, total-region}
+use Rattle.atl_instant.specs.Meaning.{HaveRoom, LeavesWell, Moving, moved_times, most_moved}
+use Rattle.atl_instant.specs.declared.written.Written.{Written}
+use Rattle.atl_instant.proofs.BookingLaws.{booked-near, within-neg}
+use Rattle.atl_instant.proofs.MeaningLaws.{room_less, well_within}
+use Rattle.atl_market.specs.PotPhase.{CanInTurn, given_by, shared_out}
+use Rattle.atl_market.specs.Recruit.{CanRecruit, recruit_moves, recruited, recruited_by, recruited_from, recruiting, recruits_in, with_men, with_recruits}
+use Rattle.atl_market.specs.Unordered.{OthersAreNoWorse}
+use Rattle.atl_market.proofs.DrawLaws.{AreUntouched, HaveEnough, HaveLess, all_pairs, changed_regions, drawn, first_draws, others_draw, pot_is_enough, still, untouched}
+use Rattle.atl_market.proofs.HavingLaws.{MayHave, early-having, may_have}
+use Rattle.atl_market.proofs.OrderedLaws.{others_no_worse}
+use Rattle.atl_market.proofs.TurnLaws.{first_room, later_room, turns_leave_well}
+use Rattle.atl_market.proofs.WantLaws.{few_given, given_is_wanted}
+
+abbrev peasants_of : Region → ℕ
+peasants_of q = q.peasants
+
+-- ---- one unit gets its recruits
+
+abbrev leave : Region → ℕ → Region → Region
+leave q recruits r = record r { peasants = q.peasants - recruits }
+
+abbrev joined : State → ℕ → Unit → (recruits cost : ℕ) → State
+joined c n u recruits cost = record c { units = insert c.units n (record u { holding = with_men u.holding recruits cost }) }
+
+abbrev recruited_to : State → ℕ → Unit → Region → (recruits cost : ℕ) → State
+recruited_to c n u q recruits cost = with_amount (region_changed (leave q recruits) (joined c n u recruits cost) u.region) Recruiting Money (neg_ℤ (pos cost))
+
+module _ (w : Planet) (c : State) (n : ℕ) (u : Unit) (q : Region) (recruits cost : ℕ) (is : get c.units n ≡ Some u) (around : get c.regions u.region ≡ Some q) where
+  abbrev after : State
+  after = recruited_to c n u q recruits cost
+
+  abbrev more : Held
+  more = with_men u.holding recruits cost
+
+  abbrev peopled : State
+  peopled = joined c n u recruits cost
+
+  abbrev left : State
+  left = region_changed (leave q recruits) peopled u.region
+
+  recruits_are : with_recruits c n u q recruits cost ≡ after
+  recruits_are = ap (λ o. with_amount (with_peasants (with_held c n more o) u.region (q.peasants - recruits)) Recruiting Money (neg_ℤ (pos cost))) is
+
+  module _ (fits : u.holding.men + recruits ≤ men_limit) (payable : cost ≤ u.holding.money) (enough : recruits ≤ q.peasants) (early : IsEarly w c) where
+    may : MayHave w more
+    may =
+        let old = may_have w c n u is early.steady in
+        let limits = old.limits in
+        record {
+          limits = record { men = fits; money = omega (arith, limits.money); items = limits.items };
+          name = old.name;
+          items = old.items;
+          skills = old.skills;
+          days = λ s days there. let (some, most) = old.days s days there in (some, omega (arith, most));
+        }
+
+    still_early : IsEarly w after
+    still_early =
+        let before = early-having w c n u more is may (λ g. g) early in
+        let limits = early.steady.numbers.regions u.region q around in
+        record {
+          steady = steady-amount w left Recruiting Money (neg_ℤ (pos cost)) (steady-region (leave q recruits) peopled u.region q around w (omega (arith, limits.0)) limits.1 before.steady);
+          flags = before.flags;
+        }
+
+    total_of : (t : Thing) → total after t ≡ total left t → total left t + kept t q ≡ total peopled t + kept t (leave q recruits q)
+        → total peopled t + held t u.holding ≡ total c t + held t more → pos (total after t) ≡ pos (total c t) +ℤ share_of t Money (neg_ℤ (pos cost))
+    total_of Money s a b = omega (arith, ints, s, a, b, payable)
+    total_of People s a b = omega (arith, ints, s, a, b, enough)
+    total_of (Item i) s a b =
+        let other : (2 + i == 0) ≡ false = grind (arith, nat_tests) in
+        ap pos (same (total after (Item i)) (total left (Item i)) (total peopled (Item i)) (total c (Item i)) (amount_of u.holding.items i) s a b)
+        ∙ sym (ap (λ b. pos (total c (Item i)) +ℤ cond b (neg_ℤ (pos cost)) (pos 0)) other ∙ zero_more (total c (Item i)))
+      where
+        same : (v x y z k : ℕ) → v ≡ x → x + 0 ≡ y + 0 → y + k ≡ z + k → v ≡ z
+        same v x y z k s a b = omega (arith, s, a, b)
+
+        zero_more : (x : ℕ) → pos x +ℤ pos 0 ≡ pos x
+        zero_more x = omega (arith, ints)
+
+    recruits_leave_well : LeavesWell IsEarly (recruit_moves holding_limit) w c after
+    recruits_leave_well =
+        let grid = early.steady.numbers.books in
+        let price = neg_ℤ (pos cost) in
+        record {
+          leaves_it = still_early;
+          same_month = record { month = refl; reports = refl; count = refl; factions = λ k there. there };
+          balances = λ old t.
+              total_of t (total-amount left Recruiting Money t price) (total-region (leave q recruits) peopled u.region q around t) (total-held w c n u more is t)
+              ∙ ap (λ z. z +ℤ share_of t Money price) (old t) ∙ sym (booked-with_booked (things_of w) c.books Recruiting Money price grid (omega arith) t);
+          near = booked-near (things_of w) c.books Recruiting Money price holding_limit grid (omega arith) (within-neg cost holding_limit (omega (arith, payable, (may_have w c n u is early.steady).limits.money)));
+        }
+
+    -- what the region has then
+    recruits_drain : HaveLess c.units peasants_of c after u.region q recruits
+    recruits_drain k x found = elim (changed_regions (leave q recruits) peopled u.region q around k x found) [
+      | inl here ↦ let less : x.peasants ≡ q.peasants - recruits = ap peasants_of here.1 in inl (here.0, omega (arith, less, enough))
+      | inr there ↦ inr there
+    ]
+
+-- ---- what is marked
+
+-- as the region and the books change
+pub leaving_marks : (things : ℕ) (c d e : Marked) (region peasants : ℕ) (z : ℤ) → d.what ≡ with_peasants c.what region peasants → d.marks ≡ mark_region c region
+    → e.what ≡ with_amount d.what Recruiting Money z → e.marks ≡ mark_amount d Recruiting Money → IsGrid things c.what.books → 2 ≤ things → MarksChanges c e
+leaving_marks things c d e region peasants z d_is d_marks e_is e_marks grid two =
+    let books : d.what.books ≡ c.what.books = ap (λ (s : State). s.books) d_is in
+    let d_grid : IsGrid things d.what.books = rw books grid in
+    marks-trans c d e (marks_by c d _ d_is d_marks (marks-region (λ r. record r { peasants = peasants }) c region))
+    (marks_by d e _ e_is e_marks (marks-amount things d Recruiting Money z d_grid (omega arith)))
+  where
+    marks_by : (a b m : Marked) → b.what ≡ m.what → b.marks ≡ m.marks → MarksChanges a m → MarksChanges a b
+    marks_by a b m what marks h = rw (what, marks) (record { stay = h.stay; covers = h.covers })
+
+-- a unit that is there was lent its holding
+pub lent_is : (c d : Marked) (n : ℕ) (u : Unit) (h : Held) → get c.what.units n ≡ Some u → d ≡ lent c n h → d.what ≡ record c.what { units = insert c.what.units n (record u { holding = h }) }
+lent_is c d n u h is same = ap (λ (m : Marked). m.what) same ∙ ap (with_held c.what n h) is
+
+pub recruit_marks : (c d e : Marked) (n : ℕ) (h : Held) → d ≡ lent c n h → MarksChanges d e → MarksChanges c e
+recruit_marks c d e n h is behind = marks-trans c d e (subst (MarksChanges c) (sym is) (marks-lent c n h)) behind
+
+-- ---- one step
+
+module _ (w : Planet) (c : State) (e : ℕ × ℕ) where
+  abbrev price : ℕ
+  price = e.1 * w.rules.recruit_price
+
+  pub recruited_is : (u : Unit) (q : Region) → get c.units e.0 ≡ Some u → get c.regions u.region ≡ Some q → recruited w c e ≡ with_recruits c e.0 u q e.1 price
+  unfolding recruited
+  recruited_is u q is around = ap (recruited_by w c e) is ∙ ap (recruited_from w c e u) around
+
+  made_is : (can : CanRecruit w c e) → recruited w c e ≡ recruited_to c e.0 can.unit can.region e.1 price
+  made_is can = recruited_is can.unit can.region can.there can.around ∙ recruits_are w c e.0 can.unit can.region e.1 price can.there can.around
+
+  pub recruited_well : CanRecruit w c e → LeavesWell IsEarly (recruit_moves holding_limit) w c (recruited w c e)
+  recruited_well can =
+      subst (λ d. LeavesWell IsEarly (recruit_moves holding_limit) w c d) (sym (made_is can))
+      (recruits_leave_well w c e.0 can.unit can.region e.1 price can.there can.around can.fits can.payable can.enough can.early)
+
+  recruited_drains : (can : CanRecruit w c e) → HaveLess c.units peasants_of c (recruited w c e) can.unit.region can.region e.1
+  recruited_drains can =
+      subst (λ d. HaveLess c.units peasants_of c d can.unit.region can.region e.1) (sym (made_is can))
+      (recruits_drain w c e.0 can.unit can.region e.1 price can.there can.around can.fits can.payable can.enough can.early)
+
+  recruited_others : (k : ℕ) → k ≢ e.0 → get (recruited w c e).units k ≡ get c.units k
+  unfolding recruited
+  recruited_others k apart = by_unit (get c.units e.0) refl
+    where
+      by_region : (u : Unit) → get c.units e.0 ≡ Some u → (o : Option Region) → get (recruited_from w c e u o).units k ≡ get c.units k
+      by_region u is None = refl
+      by_region u is (Some q) = ap (λ o. get (with_held c e.0 (with_men u.holding e.1 price) o).units k) is ∙ get-insert_other c.units e.0 k (record u { holding = with_men u.holding e.1 price }) apart
+
+      by_unit : (o : Option Unit) → get c.units e.0 ≡ o → get (recruited_by w c e o).units k ≡ get c.units k
+      by_unit None is = refl
+      by_unit (Some u) is = by_region u is (get c.regions u.region)
+
+pub recruit_keeps_others : (readings : FinMap nat_cmp Reading) (w : Planet) (c : State) (os : List Written) → OthersAreNoWorse os c (shared_out (recruiting readings) w c os)
+recruit_keeps_others readings w c os = others_no_worse (recruiting readings) w (recruited_others w) c os
+
+-- ---- all steps can be taken
+
+abbrev step_moves : Moving
+step_moves = recruit_moves holding_limit
+
+module _ (w : Planet) (c : State) where
+  -- a unit is there, has room for so many recruits and can pay for them
+  abbrev CanHave : ℕ × ℕ → Type 0
+  CanHave e = (u : Unit) × (get c.units e.0 ≡ Some u) × (u.holding.men + e.1 ≤ men_limit) × (e.1 * w.rules.recruit_price ≤ u.holding.money)
+
+  -- c as the phase began, d as it is, with the recruits still to come
+  record AreReady (d : State) (es : List (ℕ × ℕ)) : Type 0 where
+    early : IsEarly w d
+    rise : Rise es
+    same : AreUntouched c d es
+    fits : AllByRecursion CanHave es
+    enough : HaveEnough c.units peasants_of d es
+    room : HaveRoom (moved_times (length es) step_moves) d
+
+  first_can : (d : State) (e : ℕ × ℕ) (es : List (ℕ × ℕ)) → AreReady d (e ∷ es) → CanRecruit w d e
+  first_can d e es ready =
+      let (u, there, fits, payable) = ready.fits.0 in
+      let now : get d.units e.0 ≡ Some u = ready.same.0 ∙ there in
+      let (q, around) = (ready.early.steady.known.units e.0 u now).region in
+      let draws = first_draws c.units peasants_of d e es u q ready.enough there around in
+      record { unit = u; there = now; region = q; around = around; fits = fits; payable = payable; enough = omega (arith, draws); early = ready.early; room = first_room step_moves d e es ready.room }
+
+  all_can : (d : State) (es : List (ℕ × ℕ)) → AreReady d es → CanInTurn (CanRecruit w) (recruited w) d es
+  all_can d [] ready = tt
+  all_can d (e ∷ es) ready =
+      let can = first_can d e es ready in
+      let well = recruited_well w d e can in (
+        can,
+        all_can (recruited w d e) es (record {
+          early = well.leaves_it;
+          rise = ready.rise.1;
+          same = still c d (recruited w d e) e.0 es (recruited_others w d e) ready.rise.0 ready.same.1;
+          fits = ready.fits.1;
+          enough = others_draw c.units peasants_of d e es can.unit can.region ready.enough (sym ready.same.0 ∙ can.there) can.around (recruited w d e) (recruited_drains w d e can);
+          room = later_room step_moves w d (recruited w d e) e es well ready.room;
+        }),
+      )
+
+  module _ (early : IsEarly w c) (readings : FinMap nat_cmp Reading) (os : List Written) (room : HaveRoom (recruit_moves most_moved) c) where
+    abbrev shares : List (ℕ × ℕ)
+    shares = entries (given_by (recruiting readings) w c os)
+
+    wanted_fits : (asked payable men share : ℕ) → men ≤ men_limit → share ≤ min asked (min payable (men_limit - men)) → men + share ≤ men_limit
+    wanted_fits asked payable men share fits low = omega (arith, fits, low)
+
+    wanted_payable : (asked money price most share : ℕ) → share ≤ min asked (min (money / price) most) → share * price ≤ money
+    wanted_payable asked money price most share low =
+        let few : share ≤ money / price = omega (arith, low) in
+        omega (arith, mul-le-mul_right price few, mul-div-le money price, mul_comm (money / price) price)
+
+    each_fits : Every (λ n share. CanHave (n, share)) (given_by (recruiting readings) w c os)
+    each_fits n share is =
+        let (u, o, there, low) = given_is_wanted (recruiting readings) w c os n share is in
+        (u, there, wanted_fits _ _ u.holding.men share (early.steady.numbers.units n u there).1.men low, wanted_payable _ u.holding.money w.rules.recruit_price _ share low)
+
+    part : (all one : ℕ) → all / one ≤ all
+    part all one = div-le_self all one
+
+    all_enough : HaveEnough c.units peasants_of c shares
+    all_enough r q around =
+        let few : drawn c.units r shares ≤ q.peasants / w.rules.recruit_fraction = subst (λ pot. drawn c.units r shares ≤ pot) (ap (recruits_in w) around) (pot_is_enough _ _ c r (q, around)) in
+        omega (arith, few, part q.peasants w.rules.recruit_fraction)
+
+    few : length shares ≤ most_units
+    few = omega (arith, few_given (recruiting readings) w c os, early.steady.numbers.few_units)
+
+    little : (e : Entry) (t : Thing) → moved_times (length shares) step_moves e t ≤ recruit_moves most_moved e t
+    little e t = scaled (length shares) few (amount_number e t == amount_number Recruiting Money)
+      where
+        scaled : (k : ℕ) → k ≤ most_units → (b : Bool) → k * (if b then holding_limit else 0) ≤ (if b then most_moved else 0)
+        scaled k few true = omega (arith, few)
+        scaled k few false = omega (arith, few)
+
+    pub can_share_out : CanInTurn (CanRecruit w) (recruited w) c shares
+    can_share_out = all_can c shares (record {
+      early = early;
+      rise = entries_rise (given_by (recruiting readings) w c os);
+      same = untouched c shares;
+      fits = all_pairs CanHave shares (each-from_every (λ n share. CanHave (n, share)) (given_by (recruiting readings) w c os) each_fits);
+      enough = all_enough;
+      room = room_less (moved_times (length shares) step_moves) (recruit_moves most_moved) c little room;
+    })
+
+    pub all_recruits_leave_well : LeavesWell IsEarly (recruit_moves most_moved) w c (shared_out (recruiting readings) w c os)
+    unfolding shared_out
+    all_recruits_leave_well =
+        well_within (moved_times (length shares) step_moves) (recruit_moves most_moved) w c (fold (recruited w) c shares) little
+        (turns_leave_well step_moves w (CanRecruit w) (recruited w) (recruited_well w) c shares early can_share_out)

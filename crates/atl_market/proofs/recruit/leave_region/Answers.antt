@@ -1,0 +1,21 @@
+use Rattle.std.proofs.Common.{ap, arith}
+use Rattle.std.specs.Prelude.{neg_ℤ, pos}
+use Rattle.atl_state.specs.State.{State}
+use Rattle.atl_state.specs.declared.books.Entry.TheVariants.{Recruiting}
+use Rattle.atl_state.specs.declared.books.Thing.TheVariants.{Money}
+use Rattle.atl_market.proofs.RecruitLaws.{leaving_marks}
+use Rattle.atl_market.proofs.recruit.leave_region.Goals as goal
+
+pub book_taken-requires-clause-there : goal.book_taken-requires-clause-there
+book_taken-requires-clause-there c =
+    let (things, two, grid) = c.requires.grid in
+    rw (ap (λ (s : State). s.books) c.set_peasants.ensures.what) (omega (arith, grid.rows, two))
+
+pub book_taken-requires-clause-room : goal.book_taken-requires-clause-room
+book_taken-requires-clause-room c = rw (ap (λ (s : State). s.books) c.set_peasants.ensures.what) (c.requires.room Recruiting Money)
+
+pub returns-clause-marks : goal.returns-clause-marks
+returns-clause-marks c =
+    let (things, two, grid) = c.requires.grid in
+    leaving_marks things c.args.campaign.now c.set_peasants.new.self c.book_taken.new.campaign c.args.region c.args.peasants (neg_ℤ (pos c.args.cost))
+    c.set_peasants.ensures.what c.set_peasants.ensures.marks c.book_taken.ensures.what c.book_taken.ensures.marks grid two

@@ -1,0 +1,114 @@
+-- RECRUIT: peasants of a region join its units, at a price. See docs/RULES.md, "Recruiting".
+use Rattle.std.specs.Prelude.{◌≡◌, ◌≤◌, ◌++◌, ◌+◌, ◌-◌, ◌*◌, ◌/◌, ◌==◌, ℕ, Bool, true, false, List, map, min, pos, neg_ℤ, nat_lt, Option, Some, None, if◌then◌else◌}
+use Rattle.std.specs.Ordering.{nat_cmp}
+use Rattle.std.specs.Option.{option_map_or}
+use Rattle.std.specs.FinMap.{FinMap, get, values}
+use Rattle.atl_tables.specs.Planet.{Planet}
+use Rattle.atl_orders.specs.declared.order.Order.TheVariants as orders
+use Rattle.atl_orders.specs.declared.verb.Verb.{Verb}
+use Rattle.atl_orders.specs.declared.verb.Verb.TheVariants as verbs
+use Rattle.atl_orders.specs.Mailing.{Reading}
+use Rattle.atl_orders.specs.Orders.{Said}
+use Rattle.atl_state.specs.declared.books.Entry.TheVariants.{Recruiting}
+use Rattle.atl_state.specs.declared.books.Thing.TheVariants.{Money}
+use Rattle.atl_state.specs.declared.event.EventFault.{EventFault}
+use Rattle.atl_state.specs.declared.event.EventFault.TheVariants.{NotEnough}
+use Rattle.atl_state.specs.declared.records.Region.{Region}
+use Rattle.atl_state.specs.declared.records.Unit.{Unit}
+use Rattle.atl_state.specs.Good.{IsEarly}
+use Rattle.atl_state.specs.Held.{Held}
+use Rattle.atl_state.specs.Lending.{with_holding}
+use Rattle.atl_state.specs.Limits.{holding_limit, men_limit}
+use Rattle.atl_state.specs.State.{State, with_amount, with_peasants}
+use Rattle.atl_instant.specs.Course.{Course, order_at}
+use Rattle.atl_instant.specs.Meaning.{HaveRoom, Keeping, Meaning, Moving, moves_only}
+use Rattle.atl_instant.specs.PhaseOrders.{orders_of, written}
+use Rattle.atl_instant.specs.declared.written.Arrangement.TheVariants.{ByUnit}
+use Rattle.atl_instant.specs.declared.written.Written.{Written}
+use Rattle.atl_market.specs.PotPhase.{PotMeaning, events_by, shared_out}
+use Rattle.atl_market.specs.Unordered.{OthersAreNoWorse}
+
+abbrev pub is_recruit : Verb → Bool
+is_recruit verbs.Recruit = true
+is_recruit verb = false
+
+-- the orders of RECRUIT that stand
+abbrev pub recruit_orders : Course → List Written
+recruit_orders m = map written (values (orders_of is_recruit ByUnit m.aliases m.readings))
+
+-- how many men an order asks for
+abbrev pub asked_in : Option Said → ℕ
+asked_in (Some (orders.Recruit n)) = n
+asked_in other = 0
+
+-- why a unit recruits nobody
+abbrev pub recruit_fault : Planet → Unit → Option EventFault
+recruit_fault w u = if nat_lt u.holding.money w.rules.recruit_price then Some NotEnough else None
+
+-- as many as it asks for, as it can pay for, and as it has room for
+abbrev pub recruits_wanted : Planet → Unit → ℕ → ℕ
+recruits_wanted w u asked = min asked (min (u.holding.money / w.rules.recruit_price) (men_limit - u.holding.men))
+
+abbrev pub recruits_in : Planet → Option Region → ℕ
+recruits_in w None = 0
+recruits_in w (Some q) = q.peasants / w.rules.recruit_fraction
+
+-- so many of a region's peasants can be recruited
+abbrev pub recruits_at : Planet → State → ℕ → ℕ
+recruits_at w c region = recruits_in w (get c.regions region)
+
+-- what a unit holds with so many recruits, who have studied nothing
+abbrev pub with_men : Held → (recruits cost : ℕ) → Held
+with_men h recruits cost = record h { men = h.men + recruits; money = h.money - cost }
+
+-- so many peasants of a region join a unit, which pays for them; that is booked
+abbrev pub with_recruits : State → ℕ → Unit → Region → (recruits cost : ℕ) → State
+with_recruits c n u q recruits cost =
+    with_amount (with_peasants (with_holding c n (with_men u.holding recruits cost)) u.region (q.peasants - recruits)) Recruiting Money (neg_ℤ (pos cost))
+
+abbrev pub recruited_from : Planet → State → ℕ × ℕ → Unit → Option Region → State
+recruited_from w c e u None = c
+recruited_from w c e u (Some q) = with_recruits c e.0 u q e.1 (e.1 * w.rules.recruit_price)
+
+abbrev pub recruited_by : Planet → State → ℕ × ℕ → Option Unit → State
+recruited_by w c e None = c
+recruited_by w c e (Some u) = recruited_from w c e u (get c.regions u.region)
+
+-- a unit, by its number, gets so many recruits
+unfoldable pub recruited : Planet → State → ℕ × ℕ → State
+recruited w c e = recruited_by w c e (get c.units e.0)
+
+-- By what the mailings say. A unit is told how many recruits it got.
+abbrev pub recruiting : FinMap nat_cmp Reading → PotMeaning
+recruiting readings = record {
+  fault = λ w u o. recruit_fault w u;
+  want = λ w u o. recruits_wanted w u (asked_in (order_at readings o.faction o.place));
+  pot = recruits_at;
+  told = λ w u recruits. recruits;
+  paid = recruited;
+}
+
+abbrev pub recruit_meaning : Meaning
+recruit_meaning w c m =
+    let p = recruiting m.readings in
+    (shared_out p w c (recruit_orders m), record m { events = m.events ++ events_by p w c (recruit_orders m) })
+
+-- what is paid for recruits is of money
+abbrev pub recruit_moves : ℕ → Moving
+recruit_moves most = moves_only most Recruiting Money
+
+-- recruiting takes nothing from a unit whose own faction wrote no order of it
+abbrev pub recruit_keeps : Keeping
+recruit_keeps w m before after = OthersAreNoWorse (recruit_orders m) before after
+
+-- ---- a unit, by its number, can get so many recruits: it is there, and can pay for them and has room for them, and the region and the books have
+pub record CanRecruit (w : Planet) (c : State) (e : ℕ × ℕ) : Type 0 where
+  pub unit : Unit
+  pub there : get c.units e.0 ≡ Some unit
+  pub region : Region
+  pub around : get c.regions unit.region ≡ Some region
+  pub fits : unit.holding.men + e.1 ≤ men_limit
+  pub payable : e.1 * w.rules.recruit_price ≤ unit.holding.money
+  pub enough : e.1 ≤ region.peasants
+  pub early : IsEarly w c
+  pub room : HaveRoom (recruit_moves holding_limit) c

@@ -1,0 +1,17 @@
+-- The units for which their own faction wrote no order.
+use Rattle.std.specs.Prelude.{◌≡◌, ◌==◌, ◌&&◌, ℕ, Bool, false, List, Some}
+use Rattle.std.specs.List.{list_any}
+use Rattle.std.specs.FinMap.{get}
+use Rattle.atl_state.specs.declared.records.Unit.{Unit}
+use Rattle.atl_state.specs.Good.{Every}
+use Rattle.atl_state.specs.State.{State}
+use Rattle.atl_instant.specs.Staying.{IsNoWorse}
+use Rattle.atl_instant.specs.declared.written.Written.{Written}
+
+-- whether a unit, by its number, has an order of its own faction
+abbrev pub is_ordered : List Written → ℕ → Unit → Bool
+is_ordered os n u = list_any (λ o. o.unit == n && o.faction == u.faction) os
+
+-- each unit without one is still there, and no worse off
+abbrev pub OthersAreNoWorse : List Written → State → State → Type 0
+OthersAreNoWorse os before after = Every (λ n u. is_ordered os n u ≡ false → (v : Unit) × (get after.units n ≡ Some v) × IsNoWorse u v) before.units

@@ -1,0 +1,159 @@
+//! RECRUIT: peasants of a region join its units, at a price.
+ghost use Rattle.std.specs.Prelude.{ℕ, pos, neg_ℤ, ◌≡◌, ◌≤◌, ◌+◌, ◌*◌, Some};
+ghost use Rattle.std.specs.FinMap as finmap;
+ghost use Rattle.atl_state.specs.declared.books.Entry.TheVariants.{Recruiting};
+ghost use Rattle.atl_state.specs.declared.books.Thing.TheVariants.{Money};
+ghost use Rattle.atl_state.specs.Books.{IsGrid};
+ghost use Rattle.atl_state.specs.Covers.{MarksChanges};
+ghost use Rattle.atl_state.specs.Good.{IsEarly};
+ghost use Rattle.atl_state.specs.Lending.{lent};
+ghost use Rattle.atl_state.specs.Limits.{holding_limit, men_limit};
+ghost use Rattle.atl_state.specs.State.{with_amount, with_peasants};
+ghost use Rattle.atl_instant.specs.Course.{order_at};
+ghost use Rattle.atl_instant.specs.Meaning.{HaveRoom, most_moved};
+ghost use Rattle.atl_market.specs.Recruit.{CanRecruit, asked_in, is_recruit, recruit_fault, recruit_keeps, recruit_meaning, recruit_moves, recruited, recruiting, recruits_at, recruits_wanted, with_men};
+
+use crate::booking::book_taken;
+use crate::pot_phase::{PotPhase, share_out, tell_all};
+use atl_instant::{Arrangement, Month, Phase, PhaseVerbs, Written};
+use atl_orders::{Order, Verb};
+use atl_state::{Campaign, Entry, EventFault, Holding, Thing, Unit};
+use atl_tables::World;
+use std::alloc::{AllocError, Global};
+
+/// Recruiting: peasants of a region join its units, at a price. See docs/RULES.md, "Recruiting".
+#[derive(Drop, Clone, Copy)]
+pub struct RecruitPhase;
+
+impl PhaseVerbs for RecruitPhase {
+    ghost is_of = { is_recruit };
+
+    fn has(&self, verb: Verb) -> bool {
+        matches!(verb, Verb::Recruit)
+    }
+}
+
+/// Recruiting by the orders of a month.
+#[derive(Drop, Clone, Copy)]
+struct MailedRecruiting<'a> {
+    month: &'a Month,
+}
+
+/// How many men an order asks for.
+fn asked(month: &Month, order: Written) -> u32
+    ensures { result ≡ asked_in (order_at month.now.readings order.faction order.place) }
+{
+    match month.order(order.faction, order.place) {
+        Some((_, Order::Recruit(men))) => *men,
+        _ => 0,
+    }
+}
+
+/// Recruits join, and are paid for.
+fn join_holding(holding: &mut Holding, recruits: u32, cost: u32)
+    requires fits { holding.old.men + recruits ≤ men_limit }
+    requires payable { cost ≤ holding.old.money }
+    ensures { holding.new ≡ with_men holding.old recruits cost }
+{
+    let men = holding.men() + recruits;
+    let money = holding.money() - cost;
+    holding.set_men(men);
+    holding.set_money(money);
+}
+
+/// Recruits join a unit that is there, which pays for them.
+fn join_unit(campaign: &mut Campaign, unit: u32, recruits: u32, cost: u32)
+    requires fits { (u : Unit) → finmap.get campaign.old.what.units unit ≡ Some u → u.holding.men + recruits ≤ men_limit }
+    requires payable { (u : Unit) → finmap.get campaign.old.what.units unit ≡ Some u → cost ≤ u.holding.money }
+    ensures { (u : Unit) → finmap.get campaign.old.what.units unit ≡ Some u → campaign.new ≡ lent campaign.old unit (with_men u.holding recruits cost) }
+{
+    if let Some(holding) = campaign.unit_mut(unit) {
+        join_holding(holding, recruits, cost);
+    }
+}
+
+/// A region has so many peasants left, and what was paid for recruits is booked.
+fn leave_region(campaign: &mut Campaign, region: u32, peasants: u32, cost: u32)
+    requires little { cost ≤ holding_limit }
+    requires grid { (things : ℕ) × (2 ≤ things) × IsGrid things campaign.old.what.books }
+    requires room { HaveRoom (recruit_moves holding_limit) campaign.old.what }
+    ensures what { campaign.new.what ≡ with_amount (with_peasants campaign.old.what region peasants) Recruiting Money (neg_ℤ (pos cost)) }
+    ensures marks { MarksChanges campaign.old campaign.new }
+{
+    campaign.set_peasants(region, peasants);
+    book_taken(campaign, Entry::Recruiting, Thing::Money, cost);
+}
+
+impl<'a> PotPhase for MailedRecruiting<'a> {
+    ghost meaning = { λ p. recruiting p.month.now.readings };
+
+    ghost needs = { λ _. IsEarly };
+
+    ghost can_pay = { λ _. CanRecruit };
+
+    fn fault(&self, world: &World, unit: &Unit, _order: Written) -> Option<EventFault> {
+        if unit.holding.money() < world.rules().recruit_price {
+            Some(EventFault::NotEnough)
+        } else {
+            None
+        }
+    }
+
+    fn want(&self, world: &World, unit: &Unit, order: Written) -> u32 {
+        let payable = unit.holding.money() / world.rules().recruit_price;
+        let room = 999_999 - unit.holding.men();
+        asked(self.month, order).min(payable.min(room))
+    }
+
+    fn pot(&self, world: &World, campaign: &Campaign, region: u32) -> u64 {
+        match campaign.region(region) {
+            Some(found) => u64::from(found.peasants / world.rules().recruit_fraction),
+            None => 0,
+        }
+    }
+
+    fn told(&self, _world: &World, _unit: &Unit, share: u32) -> u64 {
+        u64::from(share)
+    }
+
+    #[tactic(auto, unfolding(crate::specs::Recruit::recruited))]
+    fn pay(&self, world: &World, campaign: &mut Campaign, number: u32, share: u32) {
+        let region = match campaign.unit(number) {
+            Some(unit) => unit.region,
+            None => return,
+        };
+        let peasants = match campaign.region(region) {
+            Some(found) => found.peasants,
+            None => return,
+        };
+        let cost = share * world.rules().recruit_price;
+        join_unit(campaign, number, share, cost);
+        leave_region(campaign, region, peasants - share, cost);
+    }
+}
+
+impl Phase for RecruitPhase {
+    ghost meaning = { recruit_meaning };
+
+    ghost needs = { IsEarly };
+
+    ghost leaves = { IsEarly };
+
+    ghost moving = { recruit_moves most_moved };
+
+    ghost keeps = { recruit_keeps };
+
+    fn run(
+        &self,
+        alloc: Global,
+        world: &World,
+        mut campaign: Campaign,
+        mut month: Month,
+    ) -> Result<(Campaign, Month), AllocError> {
+        let orders = month.orders(alloc, self, Arrangement::ByUnit)?;
+        let recruiting = MailedRecruiting { month: &month };
+        let events = share_out(alloc, &recruiting, world, &mut campaign, &orders)?;
+        tell_all(&mut month, &events)?;
+        Ok((campaign, month))
+    }
+}
