@@ -10,7 +10,7 @@ use Rattle.atl_state.specs.Books.{entry_place, thing_place}
 use Rattle.atl_state.specs.Marks.{amount_number}
 use Rattle.atl_instant.specs.Meaning.{Moving, most_moved, moves_only}
 use Rattle.atl_instant.proofs.MeaningLaws.{MovesLess}
-use Rattle.atl_month.specs.Month.{phases_move}
+use Rattle.atl_month.specs.Month.{month_phases}
 use Rattle.atl_month.specs.Sweep.{loses_by}
 
 -- so far a month moves an amount at most
@@ -58,7 +58,7 @@ lost_in e t = either (entry_place e == entry_place entries.Lost) (not (thing_pla
 -- ---- the phases
 
 -- each entry with the phases that move it
-by_entry : (e : Entry) (t : Thing) → in_entry entries.Wages e t + in_entry entries.Upkeep e t + in_entry entries.Starved e t + in_entry entries.Births e t + in_entry entries.Income e t + in_entry entries.Lost e t ≤ 200000000000000
+by_entry : (e : Entry) (t : Thing) → in_entry entries.Recruiting e t + in_entry entries.Wages e t + in_entry entries.Upkeep e t + in_entry entries.Starved e t + in_entry entries.Births e t + in_entry entries.Income e t + in_entry entries.Lost e t ≤ 200000000000000
 by_entry entries.Founding t = omega arith
 by_entry entries.Joining t = omega arith
 by_entry entries.Income t = omega arith
@@ -73,6 +73,6 @@ by_entry entries.Left t = omega arith
 by_entry entries.Made t = omega arith
 by_entry entries.Used t = omega arith
 
-pub phases_little : MovesLess phases_move month_moves
+pub phases_little : MovesLess month_phases.moving month_moves
 phases_little e t =
-    omega (arith, by_entry e t, only_in entries.Wages Money e t, only_in entries.Upkeep Money e t, only_in entries.Starved People e t, only_in entries.Births People e t, only_in entries.Income Money e t, lost_in e t)
+    omega (arith, by_entry e t, only_in entries.Recruiting Money e t, only_in entries.Wages Money e t, only_in entries.Upkeep Money e t, only_in entries.Starved People e t, only_in entries.Births People e t, only_in entries.Income Money e t, lost_in e t)
