@@ -1,6 +1,7 @@
 //! The month that is played out at once: what it carries from phase to phase, and the orders of a phase.
 #![tactic(auto)]
 
+mod form;
 mod inside;
 mod month;
 mod name;
@@ -13,6 +14,7 @@ mod steps;
 mod terrain;
 mod written;
 
+pub use form::FormPhase;
 pub use month::{Month, mailings_have_no_order};
 pub use name::NamePhase;
 pub use orders::{MonthLongVerbs, PhaseVerbs, orders_are_in_mailings};
