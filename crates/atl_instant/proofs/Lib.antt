@@ -25,3 +25,4 @@ pub mod NameLaws
 pub mod PlaceLaws
 pub mod UnitNameLaws
 pub mod FormingLaws
+pub mod FormLaws

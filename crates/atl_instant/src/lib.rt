@@ -3,6 +3,7 @@
 
 mod give;
 mod guard;
+mod form;
 mod inside;
 mod month;
 mod name;
@@ -18,6 +19,7 @@ mod written;
 
 pub use give::GivePhase;
 pub use guard::GuardPhase;
+pub use form::FormPhase;
 pub use month::{Month, mailings_have_no_order};
 pub use name::NamePhase;
 pub use orders::{MonthLongVerbs, PhaseVerbs, orders_are_in_mailings};
