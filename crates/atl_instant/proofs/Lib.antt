@@ -15,3 +15,4 @@ pub mod MovingLaws
 pub mod GiveLaws
 pub mod TransferLaws
 pub mod GuardingLaws
+pub mod QuitLaws

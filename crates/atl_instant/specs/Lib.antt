@@ -11,3 +11,4 @@ pub mod Outcomes
 pub mod Give
 pub mod Transfer
 pub mod Guard
+pub mod Quit

@@ -3,10 +3,12 @@
 
 mod give;
 mod guard;
+mod items;
 mod month;
 mod orders;
 mod outcome;
 mod phase;
+mod quit;
 mod standing;
 mod steps;
 mod terrain;
@@ -15,9 +17,11 @@ mod written;
 
 pub use give::GivePhase;
 pub use guard::GuardPhase;
+pub use items::items_of;
 pub use month::{Month, mailings_have_no_order};
 pub use orders::{MonthLongVerbs, PhaseVerbs, orders_are_in_mailings};
 pub use phase::Phase;
+pub use quit::QuitPhase;
 pub use steps::{OrderPhase, carry_out_orders};
 pub use terrain::terrain_of;
 pub use transfer::TransferPhase;
