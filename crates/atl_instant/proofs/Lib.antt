@@ -26,3 +26,4 @@ pub mod PlaceLaws
 pub mod UnitNameLaws
 pub mod FormingLaws
 pub mod FormLaws
+pub mod QuitLaws
