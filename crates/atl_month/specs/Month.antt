@@ -10,10 +10,12 @@ use Rattle.atl_state.specs.declared.event.Event.{Event}
 use Rattle.atl_state.specs.State.{State, with_month, without_mail}
 use Rattle.atl_instant.specs.Course.{Course, HaveOwnFactions, by_faction}
 use Rattle.atl_instant.specs.Meaning.{Keeping, Meaning, Moving, both_keep, both_move, most_moved, then_also}
+use Rattle.atl_instant.specs.Form.{form_keeps, form_meaning}
 use Rattle.atl_instant.specs.Give.{give_keeps, give_meaning}
 use Rattle.atl_instant.specs.Guard.{guard_keeps, guard_meaning}
 use Rattle.atl_instant.specs.Name.{name_keeps, name_meaning}
 use Rattle.atl_instant.specs.Place.{place_keeps, place_meaning}
+use Rattle.atl_instant.specs.Quit.{quit_keeps, quit_meaning, quit_moves}
 use Rattle.atl_instant.specs.Transfer.{transfer_keeps, transfer_meaning}
 use Rattle.atl_instant.specs.Unbooked.{moves_nothing}
 use Rattle.atl_market.specs.Recruit.{recruit_keeps, recruit_meaning, recruit_moves}
@@ -44,6 +46,9 @@ first ▷ second = record {
   keeps = both_keep first.meaning first.keeps second.keeps;
 }
 
+abbrev pub forming : PhaseTerms
+forming = record { meaning = form_meaning; moving = moves_nothing; keeps = form_keeps }
+
 abbrev pub naming : PhaseTerms
 naming = record { meaning = name_meaning; moving = moves_nothing; keeps = name_keeps }
 
@@ -65,6 +70,9 @@ recruiting = record { meaning = recruit_meaning; moving = recruit_moves most_mov
 abbrev pub guarding : PhaseTerms
 guarding = record { meaning = guard_meaning; moving = moves_nothing; keeps = guard_keeps }
 
+abbrev pub quitting : PhaseTerms
+quitting = record { meaning = quit_meaning; moving = quit_moves; keeps = quit_keeps }
+
 abbrev pub working : PhaseTerms
 working = record { meaning = work_meaning; moving = work_moves most_moved; keeps = work_keeps }
 
@@ -79,11 +87,11 @@ sweeping = record { meaning = sweep_meaning; moving = loses_by most_moved; keeps
 
 -- the orders that are carried out while no flag is set anew
 abbrev pub early_orders : PhaseTerms
-early_orders = naming ▷ placing ▷ giving ▷ transferring ▷ taxing ▷ recruiting
+early_orders = forming ▷ naming ▷ placing ▷ giving ▷ transferring ▷ taxing ▷ recruiting
 
 -- and the others
 abbrev pub later_orders : PhaseTerms
-later_orders = guarding ▷ working
+later_orders = guarding ▷ quitting ▷ working
 
 -- a month, from its first phase to its last
 abbrev pub month_phases : PhaseTerms

@@ -14,7 +14,9 @@ ghost use Rattle.atl_month.specs.Swept.{IsSwept};
 use crate::season::SeasonPhase;
 use crate::sweep::SweepPhase;
 use crate::upkeep::UpkeepPhase;
-use atl_instant::{GivePhase, GuardPhase, Month, NamePhase, Phase, PlacePhase, TransferPhase};
+use atl_instant::{
+    FormPhase, GivePhase, GuardPhase, Month, NamePhase, Phase, PlacePhase, QuitPhase, TransferPhase,
+};
 use atl_market::{RecruitPhase, TaxPhase, WorkPhase};
 use atl_orders::Mailing;
 use atl_state::{Campaign, Event};
@@ -36,8 +38,8 @@ fn run_phases(
     ensures marks { IfOk result (λ r. MarksChanges campaign r.0) }
 {
     let goods = (GivePhase, (TransferPhase, (TaxPhase, RecruitPhase)));
-    let early = (NamePhase, (PlacePhase, goods));
-    let later = (GuardPhase, WorkPhase);
+    let early = (FormPhase, (NamePhase, (PlacePhase, goods)));
+    let later = (GuardPhase, (QuitPhase, WorkPhase));
     let closing = (UpkeepPhase, (SeasonPhase, SweepPhase));
     let phases = (early, (later, closing));
     let (campaign, month) = phases.run(alloc, world, campaign, month)?;
