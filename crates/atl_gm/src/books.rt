@@ -29,7 +29,8 @@ pub struct Books;
 impl Subcommand for Books {
     const NAME: &'static str = "books";
 
-    const ABOUT: &'static str = "Prints the books: of each thing all entries, and how much there is";
+    const ABOUT: &'static str =
+        "Prints the books: of each thing all entries, and how much there is";
 
     fn options<'a>(alloc: Global) -> Result<Vec<Arg<'a>>, AllocError> {
         Ok(vec![in alloc; options::file(alloc, "db")]?)

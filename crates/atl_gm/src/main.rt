@@ -30,7 +30,10 @@ type All = (
         found::Found,
         (
             join::Join,
-            (mail::Mail, (close::Close, (report::Report, (books::Books, ())))),
+            (
+                mail::Mail,
+                (close::Close, (report::Report, (books::Books, ()))),
+            ),
         ),
     ),
 );
