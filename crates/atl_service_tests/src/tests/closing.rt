@@ -46,10 +46,22 @@ const AFTER_MONTH_ONE: [(&str, Option<i64>); 12] = [
     (MAIL_BYTES, None),
 ];
 
-const CLOSED_ONCE: [Step; 3] = [
+const BOOKS_AFTER_WORK: &str = "money founding 500
+money joining 1000
+money income 1000
+money wages 12
+money upkeep -10
+money total 2502
+people founding 1000
+people joining 1
+people total 1001
+";
+
+const CLOSED_ONCE: [Step; 4] = [
     Step::Told(AVALON, "joined"),
     Step::Closed(MONTH_ONE, 1),
     Step::Told(Asked::Report(1, "pw"), AFTER_WORK),
+    Step::Books(BOOKS_AFTER_WORK),
 ];
 
 const CLOSED_TWICE: [Step; 5] = [
