@@ -198,11 +198,7 @@ fn keeps<S: Alter>(rt: &impl Abort, service: &Service<S>, text: &Option<&str>) {
     }
 }
 
-fn has_books<S: Alter>(
-    rt: &impl Abort,
-    service: &Service<S>,
-    wanted: &str,
-) -> Result<(), Fail> {
+fn has_books<S: Alter>(rt: &impl Abort, service: &Service<S>, wanted: &str) -> Result<(), Fail> {
     match service.books() {
         Some(text) => is_text(rt, text?.as_str(), wanted),
         None => assert!(rt; false),
