@@ -19,3 +19,4 @@ pub mod PlaceLaws
 pub mod UnitNameLaws
 pub mod FormingLaws
 pub mod FormLaws
+pub mod FitLaws
