@@ -27,3 +27,4 @@ pub mod UnitNameLaws
 pub mod FormingLaws
 pub mod FormLaws
 pub mod QuitLaws
+pub mod FitLaws
