@@ -16,3 +16,4 @@ pub mod GiveLaws
 pub mod TransferLaws
 pub mod GuardingLaws
 pub mod QuitLaws
+pub mod FitLaws
