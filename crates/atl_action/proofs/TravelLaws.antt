@@ -28,7 +28,7 @@ pub record IsSameStructure (before after : Structure) : Type 0 where
   pub done : after.done ≡ before.done
   pub name : after.name ≡ before.name
 
-under : {A B : Type 0} (f : A → B) (o : Option A) (x : B) → option_map f o ≡ Some x → (v : A) × (o ≡ Some v) × (f v ≡ x)
+pub under : {A B : Type 0} (f : A → B) (o : Option A) (x : B) → option_map f o ≡ Some x → (v : A) × (o ≡ Some v) × (f v ≡ x)
 under f None x is = none_some x is
 under f (Some v) x is = let same : f v ≡ x = cc in (v, refl, same)
 

@@ -1,7 +1,7 @@
 //! Ways from a region to its neighbours.
 ghost use Rattle.std.specs.Prelude.{◌≡◌};
 ghost use Rattle.atl_state.specs.Good.{is_land_at};
-ghost use Rattle.atl_action.specs.Ways.{beside, neighbour};
+ghost use Rattle.atl_action.specs.Ways.{beside, is_region, neighbour};
 
 use atl_orders::Direction;
 use atl_tables::{RegionPlan, World};
@@ -34,6 +34,16 @@ pub(crate) fn is_land_at(world: &World, region: u32) -> bool
             Some(terrain) => terrain.land,
             None => false,
         },
+        None => false,
+    }
+}
+
+/// Whether it is a region of the world.
+pub(crate) fn is_region(world: &World, region: u32) -> bool
+    ensures { result ≡ is_region world.now region }
+{
+    match world.region(region) {
+        Some(_) => true,
         None => false,
     }
 }
