@@ -1,0 +1,4 @@
+pub mod TravelLaws
+pub mod PeopleLaws
+pub mod WalkLaws
+pub mod SailLaws

@@ -1,0 +1,75 @@
+-- The same people in other places: how many units there are, of which factions they are, and what they hold.
+use Rattle.std.proofs.Common.{◌≡◌, ◌==◌, ℕ, ◌+◌, Option, Some, None, refl, sym, ap, ◌∙◌, arith}
+use Rattle.std.specs.Ordering.{nat_cmp}
+use Rattle.std.specs.FinMap.{FinMap, get, insert, len}
+use Rattle.atl_tables.specs.Sums.{changed, changed_at, sum_over}
+use Rattle.atl_tables.proofs.SumLaws.{numbers_where-insert_known, sum_over-insert_known}
+use Rattle.atl_state.specs.declared.books.Thing.{Thing}
+use Rattle.atl_state.specs.declared.books.Thing.TheVariants.{Item, Money, People}
+use Rattle.atl_state.specs.declared.records.Region.{Region}
+use Rattle.atl_state.specs.declared.records.Unit.{Unit}
+use Rattle.atl_state.specs.Good.{IsSteady}
+use Rattle.atl_state.specs.Books.{amount_in, booked}
+use Rattle.atl_state.specs.Held.{amount_of}
+use Rattle.atl_state.specs.State.{State, numbers_of}
+use Rattle.atl_state.specs.Totals.{held, kept, total}
+use Rattle.atl_state.proofs.RegionLaws.{same_len}
+use Rattle.std.specs.Prelude.{pos, ℤ}
+use Rattle.std.proofs.lemmas.Int.{ints}
+use Rattle.atl_tables.specs.Planet.{Planet}
+use Rattle.atl_instant.specs.Meaning.{IsSameMonth}
+use Rattle.atl_instant.specs.Steps.{IsDrawn, StepsWell}
+use Rattle.atl_instant.specs.Unbooked.{books_nothing}
+use Rattle.atl_action.proofs.TravelLaws.{IsSameUnit}
+
+pub record AreSamePeople (before after : FinMap nat_cmp Unit) : Type 0 where
+  pub count : len after ≡ len before
+  pub of_factions : (m : ℕ) → numbers_of m after ≡ numbers_of m before
+  pub hold : (t : Thing) → sum_over (λ (x : Unit). held t x.holding) after ≡ sum_over (λ (x : Unit). held t x.holding) before
+
+pub people_same : (m : FinMap nat_cmp Unit) → AreSamePeople m m
+people_same m = record { count = refl; of_factions = λ k. refl; hold = λ t. refl }
+
+pub people_twice : (a b c : FinMap nat_cmp Unit) → AreSamePeople a b → AreSamePeople b c → AreSamePeople a c
+people_twice a b c one two = record { count = two.count ∙ one.count; of_factions = λ k. two.of_factions k ∙ one.of_factions k; hold = λ t. two.hold t ∙ one.hold t }
+
+held_same : (u v : Unit) → IsSameUnit u v → (t : Thing) → held t v.holding ≡ held t u.holding
+held_same u v same Money = same.money
+held_same u v same People = same.men
+held_same u v same (Item i) = ap (λ items. amount_of items i) same.items
+
+cancelled : (a b p q : ℕ) → a + p ≡ b + q → q ≡ p → a ≡ b
+cancelled a b p q e f = omega arith
+
+module _ (f : Unit → Unit) (same : (u : Unit) → IsSameUnit u (f u)) (m : FinMap nat_cmp Unit) (k : ℕ) where
+  changed_by : (o : Option Unit) → get m k ≡ o → AreSamePeople m (changed_at f m k o)
+  changed_by None is = people_same m
+  changed_by (Some u) is = record {
+    count = same_len m k u (f u) is;
+    of_factions = λ j. numbers_where-insert_known (λ x. x.faction == j) m k u (f u) is (ap (λ i. i == j) (sym (same u).faction));
+    hold = λ t.
+        let stock = λ (x : Unit). held t x.holding in
+        cancelled (sum_over stock (insert m k (f u))) (sum_over stock m) (stock u) (stock (f u)) (sum_over-insert_known stock m k u (f u) is) (held_same u (f u) (same u) t);
+  }
+
+  -- one unit changes
+  pub people_changed : AreSamePeople m (changed f m k)
+  people_changed = changed_by (get m k) refl
+
+pub total_people : (c d : State) → AreSamePeople c.units d.units → d.regions ≡ c.regions → (t : Thing) → total d t ≡ total c t
+unfolding total
+total_people c d people regions t =
+    let keep = λ (r : Region). kept t r in
+    ap (λ m. sum_over (λ (x : Unit). held t x.holding) d.units + sum_over keep m) regions ∙ ap (λ n. n + sum_over keep c.regions) (people.hold t)
+
+not_drawn : (a b : ℤ) → b ≡ a → IsDrawn 0 0 a b
+not_drawn a b is = record { above = omega (arith, ints, is); below = omega (arith, ints, is) }
+
+-- a step of which the books see nothing
+pub steady_well : (w : Planet) (c d : State) → IsSteady w d → IsSameMonth c d → d.books ≡ c.books → ((t : Thing) → total d t ≡ total c t) → StepsWell IsSteady books_nothing w c d
+steady_well w c d steady same books totals = record {
+  holds_still = steady;
+  same_month = same;
+  balances = λ old t. ap pos (totals t) ∙ old t ∙ ap (λ b. booked b t) (sym books);
+  drawn = λ e t. not_drawn (amount_in c.books e t) (amount_in d.books e t) (ap (λ b. amount_in b e t) books);
+}

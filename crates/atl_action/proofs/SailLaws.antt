@@ -1,0 +1,402 @@
+-- SAIL leaves a campaign well, and takes along at most who is inside a ship.
+use Rattle.std.proofs.Common.{◌≡◌, ◌≢◌, ◌==◌, ◌&&◌, ◌||◌, ℕ, Bool, true, false, not, List, [], ◌∷◌, Option, Some, None, refl, sym, ap, subst, ◌∙◌, inl, inr, arith}
+use Rattle.std.specs.Prelude.{fold, nat_lt, option_map, unwrap_or, if◌then◌else◌}
+use Rattle.std.specs.List.{AllByRecursion, list_any}
+use Rattle.std.specs.Option.{option_map_or}
+use Rattle.std.specs.Ordering.{nat_cmp}
+use Rattle.std.specs.FinMap.{FinMap, get}
+use Rattle.std.proofs.lemmas.Bool.{and_parts}
+use Rattle.atl_tables.specs.Planet.{Planet}
+use Rattle.atl_tables.specs.Sums.{changed}
+use Rattle.atl_tables.specs.declared.world.RegionPlan.{RegionPlan}
+use Rattle.atl_orders.specs.declared.order.Direction.{Direction}
+use Rattle.atl_orders.specs.declared.order.Order.TheVariants as orders
+use Rattle.atl_orders.specs.Orders.{Said}
+use Rattle.atl_state.specs.declared.event.EventFault.{EventFault}
+use Rattle.atl_state.specs.declared.event.EventFault.TheVariants.{NoCrew, NoMen, NotComplete, NotInside, NotOwner, NoWay, TooHeavy}
+use Rattle.atl_state.specs.declared.event.Outcome.TheVariants.{Done}
+use Rattle.atl_state.specs.declared.records.Structure.{Structure}
+use Rattle.atl_state.specs.declared.records.Unit.{Unit}
+use Rattle.atl_state.specs.Good.{Every, IsOwned, IsSteady, IsThere, guards, is_land_at, is_ship, size_of}
+use Rattle.atl_state.specs.Levels.{load_of}
+use Rattle.atl_state.specs.Owners.{handed, heir, is_owned_by, placed, with_place, with_place_at}
+use Rattle.atl_state.specs.State.{State, numbers_inside, with_guard, with_structure_region}
+use Rattle.atl_state.proofs.EveryLaws.{none_some}
+use Rattle.atl_state.proofs.RemovedLaws.{IsListed, listed_passing, passing_listed}
+use Rattle.atl_instant.specs.Outcomes.{unless}
+use Rattle.atl_instant.specs.Steps.{IsOrderly, IsOwnOrder, IsSpared, IsSparing, StepsWell}
+use Rattle.atl_instant.specs.Unbooked.{books_nothing, moves_nothing}
+use Rattle.atl_instant.proofs.OutcomeLaws.{none_fits}
+use Rattle.atl_instant.proofs.StructureLaws.{at_number, changed_else, equal, get-changed, is_equal, is_unequal, len-changed}
+use Rattle.atl_instant.proofs.StepLaws.{well_same}
+use Rattle.atl_action.specs.Sail.{IsCarried, capacity, crew_needed, crew_of, is_complete_ship, is_way, sail, sail_by, sail_fault, sail_said, sail_step, sailed, sum_inside, taken_along}
+use Rattle.atl_action.specs.Ways.{is_region, neighbour}
+use Rattle.atl_action.proofs.PeopleLaws.{AreSamePeople, people_changed, people_same, people_twice, steady_well, total_people}
+use Rattle.atl_action.proofs.TravelLaws.{AreTravelled, IsPut, IsSameStructure, IsSameUnit, steady-travelled, travelled, under}
+
+not_false : (b : Bool) → not b ≡ false → b ≡ true
+not_false true h = refl
+not_false false h = cc
+
+false_true : {P : Type 0} → false ≡ true → P
+false_true e = cc
+
+-- ---- lists of units
+
+any_listed : (k : ℕ) (ns : List ℕ) → IsListed k ns → list_any (λ n. k == n) ns ≡ true
+any_listed k [] listed = absurd listed
+any_listed k (n ∷ ns) (inl same) = ap (λ b. b || list_any (λ n. k == n) ns) (equal k n same)
+any_listed k (n ∷ ns) (inr listed) = ap (λ b. (k == n) || b) (any_listed k ns listed) ∙ or_true (k == n)
+  where
+    or_true : (b : Bool) → (b || true) ≡ true
+    or_true true = refl
+    or_true false = refl
+
+listed_any : (k : ℕ) (ns : List ℕ) → list_any (λ n. k == n) ns ≡ true → IsListed k ns
+listed_any k [] e = false_true e
+listed_any k (n ∷ ns) e = by_test (k == n) refl e (λ rest. listed_any k ns rest)
+  where
+    by_test : (b : Bool) → (k == n) ≡ b → (b || list_any (λ n. k == n) ns) ≡ true → (list_any (λ n. k == n) ns ≡ true → IsListed k ns) → IsListed k (n ∷ ns)
+    by_test true t e rest = inl (is_equal k n t)
+    by_test false t e rest = inr (rest e)
+
+all_listed : (P : ℕ → Type 0) (ns : List ℕ) → ((k : ℕ) → IsListed k ns → P k) → AllByRecursion P ns
+all_listed P [] h = tt
+all_listed P (n ∷ ns) h = (h n (inl refl), all_listed P ns (λ k l. h k (inr l)))
+
+-- ---- units that go along
+
+module _ (ship to : ℕ) where
+  abbrev put_there : Unit → Unit
+  put_there x = record x { region = to; structure = ship }
+
+  abbrev flag_off : Unit → Unit
+  flag_off x = record x { holding = record x.holding { guard = false } }
+
+  abbrev gone : Unit → Unit
+  gone x = flag_off (put_there x)
+
+  abbrev gone_if : Bool → Unit → Unit
+  gone_if b x = if b then gone x else x
+
+  abbrev crowd : FinMap nat_cmp Unit → ℕ → FinMap nat_cmp Unit
+  crowd m n = changed flag_off (changed put_there m n) n
+
+  crowd_people : (m : FinMap nat_cmp Unit) (n : ℕ) → AreSamePeople m (crowd m n)
+  crowd_people m n =
+      people_twice m (changed put_there m n) (crowd m n)
+      (people_changed put_there (λ x. record { faction = refl; name = refl; men = refl; money = refl; items = refl; days = refl }) m n)
+      (people_changed flag_off (λ x. record { faction = refl; name = refl; men = refl; money = refl; items = refl; days = refl }) (changed put_there m n) n)
+
+  crowds_people : (m : FinMap nat_cmp Unit) (ns : List ℕ) → AreSamePeople m (fold crowd m ns)
+  crowds_people m [] = people_same m
+  crowds_people m (n ∷ ns) = people_twice m (crowd m n) (fold crowd (crowd m n) ns) (crowd_people m n) (crowds_people (crowd m n) ns)
+
+  crowd_by : (m : FinMap nat_cmp Unit) (n k : ℕ) (b : Bool) → (k == n) ≡ b → (o : Option Unit) → option_map (at_number flag_off (changed put_there m n) n k) (option_map (at_number put_there m n k) o) ≡ option_map (gone_if (k == n)) o
+  crowd_by m n k b t None = refl
+  crowd_by m n k true t (Some x) = rw t refl
+  crowd_by m n k false t (Some x) = rw t refl
+
+  crowd_at : (m : FinMap nat_cmp Unit) (n k : ℕ) → get (crowd m n) k ≡ option_map (gone_if (k == n)) (get m k)
+  crowd_at m n k =
+      get-changed flag_off (changed put_there m n) n k ∙ ap (option_map (at_number flag_off (changed put_there m n) n k)) (get-changed put_there m n k)
+      ∙ crowd_by m n k (k == n) refl (get m k)
+
+  mapped_both : (a b : Bool) (o : Option Unit) → option_map (gone_if b) (option_map (gone_if a) o) ≡ option_map (gone_if (a || b)) o
+  mapped_both a b None = refl
+  mapped_both true true (Some x) = refl
+  mapped_both true false (Some x) = refl
+  mapped_both false b (Some x) = refl
+
+  mapped_none : (o : Option Unit) → o ≡ option_map (gone_if false) o
+  mapped_none None = refl
+  mapped_none (Some x) = refl
+
+  crowds_at : (m : FinMap nat_cmp Unit) (ns : List ℕ) (k : ℕ) → get (fold crowd m ns) k ≡ option_map (gone_if (list_any (λ n. k == n) ns)) (get m k)
+  crowds_at m [] k = mapped_none (get m k)
+  crowds_at m (n ∷ ns) k =
+      crowds_at (crowd m n) ns k ∙ ap (option_map (gone_if (list_any (λ n. k == n) ns))) (crowd_at m n k)
+      ∙ mapped_both (k == n) (list_any (λ n. k == n) ns) (get m k)
+
+  abbrev IsInside : FinMap nat_cmp Unit → ℕ → Type 0
+  IsInside m n = (v : Unit) × (get m n ≡ Some v) × (v.structure ≡ ship)
+
+  one_is : (d : State) (n : ℕ) (v : Unit) → get d.units n ≡ Some v → v.structure ≡ ship → taken_along ship to d n ≡ record d { units = crowd d.units n }
+  unfolding with_place
+  one_is d n v is here =
+      ap (λ o. with_guard (with_place_at d n to ship o) n false) is
+      ∙ ap (λ b. with_guard (if b then placed d n to ship else handed (handed (placed d n to ship) v.structure n (heir d v.structure n)) ship 0 n) n false) (equal v.structure ship here)
+
+  still_inside : (m : FinMap nat_cmp Unit) (n k : ℕ) → IsInside m k → IsInside (crowd m n) k
+  still_inside m n k (v, there, here) = (gone_if (k == n) v, crowd_at m n k ∙ ap (option_map (gone_if (k == n))) there, by_test (k == n))
+    where
+      by_test : (b : Bool) → (gone_if b v).structure ≡ ship
+      by_test true = refl
+      by_test false = here
+
+  still_all : (m : FinMap nat_cmp Unit) (n : ℕ) (ns : List ℕ) → AllByRecursion (IsInside m) ns → AllByRecursion (IsInside (crowd m n)) ns
+  still_all m n [] all = tt
+  still_all m n (k ∷ ns) all = (still_inside m n k all.0, still_all m n ns all.1)
+
+  all_is : (d : State) (ns : List ℕ) → AllByRecursion (IsInside d.units) ns → fold (taken_along ship to) d ns ≡ record d { units = fold crowd d.units ns }
+  all_is d [] all = refl
+  all_is d (n ∷ ns) all =
+      let (v, there, here) = all.0 in
+      ap (λ e. fold (taken_along ship to) e ns) (one_is d n v there here) ∙ all_is (record d { units = crowd d.units n }) ns (still_all d.units n ns all.1)
+
+-- ---- a ship that goes
+
+module _ (w : Planet) (c : State) (ship to : ℕ) (steady : IsSteady w c) (x : Structure) (is : get c.structures ship ≡ Some x) where
+  abbrev ns : List ℕ
+  ns = numbers_inside ship c.units
+
+  abbrev units : FinMap nat_cmp Unit
+  units = fold (crowd ship to) c.units ns
+
+  abbrev shifted : Structure → Structure
+  shifted y = record y { region = to }
+
+  abbrev structures : FinMap nat_cmp Structure
+  structures = changed shifted c.structures ship
+
+  abbrev f : ℕ → Unit → Unit
+  f k v = gone_if ship to (v.structure == ship) v
+
+  abbrev g : ℕ → Structure → Structure
+  g = at_number shifted c.structures ship
+
+  abbrev behind : State
+  behind = travelled w c units structures f g
+
+  is_inside : (k : ℕ) → IsListed k ns → IsInside ship to c.units k
+  is_inside k listed = let (v, there, t) = listed_passing (λ (y : Unit). y.structure == ship) c.units k listed in (v, there, is_equal v.structure ship t)
+
+  sailed_is : sailed c ship to ≡ behind
+  unfolding sailed
+  sailed_is = ap (λ d. with_structure_region d ship to) (all_is ship to c ns (all_listed (IsInside ship to c.units) ns is_inside))
+
+  -- who goes along is who is inside
+  member_by : (k : ℕ) (v : Unit) → get c.units k ≡ Some v → (a b : Bool) → (v.structure == ship) ≡ a → list_any (λ n. k == n) ns ≡ b → b ≡ a
+  member_by k v there true true t e = refl
+  member_by k v there false false t e = refl
+  member_by k v there true false t e = sym e ∙ any_listed k ns (passing_listed (λ (y : Unit). y.structure == ship) c.units k v there t)
+  member_by k v there false true t e =
+      let (u, at, inside) = listed_passing (λ (y : Unit). y.structure == ship) c.units k (listed_any k ns e) in
+      let one : Some u ≡ Some v = sym at ∙ there in
+      let unit : u ≡ v = cc in
+      sym inside ∙ ap (λ (y : Unit). y.structure == ship) unit ∙ t
+
+  units_by : (k : ℕ) (o : Option Unit) → get c.units k ≡ o → option_map (gone_if ship to (list_any (λ n. k == n) ns)) o ≡ option_map (f k) o
+  units_by k None there = refl
+  units_by k (Some v) there = ap (λ b. Some (gone_if ship to b v)) (member_by k v there (v.structure == ship) (list_any (λ n. k == n) ns) refl refl)
+
+  units_at : (k : ℕ) → get units k ≡ option_map (f k) (get c.units k)
+  units_at k = crowds_at ship to c.units ns k ∙ units_by k (get c.units k) refl
+
+  same_by : (b : Bool) (v : Unit) → IsSameUnit v (gone_if ship to b v)
+  same_by true v = record { faction = refl; name = refl; men = refl; money = refl; items = refl; days = refl }
+  same_by false v = record { faction = refl; name = refl; men = refl; money = refl; items = refl; days = refl }
+
+  guards_by : (b : Bool) (v : Unit) → guards (gone_if ship to b v) ≡ true → gone_if ship to b v ≡ v
+  guards_by true v g = false_true g
+  guards_by false v g = refl
+
+  inside_by : (v : Unit) (b : Bool) → (v.structure == ship) ≡ b → (gone_if ship to b v).structure ≡ v.structure
+  inside_by v true t = sym (is_equal v.structure ship t)
+  inside_by v false t = refl
+
+  inside_same : (k : ℕ) (v : Unit) → (f k v).structure ≡ v.structure
+  inside_same k v = inside_by v (v.structure == ship) refl
+
+  at_ship : get structures ship ≡ Some (shifted x)
+  at_ship = get-changed shifted c.structures ship ship ∙ ap (option_map (g ship)) is ∙ ap (λ b. Some (if b then shifted x else x)) (equal ship ship refl)
+
+  at_other : (q : ℕ) → q ≢ ship → get structures q ≡ get c.structures q
+  at_other q apart = changed_else shifted c.structures ship q apart (get c.structures ship)
+
+  ship_same : (q : ℕ) (y : Structure) (b : Bool) → IsSameStructure y (if b then shifted y else y)
+  ship_same q y true = record { kind = refl; done = refl; name = refl }
+  ship_same q y false = record { kind = refl; done = refl; name = refl }
+
+  ship_owned : (q : ℕ) (y : Structure) → get c.structures q ≡ Some y → (b : Bool) → IsOwned behind q (if b then shifted y else y)
+  ship_owned q y there b = by_test b
+    where
+      owned : y.owner ≢ 0 → (v : Unit) × (get units y.owner ≡ Some v) × (v.structure ≡ q)
+      owned some =
+          let (v, here, inside) = (steady.owners q y there).owned some in
+          (f y.owner v, units_at y.owner ∙ ap (option_map (f y.owner)) here, inside_same y.owner v ∙ inside)
+
+      ownerless : y.owner ≡ 0 → Every (λ m v. v.structure ≢ q) units
+      ownerless none m v at inside =
+          let (u, was, same) = under (f m) (get c.units m) v (sym (units_at m) ∙ at) in
+          (steady.owners q y there).ownerless none m u was (sym (inside_same m u) ∙ ap (λ (z : Unit). z.structure) same ∙ inside)
+
+      by_test : (b : Bool) → IsOwned behind q (if b then shifted y else y)
+      by_test true = record { owned = owned; ownerless = ownerless }
+      by_test false = record { owned = owned; ownerless = ownerless }
+
+  ship_some : ship ≢ 0
+  ship_some zero = none_some x (sym steady.next.structures.first ∙ ap (get c.structures) (sym zero) ∙ is)
+
+  module _ (floats : is_ship w x ≡ true) (whole : x.done ≡ size_of w x.kind) (there_to : IsThere c.regions to) where
+    put_by : (k : ℕ) (v : Unit) → get c.units k ≡ Some v → (b : Bool) → (v.structure == ship) ≡ b → IsPut w c units structures f g (gone_if ship to b v)
+    put_by k v there true t = record { region = there_to; structure = λ some. (shifted x, at_ship, refl) }
+    put_by k v there false t =
+        let p = steady.known.units k v there in
+        record { region = p.region; structure = λ some. let (s, was, near) = p.structure some in (s, at_other v.structure (is_unequal v.structure ship t) ∙ was, near) }
+
+    built_by : (q : ℕ) (y : Structure) → get c.structures q ≡ Some y → (b : Bool) → IsThere c.regions (if b then shifted y else y).region
+    built_by q y there true = there_to
+    built_by q y there false = (steady.known.structures q y there).region
+
+    aboard_by : (k : ℕ) (v : Unit) → get c.units k ≡ Some v → (b : Bool) → (v.structure == ship) ≡ b → is_land_at w (gone_if ship to b v).region ≡ false
+        → (s : Structure) × (get structures (gone_if ship to b v).structure ≡ Some s) × (is_ship w s ≡ true)
+    aboard_by k v there true t wet = (shifted x, at_ship, floats)
+    aboard_by k v there false t wet =
+        let (s, was, afloat) = steady.water.units k v there wet in
+        (s, at_other v.structure (is_unequal v.structure ship t) ∙ was, afloat)
+
+    afloat_by : (q : ℕ) (y : Structure) → get c.structures q ≡ Some y → (b : Bool) → (q == ship) ≡ b → is_land_at w (if b then shifted y else y).region ≡ false → (is_ship w y ≡ true) × (y.done ≡ size_of w y.kind)
+    afloat_by q y there true t wet =
+        let one : Some x ≡ Some y = sym is ∙ ap (get c.structures) (sym (is_equal q ship t)) ∙ there in
+        let same : x ≡ y = cc in
+        (subst (λ z. is_ship w z ≡ true) same floats, subst (λ z. z.done ≡ size_of w z.kind) same whole)
+    afloat_by q y there false t wet = steady.water.structures q y there wet
+
+    are : AreTravelled w c units structures f g
+    are = record {
+      units_at = units_at;
+      structures_at = get-changed shifted c.structures ship;
+      unit_count = (crowds_people ship to c.units ns).count;
+      structure_count = len-changed shifted c.structures ship;
+      of_factions = (crowds_people ship to c.units ns).of_factions;
+      same_units = λ k v there. same_by (v.structure == ship) v;
+      same_structures = λ q y there. ship_same q y (q == ship);
+      put = λ k v there. put_by k v there (v.structure == ship) refl;
+      built = λ q y there. built_by q y there (q == ship);
+      owned = λ q y there. ship_owned q y there (q == ship);
+      aboard = λ k v there. aboard_by k v there (v.structure == ship) refl;
+      afloat = λ q y there. afloat_by q y there (q == ship) refl;
+      guarding = λ k v there. guards_by (v.structure == ship) v;
+    }
+
+    pub sailed_well : StepsWell IsSteady books_nothing w c (sailed c ship to)
+    sailed_well =
+        subst (StepsWell IsSteady books_nothing w c) (sym sailed_is)
+        (steady_well w c behind (steady-travelled w c units structures f g are steady)
+        (record { month = refl; reports = refl; count = refl; factions = λ k there. there }) refl (total_people c behind (crowds_people ship to c.units ns) refl))
+
+  -- ---- what stays of each unit
+
+  carried_by : (v : Unit) (b : Bool) → (v.structure == ship) ≡ b → IsCarried v (gone_if ship to b v)
+  carried_by v true t =
+      let here : v.structure ≡ ship = is_equal v.structure ship t in
+      record {
+        faction = refl;
+        structure = sym here;
+        region = λ none. absurd (ship_some (sym here ∙ none));
+        name = refl;
+        guard = λ none. absurd (ship_some (sym here ∙ none));
+        no_flag = λ off. refl;
+        men = omega arith;
+        money = omega arith;
+        items = λ i. omega arith;
+        days = λ s. omega arith;
+      }
+  carried_by v false t = record { faction = refl; structure = refl; region = λ none. refl; name = refl; guard = λ none. refl; no_flag = λ off. off; men = omega arith; money = omega arith; items = λ i. omega arith; days = λ s. omega arith }
+
+  pub sailed_spares : (k : ℕ) (v : Unit) → get c.units k ≡ Some v → IsSpared IsCarried (sailed c ship to) k v
+  sailed_spares k v there =
+      subst (λ d. IsSpared IsCarried d k v) (sym sailed_is)
+      (record { unit = f k v; there = units_at k ∙ ap (option_map (f k)) there; spared = carried_by v (v.structure == ship) refl })
+
+-- ---- an order
+
+carried_same : (v : Unit) → IsCarried v v
+carried_same v = record { faction = refl; structure = refl; region = λ none. refl; name = refl; guard = λ none. refl; no_flag = λ off. off; men = omega arith; money = omega arith; items = λ i. omega arith; days = λ s. omega arith }
+
+carried_twice : (u v x : Unit) → IsCarried u v → IsCarried v x → IsCarried u x
+carried_twice u v x one two = record {
+  faction = two.faction ∙ one.faction;
+  structure = two.structure ∙ one.structure;
+  region = λ none. two.region (one.structure ∙ none) ∙ one.region none;
+  name = two.name ∙ one.name;
+  guard = λ none. two.guard (one.structure ∙ none) ∙ one.guard none;
+  no_flag = λ off. two.no_flag (one.no_flag off);
+  men = omega (arith, one.men, two.men);
+  money = omega (arith, one.money, two.money);
+  items = λ i. omega (arith, one.items i, two.items i);
+  days = λ s. omega (arith, one.days s, two.days s);
+}
+
+carried_spares : IsSparing IsCarried
+carried_spares = record { same = carried_same; again = carried_twice; faction = λ u v h. h.faction }
+
+region_there : (w : Planet) (r : ℕ) → is_region w r ≡ true → IsThere w.regions r
+region_there w r is = by_plan (get w.regions r) refl is
+  where
+    by_plan : (o : Option RegionPlan) → get w.regions r ≡ o → option_map_or (λ (p : RegionPlan). true) o false ≡ true → IsThere w.regions r
+    by_plan None there t = false_true t
+    by_plan (Some p) there t = (p, there)
+
+way_there : (w : Planet) (from : ℕ) (to : Option ℕ) → not (is_way w from to) ≡ false → IsThere w.regions (unwrap_or to 0)
+way_there w from None t = false_true (sym t)
+way_there w from (Some r) t = region_there w r (and_parts (is_region w r) (not (is_land_at w from && is_land_at w r)) (not_false (is_way w from (Some r)) t)).0
+
+-- what is so of the campaign as it is, and of that in which a whole ship has gone, is so of the campaign behind the order
+sail_cases : (P : State → Type 0) (w : Planet) (c : State) (n : ℕ) (direction : Direction) → P c
+    → ((ship to : ℕ) (x : Structure) → get c.structures ship ≡ Some x → is_ship w x ≡ true → x.done ≡ size_of w x.kind → IsThere w.regions to → P (sailed c ship to)) → P (sail w c n direction).0
+unfolding sail
+sail_cases P w c n direction same gone_off = by_unit (get c.units n) refl
+  where
+    by_ship : (u : Unit) (to : Option ℕ) (o : Option Structure) → get c.structures u.structure ≡ o → not (is_complete_ship w o) ≡ false → not (is_way w u.region to) ≡ false → P (sailed c u.structure (unwrap_or to 0))
+    by_ship u to None at whole way = false_true (sym whole)
+    by_ship u to (Some x) at whole way =
+        let parts = and_parts (is_ship w x) (x.done == size_of w x.kind) (not_false (is_complete_ship w (Some x)) whole) in
+        gone_off u.structure (unwrap_or to 0) x at parts.0 (is_equal x.done (size_of w x.kind) parts.1) (way_there w u.region to way)
+
+    by_fault : (u : Unit) (to : Option ℕ) (o : Option EventFault) → sail_fault w c n u (get c.structures u.structure) to ≡ o → P (unless c o (sailed c u.structure (unwrap_or to 0), Done 0)).0
+    by_fault u to (Some fault) e = same
+    by_fault u to None e =
+        let ship = get c.structures u.structure in
+        let heavy = (nat_lt (capacity w ship) (sum_inside (load_of w) c u.structure), TooHeavy) ∷ [] in
+        let crew = (nat_lt (sum_inside (crew_of w) c u.structure) (crew_needed w ship), NoCrew) ∷ heavy in
+        let way = (not (is_way w u.region to), NoWay) ∷ crew in
+        let whole = (not (is_complete_ship w ship), NotComplete) ∷ way in
+        let owner = (not (is_owned_by ship n), NotOwner) ∷ whole in
+        let one = none_fits (u.holding.men == 0) NoMen ((u.structure == 0, NotInside) ∷ owner) e in
+        let two = none_fits (u.structure == 0) NotInside owner one.1 in
+        let three = none_fits (not (is_owned_by ship n)) NotOwner whole two.1 in
+        let four = none_fits (not (is_complete_ship w ship)) NotComplete way three.1 in
+        let five = none_fits (not (is_way w u.region to)) NoWay crew four.1 in
+        by_ship u to ship refl four.0 five.0
+
+    by_unit : (o : Option Unit) → get c.units n ≡ o → P (sail_by w c n direction o).0
+    by_unit None there = same
+    by_unit (Some u) there = by_fault u (neighbour w u.region direction) (sail_fault w c n u (get c.structures u.structure) (neighbour w u.region direction)) refl
+
+sail_well : (w : Planet) (c : State) (n : ℕ) (direction : Direction) → IsSteady w c → StepsWell IsSteady books_nothing w c (sail w c n direction).0
+sail_well w c n direction steady =
+    sail_cases (λ d. StepsWell IsSteady books_nothing w c d) w c n direction (well_same w c steady)
+    (λ ship to x at floats whole there. sailed_well w c ship to steady x at floats whole ((steady.known.regions to).1 there))
+
+sail_spares : (w : Planet) (c : State) (n : ℕ) (direction : Direction) → IsSteady w c → (k : ℕ) (v : Unit) → get c.units k ≡ Some v → IsSpared IsCarried (sail w c n direction).0 k v
+sail_spares w c n direction steady k v there =
+    sail_cases (λ d. IsSpared IsCarried d k v) w c n direction (record { unit = v; there = there; spared = carried_same v })
+    (λ ship to x at floats whole near. sailed_spares w c ship to steady x at k v there)
+
+pub sail_orderly : IsOrderly sail_step IsSteady books_nothing moves_nothing IsOwnOrder IsCarried
+sail_orderly = record {
+  well = λ w a c t steady fit own. well w c t.unit steady t.said;
+  sparing = carried_spares;
+  spared = λ w a c t steady own k v there apart. spared w c t.unit steady k v there t.said;
+  bounded = λ w c steady e t. omega arith;
+}
+  where
+    well : (w : Planet) (c : State) (n : ℕ) → IsSteady w c → (s : Said) → StepsWell IsSteady books_nothing w c (sail_said w c n s).0
+    well w c n steady (orders.Sail direction) = sail_well w c n direction steady
+    well w c n steady other = well_same w c steady
+
+    spared : (w : Planet) (c : State) (n : ℕ) → IsSteady w c → (k : ℕ) (v : Unit) → get c.units k ≡ Some v → (s : Said) → IsSpared IsCarried (sail_said w c n s).0 k v
+    spared w c n steady k v there (orders.Sail direction) = sail_spares w c n direction steady k v there
+    spared w c n steady k v there other = record { unit = v; there = there; spared = carried_same v }

@@ -1,0 +1,159 @@
+-- A campaign in which units and structures are in other places, some flags are cleared, and structures have other owners.
+use Rattle.std.proofs.Common.{◌≡◌, ◌≢◌, ℕ, ◌+◌, ◌*◌, ◌≤◌, true, false, Option, Some, None, refl, sym, ap, subst, ◌∙◌, arith}
+use Rattle.std.specs.Prelude.{IsTrue, option_map}
+use Rattle.std.specs.Ordering.{nat_cmp}
+use Rattle.std.specs.FinMap.{FinMap, get, len}
+use Rattle.atl_tables.specs.Names.{name_ok}
+use Rattle.atl_tables.specs.Planet.{Planet}
+use Rattle.atl_state.specs.Limits.{most_days}
+use Rattle.atl_state.specs.declared.records.Structure.{Structure}
+use Rattle.atl_state.specs.declared.records.Unit.{Unit}
+use Rattle.atl_state.specs.Good.{AreAfloat, AreInRange, AreKnown, AreNumbered, AreOfOneFaction, Every, IsAboard, IsBuilt, IsOwned, IsPlaced, IsSteady, IsThere, guards, is_land_at, is_ship, size_of}
+use Rattle.atl_state.specs.Held.{IsHolding}
+use Rattle.atl_state.specs.State.{State, numbers_of}
+use Rattle.atl_state.proofs.EveryLaws.{none_some}
+
+-- the same unit, but for where it is and its flag
+pub record IsSameUnit (before after : Unit) : Type 0 where
+  pub faction : after.faction ≡ before.faction
+  pub name : after.holding.name ≡ before.holding.name
+  pub men : after.holding.men ≡ before.holding.men
+  pub money : after.holding.money ≡ before.holding.money
+  pub items : after.holding.items ≡ before.holding.items
+  pub days : after.holding.days ≡ before.holding.days
+
+-- the same structure, but for where it is and its owner
+pub record IsSameStructure (before after : Structure) : Type 0 where
+  pub kind : after.kind ≡ before.kind
+  pub done : after.done ≡ before.done
+  pub name : after.name ≡ before.name
+
+pub under : {A B : Type 0} (f : A → B) (o : Option A) (x : B) → option_map f o ≡ Some x → (v : A) × (o ≡ Some v) × (f v ≡ x)
+under f None x is = none_some x is
+under f (Some v) x is = let same : f v ≡ x = cc in (v, refl, same)
+
+module _ (w : Planet) (c : State) (units : FinMap nat_cmp Unit) (structures : FinMap nat_cmp Structure) (f : ℕ → Unit → Unit) (g : ℕ → Structure → Structure) where
+  abbrev pub travelled : State
+  travelled = record c { units = units; structures = structures }
+
+  -- a unit's region is there, and its structure stands in it
+  pub record IsPut (u : Unit) : Type 0 where
+    pub region : IsThere c.regions u.region
+    pub structure : u.structure ≢ 0 → (s : Structure) × (get structures u.structure ≡ Some s) × (s.region ≡ u.region)
+
+  -- f gives the units and g the structures; each unit is where it may be, each structure has the owner that it should have, and who guards has stayed
+  pub record AreTravelled : Type 0 where
+    pub units_at : (k : ℕ) → get units k ≡ option_map (f k) (get c.units k)
+    pub structures_at : (k : ℕ) → get structures k ≡ option_map (g k) (get c.structures k)
+    pub unit_count : len units ≡ len c.units
+    pub structure_count : len structures ≡ len c.structures
+    pub of_factions : (m : ℕ) → numbers_of m units ≡ numbers_of m c.units
+    pub same_units : Every (λ k u. IsSameUnit u (f k u)) c.units
+    pub same_structures : Every (λ k y. IsSameStructure y (g k y)) c.structures
+    pub put : Every (λ k u. IsPut (f k u)) c.units
+    pub built : Every (λ k y. IsThere c.regions (g k y).region) c.structures
+    pub owned : Every (λ k y. IsOwned travelled k (g k y)) c.structures
+    pub aboard : Every (λ k u. is_land_at w (f k u).region ≡ false → IsAboard w travelled (f k u)) c.units
+    pub afloat : Every (λ k y. is_land_at w (g k y).region ≡ false → (is_ship w y ≡ true) × (y.done ≡ size_of w y.kind)) c.structures
+    pub guarding : Every (λ k u. guards (f k u) ≡ true → f k u ≡ u) c.units
+
+  module _ (are : AreTravelled) where
+    every_unit : (P : ℕ → Unit → Type 0) → Every (λ k u. P k (f k u)) c.units → Every P units
+    every_unit P h k x there =
+        let (u, was, same) = under (f k) (get c.units k) x (sym (are.units_at k) ∙ there) in
+        subst (P k) same (h k u was)
+
+    every_structure : (P : ℕ → Structure → Type 0) → Every (λ k y. P k (g k y)) c.structures → Every P structures
+    every_structure P h k x there =
+        let (y, was, same) = under (g k) (get c.structures k) x (sym (are.structures_at k) ∙ there) in
+        subst (P k) same (h k y was)
+
+    no_unit : (k : ℕ) → get c.units k ≡ None → get units k ≡ None
+    no_unit k none = are.units_at k ∙ ap (option_map (f k)) none
+
+    no_structure : (k : ℕ) → get c.structures k ≡ None → get structures k ≡ None
+    no_structure k none = are.structures_at k ∙ ap (option_map (g k)) none
+
+    numbers_kept : AreInRange w c → AreInRange w travelled
+    numbers_kept old = record {
+      month = old.month;
+      few_factions = old.few_factions;
+      few_regions = old.few_regions;
+      few_units = omega (arith, are.unit_count, old.few_units);
+      few_structures = omega (arith, are.structure_count, old.few_structures);
+      next_unit_least = old.next_unit_least;
+      next_unit_most = old.next_unit_most;
+      factions = old.factions;
+      regions = old.regions;
+      units = every_unit (λ k x. (1 ≤ k) × IsHolding x.holding) (λ k u was.
+          let s = are.same_units k u was in
+          let h = old.units k u was in
+          (h.0, record { men = rw s.men h.1.men; money = rw s.money h.1.money; items = rw s.items h.1.items }));
+      structures = every_structure (λ k x. (1 ≤ x.done) × (x.done ≤ size_of w x.kind)) (λ k y was. let s = are.same_structures k y was in rw (s.done, s.kind) (old.structures k y was));
+      books = old.books;
+    }
+
+    placed_kept : AreKnown w c → Every (λ k x. IsPlaced w travelled x) units
+    placed_kept old = every_unit (λ k x. IsPlaced w travelled x) (λ k u was.
+        let s = are.same_units k u was in
+        let p = old.units k u was in
+        let q = are.put k u was in
+        record { faction = rw s.faction p.faction; region = q.region; structure = q.structure; items = rw s.items p.items; skills = rw s.days p.skills })
+
+    built_kept : AreKnown w c → Every (λ k x. IsBuilt w travelled x) structures
+    built_kept old = every_structure (λ k x. IsBuilt w travelled x) (λ k y was.
+        let s = are.same_structures k y was in
+        record {
+          kind = rw s.kind ((old.structures k y was).kind);
+          region = are.built k y was;
+          owner = λ some. let (v, here, inside) = (are.owned k y was).owned some in (v, here);
+        })
+
+    next_kept : AreNumbered c → AreNumbered travelled
+    next_kept old = record {
+      factions = old.factions;
+      structures = record { first = no_structure 0 old.structures.first; count = old.structures.count ∙ ap (λ l. l + 1) (sym are.structure_count); free = λ k l. no_structure k (old.structures.free k l) };
+      units = λ k l. no_unit k (old.units k l);
+    }
+
+    water_kept : AreAfloat w travelled
+    water_kept = record {
+      units = every_unit (λ k x. is_land_at w x.region ≡ false → IsAboard w travelled x) are.aboard;
+      structures = every_structure (λ k x. is_land_at w x.region ≡ false → (is_ship w x ≡ true) × (x.done ≡ size_of w x.kind)) (λ k y was sea.
+          let s = are.same_structures k y was in
+          let a = are.afloat k y was sea in
+          (rw s.kind a.0, rw (s.done, s.kind) a.1));
+    }
+
+    abbrev Agree : Unit → Unit → Type 0
+    Agree x y = guards x ≡ true → guards y ≡ true → x.region ≡ y.region → x.faction ≡ y.faction
+
+    guards_kept : AreOfOneFaction guards c → AreOfOneFaction guards travelled
+    guards_kept old =
+        every_unit (λ k x. Every (λ m y. Agree x y) units) (λ k u here.
+        every_unit (λ m y. Agree (f k u) y) (λ m v there one two.
+        let first = are.guarding k u here one in
+        let second = are.guarding m v there two in
+        agree first second (old k u here m v there) one two))
+      where
+        agree : {x u y v : Unit} → x ≡ u → y ≡ v → Agree u v → Agree x y
+        agree one two same = rw (one, two) same
+
+    pub steady-travelled : IsSteady w c → IsSteady w travelled
+    steady-travelled old = record {
+      numbers = numbers_kept old.numbers;
+      names = record {
+        pass = old.names.pass;
+        factions = old.names.factions;
+        joined = old.names.joined;
+        units = every_unit (λ k x. IsTrue (name_ok x.holding.name)) (λ k u was. let s = are.same_units k u was in rw s.name (old.names.units k u was));
+        structures = every_structure (λ k x. IsTrue (name_ok x.name)) (λ k y was. let s = are.same_structures k y was in rw s.name (old.names.structures k y was));
+      };
+      known = record { regions = old.known.regions; units = placed_kept old.known; structures = built_kept old.known; mail = old.known.mail; reports = old.known.reports };
+      next = next_kept old.next;
+      days = every_unit (λ k x. Every (λ j days. (1 ≤ days) × (days ≤ most_days * x.holding.men)) x.holding.days) (λ k u was. let s = are.same_units k u was in rw (s.days, s.men) (old.days k u was));
+      gone = λ m x there gone. are.of_factions m ∙ old.gone m x there gone;
+      owners = every_structure (λ k x. IsOwned travelled k x) are.owned;
+      water = water_kept;
+      guarded = guards_kept old.guarded;
+    }

@@ -1,0 +1,329 @@
+-- MOVE leaves a campaign well, and spares who doesn't order it.
+use Rattle.std.proofs.Common.{◌≡◌, ◌≢◌, ◌==◌, ◌&&◌, ℕ, ◌≤◌, Bool, true, false, not, [], ◌∷◌, Option, Some, None, refl, sym, ap, subst, ◌∙◌, inl, inr, arith}
+use Rattle.std.specs.Prelude.{nat_lt, option_map, unwrap_or, if◌then◌else◌}
+use Rattle.std.specs.Option.{option_map_or}
+use Rattle.std.specs.Ordering.{nat_cmp}
+use Rattle.std.specs.FinMap.{FinMap, get, len}
+use Rattle.std.proofs.lemmas.Bool.{cases_eq}
+use Rattle.atl_tables.specs.Planet.{Planet, is_land}
+use Rattle.atl_tables.specs.Sums.{changed}
+use Rattle.atl_tables.specs.declared.world.RegionPlan.{RegionPlan}
+use Rattle.atl_orders.specs.declared.order.Direction.{Direction}
+use Rattle.atl_orders.specs.declared.order.Order.TheVariants as orders
+use Rattle.atl_orders.specs.Orders.{Said}
+use Rattle.atl_state.specs.declared.event.EventFault.{EventFault}
+use Rattle.atl_state.specs.declared.event.EventFault.TheVariants.{AtSea, NoMen, NoWay, TooHeavy}
+use Rattle.atl_state.specs.declared.event.Outcome.TheVariants.{Done}
+use Rattle.atl_state.specs.declared.records.Structure.{Structure}
+use Rattle.atl_state.specs.declared.records.Unit.{Unit}
+use Rattle.atl_state.specs.Good.{Every, IsOwned, IsSteady, IsThere, guards, is_land_at, is_ship}
+use Rattle.atl_state.specs.Levels.{carried_by, goods_of}
+use Rattle.atl_state.specs.Owners.{handed, heir, placed, with_place, with_place_at}
+use Rattle.atl_state.specs.State.{State, numbers_inside, with_guard}
+use Rattle.atl_state.proofs.EveryLaws.{none_some}
+use Rattle.atl_state.proofs.LeavingLaws.{owned_by}
+use Rattle.atl_state.proofs.RemovedLaws.{IsListed, first_of, listed_passing, passing_listed}
+use Rattle.atl_instant.specs.Outcomes.{unless}
+use Rattle.atl_instant.specs.Staying.{IsNoWorse}
+use Rattle.atl_instant.specs.Steps.{IsOrderly, IsOwnOrder, StepsWell}
+use Rattle.atl_instant.specs.Unbooked.{books_nothing, moves_nothing}
+use Rattle.atl_instant.proofs.OutcomeLaws.{none_fits}
+use Rattle.atl_instant.proofs.PlacingLaws.{place_stays}
+use Rattle.atl_instant.proofs.StructureLaws.{at_number, changed_else, equal, get-changed, get-handed, handed_is, handed_on, is_equal, is_unequal, len-handed, unequal}
+use Rattle.atl_instant.proofs.StepLaws.{no_worse_spares, well_same}
+use Rattle.atl_instant.proofs.UnbookedLaws.{other_spared}
+use Rattle.atl_action.specs.Walk.{is_land_there, walk, walk_by, walk_fault, walk_said, walk_step, walked}
+use Rattle.atl_action.specs.Ways.{neighbour}
+use Rattle.atl_action.proofs.PeopleLaws.{AreSamePeople, people_changed, people_twice, steady_well, total_people}
+use Rattle.atl_action.proofs.TravelLaws.{AreTravelled, IsPut, IsSameStructure, IsSameUnit, steady-travelled, travelled}
+
+not_true : (b : Bool) → not b ≡ true → b ≡ false
+not_true true h = cc
+not_true false h = refl
+
+not_false : (b : Bool) → not b ≡ false → b ≡ true
+not_false true h = refl
+not_false false h = cc
+
+true_false : {P : Type 0} → true ≡ false → P
+true_false e = cc
+
+false_true : {P : Type 0} → false ≡ true → P
+false_true e = cc
+
+mapped_twice : {A : Type 0} (f g : A → A) (o : Option A) → option_map f (option_map g o) ≡ option_map (λ y. f (g y)) o
+mapped_twice f g None = refl
+mapped_twice f g (Some y) = refl
+
+mapped_itself : {A : Type 0} (o : Option A) → o ≡ option_map (λ y. y) o
+mapped_itself None = refl
+mapped_itself (Some y) = refl
+
+-- a region with land is one of the world
+pub land_is_there : (w : Planet) (r : ℕ) → is_land_at w r ≡ true → IsThere w.regions r
+land_is_there w r land = by_plan (get w.regions r) refl land
+  where
+    by_plan : (o : Option RegionPlan) → get w.regions r ≡ o → option_map_or (is_land w.terrains) o false ≡ true → IsThere w.regions r
+    by_plan None is dry = false_true dry
+    by_plan (Some p) is dry = (p, is)
+
+module _ (w : Planet) (c : State) (n : ℕ) (u : Unit) (to : ℕ) (is : get c.units n ≡ Some u) (steady : IsSteady w c) (land : is_land_at w to ≡ true) where
+  abbrev old_place : ℕ
+  old_place = u.structure
+
+  abbrev next : ℕ
+  next = heir c old_place n
+
+  abbrev put_there : Unit → Unit
+  put_there x = record x { region = to; structure = 0 }
+
+  abbrev flag_off : Unit → Unit
+  flag_off x = record x { holding = record x.holding { guard = false } }
+
+  abbrev gone : Unit → Unit
+  gone x = flag_off (put_there x)
+
+  abbrev units : FinMap nat_cmp Unit
+  units = changed flag_off (changed put_there c.units n) n
+
+  abbrev f : ℕ → Unit → Unit
+  f k x = if k == n then gone x else x
+
+  -- ---- the units
+
+  units_by : (k : ℕ) (b : Bool) → (k == n) ≡ b → (o : Option Unit) → option_map (at_number flag_off (changed put_there c.units n) n k) (option_map (at_number put_there c.units n k) o) ≡ option_map (f k) o
+  units_by k b t None = refl
+  units_by k true t (Some x) = rw t refl
+  units_by k false t (Some x) = rw t refl
+
+  units_at : (k : ℕ) → get units k ≡ option_map (f k) (get c.units k)
+  units_at k =
+      get-changed flag_off (changed put_there c.units n) n k ∙ ap (option_map (at_number flag_off (changed put_there c.units n) n k)) (get-changed put_there c.units n k)
+      ∙ units_by k (k == n) refl (get c.units k)
+
+  same_people : AreSamePeople c.units units
+  same_people =
+      people_twice c.units (changed put_there c.units n) units
+      (people_changed put_there (λ x. record { faction = refl; name = refl; men = refl; money = refl; items = refl; days = refl }) c.units n)
+      (people_changed flag_off (λ x. record { faction = refl; name = refl; men = refl; money = refl; items = refl; days = refl }) (changed put_there c.units n) n)
+
+  same_by : (b : Bool) (x : Unit) → IsSameUnit x (if b then gone x else x)
+  same_by true x = record { faction = refl; name = refl; men = refl; money = refl; items = refl; days = refl }
+  same_by false x = record { faction = refl; name = refl; men = refl; money = refl; items = refl; days = refl }
+
+  guards_by : (b : Bool) (x : Unit) → guards (if b then gone x else x) ≡ true → (if b then gone x else x) ≡ x
+  guards_by true x g = false_true g
+  guards_by false x g = refl
+
+  here : get units n ≡ Some (gone u)
+  here = units_at n ∙ ap (option_map (f n)) is ∙ ap (λ b. Some (if b then gone u else u)) (equal n n refl)
+
+  away : (k : ℕ) → k ≢ n → get units k ≡ get c.units k
+  away k apart = changed_else flag_off (changed put_there c.units n) n k apart (get (changed put_there c.units n) n) ∙ changed_else put_there c.units n k apart (get c.units n)
+
+  every_away : (P : ℕ → Unit → Type 0) → P n (gone u) → ((k : ℕ) (x : Unit) → k ≢ n → get c.units k ≡ Some x → P k x) → Every P units
+  every_away P mine others k x there = elim (cases_eq k n) [
+    | inl same ↦
+        let one : Some (gone u) ≡ Some x = sym here ∙ ap (get units) (sym same) ∙ there in
+        let unit : gone u ≡ x = cc in
+        subst (λ y. P k y) unit (subst (λ j. P j (gone u)) (sym same) mine)
+    | inr apart ↦ others k x apart (sym (away k apart) ∙ there)
+  ]
+
+  -- ---- the structures
+
+  low : Every (λ k v. 1 ≤ k) c.units
+  low k v there = (steady.numbers.units k v there).0
+
+  not_first : (q : ℕ) (y : Structure) → get c.structures q ≡ Some y → q ≢ 0
+  not_first q y there zero = none_some y (sym steady.next.structures.first ∙ ap (get c.structures) (sym zero) ∙ there)
+
+  module _ (structures : FinMap nat_cmp Structure) where
+    abbrev behind : State
+    behind = travelled w c units structures f (λ q y. y)
+
+    still_owned : (q : ℕ) (y : Structure) → get c.structures q ≡ Some y → y.owner ≢ n → IsOwned behind q y
+    still_owned q y there other =
+        let o = steady.owners q y there in
+        record {
+          owned = λ some. let (v, at, inside) = o.owned some in (v, away y.owner other ∙ at, inside);
+          ownerless = λ none. every_away (λ m v. v.structure ≢ q) (λ zero. not_first q y there (sym zero)) (λ m v apart at. o.ownerless none m v at);
+        }
+
+    not_owner : (q : ℕ) (y : Structure) → get c.structures q ≡ Some y → q ≢ old_place → y.owner ≢ n
+    not_owner q y there other own =
+        let least = low n u is in
+        let (v, at, inside) = (steady.owners q y there).owned (λ none. absurd (omega (arith, own, none, least))) in
+        let one : Some v ≡ Some u = sym at ∙ ap (get c.units) own ∙ is in
+        let unit : v ≡ u = cc in
+        other (sym inside ∙ ap (λ (x : Unit). x.structure) unit)
+
+    abbrev within : Unit → Bool
+    within v = v.structure == old_place
+
+    listed_low : (k : ℕ) → IsListed k (numbers_inside old_place c.units) → 1 ≤ k
+    listed_low k h = let (v, at, t) = listed_passing within c.units k h in low k v at
+
+    heir_owns : old_place ≢ 0 → (y : Structure) → IsOwned behind old_place (owned_by next y)
+    heir_owns some_place y =
+        let first = first_of (λ k. not (k == n)) (numbers_inside old_place c.units) listed_low in
+        record {
+          owned = λ some.
+              let (listed, other) = first.0 some in
+              let (v, at, t) = listed_passing within c.units next listed in
+              (v, away next (is_unequal next n (not_true (next == n) other)) ∙ at, is_equal v.structure old_place t);
+          ownerless = λ none. every_away (λ m v. v.structure ≢ old_place) (λ zero. some_place (sym zero))
+              (λ m v other at inside. other (is_equal m n (not_false (m == n) (first.1 none m (passing_listed within c.units m v at (equal v.structure old_place inside))))));
+        }
+
+    -- g gives the structures, which are where they were
+    module _ (g : ℕ → Structure → Structure) (at : (k : ℕ) → get structures k ≡ option_map (g k) (get c.structures k)) (count : len structures ≡ len c.structures)
+        (same : Every (λ k y. IsSameStructure y (g k y) × ((g k y).region ≡ y.region)) c.structures) (owned : Every (λ k y. IsOwned behind k (g k y)) c.structures) where
+      forth : (k : ℕ) (y : Structure) → get c.structures k ≡ Some y → get structures k ≡ Some (g k y)
+      forth k y there = at k ∙ ap (option_map (g k)) there
+
+      put_by : (k : ℕ) (x : Unit) → get c.units k ≡ Some x → (b : Bool) → IsPut w c units structures f g (if b then gone x else x)
+      put_by k x there true = record { region = (steady.known.regions to).1 (land_is_there w to land); structure = λ some. absurd (some refl) }
+      put_by k x there false =
+          let p = steady.known.units k x there in
+          record { region = p.region; structure = λ some. let (s, was, near) = p.structure some in (g x.structure s, forth x.structure s was, (same x.structure s was).1 ∙ near) }
+
+      aboard_by : (k : ℕ) (x : Unit) → get c.units k ≡ Some x → (b : Bool) → is_land_at w (if b then gone x else x).region ≡ false
+          → (s : Structure) × (get structures (if b then gone x else x).structure ≡ Some s) × (is_ship w s ≡ true)
+      aboard_by k x there true wet = true_false (sym land ∙ wet)
+      aboard_by k x there false wet =
+          let (s, was, ship) = steady.water.units k x there wet in
+          (g x.structure s, forth x.structure s was, rw (same x.structure s was).0.kind ship)
+
+      are : AreTravelled w c units structures f g
+      are = record {
+        units_at = units_at;
+        structures_at = at;
+        unit_count = same_people.count;
+        structure_count = count;
+        of_factions = same_people.of_factions;
+        same_units = λ k x there. same_by (k == n) x;
+        same_structures = λ k y there. (same k y there).0;
+        put = λ k x there. put_by k x there (k == n);
+        built = λ k y there. rw (same k y there).1 ((steady.known.structures k y there).region);
+        owned = λ k y there. owned k y there;
+        aboard = λ k x there. aboard_by k x there (k == n);
+        afloat = λ k y there wet. steady.water.structures k y there (ap (is_land_at w) (sym (same k y there).1) ∙ wet);
+        guarding = λ k x there. guards_by (k == n) x;
+      }
+
+      behind_well : StepsWell IsSteady books_nothing w c behind
+      behind_well =
+          steady_well w c behind (steady-travelled w c units structures f g are steady)
+          (record { month = refl; reports = refl; count = refl; factions = λ k there. there }) refl (total_people c behind same_people refl)
+
+  -- ---- a unit that was inside no structure
+
+  unowned : old_place ≡ 0 → (q : ℕ) (y : Structure) → get c.structures q ≡ Some y → IsOwned (behind c.structures) q y
+  unowned outside q y there = still_owned c.structures q y there (not_owner c.structures q y there (λ same. not_first q y there (same ∙ outside)))
+
+  outside_well : old_place ≡ 0 → StepsWell IsSteady books_nothing w c (behind c.structures)
+  outside_well outside =
+      behind_well c.structures (λ q y. y) (λ k. mapped_itself (get c.structures k)) refl
+      (λ q y there. (record { kind = refl; done = refl; name = refl }, refl)) (unowned outside)
+
+  -- ---- a unit that leaves a structure
+
+  abbrev begun : State
+  begun = placed c n to 0
+
+  abbrev gone_out : State
+  gone_out = handed begun old_place n next
+
+  abbrev gone_off : State
+  gone_off = handed gone_out 0 0 n
+
+  abbrev given : (a e b : Bool) → Structure → Structure
+  given a e b y = let x = if a && e then owned_by next y else y in if b && x.owner == 0 then owned_by n x else x
+
+  given_same : (a e b : Bool) (y : Structure) → b ≡ false → IsSameStructure y (given a e b y) × ((given a e b y).region ≡ y.region)
+  given_same true true b y high = rw high (record { kind = refl; done = refl; name = refl }, refl)
+  given_same true false b y high = rw high (record { kind = refl; done = refl; name = refl }, refl)
+  given_same false e b y high = rw high (record { kind = refl; done = refl; name = refl }, refl)
+
+  given_owned : old_place ≢ 0 → (q : ℕ) (y : Structure) → get c.structures q ≡ Some y → (a e b : Bool) → (q == old_place) ≡ a → (y.owner == n) ≡ e → b ≡ false → IsOwned (behind gone_off.structures) q (given a e b y)
+  given_owned some q y there true true b p r high = rw high (subst (λ k. IsOwned (behind gone_off.structures) k (owned_by next y)) (sym (is_equal q old_place p)) (heir_owns gone_off.structures some y))
+  given_owned some q y there true false b p r high = rw high (still_owned gone_off.structures q y there (is_unequal y.owner n r))
+  given_owned some q y there false e b p r high = rw high (still_owned gone_off.structures q y there (not_owner gone_off.structures q y there (is_unequal q old_place p)))
+
+  given_at : (q : ℕ) → get gone_off.structures q ≡ option_map (λ y. handed_on 0 0 n q (handed_on old_place n next q y)) (get c.structures q)
+  given_at q =
+      get-handed gone_out 0 0 n q ∙ ap (option_map (handed_on 0 0 n q)) (get-handed begun old_place n next q)
+      ∙ mapped_twice (handed_on 0 0 n q) (handed_on old_place n next q) (get c.structures q)
+
+  inside_well : old_place ≢ 0 → StepsWell IsSteady books_nothing w c (behind gone_off.structures)
+  inside_well some =
+      behind_well gone_off.structures (λ q y. handed_on 0 0 n q (handed_on old_place n next q y)) given_at
+      (len-handed gone_out 0 0 n ∙ len-handed begun old_place n next)
+      (λ q y there. given_same (q == old_place) (y.owner == n) (q == 0) y (unequal q 0 (not_first q y there)))
+      (λ q y there. given_owned some q y there (q == old_place) (y.owner == n) (q == 0) refl refl (unequal q 0 (not_first q y there)))
+
+  off_is : gone_off ≡ record begun { structures = gone_off.structures }
+  off_is = handed_is gone_out 0 0 n ∙ ap (λ (d : State). record d { structures = gone_off.structures }) (handed_is begun old_place n next)
+
+  -- ---- both
+
+  by_place : (b : Bool) → (old_place == 0) ≡ b → StepsWell IsSteady books_nothing w c (with_guard (if b then begun else gone_off) n false)
+  by_place true t = outside_well (is_equal old_place 0 t)
+  by_place false t = subst (λ d. StepsWell IsSteady books_nothing w c (with_guard d n false)) (sym off_is) (inside_well (is_unequal old_place 0 t))
+
+  pub walked_well : StepsWell IsSteady books_nothing w c (walked c n to)
+  unfolding with_place
+  walked_well = subst (λ o. StepsWell IsSteady books_nothing w c (with_guard (with_place_at c n to 0 o) n false)) (sym is) (by_place (old_place == 0) refl)
+
+-- ---- an order
+
+-- a region that is there, if it has land, is the one that the unit goes to
+land_to : (w : Planet) (to : Option ℕ) → not (is_land_there w to) ≡ false → is_land_at w (unwrap_or to 0) ≡ true
+land_to w None dry = false_true (sym dry)
+land_to w (Some r) dry = not_false (is_land_at w r) dry
+
+-- what is so of the campaign as it is, and of that in which the unit has gone, is so of the campaign behind the order
+walk_cases : (P : State → Type 0) (w : Planet) (c : State) (n : ℕ) (direction : Direction) → P c → ((u : Unit) (to : ℕ) → get c.units n ≡ Some u → is_land_at w to ≡ true → P (walked c n to)) → P (walk w c n direction).0
+unfolding walk
+walk_cases P w c n direction same gone = by_unit (get c.units n) refl
+  where
+    by_fault : (u : Unit) (to : Option ℕ) → get c.units n ≡ Some u → (o : Option EventFault) → walk_fault w u to ≡ o → P (unless c o (walked c n (unwrap_or to 0), Done 0)).0
+    by_fault u to is (Some fault) e = same
+    by_fault u to is None e =
+        let heavy = (nat_lt (carried_by w u.holding) (goods_of w u.holding), TooHeavy) ∷ [] in
+        let no_way = (not (is_land_there w to), NoWay) ∷ heavy in
+        let one = none_fits (u.holding.men == 0) NoMen ((not (is_land_at w u.region), AtSea) ∷ no_way) e in
+        let two = none_fits (not (is_land_at w u.region)) AtSea no_way one.1 in
+        let three = none_fits (not (is_land_there w to)) NoWay heavy two.1 in
+        gone u (unwrap_or to 0) is (land_to w to three.0)
+
+    by_unit : (o : Option Unit) → get c.units n ≡ o → P (walk_by w c n direction o).0
+    by_unit None is = same
+    by_unit (Some u) is = by_fault u (neighbour w u.region direction) is (walk_fault w u (neighbour w u.region direction)) refl
+
+walk_well : (w : Planet) (c : State) (n : ℕ) (direction : Direction) → IsSteady w c → StepsWell IsSteady books_nothing w c (walk w c n direction).0
+walk_well w c n direction steady = walk_cases (λ d. StepsWell IsSteady books_nothing w c d) w c n direction (well_same w c steady) (λ u to is land. walked_well w c n u to is steady land)
+
+-- ---- other units stay
+
+walk_stays : (w : Planet) (c : State) (n : ℕ) (direction : Direction) (k : ℕ) → k ≢ n → get (walk w c n direction).0.units k ≡ get c.units k
+walk_stays w c n direction k apart =
+    walk_cases (λ d. get d.units k ≡ get c.units k) w c n direction refl (λ u to is land.
+    changed_else (λ (x : Unit). record x { holding = record x.holding { guard = false } }) (with_place c n to 0).units n k apart (get (with_place c n to 0).units n) ∙ place_stays c n to 0 k apart)
+
+pub walk_orderly : IsOrderly walk_step IsSteady books_nothing moves_nothing IsOwnOrder IsNoWorse
+walk_orderly = record {
+  well = λ w a c t steady fit own. well w c t.unit steady t.said;
+  sparing = no_worse_spares;
+  spared = λ w a c t steady own k v there apart. other_spared c (walk_said w c t.unit t.said).0 t (λ j other. stays w c t.unit j other t.said) own k v there apart;
+  bounded = λ w c steady e t. omega arith;
+}
+  where
+    well : (w : Planet) (c : State) (n : ℕ) → IsSteady w c → (s : Said) → StepsWell IsSteady books_nothing w c (walk_said w c n s).0
+    well w c n steady (orders.Move direction) = walk_well w c n direction steady
+    well w c n steady other = well_same w c steady
+
+    stays : (w : Planet) (c : State) (n j : ℕ) → j ≢ n → (s : Said) → get (walk_said w c n s).0.units j ≡ get c.units j
+    stays w c n j apart (orders.Move direction) = walk_stays w c n direction j apart
+    stays w c n j apart other = refl

@@ -1,0 +1,134 @@
+-- SAIL: ships go to a neighbouring region with all that are inside. See docs/RULES.md, "Sailing".
+use Rattle.std.specs.Prelude.{◌≡◌, ◌≤◌, ℕ, ◌*◌, ◌==◌, ◌&&◌, nat_lt, Bool, true, false, not, [], ◌∷◌, fold, sum_by, unwrap_or, Option, Some, None}
+use Rattle.std.specs.List.{slice_get}
+use Rattle.std.specs.Option.{option_map_or}
+use Rattle.std.specs.FinMap.{get}
+use Rattle.atl_tables.specs.Planet.{Planet}
+use Rattle.atl_orders.specs.declared.order.Direction.{Direction}
+use Rattle.atl_orders.specs.declared.order.Order.TheVariants as orders
+use Rattle.atl_orders.specs.declared.verb.Verb.{Verb}
+use Rattle.atl_orders.specs.declared.verb.Verb.TheVariants as verbs
+use Rattle.atl_orders.specs.Orders.{Said}
+use Rattle.atl_state.specs.declared.event.EventFault.{EventFault}
+use Rattle.atl_state.specs.declared.event.EventFault.TheVariants.{NoCrew, NoMen, NotComplete, NotInside, NotOwner, NotYours, NoWay, TooHeavy}
+use Rattle.atl_state.specs.declared.event.Outcome.{Outcome}
+use Rattle.atl_state.specs.declared.event.Outcome.TheVariants.{Done}
+use Rattle.atl_state.specs.declared.records.Structure.{Structure}
+use Rattle.atl_state.specs.declared.records.Unit.{Unit}
+use Rattle.atl_state.specs.Good.{is_land_at, is_ship, size_of}
+use Rattle.atl_state.specs.Held.{Held, amount_of}
+use Rattle.atl_state.specs.Levels.{level_of, load_of}
+use Rattle.atl_state.specs.Owners.{is_owned_by, with_place}
+use Rattle.atl_state.specs.State.{State, numbers_inside, with_guard, with_structure_region}
+use Rattle.atl_instant.specs.Meaning.{Keeping, Meaning}
+use Rattle.atl_instant.specs.Outcomes.{first_fault, unless}
+use Rattle.atl_instant.specs.Steps.{IsOwnOrder, Step, carried_out, spares_others}
+use Rattle.atl_action.specs.Ways.{is_region, neighbour}
+
+-- ---- which orders are of the phase
+
+abbrev pub is_sailing : Verb → Bool
+is_sailing verbs.Sail = true
+is_sailing verb = false
+
+abbrev pub takes_sailing : Said → Bool
+takes_sailing order = true
+
+-- ---- the ship and who is inside
+
+-- a ship that is done
+abbrev pub is_complete_ship : Planet → Option Structure → Bool
+is_complete_ship w None = false
+is_complete_ship w (Some s) = is_ship w s && s.done == size_of w s.kind
+
+-- the crew that its kind needs, and the load that it can take
+abbrev pub crew_needed : Planet → Option Structure → ℕ
+crew_needed w None = 0
+crew_needed w (Some s) = option_map_or (λ k. k.crew) (slice_get w.kinds s.kind) 0
+
+abbrev pub capacity : Planet → Option Structure → ℕ
+capacity w None = 0
+capacity w (Some s) = option_map_or (λ k. k.capacity) (slice_get w.kinds s.kind) 0
+
+-- the days that were studied of the world's skill of sailing, where it has one
+abbrev pub days_of_sailing : Planet → Held → ℕ
+days_of_sailing w h = option_map_or (λ s. amount_of h.days s) w.rules.sailing 0
+
+-- what people are worth as a crew: each man his level of sailing
+abbrev pub crew_of : Planet → Held → ℕ
+crew_of w h = h.men * level_of (days_of_sailing w h) h.men
+
+abbrev pub of_unit : (Held → ℕ) → Option Unit → ℕ
+of_unit f u = option_map_or (λ x. f x.holding) u 0
+
+-- the sum over all units inside
+abbrev pub sum_inside : (Held → ℕ) → State → (structure : ℕ) → ℕ
+sum_inside f c s = sum_by (λ n. of_unit f (get c.units n)) (numbers_inside s c.units)
+
+-- ---- SAIL
+
+-- whether ships sail that way: there is a neighbour, and one of both regions is water
+abbrev pub is_way : Planet → (from : ℕ) → (to : Option ℕ) → Bool
+is_way w from None = false
+is_way w from (Some to) = is_region w to && not (is_land_at w from && is_land_at w to)
+
+-- why a unit doesn't sail there in what it is inside: NoMen, NotInside, NotOwner, NotComplete, NoWay, NoCrew, TooHeavy
+abbrev pub sail_fault : Planet → State → (n : ℕ) → Unit → Option Structure → (to : Option ℕ) → Option EventFault
+sail_fault w c n u ship to = first_fault (
+    (u.holding.men == 0, NoMen)
+    ∷ (u.structure == 0, NotInside)
+    ∷ (not (is_owned_by ship n), NotOwner)
+    ∷ (not (is_complete_ship w ship), NotComplete)
+    ∷ (not (is_way w u.region to), NoWay)
+    ∷ (nat_lt (sum_inside (crew_of w) c u.structure) (crew_needed w ship), NoCrew)
+    ∷ (nat_lt (capacity w ship) (sum_inside (load_of w) c u.structure), TooHeavy)
+    ∷ [])
+
+-- one unit that is inside goes along, and guards no more
+abbrev pub taken_along : (ship to : ℕ) → State → (n : ℕ) → State
+taken_along ship to c n = with_guard (with_place c n to ship) n false
+
+-- the ship goes, and all that are inside
+unfoldable pub sailed : State → (ship to : ℕ) → State
+sailed c ship to = with_structure_region (fold (taken_along ship to) c (numbers_inside ship c.units)) ship to
+
+abbrev pub sail_to : Planet → State → (n : ℕ) → Unit → (to : Option ℕ) → State × Outcome
+sail_to w c n u to = unless c (sail_fault w c n u (get c.structures u.structure) to) (sailed c u.structure (unwrap_or to 0), Done 0)
+
+-- a unit that isn't there doesn't sail
+abbrev pub sail_by : Planet → State → (n : ℕ) → Direction → Option Unit → State × Outcome
+sail_by w c n direction None = unless c (Some NotYours) (c, Done 0)
+sail_by w c n direction (Some u) = sail_to w c n u (neighbour w u.region direction)
+
+unfoldable pub sail : Planet → State → (n : ℕ) → Direction → State × Outcome
+sail w c n direction = sail_by w c n direction (get c.units n)
+
+abbrev pub sail_said : Planet → State → (n : ℕ) → Said → State × Outcome
+sail_said w c n (orders.Sail direction) = sail w c n direction
+sail_said w c n other = (c, Done 0)
+
+-- what an order of a unit's own faction makes of a campaign
+abbrev pub sail_step : Step
+sail_step w aliases c t = sail_said w c t.unit t.said
+
+-- ---- the phase
+
+abbrev pub sail_meaning : Meaning
+sail_meaning = carried_out sail_step takes_sailing is_sailing
+
+-- a unit that keeps its name and no less of anything, and stays inside what it was inside; where that is nothing, it stays in its region and keeps its flag
+pub record IsCarried (before after : Unit) : Type 0 where
+  pub faction : after.faction ≡ before.faction
+  pub structure : after.structure ≡ before.structure
+  pub region : before.structure ≡ 0 → after.region ≡ before.region
+  pub name : after.holding.name ≡ before.holding.name
+  pub guard : before.structure ≡ 0 → after.holding.guard ≡ before.holding.guard
+  pub no_flag : before.holding.guard ≡ false → after.holding.guard ≡ false
+  pub men : before.holding.men ≤ after.holding.men
+  pub money : before.holding.money ≤ after.holding.money
+  pub items : (i : ℕ) → amount_of before.holding.items i ≤ amount_of after.holding.items i
+  pub days : (s : ℕ) → amount_of before.holding.days s ≤ amount_of after.holding.days s
+
+-- who gives no such order goes at most with what it is inside
+abbrev pub sail_keeps : Keeping
+sail_keeps = spares_others IsOwnOrder IsCarried is_sailing

@@ -1,0 +1,80 @@
+-- MOVE: units go to a neighbouring region over land. See docs/RULES.md, "Walking".
+use Rattle.std.specs.Prelude.{ℕ, ◌==◌, nat_lt, Bool, true, false, not, [], ◌∷◌, unwrap_or, Option, Some, None}
+use Rattle.std.specs.Option.{option_map_or}
+use Rattle.std.specs.FinMap.{get}
+use Rattle.atl_tables.specs.Planet.{Planet}
+use Rattle.atl_orders.specs.declared.order.Direction.{Direction}
+use Rattle.atl_orders.specs.declared.order.Order.TheVariants as orders
+use Rattle.atl_orders.specs.declared.verb.Verb.{Verb}
+use Rattle.atl_orders.specs.declared.verb.Verb.TheVariants as verbs
+use Rattle.atl_orders.specs.Orders.{Said}
+use Rattle.atl_state.specs.declared.event.EventFault.{EventFault}
+use Rattle.atl_state.specs.declared.event.EventFault.TheVariants.{AtSea, NoMen, NotYours, NoWay, TooHeavy}
+use Rattle.atl_state.specs.declared.event.Outcome.{Outcome}
+use Rattle.atl_state.specs.declared.event.Outcome.TheVariants.{Done}
+use Rattle.atl_state.specs.declared.records.Unit.{Unit}
+use Rattle.atl_state.specs.Good.{is_land_at}
+use Rattle.atl_state.specs.Levels.{carried_by, goods_of}
+use Rattle.atl_state.specs.Owners.{with_place}
+use Rattle.atl_state.specs.State.{State, with_guard}
+use Rattle.atl_instant.specs.Meaning.{Keeping, Meaning}
+use Rattle.atl_instant.specs.Outcomes.{first_fault, unless}
+use Rattle.atl_instant.specs.Staying.{IsNoWorse}
+use Rattle.atl_instant.specs.Steps.{IsOwnOrder, Step, carried_out, spares_others}
+use Rattle.atl_action.specs.Ways.{neighbour}
+
+-- ---- which orders are of the phase
+
+abbrev pub is_walking : Verb → Bool
+is_walking verbs.Move = true
+is_walking verb = false
+
+abbrev pub takes_walking : Said → Bool
+takes_walking order = true
+
+-- ---- MOVE
+
+-- whether there is a neighbour with land
+abbrev pub is_land_there : Planet → (to : Option ℕ) → Bool
+is_land_there w to = option_map_or (is_land_at w) to false
+
+-- why a unit doesn't go there: NoMen, AtSea, NoWay, TooHeavy
+abbrev pub walk_fault : Planet → Unit → (to : Option ℕ) → Option EventFault
+walk_fault w u to = first_fault (
+    (u.holding.men == 0, NoMen)
+    ∷ (not (is_land_at w u.region), AtSea)
+    ∷ (not (is_land_there w to), NoWay)
+    ∷ (nat_lt (carried_by w u.holding) (goods_of w u.holding), TooHeavy)
+    ∷ [])
+
+-- the unit goes there, leaves its structure, and guards no more
+abbrev pub walked : State → (n to : ℕ) → State
+walked c n to = with_guard (with_place c n to 0) n false
+
+abbrev pub walk_to : Planet → State → (n : ℕ) → Unit → (to : Option ℕ) → State × Outcome
+walk_to w c n u to = unless c (walk_fault w u to) (walked c n (unwrap_or to 0), Done 0)
+
+-- a unit that isn't there doesn't go
+abbrev pub walk_by : Planet → State → (n : ℕ) → Direction → Option Unit → State × Outcome
+walk_by w c n direction None = unless c (Some NotYours) (c, Done 0)
+walk_by w c n direction (Some u) = walk_to w c n u (neighbour w u.region direction)
+
+unfoldable pub walk : Planet → State → (n : ℕ) → Direction → State × Outcome
+walk w c n direction = walk_by w c n direction (get c.units n)
+
+abbrev pub walk_said : Planet → State → (n : ℕ) → Said → State × Outcome
+walk_said w c n (orders.Move direction) = walk w c n direction
+walk_said w c n other = (c, Done 0)
+
+-- what an order of a unit's own faction makes of a campaign
+abbrev pub walk_step : Step
+walk_step w aliases c t = walk_said w c t.unit t.said
+
+-- ---- the phase
+
+abbrev pub walk_meaning : Meaning
+walk_meaning = carried_out walk_step takes_walking is_walking
+
+-- who gives no such order stays
+abbrev pub walk_keeps : Keeping
+walk_keeps = spares_others IsOwnOrder IsNoWorse is_walking

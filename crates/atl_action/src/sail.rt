@@ -1,0 +1,314 @@
+//! SAIL: ships go to a neighbouring region with all that are inside.
+ghost use Rattle.std.specs.Prelude.{◌≡◌, IfOk, OnOk, fold, option_copied};
+ghost use Rattle.std.specs.List.{slice_get};
+ghost use Rattle.std.specs.FinMap as map;
+ghost use Rattle.atl_state.specs.Covers.{MarksChanges};
+ghost use Rattle.atl_state.specs.Good.{IsSteady};
+ghost use Rattle.atl_state.specs.Levels.{load_of};
+ghost use Rattle.atl_state.specs.Owners.{is_owned_by};
+ghost use Rattle.atl_state.specs.State.{numbers_inside, with_structure_region};
+ghost use Rattle.atl_instant.specs.Steps.{IsOwnOrder};
+ghost use Rattle.atl_instant.specs.Unbooked.{books_nothing, moves_nothing};
+ghost use Rattle.atl_action.specs.Sail.{IsCarried, capacity, crew_needed, crew_of, days_of_sailing, is_complete_ship, is_sailing, is_way, of_unit, sail, sail_fault, sail_keeps, sail_meaning, sail_step, sailed, sum_inside, taken_along, takes_sailing};
+
+use crate::ways::{is_land_at, is_region, neighbour};
+use atl_instant::{Month, OrderPhase, Phase, PhaseVerbs, Written, carry_out_orders};
+use atl_orders::{Direction, Mailing, Order, Verb};
+use atl_state::{Campaign, EventFault, Holding, Outcome, Structure, Unit, level, load};
+use atl_tables::{Kind, World};
+use std::alloc::{AllocError, Global};
+
+/// Ships sail to neighbouring regions with all that are inside. See docs/RULES.md, "Sailing".
+#[derive(Drop, Clone, Copy)]
+pub struct SailPhase;
+
+/// The kind of a structure.
+fn kind_of<'w>(world: &'w World, structure: &Structure) -> Option<&'w Kind>
+    ensures { option_copied result ≡ slice_get world.now.kinds structure.now.kind }
+{
+    world.kinds().get(usize::from(structure.kind))
+}
+
+/// Whether a structure is a ship that is done.
+fn is_complete_ship(world: &World, structure: Option<&Structure>) -> bool
+    ensures { result ≡ is_complete_ship world.now (option_copied structure.entry) }
+{
+    match structure {
+        Some(ship) => match kind_of(world, ship) {
+            Some(kind) => kind.ship && ship.done == kind.size,
+            None => false,
+        },
+        None => false,
+    }
+}
+
+/// The crew that a ship needs.
+fn crew_needed(world: &World, structure: Option<&Structure>) -> u32
+    ensures { result ≡ crew_needed world.now (option_copied structure.entry) }
+{
+    match structure {
+        Some(ship) => match kind_of(world, ship) {
+            Some(kind) => kind.crew,
+            None => 0,
+        },
+        None => 0,
+    }
+}
+
+/// The load that a ship can take.
+fn capacity(world: &World, structure: Option<&Structure>) -> u32
+    ensures { result ≡ capacity world.now (option_copied structure.entry) }
+{
+    match structure {
+        Some(ship) => match kind_of(world, ship) {
+            Some(kind) => kind.capacity,
+            None => 0,
+        },
+        None => 0,
+    }
+}
+
+/// Whether a structure is there, and this unit owns it.
+fn is_owned_by(structure: Option<&Structure>, unit: u32) -> bool
+    ensures { result ≡ is_owned_by (option_copied structure.entry) unit }
+{
+    match structure {
+        Some(found) => found.owner == unit,
+        None => false,
+    }
+}
+
+/// The days that people studied sailing.
+fn days_of_sailing(world: &World, holding: &Holding) -> u32
+    ensures { result ≡ days_of_sailing world.now holding.now }
+{
+    match world.rules().sailing {
+        Some(skill) => holding.days_of(u32::from(skill)),
+        None => 0,
+    }
+}
+
+/// What people are worth as a crew.
+fn crew_of(world: &World, holding: &Holding) -> u64
+    ensures { result ≡ crew_of world.now holding.now }
+{
+    let men = holding.men();
+    u64::from(men) * u64::from(level(days_of_sailing(world, holding), men))
+}
+
+/// What a unit is worth as a crew.
+fn crew_at(world: &World, unit: Option<&Unit>) -> u64
+    ensures { result ≡ of_unit (crew_of world.now) (option_copied unit.entry) }
+{
+    match unit {
+        Some(found) => crew_of(world, &found.holding),
+        None => 0,
+    }
+}
+
+/// What a unit weighs.
+fn load_at(world: &World, unit: Option<&Unit>) -> u64
+    ensures { result ≡ of_unit (load_of world.now) (option_copied unit.entry) }
+{
+    match unit {
+        Some(found) => load(world, &found.holding),
+        None => 0,
+    }
+}
+
+/// What all inside a structure are worth as a crew.
+fn crew_inside(world: &World, campaign: &Campaign, structure: u32) -> u128
+    ensures { result ≡ sum_inside (crew_of world.now) campaign.now.what structure }
+{
+    let mut sum = 0;
+    for number in campaign.inside(structure) {
+        sum += u128::from(crew_at(world, campaign.unit(*number)));
+    }
+    sum
+}
+
+/// What all inside a structure weigh.
+fn load_inside(world: &World, campaign: &Campaign, structure: u32) -> u128
+    ensures { result ≡ sum_inside (load_of world.now) campaign.now.what structure }
+{
+    let mut sum = 0;
+    for number in campaign.inside(structure) {
+        sum += u128::from(load_at(world, campaign.unit(*number)));
+    }
+    sum
+}
+
+/// Whether ships sail from one region to another.
+fn is_way(world: &World, from: u32, to: Option<u32>) -> bool
+    ensures { result ≡ is_way world.now from to }
+{
+    match to {
+        Some(region) => is_region(world, region)
+            && !(is_land_at(world, from) && is_land_at(world, region)),
+        None => false,
+    }
+}
+
+/// Why a unit doesn't sail there in what it is inside.
+fn sail_fault(
+    world: &World,
+    campaign: &Campaign,
+    number: u32,
+    unit: &Unit,
+    to: Option<u32>,
+) -> Option<EventFault>
+    ensures { result ≡ sail_fault world.now campaign.now.what number unit.now (map.get campaign.now.what.structures unit.now.structure) to }
+{
+    let ship = campaign.structure(unit.structure);
+    if unit.holding.men() == 0 {
+        Some(EventFault::NoMen)
+    } else if unit.structure == 0 {
+        Some(EventFault::NotInside)
+    } else if !is_owned_by(ship, number) {
+        Some(EventFault::NotOwner)
+    } else if !is_complete_ship(world, ship) {
+        Some(EventFault::NotComplete)
+    } else if !is_way(world, unit.region, to) {
+        Some(EventFault::NoWay)
+    } else if crew_inside(world, campaign, unit.structure) < u128::from(crew_needed(world, ship)) {
+        Some(EventFault::NoCrew)
+    } else if load_inside(world, campaign, unit.structure) > u128::from(capacity(world, ship)) {
+        Some(EventFault::TooHeavy)
+    } else {
+        None
+    }
+}
+
+/// A unit that is inside goes along, and guards no more.
+fn take_along(campaign: &mut Campaign, unit: u32, ship: u32, to: u32) -> Result<(), AllocError>
+    ensures what { OnOk result (campaign.new.what ≡ taken_along ship to campaign.old.what unit) }
+    ensures marks { OnOk result (MarksChanges campaign.old campaign.new) }
+{
+    campaign.place(unit, to, ship)?;
+    campaign.set_guard(unit, false);
+    Ok(())
+}
+
+/// These units go along.
+fn take_all(campaign: &mut Campaign, units: &[u32], ship: u32, to: u32) -> Result<(), AllocError>
+    ensures what { OnOk result (campaign.new.what ≡ fold (taken_along ship to) campaign.old.what units.now) }
+    ensures marks { OnOk result (MarksChanges campaign.old campaign.new) }
+{
+    for unit in units {
+        take_along(campaign, *unit, ship, to)?;
+    }
+    Ok(())
+}
+
+/// A structure stands in another region.
+fn put_ship(campaign: &mut Campaign, ship: u32, to: u32)
+    ensures what { campaign.new.what ≡ with_structure_region campaign.old.what ship to }
+    ensures marks { MarksChanges campaign.old campaign.new }
+{
+    campaign.set_structure_region(ship, to);
+}
+
+/// A ship goes to another region, and all that are inside.
+#[tactic(auto, unfolding(crate::specs::Sail::sailed))]
+fn put_there(alloc: Global, campaign: &mut Campaign, ship: u32, to: u32) -> Result<(), AllocError>
+    ensures what { OnOk result (campaign.new.what ≡ sailed campaign.old.what ship to) }
+    ensures marks { OnOk result (MarksChanges campaign.old campaign.new) }
+{
+    let inside = campaign.inside(ship).to_vec(alloc)?;
+    take_all(campaign, &inside, ship, to)?;
+    put_ship(campaign, ship, to);
+    Ok(())
+}
+
+/// A unit sails to the neighbouring region in a direction.
+#[tactic(auto, unfolding(crate::specs::Sail::sail))]
+fn sail(
+    alloc: Global,
+    world: &World,
+    campaign: &mut Campaign,
+    number: u32,
+    direction: Direction,
+) -> Result<Outcome, AllocError>
+    ensures what { IfOk result (λ outcome. (campaign.new.what, outcome) ≡ sail world.now campaign.old.what number direction) }
+    ensures marks { OnOk result (MarksChanges campaign.old campaign.new) }
+{
+    let Some(unit) = campaign.unit(number) else {
+        return Ok(Outcome::Fault(EventFault::NotYours.number()));
+    };
+    let to = neighbour(world, unit.region, direction);
+    if let Some(fault) = sail_fault(world, campaign, number, unit, to) {
+        return Ok(Outcome::Fault(fault.number()));
+    }
+    let ship = unit.structure;
+    put_there(alloc, campaign, ship, to.unwrap_or(0))?;
+    Ok(Outcome::Done(0))
+}
+
+impl PhaseVerbs for SailPhase {
+    ghost is_of = { is_sailing };
+
+    fn has(&self, verb: Verb) -> bool {
+        matches!(verb, Verb::Sail)
+    }
+}
+
+impl OrderPhase for SailPhase {
+    ghost step = { sail_step };
+
+    ghost is_taken = { takes_sailing };
+
+    ghost holds = { IsSteady };
+
+    ghost reserve = { books_nothing };
+
+    ghost moving = { moves_nothing };
+
+    ghost concerns = { IsOwnOrder };
+
+    ghost spares = { IsCarried };
+
+    fn takes(&self, _: &Order) -> bool {
+        true
+    }
+
+    fn carry_out(
+        &self,
+        alloc: Global,
+        world: &World,
+        campaign: &mut Campaign,
+        _: &Month,
+        order: Written,
+        _: &Mailing,
+        what: &Order,
+    ) -> Result<Outcome, AllocError> {
+        match what {
+            Order::Sail(direction) => sail(alloc, world, campaign, order.unit, *direction),
+            _ => Ok(Outcome::Done(0)),
+        }
+    }
+
+    fn is_orderly(&self) {}
+}
+
+impl Phase for SailPhase {
+    ghost meaning = { sail_meaning };
+
+    ghost needs = { IsSteady };
+
+    ghost leaves = { IsSteady };
+
+    ghost moving = { moves_nothing };
+
+    ghost keeps = { sail_keeps };
+
+    fn run(
+        &self,
+        alloc: Global,
+        world: &World,
+        mut campaign: Campaign,
+        mut month: Month,
+    ) -> Result<(Campaign, Month), AllocError> {
+        carry_out_orders(alloc, self, world, &mut campaign, &mut month)?;
+        Ok((campaign, month))
+    }
+}

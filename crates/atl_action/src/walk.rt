@@ -1,0 +1,147 @@
+//! MOVE: units go to a neighbouring region over land.
+ghost use Rattle.std.specs.Prelude.{◌≡◌, IfOk, OnOk};
+ghost use Rattle.atl_state.specs.Covers.{MarksChanges};
+ghost use Rattle.atl_state.specs.Good.{IsSteady};
+ghost use Rattle.atl_instant.specs.Staying.{IsNoWorse};
+ghost use Rattle.atl_instant.specs.Steps.{IsOwnOrder};
+ghost use Rattle.atl_instant.specs.Unbooked.{books_nothing, moves_nothing};
+ghost use Rattle.atl_action.specs.Walk.{is_land_there, is_walking, takes_walking, walk, walk_fault, walk_keeps, walk_meaning, walk_step, walked};
+
+use crate::ways::{is_land_at, neighbour};
+use atl_instant::{Month, OrderPhase, Phase, PhaseVerbs, Written, carry_out_orders};
+use atl_orders::{Direction, Mailing, Order, Verb};
+use atl_state::{Campaign, EventFault, Outcome, Unit, carry, goods};
+use atl_tables::World;
+use std::alloc::{AllocError, Global};
+
+/// Units walk to neighbouring regions with land. See docs/RULES.md, "Walking".
+#[derive(Drop, Clone, Copy)]
+pub struct MovePhase;
+
+/// Whether there is a neighbour with land.
+fn is_land_there(world: &World, to: Option<u32>) -> bool
+    ensures { result ≡ is_land_there world.now to }
+{
+    match to {
+        Some(region) => is_land_at(world, region),
+        None => false,
+    }
+}
+
+/// Why a unit doesn't walk there.
+fn walk_fault(world: &World, unit: &Unit, to: Option<u32>) -> Option<EventFault>
+    ensures { result ≡ walk_fault world.now unit.now to }
+{
+    if unit.holding.men() == 0 {
+        Some(EventFault::NoMen)
+    } else if !is_land_at(world, unit.region) {
+        Some(EventFault::AtSea)
+    } else if !is_land_there(world, to) {
+        Some(EventFault::NoWay)
+    } else if goods(world, &unit.holding) > carry(world, &unit.holding) {
+        Some(EventFault::TooHeavy)
+    } else {
+        None
+    }
+}
+
+/// A unit stands in another region, inside no structure, and guards no more.
+fn put_there(campaign: &mut Campaign, unit: u32, to: u32) -> Result<(), AllocError>
+    ensures what { OnOk result (campaign.new.what ≡ walked campaign.old.what unit to) }
+    ensures marks { OnOk result (MarksChanges campaign.old campaign.new) }
+{
+    campaign.place(unit, to, 0)?;
+    campaign.set_guard(unit, false);
+    Ok(())
+}
+
+/// A unit walks to the neighbouring region in a direction.
+#[tactic(auto, unfolding(crate::specs::Walk::walk))]
+fn walk(
+    world: &World,
+    campaign: &mut Campaign,
+    number: u32,
+    direction: Direction,
+) -> Result<Outcome, AllocError>
+    ensures what { IfOk result (λ outcome. (campaign.new.what, outcome) ≡ walk world.now campaign.old.what number direction) }
+    ensures marks { OnOk result (MarksChanges campaign.old campaign.new) }
+{
+    let Some(unit) = campaign.unit(number) else {
+        return Ok(Outcome::Fault(EventFault::NotYours.number()));
+    };
+    let to = neighbour(world, unit.region, direction);
+    if let Some(fault) = walk_fault(world, unit, to) {
+        return Ok(Outcome::Fault(fault.number()));
+    }
+    put_there(campaign, number, to.unwrap_or(0))?;
+    Ok(Outcome::Done(0))
+}
+
+impl PhaseVerbs for MovePhase {
+    ghost is_of = { is_walking };
+
+    fn has(&self, verb: Verb) -> bool {
+        matches!(verb, Verb::Move)
+    }
+}
+
+impl OrderPhase for MovePhase {
+    ghost step = { walk_step };
+
+    ghost is_taken = { takes_walking };
+
+    ghost holds = { IsSteady };
+
+    ghost reserve = { books_nothing };
+
+    ghost moving = { moves_nothing };
+
+    ghost concerns = { IsOwnOrder };
+
+    ghost spares = { IsNoWorse };
+
+    fn takes(&self, _: &Order) -> bool {
+        true
+    }
+
+    fn carry_out(
+        &self,
+        _: Global,
+        world: &World,
+        campaign: &mut Campaign,
+        _: &Month,
+        order: Written,
+        _: &Mailing,
+        what: &Order,
+    ) -> Result<Outcome, AllocError> {
+        match what {
+            Order::Move(direction) => walk(world, campaign, order.unit, *direction),
+            _ => Ok(Outcome::Done(0)),
+        }
+    }
+
+    fn is_orderly(&self) {}
+}
+
+impl Phase for MovePhase {
+    ghost meaning = { walk_meaning };
+
+    ghost needs = { IsSteady };
+
+    ghost leaves = { IsSteady };
+
+    ghost moving = { moves_nothing };
+
+    ghost keeps = { walk_keeps };
+
+    fn run(
+        &self,
+        alloc: Global,
+        world: &World,
+        mut campaign: Campaign,
+        mut month: Month,
+    ) -> Result<(Campaign, Month), AllocError> {
+        carry_out_orders(alloc, self, world, &mut campaign, &mut month)?;
+        Ok((campaign, month))
+    }
+}

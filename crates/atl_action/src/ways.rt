@@ -1,0 +1,49 @@
+//! Ways from a region to its neighbours.
+ghost use Rattle.std.specs.Prelude.{◌≡◌};
+ghost use Rattle.atl_state.specs.Good.{is_land_at};
+ghost use Rattle.atl_action.specs.Ways.{beside, is_region, neighbour};
+
+use atl_orders::Direction;
+use atl_tables::{RegionPlan, World};
+
+/// The region's neighbour in a direction.
+fn beside(plan: &RegionPlan, direction: Direction) -> Option<u32>
+    ensures { result ≡ beside direction plan.now }
+{
+    match direction {
+        Direction::North => plan.north,
+        Direction::South => plan.south,
+        Direction::East => plan.east,
+        Direction::West => plan.west,
+    }
+}
+
+/// The neighbour of a region of the world. None where there is no such region, or it has none there.
+pub(crate) fn neighbour(world: &World, region: u32, direction: Direction) -> Option<u32>
+    ensures { result ≡ neighbour world.now region direction }
+{
+    beside(world.region(region)?, direction)
+}
+
+/// Whether a region is there and has land.
+pub(crate) fn is_land_at(world: &World, region: u32) -> bool
+    ensures { result ≡ is_land_at world.now region }
+{
+    match world.region(region) {
+        Some(plan) => match world.terrains().get(usize::from(plan.terrain)) {
+            Some(terrain) => terrain.land,
+            None => false,
+        },
+        None => false,
+    }
+}
+
+/// Whether it is a region of the world.
+pub(crate) fn is_region(world: &World, region: u32) -> bool
+    ensures { result ≡ is_region world.now region }
+{
+    match world.region(region) {
+        Some(_) => true,
+        None => false,
+    }
+}

@@ -1,0 +1,2 @@
+//! Tests of travel and learning.
+#![tactic(auto)]
