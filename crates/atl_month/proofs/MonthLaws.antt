@@ -1,27 +1,26 @@
 -- A campaign behind the phases of a month is good again once the month is counted and the mail is taken away.
 use Rattle.std.proofs.Common.{◌≡◌, ◌&&◌, ℕ, ◌+◌, ◌*◌, ◌≤◌, ◌<◌, Bool, true, false, List, [], ◌∷◌, map, ap, ◌∙◌, arith}
 use Rattle.std.specs.Prelude.{ℤ, nat_lt}
-use Rattle.std.specs.FinMap.{get, len}
+use Rattle.std.specs.FinMap.{FinMap, get, len}
+use Rattle.std.specs.Ordering.{nat_cmp}
 use Rattle.std.proofs.lemmas.Int.{ints}
 use Rattle.std.proofs.lemmas.Bool.Decides.{nat_tests}
 use Rattle.atl_tables.specs.Planet.{Planet}
+use Rattle.atl_state.specs.declared.event.Event.{Event}
 use Rattle.atl_state.specs.Books.{IsWithin, amount_in}
 use Rattle.atl_state.specs.Good.{AreAmountsWithin, AreInRange, AreKnown, IsEarly, IsGood, IsSound, IsSteady, amount_bound}
 use Rattle.atl_state.specs.Limits.{last_month}
 use Rattle.atl_state.specs.State.{State}
 use Rattle.atl_state.specs.Totals.{Balances, total}
-use Rattle.std.specs.List.{AllByRecursion}
-use Rattle.atl_orders.proofs.BoundLaws.{readings_keep_bounds}
-use Rattle.atl_orders.specs.Bounds.{IsReading}
-use Rattle.atl_orders.specs.Mailing.{IsReadWith, reading_of}
+use Rattle.atl_orders.specs.Mailing.{Reading, reading_of}
 use Rattle.atl_orders.specs.declared.mailing.Mailing.{Mailing}
-use Rattle.atl_state.proofs.EveryLaws.{every-empty, every-insert}
-use Rattle.atl_instant.specs.Course.{by_faction}
+use Rattle.atl_state.proofs.EveryLaws.{every-empty}
+use Rattle.atl_instant.specs.Course.{Course, by_faction}
 use Rattle.atl_instant.specs.Fit.{AreFit}
-use Rattle.atl_instant.specs.Meaning.{HaveRoom, IsNear, IsSameMonth, LeavesWell, Moving}
+use Rattle.atl_instant.specs.Meaning.{HaveRoom, IsNear, IsSameMonth, LeavesWell, Meaning, Moving}
 use Rattle.atl_instant.proofs.CourseLaws.{mailings_have_no_order}
 use Rattle.atl_instant.proofs.MeaningLaws.{MovesLess, room_when_sound}
-use Rattle.atl_month.specs.Month.{MonthHasNoOrder, finished, month_of, month_phases}
+use Rattle.atl_month.specs.Month.{MonthHasNoOrder, begun, finished, month_of, month_phases}
 use Rattle.atl_month.specs.Swept.{IsSwept}
 use Rattle.atl_month.proofs.MoveLaws.{month_moves, phases_little}
 
@@ -120,11 +119,16 @@ sound_early w c sound = record {
     on_guard true men is some = above men some
     on_guard false men is some = is
 
+-- what comes of some phases over a month that has begun, and the events of it
+told_of : (phases : Meaning) (w : Planet) (c d : State) (m n : Course) (begin : Course) (events : List Event) → (d, n) ≡ phases w c m → m ≡ begin → events ≡ n.events
+    → ◌≡◌ {A = State × List Event} (d, events) ((phases w c begin).0, (phases w c begin).1.events)
+told_of phases w c d m n begin events meaning begins told = ap (λ (es : List Event). (d, es)) told ∙ ap (λ (p : State × Course). (p.0, p.1.events)) (meaning ∙ ap (phases w c) begins)
+
+pub month_is : (w : Planet) (c d : State) (m n : Course) (readings : FinMap nat_cmp Reading) (words : List ℕ) (events : List Event)
+    → (d, n) ≡ month_phases.meaning w c m → m ≡ begun readings words → events ≡ n.events → (d, events) ≡ month_of w c readings words
+unfolding month_of
+month_is w c d m n readings words events meaning begins told = told_of month_phases.meaning w c d m n (begun readings words) events meaning begins told
+
 -- in which order mailings come isn't seen
 pub month_has_no_order : MonthHasNoOrder
 month_has_no_order w c words mailings others own same = ap (λ readings. month_of w c readings words) (mailings_have_no_order mailings others own same)
-
--- mailings that were read with a world say what can be read with it
-pub read_fit : (w : Planet) (ms : List Mailing) → AllByRecursion (IsReadWith w) ms → AreFit w (by_faction (map reading_of ms))
-read_fit w [] all = every-empty (λ f r. IsReading w r)
-read_fit w (m ∷ ms) all = every-insert (λ f r. IsReading w r) (by_faction (map reading_of ms)) m.faction (reading_of m) (readings_keep_bounds w m.text (reading_of m) all.0) (read_fit w ms all.1)

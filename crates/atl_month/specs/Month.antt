@@ -18,6 +18,8 @@ use Rattle.atl_instant.specs.Place.{place_keeps, place_meaning}
 use Rattle.atl_instant.specs.Quit.{quit_keeps, quit_meaning, quit_moves}
 use Rattle.atl_instant.specs.Transfer.{transfer_keeps, transfer_meaning}
 use Rattle.atl_instant.specs.Unbooked.{moves_nothing}
+use Rattle.atl_action.specs.Sail.{sail_keeps, sail_meaning}
+use Rattle.atl_action.specs.Walk.{walk_keeps, walk_meaning}
 use Rattle.atl_market.specs.Recruit.{recruit_keeps, recruit_meaning, recruit_moves}
 use Rattle.atl_market.specs.Tax.{tax_keeps, tax_meaning, tax_moves}
 use Rattle.atl_market.specs.Work.{work_keeps, work_meaning, work_moves}
@@ -73,6 +75,12 @@ guarding = record { meaning = guard_meaning; moving = moves_nothing; keeps = gua
 abbrev pub quitting : PhaseTerms
 quitting = record { meaning = quit_meaning; moving = quit_moves; keeps = quit_keeps }
 
+abbrev pub walking : PhaseTerms
+walking = record { meaning = walk_meaning; moving = moves_nothing; keeps = walk_keeps }
+
+abbrev pub sailing : PhaseTerms
+sailing = record { meaning = sail_meaning; moving = moves_nothing; keeps = sail_keeps }
+
 abbrev pub working : PhaseTerms
 working = record { meaning = work_meaning; moving = work_moves most_moved; keeps = work_keeps }
 
@@ -91,7 +99,7 @@ early_orders = forming ▷ naming ▷ placing ▷ giving ▷ transferring ▷ ta
 
 -- and the others
 abbrev pub later_orders : PhaseTerms
-later_orders = guarding ▷ quitting ▷ working
+later_orders = guarding ▷ quitting ▷ walking ▷ sailing ▷ working
 
 -- a month, from its first phase to its last
 abbrev pub month_phases : PhaseTerms

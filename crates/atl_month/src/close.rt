@@ -14,6 +14,7 @@ ghost use Rattle.atl_month.specs.Swept.{IsSwept};
 use crate::season::SeasonPhase;
 use crate::sweep::SweepPhase;
 use crate::upkeep::UpkeepPhase;
+use atl_action::{MovePhase, SailPhase};
 use atl_instant::{
     FormPhase, GivePhase, GuardPhase, Month, NamePhase, Phase, PlacePhase, QuitPhase, TransferPhase,
 };
@@ -39,7 +40,8 @@ fn run_phases(
 {
     let goods = (GivePhase, (TransferPhase, (TaxPhase, RecruitPhase)));
     let early = (FormPhase, (NamePhase, (PlacePhase, goods)));
-    let later = (GuardPhase, (QuitPhase, WorkPhase));
+    let long = (MovePhase, (SailPhase, WorkPhase));
+    let later = (GuardPhase, (QuitPhase, long));
     let closing = (UpkeepPhase, (SeasonPhase, SweepPhase));
     let phases = (early, (later, closing));
     let (campaign, month) = phases.run(alloc, world, campaign, month)?;
@@ -50,7 +52,6 @@ fn run_phases(
 /// region, and gives the campaign behind them and what came of the orders. The month isn't counted and the mail is still there:
 /// with these done the campaign is good again. AllocError without memory; the campaign is then given up. See
 /// docs/RULES.md, "Closing a month".
-#[tactic(auto, unfolding(crate::specs::Month::month_of))]
 pub fn close_month(
     alloc: Global,
     world: &World,

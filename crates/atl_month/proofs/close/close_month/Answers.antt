@@ -4,7 +4,8 @@ use Rattle.atl_orders.specs.Mailing.{IsReadWith, reading_of}
 use Rattle.atl_instant.specs.Fit.{AreFit}
 use Rattle.atl_instant.specs.Course.{Course, by_faction}
 use Rattle.atl_month.specs.Month.{begun, month_phases}
-use Rattle.atl_month.proofs.MonthLaws.{finished_good, read_fit}
+use Rattle.atl_month.proofs.MonthLaws.{finished_good, month_is}
+use Rattle.atl_instant.proofs.FitLaws.{read_fit}
 use Rattle.atl_month.proofs.MoveLaws.{phases_little}
 use Rattle.atl_month.proofs.close.close_month.Goals as goal
 
@@ -22,3 +23,9 @@ run_phases-requires-clause-read c =
     let w = c.args.world.now in
     let is : by_faction (map reading_of ms) ≡ c.new-month.result.readings = search rules in
     subst (AreFit w) is (read_fit w ms (recursion_from_All (IsReadWith w) ms c.requires.read))
+
+pub returns-clause-definition : goal.returns-clause-definition
+returns-clause-definition c =
+    let is : c.new-month.result ≡ begun (by_faction (map reading_of c.args.mailings.items)) c.args.words.now = search rules in
+    month_is c.args.world.now c.args.campaign.what c.in_ok-campaign.campaign.what c.new-month.result c.in_ok-campaign.month (by_faction (map reading_of c.args.mailings.items)) c.args.words.now c.into_events.result.items
+    c.in_ok-campaign.ensures.meaning is c.into_events.ensures
