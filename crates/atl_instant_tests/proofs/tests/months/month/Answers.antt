@@ -1,4 +1,4 @@
-use Rattle.std.proofs.Common.{map, subst, sym, ap}
+use Rattle.std.proofs.Common.{subst, sym}
 use Rattle.std.proofs.lemmas.List.Elements.{recursion_from_All}
 use Rattle.atl_orders.specs.Mailing.{IsReadWith}
 use Rattle.atl_instant.specs.Course.{Course}
