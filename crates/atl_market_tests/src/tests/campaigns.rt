@@ -2,7 +2,11 @@
 ghost use Rattle.std.specs.Prelude.{◌≡◌, All, IfOk, map};
 ghost use Rattle.atl_orders.specs.Mailing.{IsReadWith};
 ghost use Rattle.atl_state.specs.Good.{IsEarly, IsGood};
+ghost use Rattle.atl_instant.specs.Course.{HaveOwnFactions};
 ghost use Rattle.atl_instant.specs.Fit.{AreFit};
+ghost use Rattle.atl_instant.specs.Meaning.{HaveRoom, most_moved};
+ghost use Rattle.atl_market.specs.Recruit.{recruit_moves};
+ghost use Rattle.atl_market.specs.Tax.{tax_moves};
 
 use atl_instant::Month;
 use atl_orders::{Mailing, read_mailing};
@@ -126,16 +130,26 @@ fn rows_of(alloc: Global, world: &World, units: &[Stood]) -> Result<Parts, Fail>
     Ok(parts)
 }
 
-/// A campaign of factions 1 and 2 with these units, numbered from 1.
-pub(crate) fn campaign_of(alloc: Global, world: &World, units: &[Stood]) -> Result<Campaign, Fail>
-    ensures good { IfOk result (λ c. IsGood world.now c.what) }
-    ensures early { IfOk result (λ c. IsEarly world.now c.what) }
+/// The campaign of the rows of these units.
+fn good_campaign(alloc: Global, world: &World, units: &[Stood]) -> Result<Campaign, Fail>
+    ensures { IfOk result (λ c. IsGood world.now c.what) }
 {
     let rows = rows_of(alloc, world, units)?;
     match check(alloc, world, rows) {
         Ok(campaign) => Ok(campaign),
         Err(_) => Err(Fail::new("rows of a good campaign")),
     }
+}
+
+/// A campaign of factions 1 and 2 with these units, numbered from 1.
+pub(crate) fn campaign_of(alloc: Global, world: &World, units: &[Stood]) -> Result<Campaign, Fail>
+    ensures good { IfOk result (λ c. IsGood world.now c.what) }
+    ensures early { IfOk result (λ c. IsEarly world.now c.what) }
+    ensures tax { IfOk result (λ c. HaveRoom tax_moves c.what) }
+    ensures recruits { IfOk result (λ c. HaveRoom (recruit_moves most_moved) c.what) }
+{
+    let campaign = good_campaign(alloc, world, units)?;
+    Ok(campaign)
 }
 
 fn mailings_of(alloc: Global, world: &World, texts: &[&str]) -> Result<Vec<Mailing>, Fail>
@@ -158,6 +172,17 @@ fn factions_of(alloc: Global, mailings: &[Mailing]) -> Result<Vec<u32>, AllocErr
     Ok(factions)
 }
 
+/// A month with mailings that were read, no two of one faction.
+fn begun(alloc: Global, world: &World, mailings: Vec<Mailing>) -> Month
+    requires own { HaveOwnFactions mailings.items }
+    requires read { All (IsReadWith world.now) mailings.items }
+    ensures { AreFit world.now result.readings }
+{
+    let words = Vec::new(alloc);
+    let month = Month::new(alloc, mailings, words);
+    month
+}
+
 /// A month with these mailings, and no words.
 pub(crate) fn month_of(alloc: Global, world: &World, texts: &[&str]) -> Result<Month, Fail>
     ensures { IfOk result (λ m. AreFit world.now m.readings) }
@@ -167,7 +192,7 @@ pub(crate) fn month_of(alloc: Global, world: &World, texts: &[&str]) -> Result<M
     if !are_distinct(alloc, &factions)? {
         return Err(Fail::new("each mailing is of a faction of its own"));
     }
-    Ok(Month::new(alloc, mailings, Vec::new(alloc)))
+    Ok(begun(alloc, world, mailings))
 }
 
 /// An event: unit, line, faction, verb, and the number that is done or the fault.

@@ -2,6 +2,8 @@
 ghost use Rattle.std.specs.Prelude.{IfOk};
 ghost use Rattle.atl_state.specs.Good.{IsEarly};
 ghost use Rattle.atl_instant.specs.Fit.{AreFit};
+ghost use Rattle.atl_instant.specs.Meaning.{HaveRoom};
+ghost use Rattle.atl_market.specs.Tax.{tax_moves};
 
 use super::campaigns::{Stood, campaign_of, loses_men, month_of, tell_event};
 use atl_instant::{Month, Phase};
@@ -177,6 +179,7 @@ pub(crate) fn taxed(
     month: Month,
 ) -> Result<(Campaign, Month), AllocError>
     requires early { IsEarly world.now campaign.what }
+    requires room { HaveRoom tax_moves campaign.what }
     requires read { AreFit world.now month.readings }
 {
     TaxPhase.run(alloc, world, campaign, month)
@@ -189,7 +192,8 @@ fn campaign_before(
     rows: &[Row],
     menless: bool,
 ) -> Result<Campaign, Fail>
-    ensures { IfOk result (λ c. IsEarly world.now c.what) }
+    ensures early { IfOk result (λ c. IsEarly world.now c.what) }
+    ensures room { IfOk result (λ c. HaveRoom tax_moves c.what) }
 {
     let units = units_of(alloc, rows)?;
     let mut campaign = campaign_of(alloc, world, &units)?;
