@@ -14,11 +14,10 @@ use Rattle.atl_state.specs.State.{State}
 use Rattle.atl_state.proofs.EveryLaws.{each-from_every, get-insert_other, none_some}
 use Rattle.atl_instant.specs.declared.written.Written.{Written}
 use Rattle.atl_instant.proofs.StayingLaws.{no_worse}
-use Rattle.atl_market.specs.PotPhase.{PotMeaning, fault_at, fault_of, given_by, shared_out, want_at, want_by, wants_by}
+use Rattle.atl_market.specs.PotPhase.{GivesToWants, PotMeaning, fault_at, fault_of, given_by, shared_out, want_at, want_by, wants_by}
 use Rattle.atl_market.specs.Pots.{with_each}
 use Rattle.atl_market.specs.Unordered.{OthersAreNoWorse, is_ordered}
 use Rattle.atl_market.proofs.DrawLaws.{all_pairs}
-use Rattle.atl_market.proofs.PotLaws.{only_takers_get}
 use Rattle.atl_market.proofs.WantLaws.{appended_entries}
 
 neither : (a b : Bool) → (a || b) ≡ false → (a ≡ false) × (b ≡ false)
@@ -62,9 +61,9 @@ module _ (p : PotMeaning) (w : Planet) (c : State) (n : ℕ) (u : Unit) (there :
       ∙ unwanted_by m o (fault_of p w c o) (get c.units o.unit) refl refl first
 
   -- gets nothing
-  not_given : (os : List Written) → is_ordered os n u ≡ false → (share : ℕ) → get (given_by p w c os) n ≡ Some share → ⊥
-  not_given os none share is =
-      let (want, v, wanted, low, at, region) = only_takers_get (p.pot w c) (wants_by p w c os) c n share is in
+  not_given : GivesToWants p w c → (os : List Written) → is_ordered os n u ≡ false → (share : ℕ) → get (given_by p w c os) n ≡ Some share → ⊥
+  not_given gives os none share is =
+      let (want, wanted, low) = gives (wants_by p w c os) n share is in
       none_some want (sym (get-empty nat_cmp n) ∙ sym (unwanted empty os none) ∙ wanted)
 
 -- ---- and nothing happens to it
@@ -75,9 +74,9 @@ module _ (step : State → ℕ × ℕ → State) (others : (c : State) (e : ℕ 
   passed_over c (e ∷ es) n apart = passed_over (step c e) es n apart.1 ∙ others c e n apart.0
 
 pub others_no_worse : (p : PotMeaning) (w : Planet) → ((c : State) (e : ℕ × ℕ) (k : ℕ) → k ≢ e.0 → get (p.paid w c e).units k ≡ get c.units k)
-    → (c : State) (os : List Written) → OthersAreNoWorse os c (shared_out p w c os)
+    → (c : State) → GivesToWants p w c → (os : List Written) → OthersAreNoWorse os c (shared_out p w c os)
 unfolding shared_out
-others_no_worse p w others c os n u there none =
+others_no_worse p w others c gives os n u there none =
     let given = given_by p w c os in
-    let apart = each-from_every (λ k share. n ≢ k) given (λ k share is same. not_given p w c n u there os none share (ap (get given) same ∙ is)) in
+    let apart = each-from_every (λ k share. n ≢ k) given (λ k share is same. not_given p w c n u there gives os none share (ap (get given) same ∙ is)) in
     (u, passed_over (p.paid w) others c (entries given) n (all_pairs (λ e. n ≢ e.0) (entries given) apart) ∙ there, no_worse u)

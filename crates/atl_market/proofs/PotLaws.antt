@@ -19,8 +19,11 @@ use Rattle.atl_state.specs.Good.{IsThere}
 use Rattle.atl_state.specs.State.{State, numbers_in}
 use Rattle.atl_state.specs.declared.records.Region.{Region}
 use Rattle.atl_state.specs.declared.records.Unit.{Unit}
-use Rattle.atl_state.proofs.EveryLaws.{none_some, first, later}
+use Rattle.atl_state.specs.Deciding.{EachOf}
+use Rattle.atl_state.proofs.EveryLaws.{every-from_each, none_some, first, later}
+use Rattle.atl_state.proofs.RegionLaws.{get-insert_same}
 use Rattle.atl_state.proofs.OrderLaws.{each_so}
+use Rattle.atl_market.specs.Asked.{region_at, regions_asked}
 use Rattle.atl_market.specs.Share.{shares}
 use Rattle.atl_market.specs.Pots.{want_of, takers_in, wants_in, shares_in, pot_shares, with_each, share_of, OnlyTakersGet, EachTakerGets, SharesEachPot, GivesEachPot, OtherRegionsDoNotCount}
 use Rattle.atl_market.proofs.ShareLaws.{all_is_given, share_at_most, length-shares}
@@ -371,6 +374,50 @@ module _ (pot_of : ℕ → ℕ) (wants : FinMap nat_cmp ℕ) (c : State) where
   given_is : (r n s : ℕ) → IsThere c.regions r → find nat_cmp n (shares_in pot_of wants c.units r) ≡ Some s → share_of pot_of wants c n ≡ Some s
   given_is r n s region is = found_is n ∙ there (shares_in pot_of wants c.units) n r s (gives_one pot_of wants c.units n) is (keys c.regions) (among r region)
 
+-- ---- the regions where a unit has a want
+
+some_more : (m : FinMap nat_cmp ℕ) (k v n : ℕ) → is_some (get m n) ≡ true → is_some (get (insert m k v) n) ≡ true
+some_more m k v n h = ap is_some (get-insert nat_cmp_total m k v n) ∙ elim (is_eq (nat_cmp n k)) as (λ b. is_some (cond b (Some v) (get m n)) ≡ true) [ true ↦ refl | false ↦ h ]
+
+pub some_new : (m : FinMap nat_cmp ℕ) (n v : ℕ) → is_some (get (insert m n v) n) ≡ true
+some_new m n v = ap is_some (get-insert_same m n v)
+
+pub still_some : (m : FinMap nat_cmp ℕ) (es : List (ℕ × ℕ)) (n : ℕ) → is_some (get m n) ≡ true → is_some (get (with_each m es) n) ≡ true
+still_some m [] n h = h
+still_some m (e ∷ es) n h = still_some (insert m e.0 e.1) es n (some_more m e.0 e.1 n h)
+
+module _ (wants : FinMap nat_cmp ℕ) (c : State) where
+  abbrev asked_at : ℕ × ℕ → Entries
+  asked_at e = region_at e.0 (get c.units e.0)
+
+  asked_each : (m : FinMap nat_cmp ℕ) (es : Entries) → AllByRecursion (λ e. (u : Unit) → get c.units e.0 ≡ Some u → is_some (get (with_each m (flat_map asked_at es)) u.region) ≡ true) es
+  asked_each m [] = tt
+  asked_each m (e ∷ es) =
+      let rest = flat_map asked_at es in
+      let both : with_each m (asked_at e ++ rest) ≡ with_each (with_each m (asked_at e)) rest = fold-append (λ so_far entry. insert so_far entry.0 entry.1) m (asked_at e) rest in (
+        (λ u is. ap (λ k. is_some (get k u.region)) both ∙ still_some (with_each m (asked_at e)) rest u.region (ap (λ o. is_some (get (with_each m (region_at e.0 o)) u.region)) is ∙ some_new m u.region e.0)),
+        subst (λ k. AllByRecursion (λ f. (u : Unit) → get c.units f.0 ≡ Some u → is_some (get k u.region) ≡ true) es) (sym both) (asked_each (with_each m (asked_at e)) es),
+      )
+
+  asked_pairs : (P : ℕ → ℕ → Type 0) (es : Entries) → AllByRecursion (λ e. P e.0 e.1) es → EachOf P es
+  asked_pairs P [] h = tt
+  asked_pairs P (e ∷ es) h = (h.0, asked_pairs P es h.1)
+
+  -- where a unit that has a want stands
+  taker_asks : (n : ℕ) (u : Unit) → IsThere wants n → get c.units n ≡ Some u → is_some (get (regions_asked wants c) u.region) ≡ true
+  taker_asks n u (want, wanted) is =
+      every-from_each (λ k x. (v : Unit) → get c.units k ≡ Some v → is_some (get (regions_asked wants c) v.region) ≡ true) wants (asked_pairs _ (entries wants) (asked_each empty (entries wants))) n want wanted u is
+
+  -- in other regions nobody takes part
+  pub none_asked : (r : ℕ) → is_some (get (regions_asked wants c) r) ≡ false → takers_in wants c.units r ≡ []
+  none_asked r free = by_takers (takers_in wants c.units r) (takers_each wants c.units r)
+    where
+      by_takers : (ns : List ℕ) → AllByRecursion (Takes wants c.units r) ns → ns ≡ []
+      by_takers [] all = refl
+      by_takers (n ∷ ns) all =
+          let ((u, at, here), want) = all.0 in
+          absurd (false≢true (sym free ∙ ap (λ k. is_some (get (regions_asked wants c) k)) (sym here) ∙ taker_asks n u want at))
+
 -- ---- the laws
 
 pub shares_each_pot : SharesEachPot
@@ -401,6 +448,10 @@ only_takers_get pot_of wants c n s is =
     let (t, also, low) = each_taker_gets pot_of wants c n want u wanted at stands in
     let same : t ≡ s = cc in
     (want, u, wanted, subst (λ k. k ≤ want) same low, at, stands)
+
+-- who gets something of a pot wants that much at least
+pub pots_give : (pot_of : ℕ → ℕ) (c : State) (wants : FinMap nat_cmp ℕ) (n share : ℕ) → get (pot_shares pot_of wants c) n ≡ Some share → (want : ℕ) × (get wants n ≡ Some want) × (share ≤ want)
+pots_give pot_of c wants n share is = let (want, u, wanted, low, at, region) = only_takers_get pot_of wants c n share is in (want, wanted, low)
 
 amounts : (g : ℕ → Option ℕ) (ns ss : List ℕ) → map g ns ≡ map Some ss → map (λ n. unwrap_or (g n) 0) ns ≡ ss
 amounts g ns ss h = mapped ns ∙ ap (map (λ o. unwrap_or o 0)) h ∙ back ss

@@ -37,12 +37,13 @@ use Rattle.atl_instant.specs.declared.written.Written.{Written}
 use Rattle.atl_instant.proofs.BookingLaws.{booked-near, within-neg}
 use Rattle.atl_instant.proofs.MeaningLaws.{room_less, well_within}
 use Rattle.atl_market.specs.PotPhase.{CanInTurn, given_by, shared_out}
-use Rattle.atl_market.specs.Recruit.{CanRecruit, recruit_moves, recruited, recruited_by, recruited_from, recruiting, recruits_in, with_men, with_recruits}
+use Rattle.atl_market.specs.Recruit.{CanRecruit, recruit_moves, recruited, recruited_by, recruited_from, recruiting, recruits_at, recruits_in, with_men, with_recruits}
 use Rattle.atl_market.specs.Unordered.{OthersAreNoWorse}
 use Rattle.atl_market.proofs.DrawLaws.{AreUntouched, HaveEnough, HaveLess, all_pairs, changed_regions, drawn, first_draws, others_draw, pot_is_enough, still, untouched}
 use Rattle.atl_market.proofs.HavingLaws.{MayHave, early-having, may_have}
 use Rattle.atl_market.proofs.OrderedLaws.{others_no_worse}
 use Rattle.atl_market.proofs.TurnLaws.{first_room, later_room, turns_leave_well}
+use Rattle.atl_market.proofs.PotLaws.{pots_give}
 use Rattle.atl_market.proofs.WantLaws.{few_given, given_is_wanted}
 
 abbrev peasants_of : Region → ℕ
@@ -189,7 +190,7 @@ module _ (w : Planet) (c : State) (e : ℕ × ℕ) where
       by_unit (Some u) is = by_region u is (get c.regions u.region)
 
 pub recruit_keeps_others : (readings : FinMap nat_cmp Reading) (w : Planet) (c : State) (os : List Written) → OthersAreNoWorse os c (shared_out (recruiting readings) w c os)
-recruit_keeps_others readings w c os = others_no_worse (recruiting readings) w (recruited_others w) c os
+recruit_keeps_others readings w c os = others_no_worse (recruiting readings) w (recruited_others w) c (pots_give (recruits_at w c) c) os
 
 -- ---- all steps can be taken
 
@@ -248,7 +249,7 @@ module _ (w : Planet) (c : State) where
 
     each_fits : Every (λ n share. CanHave (n, share)) (given_by (recruiting readings) w c os)
     each_fits n share is =
-        let (u, o, there, low) = given_is_wanted (recruiting readings) w c os n share is in
+        let (u, o, there, low) = given_is_wanted (recruiting readings) w c (pots_give (recruits_at w c) c) os n share is in
         (u, there, wanted_fits _ _ u.holding.men share (early.steady.numbers.units n u there).1.men low, wanted_payable _ u.holding.money w.rules.recruit_price _ share low)
 
     part : (all one : ℕ) → all / one ≤ all
@@ -260,7 +261,7 @@ module _ (w : Planet) (c : State) where
         omega (arith, few, part q.peasants w.rules.recruit_fraction)
 
     few : length shares ≤ most_units
-    few = omega (arith, few_given (recruiting readings) w c os, early.steady.numbers.few_units)
+    few = omega (arith, few_given (recruiting readings) w c (pots_give (recruits_at w c) c) os, early.steady.numbers.few_units)
 
     little : (e : Entry) (t : Thing) → moved_times (length shares) step_moves e t ≤ recruit_moves most_moved e t
     little e t = scaled (length shares) few (amount_number e t == amount_number Recruiting Money)

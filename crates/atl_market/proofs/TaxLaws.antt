@@ -29,10 +29,11 @@ use Rattle.atl_instant.specs.declared.written.Written.{Written}
 use Rattle.atl_instant.proofs.MeaningLaws.{near_same, well_within}
 use Rattle.atl_instant.proofs.StayingLaws.{are_no_worse, are_no_worse_twice}
 use Rattle.atl_market.specs.PotPhase.{CanInTurn, given_by, shared_out}
-use Rattle.atl_market.specs.Tax.{CanTax, tax_moves, tax_wanted, taxed, taxed_by, taxed_from, taxing, with_tax}
+use Rattle.atl_market.specs.Tax.{CanTax, money_at, tax_moves, tax_wanted, taxed, taxed_by, taxed_from, taxing, with_tax}
 use Rattle.atl_market.proofs.DrawLaws.{all_pairs, HaveEnough, HaveLess, changed_regions, drawn, first_draws, others_draw, pot_is_enough, still, untouched}
 use Rattle.atl_market.proofs.PurseLaws.{others_stay, paid, richer, richer_is, richer_no_worse}
 use Rattle.atl_market.proofs.TurnLaws.{turns_leave_well}
+use Rattle.atl_market.proofs.PotLaws.{pots_give}
 use Rattle.atl_market.proofs.WantLaws.{given_is_wanted}
 
 abbrev money_of : Region → ℕ
@@ -181,7 +182,7 @@ module _ (w : Planet) (c : State) where
 
     each_fits : Every (λ n share. HasRoomFor (n, share)) (given_by taxing w c os)
     each_fits n share is =
-        let (u, o, there, low) = given_is_wanted taxing w c os n share is in
+        let (u, o, there, low) = given_is_wanted taxing w c (pots_give (money_at c) c) os n share is in
         (u, there, wanted_fits u.holding.money _ share (early.steady.numbers.units n u there).1.money low)
 
     all_enough : HaveEnough c.units money_of c shares

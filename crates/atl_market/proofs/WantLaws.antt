@@ -20,9 +20,8 @@ use Rattle.atl_state.proofs.BackLaws.{Rise, entries_rise}
 use Rattle.atl_state.proofs.EveryLaws.{every-empty, every-insert}
 use Rattle.atl_instant.specs.declared.written.Written.{Written}
 use Rattle.atl_instant.proofs.ListedLaws.{find_is}
-use Rattle.atl_market.specs.PotPhase.{PotMeaning, fault_of, given_by, want_at, want_by, wants_by}
+use Rattle.atl_market.specs.PotPhase.{GivesToWants, PotMeaning, fault_of, given_by, want_at, want_by, wants_by}
 use Rattle.atl_market.specs.Pots.{AreWants, with_each}
-use Rattle.atl_market.proofs.PotLaws.{only_takers_get}
 
 -- entries put one list behind the other
 pub appended_entries : (m : FinMap nat_cmp ℕ) (es fs : List (ℕ × ℕ)) → with_each m (es ++ fs) ≡ with_each (with_each m es) fs
@@ -67,24 +66,25 @@ module _ (p : PotMeaning) (w : Planet) (c : State) where
   pub wants_are_wanted : (os : List Written) → Every IsWanted (wants_by p w c os)
   wants_are_wanted os = all_wanted empty os (every-empty IsWanted)
 
-  -- a unit gets at most what it wants by some order
-  pub given_is_wanted : (os : List Written) → Every (λ n share. (u : Unit) × (o : Written) × (get c.units n ≡ Some u) × (share ≤ p.want w u o)) (given_by p w c os)
-  given_is_wanted os n share is =
-      let (want, v, wanted, low, at, region) = only_takers_get (p.pot w c) (wants_by p w c os) c n share is in
-      let (u, o, there, same) = wants_are_wanted os n want wanted in
-      (u, o, there, subst (λ k. share ≤ k) same low)
+  module _ (gives : GivesToWants p w c) where
+    -- a unit gets at most what it wants by some order
+    pub given_is_wanted : (os : List Written) → Every (λ n share. (u : Unit) × (o : Written) × (get c.units n ≡ Some u) × (share ≤ p.want w u o)) (given_by p w c os)
+    given_is_wanted os n share is =
+        let (want, wanted, low) = gives (wants_by p w c os) n share is in
+        let (u, o, there, same) = wants_are_wanted os n want wanted in
+        (u, o, there, subst (λ k. share ≤ k) same low)
 
-  -- no more units get something than there are
-  in_units : (os : List Written) (n : ℕ) → is_some (get (given_by p w c os) n) ≡ true → is_some (get c.units n) ≡ true
-  in_units os n got = by_share (get (given_by p w c os) n) refl got
-    where
-      by_share : (o : Option ℕ) → get (given_by p w c os) n ≡ o → is_some o ≡ true → is_some (get c.units n) ≡ true
-      by_share None is h = absurd (false≢true h)
-      by_share (Some share) is h = let (u, o, there, low) = given_is_wanted os n share is in ap is_some there
+    -- no more units get something than there are
+    in_units : (os : List Written) (n : ℕ) → is_some (get (given_by p w c os) n) ≡ true → is_some (get c.units n) ≡ true
+    in_units os n got = by_share (get (given_by p w c os) n) refl got
+      where
+        by_share : (o : Option ℕ) → get (given_by p w c os) n ≡ o → is_some o ≡ true → is_some (get c.units n) ≡ true
+        by_share None is h = absurd (false≢true h)
+        by_share (Some share) is h = let (u, o, there, low) = given_is_wanted os n share is in ap is_some there
 
-  pub few_given : (os : List Written) → length (entries (given_by p w c os)) ≤ len c.units
-  few_given os =
-      let m = given_by p w c os in
-      let few = length-le_from_keys (eq_by_cmp_equiv nat_cmp_total) (keys_of (entries m)) (entries c.units) (rise_apart (entries m) (entries_rise m)) (λ q h.
-      ap is_some (sym (find_is nat_cmp_total nat_cmp-IsAntisymmetric q (entries c.units)) ∙ sym (get-entries c.units q)) ∙ in_units os q (contains_key-keys m q ∙ h)) in
-      omega (arith, few, length-keys_of (entries m), len-entries c.units)
+    pub few_given : (os : List Written) → length (entries (given_by p w c os)) ≤ len c.units
+    few_given os =
+        let m = given_by p w c os in
+        let few = length-le_from_keys (eq_by_cmp_equiv nat_cmp_total) (keys_of (entries m)) (entries c.units) (rise_apart (entries m) (entries_rise m)) (λ q h.
+        ap is_some (sym (find_is nat_cmp_total nat_cmp-IsAntisymmetric q (entries c.units)) ∙ sym (get-entries c.units q)) ∙ in_units os q (contains_key-keys m q ∙ h)) in
+        omega (arith, few, length-keys_of (entries m), len-entries c.units)

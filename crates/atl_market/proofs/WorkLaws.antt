@@ -40,8 +40,9 @@ use Rattle.atl_instant.proofs.BookingLaws.{booked-near, within-pos}
 use Rattle.atl_instant.proofs.MeaningLaws.{room_less, well_within}
 use Rattle.atl_instant.proofs.StayingLaws.{are_no_worse, are_no_worse_twice, no_worse}
 use Rattle.atl_market.specs.PotPhase.{CanInTurn, given_by, shared_out}
-use Rattle.atl_market.specs.Work.{CanWork, earned, places_wanted, with_wages, work_moves, worked, worked_by, working}
+use Rattle.atl_market.specs.Work.{CanWork, earned, places_at, places_wanted, with_wages, work_moves, worked, worked_by, working}
 use Rattle.atl_market.proofs.TurnLaws.{first_room, later_room, turns_leave_well}
+use Rattle.atl_market.proofs.PotLaws.{pots_give}
 use Rattle.atl_market.proofs.WantLaws.{few_given, given_is_wanted}
 
 -- ---- one unit gets its wages
@@ -192,11 +193,11 @@ module _ (w : Planet) where
 
     each_fits : Every (λ n places. HasRoomFor w c (n, places)) (given_by working w c os)
     each_fits n places is =
-        let (u, o, there, low) = given_is_wanted working w c os n places is in
+        let (u, o, there, low) = given_is_wanted working w c (pots_give (places_at w) c) os n places is in
         (u, there, wanted_fits u (terrain_of w u.region) places (steady.numbers.units n u there).1.money low)
 
     few : length shares ≤ most_units
-    few = omega (arith, few_given working w c os, steady.numbers.few_units)
+    few = omega (arith, few_given working w c (pots_give (places_at w) c) os, steady.numbers.few_units)
 
     little : (e : Entry) (t : Thing) → moved_times (length shares) step_moves e t ≤ work_moves most_moved e t
     little e t = scaled (length shares) few (amount_number e t == amount_number Wages Money)

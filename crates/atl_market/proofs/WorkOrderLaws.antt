@@ -31,6 +31,7 @@ use Rattle.atl_instant.proofs.ListedLaws.{entries-sorted, keyed_order}
 use Rattle.atl_instant.proofs.MappedLaws.{no_entries}
 use Rattle.atl_market.specs.Pots.{with_each}
 use Rattle.atl_market.specs.Work.{all_work, idle_at, idle_work, is_own, is_work, long_orders, own_line, own_lines, work_key, work_orders}
+use Rattle.atl_market.proofs.PotLaws.{some_new, still_some}
 use Rattle.atl_market.proofs.WantLaws.{appended_entries}
 
 refuted : (b : Bool) → (b ≡ true → ⊥) → b ≡ false
@@ -97,16 +98,6 @@ long_apart m =
     IsDistinct-map written same_work ts (values_apart (slice_cmp nat_cmp) (slice_cmp-IsAntisymmetric nat_cmp-IsAntisymmetric) (key_of ByUnit) nat_list_cmp_total _)
 
 -- ---- the units that have an order of their own faction
-
-some_more : (m : FinMap nat_cmp ℕ) (k v n : ℕ) → is_some (get m n) ≡ true → is_some (get (insert m k v) n) ≡ true
-some_more m k v n h = ap is_some (get-insert nat_cmp_total m k v n) ∙ elim (is_eq (nat_cmp n k)) as (λ b. is_some (cond b (Some v) (get m n)) ≡ true) [ true ↦ refl | false ↦ h ]
-
-some_new : (m : FinMap nat_cmp ℕ) (n v : ℕ) → is_some (get (insert m n v) n) ≡ true
-some_new m n v = ap is_some (get-insert_same m n v)
-
-still_some : (m : FinMap nat_cmp ℕ) (es : List (ℕ × ℕ)) (n : ℕ) → is_some (get m n) ≡ true → is_some (get (with_each m es) n) ≡ true
-still_some m [] n h = h
-still_some m (e ∷ es) n h = still_some (insert m e.0 e.1) es n (some_more m e.0 e.1 n h)
 
 module _ (c : State) where
   abbrev IsListed : FinMap nat_cmp ℕ → Written → Type 0

@@ -1,5 +1,6 @@
 pub mod Share
 pub mod Pots
+pub mod Asked
 pub mod PotPhase
 pub mod Unordered
 pub mod Tax

@@ -1,5 +1,5 @@
 -- A phase in which the units of each region share a pot. Who takes part and what there is to share is read from the campaign as the phase began, and all pots and all units change at once. See docs/RULES.md, "Pots".
-use Rattle.std.specs.Prelude.{⊤, ℕ, ◌==◌, ◌++◌, List, [], ◌∷◌, map, Option, Some, None, unwrap_or, if◌then◌else◌}
+use Rattle.std.specs.Prelude.{⊤, ℕ, ◌≡◌, ◌≤◌, ◌==◌, ◌++◌, List, [], ◌∷◌, map, Option, Some, None, unwrap_or, if◌then◌else◌}
 use Rattle.std.specs.List.{flat_map, fold}
 use Rattle.std.specs.Ordering.{nat_cmp}
 use Rattle.std.specs.FinMap.{FinMap, empty, entries, get}
@@ -15,15 +15,15 @@ use Rattle.atl_state.specs.Events.{event_fault_number}
 use Rattle.atl_state.specs.State.{State}
 use Rattle.atl_instant.specs.Course.{Course}
 use Rattle.atl_instant.specs.declared.written.Written.{Written}
-use Rattle.atl_market.specs.Pots.{pot_shares, with_each}
+use Rattle.atl_market.specs.Pots.{with_each}
 
 pub record PotMeaning : Type 0 where
   -- why a unit doesn't carry out an order of its own faction
   pub fault : Planet → Unit → Written → Option EventFault
   -- how much of the pot of its region a unit wants by an order
   pub want : Planet → Unit → Written → ℕ
-  -- what there is to share in a region
-  pub pot : Planet → State → ℕ → ℕ
+  -- what the units get by what they want
+  pub given : Planet → State → FinMap nat_cmp ℕ → FinMap nat_cmp ℕ
   -- what a unit that got so much of the pot is told
   pub told : Planet → Unit → ℕ → ℕ
   -- a unit, by its number, gets so much of the pot of its region
@@ -55,7 +55,7 @@ module _ (p : PotMeaning) (w : Planet) (c : State) where
 
   -- what they get
   abbrev pub given_by : List Written → FinMap nat_cmp ℕ
-  given_by os = pot_shares (p.pot w c) (wants_by os) c
+  given_by os = p.given w c (wants_by os)
 
   -- the campaign in which each has got it
   unfoldable pub shared_out : List Written → State
@@ -79,6 +79,14 @@ module _ (p : PotMeaning) (w : Planet) (c : State) where
 -- what a phase makes of a campaign and of what the month carries, with the orders that it finds
 abbrev pub pots_meaning : PotMeaning → (State → Course → List Written) → Planet → State → Course → State × Course
 pots_meaning p orders w c m = (shared_out p w c (orders c m), record m { events = m.events ++ events_by p w c (orders c m) })
+
+-- ---- what is so of each
+
+-- who gets something wants that much at least
+abbrev pub GivesToWants : PotMeaning → Planet → State → Type 0
+GivesToWants p w c =
+    (wants : FinMap nat_cmp ℕ) (n share : ℕ) → get (p.given w c wants) n ≡ Some share
+    → (want : ℕ) × (get wants n ≡ Some want) × (share ≤ want)
 
 -- ---- steps in turn, each of which can be taken when its turn comes
 abbrev pub CanInTurn : {X : Type 0} → (State → X → Type 0) → (State → X → State) → State → List X → Type 0

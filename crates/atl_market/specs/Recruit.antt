@@ -25,6 +25,7 @@ use Rattle.atl_instant.specs.Meaning.{HaveRoom, Keeping, Meaning, Moving, moves_
 use Rattle.atl_instant.specs.PhaseOrders.{orders_of, written}
 use Rattle.atl_instant.specs.declared.written.Arrangement.TheVariants.{ByUnit}
 use Rattle.atl_instant.specs.declared.written.Written.{Written}
+use Rattle.atl_market.specs.Pots.{pot_shares}
 use Rattle.atl_market.specs.PotPhase.{PotMeaning, events_by, shared_out}
 use Rattle.atl_market.specs.Unordered.{OthersAreNoWorse}
 
@@ -83,7 +84,7 @@ abbrev pub recruiting : FinMap nat_cmp Reading → PotMeaning
 recruiting readings = record {
   fault = λ w u o. recruit_fault w u;
   want = λ w u o. recruits_wanted w u (asked_in (order_at readings o.faction o.place));
-  pot = recruits_at;
+  given = λ w c wants. pot_shares (recruits_at w c) wants c;
   told = λ w u recruits. recruits;
   paid = recruited;
 }

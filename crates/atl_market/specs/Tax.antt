@@ -18,6 +18,7 @@ use Rattle.atl_instant.specs.PhaseOrders.{orders_of, written}
 use Rattle.atl_instant.specs.Staying.{AreNoWorse}
 use Rattle.atl_instant.specs.declared.written.Arrangement.TheVariants.{ByUnit}
 use Rattle.atl_instant.specs.declared.written.Written.{Written}
+use Rattle.atl_market.specs.Pots.{pot_shares}
 use Rattle.atl_market.specs.PotPhase.{PotMeaning, pots_meaning}
 
 abbrev pub is_tax : Verb → Bool
@@ -61,7 +62,7 @@ abbrev pub taxing : PotMeaning
 taxing = record {
   fault = λ w u o. tax_fault u;
   want = λ w u o. tax_wanted w u;
-  pot = λ w c region. money_at c region;
+  given = λ w c wants. pot_shares (money_at c) wants c;
   told = λ w u share. share;
   paid = λ w c e. taxed c e;
 }

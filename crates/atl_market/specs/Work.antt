@@ -25,7 +25,7 @@ use Rattle.atl_instant.specs.Terrains.{terrain_of}
 use Rattle.atl_instant.specs.declared.written.Arrangement.TheVariants.{ByUnit}
 use Rattle.atl_instant.specs.declared.written.Written.{Written}
 use Rattle.atl_market.specs.PotPhase.{PotMeaning, given_by, pots_meaning, shared_out}
-use Rattle.atl_market.specs.Pots.{with_each}
+use Rattle.atl_market.specs.Pots.{pot_shares, with_each}
 
 -- ---- who works
 
@@ -105,7 +105,7 @@ abbrev pub working : PotMeaning
 working = record {
   fault = λ w u o. work_fault u;
   want = λ w u o. places_wanted u (terrain_of w u.region);
-  pot = λ w c region. places_at w region;
+  given = λ w c wants. pot_shares (places_at w) wants c;
   told = λ w u places. earned w u.region places;
   paid = worked;
 }

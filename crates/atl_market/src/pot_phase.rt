@@ -1,14 +1,13 @@
 //! A phase in which the units of each region share a pot.
-ghost use Rattle.std.specs.Prelude.{ℕ, ◌≡◌, ◌≤◌, ◌++◌, IfOk, OnErr, OnOk, fold, map};
+ghost use Rattle.std.specs.Prelude.{ℕ, ◌≡◌, ◌≤◌, ◌++◌, IfOk, OnOk, fold, map};
 ghost use Rattle.std.specs.FinMap.{entries};
 ghost use Rattle.atl_tables.specs.Limits.{most_amount};
 ghost use Rattle.atl_tables.specs.Planet.{Planet};
 ghost use Rattle.atl_state.specs.Covers.{MarksChanges};
 ghost use Rattle.atl_state.specs.State.{State};
 ghost use Rattle.atl_market.specs.PotPhase.{CanInTurn, PotMeaning, event_of, events_by, fault_of, given_by, shared_out, want_by, wants_by};
-ghost use Rattle.atl_market.specs.Pots.{AreWants, pot_shares, with_each};
+ghost use Rattle.atl_market.specs.Pots.{AreWants, with_each};
 
-use crate::pots::{Pots, pot_shares};
 use atl_instant::{Month, Written};
 use atl_state::{Campaign, Event, EventFault, EventVerb, Outcome, Unit};
 use atl_tables::{Numbered, World};
@@ -33,39 +32,33 @@ pub(crate) trait PotPhase {
         ensures value { result ≡ PotMeaning.want (meaning self.now) world.now unit.now order }
         ensures bound { result ≤ most_amount };
 
-    /// What there is to share in a region, at most 999,999,999.
-    fn pot(&self, world: &World, campaign: &Campaign, region: u32) -> u64
-        requires { needs self.now world.now campaign.now.what }
-        ensures value { result ≡ PotMeaning.pot (meaning self.now) world.now campaign.now.what region }
-        ensures bound { result ≤ most_amount };
+    /// What the units get by what they want. AllocError without memory.
+    fn given(
+        &self,
+        alloc: Global,
+        world: &World,
+        campaign: &Campaign,
+        wants: &Numbered<u32>,
+    ) -> Result<Numbered<u32>, AllocError>
+        requires needs { needs self.now world.now campaign.now.what }
+        requires wants { AreWants wants.now }
+        ensures { IfOk result (λ given. given ≡ PotMeaning.given (meaning self.now) world.now campaign.now.what wants.now) };
 
     /// What a unit that got so much of the pot is told.
     fn told(&self, world: &World, unit: &Unit, share: u32) -> u64
         ensures { result ≡ PotMeaning.told (meaning self.now) world.now unit.now share };
 
-    /// A unit gets so much of the pot of its region.
-    fn pay(&self, world: &World, campaign: &mut Campaign, unit: u32, share: u32)
+    /// A unit gets so much of the pot of its region. AllocError without memory; the campaign may then be changed in part.
+    fn pay(
+        &self,
+        world: &World,
+        campaign: &mut Campaign,
+        unit: u32,
+        share: u32,
+    ) -> Result<(), AllocError>
         requires can { can_pay self.now world.now campaign.old.what (unit, share) }
-        ensures what { campaign.new.what ≡ PotMeaning.paid (meaning self.now) world.now campaign.old.what (unit, share) }
-        ensures marks { MarksChanges campaign.old campaign.new };
-}
-
-/// The pots of a phase.
-#[derive(Drop)]
-struct RegionPots<'a, P> {
-    phase: &'a P,
-    world: &'a World,
-    campaign: &'a Campaign,
-}
-
-impl<'a, P: PotPhase> Pots for RegionPots<'a, P> {
-    ghost pot_of = { λ pots. PotMeaning.pot (P.meaning pots.phase.now) pots.world.now pots.campaign.now.what };
-
-    ghost ready = { λ pots. P.needs pots.phase.now pots.world.now pots.campaign.now.what };
-
-    fn pot(&self, region: u32) -> u64 {
-        self.phase.pot(self.world, self.campaign, region)
-    }
+        ensures what { OnOk result (campaign.new.what ≡ PotMeaning.paid (meaning self.now) world.now campaign.old.what (unit, share)) }
+        ensures marks { OnOk result (MarksChanges campaign.old campaign.new) };
 }
 
 /// Why an order isn't carried out.
@@ -140,12 +133,7 @@ fn given_of<P: PotPhase>(
     ensures { IfOk result (λ given. given ≡ given_by (P.meaning phase.now) world.now campaign.now.what orders.now) }
 {
     let wants = wants_of(alloc, phase, world, campaign, orders)?;
-    let pots = RegionPots {
-        phase,
-        world,
-        campaign,
-    };
-    pot_shares(alloc, campaign, &pots, &wants)
+    phase.given(alloc, world, campaign, &wants)
 }
 
 /// What came of an order, where so much was given.
@@ -197,20 +185,25 @@ fn events_of<P: PotPhase>(
 }
 
 /// Each unit gets what it was given.
-fn pay_all<P: PotPhase>(phase: &P, world: &World, campaign: &mut Campaign, given: &Numbered<u32>)
+fn pay_all<P: PotPhase>(
+    phase: &P,
+    world: &World,
+    campaign: &mut Campaign,
+    given: &Numbered<u32>,
+) -> Result<(), AllocError>
     requires can { CanInTurn (P.can_pay phase.now world.now) (PotMeaning.paid (P.meaning phase.now) world.now) campaign.old.what (entries given.now) }
-    ensures what { campaign.new.what ≡ fold (PotMeaning.paid (P.meaning phase.now) world.now) campaign.old.what (entries given.now) }
-    ensures marks { MarksChanges campaign.old campaign.new }
+    ensures what { OnOk result (campaign.new.what ≡ fold (PotMeaning.paid (P.meaning phase.now) world.now) campaign.old.what (entries given.now)) }
+    ensures marks { OnOk result (MarksChanges campaign.old campaign.new) }
 {
     for (unit, share) in given.iter() {
-        phase.pay(world, campaign, unit, *share);
+        phase.pay(world, campaign, unit, *share)?;
     }
+    Ok(())
 }
 
 /// Shares the pots of all regions among the units by their orders, all at once: who takes part, what each wants and what
-/// there is to share is read from the campaign as it is handed in. The answer is an event for each order. It goes over the
-/// orders, and over the regions and their units, once. AllocError without memory; the campaign is then unchanged. See
-/// docs/RULES.md, "Pots".
+/// there is to share is read from the campaign as it is handed in. The answer is an event for each order. AllocError without
+/// memory; the campaign may then be changed in part. See docs/RULES.md, "Pots".
 #[tactic(auto, unfolding(crate::specs::PotPhase::shared_out, crate::specs::PotPhase::events_by))]
 pub(crate) fn share_out<P: PotPhase>(
     alloc: Global,
@@ -224,11 +217,10 @@ pub(crate) fn share_out<P: PotPhase>(
     ensures what { OnOk result (campaign.new.what ≡ shared_out (P.meaning phase.now) world.now campaign.old.what orders.now) }
     ensures events { IfOk result (λ events. events.items ≡ events_by (P.meaning phase.now) world.now campaign.old.what orders.now) }
     ensures marks { OnOk result (MarksChanges campaign.old campaign.new) }
-    ensures err { OnErr result (campaign.new ≡ campaign.old) }
 {
     let given = given_of(alloc, phase, world, campaign, orders)?;
     let events = events_of(alloc, phase, world, campaign, orders, &given)?;
-    pay_all(phase, world, campaign, &given);
+    pay_all(phase, world, campaign, &given)?;
     Ok(events)
 }
 

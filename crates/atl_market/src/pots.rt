@@ -2,6 +2,7 @@
 ghost use Rattle.std.specs.Prelude.{◌≡◌, ◌≤◌, All, IfOk, OnOk, length, map};
 ghost use Rattle.std.specs.List.{zip};
 ghost use Rattle.atl_tables.specs.Limits.{most_amount};
+ghost use Rattle.atl_market.specs.Asked.{regions_asked};
 ghost use Rattle.atl_market.specs.Pots.{AreWants, EachTakerGets, GivesEachPot, OnlyTakersGet, OtherRegionsDoNotCount, SharesEachPot, pot_shares, shares_in, takers_among, want_of, with_each};
 
 use crate::shares::share;
@@ -76,19 +77,41 @@ fn put_shares(takers: &[u32], shares: &[u64], given: &mut Numbered<u32>) -> Resu
     Ok(())
 }
 
-/// Puts the shares of one region's pot. It goes over the units that stand there, and no further.
+/// The regions where a unit has a want.
+fn regions_asked(
+    alloc: Global,
+    campaign: &Campaign,
+    wants: &Numbered<u32>,
+) -> Result<Numbered<u32>, AllocError>
+    ensures { IfOk result (λ asked. asked ≡ regions_asked wants.now campaign.now.what) }
+{
+    let mut asked = Numbered::new(alloc);
+    for (number, _) in wants.iter() {
+        if let Some(unit) = campaign.unit(number) {
+            asked.insert(unit.region, number)?;
+        }
+    }
+    Ok(asked)
+}
+
+/// Puts the shares of one region's pot. It goes over the units that stand there, if one of them has a want, and no further.
 fn share_region<P: Pots>(
     alloc: Global,
     campaign: &Campaign,
     pots: &P,
     wants: &Numbered<u32>,
+    asked: &Numbered<u32>,
     region: u32,
     given: &mut Numbered<u32>,
 ) -> Result<(), AllocError>
     requires ready { P.ready pots.now }
     requires wants { AreWants wants.now }
+    requires asked { asked.now ≡ regions_asked wants.now campaign.now.what }
     ensures { OnOk result (given.new ≡ with_each given.old (shares_in (P.pot_of pots.now) wants.now campaign.now.what.units region)) }
 {
+    if asked.get(region).is_none() {
+        return Ok(());
+    }
     let takers = takers_of(alloc, campaign.in_region(region), wants)?;
     if takers.is_empty() {
         return Ok(());
@@ -100,8 +123,8 @@ fn share_region<P: Pots>(
 
 /// What units get of the pots of their regions, by unit, all at once. Those of a region's units that have a want share its
 /// pot, in unit order, by what they want; each want is at most 999,999,999. Who has no want, or stands in no region of the
-/// campaign, gets nothing and is not listed. It goes over the regions and their units once. AllocError without memory. See
-/// docs/RULES.md, "Shares".
+/// campaign, gets nothing and is not listed. It goes over the regions once, and over the units of those where one has a want.
+/// AllocError without memory. See docs/RULES.md, "Shares".
 pub fn pot_shares<P: Pots>(
     alloc: Global,
     campaign: &Campaign,
@@ -112,9 +135,10 @@ pub fn pot_shares<P: Pots>(
     requires wants { AreWants wants.now }
     ensures definition { IfOk result (λ given. given ≡ pot_shares (P.pot_of pots.now) wants.now campaign.now.what) }
 {
+    let asked = regions_asked(alloc, campaign, wants)?;
     let mut given = Numbered::new(alloc);
     for (region, _) in campaign.regions() {
-        share_region(alloc, campaign, pots, wants, region, &mut given)?;
+        share_region(alloc, campaign, pots, wants, &asked, region, &mut given)?;
     }
     Ok(given)
 }

@@ -15,10 +15,11 @@ ghost use Rattle.atl_market.specs.Recruit.{CanRecruit, asked_in, is_recruit, rec
 
 use crate::booking::book_taken;
 use crate::pot_phase::{PotPhase, share_out, tell_all};
+use crate::pots::{Pots, pot_shares};
 use atl_instant::{Arrangement, Month, Phase, PhaseVerbs, Written};
 use atl_orders::{Order, Verb};
 use atl_state::{Campaign, Entry, EventFault, Holding, Thing, Unit};
-use atl_tables::World;
+use atl_tables::{Numbered, World};
 use std::alloc::{AllocError, Global};
 
 /// Recruiting: peasants of a region join its units, at a price. See docs/RULES.md, "Recruiting".
@@ -37,6 +38,26 @@ impl PhaseVerbs for RecruitPhase {
 #[derive(Drop, Clone, Copy)]
 struct MailedRecruiting<'a> {
     month: &'a Month,
+}
+
+/// How many peasants can be recruited in the regions.
+#[derive(Drop)]
+struct Recruitable<'a> {
+    world: &'a World,
+    campaign: &'a Campaign,
+}
+
+impl<'a> Pots for Recruitable<'a> {
+    ghost pot_of = { λ pots. recruits_at pots.world.now pots.campaign.now.what };
+
+    ghost ready = { λ pots. IsEarly pots.world.now pots.campaign.now.what };
+
+    fn pot(&self, region: u32) -> u64 {
+        match self.campaign.region(region) {
+            Some(found) => u64::from(found.peasants / self.world.rules().recruit_fraction),
+            None => 0,
+        }
+    }
 }
 
 /// How many men an order asks for.
@@ -105,11 +126,14 @@ impl<'a> PotPhase for MailedRecruiting<'a> {
         asked(self.month, order).min(payable.min(room))
     }
 
-    fn pot(&self, world: &World, campaign: &Campaign, region: u32) -> u64 {
-        match campaign.region(region) {
-            Some(found) => u64::from(found.peasants / world.rules().recruit_fraction),
-            None => 0,
-        }
+    fn given(
+        &self,
+        alloc: Global,
+        world: &World,
+        campaign: &Campaign,
+        wants: &Numbered<u32>,
+    ) -> Result<Numbered<u32>, AllocError> {
+        pot_shares(alloc, campaign, &Recruitable { world, campaign }, wants)
     }
 
     fn told(&self, _world: &World, _unit: &Unit, share: u32) -> u64 {
@@ -117,18 +141,25 @@ impl<'a> PotPhase for MailedRecruiting<'a> {
     }
 
     #[tactic(auto, unfolding(crate::specs::Recruit::recruited))]
-    fn pay(&self, world: &World, campaign: &mut Campaign, number: u32, share: u32) {
+    fn pay(
+        &self,
+        world: &World,
+        campaign: &mut Campaign,
+        number: u32,
+        share: u32,
+    ) -> Result<(), AllocError> {
         let region = match campaign.unit(number) {
             Some(unit) => unit.region,
-            None => return,
+            None => return Ok(()),
         };
         let peasants = match campaign.region(region) {
             Some(found) => found.peasants,
-            None => return,
+            None => return Ok(()),
         };
         let cost = share * world.rules().recruit_price;
         join_unit(campaign, number, share, cost);
         leave_region(campaign, region, peasants - share, cost);
+        Ok(())
     }
 }
 

@@ -1,16 +1,18 @@
 //! TAX: units on guard take the money of their region.
 ghost use Rattle.std.specs.Prelude.{◌≡◌, ◌≤◌};
+ghost use Rattle.atl_tables.specs.Planet.{Planet};
 ghost use Rattle.atl_state.specs.Covers.{MarksChanges};
 ghost use Rattle.atl_state.specs.Good.{IsEarly};
 ghost use Rattle.atl_state.specs.Limits.{holding_limit};
 ghost use Rattle.atl_state.specs.State.{with_money, with_region_money};
-ghost use Rattle.atl_market.specs.Tax.{CanTax, is_tax, tax_fault, tax_keeps, tax_meaning, tax_moves, tax_wanted, taxed, taxing};
+ghost use Rattle.atl_market.specs.Tax.{CanTax, is_tax, money_at, tax_fault, tax_keeps, tax_meaning, tax_moves, tax_wanted, taxed, taxing};
 
 use crate::pot_phase::{PotPhase, share_out, tell_all};
+use crate::pots::{Pots, pot_shares};
 use atl_instant::{Arrangement, Month, Phase, PhaseVerbs, Written};
 use atl_orders::Verb;
 use atl_state::{Campaign, EventFault, Unit};
-use atl_tables::World;
+use atl_tables::{Numbered, World};
 use std::alloc::{AllocError, Global};
 
 /// Tax: the units on guard share the money of their region. See docs/RULES.md, "Tax".
@@ -22,6 +24,25 @@ impl PhaseVerbs for TaxPhase {
 
     fn has(&self, verb: Verb) -> bool {
         matches!(verb, Verb::Tax)
+    }
+}
+
+/// The money of the regions.
+#[derive(Drop)]
+struct RegionMoney<'a> {
+    campaign: &'a Campaign,
+}
+
+impl<'a> Pots for RegionMoney<'a> {
+    ghost pot_of = { λ pots. money_at pots.campaign.now.what };
+
+    ghost ready = { λ pots. (w : Planet) × IsEarly w pots.campaign.now.what };
+
+    fn pot(&self, region: u32) -> u64 {
+        match self.campaign.region(region) {
+            Some(found) => u64::from(found.money),
+            None => 0,
+        }
     }
 }
 
@@ -57,11 +78,14 @@ impl PotPhase for TaxPhase {
         (unit.holding.men() * world.rules().tax_per_man).min(room)
     }
 
-    fn pot(&self, _world: &World, campaign: &Campaign, region: u32) -> u64 {
-        match campaign.region(region) {
-            Some(found) => u64::from(found.money),
-            None => 0,
-        }
+    fn given(
+        &self,
+        alloc: Global,
+        _world: &World,
+        campaign: &Campaign,
+        wants: &Numbered<u32>,
+    ) -> Result<Numbered<u32>, AllocError> {
+        pot_shares(alloc, campaign, &RegionMoney { campaign }, wants)
     }
 
     fn told(&self, _world: &World, _unit: &Unit, share: u32) -> u64 {
@@ -69,16 +93,23 @@ impl PotPhase for TaxPhase {
     }
 
     #[tactic(auto, unfolding(crate::specs::Tax::taxed))]
-    fn pay(&self, _world: &World, campaign: &mut Campaign, number: u32, share: u32) {
+    fn pay(
+        &self,
+        _world: &World,
+        campaign: &mut Campaign,
+        number: u32,
+        share: u32,
+    ) -> Result<(), AllocError> {
         let (region, held) = match campaign.unit(number) {
             Some(unit) => (unit.region, unit.holding.money()),
-            None => return,
+            None => return Ok(()),
         };
         let money = match campaign.region(region) {
             Some(found) => found.money,
-            None => return,
+            None => return Ok(()),
         };
         hand_over(campaign, number, held + share, region, money - share);
+        Ok(())
     }
 }
 

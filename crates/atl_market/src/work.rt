@@ -1,5 +1,5 @@
 //! WORK: units take the places of their region's terrain, each of which pays the wage.
-ghost use Rattle.std.specs.Prelude.{ℕ, ◌≡◌, ◌≤◌, ◌+◌, ◌++◌, filter, IfOk, OnOk};
+ghost use Rattle.std.specs.Prelude.{⊤, ℕ, ◌≡◌, ◌≤◌, ◌+◌, ◌++◌, filter, IfOk, OnOk};
 ghost use Rattle.std.specs.List.{flat_map};
 ghost use Rattle.std.specs.List.Sorted.{IsPermutation, IsSortedByKey};
 ghost use Rattle.std.specs.Cmp.Lexicographic.{slice_cmp};
@@ -15,6 +15,7 @@ ghost use Rattle.atl_market.specs.PotPhase.{events_by, shared_out};
 ghost use Rattle.atl_market.specs.Work.{CanWork, PaysAllAtOnce, all_work, earned, idle_work, is_own, is_work, long_orders, own_lines, places_at, places_wanted, wage_at, with_wages, work_fault, work_keeps, work_key, work_meaning, work_moves, work_orders, working};
 
 use crate::pot_phase::{PotPhase, share_out, tell_all};
+use crate::pots::{Pots, pot_shares};
 use atl_instant::{Arrangement, Month, MonthLongVerbs, Phase, Written, terrain_of};
 use atl_orders::Verb;
 use atl_state::{Campaign, Entry, EventFault, Thing, Unit};
@@ -129,6 +130,25 @@ fn work_orders(
     Ok(list)
 }
 
+/// The places to work in the regions.
+#[derive(Drop)]
+struct WorkPlaces<'a> {
+    world: &'a World,
+}
+
+impl<'a> Pots for WorkPlaces<'a> {
+    ghost pot_of = { λ pots. places_at pots.world.now };
+
+    ghost ready = { λ _. ⊤ };
+
+    fn pot(&self, region: u32) -> u64 {
+        match terrain_of(self.world, region) {
+            Some(terrain) => u64::from(terrain.places),
+            None => 0,
+        }
+    }
+}
+
 /// The wage of a region's terrain.
 fn wage_at(world: &World, region: u32) -> u32
     ensures { result ≡ wage_at world.now region }
@@ -183,11 +203,14 @@ impl PotPhase for WorkPhase {
         }
     }
 
-    fn pot(&self, world: &World, _campaign: &Campaign, region: u32) -> u64 {
-        match terrain_of(world, region) {
-            Some(terrain) => u64::from(terrain.places),
-            None => 0,
-        }
+    fn given(
+        &self,
+        alloc: Global,
+        world: &World,
+        campaign: &Campaign,
+        wants: &Numbered<u32>,
+    ) -> Result<Numbered<u32>, AllocError> {
+        pot_shares(alloc, campaign, &WorkPlaces { world }, wants)
     }
 
     fn told(&self, world: &World, unit: &Unit, share: u32) -> u64 {
@@ -195,13 +218,20 @@ impl PotPhase for WorkPhase {
     }
 
     #[tactic(auto, unfolding(crate::specs::Work::worked))]
-    fn pay(&self, world: &World, campaign: &mut Campaign, number: u32, share: u32) {
+    fn pay(
+        &self,
+        world: &World,
+        campaign: &mut Campaign,
+        number: u32,
+        share: u32,
+    ) -> Result<(), AllocError> {
         let (region, held) = match campaign.unit(number) {
             Some(unit) => (unit.region, unit.holding.money()),
-            None => return,
+            None => return Ok(()),
         };
         let money = earned(world, region, share) as u32;
         pay_wages(campaign, number, held, money);
+        Ok(())
     }
 }
 

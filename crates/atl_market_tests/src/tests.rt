@@ -2,5 +2,7 @@
 mod campaigns;
 mod plain;
 mod pots;
+mod recruit;
 mod shares;
+mod tax;
 mod work;

@@ -1,13 +1,19 @@
 //! Campaigns of rows, and months of mailings that are given as texts.
-ghost use Rattle.std.specs.Prelude.{◌≡◌, IfOk, map};
-ghost use Rattle.atl_state.specs.Good.{IsGood};
+ghost use Rattle.std.specs.Prelude.{◌≡◌, All, IfOk, map};
+ghost use Rattle.atl_orders.specs.Mailing.{IsReadWith};
+ghost use Rattle.atl_state.specs.Good.{IsEarly, IsGood};
+ghost use Rattle.atl_instant.specs.Course.{HaveOwnFactions};
+ghost use Rattle.atl_instant.specs.Fit.{AreFit};
+ghost use Rattle.atl_instant.specs.Meaning.{HaveRoom, most_moved};
+ghost use Rattle.atl_market.specs.Recruit.{recruit_moves};
+ghost use Rattle.atl_market.specs.Tax.{tax_moves};
 
 use atl_instant::Month;
 use atl_orders::{Mailing, read_mailing};
 use atl_state::check::check;
 use atl_state::parts::{Parts, StoredBooks, StoredFaction, StoredHead, StoredReport, StoredUnit};
-use atl_state::{Campaign, are_distinct, founded};
-use atl_tables::{Sequence, Text, World};
+use atl_state::{Campaign, Event, Outcome, are_distinct, founded};
+use atl_tables::{Numbered, Sequence, Text, World};
 use std::alloc::{AllocError, Global};
 use std::test::Fail;
 
@@ -18,6 +24,7 @@ pub(crate) struct Stood {
     pub region: u32,
     pub men: u32,
     pub money: u32,
+    pub guard: bool,
 }
 
 /// How many factions there are.
@@ -78,7 +85,7 @@ fn unit(alloc: Global, number: i64, stood: Stood) -> Result<StoredUnit, Fail> {
         structure: 0,
         men: i64::from(stood.men),
         money: i64::from(stood.money),
-        guard: 0,
+        guard: i64::from(stood.guard),
     })
 }
 
@@ -123,8 +130,8 @@ fn rows_of(alloc: Global, world: &World, units: &[Stood]) -> Result<Parts, Fail>
     Ok(parts)
 }
 
-/// A campaign of factions 1 and 2 with these units, numbered from 1.
-pub(crate) fn campaign_of(alloc: Global, world: &World, units: &[Stood]) -> Result<Campaign, Fail>
+/// The campaign of the rows of these units.
+fn good_campaign(alloc: Global, world: &World, units: &[Stood]) -> Result<Campaign, Fail>
     ensures { IfOk result (λ c. IsGood world.now c.what) }
 {
     let rows = rows_of(alloc, world, units)?;
@@ -134,7 +141,20 @@ pub(crate) fn campaign_of(alloc: Global, world: &World, units: &[Stood]) -> Resu
     }
 }
 
-fn mailings_of(alloc: Global, world: &World, texts: &[&str]) -> Result<Vec<Mailing>, Fail> {
+/// A campaign of factions 1 and 2 with these units, numbered from 1.
+pub(crate) fn campaign_of(alloc: Global, world: &World, units: &[Stood]) -> Result<Campaign, Fail>
+    ensures good { IfOk result (λ c. IsGood world.now c.what) }
+    ensures early { IfOk result (λ c. IsEarly world.now c.what) }
+    ensures tax { IfOk result (λ c. HaveRoom tax_moves c.what) }
+    ensures recruits { IfOk result (λ c. HaveRoom (recruit_moves most_moved) c.what) }
+{
+    let campaign = good_campaign(alloc, world, units)?;
+    Ok(campaign)
+}
+
+fn mailings_of(alloc: Global, world: &World, texts: &[&str]) -> Result<Vec<Mailing>, Fail>
+    ensures { IfOk result (λ mailings. All (IsReadWith world.now) mailings.items) }
+{
     let mut mailings = Vec::new(alloc);
     for text in texts {
         mailings.push(read_mailing(alloc, world, text.as_bytes())?)?;
@@ -152,12 +172,57 @@ fn factions_of(alloc: Global, mailings: &[Mailing]) -> Result<Vec<u32>, AllocErr
     Ok(factions)
 }
 
+/// A month with mailings that were read, no two of one faction.
+fn begun(alloc: Global, world: &World, mailings: Vec<Mailing>) -> Month
+    requires own { HaveOwnFactions mailings.items }
+    requires read { All (IsReadWith world.now) mailings.items }
+    ensures { AreFit world.now result.readings }
+{
+    let words = Vec::new(alloc);
+    let month = Month::new(alloc, mailings, words);
+    month
+}
+
 /// A month with these mailings, and no words.
-pub(crate) fn month_of(alloc: Global, world: &World, texts: &[&str]) -> Result<Month, Fail> {
+pub(crate) fn month_of(alloc: Global, world: &World, texts: &[&str]) -> Result<Month, Fail>
+    ensures { IfOk result (λ m. AreFit world.now m.readings) }
+{
     let mailings = mailings_of(alloc, world, texts)?;
     let factions = factions_of(alloc, &mailings)?;
     if !are_distinct(alloc, &factions)? {
         return Err(Fail::new("each mailing is of a faction of its own"));
     }
-    Ok(Month::new(alloc, mailings, Vec::new(alloc)))
+    Ok(begun(alloc, world, mailings))
+}
+
+/// An event: unit, line, faction, verb, and the number that is done or the fault.
+pub(crate) fn tell_event(alloc: Global, event: &Event, told: &mut String) -> Result<(), Fail> {
+    let (word, number) = match event.outcome {
+        Outcome::Done(number) => ("done", number),
+        Outcome::Fault(fault) => ("fault", u64::from(fault)),
+        Outcome::Starved(number) => ("starved", number),
+    };
+    let part = format!(in alloc;
+        "{} {} {} {} {} {};",
+        event.unit,
+        event.line,
+        event.faction,
+        event.verb.keyword(),
+        word,
+        number
+    )?;
+    told.push_str(&part)?;
+    Ok(())
+}
+
+/// A unit loses its men and what they studied.
+pub(crate) fn loses_men(alloc: Global, world: &World, campaign: &mut Campaign, number: u32)
+    requires early { IsEarly world.now campaign.old.what }
+    ensures early { IsEarly world.now campaign.new.what }
+    ensures books { campaign.new.what.books ≡ campaign.old.what.books }
+{
+    if let Some(holding) = campaign.unit_mut(number) {
+        holding.set_men(0);
+        holding.set_all_days(Numbered::new(alloc));
+    }
 }

@@ -1,13 +1,14 @@
 //! Work of a month, worked out by hand.
 ghost use Rattle.std.specs.Prelude.{◌≡◌, IfOk};
 ghost use Rattle.atl_state.specs.Good.{IsGood, IsSteady};
+ghost use Rattle.atl_instant.specs.Fit.{AreFit};
 ghost use Rattle.atl_instant.specs.Meaning.{HaveRoom, most_moved};
 ghost use Rattle.atl_market.specs.Work.{work_moves};
 
-use super::campaigns::{Stood, campaign_of, month_of};
+use super::campaigns::{Stood, campaign_of, loses_men, month_of, tell_event};
 use atl_instant::{Month, Phase};
 use atl_market::{WorkPhase, work_pays_all_at_once};
-use atl_state::{Campaign, Entry, Event, Outcome, Thing};
+use atl_state::{Campaign, Entry, Event, Thing};
 use atl_tables::{Numbered, World, read_world};
 use std::alloc::{AllocError, Global};
 use std::process::Abort;
@@ -160,25 +161,6 @@ fn wages(campaign: &Campaign) -> i64 {
     campaign.booked(Entry::Wages, Thing::Money)
 }
 
-fn tell_event(alloc: Global, event: &Event, told: &mut String) -> Result<(), Fail> {
-    let (word, number) = match event.outcome {
-        Outcome::Done(number) => ("done", number),
-        Outcome::Fault(fault) => ("fault", u64::from(fault)),
-        Outcome::Starved(number) => ("starved", number),
-    };
-    let part = format!(in alloc;
-        "{} {} {} {} {} {};",
-        event.unit,
-        event.line,
-        event.faction,
-        event.verb.keyword(),
-        word,
-        number
-    )?;
-    told.push_str(&part)?;
-    Ok(())
-}
-
 fn told_of(alloc: Global, campaign: &Campaign, events: &[Event]) -> Result<String, Fail> {
     let mut told = String::new(alloc);
     for (number, unit) in campaign.units() {
@@ -200,7 +182,8 @@ pub(crate) fn worked(
     campaign: Campaign,
     month: Month,
 ) -> Result<(Campaign, Month), AllocError>
-    requires { IsGood world.now campaign.what }
+    requires good { IsGood world.now campaign.what }
+    requires read { AreFit world.now month.readings }
 {
     WorkPhase.run(alloc, world, campaign, month)
 }
@@ -213,6 +196,7 @@ fn units_of(alloc: Global, rows: &[Row]) -> Result<Vec<Stood>, Fail> {
             region: *region,
             men: *men,
             money: *money,
+            guard: false,
         })?;
     }
     Ok(units)
@@ -236,18 +220,6 @@ fn work_of_a_month(rt: HostRuntime) -> Result<(), Fail> {
         row_is(&rt, row, told.as_str(), wanted);
     }
     Ok(())
-}
-
-/// A unit loses its men and what they studied.
-fn loses_men(alloc: Global, world: &World, campaign: &mut Campaign, number: u32)
-    requires steady { IsSteady world.now campaign.old.what }
-    ensures steady { IsSteady world.now campaign.new.what }
-    ensures books { campaign.new.what.books ≡ campaign.old.what.books }
-{
-    if let Some(holding) = campaign.unit_mut(number) {
-        holding.set_men(0);
-        holding.set_all_days(Numbered::new(alloc));
-    }
 }
 
 /// A campaign whose unit 1 has lost its men.

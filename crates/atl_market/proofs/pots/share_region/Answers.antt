@@ -1,6 +1,9 @@
-use Rattle.std.proofs.Common.{◌≡◌, List, [], ◌∷◌, map, length, refl, sym, ◌∙◌, ap, rules, arith}
+use Rattle.std.proofs.Common.{◌≡◌, false, is_some, List, [], ◌∷◌, map, length, refl, sym, ◌∙◌, ap, rules, arith}
 use Rattle.std.proofs.lemmas.List.{length-map}
 use Rattle.std.specs.List.{zip}
+use Rattle.std.specs.FinMap.{get}
+use Rattle.atl_market.proofs.PotLaws.{none_asked}
+use Rattle.atl_market.specs.Asked.{regions_asked}
 use Rattle.atl_market.specs.Pots.{takers_in, want_of, with_each}
 use Rattle.atl_market.specs.Share.{shares}
 use Rattle.atl_market.proofs.ShareLaws.{length-shares}
@@ -23,3 +26,9 @@ put_shares-requires-clause-length g c =
     ∙ ap length (c.deref-2.ensures.value ∙ c.in_ok-wanted.ensures.value)
     ∙ length-map c.deref.result.now (want_of c.args.wants.now)
     ∙ ap length (c.deref.ensures.value ∙ sym c.deref-3.ensures.value)
+
+pub returns-then-is_none : goal.returns-then-is_none
+returns-then-is_none g c =
+    let free : is_some (get (regions_asked c.args.wants.now c.args.campaign.now.what) c.args.region) ≡ false = search rules in
+    let none : takers_in c.args.wants.now c.args.campaign.now.what.units c.args.region ≡ [] = none_asked c.args.wants.now c.args.campaign.now.what c.args.region free in
+    ap (λ takers. with_each c.args.given.now (zip takers (shares (g.P.Pots.pot_of c.args.pots.now c.args.region) (map (want_of c.args.wants.now) takers)))) (sym none)
