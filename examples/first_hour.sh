@@ -62,3 +62,6 @@ gm mail --db club.db --faction 1 --pass apple --file avalon.txt
 tell 'The campaign is one file, which a copy keeps.'
 cp club.db backup.db
 gm report --db backup.db --faction 1 --pass apple
+
+tell 'The moderator looks at the books: what came in, under which heading, and how much there is.'
+gm books --db club.db

@@ -135,6 +135,16 @@ Unit 1, line 4, WORK: done 12.
 Region 1 "Vale", plain: 1000 peasants, 1500 money.
 Exits: none.
 * Unit 1 "Unit 1": 1 men, 1002 money.' '' report --db "$closed" --faction 1 --pass pw
+check 'the books of a month' 0 'money founding 500
+money joining 1000
+money income 1000
+money wages 12
+money upkeep -10
+money total 2502
+people founding 1000
+people joining 1
+people total 1001' '' books --db "$closed"
+whole "$closed"
 check 'a month that is no number' 2 '' - close --db "$closed" --month x --pass gm --seed 0
 
 # Where the dice lay a faction on an island: the words of seed 3 are 1686128983 and 2024058790, and there are three regions with land.
@@ -147,6 +157,14 @@ Exits: north 4, west 2.
 check 'an island founded' 0 'founded, 4 regions' '' found --world "$isle" --db "$work/isle.db" --pass gm
 check 'an island joined' 0 'faction 1, unit 1' '' join --db "$work/isle.db" --name Avalon --pass pw --seed 3
 check 'an island start' 0 "$island" '' report --db "$work/isle.db" --faction 1 --pass pw
+check 'the books of an island' 0 'money founding 650
+money joining 1000
+money total 1650
+people founding 1300
+people joining 1
+people total 1301
+item "wood" total 0
+item "cart" total 0' '' books --db "$work/isle.db"
 check 'a second faction' 0 'faction 2, unit 2' '' join --db "$work/isle.db" --name Bree --pass pb --seed 3
 check 'the greatest seed' 0 'faction 3, unit 3' '' join --db "$work/isle.db" --name Cair --pass pc --seed 18446744073709551615
 check 'a second report' 0 'Atlantis report, month 0, faction 2 "Bree".
@@ -226,6 +244,7 @@ check 'a mailing that is not there' 1 '' 'file: cannot read' mail --db "$none" -
 check 'a joining where no file is' 1 '' 'fault: NotACampaign' join --db "$none" --name Avalon --pass pw --seed 0
 check 'mail where no file is' 1 '' 'fault: NotACampaign' mail --db "$none" --faction 1 --pass pw --file "$mailing"
 check 'a report where no file is' 1 '' 'fault: NotACampaign' report --db "$none" --faction 1 --pass pw
+check 'books where no file is' 1 '' 'fault: NotACampaign' books --db "$none"
 check 'a report below a file' 1 '' 'fault: NotACampaign' report --db "$db/none" --faction 1 --pass pw
 [ -z "$(find "$work" -name 'none*')" ] || fail 'a path without a file' 'a file was made'
 check 'a founding in no folder' 1 '' 'fault: Store' found --world "$small" --db "$none/x.db" --pass gm

@@ -1,6 +1,7 @@
 //! The moderator's program.
 #![tactic(auto)]
 
+mod books;
 mod close;
 mod database;
 mod failure;
@@ -29,7 +30,10 @@ type All = (
         found::Found,
         (
             join::Join,
-            (mail::Mail, (close::Close, (report::Report, ()))),
+            (
+                mail::Mail,
+                (close::Close, (report::Report, (books::Books, ()))),
+            ),
         ),
     ),
 );

@@ -25,3 +25,6 @@ pub mod NameLaws
 pub mod PlaceLaws
 pub mod UnitNameLaws
 pub mod FormingLaws
+pub mod FormLaws
+pub mod QuitLaws
+pub mod FitLaws

@@ -16,3 +16,4 @@ pub mod Unbooked
 pub mod Name
 pub mod Place
 pub mod Form
+pub mod Quit

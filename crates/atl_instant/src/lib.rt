@@ -3,13 +3,16 @@
 
 mod give;
 mod guard;
+mod form;
 mod inside;
+mod items;
 mod month;
 mod name;
 mod orders;
 mod outcome;
 mod phase;
 mod place;
+mod quit;
 mod standing;
 mod steps;
 mod terrain;
@@ -18,11 +21,14 @@ mod written;
 
 pub use give::GivePhase;
 pub use guard::GuardPhase;
+pub use form::FormPhase;
+pub use items::items_of;
 pub use month::{Month, mailings_have_no_order};
 pub use name::NamePhase;
 pub use orders::{MonthLongVerbs, PhaseVerbs, orders_are_in_mailings};
 pub use phase::Phase;
 pub use place::PlacePhase;
+pub use quit::QuitPhase;
 pub use steps::{OrderPhase, carry_out_orders};
 pub use terrain::terrain_of;
 pub use transfer::TransferPhase;

@@ -1,4 +1,10 @@
 //! Tests of atl_instant by its public calls alone.
+mod campaigns;
 mod carried;
+mod forming;
+mod isle;
 mod months;
+mod names;
+mod moving;
 mod phases;
+mod places;

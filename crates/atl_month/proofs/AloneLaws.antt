@@ -1,5 +1,5 @@
 -- Upkeep takes from a unit what follows from the units of its faction in its region alone.
-use Rattle.std.proofs.Common.{◌≡◌, ◌≢◌, ◌==◌, ◌&&◌, ◌++◌, ℕ, ◌+◌, ◌-◌, ◌<◌, ◌≤◌, Bool, true, false, cond, Option, Some, None, List, [], ◌∷◌, map, filter, sum_by, refl, sym, ap, ◌∙◌, arith}
+use Rattle.std.proofs.Common.{◌≡◌, ◌≢◌, ◌++◌, ℕ, ◌+◌, ◌-◌, ◌<◌, Bool, true, false, cond, Option, Some, None, List, [], ◌∷◌, map, filter, sum_by, refl, sym, ap, ◌∙◌, arith}
 use Rattle.std.specs.Prelude.{fold, min, nat_lt}
 use Rattle.std.specs.List.{AllByRecursion}
 use Rattle.std.specs.Ordering.{is_lt, nat_cmp}
@@ -19,8 +19,8 @@ use Rattle.atl_state.proofs.EveryLaws.{each-from_every, every-from_each, get-ins
 use Rattle.atl_state.proofs.RegionLaws.{get-insert_same}
 use Rattle.atl_month.specs.declared.settling.Purse.{Purse}
 use Rattle.atl_month.specs.declared.settling.Settled.{Settled}
-use Rattle.atl_month.specs.Settling.{dealt, is_of, left_among, left_of, paid_by, settled_behind, settled_one, short_among, short_of, starved_of}
-use Rattle.atl_month.specs.Upkeep.{peers_of, purse_of, purses_of, settled_alone, settlements, supplied, upkeep, upkeep_at, upkeep_in}
+use Rattle.atl_month.specs.Settling.{dealt, is_of, left_of, paid_by, settled_behind, settled_one, short_of, starved_of}
+use Rattle.atl_month.specs.Upkeep.{purse_of, purses_of, settled_alone, settlements, supplied, upkeep, upkeep_at, upkeep_in}
 use Rattle.atl_month.proofs.UpkeepLaws.{upkeep_at_is}
 
 -- ---- one settlement

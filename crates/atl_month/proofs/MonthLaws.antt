@@ -1,16 +1,14 @@
 -- A campaign behind the phases of a month is good again once the month is counted and the mail is taken away.
-use Rattle.std.proofs.Common.{◌≡◌, ◌&&◌, ℕ, ◌+◌, ◌*◌, ◌≤◌, ◌<◌, Bool, true, false, List, [], ◌∷◌, map, refl, sym, ap, subst, ◌∙◌, arith}
+use Rattle.std.proofs.Common.{◌≡◌, ◌&&◌, ℕ, ◌+◌, ◌*◌, ◌≤◌, ◌<◌, Bool, true, false, List, [], ◌∷◌, map, ap, ◌∙◌, arith}
 use Rattle.std.specs.Prelude.{ℤ, nat_lt}
 use Rattle.std.specs.FinMap.{get, len}
 use Rattle.std.proofs.lemmas.Int.{ints}
 use Rattle.std.proofs.lemmas.Bool.Decides.{nat_tests}
 use Rattle.atl_tables.specs.Planet.{Planet}
-use Rattle.atl_state.specs.declared.books.Entry.{Entry}
-use Rattle.atl_state.specs.declared.books.Thing.{Thing}
 use Rattle.atl_state.specs.Books.{IsWithin, amount_in}
-use Rattle.atl_state.specs.Good.{AreAmountsWithin, AreInRange, AreKnown, Every, IsEarly, IsGood, IsSound, IsSteady, IsThere, amount_bound}
+use Rattle.atl_state.specs.Good.{AreAmountsWithin, AreInRange, AreKnown, IsEarly, IsGood, IsSound, IsSteady, amount_bound}
 use Rattle.atl_state.specs.Limits.{last_month}
-use Rattle.atl_state.specs.State.{State, numbers_of}
+use Rattle.atl_state.specs.State.{State}
 use Rattle.atl_state.specs.Totals.{Balances, total}
 use Rattle.std.specs.List.{AllByRecursion}
 use Rattle.atl_orders.proofs.BoundLaws.{readings_keep_bounds}
@@ -23,7 +21,7 @@ use Rattle.atl_instant.specs.Fit.{AreFit}
 use Rattle.atl_instant.specs.Meaning.{HaveRoom, IsNear, IsSameMonth, LeavesWell, Moving}
 use Rattle.atl_instant.proofs.CourseLaws.{mailings_have_no_order}
 use Rattle.atl_instant.proofs.MeaningLaws.{MovesLess, room_when_sound}
-use Rattle.atl_month.specs.Month.{MonthHasNoOrder, finished, month_of, phases_move}
+use Rattle.atl_month.specs.Month.{MonthHasNoOrder, finished, month_of, month_phases}
 use Rattle.atl_month.specs.Swept.{IsSwept}
 use Rattle.atl_month.proofs.MoveLaws.{month_moves, phases_little}
 
@@ -105,8 +103,8 @@ module _ (w : Planet) (c d : State) (moving : Moving) (little : MovesLess moving
   }
 
 -- a sound campaign has room for the phases of a month
-pub phases_room : (w : Planet) (c : State) → IsSound w c → HaveRoom phases_move c
-phases_room w c sound = room_when_sound w c phases_move (λ e t. omega (arith, phases_little e t)) sound
+pub phases_room : (w : Planet) (c : State) → IsSound w c → HaveRoom month_phases.moving c
+phases_room w c sound = room_when_sound w c month_phases.moving (λ e t. omega (arith, phases_little e t)) sound
 
 -- every unit of a sound campaign has men, so that those with a flag guard
 pub sound_early : (w : Planet) (c : State) → IsSound w c → IsEarly w c

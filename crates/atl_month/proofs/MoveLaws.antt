@@ -5,12 +5,13 @@ use Rattle.std.proofs.lemmas.Bool.Decides.{nat_tests}
 use Rattle.atl_state.specs.declared.books.Entry.{Entry}
 use Rattle.atl_state.specs.declared.books.Entry.TheVariants as entries
 use Rattle.atl_state.specs.declared.books.Thing.{Thing}
-use Rattle.atl_state.specs.declared.books.Thing.TheVariants.{Money, People}
+use Rattle.atl_state.specs.declared.books.Thing.TheVariants.{Item, Money, People}
 use Rattle.atl_state.specs.Books.{entry_place, thing_place}
 use Rattle.atl_state.specs.Marks.{amount_number}
 use Rattle.atl_instant.specs.Meaning.{Moving, most_moved, moves_only}
 use Rattle.atl_instant.proofs.MeaningLaws.{MovesLess}
-use Rattle.atl_month.specs.Month.{phases_move}
+use Rattle.atl_instant.specs.Quit.{quit_moves}
+use Rattle.atl_month.specs.Month.{month_phases}
 use Rattle.atl_month.specs.Sweep.{loses_by}
 
 -- so far a month moves an amount at most
@@ -55,10 +56,15 @@ lost_in e t = either (entry_place e == entry_place entries.Lost) (not (thing_pla
     either true false = omega arith
     either false b = omega arith
 
+quit_in : (e : Entry) (t : Thing) → quit_moves e t ≤ in_entry entries.Left e t + in_entry entries.Lost e t
+quit_in e Money = omega arith
+quit_in e People = omega arith
+quit_in e (Item i) = omega arith
+
 -- ---- the phases
 
 -- each entry with the phases that move it
-by_entry : (e : Entry) (t : Thing) → in_entry entries.Wages e t + in_entry entries.Upkeep e t + in_entry entries.Starved e t + in_entry entries.Births e t + in_entry entries.Income e t + in_entry entries.Lost e t ≤ 200000000000000
+by_entry : (e : Entry) (t : Thing) → in_entry entries.Recruiting e t + (in_entry entries.Left e t + in_entry entries.Lost e t) + in_entry entries.Wages e t + in_entry entries.Upkeep e t + in_entry entries.Starved e t + in_entry entries.Births e t + in_entry entries.Income e t + in_entry entries.Lost e t ≤ 200000000000000
 by_entry entries.Founding t = omega arith
 by_entry entries.Joining t = omega arith
 by_entry entries.Income t = omega arith
@@ -73,6 +79,6 @@ by_entry entries.Left t = omega arith
 by_entry entries.Made t = omega arith
 by_entry entries.Used t = omega arith
 
-pub phases_little : MovesLess phases_move month_moves
+pub phases_little : MovesLess month_phases.moving month_moves
 phases_little e t =
-    omega (arith, by_entry e t, only_in entries.Wages Money e t, only_in entries.Upkeep Money e t, only_in entries.Starved People e t, only_in entries.Births People e t, only_in entries.Income Money e t, lost_in e t)
+    omega (arith, by_entry e t, only_in entries.Recruiting Money e t, quit_in e t, only_in entries.Wages Money e t, only_in entries.Upkeep Money e t, only_in entries.Starved People e t, only_in entries.Births People e t, only_in entries.Income Money e t, lost_in e t)

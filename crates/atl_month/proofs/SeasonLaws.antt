@@ -1,10 +1,8 @@
 -- The season leaves a campaign well.
-use Rattle.std.proofs.Common.{◌≡◌, ◌≢◌, ◌==◌, ◌||◌, ℕ, ◌+◌, ◌-◌, ◌*◌, ◌/◌, ◌%◌, ◌≤◌, min, Bool, true, false, cond, Option, Some, None, List, [], ◌∷◌, length, map, refl, sym, ap, subst, ◌∙◌, inl, inr, ◌⊎◌, arith}
+use Rattle.std.proofs.Common.{◌≡◌, ◌==◌, ℕ, ◌+◌, ◌-◌, ◌*◌, ◌/◌, ◌%◌, ◌≤◌, min, Bool, true, false, cond, Option, Some, None, List, [], ◌∷◌, length, map, refl, sym, ap, subst, ◌∙◌, arith}
 use Rattle.std.specs.Prelude.{ℤ, pos, ◌+ℤ◌, fold, zip, option_and_then, if◌then◌else◌}
 use Rattle.std.specs.List.{slice_get}
 use Rattle.std.specs.FinMap.{entries, get, len-entries}
-use Rattle.std.specs.Int.{w64}
-use Rattle.std.specs.Int.RustNames.{FitsSigned}
 use Rattle.std.proofs.lemmas.List.{length-map}
 use Rattle.std.proofs.lemmas.Int.{ints}
 use Rattle.std.proofs.lemmas.Bool.Decides.{nat_tests}
@@ -25,9 +23,9 @@ use Rattle.atl_state.specs.Marking.{mark_amount, mark_region}
 use Rattle.atl_state.specs.Marks.{amount_number}
 use Rattle.atl_state.specs.State.{Marked, State, with_amount, with_peasants, with_region_money}
 use Rattle.atl_state.specs.Totals.{Balances, kept, total}
-use Rattle.atl_state.proofs.BookLaws.{IsGrid-with_booked, amount-with_booked, booked-with_booked, share_of}
+use Rattle.atl_state.proofs.BookLaws.{IsGrid-with_booked, booked-with_booked, share_of}
 use Rattle.atl_state.proofs.CoverLaws.{marks-amount, marks-region, marks-trans}
-use Rattle.atl_state.proofs.RegionLaws.{amount-other, region-changed, steady-amount, steady-region, total-amount, total-region}
+use Rattle.atl_state.proofs.RegionLaws.{region-changed, steady-amount, steady-region, total-amount, total-region}
 use Rattle.atl_state.proofs.EveryLaws.{none_some}
 use Rattle.atl_instant.specs.Meaning.{HaveRoom, IsNear, LeavesWell, moved_times, moves_only, most_moved}
 use Rattle.atl_instant.proofs.MeaningLaws.{fold_leaves_well, near_twice, room_behind_one, room_for_one, well_unchanged, well_within}

@@ -1,10 +1,9 @@
 -- Upkeep leaves a campaign well.
-use Rattle.std.proofs.Common.{◌≡◌, ◌==◌, ℕ, suc, ◌+◌, ◌-◌, ◌*◌, ◌/◌, ◌≤◌, ◌<◌, min, not, Bool, true, false, cond, Option, Some, None, List, [], ◌∷◌, ◌++◌, length, map, filter, refl, sym, ap, subst, ◌∙◌, arith}
+use Rattle.std.proofs.Common.{◌≡◌, ◌==◌, ℕ, suc, ◌+◌, ◌-◌, ◌*◌, ◌/◌, ◌≤◌, ◌<◌, min, Bool, true, false, cond, Option, Some, None, List, [], ◌∷◌, ◌++◌, length, refl, sym, ap, subst, ◌∙◌, arith}
 use Rattle.std.specs.Prelude.{IsTrue, nat_lt, ◌&&◌, ℤ, pos, neg_ℤ, ◌+ℤ◌, fold, if◌then◌else◌}
 use Rattle.std.specs.Ordering.{eq_by_cmp, nat_cmp}
-use Rattle.std.specs.Cmp.{nat_cmp_total, ranked}
-use Rattle.std.specs.declared.cmp.Ordering.TheVariants.{Less, Equal, Greater}
-use Rattle.std.specs.FinMap.{FinMap, empty, entries, get, get-remove, insert, len-entries, nat_cmp-IsAntisymmetric, remove}
+use Rattle.std.specs.Cmp.{nat_cmp_total}
+use Rattle.std.specs.FinMap.{FinMap, empty, entries, get, get-remove, insert, len-entries, remove}
 use Rattle.std.proofs.Math.Nat.{div-le_of_le-mul, mul-le-mul_right}
 use Rattle.std.proofs.lemmas.List.{length-map}
 use Rattle.std.proofs.lemmas.Int.{ints}
@@ -17,24 +16,24 @@ use Rattle.atl_state.specs.declared.books.Entry.TheVariants.{Starved, Upkeep}
 use Rattle.atl_state.specs.declared.books.Thing.{Thing}
 use Rattle.atl_state.specs.declared.books.Thing.TheVariants.{Money, People, Item}
 use Rattle.atl_state.specs.declared.records.Unit.{Unit}
-use Rattle.atl_state.specs.Books.{IsGrid, IsWithin, amount_in, with_booked}
+use Rattle.atl_state.specs.Books.{IsGrid, amount_in, with_booked}
 use Rattle.atl_state.specs.Covers.{MarksChanges}
 use Rattle.atl_state.specs.Founding.{things_of}
 use Rattle.atl_state.specs.Deciding.{EachOf}
 use Rattle.atl_state.specs.Good.{Every, IsSteady, guards}
-use Rattle.atl_state.specs.Held.{AreAmounts, Held, IsHolding, amount_of, with_amount_of}
+use Rattle.atl_state.specs.Held.{AreAmounts, Held, amount_of, with_amount_of}
 use Rattle.atl_state.specs.Lending.{lent, with_held}
-use Rattle.atl_state.specs.Limits.{holding_limit, men_limit, most_days}
+use Rattle.atl_state.specs.Limits.{most_days}
 use Rattle.atl_state.specs.Marking.{mark_amount}
 use Rattle.atl_state.specs.Marks.{amount_number}
 use Rattle.atl_state.specs.State.{Marked, State, with_amount}
 use Rattle.atl_state.specs.Totals.{Balances, held, total}
 use Rattle.atl_state.proofs.BookLaws.{IsGrid-with_booked, booked-with_booked, share_of}
 use Rattle.atl_state.proofs.CoverLaws.{marks-amount, marks-trans}
-use Rattle.atl_state.proofs.EveryLaws.{each-from_every, every-empty, every-insert, get-insert_other, none_some}
+use Rattle.atl_state.proofs.EveryLaws.{each-from_every, every-empty, every-insert, none_some}
 use Rattle.atl_state.proofs.HoldingLaws.{MayHold, marks-lent, steady-held, total-held}
-use Rattle.atl_state.proofs.RegionLaws.{get-insert_same, steady-amount, total-amount}
-use Rattle.atl_instant.specs.Meaning.{HaveRoom, IsNear, LeavesWell, moved_times, moves_only, most_moved}
+use Rattle.atl_state.proofs.RegionLaws.{steady-amount, total-amount}
+use Rattle.atl_instant.specs.Meaning.{IsNear, LeavesWell, moved_times, moves_only, most_moved}
 use Rattle.atl_instant.proofs.MeaningLaws.{fold_leaves_well, near_twice, well_unchanged, well_within}
 use Rattle.atl_instant.proofs.BookingLaws.{booked-near, within-neg}
 use Rattle.atl_month.specs.declared.settling.Purse.{Purse}

@@ -10,6 +10,15 @@ use Rattle.atl_state.specs.declared.event.Event.{Event}
 use Rattle.atl_state.specs.State.{State, with_month, without_mail}
 use Rattle.atl_instant.specs.Course.{Course, HaveOwnFactions, by_faction}
 use Rattle.atl_instant.specs.Meaning.{Keeping, Meaning, Moving, both_keep, both_move, most_moved, then_also}
+use Rattle.atl_instant.specs.Form.{form_keeps, form_meaning}
+use Rattle.atl_instant.specs.Give.{give_keeps, give_meaning}
+use Rattle.atl_instant.specs.Guard.{guard_keeps, guard_meaning}
+use Rattle.atl_instant.specs.Name.{name_keeps, name_meaning}
+use Rattle.atl_instant.specs.Place.{place_keeps, place_meaning}
+use Rattle.atl_instant.specs.Quit.{quit_keeps, quit_meaning, quit_moves}
+use Rattle.atl_instant.specs.Transfer.{transfer_keeps, transfer_meaning}
+use Rattle.atl_instant.specs.Unbooked.{moves_nothing}
+use Rattle.atl_market.specs.Recruit.{recruit_keeps, recruit_meaning, recruit_moves}
 use Rattle.atl_market.specs.Tax.{tax_keeps, tax_meaning, tax_moves}
 use Rattle.atl_market.specs.Work.{work_keeps, work_meaning, work_moves}
 use Rattle.atl_month.specs.Season.{grows_by, season_keeps, season_meaning}
@@ -20,27 +29,83 @@ use Rattle.atl_month.specs.Upkeep.{takes_up_to, upkeep_keeps, upkeep_meaning}
 abbrev pub begun : FinMap nat_cmp Reading → List ℕ → Course
 begun readings words = record { readings = readings; aliases = empty; words = words; events = [] }
 
--- the phases, one after the other
-abbrev pub phases : Meaning
-phases = then_also (then_also tax_meaning work_meaning) (then_also upkeep_meaning (then_also season_meaning sweep_meaning))
+-- ---- the phases
+
+-- A phase: what it makes, by how much it may move the amounts of the books, and what it keeps.
+pub record PhaseTerms : Type 1 where
+  pub meaning : Meaning
+  pub moving : Moving
+  pub keeps : Keeping
+
+-- one phase, and behind it another
+infixr 10 ◌▷◌
+abbrev pub ◌▷◌ : PhaseTerms → PhaseTerms → PhaseTerms
+first ▷ second = record {
+  meaning = then_also first.meaning second.meaning;
+  moving = both_move first.moving second.moving;
+  keeps = both_keep first.meaning first.keeps second.keeps;
+}
+
+abbrev pub forming : PhaseTerms
+forming = record { meaning = form_meaning; moving = moves_nothing; keeps = form_keeps }
+
+abbrev pub naming : PhaseTerms
+naming = record { meaning = name_meaning; moving = moves_nothing; keeps = name_keeps }
+
+abbrev pub placing : PhaseTerms
+placing = record { meaning = place_meaning; moving = moves_nothing; keeps = place_keeps }
+
+abbrev pub giving : PhaseTerms
+giving = record { meaning = give_meaning; moving = moves_nothing; keeps = give_keeps }
+
+abbrev pub transferring : PhaseTerms
+transferring = record { meaning = transfer_meaning; moving = moves_nothing; keeps = transfer_keeps }
+
+abbrev pub taxing : PhaseTerms
+taxing = record { meaning = tax_meaning; moving = tax_moves; keeps = tax_keeps }
+
+abbrev pub recruiting : PhaseTerms
+recruiting = record { meaning = recruit_meaning; moving = recruit_moves most_moved; keeps = recruit_keeps }
+
+abbrev pub guarding : PhaseTerms
+guarding = record { meaning = guard_meaning; moving = moves_nothing; keeps = guard_keeps }
+
+abbrev pub quitting : PhaseTerms
+quitting = record { meaning = quit_meaning; moving = quit_moves; keeps = quit_keeps }
+
+abbrev pub working : PhaseTerms
+working = record { meaning = work_meaning; moving = work_moves most_moved; keeps = work_keeps }
+
+abbrev pub upkeep : PhaseTerms
+upkeep = record { meaning = upkeep_meaning; moving = takes_up_to most_moved; keeps = upkeep_keeps }
+
+abbrev pub season : PhaseTerms
+season = record { meaning = season_meaning; moving = grows_by most_moved; keeps = season_keeps }
+
+abbrev pub sweeping : PhaseTerms
+sweeping = record { meaning = sweep_meaning; moving = loses_by most_moved; keeps = sweep_keeps }
+
+-- the orders that are carried out while no flag is set anew
+abbrev pub early_orders : PhaseTerms
+early_orders = forming ▷ naming ▷ placing ▷ giving ▷ transferring ▷ taxing ▷ recruiting
+
+-- and the others
+abbrev pub later_orders : PhaseTerms
+later_orders = guarding ▷ quitting ▷ working
+
+-- a month, from its first phase to its last
+abbrev pub month_phases : PhaseTerms
+month_phases = early_orders ▷ later_orders ▷ upkeep ▷ season ▷ sweeping
 
 -- the campaign behind the phases of a month, and what came of the orders
 unfoldable pub month_of : Planet → State → FinMap nat_cmp Reading → List ℕ → State × List Event
-month_of w c readings words = let behind = phases w c (begun readings words) in (behind.0, behind.1.events)
+month_of w c readings words = let behind = month_phases.meaning w c (begun readings words) in (behind.0, behind.1.events)
 
 -- the mailings of a month in another order make the same month
 abbrev pub MonthHasNoOrder : Type 0
 MonthHasNoOrder =
     (w : Planet) (c : State) (words : List ℕ) (mailings others : List Mailing) → HaveOwnFactions mailings → IsPermutation mailings others →
     month_of w c (by_faction (map reading_of mailings)) words ≡ month_of w c (by_faction (map reading_of others)) words
-
--- by how much they move each amount of the books
-abbrev pub phases_move : Moving
-phases_move = both_move (both_move tax_moves (work_moves most_moved)) (both_move (takes_up_to most_moved) (both_move (grows_by most_moved) (loses_by most_moved)))
-
--- and what each of them keeps
-abbrev pub phases_keep : Keeping
-phases_keep = both_keep (then_also tax_meaning work_meaning) (both_keep tax_meaning tax_keeps work_keeps) (both_keep upkeep_meaning upkeep_keeps (both_keep season_meaning season_keeps sweep_keeps))
 
 -- a campaign whose month is counted, and whose mail is taken away
 abbrev pub finished : State → State

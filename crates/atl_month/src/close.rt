@@ -8,14 +8,16 @@ ghost use Rattle.atl_state.specs.Limits.{last_month};
 ghost use Rattle.atl_instant.specs.Course.{HaveOwnFactions, by_faction};
 ghost use Rattle.atl_instant.specs.Fit.{AreFit};
 ghost use Rattle.atl_instant.specs.Meaning.{LeavesWell};
-ghost use Rattle.atl_month.specs.Month.{MonthHasNoOrder, begun, finished, month_of, phases, phases_keep, phases_move};
+ghost use Rattle.atl_month.specs.Month.{MonthHasNoOrder, begun, finished, month_of, month_phases};
 ghost use Rattle.atl_month.specs.Swept.{IsSwept};
 
 use crate::season::SeasonPhase;
 use crate::sweep::SweepPhase;
 use crate::upkeep::UpkeepPhase;
-use atl_instant::{Month, Phase};
-use atl_market::{TaxPhase, WorkPhase};
+use atl_instant::{
+    FormPhase, GivePhase, GuardPhase, Month, NamePhase, Phase, PlacePhase, QuitPhase, TransferPhase,
+};
+use atl_market::{RecruitPhase, TaxPhase, WorkPhase};
 use atl_orders::Mailing;
 use atl_state::{Campaign, Event};
 use atl_tables::World;
@@ -30,13 +32,16 @@ fn run_phases(
 ) -> Result<(Campaign, Month), AllocError>
     requires sound { IsSound world.now campaign.what }
     requires read { AreFit world.now month.readings }
-    ensures meaning { IfOk result (λ r. (r.0.what, r.1) ≡ phases world.now campaign.what month) }
-    ensures leaves { IfOk result (λ r. LeavesWell IsSwept phases_move world.now campaign.what r.0.what) }
-    ensures keeps { IfOk result (λ r. phases_keep world.now month campaign.what r.0.what) }
+    ensures meaning { IfOk result (λ r. (r.0.what, r.1) ≡ month_phases.meaning world.now campaign.what month) }
+    ensures leaves { IfOk result (λ r. LeavesWell IsSwept month_phases.moving world.now campaign.what r.0.what) }
+    ensures keeps { IfOk result (λ r. month_phases.keeps world.now month campaign.what r.0.what) }
     ensures marks { IfOk result (λ r. MarksChanges campaign r.0) }
 {
-    let orders = (TaxPhase, WorkPhase);
-    let phases = (orders, (UpkeepPhase, (SeasonPhase, SweepPhase)));
+    let goods = (GivePhase, (TransferPhase, (TaxPhase, RecruitPhase)));
+    let early = (FormPhase, (NamePhase, (PlacePhase, goods)));
+    let later = (GuardPhase, (QuitPhase, WorkPhase));
+    let closing = (UpkeepPhase, (SeasonPhase, SweepPhase));
+    let phases = (early, (later, closing));
     let (campaign, month) = phases.run(alloc, world, campaign, month)?;
     Ok((campaign, month))
 }
@@ -60,7 +65,7 @@ pub fn close_month(
     requires words { length words.now ≡ len world.now.regions }
     ensures definition { IfOk result (λ r. (r.0.what, r.1.items) ≡ month_of world.now campaign.what (by_faction (map reading_of mailings.items)) words.now) }
     ensures good { IfOk result (λ r. IsGood world.now (finished r.0.what)) }
-    ensures keeps { IfOk result (λ r. phases_keep world.now (begun (by_faction (map reading_of mailings.items)) words.now) campaign.what r.0.what) }
+    ensures keeps { IfOk result (λ r. month_phases.keeps world.now (begun (by_faction (map reading_of mailings.items)) words.now) campaign.what r.0.what) }
     ensures marks { IfOk result (λ r. MarksChanges campaign r.0) }
 {
     let month = Month::new(alloc, mailings, words.to_vec(alloc)?);

@@ -7,7 +7,8 @@ use Rattle.std.proofs.lemmas.Bool.Decides.{nat_tests}
 use Rattle.atl_orders.specs.declared.fault.FaultyLine.{FaultyLine}
 use Rattle.atl_state.specs.declared.event.Event.{Event}
 use Rattle.atl_report.specs.Events.{faulty_lines, event_lines, own_events, told, orders_part}
-use Rattle.atl_report.specs.Report.{header_line, region_parts, report_of, OthersEventsAreNotTold}
+use Rattle.atl_report.specs.Sight.{view_of}
+use Rattle.atl_report.specs.Report.{header_line, region_parts, report_of, OthersEventsAreNotTold, OnlyWhatIsSeenIsTold}
 
 -- where no event passes a test, the one line is told
 none_passes : (p : Event → Bool) (es : List Event) → list_any p es ≡ false → told [] (filter p es) ≡ codes "None.\n"
@@ -52,3 +53,9 @@ told_something faction [] events h = by_test (list_any (λ (e : Event). e.factio
 pub others_events_are_not_told : OthersEventsAreNotTold
 unfolding report_of orders_part
 others_events_are_not_told w v faults events others h = ap (λ own. header_line v ++ ((codes "Orders:\n" ++ told faults own) ++ region_parts w v.regions)) h
+
+-- a campaign makes a difference to a report by what is seen of it alone
+pub only_what_is_seen_is_told : OnlyWhatIsSeenIsTold
+unfolding view_of
+only_what_is_seen_is_told w c d faction faults events others seen told =
+    others_events_are_not_told w (view_of w c faction) faults events others told ∙ ap (λ v. report_of w v faults others) seen

@@ -1,2 +1,3 @@
 pub mod SightLaws
+pub mod SiteLaws
 pub mod EventLaws

@@ -15,7 +15,7 @@ use Rattle.atl_tables.proofs.TrackLaws.{is_true}
 use Rattle.atl_state.specs.declared.records.Region.{Region}
 use Rattle.atl_state.specs.declared.records.Unit.{Unit}
 use Rattle.atl_state.specs.State.{State, numbers_of}
-use Rattle.atl_report.specs.Sight.{is_watching, sees_region}
+use Rattle.atl_report.specs.Watching.{is_watching, sees_region}
 use Rattle.atl_report.specs.Gathering.{with_region, with_watched, gathered}
 
 itself : (n : ℕ) → is_eq (nat_cmp n n) ≡ true

@@ -5,7 +5,7 @@ use Rattle.std.specs.FinMap.{FinMap, get, insert}
 use Rattle.atl_state.specs.declared.records.Region.{Region}
 use Rattle.atl_state.specs.declared.records.Unit.{Unit}
 use Rattle.atl_state.specs.State.{State}
-use Rattle.atl_report.specs.Sight.{is_watching}
+use Rattle.atl_report.specs.Watching.{is_watching}
 
 -- the regions with one more, where it is there
 abbrev pub with_region : FinMap nat_cmp Region → ℕ → Option Region → FinMap nat_cmp Region

@@ -1,5 +1,5 @@
--- The text of a report, line by line.
-use Rattle.std.specs.Prelude.{◌≡◌, ℕ, Bool, true, ◌&&◌, is_none, if◌then◌else◌, List, [], ◌∷◌, codes, Option, Some, None}
+-- The text of a report, line by line. See docs/FORMATS.md, "Reports".
+use Rattle.std.specs.Prelude.{◌≡◌, ℕ, Bool, true, false, ◌&&◌, ◌==◌, is_none, if◌then◌else◌, List, [], ◌∷◌, codes, Option, Some, None}
 use Rattle.std.specs.Fmt.{decimal}
 use Rattle.std.specs.FinMap.{get}
 use Rattle.std.specs.List.{slice_get}
@@ -7,12 +7,20 @@ use Rattle.atl_tables.specs.Texts.{◌▸◌}
 use Rattle.atl_tables.specs.Planet.{Planet}
 use Rattle.atl_tables.specs.declared.world.RegionPlan.{RegionPlan}
 use Rattle.atl_tables.specs.declared.world.Terrain.{Terrain}
+use Rattle.atl_tables.specs.declared.world.Item.{Item}
+use Rattle.atl_tables.specs.declared.world.Skill.{Skill}
+use Rattle.atl_tables.specs.declared.world.Kind.{Kind}
 use Rattle.atl_orders.specs.declared.fault.FaultyLine.{FaultyLine}
 use Rattle.atl_state.specs.declared.event.Event.{Event}
+use Rattle.atl_state.specs.State.{State}
 use Rattle.atl_report.specs.Events.{own_events, orders_part}
+use Rattle.atl_report.specs.Sight.{view_of}
 use Rattle.atl_report.specs.declared.views.View.{View}
 use Rattle.atl_report.specs.declared.views.RegionView.{RegionView}
+use Rattle.atl_report.specs.declared.views.StructureView.{StructureView}
 use Rattle.atl_report.specs.declared.views.UnitView.{UnitView}
+use Rattle.atl_report.specs.declared.views.ItemView.{ItemView}
+use Rattle.atl_report.specs.declared.views.SkillView.{SkillView}
 use Rattle.atl_report.specs.declared.views.Side.{Side}
 use Rattle.atl_report.specs.declared.views.Side.TheVariants.{Own, Other}
 
@@ -21,16 +29,67 @@ header_line v = codes "Atlantis report, month " ▸ decimal v.month ▸ codes ",
 
 -- ---- a unit that is seen
 
-abbrev pub unit_text : UnitView → Side → List ℕ
-unit_text u (Own money) = codes "* Unit " ▸ decimal u.number ▸ codes " \"" ▸ u.name ▸ codes "\": " ▸ decimal u.men ▸ codes " men, " ▸ decimal money ▸ codes " money.\n"
-unit_text u (Other faction name) = codes "- Unit " ▸ decimal u.number ▸ codes " \"" ▸ u.name ▸ codes "\" of faction " ▸ decimal faction ▸ codes " \"" ▸ name ▸ codes "\": " ▸ decimal u.men ▸ codes " men.\n"
+abbrev pub unit_head : UnitView → Side → List ℕ
+unit_head u (Own money items skills) = codes "* Unit " ▸ decimal u.number ▸ codes " \"" ▸ u.name ▸ codes "\": " ▸ decimal u.men ▸ codes " men, " ▸ decimal money ▸ codes " money"
+unit_head u (Other faction name) = codes "- Unit " ▸ decimal u.number ▸ codes " \"" ▸ u.name ▸ codes "\" of faction " ▸ decimal faction ▸ codes " \"" ▸ name ▸ codes "\": " ▸ decimal u.men ▸ codes " men"
 
-unfoldable pub unit_line : UnitView → List ℕ
-unit_line u = unit_text u u.side
+abbrev pub guard_text : Bool → List ℕ
+guard_text true = codes ", guard"
+guard_text false = []
 
-abbrev pub unit_lines : List UnitView → List ℕ
-unit_lines [] = []
-unit_lines (u ∷ us) = unit_line u ▸ unit_lines us
+abbrev pub inside_text : ℕ → List ℕ
+inside_text structure = if structure == 0 then [] else codes ", in " ▸ decimal structure
+
+-- so much of an item, by the name that the world gives it
+abbrev pub item_named : ItemView → Option Item → List ℕ
+item_named e None = []
+item_named e (Some item) = codes ", " ▸ decimal e.amount ▸ codes " " ▸ item.name
+
+unfoldable pub item_text : Planet → ItemView → List ℕ
+item_text w e = item_named e (slice_get w.items e.item)
+
+abbrev pub item_texts : Planet → List ItemView → List ℕ
+item_texts w [] = []
+item_texts w (e ∷ es) = item_text w e ▸ item_texts w es
+
+-- a skill with its level and days, by the name that the world gives it
+abbrev pub skill_named : SkillView → Option Skill → List ℕ
+skill_named e None = []
+skill_named e (Some skill) = codes ", " ▸ skill.name ▸ codes " " ▸ decimal e.level ▸ codes " (" ▸ decimal e.days ▸ codes ")"
+
+unfoldable pub skill_text : Planet → SkillView → List ℕ
+skill_text w e = skill_named e (slice_get w.skills e.skill)
+
+abbrev pub skill_texts : Planet → List SkillView → List ℕ
+skill_texts w [] = []
+skill_texts w (e ∷ es) = skill_text w e ▸ skill_texts w es
+
+-- what an own unit has and knows
+abbrev pub goods_text : Planet → Side → List ℕ
+goods_text w (Own money items skills) = item_texts w items ▸ skill_texts w skills
+goods_text w (Other faction name) = []
+
+unfoldable pub unit_line : Planet → UnitView → List ℕ
+unit_line w u = unit_head u u.side ▸ guard_text u.guard ▸ inside_text u.structure ▸ goods_text w u.side ▸ codes ".\n"
+
+abbrev pub unit_lines : Planet → List UnitView → List ℕ
+unit_lines w [] = []
+unit_lines w (u ∷ us) = unit_line w u ▸ unit_lines w us
+
+-- ---- a structure that is seen
+
+-- by the name and the full size of its kind
+abbrev pub structure_text : StructureView → Option Kind → List ℕ
+structure_text s None = []
+structure_text s (Some kind) =
+    codes "Structure " ▸ decimal s.number ▸ codes " \"" ▸ s.name ▸ codes "\", " ▸ kind.name ▸ codes ", " ▸ decimal s.done ▸ codes " of " ▸ decimal kind.size ▸ codes ", owner " ▸ decimal s.owner ▸ codes ".\n"
+
+unfoldable pub structure_line : Planet → StructureView → List ℕ
+structure_line w s = structure_text s (slice_get w.kinds s.kind)
+
+abbrev pub structure_lines : Planet → List StructureView → List ℕ
+structure_lines w [] = []
+structure_lines w (s ∷ ss) = structure_line w s ▸ structure_lines w ss
 
 -- ---- a region that is seen
 
@@ -70,9 +129,12 @@ exits_text (Some p) = codes "Exits:" ▸ (if has_no_exit p then codes " none" el
 unfoldable pub exits_line : Planet → RegionView → List ℕ
 exits_line w r = exits_text (get w.regions r.number)
 
+unfoldable pub region_part : Planet → RegionView → List ℕ
+region_part w r = region_line w r ▸ exits_line w r ▸ structure_lines w r.structures ▸ unit_lines w r.units
+
 abbrev pub region_parts : Planet → List RegionView → List ℕ
 region_parts w [] = []
-region_parts w (r ∷ rs) = (region_line w r ▸ exits_line w r ▸ unit_lines r.units) ▸ region_parts w rs
+region_parts w (r ∷ rs) = region_part w r ▸ region_parts w rs
 
 -- ---- the whole
 
@@ -86,3 +148,11 @@ OthersEventsAreNotTold =
     (w : Planet) (v : View) (faults : List FaultyLine) (events others : List Event)
     → own_events v.faction events ≡ own_events v.faction others
     → report_of w v faults events ≡ report_of w v faults others
+
+-- two campaigns of one world of which a faction sees the same give it one report, where its faulty lines and its events are the same
+abbrev pub OnlyWhatIsSeenIsTold : Type 0
+OnlyWhatIsSeenIsTold =
+    (w : Planet) (c d : State) (faction : ℕ) (faults : List FaultyLine) (events others : List Event)
+    → view_of w c faction ≡ view_of w d faction
+    → own_events faction events ≡ own_events faction others
+    → report_of w (view_of w c faction) faults events ≡ report_of w (view_of w d faction) faults others

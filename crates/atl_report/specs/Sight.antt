@@ -1,16 +1,28 @@
--- What a faction sees of a campaign.
-use Rattle.std.specs.Prelude.{◌==◌, ◌&&◌, ℕ, Bool, false, nat_lt, List, [], map, filter, if◌then◌else◌, Option, Some, None, option_map}
-use Rattle.std.specs.List.{list_any, filter_map}
-use Rattle.std.specs.FinMap.{get, entries}
+-- What a faction sees of a campaign. See docs/RULES.md, "Sight".
+use Rattle.std.specs.Prelude.{◌==◌, ℕ, List, [], map, filter, if◌then◌else◌, Option, Some, None, option_map}
+use Rattle.std.specs.List.{filter_map}
+use Rattle.std.specs.Ordering.{nat_cmp}
+use Rattle.std.specs.FinMap.{FinMap, get, entries}
+use Rattle.atl_tables.specs.Planet.{Planet}
+use Rattle.atl_tables.specs.Sums.{numbers_where}
 use Rattle.atl_state.specs.declared.records.Faction.{Faction}
 use Rattle.atl_state.specs.declared.records.Region.{Region}
+use Rattle.atl_state.specs.declared.records.Structure.{Structure}
 use Rattle.atl_state.specs.declared.records.Unit.{Unit}
+use Rattle.atl_state.specs.Good.{guards}
+use Rattle.atl_state.specs.Held.{Held}
+use Rattle.atl_state.specs.Levels.{level_of}
 use Rattle.atl_state.specs.State.{State, numbers_in}
 use Rattle.atl_report.specs.declared.views.View.{View}
 use Rattle.atl_report.specs.declared.views.RegionView.{RegionView}
+use Rattle.atl_report.specs.declared.views.StructureView.{StructureView}
 use Rattle.atl_report.specs.declared.views.UnitView.{UnitView}
+use Rattle.atl_report.specs.declared.views.ItemView.{ItemView}
+use Rattle.atl_report.specs.declared.views.SkillView.{SkillView}
 use Rattle.atl_report.specs.declared.views.Side.{Side}
 use Rattle.atl_report.specs.declared.views.Side.TheVariants.{Own, Other}
+use Rattle.atl_report.specs.declared.watch.Watch.{Watch}
+use Rattle.atl_report.specs.Watching.{watch_over, is_seen, is_seen_there, sees_region}
 
 -- the name that a faction shows
 abbrev pub shown_name : Option Faction → List ℕ
@@ -19,33 +31,62 @@ shown_name (Some f) = f.name
 
 -- ---- units
 
--- a unit of the faction, with men
-abbrev pub is_watching : ℕ → Option Unit → Bool
-is_watching faction None = false
-is_watching faction (Some u) = u.faction == faction && nat_lt 0 u.holding.men
+-- each item that is held, in the order of the world
+abbrev pub item_view : ℕ × ℕ → ItemView
+item_view (item, amount) = record { item = item; amount = amount }
 
+abbrev pub item_views : Held → List ItemView
+item_views h = map item_view (entries h.items)
+
+-- each skill with days, in the order of the world, with the level that so many men have
+abbrev pub skill_view : ℕ → ℕ × ℕ → SkillView
+skill_view men (skill, days) = record { skill = skill; level = level_of days men; days = days }
+
+abbrev pub skill_views : Held → List SkillView
+skill_views h = map (skill_view h.men) (entries h.days)
+
+-- of an own unit its money, items and skills; of another faction's that faction
 abbrev pub side_of : State → ℕ → Unit → Side
-side_of c faction u = if u.faction == faction then Own u.holding.money else Other u.faction (shown_name (get c.factions u.faction))
+side_of c faction u =
+    if u.faction == faction then Own u.holding.money (item_views u.holding) (skill_views u.holding)
+    else Other u.faction (shown_name (get c.factions u.faction))
 
 abbrev pub unit_view : State → ℕ → ℕ → Unit → UnitView
-unit_view c faction number u = record { number = number; name = u.holding.name; men = u.holding.men; side = side_of c faction u }
+unit_view c faction number u = record { number = number; name = u.holding.name; men = u.holding.men; guard = guards u; structure = u.structure; side = side_of c faction u }
 
--- ---- regions
+abbrev pub seen_unit : Planet → State → Watch → ℕ → Option Unit → Option UnitView
+seen_unit w c watch number None = None
+seen_unit w c watch number (Some u) = if is_seen w watch u then Some (unit_view c watch.faction number u) else None
 
--- the faction has a unit with men in the region
-abbrev pub sees_region : State → ℕ → ℕ → Bool
-sees_region c faction region = list_any (λ n. is_watching faction (get c.units n)) (numbers_in region c.units)
+-- the units of the region that are seen, by number
+abbrev pub unit_views : Planet → State → Watch → List UnitView
+unit_views w c watch = filter_map (λ n. seen_unit w c watch n (get c.units n)) (numbers_in watch.region c.units)
 
--- every unit of the region, by number
-abbrev pub unit_views : State → ℕ → ℕ → List UnitView
-unit_views c faction region = filter_map (λ n. option_map (unit_view c faction n) (get c.units n)) (numbers_in region c.units)
+-- ---- structures
 
-abbrev pub region_view : State → ℕ → ℕ → Region → RegionView
-region_view c faction number r = record { number = number; peasants = r.peasants; money = r.money; units = unit_views c faction number }
+-- the numbers of the structures of a region, in rising order
+abbrev pub structures_in : ℕ → FinMap nat_cmp Structure → List ℕ
+structures_in region structures = numbers_where (λ s. s.region == region) structures
+
+-- the owner's number, or 0 where the owner isn't seen
+abbrev pub shown_owner : Planet → State → Watch → Structure → ℕ
+shown_owner w c watch s = if is_seen_there w watch (get c.units s.owner) then s.owner else 0
+
+abbrev pub structure_view : Planet → State → Watch → ℕ → Structure → StructureView
+structure_view w c watch number s = record { number = number; kind = s.kind; name = s.name; done = s.done; owner = shown_owner w c watch s }
+
+-- all structures of the region, by number
+abbrev pub structure_views : Planet → State → Watch → List StructureView
+structure_views w c watch = filter_map (λ n. option_map (structure_view w c watch n) (get c.structures n)) (structures_in watch.region c.structures)
+
+-- ---- the whole
+
+abbrev pub region_view : Planet → State → Watch → Region → RegionView
+region_view w c watch r = record { number = watch.region; peasants = r.peasants; money = r.money; structures = structure_views w c watch; units = unit_views w c watch }
 
 -- the regions that the faction sees, by number
-abbrev pub region_views : State → ℕ → List RegionView
-region_views c faction = map (λ e. region_view c faction e.0 e.1) (filter (λ e. sees_region c faction e.0) (entries c.regions))
+abbrev pub region_views : Planet → State → ℕ → List RegionView
+region_views w c faction = map (λ e. region_view w c (watch_over w c faction e.0) e.1) (filter (λ e. sees_region c faction e.0) (entries c.regions))
 
-unfoldable pub view_of : State → ℕ → View
-view_of c faction = record { month = c.month; faction = faction; name = shown_name (get c.factions faction); regions = region_views c faction }
+unfoldable pub view_of : Planet → State → ℕ → View
+view_of w c faction = record { month = c.month; faction = faction; name = shown_name (get c.factions faction); regions = region_views w c faction }

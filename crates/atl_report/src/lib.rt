@@ -1,11 +1,16 @@
 //! What a faction sees, and the report that it reads.
 #![tactic(auto)]
 
+pub mod books;
 pub mod events;
 pub mod report;
 pub mod sight;
+pub mod sites;
 pub mod views;
+mod watch;
 
-pub use report::{others_events_are_not_told, report_text};
-pub use sight::view;
-pub use views::{RegionView, Side, UnitView, View};
+pub use books::books_text;
+pub use report::{only_what_is_seen_is_told, others_events_are_not_told, report_text};
+pub use sight::{view, view_over};
+pub use sites::{Sites, sites_of};
+pub use views::{ItemView, RegionView, Side, SkillView, StructureView, UnitView, View};

@@ -1,12 +1,12 @@
 //! The text of a report.
 ghost use Rattle.std.specs.Prelude.{◌≡◌, ◌++◌, IfOk, OnOk, Some, string_bytes};
-ghost use Rattle.atl_report.specs.Report.{header_line, unit_line, unit_lines, region_line, exit_text, directions, has_no_exit, exits_text, exits_line, region_parts, report_of, OthersEventsAreNotTold};
+ghost use Rattle.atl_report.specs.Report.{header_line, unit_head, guard_text, inside_text, item_text, item_texts, skill_text, skill_texts, goods_text, unit_line, unit_lines, structure_text, structure_line, structure_lines, region_line, exit_text, directions, has_no_exit, exits_text, exits_line, region_part, region_parts, report_of, OthersEventsAreNotTold, OnlyWhatIsSeenIsTold};
 
 use crate::events::write_orders;
-use crate::views::{RegionView, Side, UnitView, View};
+use crate::views::{ItemView, RegionView, Side, SkillView, StructureView, UnitView, View};
 use atl_orders::FaultyLine;
 use atl_state::Event;
-use atl_tables::{RegionPlan, World};
+use atl_tables::{Kind, RegionPlan, World};
 use std::alloc::{AllocError, Global};
 use std::fmt::Write;
 
@@ -23,37 +23,174 @@ fn write_header(out: &mut String, view: &View) -> Result<(), AllocError>
     )
 }
 
-#[tactic(auto, unfolding(crate::specs::Report::unit_line))]
-fn write_unit(out: &mut String, unit: &UnitView) -> Result<(), AllocError>
-    ensures { OnOk result (string_bytes out.new ≡ string_bytes out.old ++ unit_line unit.now) }
+/// The number, the name, whose it is, and the men of a unit, and the money of an own one.
+fn write_head(out: &mut String, unit: &UnitView) -> Result<(), AllocError>
+    ensures { OnOk result (string_bytes out.new ≡ string_bytes out.old ++ unit_head unit.now unit.now.side) }
 {
     let number = unit.number;
     let name = unit.name.as_str();
     let men = unit.men;
     match &unit.side {
-        Side::Own { money } => {
+        Side::Own {
+            money,
+            items: _,
+            skills: _,
+        } => {
             let money = *money;
-            write!(
-                out,
-                "* Unit {number} \"{name}\": {men} men, {money} money.\n"
-            )
+            write!(out, "* Unit {number} \"{name}\": {men} men, {money} money")
         }
         Side::Other { faction, name: of } => {
             let faction = *faction;
             let of = of.as_str();
             write!(
                 out,
-                "- Unit {number} \"{name}\" of faction {faction} \"{of}\": {men} men.\n"
+                "- Unit {number} \"{name}\" of faction {faction} \"{of}\": {men} men"
             )
         }
     }
 }
 
-fn write_units(out: &mut String, units: &[UnitView]) -> Result<(), AllocError>
-    ensures { OnOk result (string_bytes out.new ≡ string_bytes out.old ++ unit_lines units.now) }
+fn write_guard(out: &mut String, guard: bool) -> Result<(), AllocError>
+    ensures { OnOk result (string_bytes out.new ≡ string_bytes out.old ++ guard_text guard) }
+{
+    if guard {
+        out.push_str(", guard")?;
+    }
+    Ok(())
+}
+
+fn write_inside(out: &mut String, structure: u32) -> Result<(), AllocError>
+    ensures { OnOk result (string_bytes out.new ≡ string_bytes out.old ++ inside_text structure) }
+{
+    if structure == 0 {
+        return Ok(());
+    }
+    write!(out, ", in {structure}")
+}
+
+#[tactic(auto, unfolding(crate::specs::Report::item_text))]
+fn write_item(out: &mut String, world: &World, held: ItemView) -> Result<(), AllocError>
+    ensures { OnOk result (string_bytes out.new ≡ string_bytes out.old ++ item_text world.now held) }
+{
+    let Some(item) = world.items().get(held.item as usize) else {
+        return Ok(());
+    };
+    let amount = held.amount;
+    let name = item.name.as_str();
+    write!(out, ", {amount} {name}")
+}
+
+fn write_items(out: &mut String, world: &World, items: &[ItemView]) -> Result<(), AllocError>
+    ensures { OnOk result (string_bytes out.new ≡ string_bytes out.old ++ item_texts world.now items.now) }
+{
+    for held in items {
+        write_item(out, world, *held)?;
+    }
+    Ok(())
+}
+
+#[tactic(auto, unfolding(crate::specs::Report::skill_text))]
+fn write_skill(out: &mut String, world: &World, known: SkillView) -> Result<(), AllocError>
+    ensures { OnOk result (string_bytes out.new ≡ string_bytes out.old ++ skill_text world.now known) }
+{
+    let Some(skill) = world.skills().get(known.skill as usize) else {
+        return Ok(());
+    };
+    let name = skill.name.as_str();
+    let level = known.level;
+    let days = known.days;
+    write!(out, ", {name} {level} ({days})")
+}
+
+fn write_skills(out: &mut String, world: &World, skills: &[SkillView]) -> Result<(), AllocError>
+    ensures { OnOk result (string_bytes out.new ≡ string_bytes out.old ++ skill_texts world.now skills.now) }
+{
+    for known in skills {
+        write_skill(out, world, *known)?;
+    }
+    Ok(())
+}
+
+/// What an own unit has and knows.
+fn write_goods(out: &mut String, world: &World, side: &Side) -> Result<(), AllocError>
+    ensures { OnOk result (string_bytes out.new ≡ string_bytes out.old ++ goods_text world.now side.now) }
+{
+    match side {
+        Side::Own {
+            money: _,
+            items,
+            skills,
+        } => {
+            write_items(out, world, items.as_slice())?;
+            write_skills(out, world, skills.as_slice())
+        }
+        Side::Other {
+            faction: _,
+            name: _,
+        } => Ok(()),
+    }
+}
+
+#[tactic(auto, unfolding(crate::specs::Report::unit_line))]
+fn write_unit(out: &mut String, world: &World, unit: &UnitView) -> Result<(), AllocError>
+    ensures { OnOk result (string_bytes out.new ≡ string_bytes out.old ++ unit_line world.now unit.now) }
+{
+    write_head(out, unit)?;
+    write_guard(out, unit.guard)?;
+    write_inside(out, unit.structure)?;
+    write_goods(out, world, &unit.side)?;
+    out.push_str(".\n")?;
+    Ok(())
+}
+
+fn write_units(out: &mut String, world: &World, units: &[UnitView]) -> Result<(), AllocError>
+    ensures { OnOk result (string_bytes out.new ≡ string_bytes out.old ++ unit_lines world.now units.now) }
 {
     for unit in units {
-        write_unit(out, unit)?;
+        write_unit(out, world, unit)?;
+    }
+    Ok(())
+}
+
+/// A structure of a kind.
+fn write_built(out: &mut String, structure: &StructureView, kind: &Kind) -> Result<(), AllocError>
+    ensures { OnOk result (string_bytes out.new ≡ string_bytes out.old ++ structure_text structure.now (Some kind.now)) }
+{
+    let number = structure.number;
+    let name = structure.name.as_str();
+    let sort = kind.name.as_str();
+    let done = structure.done;
+    let size = kind.size;
+    let owner = structure.owner;
+    write!(
+        out,
+        "Structure {number} \"{name}\", {sort}, {done} of {size}, owner {owner}.\n"
+    )
+}
+
+#[tactic(auto, unfolding(crate::specs::Report::structure_line))]
+fn write_structure(
+    out: &mut String,
+    world: &World,
+    structure: &StructureView,
+) -> Result<(), AllocError>
+    ensures { OnOk result (string_bytes out.new ≡ string_bytes out.old ++ structure_line world.now structure.now) }
+{
+    match world.kinds().get(usize::from(structure.kind)) {
+        Some(kind) => write_built(out, structure, kind),
+        None => Ok(()),
+    }
+}
+
+fn write_structures(
+    out: &mut String,
+    world: &World,
+    structures: &[StructureView],
+) -> Result<(), AllocError>
+    ensures { OnOk result (string_bytes out.new ≡ string_bytes out.old ++ structure_lines world.now structures.now) }
+{
+    for structure in structures {
+        write_structure(out, world, structure)?;
     }
     Ok(())
 }
@@ -142,13 +279,23 @@ fn write_exits(out: &mut String, world: &World, region: &RegionView) -> Result<(
     }
 }
 
+/// All that is seen of a region and in it.
+#[tactic(auto, unfolding(crate::specs::Report::region_part))]
+fn write_region_part(out: &mut String, world: &World, region: &RegionView) -> Result<(), AllocError>
+    ensures { OnOk result (string_bytes out.new ≡ string_bytes out.old ++ region_part world.now region.now) }
+{
+    write_region(out, world, region)?;
+    write_exits(out, world, region)?;
+    write_structures(out, world, region.structures.as_slice())?;
+    write_units(out, world, region.units.as_slice())?;
+    Ok(())
+}
+
 fn write_regions(out: &mut String, world: &World, regions: &[RegionView]) -> Result<(), AllocError>
     ensures { OnOk result (string_bytes out.new ≡ string_bytes out.old ++ region_parts world.now regions.now) }
 {
     for region in regions {
-        write_region(out, world, region)?;
-        write_exits(out, world, region)?;
-        write_units(out, region.units.as_slice())?;
+        write_region_part(out, world, region)?;
     }
     Ok(())
 }
@@ -175,4 +322,10 @@ pub fn report_text(
 /// Does nothing. Its clause is the law that events of other factions make no difference to a report.
 pub fn others_events_are_not_told()
     ensures { OthersEventsAreNotTold }
+{}
+
+/// Does nothing. Its clause is the law that nothing of a campaign but what a faction sees makes a difference to its report: two
+/// campaigns of one world with the same view, faulty lines and own events give one report.
+pub fn only_what_is_seen_is_told()
+    ensures { OnlyWhatIsSeenIsTold }
 {}

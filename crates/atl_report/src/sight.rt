@@ -1,11 +1,15 @@
 //! What a faction sees.
 ghost use Rattle.std.specs.Prelude.{◌≡◌, IfOk, OnOk, Some, filter};
 ghost use Rattle.std.specs.FinMap.{get, entries};
-ghost use Rattle.atl_report.specs.Sight.{is_watching, side_of, unit_view, sees_region, unit_views, region_view, region_views, view_of, shown_name};
+ghost use Rattle.atl_report.specs.Watching.{sees_region};
+ghost use Rattle.atl_report.specs.Sight.{side_of, item_views, skill_views, unit_view, unit_views, shown_owner, structure_view, structure_views, region_view, region_views, view_of, shown_name};
+ghost use Rattle.atl_report.specs.Sites.{AreSites};
 ghost use Rattle.atl_report.specs.Gathering.{with_region};
 
-use crate::views::{RegionView, Side, UnitView, View};
-use atl_state::{Campaign, Faction, Region, Unit};
+use crate::sites::{Sites, sites_in, sites_of};
+use crate::views::{ItemView, RegionView, Side, SkillView, StructureView, UnitView, View};
+use crate::watch::{Watch, is_guard, is_seen, is_seen_there, is_watching, watch_over};
+use atl_state::{Campaign, Faction, Holding, Region, Structure, Unit, level};
 use atl_tables::{Numbered, Sequence, Text, World};
 use std::alloc::{AllocError, Global};
 
@@ -19,13 +23,35 @@ fn shown_name(alloc: Global, campaign: &Campaign, faction: u32) -> Result<Text, 
     }
 }
 
-/// Whether a unit is the faction's and has men.
-fn is_watching(unit: &Unit, faction: u32) -> bool
-    ensures { result ≡ is_watching faction (Some unit.now) }
+fn item_views(alloc: Global, holding: &Holding) -> Result<Sequence<ItemView>, AllocError>
+    ensures { IfOk result (λ items. items ≡ item_views holding.now) }
 {
-    unit.faction == faction && unit.holding.men() > 0
+    let mut items = Sequence::new(alloc);
+    for (item, amount) in holding.items() {
+        items.push(ItemView {
+            item,
+            amount: *amount,
+        })?;
+    }
+    Ok(items)
 }
 
+fn skill_views(alloc: Global, holding: &Holding) -> Result<Sequence<SkillView>, AllocError>
+    ensures { IfOk result (λ skills. skills ≡ skill_views holding.now) }
+{
+    let men = holding.men();
+    let mut skills = Sequence::new(alloc);
+    for (skill, days) in holding.days() {
+        skills.push(SkillView {
+            skill,
+            level: level(*days, men),
+            days: *days,
+        })?;
+    }
+    Ok(skills)
+}
+
+/// What is seen of an own unit alone, or of another faction's.
 fn side_of(
     alloc: Global,
     campaign: &Campaign,
@@ -37,6 +63,8 @@ fn side_of(
     if unit.faction == faction {
         return Ok(Side::Own {
             money: unit.holding.money(),
+            items: item_views(alloc, &unit.holding)?,
+            skills: skill_views(alloc, &unit.holding)?,
         });
     }
     Ok(Side::Other {
@@ -58,42 +86,99 @@ fn unit_view(
         number,
         name: unit.holding.name().copy(alloc)?,
         men: unit.holding.men(),
+        guard: is_guard(unit),
+        structure: unit.structure,
         side: side_of(alloc, campaign, faction, unit)?,
     })
 }
 
-/// The units of a region, by number.
+/// The units of a region that are seen, by number.
 fn unit_views(
     alloc: Global,
+    world: &World,
     campaign: &Campaign,
-    faction: u32,
-    region: u32,
+    watch: Watch,
 ) -> Result<Sequence<UnitView>, AllocError>
-    ensures { IfOk result (λ units. units ≡ unit_views campaign.now.what faction region) }
+    ensures { IfOk result (λ units. units ≡ unit_views world.now campaign.now.what watch) }
 {
     let mut units = Sequence::new(alloc);
-    for number in campaign.in_region(region) {
+    for number in campaign.in_region(watch.region) {
         if let Some(unit) = campaign.unit(*number) {
-            units.push(unit_view(alloc, campaign, faction, *number, unit)?)?;
+            if is_seen(world, watch, unit) {
+                units.push(unit_view(alloc, campaign, watch.faction, *number, unit)?)?;
+            }
         }
     }
     Ok(units)
 }
 
+/// The owner's number, or 0 where the owner isn't seen.
+fn shown_owner(world: &World, campaign: &Campaign, watch: Watch, structure: &Structure) -> u32
+    ensures { result ≡ shown_owner world.now campaign.now.what watch structure.now }
+{
+    if is_seen_there(world, watch, campaign.unit(structure.owner)) {
+        structure.owner
+    } else {
+        0
+    }
+}
+
+fn structure_view(
+    alloc: Global,
+    world: &World,
+    campaign: &Campaign,
+    watch: Watch,
+    number: u32,
+    structure: &Structure,
+) -> Result<StructureView, AllocError>
+    ensures { IfOk result (λ seen. seen ≡ structure_view world.now campaign.now.what watch number structure.now) }
+{
+    Ok(StructureView {
+        number,
+        kind: structure.kind,
+        name: structure.name.copy(alloc)?,
+        done: structure.done,
+        owner: shown_owner(world, campaign, watch, structure),
+    })
+}
+
+/// The structures of a region, by number.
+fn structure_views(
+    alloc: Global,
+    world: &World,
+    campaign: &Campaign,
+    sites: &Sites,
+    watch: Watch,
+) -> Result<Sequence<StructureView>, AllocError>
+    requires { AreSites campaign.now.what.structures sites.now }
+    ensures { IfOk result (λ structures. structures ≡ structure_views world.now campaign.now.what watch) }
+{
+    let mut structures = Sequence::new(alloc);
+    for number in sites_in(sites, watch.region) {
+        if let Some(structure) = campaign.structure(*number) {
+            structures.push(structure_view(alloc, world, campaign, watch, *number, structure)?)?;
+        }
+    }
+    Ok(structures)
+}
+
 fn region_view(
     alloc: Global,
+    world: &World,
     campaign: &Campaign,
-    faction: u32,
-    number: u32,
+    sites: &Sites,
+    watch: Watch,
     region: &Region,
 ) -> Result<RegionView, AllocError>
-    ensures { IfOk result (λ seen. seen ≡ region_view campaign.now.what faction number region.now) }
+    requires { AreSites campaign.now.what.structures sites.now }
+    ensures { IfOk result (λ seen. seen ≡ region_view world.now campaign.now.what watch region.now) }
 {
     Ok(RegionView {
-        number,
+        number: watch.region,
         peasants: region.peasants,
         money: region.money,
-        units: unit_views(alloc, campaign, faction, number)?,
+        structures: structure_views(alloc, world, campaign, sites, watch)?,
+        units: unit_views(alloc, world, campaign, watch)?,
     })
 }
 
@@ -129,34 +214,58 @@ fn regions_seen(
 /// The regions that the faction sees, by number.
 fn region_views(
     alloc: Global,
+    world: &World,
     campaign: &Campaign,
+    sites: &Sites,
     faction: u32,
 ) -> Result<Sequence<RegionView>, AllocError>
-    ensures { IfOk result (λ regions. regions ≡ region_views campaign.now.what faction) }
+    requires { AreSites campaign.now.what.structures sites.now }
+    ensures { IfOk result (λ regions. regions ≡ region_views world.now campaign.now.what faction) }
 {
     let seen = regions_seen(alloc, campaign, faction)?;
     let mut regions = Sequence::new(alloc);
     for (number, region) in seen.iter() {
-        regions.push(region_view(alloc, campaign, faction, number, region)?)?;
+        let watch = watch_over(world, campaign, faction, number);
+        regions.push(region_view(alloc, world, campaign, sites, watch, region)?)?;
     }
     Ok(regions)
 }
 
-/// What a faction sees: the regions where it has a unit with men, and there every unit. Of its own units it sees the
-/// money too. It goes over the faction's units and the regions seen, and no further. See docs/RULES.md, "Sight".
+/// What a faction sees, like `view`, with the structures of each region found before (`sites_of`), so that the views of many
+/// factions go over the structures of the campaign once. It goes over the faction's units and what stands in the regions
+/// seen, and no further. AllocError without memory.
 #[tactic(auto, unfolding(crate::specs::Sight::view_of))]
-pub fn view(
+pub fn view_over(
     alloc: Global,
-    _world: &World,
+    world: &World,
     campaign: &Campaign,
+    sites: &Sites,
     faction: u32,
 ) -> Result<View, AllocError>
-    ensures definition { IfOk result (λ seen. seen ≡ view_of campaign.now.what faction) }
+    requires { AreSites campaign.now.what.structures sites.now }
+    ensures definition { IfOk result (λ seen. seen ≡ view_of world.now campaign.now.what faction) }
 {
     Ok(View {
         month: campaign.month(),
         faction,
         name: shown_name(alloc, campaign, faction)?,
-        regions: region_views(alloc, campaign, faction)?,
+        regions: region_views(alloc, world, campaign, sites, faction)?,
     })
+}
+
+/// What a faction sees: the regions where it has a unit with men, and there all structures, and each unit that is its own,
+/// guards, or has a stealth level at most the best observation level of its own units there. Of its own units it sees the
+/// money, the items and the skills too. A structure's owner is 0 where he isn't seen. It goes over the campaign's structures
+/// once, and else over the faction's units and what stands in the regions seen. AllocError without memory. See
+/// docs/RULES.md, "Sight".
+pub fn view(
+    alloc: Global,
+    world: &World,
+    campaign: &Campaign,
+    faction: u32,
+) -> Result<View, AllocError>
+    ensures definition { IfOk result (λ seen. seen ≡ view_of world.now campaign.now.what faction) }
+{
+    let sites = sites_of(alloc, campaign)?;
+    view_over(alloc, world, campaign, &sites, faction)
 }

@@ -29,6 +29,8 @@ pub struct RegionView {
     pub number: u32,
     pub peasants: u32,
     pub money: u32,
+    /// All structures that stand there, by number.
+    pub structures: Sequence<StructureView>,
     /// The units that are seen there, by number.
     pub units: Sequence<UnitView>,
 }
@@ -39,9 +41,23 @@ impl Drop for RegionView {
             number: _,
             peasants: _,
             money: _,
+            structures: _,
             units: _,
         } = self;
     }
+}
+
+/// A structure that is seen.
+#[derive(Drop)]
+pub struct StructureView {
+    pub number: u32,
+    /// The number of its kind in the world.
+    pub kind: u16,
+    pub name: Text,
+    /// How much of its kind's size is done.
+    pub done: u32,
+    /// The number of the unit that owns it, or 0 where none does or that unit isn't seen.
+    pub owner: u32,
 }
 
 /// A unit that is seen.
@@ -49,6 +65,10 @@ pub struct UnitView {
     pub number: u32,
     pub name: Text,
     pub men: u32,
+    /// Whether it guards the region.
+    pub guard: bool,
+    /// The number of the structure that it is inside, or 0.
+    pub structure: u32,
     pub side: Side,
 }
 
@@ -58,16 +78,58 @@ impl Drop for UnitView {
             number: _,
             name: _,
             men: _,
+            guard: _,
+            structure: _,
             side: _,
         } = self;
     }
 }
 
 /// Whose a unit is that is seen.
-#[derive(Drop)]
 pub enum Side {
-    /// The faction's own, with its money.
-    Own { money: u32 },
+    /// The faction's own, with its money, and with its items and skills in the order of the world.
+    Own {
+        money: u32,
+        items: Sequence<ItemView>,
+        skills: Sequence<SkillView>,
+    },
     /// Another faction's, with that faction's number and name.
-    Other { faction: u32, name: Text },
+    Other {
+        faction: u32,
+        name: Text,
+    },
+}
+
+impl Drop for Side {
+    fn drop(self) {
+        match self {
+            Side::Own {
+                money: _,
+                items: _,
+                skills: _,
+            } => {}
+            Side::Other {
+                faction: _,
+                name: _,
+            } => {}
+        }
+    }
+}
+
+/// How much of an item an own unit holds.
+#[derive(Drop, Clone, Copy)]
+pub struct ItemView {
+    /// The number of the item in the world.
+    pub item: u32,
+    pub amount: u32,
+}
+
+/// What an own unit knows of a skill.
+#[derive(Drop, Clone, Copy)]
+pub struct SkillView {
+    /// The number of the skill in the world.
+    pub skill: u32,
+    pub level: u32,
+    /// The days of study over all men.
+    pub days: u32,
 }

@@ -1,5 +1,5 @@
 -- The closing of a month: the mail that is read, the reports that are stored, and the campaign behind it.
-use Rattle.std.proofs.Common.{◌≡◌, ◌≢◌, ◌≤◌, ◌<◌, ◌&&◌, ℕ, T, Bool, true, false, cond, List, [], ◌∷◌, ◌++◌, ◌+◌, drop, get_or, map, length, Option, Some, None, is_some, option_map, Result, Ok, Err, refl, sym, ap, ap₂, ◌∙◌, subst, arith}
+use Rattle.std.proofs.Common.{◌≡◌, ◌≤◌, ◌<◌, ℕ, Bool, true, false, cond, List, [], ◌∷◌, ◌++◌, ◌+◌, drop, get_or, map, length, Option, Some, None, is_some, option_map, Result, Ok, Err, refl, sym, ap, ap₂, ◌∙◌, subst, arith}
 use Rattle.std.specs.Prelude.{All, OnOk, fold, nat_lt, unwrap_or}
 use Rattle.std.proofs.lemmas.Bool.Decides.{nat_tests}
 use Rattle.std.proofs.lemmas.Bool.{and_parts}
@@ -40,6 +40,7 @@ use Rattle.atl_instant.specs.Course.{HaveOwnFactions, by_faction}
 use Rattle.atl_month.specs.Month.{finished, month_of}
 use Rattle.atl_report.specs.Report.{report_of}
 use Rattle.atl_report.specs.Sight.{view_of}
+use Rattle.atl_report.specs.Sites.{AreSites}
 use Rattle.atl_service.specs.declared.closing.ReadMail.{ReadMail}
 use Rattle.atl_service.specs.declared.reporting.Told.{Told}
 use Rattle.atl_service.specs.Months.{HasRead, ReadSoFar, told_to_all}
@@ -116,7 +117,7 @@ module _ (w : Planet) (events : List Event) where
     where
       by_faction_there : (o : Option Faction) → get c.factions n ≡ o → IsGood w (cond (is_some o) (reported_with w c n (faults n) events) c)
       by_faction_there None is = good
-      by_faction_there (Some f) is = IsGood-with_report w c n (report_of w (view_of c n) (faults n) events) (f, is) good
+      by_faction_there (Some f) is = IsGood-with_report w c n (report_of w (view_of w c n) (faults n) events) (f, is) good
 
   pub good_reports : (faults : ℕ → List FaultyLine) (c : State) (ns : List ℕ) → IsGood w c → IsGood w (fold (reported_to w faults events) c ns)
   good_reports faults c [] good = good
@@ -144,7 +145,7 @@ pub mail_marked : (c d : Marked) → d.what ≡ without_mail c.what → d.marks 
 mail_marked c d is m = marked_as c d (without_mail c.what) (mark_all_mail c) is m (marks-no_mail c)
 
 pub report_marked : (w : Planet) (c d : Marked) (n : ℕ) (faults : List FaultyLine) (events : List Event) → d.what ≡ reported_with w c.what n faults events → d.marks ≡ mark_report c n → MarksChanges c d
-report_marked w c d n faults events is m = marked_as c d (reported_with w c.what n faults events) (mark_report c n) is m (marks-report c n (report_of w (view_of c.what n) faults events))
+report_marked w c d n faults events is m = marked_as c d (reported_with w c.what n faults events) (mark_report c n) is m (marks-report c n (report_of w (view_of w c.what n) faults events))
 
 -- a month that was run, and is counted, with its mail taken away
 pub turned_marked : (a b c d : Marked) (n : ℕ) → MarksChanges a b → c.what ≡ with_month b.what n → c.marks ≡ mark_row b → d.what ≡ without_mail c.what → d.marks ≡ mark_all_mail c → MarksChanges a d
@@ -198,6 +199,11 @@ read_ends w c r rest none (mailings, all, told) = record {
 
 pub told_on : {A B : Type 0} (step : A → B → A) (old new last : A) (all : List B) (i : ℕ) (d : B) → i < length all → new ≡ step old (get_or all i d) → fold step old (drop i all) ≡ last → fold step new (drop (i + 1) all) ≡ last
 told_on step old new last all i d h is whole = ap (λ a. fold step a (drop (i + 1) all)) is ∙ subst (λ l. fold step old l ≡ last) (drop_more all i d h) whole
+
+-- a report moves no structure
+pub sites_stay : (w : Planet) (faults : ℕ → List FaultyLine) (events : List Event) (c d : State) (n : ℕ) → d ≡ reported_to w faults events c n → (sites : FinMap nat_cmp (List ℕ)) → AreSites c.structures sites → AreSites d.structures sites
+sites_stay w faults events c d n is sites listed =
+    subst (λ (s : State). AreSites s.structures sites) (sym is) (elim (contains_key c.factions n) as (λ b. AreSites (cond b (reported_with w c n (faults n) events) c).structures sites) [ true ↦ listed | false ↦ listed ])
 
 -- ---- what the store asks for, and what is written
 

@@ -1,5 +1,5 @@
 -- Mailings that are taken one after the other: only the last one of each faction counts.
-use Rattle.std.proofs.Common.{◌≡◌, ◌==◌, ℕ, Bool, true, false, cond, not, List, [], ◌∷◌, Option, Some, None, Result, Ok, Err, refl, sym, ap, ◌∙◌, subst, arith}
+use Rattle.std.proofs.Common.{◌≡◌, ◌==◌, ℕ, Bool, true, false, cond, not, List, [], ◌∷◌, Option, Some, None, Result, Ok, Err, refl, sym, ap, ◌∙◌, arith}
 use Rattle.std.proofs.lemmas.Bool.Decides.{nat_tests}
 use Rattle.std.specs.Option.{option_or}
 use Rattle.std.specs.Ordering.{nat_cmp, eq_by_cmp}
@@ -14,7 +14,7 @@ use Rattle.atl_state.specs.State.{State, with_mail}
 use Rattle.atl_service.specs.declared.command.Command.{Command}
 use Rattle.atl_service.specs.declared.command.Command.TheVariants.{Join, Mail, Close, Report}
 use Rattle.atl_service.specs.declared.command.Answer.{Answer}
-use Rattle.atl_service.specs.declared.command.Answer.TheVariants.{Mailed, Refused}
+use Rattle.atl_service.specs.declared.command.Answer.TheVariants.{Refused}
 use Rattle.atl_service.specs.declared.command.Refusal.{Refusal}
 use Rattle.atl_service.specs.declared.command.Refusal.TheVariants as why
 use Rattle.atl_service.specs.Step.{identified, mailed, mailed_by, run_of, step}

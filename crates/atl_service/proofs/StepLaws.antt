@@ -62,7 +62,7 @@ arrival w name pass word c good =
     let things = things_of w in
     let grid = IsGrid-with_booked things (with_booked c.books Joining Money start) Joining People (pos 1) (IsGrid-with_booked things c.books Joining Money start good.sound.steady.numbers.books) in
     let back : c.next_unit + 1 - 1 ≡ c.next_unit = omega arith in
-    let report = report_of w (view_of (joined w name pass word c) c.next_faction) [] [] in
+    let report = report_of w (view_of w (joined w name pass word c) c.next_faction) [] [] in
     record {
       next = omega arith;
       things = omega (arith, grid.rows);
@@ -86,4 +86,4 @@ joining_is w name pass word c d n m good e =
     let is : (joined w name pass word c, (c.next_faction, c.next_unit)) ≡ (d, (n, m)) = accepted (name_taken c name) (is_full c) _ _ e in
     let same : joined w name pass word c ≡ d = ap (λ p. p.0) is in
     let number : c.next_faction ≡ n = ap (λ p. p.1.0) is in
-    (w, name, pass, word, report_of w (view_of d n) [] [], good, sym number, ap (λ (s : State). with_report s n (report_of w (view_of d n) [] [])) (sym same))
+    (w, name, pass, word, report_of w (view_of w d n) [] [], good, sym number, ap (λ (s : State). with_report s n (report_of w (view_of w d n) [] [])) (sym same))

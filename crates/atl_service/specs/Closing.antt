@@ -1,7 +1,7 @@
 -- What the closing of a month makes of a campaign. See docs/RULES.md, "Closing a month".
-use Rattle.std.specs.Prelude.{◌≡◌, ◌<◌, ℕ, List, [], ◌∷◌, map, fold, length, not, if◌then◌else◌, Option, Some, None, Result, Ok, Err}
+use Rattle.std.specs.Prelude.{ℕ, List, [], ◌∷◌, fold, not, if◌then◌else◌, Option, Some, None, Result, Ok, Err}
 use Rattle.std.specs.List.{flat_map}
-use Rattle.std.specs.FinMap.{FinMap, contains_key, entries, get, len}
+use Rattle.std.specs.FinMap.{contains_key, entries, get}
 use Rattle.atl_tables.specs.Planet.{Planet}
 use Rattle.atl_tables.specs.Sums.{numbers_where}
 use Rattle.atl_orders.specs.declared.fault.FaultyLine.{FaultyLine}
@@ -39,7 +39,7 @@ faults_in w (Some text) = faults_of (reading w text)
 
 -- the campaign with a new report for a faction, of what it sees, with what is wrong with its mail and the events that are its own
 abbrev pub reported_with : Planet → State → ℕ → List FaultyLine → List Event → State
-reported_with w c faction faults events = with_report c faction (report_of w (view_of c faction) faults events)
+reported_with w c faction faults events = with_report c faction (report_of w (view_of w c faction) faults events)
 
 -- the same, where there is such a faction
 abbrev pub reported_to : Planet → (ℕ → List FaultyLine) → List Event → State → ℕ → State

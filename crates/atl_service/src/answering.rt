@@ -47,7 +47,7 @@ fn join<S: Alter>(
         Err(JoinFault::Full) => return Ok(Answer::Refused(Refusal::Full)),
         Err(JoinFault::Memory) => return Err(WriteFault::Memory),
     };
-    store_report(alloc, world, campaign, faction, &[], &[])?;
+    store_report(alloc, world, campaign, faction)?;
     write_join(conn, campaign, faction)?;
     campaign.unmark();
     Ok(Answer::Joined { faction, unit })

@@ -3,11 +3,12 @@ ghost use Rattle.std.specs.Prelude.{◌≡◌, OnOk, OnErr, unwrap_or, []};
 ghost use Rattle.std.specs.FinMap as map;
 ghost use Rattle.atl_state.specs.Covers.{MarksChanges};
 ghost use Rattle.atl_state.specs.Marking.{mark_report};
+ghost use Rattle.atl_report.specs.Sites.{AreSites};
 ghost use Rattle.atl_service.specs.Closing.{reported_to, reported_with};
 ghost use Rattle.atl_service.specs.Months.{told_to_all};
 
 use atl_orders::FaultyLine;
-use atl_report::{report_text, view};
+use atl_report::{Sites, report_text, sites_of, view_over};
 use atl_state::{Campaign, Event};
 use atl_tables::{Numbered, Sequence, Text, World};
 use std::alloc::{AllocError, Global};
@@ -31,22 +32,39 @@ impl Drop for Told {
 
 /// Stores a new report for a faction, of what it sees, with what is wrong with its mail and with the events that are its own,
 /// and marks it. Without memory for it the campaign stays as it is.
+fn store_seen(
+    alloc: Global,
+    world: &World,
+    campaign: &mut Campaign,
+    sites: &Sites,
+    faction: u32,
+    faults: &[FaultyLine],
+    events: &[Event],
+) -> Result<(), AllocError>
+    requires { AreSites campaign.old.what.structures sites.now }
+    ensures ok { OnOk result (campaign.new.what ≡ reported_with world.now campaign.old.what faction faults.now events.now) }
+    ensures marks { OnOk result (campaign.new.marks ≡ mark_report campaign.old faction) }
+    ensures err { OnErr result (campaign.new ≡ campaign.old) }
+{
+    let seen = view_over(alloc, world, campaign, sites, faction)?;
+    let text = report_text(alloc, world, &seen, faults, events)?;
+    campaign.set_report(faction, Text::from_string(text))?;
+    Ok(())
+}
+
+/// Stores a first report for a faction, of what it sees, and marks it. Without memory for it the campaign stays as it is.
 pub(crate) fn store_report(
     alloc: Global,
     world: &World,
     campaign: &mut Campaign,
     faction: u32,
-    faults: &[FaultyLine],
-    events: &[Event],
 ) -> Result<(), AllocError>
-    ensures ok { OnOk result (campaign.new.what ≡ reported_with world.now campaign.old.what faction faults.now events.now) }
+    ensures ok { OnOk result (campaign.new.what ≡ reported_with world.now campaign.old.what faction [] []) }
     ensures marks { OnOk result (campaign.new.marks ≡ mark_report campaign.old faction) }
     ensures err { OnErr result (campaign.new ≡ campaign.old) }
 {
-    let seen = view(alloc, world, campaign, faction)?;
-    let text = report_text(alloc, world, &seen, faults, events)?;
-    campaign.set_report(faction, Text::from_string(text))?;
-    Ok(())
+    let sites = sites_of(alloc, campaign)?;
+    store_seen(alloc, world, campaign, &sites, faction, &[], &[])
 }
 
 /// Stores a new report for a faction, where there is such a faction, with what is wrong with its mail.
@@ -54,10 +72,12 @@ fn report_to(
     alloc: Global,
     world: &World,
     campaign: &mut Campaign,
+    sites: &Sites,
     faction: u32,
     faults: &Numbered<Sequence<FaultyLine>>,
     events: &[Event],
 ) -> Result<(), AllocError>
+    requires { AreSites campaign.old.what.structures sites.now }
     ensures what { OnOk result (campaign.new.what ≡ reported_to world.now (λ n. unwrap_or (map.get faults.now n) []) events.now campaign.old.what faction) }
     ensures marks { OnOk result (MarksChanges campaign.old campaign.new) }
 {
@@ -65,12 +85,47 @@ fn report_to(
         return Ok(());
     }
     match faults.get(faction) {
-        Some(lines) => store_report(alloc, world, campaign, faction, lines.as_slice(), events),
-        None => store_report(alloc, world, campaign, faction, &[], events),
+        Some(lines) => store_seen(
+            alloc,
+            world,
+            campaign,
+            sites,
+            faction,
+            lines.as_slice(),
+            events,
+        ),
+        None => store_seen(alloc, world, campaign, sites, faction, &[], events),
     }
 }
 
 /// Stores a new report for each of the factions that are to be told, as far as they are there.
+fn report_to_each(
+    alloc: Global,
+    world: &World,
+    campaign: &mut Campaign,
+    sites: &Sites,
+    told: &Told,
+) -> Result<(), AllocError>
+    requires { AreSites campaign.old.what.structures sites.now }
+    ensures what { OnOk result (campaign.new.what ≡ told_to_all world.now campaign.old.what told.now) }
+    ensures marks { OnOk result (MarksChanges campaign.old campaign.new) }
+{
+    for faction in told.factions.iter() {
+        report_to(
+            alloc,
+            world,
+            campaign,
+            sites,
+            *faction,
+            &told.faults,
+            &told.events,
+        )?;
+    }
+    Ok(())
+}
+
+/// Stores a new report for each of the factions that are to be told, as far as they are there. The structures of each region
+/// are found once for all of them.
 pub(crate) fn report_to_all(
     alloc: Global,
     world: &World,
@@ -80,8 +135,6 @@ pub(crate) fn report_to_all(
     ensures what { OnOk result (campaign.new.what ≡ told_to_all world.now campaign.old.what told.now) }
     ensures marks { OnOk result (MarksChanges campaign.old campaign.new) }
 {
-    for faction in told.factions.iter() {
-        report_to(alloc, world, campaign, *faction, &told.faults, &told.events)?;
-    }
-    Ok(())
+    let sites = sites_of(alloc, campaign)?;
+    report_to_each(alloc, world, campaign, &sites, told)
 }

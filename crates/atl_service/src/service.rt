@@ -1,15 +1,18 @@
 //! The service.
-ghost use Rattle.std.specs.Prelude.{◌≡◌, ◌≤◌, Ok, IfOk, IfErr, OnErr, IfSome, IsSome, option_map};
+ghost use Rattle.std.specs.Prelude.{◌≡◌, ◌≤◌, Ok, IfOk, IfErr, OnErr, IfSome, IsSome, is_some, option_map, string_bytes};
 ghost use Rattle.std.specs.Option.{option_copied};
 ghost use Rattle.sqlite.specs.Held.{state};
 ghost use Rattle.sqlite.specs.State.{HasCleanDisk};
 ghost use Rattle.atl_tables.specs.World.{world_of};
+ghost use Rattle.atl_state.specs.Totals.{Balances};
+ghost use Rattle.atl_report.specs.Books.{books_of};
 ghost use Rattle.atl_service.specs.Found.{Founds, RefusesFounding};
 ghost use Rattle.atl_service.specs.Opened.{Opens, RefusesOpening};
 
 use crate::answering::answered;
 use crate::command::{Answer, Cause, Command, Fault, Refused};
 use crate::founding::prepared;
+use atl_report::books_text;
 use atl_state::Campaign;
 use atl_store::{create, load};
 use atl_tables::World;
@@ -66,6 +69,7 @@ impl<S: Alter> Service<S> {
         ensures later { IsLater (state S.Store self.old.conn) (state S.Store self.new.conn) }
         ensures others { HasCleanDisk (state S.Store self.new.conn) → SparesOthers (state S.Store self.old.conn) (state S.Store self.new.conn) }
         ensures tables { IfSome self.new.campaign (λ c. HoldsCampaign S.Store self.new.conn (text_in S.Store self.new.conn) c) }
+        ensures balances { IfSome self.new.campaign Balances }
     {
         if !self.is_open {
             return Answer::Fault(Fault::Closed);
@@ -91,6 +95,7 @@ impl<S: Alter> Service<S> {
         ensures runs { IfOk result (λ answers. RunsAll S.Store self.old commands.now answers.items self.new) }
         ensures headline { IfOk result (λ answers. HeadlineAt S.Store self.old commands.now answers.items self.new self.old.campaign) }
         ensures err { OnErr result (self.new ≡ self.old) }
+        ensures balances { IfSome self.new.campaign Balances }
     {
         let mut answers = Vec::with_capacity(self.alloc, commands.len())?;
         for command in commands {
@@ -104,6 +109,7 @@ impl<S: Alter> Service<S> {
     pub fn campaign(&self) -> Option<&Campaign>
         ensures value { option_map (λ c. c.what) (option_copied result) ≡ self.now.campaign }
         ensures good { IfSome self.now.campaign (IsGood self.now.world) }
+        ensures balances { IfSome self.now.campaign Balances }
         ensures unmarked { IfSome (option_copied result) (λ c. c.marks ≡ no_marks) }
         ensures tables { IfSome self.now.campaign (λ c. HoldsCampaign S.Store self.now.conn (text_in S.Store self.now.conn) c) }
     {
@@ -112,6 +118,17 @@ impl<S: Alter> Service<S> {
         } else {
             None
         }
+    }
+
+    /// The text of the books, while the service is open, or AllocError without memory for it. Nothing changes, whatever comes
+    /// of it. The books balance. See docs/FORMATS.md, "Books".
+    pub fn books(&self) -> Option<Result<String, AllocError>>
+        ensures open { is_some result ≡ is_some self.now.campaign }
+        ensures definition { IfSome self.now.campaign (λ c. IfSome result (λ made. IfOk made (λ text. string_bytes text ≡ books_of self.now.world c))) }
+        ensures balances { IfSome self.now.campaign Balances }
+    {
+        let campaign = self.campaign()?;
+        Some(books_text(self.alloc, &self.world, campaign))
     }
 
     pub fn world(&self) -> &World
@@ -148,6 +165,7 @@ pub fn found<S: Alter>(
     pass: &[u8],
 ) -> Result<Service<S>, Refused<S>>
     ensures ok { IfOk result (Founds S.Store conn world_text.now pass.now) }
+    ensures balances { IfOk result (λ s. IfSome s.campaign Balances) }
     ensures err { IfErr result (λ r. RefusesFounding S.Store conn world_text.now pass.now r.why r.conn) }
 {
     let (world, mut campaign) = match prepared(alloc, world_text, pass) {
@@ -175,6 +193,7 @@ pub fn found<S: Alter>(
 /// or the database refuses for another cause than memory. See docs/FORMATS.md, "Rules of the tables".
 pub fn open<S: Alter>(alloc: Global, mut conn: Connection<S>) -> Result<Service<S>, Refused<S>>
     ensures ok { IfOk result (Opens S.Store conn) }
+    ensures balances { IfOk result (λ s. IfSome s.campaign Balances) }
     ensures err { IfErr result (λ r. RefusesOpening S.Store conn r.why r.conn) }
 {
     if !conn.is_autocommit() {

@@ -11,6 +11,7 @@ mod limits;
 mod mailings;
 mod making;
 mod opening;
+mod orders;
 mod refusals;
 mod remade;
 mod script;

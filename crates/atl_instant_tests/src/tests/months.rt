@@ -1,5 +1,7 @@
 //! Months of mailings that are given as texts.
-ghost use Rattle.std.specs.Prelude.{◌≡◌, IfOk, map};
+ghost use Rattle.std.specs.Prelude.{◌≡◌, All, IfOk, map};
+ghost use Rattle.atl_orders.specs.Mailing.{IsReadWith};
+ghost use Rattle.atl_instant.specs.Fit.{AreFit};
 
 use atl_instant::Month;
 use atl_orders::{Mailing, read_mailing};
@@ -45,7 +47,9 @@ pub(crate) fn world(alloc: Global) -> Result<World, Fail> {
     Ok(read_world(alloc, WORLD)?)
 }
 
-fn mailings_of(alloc: Global, world: &World, texts: &[&str]) -> Result<Vec<Mailing>, Fail> {
+fn mailings_of(alloc: Global, world: &World, texts: &[&str]) -> Result<Vec<Mailing>, Fail>
+    ensures { IfOk result (λ mailings. All (IsReadWith world.now) mailings.items) }
+{
     let mut mailings = Vec::new(alloc);
     for text in texts {
         mailings.push(read_mailing(alloc, world, text.as_bytes())?)?;
@@ -64,7 +68,9 @@ fn factions_of(alloc: Global, mailings: &[Mailing]) -> Result<Vec<u32>, AllocErr
 }
 
 /// A month with these mailings, and two words.
-pub(crate) fn month(alloc: Global, world: &World, texts: &[&str]) -> Result<Month, Fail> {
+pub(crate) fn month(alloc: Global, world: &World, texts: &[&str]) -> Result<Month, Fail>
+    ensures { IfOk result (λ month. AreFit world.now month.readings) }
+{
     let mailings = mailings_of(alloc, world, texts)?;
     let factions = factions_of(alloc, &mailings)?;
     if !are_distinct(alloc, &factions)? {

@@ -9,10 +9,10 @@ use super::tables::{
 use super::worlds::{BARREN, SMALL};
 use std::test::Fail;
 
-const MONTH_ONE: Asked = Asked::Close(1, "gm", &[0]);
+pub(crate) const MONTH_ONE: Asked = Asked::Close(1, "gm", &[0]);
 
 /// The unit works for 12 and needs 10, and each of 1,000 peasants brings 1 to the region.
-const AFTER_WORK: &str = "Atlantis report, month 1, faction 1 \"Avalon\".
+pub(crate) const AFTER_WORK: &str = "Atlantis report, month 1, faction 1 \"Avalon\".
 Orders:
 Unit 1, line 0, WORK: done 12.
 Region 1 \"Vale\", plain: 1000 peasants, 1500 money.
@@ -31,7 +31,7 @@ Exits: none.
 ";
 
 /// The money is 2,502 (500 founded, 1,000 joined, 1,000 of income, 12 of wages, 10 spent on upkeep) and the people are 1,001.
-const AFTER_MONTH_ONE: [(&str, Option<i64>); 12] = [
+pub(crate) const AFTER_MONTH_ONE: [(&str, Option<i64>); 12] = [
     (MONTH, Some(1)),
     (NEXT, Some(200002)),
     (FACTIONS, Some(1)),
@@ -46,10 +46,22 @@ const AFTER_MONTH_ONE: [(&str, Option<i64>); 12] = [
     (MAIL_BYTES, None),
 ];
 
-const CLOSED_ONCE: [Step; 3] = [
+const BOOKS_AFTER_WORK: &str = "money founding 500
+money joining 1000
+money income 1000
+money wages 12
+money upkeep -10
+money total 2502
+people founding 1000
+people joining 1
+people total 1001
+";
+
+const CLOSED_ONCE: [Step; 4] = [
     Step::Told(AVALON, "joined"),
     Step::Closed(MONTH_ONE, 1),
     Step::Told(Asked::Report(1, "pw"), AFTER_WORK),
+    Step::Books(BOOKS_AFTER_WORK),
 ];
 
 const CLOSED_TWICE: [Step; 5] = [

@@ -1,4 +1,5 @@
 //! Joinings, reports, and lists of commands.
+use super::closing::{AFTER_MONTH_ONE, AFTER_WORK, MONTH_ONE};
 use super::compare::{is_count, is_text};
 use super::making::{begun, told};
 use super::script::{Asked, Step, command_of, plays};
@@ -142,33 +143,71 @@ fn are_told(rt: &impl Abort, answers: &[Answer], steps: &[Step]) {
     }
 }
 
-fn runs_all<S: Alter>(rt: &impl Abort, service: &mut Service<S>, commands: &[Command]) {
+fn runs_all<S: Alter>(
+    rt: &impl Abort,
+    service: &mut Service<S>,
+    commands: &[Command],
+    steps: &[Step],
+) {
     match service.run_all(commands) {
-        Ok(answers) => are_told(rt, &answers, &CLUB),
+        Ok(answers) => are_told(rt, &answers, steps),
         Err(_) => assert!(rt; false),
     }
 }
 
-fn at_once<S: Alter + Drop>(
+/// What is run as one list, what is answered, and what the tables hold then.
+struct AtOnce {
+    steps: &'static [Step],
+    after: &'static [(&'static str, Option<i64>)],
+}
+
+fn is_run<S: Alter + Drop>(
     rt: &impl Abort,
     alloc: Global,
     conn: Connection<S>,
     commands: &[Command],
+    list: &AtOnce,
 ) -> Result<(), Fail> {
     let mut service = begun(alloc, conn, SMALL)?;
-    runs_all(rt, &mut service, commands);
-    holds(rt, &mut service.end(), &AFTER_CLUB);
+    runs_all(rt, &mut service, commands, list.steps);
+    holds(rt, &mut service.end(), list.after);
     Ok(())
 }
 
-fn club_at_once(rt: &impl Abort, alloc: Global) -> Result<(), Fail> {
+fn at_once(rt: &impl Abort, alloc: Global, list: &AtOnce) -> Result<(), Fail> {
     let conn = Connection::open_in_memory(alloc)?;
-    let commands = commands_of(alloc, &CLUB)?;
-    at_once(rt, alloc, conn, &commands)
+    let commands = commands_of(alloc, list.steps)?;
+    is_run(rt, alloc, conn, &commands, list)
+}
+
+/// A month is closed; the same commands one by one stand with the closings.
+const A_MONTH: [Step; 4] = [
+    Step::Told(AVALON, "joined"),
+    Step::Told(MONTH_ONE, "month done"),
+    Step::Told(MONTH_ONE, "wrong month"),
+    Step::Told(Asked::Report(1, "pw"), AFTER_WORK),
+];
+
+const LISTS: [AtOnce; 2] = [
+    AtOnce {
+        steps: &CLUB,
+        after: &AFTER_CLUB,
+    },
+    AtOnce {
+        steps: &A_MONTH,
+        after: &AFTER_MONTH_ONE,
+    },
+];
+
+fn are_run(rt: &impl Abort, alloc: Global) -> Result<(), Fail> {
+    for list in LISTS.iter() {
+        at_once(rt, alloc, list)?;
+    }
+    Ok(())
 }
 
 #[test]
 fn a_list_is_run_as_one_by_one(rt: HostRuntime) -> Result<(), Fail> {
     plays(&rt, rt.alloc(), SMALL, &CLUB, &AFTER_CLUB)?;
-    club_at_once(&rt, rt.alloc())
+    are_run(&rt, rt.alloc())
 }

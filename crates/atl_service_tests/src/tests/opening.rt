@@ -1,4 +1,5 @@
 //! A campaign that is opened again, on its connection and from its files, and goes on.
+use super::closing::{AFTER_WORK, MONTH_ONE};
 use super::commands::{AVALON, FIRST_REPORT, SECOND_REPORT};
 use super::compare::is_text;
 use super::files::{connected, new_files, reopened};
@@ -33,6 +34,17 @@ pub(crate) const BOTH_ARE_THERE: [Step; 3] = [
     Step::Numbers(3, 3, 2),
     Step::Told(Asked::Report(1, "pw"), FIRST_REPORT),
     Step::Told(Asked::Report(2, "pb"), SECOND_REPORT),
+];
+
+/// A faction joins, and its first month is closed.
+const A_MONTH: [Step; 2] = [Step::Joined(AVALON, 1, 1), Step::Closed(MONTH_ONE, 1)];
+
+/// The closed month is as it was, and isn't closed again.
+const AFTER_A_MONTH: [Step; 4] = [
+    Step::Month(1),
+    Step::Told(MONTH_ONE, "wrong month"),
+    Step::Told(Asked::Report(1, "pw"), AFTER_WORK),
+    Step::Keeps(None),
 ];
 
 /// All rows of the campaign, written out.
@@ -90,6 +102,25 @@ fn goes_on<S: Alter + Drop>(
     let rows = rows_after(rt, alloc, &mut service, steps);
     let conn = service.end();
     Ok((rows?, conn))
+}
+
+/// Takes the steps, opens the campaign on its connection, and takes the others.
+fn comes_back_once<S: Alter + Drop>(
+    rt: &impl Abort,
+    alloc: Global,
+    conn: Connection<S>,
+    steps: &[Step],
+    others: &[Step],
+) -> Result<(), Fail> {
+    let (rows, conn) = begins(rt, alloc, conn, steps)?;
+    goes_on(rt, alloc, conn, rows.as_str(), others)?;
+    Ok(())
+}
+
+#[test]
+fn a_closed_month_is_opened_again(rt: HostRuntime) -> Result<(), Fail> {
+    let conn = Connection::open_in_memory(rt.alloc())?;
+    comes_back_once(&rt, rt.alloc(), conn, &A_MONTH, &AFTER_A_MONTH)
 }
 
 /// Opens a campaign twice on its connection, where no other is founded then.

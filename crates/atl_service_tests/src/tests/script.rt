@@ -1,5 +1,5 @@
 //! A test as a table of steps: what is asked of a service, and what is wanted of it.
-use super::compare::{is_count, is_number};
+use super::compare::{is_count, is_number, is_text};
 use super::making::{begun, close, join, long_mail, mail, report, tells};
 use super::tables::holds;
 use atl_service::{Answer, Command, Service};
@@ -40,6 +40,8 @@ pub(crate) enum Step {
     Numbers(u32, u32, usize),
     /// What the campaign keeps of the first faction's mail.
     Keeps(Option<&'static str>),
+    /// The text of the books.
+    Books(&'static str),
 }
 
 pub(crate) fn command_of(alloc: Global, asked: &Asked) -> Result<Command, Fail> {
@@ -196,6 +198,14 @@ fn keeps<S: Alter>(rt: &impl Abort, service: &Service<S>, text: &Option<&str>) {
     }
 }
 
+fn has_books<S: Alter>(rt: &impl Abort, service: &Service<S>, wanted: &str) -> Result<(), Fail> {
+    match service.books() {
+        Some(text) => is_text(rt, text?.as_str(), wanted),
+        None => assert!(rt; false),
+    }
+    Ok(())
+}
+
 fn take<S: Alter>(
     rt: &impl Abort,
     alloc: Global,
@@ -214,6 +224,7 @@ fn take<S: Alter>(
         Step::Month(month) => has_month(rt, service, *month),
         Step::Numbers(faction, unit, units) => has_numbers(rt, service, *faction, *unit, *units),
         Step::Keeps(text) => keeps(rt, service, text),
+        Step::Books(wanted) => return has_books(rt, service, wanted),
     }
     Ok(())
 }

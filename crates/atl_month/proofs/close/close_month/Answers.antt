@@ -1,20 +1,20 @@
-use Rattle.std.proofs.Common.{rules, ◌≡◌, ℕ, map, subst}
+use Rattle.std.proofs.Common.{rules, ◌≡◌, map, subst}
 use Rattle.std.proofs.lemmas.List.Elements.{recursion_from_All}
 use Rattle.atl_orders.specs.Mailing.{IsReadWith, reading_of}
 use Rattle.atl_instant.specs.Fit.{AreFit}
 use Rattle.atl_instant.specs.Course.{Course, by_faction}
-use Rattle.atl_month.specs.Month.{begun, phases_keep, phases_move}
+use Rattle.atl_month.specs.Month.{begun, month_phases}
 use Rattle.atl_month.proofs.MonthLaws.{finished_good, read_fit}
 use Rattle.atl_month.proofs.MoveLaws.{phases_little}
 use Rattle.atl_month.proofs.close.close_month.Goals as goal
 
 pub returns-clause-good : goal.returns-clause-good
-returns-clause-good c = finished_good c.args.world.now c.args.campaign.what c.in_ok-campaign.campaign.what phases_move phases_little c.requires.month c.in_ok-campaign.ensures.leaves c.requires.good
+returns-clause-good c = finished_good c.args.world.now c.args.campaign.what c.in_ok-campaign.campaign.what month_phases.moving phases_little c.requires.month c.in_ok-campaign.ensures.leaves c.requires.good
 
 pub returns-clause-keeps : goal.returns-clause-keeps
 returns-clause-keeps c =
     let is : c.new-month.result ≡ begun (by_faction (map reading_of c.args.mailings.items)) c.args.words.now = search rules in
-    subst (λ (m : Course). phases_keep c.args.world.now m c.args.campaign.what c.in_ok-campaign.campaign.what) is c.in_ok-campaign.ensures.keeps
+    subst (λ (m : Course). month_phases.keeps c.args.world.now m c.args.campaign.what c.in_ok-campaign.campaign.what) is c.in_ok-campaign.ensures.keeps
 
 pub run_phases-requires-clause-read : goal.run_phases-requires-clause-read
 run_phases-requires-clause-read c =

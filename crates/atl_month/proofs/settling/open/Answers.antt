@@ -1,8 +1,8 @@
-use Rattle.std.proofs.Common.{rules, ◌≡◌, ◌+◌, ◌≤◌, ◌∷◌, [], ◌++◌, get_or, sym, ap, subst, take, arith}
+use Rattle.std.proofs.Common.{rules, ◌≡◌, ◌+◌, ◌≤◌, ◌∷◌, [], ◌++◌, get_or, take}
 use Rattle.std.proofs.lemmas.List.{take_more}
 use Rattle.atl_month.specs.declared.accounts.Account.{Account}
 use Rattle.atl_month.specs.declared.settling.Purse.{Purse}
-use Rattle.atl_month.specs.Accounts.{account_at, account_of, counted, with_account}
+use Rattle.atl_month.specs.Accounts.{account_at, counted, with_account}
 use Rattle.atl_month.specs.Settling.{left_of, short_of}
 use Rattle.atl_month.proofs.SettlingLaws.{few_more, no_accounts, none_few, opened_more}
 use Rattle.atl_month.proofs.settling.open.Goals as goal

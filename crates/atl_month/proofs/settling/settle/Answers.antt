@@ -1,9 +1,9 @@
-use Rattle.std.proofs.Common.{rules, ◌≡◌, ◌+◌, ◌∷◌, [], ◌++◌, get_or, sym, ap, ◌∙◌, take, drop, arith}
+use Rattle.std.proofs.Common.{rules, ◌≡◌, ◌+◌, ◌∷◌, [], ◌++◌, get_or, sym, ap, ◌∙◌, take, drop}
 use Rattle.std.proofs.lemmas.List.{append_assoc, drop_more, take_more}
 use Rattle.atl_month.specs.declared.settling.Purse.{Purse}
-use Rattle.atl_month.specs.Accounts.{account_at, account_behind, account_of, with_account}
+use Rattle.atl_month.specs.Accounts.{account_at, account_behind, with_account}
 use Rattle.atl_month.specs.Settling.{settled_behind, settled_one}
-use Rattle.atl_month.proofs.SettlingLaws.{account_open, settled_is, settled_more}
+use Rattle.atl_month.proofs.SettlingLaws.{settled_is, settled_more}
 use Rattle.atl_month.proofs.settling.settle.Goals as goal
 
 pub loop-purse-preserved : goal.loop-purse-preserved

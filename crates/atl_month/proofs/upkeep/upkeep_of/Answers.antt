@@ -1,12 +1,9 @@
-use Rattle.std.proofs.Common.{◌≡◌, ◌≤◌, ap, sym, ◌∙◌, length, min, Some, arith}
+use Rattle.std.proofs.Common.{◌≡◌, ◌≤◌, ap, sym, ◌∙◌, min, arith}
 use Rattle.std.specs.Prelude.{neg_ℤ, pos}
-use Rattle.std.specs.FinMap.{get}
 use Rattle.atl_tables.specs.Limits.{most_amount}
 use Rattle.atl_state.specs.declared.books.Entry.TheVariants.{Starved, Upkeep}
 use Rattle.atl_state.specs.declared.books.Thing.TheVariants.{Money, People}
-use Rattle.atl_state.specs.Books.{IsGrid, with_booked}
-use Rattle.atl_state.specs.Lending.{with_held}
-use Rattle.atl_state.specs.State.{State, with_amount}
+use Rattle.atl_state.specs.State.{State}
 use Rattle.atl_instant.specs.Meaning.{moves_only}
 use Rattle.atl_instant.proofs.BookingLaws.{booked-room, within-neg}
 use Rattle.atl_month.specs.Upkeep.{men_starved, money_paid, supplied}

@@ -1,9 +1,8 @@
 use Rattle.std.proofs.Common.{◌≡◌, ◌++◌, drop}
-use Rattle.std.specs.Prelude.{option_map}
 use Rattle.std.specs.FinMap.{get}
 use Rattle.std.specs.List.{filter_map}
-use Rattle.atl_report.specs.Sight.{unit_view, unit_views}
+use Rattle.atl_report.specs.Sight.{seen_unit, unit_views}
 use Rattle.atl_report.proofs.sight.unit_views.Given as goal
 
 abbrev pub invariant-loop-number : goal.invariant-loop-number
-invariant-loop-number l = l.units ++ filter_map (λ n. option_map (unit_view l.campaign.what l.faction n) (get l.campaign.what.units n)) (drop l.number-index l.number-items) ≡ unit_views l.campaign.what l.faction l.region
+invariant-loop-number l = l.units ++ filter_map (λ n. seen_unit l.world l.campaign.what l.watch n (get l.campaign.what.units n)) (drop l.number-index l.number-items) ≡ unit_views l.world l.campaign.what l.watch

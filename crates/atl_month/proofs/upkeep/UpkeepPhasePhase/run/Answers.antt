@@ -1,4 +1,4 @@
-use Rattle.std.proofs.Common.{rules, ◌≡◌, length, ap, sym, ◌∙◌}
+use Rattle.std.proofs.Common.{rules, ◌≡◌, length}
 use Rattle.atl_tables.specs.Limits.{most_amount}
 use Rattle.atl_instant.specs.Meaning.{most_moved, moved_times}
 use Rattle.atl_instant.proofs.MeaningLaws.{room_less}

@@ -9,6 +9,7 @@ loop-command-preserved g c =
     record {
       whole = λ rs new h. rw items (one_more g.S.Store _ _ _ _ _ c.loop-command.command-index _ _ _ _ c.loop-command-test.true c.command-item.is c.loop-command.invariant.whole c.run-answer.ensures.runs c.run-answer.ensures.later.clean c.run-answer.ensures.later.counts h);
       tables = c.run-answer.ensures.tables;
+      balances = c.run-answer.ensures.balances;
       count = c.push.ensures.len ∙ ap (λ b. cond b (vec_len c.loop-command.answers + 1) (vec_len c.loop-command.answers)) fits ∙ ap (λ n. n + 1) c.loop-command.invariant.count;
       room = omega (arith, c.push.ensures.capacity, c.loop-command.invariant.room);
     }
@@ -18,3 +19,6 @@ returns-clause-runs g c = all_done g.S.Store _ _ _ c.loop-command.command-index 
 
 pub returns-clause-headline : goal.returns-clause-headline
 returns-clause-headline g c = headline g.S.Store _ _ _ _ (all_done g.S.Store _ _ _ c.loop-command.command-index _ c.loop-command-test.false c.loop-command.invariant.whole c.loop-command.invariant.tables)
+
+pub returns-clause-balances : goal.returns-clause-balances
+returns-clause-balances g c = c.loop-command.invariant.balances

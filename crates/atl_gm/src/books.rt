@@ -1,0 +1,44 @@
+//! The books of the campaign of a file.
+use crate::database::{Opening, Work, work_on};
+use crate::failure::Failure;
+use crate::options;
+use crate::subcommand::Subcommand;
+use crate::told::printed;
+use atl_service::Service;
+use clap::{Arg, ArgMatches};
+use sqlite::Alter;
+use std::alloc::{AllocError, Global};
+
+/// Asks for the text of the books. A service that is closed has none, as after a failure of the database.
+struct Asking;
+
+impl Work for Asking {
+    type Done = String;
+
+    fn run<S: Alter>(&self, service: &mut Service<S>) -> Result<String, Failure> {
+        match service.books() {
+            Some(text) => Ok(text?),
+            None => Err(Failure::Store),
+        }
+    }
+}
+
+/// Prints the books of a campaign.
+pub struct Books;
+
+impl Subcommand for Books {
+    const NAME: &'static str = "books";
+
+    const ABOUT: &'static str =
+        "Prints the books: of each thing all entries, and how much there is";
+
+    fn options<'a>(alloc: Global) -> Result<Vec<Arg<'a>>, AllocError> {
+        Ok(vec![in alloc; options::file(alloc, "db")]?)
+    }
+
+    fn run(rt: &HostRuntime, options: &ArgMatches<'_>) -> Result<(), Failure> {
+        let path = options::text_of(options, "db")?;
+        let text = work_on(rt, path, Opening::Kept, &Asking)?;
+        printed(rt.print(text.as_str()))
+    }
+}

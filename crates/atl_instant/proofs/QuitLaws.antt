@@ -1,0 +1,437 @@
+-- QUIT leaves a campaign well.
+use Rattle.std.proofs.Common.{◌≡◌, ◌≢◌, ◌==◌, ℕ, ◌+◌, ◌*◌, ◌≤◌, ◌<◌, not, Bool, true, false, cond, List, [], ◌∷◌, length, Option, Some, None, sum_by, refl, sym, ap, subst, ◌∙◌, inl, inr, arith}
+use Rattle.std.specs.Prelude.{ℤ, pos, neg_ℤ, ◌+ℤ◌, fold, unwrap_or, if◌then◌else◌}
+use Rattle.std.proofs.lemmas.Int.{ints}
+use Rattle.std.proofs.lemmas.Bool.Decides.{nat_tests}
+use Rattle.std.proofs.lemmas.Bool.{and_parts}
+use Rattle.std.proofs.lemmas.List.Sums.{sum_by-cons}
+use Rattle.std.proofs.Math.Nat.{suc-mul}
+use Rattle.std.specs.declared.cmp.Ordering.TheVariants.{Less, Equal, Greater}
+use Rattle.std.specs.Ordering.{nat_cmp, is_eq}
+use Rattle.std.specs.Cmp.{ranked}
+use Rattle.std.specs.FinMap.{FinMap, entries, find, get, get-entries, is_sorted, len, len-entries, nat_cmp-IsAntisymmetric, remove}
+use Rattle.atl_tables.specs.Planet.{Planet}
+use Rattle.atl_tables.specs.Sums.{sum_over}
+use Rattle.atl_orders.specs.declared.order.Order.TheVariants as orders
+use Rattle.atl_orders.specs.Orders.{Said}
+use Rattle.atl_state.specs.Books.{IsGrid, amount_in, booked, entry_place, thing_place}
+use Rattle.atl_state.specs.Covers.{MarksChanges}
+use Rattle.atl_state.specs.Marking.{mark_amount}
+use Rattle.atl_state.specs.declared.books.Entry.{Entry}
+use Rattle.atl_state.specs.declared.books.Entry.TheVariants.{Left, Lost}
+use Rattle.atl_state.specs.declared.books.Thing.{Thing}
+use Rattle.atl_state.specs.declared.books.Thing.TheVariants.{Item, Money, People}
+use Rattle.atl_state.specs.declared.event.EventFault.{EventFault}
+use Rattle.atl_state.specs.declared.event.EventFault.TheVariants.{WrongNumber}
+use Rattle.atl_state.specs.declared.event.Outcome.TheVariants.{Done}
+use Rattle.atl_state.specs.declared.records.Faction.{Faction}
+use Rattle.atl_state.specs.declared.records.Unit.{Unit}
+use Rattle.atl_state.specs.Deciding.{EachOf}
+use Rattle.atl_state.specs.Founding.{things_of}
+use Rattle.atl_state.specs.Good.{Every, IsSteady, IsThere}
+use Rattle.atl_state.specs.Held.{Held, IsHolding}
+use Rattle.atl_state.specs.Limits.{entry_count, holding_limit, most_units}
+use Rattle.atl_state.specs.Marks.{amount_number}
+use Rattle.atl_state.specs.Owners.{without_unit}
+use Rattle.atl_state.specs.State.{Marked, State, numbers_of}
+use Rattle.atl_state.specs.Totals.{Balances, held, total}
+use Rattle.atl_state.proofs.BookLaws.{IsGrid-with_booked, booked-with_booked, entry_small}
+use Rattle.atl_state.proofs.CoverLaws.{marks-amount}
+use Rattle.atl_state.proofs.ListLaws.{same_number}
+use Rattle.atl_state.proofs.EveryLaws.{each-from_every, not_below, sorted}
+use Rattle.atl_state.proofs.LeavingLaws.{only_reduced, steady-without, total-without}
+use Rattle.atl_state.proofs.RegionLaws.{steady-amount}
+use Rattle.atl_state.proofs.RemovedLaws.{IsListed, get-remove_other, listed_passing, sum_over-remove}
+use Rattle.atl_instant.specs.Meaning.{HasRoom, HaveRoom, IsNear, Moving, both_move, most_moved, moves_only}
+use Rattle.atl_instant.specs.Outcomes.{unless}
+use Rattle.atl_instant.specs.Course.{Aliases}
+use Rattle.atl_instant.specs.PhaseOrders.{Task}
+use Rattle.atl_instant.specs.Quit.{booked_off, gone_under, item_gone, items_move, leaves, left_at, left_by, quit, quit_by, quit_concerns, quit_fault, quit_moves, quit_reserve, quit_said, quit_step, with_gone_amount}
+use Rattle.atl_instant.specs.Staying.{IsNoWorse}
+use Rattle.atl_instant.specs.Steps.{IsDrawn, IsOrderly, IsSpared, StepsWell, is_of_faction, is_own}
+use Rattle.atl_instant.proofs.AmountsLaws.{amount_within}
+use Rattle.atl_instant.proofs.BookingLaws.{booked-near, booked-room, within-neg}
+use Rattle.atl_instant.proofs.MeaningLaws.{near_more, near_same, near_twice, room_less}
+use Rattle.atl_instant.proofs.OutcomeLaws.{none_fits, not_apart}
+use Rattle.atl_instant.proofs.StayingLaws.{no_worse}
+use Rattle.atl_instant.proofs.StepLaws.{no_worse_spares, well_same, well_twice}
+
+-- ---- things and entries
+
+-- how much of a thing an amount of another is
+abbrev part_of : Thing → Thing → ℕ → ℕ
+part_of s t amount = cond (thing_place s == thing_place t) amount 0
+
+-- an amount that may be booked under an entry, as a thing that goes
+abbrev under : Entry → Thing → ℕ → ℕ
+under e t n = if entry_place e == entry_place (gone_under t) then n else 0
+
+same_thing : (s t : Thing) → thing_place s ≡ thing_place t → s ≡ t
+same_thing Money Money e = refl
+same_thing Money People e = absurd (omega (arith, e))
+same_thing Money (Item j) e = absurd (omega (arith, e))
+same_thing People Money e = absurd (omega (arith, e))
+same_thing People People e = refl
+same_thing People (Item j) e = absurd (omega (arith, e))
+same_thing (Item i) Money e = absurd (omega (arith, e))
+same_thing (Item i) People e = absurd (omega (arith, e))
+same_thing (Item i) (Item j) e = let same : i ≡ j = omega (arith, e) in ap Item same
+
+one_moves : (amount : ℕ) (t : Thing) (e : Entry) (s : Thing) → moves_only amount (gone_under t) t e s ≤ under e s (part_of s t amount)
+one_moves amount t e s = by_number (amount_number e s == amount_number (gone_under t) t) refl
+  where
+    at_place : (b d : Bool) → b ≡ true → d ≡ true → amount ≤ cond b (cond d amount 0) 0
+    at_place true true f g = omega arith
+    at_place true false f g = cc
+    at_place false d f g = cc
+
+    by_number : (b : Bool) → (amount_number e s == amount_number (gone_under t) t) ≡ b → (if b then amount else 0) ≤ under e s (part_of s t amount)
+    by_number true is =
+        let same : entry_count * thing_place s + entry_place e ≡ entry_count * thing_place t + entry_place (gone_under t) = grind (arith, nat_tests) in
+        let small = entry_small e in
+        let small_gone = entry_small (gone_under t) in
+        let thing : thing_place s ≡ thing_place t = omega arith in
+        let goes : entry_place (gone_under s) ≡ entry_place (gone_under t) = ap (λ x. entry_place (gone_under x)) (same_thing s t thing) in
+        let entry : entry_place e ≡ entry_place (gone_under s) = omega arith in
+        at_place (entry_place e == entry_place (gone_under s)) (thing_place s == thing_place t) (let f : (entry_place e == entry_place (gone_under s)) ≡ true = grind (arith, nat_tests) in f) (let g : (thing_place s == thing_place t) ≡ true = grind (arith, nat_tests) in g)
+    by_number false is = omega arith
+
+under_sum : (e : Entry) (s : Thing) (x y m n : ℕ) → x ≤ under e s m → y ≤ under e s n → x + y ≤ under e s (m + n)
+under_sum e s x y m n = by_test (entry_place e == entry_place (gone_under s))
+  where
+    by_test : (b : Bool) → x ≤ (if b then m else 0) → y ≤ (if b then n else 0) → x + y ≤ (if b then m + n else 0)
+    by_test true k l = omega arith
+    by_test false k l = omega arith
+
+-- ---- what is booked of some items
+
+abbrev owing_items : List (ℕ × ℕ) → Thing → ℕ
+owing_items [] s = 0
+owing_items (e ∷ es) s = part_of s (Item e.0) e.1 + owing_items es s
+
+items_within : (es : List (ℕ × ℕ)) (e : Entry) (s : Thing) → items_move es e s ≤ under e s (owing_items es s)
+items_within [] e s = omega arith
+items_within (x ∷ xs) e s = under_sum e s (moves_only x.1 Lost (Item x.0) e s) (items_move xs e s) (part_of s (Item x.0) x.1) (owing_items xs s) (one_moves x.1 (Item x.0) e s) (items_within xs e s)
+
+nothing_more : (b : Bool) (x y : ℕ) → b ≡ false → cond b x 0 + y ≡ y
+nothing_more true x y e = cc
+nothing_more false x y e = omega arith
+
+no_money : (es : List (ℕ × ℕ)) → owing_items es Money ≡ 0
+no_money [] = refl
+no_money (e ∷ es) = nothing_more (0 == 2 + e.0) e.1 (owing_items es Money) (let apart : (0 == 2 + e.0) ≡ false = grind (arith, nat_tests) in apart) ∙ no_money es
+
+no_people : (es : List (ℕ × ℕ)) → owing_items es People ≡ 0
+no_people [] = refl
+no_people (e ∷ es) = nothing_more (1 == 2 + e.0) e.1 (owing_items es People) (let apart : (1 == 2 + e.0) ≡ false = grind (arith, nat_tests) in apart) ∙ no_people es
+
+of_item : (j : ℕ) (es : List (ℕ × ℕ)) → is_sorted nat_cmp es ≡ true → owing_items es (Item j) ≡ unwrap_or (find nat_cmp j es) 0
+of_item j [] s = refl
+of_item j (e ∷ es) s =
+    let rest = of_item j es (and_parts _ _ s).1 in
+    elim (nat_cmp j e.0) as (λ o. nat_cmp j e.0 ≡ o → cond (2 + j == 2 + e.0) e.1 0 + owing_items es (Item j) ≡ unwrap_or (cond (is_eq o) (Some e.1) (find nat_cmp j es)) 0) [
+      | Less ↦ λ o. let l = ranked j e.0 Less (sym o) in nothing_more (2 + j == 2 + e.0) e.1 (owing_items es (Item j)) (let t : (2 + j == 2 + e.0) ≡ false = grind (arith, nat_tests) in t) ∙ rest
+      | Equal ↦ λ o.
+          let same : j ≡ e.0 = nat_cmp-IsAntisymmetric j e.0 o in
+          here (2 + j == 2 + e.0) e.1 (owing_items es (Item j)) (let t : (2 + j == 2 + e.0) ≡ true = grind (arith, nat_tests) in t)
+          (rest ∙ ap (λ k. unwrap_or (find nat_cmp k es) 0) same ∙ ap (λ (p : Option ℕ). unwrap_or p 0) (not_below e.0 es (and_parts _ _ s).0))
+      | Greater ↦ λ o. let l = ranked j e.0 Greater (sym o) in nothing_more (2 + j == 2 + e.0) e.1 (owing_items es (Item j)) (let t : (2 + j == 2 + e.0) ≡ false = grind (arith, nat_tests) in t) ∙ rest
+    ] refl
+  where
+    here : (b : Bool) (x y : ℕ) → b ≡ true → y ≡ 0 → cond b x 0 + y ≡ x
+    here true x y t none = omega (arith, none)
+    here false x y t none = cc
+
+-- ---- what is booked of all that is held
+
+abbrev owing : Held → Thing → ℕ
+owing h s = part_of s People h.men + (part_of s Money h.money + owing_items (entries h.items) s)
+
+abbrev pub held_moves : Held → Moving
+held_moves h = both_move (moves_only h.men Left People) (both_move (moves_only h.money Lost Money) (items_move (entries h.items)))
+
+all_owed : (h : Held) (s : Thing) → owing h s ≡ held s h
+all_owed h Money = sum h.money (owing_items (entries h.items) Money) (no_money (entries h.items))
+  where
+    sum : (m n : ℕ) → n ≡ 0 → 0 + (m + n) ≡ m
+    sum m n e = omega (arith, e)
+all_owed h People = sum h.men (owing_items (entries h.items) People) (no_people (entries h.items))
+  where
+    sum : (m n : ℕ) → n ≡ 0 → m + (0 + n) ≡ m
+    sum m n e = omega (arith, e)
+all_owed h (Item j) =
+    sum (2 + j == 1) (2 + j == 0) h.men h.money (owing_items (entries h.items) (Item j)) (let t : (2 + j == 1) ≡ false = grind (arith, nat_tests) in t) (let t : (2 + j == 0) ≡ false = grind (arith, nat_tests) in t)
+    ∙ of_item j (entries h.items) (sorted h.items) ∙ ap (λ (o : Option ℕ). unwrap_or o 0) (sym (get-entries h.items j))
+  where
+    sum : (b d : Bool) (m n k : ℕ) → b ≡ false → d ≡ false → cond b m 0 + (cond d n 0 + k) ≡ k
+    sum false false m n k e f = omega arith
+    sum true d m n k e f = cc
+    sum false true m n k e f = cc
+
+pub moves_what_leaves : (h : Held) (e : Entry) (s : Thing) → held_moves h e s ≤ leaves e s h
+moves_what_leaves h e s =
+    subst (λ n. held_moves h e s ≤ under e s n) (all_owed h s)
+    (under_sum e s (moves_only h.men Left People e s) (moves_only h.money Lost Money e s + items_move (entries h.items) e s) (part_of s People h.men) (part_of s Money h.money + owing_items (entries h.items) s) (one_moves h.men People e s)
+    (under_sum e s (moves_only h.money Lost Money e s) (items_move (entries h.items) e s) (part_of s Money h.money) (owing_items (entries h.items) s) (one_moves h.money Money e s) (items_within (entries h.items) e s)))
+
+-- ---- a campaign in which so much is booked as gone
+
+pub record BooksOff (w : Planet) (off : Thing → ℕ) (moving : Moving) (c d : State) : Type 0 where
+  pub steady : IsSteady w d
+  pub owed : (s : Thing) → booked c.books s ≡ booked d.books s +ℤ pos (off s)
+  pub near : (e : Entry) (s : Thing) → IsNear (moving e s) (amount_in c.books e s) (amount_in d.books e s)
+  pub same : d ≡ record c { books = d.books }
+
+off_twice : {o p : Thing → ℕ} {i j : Moving} (w : Planet) (a b c : State) → BooksOff w o i a b → BooksOff w p j b c → BooksOff w (λ s. o s + p s) (both_move i j) a c
+off_twice {o} {p} {i} {j} w a b c one two = record {
+  steady = two.steady;
+  owed = λ s. grouped (booked a.books s) (booked b.books s) (booked c.books s) (o s) (p s) (one.owed s) (two.owed s);
+  near = λ e s. near_twice (i e s) (j e s) (amount_in a.books e s) (amount_in b.books e s) (amount_in c.books e s) (one.near e s) (two.near e s);
+  same = two.same ∙ ap (λ (s : State). record s { books = c.books }) one.same;
+}
+  where
+    grouped : (x y z : ℤ) (m n : ℕ) → x ≡ y +ℤ pos m → y ≡ z +ℤ pos n → x ≡ z +ℤ pos (m + n)
+    grouped x y z m n e f = omega (arith, ints, e, f)
+
+pub off_one : (w : Planet) (c : State) (t : Thing) (amount : ℕ) → thing_place t < things_of w → IsSteady w c → BooksOff w (λ s. part_of s t amount) (moves_only amount (gone_under t) t) c (with_gone_amount c t amount)
+off_one w c t amount inside steady = record {
+  steady = steady-amount w c (gone_under t) t (neg_ℤ (pos amount)) steady;
+  owed = λ s.
+      less (booked c.books s) (thing_place s == thing_place t) amount
+      ∙ ap (λ z. z +ℤ pos (part_of s t amount)) (sym (booked-with_booked (things_of w) c.books (gone_under t) t (neg_ℤ (pos amount)) steady.numbers.books inside s));
+  near = booked-near (things_of w) c.books (gone_under t) t (neg_ℤ (pos amount)) amount steady.numbers.books inside (within-neg amount amount (omega arith));
+  same = refl;
+}
+  where
+    less : (z : ℤ) (b : Bool) (a : ℕ) → z ≡ (z +ℤ cond b (neg_ℤ (pos a)) (pos 0)) +ℤ pos (cond b a 0)
+    less z true a = omega (arith, ints)
+    less z false a = omega (arith, ints)
+
+off_items : (w : Planet) (c : State) (es : List (ℕ × ℕ)) → EachOf (λ i a. i < length w.items) es → IsSteady w c → BooksOff w (owing_items es) (items_move es) c (fold item_gone c es)
+off_items w c [] known steady = record {
+  steady = steady;
+  owed = λ s. plain (booked c.books s);
+  near = λ e s. near_same 0 (amount_in c.books e s);
+  same = refl;
+}
+  where
+    plain : (z : ℤ) → z ≡ z +ℤ pos 0
+    plain z = omega (arith, ints)
+off_items w c ((i, a) ∷ es) known steady =
+    let one = off_one w c (Item i) a (omega (arith, known.0)) steady in
+    off_twice w c (item_gone c (i, a)) (fold item_gone (item_gone c (i, a)) es) one (off_items w (item_gone c (i, a)) es known.1 one.steady)
+
+pub off_all : (w : Planet) (c : State) (h : Held) → Every (λ i a. i < length w.items) h.items → IsSteady w c → BooksOff w (owing h) (held_moves h) c (booked_off c h)
+off_all w c h known steady =
+    let men = with_gone_amount c People h.men in
+    let money = with_gone_amount men Money h.money in
+    let one = off_one w c People h.men (omega arith) steady in
+    let two = off_one w men Money h.money (omega arith) one.steady in
+    let three = off_items w money (entries h.items) (each-from_every (λ i a. i < length w.items) h.items known) two.steady in
+    off_twice w c men (booked_off c h) one (off_twice w men money (booked_off c h) two three)
+
+-- ---- what the code books, and marks
+
+pub gone_grid : (things : ℕ) (c : State) (t : Thing) (amount : ℕ) → IsGrid things c.books → IsGrid things (with_gone_amount c t amount).books
+gone_grid things c t amount grid = IsGrid-with_booked things c.books (gone_under t) t (neg_ℤ (pos amount)) grid
+
+pub gone_marks : (things : ℕ) (c d : Marked) (t : Thing) (amount : ℕ) → IsGrid things c.what.books → thing_place t < things → d.what ≡ with_gone_amount c.what t amount → d.marks ≡ mark_amount c (gone_under t) t → MarksChanges c d
+gone_marks things c d t amount grid inside what marks =
+    let all = marks-amount things c (gone_under t) t (neg_ℤ (pos amount)) grid inside in
+    rw (what, marks) (record { stay = all.stay; covers = all.covers })
+
+pub first_room : (t : Thing) (amount : ℕ) (next : Moving) (c : State) → HaveRoom (both_move (moves_only amount (gone_under t) t) next) c → HasRoom amount (amount_in c.books (gone_under t) t)
+first_room t amount next c room =
+    less amount (moves_only amount (gone_under t) t (gone_under t) t + next (gone_under t) t) (amount_in c.books (gone_under t) t)
+    (at_least (amount_number (gone_under t) t == amount_number (gone_under t) t) (next (gone_under t) t) (same_number (amount_number (gone_under t) t))) (room (gone_under t) t)
+  where
+    less : (j k : ℕ) (a : ℤ) → j ≤ k → HasRoom k a → HasRoom j a
+    less j k a l r = record { above = omega (arith, ints, r.above); below = omega (arith, ints, r.below) }
+
+    at_least : (b : Bool) (m : ℕ) → b ≡ true → amount ≤ (if b then amount else 0) + m
+    at_least true m t = omega arith
+    at_least false m t = cc
+
+pub rest_room : (things : ℕ) (t : Thing) (amount : ℕ) (next : Moving) (c : State) → IsGrid things c.books → thing_place t < things → HaveRoom (both_move (moves_only amount (gone_under t) t) next) c → HaveRoom next (with_gone_amount c t amount)
+rest_room things t amount next c grid inside room = booked-room things c.books (gone_under t) t (neg_ℤ (pos amount)) amount grid inside (within-neg amount amount (omega arith)) next room
+
+-- there is room for what a unit has
+pub held_room : (c : State) (n : ℕ) (u : Unit) → get c.units n ≡ Some u → HaveRoom (quit_reserve c) c → HaveRoom (held_moves u.holding) c
+held_room c n u is room = room_less (held_moves u.holding) (quit_reserve c) c (λ e t. within (held_moves u.holding e t) (leaves e t u.holding) (sum_over (λ (x : Unit). leaves e t x.holding) (remove c.units n)) (quit_reserve c e t) (moves_what_leaves u.holding e t) (sum_over-remove c.units n (λ (x : Unit). leaves e t x.holding) u is)) room
+  where
+    within : (a b s r : ℕ) → a ≤ b → s + b ≡ r → a ≤ r
+    within a b s r l e = omega (arith, l, e)
+
+-- ---- a unit that leaves
+
+total_books : (c : State) (books : List (List ℤ)) (t : Thing) → total (record c { books = books }) t ≡ total c t
+unfolding total
+total_books c books t = refl
+
+drawn_near : (x reserve left : ℕ) (a b : ℤ) → left + x ≡ reserve → IsNear x a b → IsDrawn reserve left a b
+drawn_near x reserve left a b e near = record { above = omega (arith, ints, e, near.above); below = omega (arith, ints, e, near.below) }
+
+module _ (w : Planet) (c : State) (n : ℕ) (u : Unit) (is : get c.units n ≡ Some u) (steady : IsSteady w c) where
+  abbrev off : State
+  off = booked_off c u.holding
+
+  abbrev behind : State
+  behind = without_unit off n
+
+  off_is : BooksOff w (owing u.holding) (held_moves u.holding) c off
+  off_is = off_all w c u.holding (steady.known.units n u is).items steady
+
+  there : get off.units n ≡ Some u
+  there = ap (λ (s : State). get s.units n) off_is.same ∙ is
+
+  pub units_behind : behind.units ≡ remove c.units n
+  units_behind = (only_reduced w off n u there).units ∙ ap (λ (s : State). remove s.units n) off_is.same
+
+  balanced : Balances c → Balances behind
+  balanced old t =
+      let only = only_reduced w off n u there in
+      let totals : total off t ≡ total c t = ap (λ s. total s t) off_is.same ∙ total_books c off.books t in
+      rest (total behind t) (held t u.holding) (total off t) (total c t) (owing u.holding t) (booked c.books t) (booked off.books t) (total-without w off n u there t) totals (all_owed u.holding t) (old t) (off_is.owed t)
+      ∙ ap (λ (books : List (List ℤ)). booked books t) (sym only.books)
+    where
+      rest : (a h b d o : ℕ) (z y : ℤ) → a + h ≡ b → b ≡ d → o ≡ h → pos d ≡ z → z ≡ y +ℤ pos o → pos a ≡ y
+      rest a h b d o z y e f g k l = omega (arith, ints, e, f, g, k, l)
+
+  drawn : (e : Entry) (t : Thing) → IsDrawn (quit_reserve c e t) (quit_reserve behind e t) (amount_in c.books e t) (amount_in behind.books e t)
+  drawn e t =
+      let only = only_reduced w off n u there in
+      let reserves : quit_reserve behind e t + leaves e t u.holding ≡ quit_reserve c e t =
+      ap (λ (m : FinMap nat_cmp Unit). sum_over (λ (x : Unit). leaves e t x.holding) m + leaves e t u.holding) units_behind ∙ sum_over-remove c.units n (λ (x : Unit). leaves e t x.holding) u is in
+      subst (λ (books : List (List ℤ)). IsDrawn (quit_reserve c e t) (quit_reserve behind e t) (amount_in c.books e t) (amount_in books e t)) (sym only.books)
+      (drawn_near (leaves e t u.holding) (quit_reserve c e t) (quit_reserve behind e t) (amount_in c.books e t) (amount_in off.books e t) reserves
+      (near_more (held_moves u.holding e t) (leaves e t u.holding) (amount_in c.books e t) (amount_in off.books e t) (moves_what_leaves u.holding e t) (off_is.near e t)))
+
+  leaving_well : StepsWell IsSteady quit_reserve w c behind
+  leaving_well =
+      let only = only_reduced w off n u there in
+      record {
+        holds_still = steady-without w off n u there off_is.steady;
+        same_month = record {
+          month = only.month ∙ ap (λ (s : State). s.month) off_is.same;
+          reports = only.reports ∙ ap (λ (s : State). s.reports) off_is.same;
+          count = ap len only.factions ∙ ap (λ (s : State). len s.factions) off_is.same;
+          factions = λ k h. subst (λ (m : FinMap nat_cmp Faction). IsThere m k) (only.factions ∙ ap (λ (s : State). s.factions) off_is.same) h;
+        };
+        balances = balanced;
+        drawn = drawn;
+      }
+
+pub left_well : (w : Planet) (c : State) (n : ℕ) → IsSteady w c → StepsWell IsSteady quit_reserve w c (left_at c n)
+unfolding left_at
+left_well w c n steady = by_unit (get c.units n) refl
+  where
+    by_unit : (o : Option Unit) → get c.units n ≡ o → StepsWell IsSteady quit_reserve w c (left_by c n o)
+    by_unit None is = well_same w c steady
+    by_unit (Some u) is = leaving_well w c n u is steady
+
+-- another unit stays as it is
+left_others : (w : Planet) (c : State) (n k : ℕ) → IsSteady w c → k ≢ n → get (left_at c n).units k ≡ get c.units k
+unfolding left_at
+left_others w c n k steady apart = by_unit (get c.units n) refl
+  where
+    by_unit : (o : Option Unit) → get c.units n ≡ o → get (left_by c n o).units k ≡ get c.units k
+    by_unit None is = refl
+    by_unit (Some u) is = ap (λ (m : FinMap nat_cmp Unit). get m k) (units_behind w c n u is steady) ∙ get-remove_other c.units n k apart
+
+-- ---- all units of a faction
+
+pub all_left_well : (w : Planet) (c : State) (ns : List ℕ) → IsSteady w c → StepsWell IsSteady quit_reserve w c (fold left_at c ns)
+all_left_well w c [] steady = well_same w c steady
+all_left_well w c (n ∷ ns) steady =
+    let one = left_well w c n steady in
+    well_twice w c (left_at c n) (fold left_at (left_at c n) ns) one (all_left_well w (left_at c n) ns one.holds_still)
+
+all_left_others : (w : Planet) (c : State) (ns : List ℕ) (k : ℕ) → IsSteady w c → ((n : ℕ) → IsListed n ns → k ≢ n) → get (fold left_at c ns).units k ≡ get c.units k
+all_left_others w c [] k steady apart = refl
+all_left_others w c (n ∷ ns) k steady apart =
+    all_left_others w (left_at c n) ns k (left_well w c n steady).holds_still (λ m listed. apart m (inr listed)) ∙ left_others w c n k steady (apart n (inl refl))
+
+-- ---- one order
+
+-- what is so of the campaign as it is, and of that in which the faction's units left, is so of the campaign behind the order
+quit_cases : (P : State → Type 0) (c : State) (n number : ℕ) → P c → ((u : Unit) → get c.units n ≡ Some u → number ≡ u.faction → P (fold left_at c (numbers_of u.faction c.units))) → P (quit c n number).0
+unfolding quit
+quit_cases P c n number same leave = by_unit (get c.units n) refl
+  where
+    by_fault : (u : Unit) → get c.units n ≡ Some u → (f : Option EventFault) → quit_fault number u ≡ f → P (unless c f (fold left_at c (numbers_of u.faction c.units), Done 0)).0
+    by_fault u is (Some fault) e = same
+    by_fault u is None e = leave u is (not_apart number u.faction (none_fits (not (number == u.faction)) WrongNumber [] e).0)
+
+    by_unit : (o : Option Unit) → get c.units n ≡ o → P (quit_by c number o).0
+    by_unit None is = same
+    by_unit (Some u) is = by_fault u is (quit_fault number u) refl
+
+quit_well : (w : Planet) (c : State) (n number : ℕ) → IsSteady w c → StepsWell IsSteady quit_reserve w c (quit c n number).0
+quit_well w c n number steady = quit_cases (λ d. StepsWell IsSteady quit_reserve w c d) c n number (well_same w c steady) (λ u is own. all_left_well w c (numbers_of u.faction c.units) steady)
+
+quit_spares : (w : Planet) (c : State) (n number k : ℕ) (x : Unit) → IsSteady w c → get c.units k ≡ Some x → ((u : Unit) → get c.units n ≡ Some u → number ≡ u.faction → u.faction ≢ x.faction) → IsSpared IsNoWorse (quit c n number).0 k x
+quit_spares w c n number k x steady here other =
+    quit_cases (λ d. IsSpared IsNoWorse d k x) c n number (record { unit = x; there = here; spared = no_worse x })
+    (λ u is own. record { unit = x; there = all_left_others w c (numbers_of u.faction c.units) k steady (λ m listed. stays u (other u is own) m listed) ∙ here; spared = no_worse x })
+  where
+    stays : (u : Unit) → u.faction ≢ x.faction → (m : ℕ) → IsListed m (numbers_of u.faction c.units) → k ≢ m
+    stays u apart m listed same =
+        let (v, at, t) = listed_passing (λ (y : Unit). y.faction == u.faction) c.units m listed in
+        let one : Some v ≡ Some x = sym at ∙ ap (get c.units) (sym same) ∙ here in
+        let unit : v ≡ x = cc in
+        let faction : v.faction ≡ u.faction = grind (arith, nat_tests) in
+        apart (sym faction ∙ ap (λ (y : Unit). y.faction) unit)
+
+-- ---- the phase
+
+sum_within : {V : Type 0} (f : V → ℕ) (most : ℕ) (es : List (ℕ × V)) → EachOf (λ n v. f v ≤ most) es → sum_by (λ e. f e.1) es ≤ length es * most
+sum_within f most [] each = omega arith
+sum_within {V} f most (e ∷ es) each =
+    more (sum_by (λ (d : ℕ × V). f d.1) (e ∷ es)) (f e.1) (sum_by (λ (d : ℕ × V). f d.1) es) (length (e ∷ es) * most) (length es * most) most (sum_by-cons (λ (d : ℕ × V). f d.1) e es) (suc-mul (length es) most) each.0 (sum_within f most es each.1)
+  where
+    more : (s x y a b m : ℕ) → s ≡ x + y → a ≡ b + m → x ≤ m → y ≤ b → s ≤ a
+    more s x y a b m e f k l = omega (arith, e, f, k, l)
+
+within_limit : (t : Thing) (h : Held) → IsHolding h → held t h ≤ holding_limit
+within_limit Money h is = is.money
+within_limit People h is = omega (arith, is.men)
+within_limit (Item i) h is = amount_within h i is
+
+reserve_within : (w : Planet) (c : State) → IsSteady w c → (e : Entry) (t : Thing) → quit_reserve c e t ≤ quit_moves e t
+reserve_within w c steady e t = by_test (entry_place e == entry_place (gone_under t))
+  where
+    all_within : (b : Bool) (most : ℕ) → ((h : Held) → IsHolding h → (if b then held t h else 0) ≤ most) → sum_over (λ (u : Unit). if b then held t u.holding else 0) c.units ≤ length (entries c.units) * most
+    all_within b most each =
+        sum_within (λ (u : Unit). if b then held t u.holding else 0) most (entries c.units) (each-from_every (λ n u. (if b then held t u.holding else 0) ≤ most) c.units (λ n u is. each u.holding (steady.numbers.units n u is).1))
+
+    few : (s n : ℕ) → s ≤ n * holding_limit → n ≤ most_units → s ≤ most_moved
+    few s n l m = omega (arith, l, m)
+
+    none : (s n : ℕ) → s ≤ n * 0 → s ≤ 0
+    none s n l = omega (arith, l)
+
+    by_test : (b : Bool) → sum_over (λ (u : Unit). if b then held t u.holding else 0) c.units ≤ (if b then most_moved else 0)
+    by_test true = few (sum_over (λ (u : Unit). held t u.holding) c.units) (length (entries c.units)) (all_within true holding_limit (λ h is. within_limit t h is)) (omega (arith, len-entries c.units, steady.numbers.few_units))
+    by_test false = none (sum_over (λ (u : Unit). 0) c.units) (length (entries c.units)) (all_within false 0 (λ h is. omega arith))
+
+pub quit_orderly : IsOrderly quit_step IsSteady quit_reserve quit_moves quit_concerns IsNoWorse
+quit_orderly = record {
+  well = λ w a c t steady fit own. well w a c t steady t.said;
+  sparing = no_worse_spares;
+  spared = λ w a c t steady own n u here other. spared w a c t steady own n u here t.said (λ says. other says);
+  bounded = reserve_within;
+}
+  where
+    well : (w : Planet) (a : Aliases) (c : State) (t : Task) → IsSteady w c → (s : Said) → StepsWell IsSteady quit_reserve w c (quit_said c t s).0
+    well w a c t steady (orders.Quit number) = quit_well w c t.unit number steady
+    well w a c t steady other = well_same w c steady
+
+    spared : (w : Planet) (a : Aliases) (c : State) (t : Task) → IsSteady w c → is_own c t ≡ true → (n : ℕ) (u : Unit) → get c.units n ≡ Some u → (s : Said) → ((t.faction ≡ u.faction) × (s ≡ orders.Quit u.faction) → ⊥)
+        → IsSpared IsNoWorse (quit_said c t s).0 n u
+    spared w a c t steady own n u here (orders.Quit number) other =
+        quit_spares w c t.unit number n u steady here
+        (λ x is says same.
+        let here : (x.faction == t.faction) ≡ true = sym (ap (is_of_faction t.faction) is) ∙ own in
+        let faction : t.faction ≡ x.faction = grind (arith, nat_tests) in
+        other (faction ∙ same, ap orders.Quit (says ∙ same)))
+    spared w a c t steady own n u here said other = record { unit = u; there = here; spared = no_worse u }

@@ -1,0 +1,74 @@
+use Rattle.std.proofs.Common.{◌≡◌, ◌+◌, [], refl, ap, subst, sym, ◌∙◌, drop, get_or, arith}
+use Rattle.std.proofs.lemmas.List.{drop_all, drop_more}
+use Rattle.std.specs.Prelude.{fold, Some}
+use Rattle.std.specs.FinMap.{get}
+use Rattle.atl_orders.specs.declared.verb.Verb.TheVariants.{Form}
+use Rattle.atl_state.specs.Good.{IsEarly}
+use Rattle.atl_state.specs.State.{State}
+use Rattle.atl_state.proofs.CoverLaws.{marks-refl, marks-trans}
+use Rattle.atl_instant.specs.Course.{Course}
+use Rattle.atl_instant.specs.Form.{formed_written}
+use Rattle.atl_instant.specs.Steps.{StepsWell}
+use Rattle.atl_instant.specs.Unbooked.{books_nothing}
+use Rattle.atl_instant.specs.declared.written.Written.{Written}
+use Rattle.atl_instant.proofs.FormLaws.{free_number, written_out, written_readings, written_stays, written_well}
+use Rattle.atl_instant.proofs.StepLaws.{leaves_well, well_same, well_twice}
+use Rattle.atl_instant.proofs.form.FormPhasePhase.run.Goals as goal
+
+-- what stands where nothing is read
+abbrev none : Written
+none = record { unit = 0; line = 0; faction = 0; verb = Form; place = 0 }
+
+pub loop-order-init : goal.loop-order-init
+loop-order-init c = record {
+  orders = refl;
+  readings = refl;
+  well = well_same c.args._world.now c.args.campaign.what c.requires.needs;
+  stays = λ n u there. there;
+  marks = marks-refl c.args.campaign;
+}
+
+pub form_one-requires : goal.form_one-requires
+form_one-requires c = record { free = free_number c.args._world.now c.loop-order.campaign.what c.loop-order.invariant.well.holds_still }
+
+pub loop-order-preserved : goal.loop-order-preserved
+loop-order-preserved c =
+    let w = c.args._world.now in
+    let old = c.args.campaign.what in
+    let now = c.loop-order.campaign.what in
+    let before : State × Course = (now, c.loop-order.month) in
+    let xs = c.deref-order-items.result.now in
+    let i = c.loop-order.order-index in
+    let o = get_or xs i none in
+    let step = c.in_ok-form_one.ensures.step in
+    let what = ap (λ p. p.0) step in
+    let early = c.loop-order.invariant.well.holds_still in
+    record {
+      orders = ap (λ p. fold formed_written p (drop (i + 1) xs)) step ∙ sym (ap (fold formed_written before) (drop_more xs i none c.loop-order-test.true)) ∙ c.loop-order.invariant.orders;
+      readings = ap (λ p. p.1.readings) step ∙ written_readings before o ∙ c.loop-order.invariant.readings;
+      well = well_twice w old now _ c.loop-order.invariant.well (subst (λ d. StepsWell IsEarly books_nothing w now d) (sym what) (written_well w now early c.loop-order.month o));
+      stays = λ n u there. subst (λ (d : State). get d.units n ≡ Some u) (sym what) (written_stays w now early c.loop-order.month o n u (c.loop-order.invariant.stays n u there));
+      marks = marks-trans c.args.campaign c.loop-order.campaign _ c.loop-order.invariant.marks c.in_ok-form_one.ensures.marks;
+    }
+
+pub returns-clause-meaning : goal.returns-clause-meaning
+returns-clause-meaning c =
+    let start : State × Course = (c.args.campaign.what, c.args.month) in
+    let xs = c.deref-order-items.result.now in
+    let i = c.loop-order.order-index in
+    let past : drop i xs ≡ [] = drop_all i xs (omega (arith, c.loop-order-test.false)) in
+    let behind : State × Course = (c.loop-order.campaign.what, c.loop-order.month) in
+    sym (ap (fold formed_written behind) past) ∙ c.loop-order.invariant.orders ∙ ap (fold formed_written start) (c.deref-order-items.ensures.value ∙ c.in_ok-orders.ensures)
+    ∙ written_out c.args._world.now c.args.campaign.what c.args.month
+
+pub returns-clause-leaves : goal.returns-clause-leaves
+returns-clause-leaves c = leaves_well c.args._world.now c.args.campaign.what c.loop-order.campaign.what (λ e t. omega arith) c.loop-order.invariant.well
+
+pub returns-clause-keeps : goal.returns-clause-keeps
+returns-clause-keeps c = c.loop-order.invariant.stays
+
+pub returns-clause-readings : goal.returns-clause-readings
+returns-clause-readings c = c.loop-order.invariant.readings
+
+pub returns-clause-marks : goal.returns-clause-marks
+returns-clause-marks c = c.loop-order.invariant.marks

@@ -1,0 +1,15 @@
+use Rattle.std.proofs.Common.{◌≡◌, drop}
+use Rattle.std.specs.Prelude.{fold}
+use Rattle.atl_state.specs.Covers.{MarksChanges}
+use Rattle.atl_state.specs.Good.{IsSteady}
+use Rattle.atl_instant.specs.Meaning.{HaveRoom}
+use Rattle.atl_instant.specs.Quit.{left_at, quit_reserve}
+use Rattle.atl_instant.proofs.quit.leave_all.Given as goal
+
+abbrev pub invariant-loop-number : goal.invariant-loop-number
+invariant-loop-number l = record {
+  rest : fold left_at l.campaign.what (drop l.number-index l.numbers) ≡ fold left_at l.initial.campaign.what l.numbers;
+  steady : IsSteady l.world l.campaign.what;
+  room : HaveRoom (quit_reserve l.campaign.what) l.campaign.what;
+  marks : MarksChanges l.initial.campaign l.campaign;
+}

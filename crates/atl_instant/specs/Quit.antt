@@ -1,0 +1,109 @@
+-- QUIT. See docs/RULES.md, "Quitting".
+use Rattle.std.specs.Prelude.{◌≡◌, ℕ, pos, neg_ℤ, ◌+◌, ◌==◌, not, Bool, true, false, List, [], ◌∷◌, fold, Option, Some, None, if◌then◌else◌}
+use Rattle.std.specs.FinMap.{entries, get}
+use Rattle.atl_orders.specs.declared.order.Order.TheVariants as orders
+use Rattle.atl_orders.specs.declared.verb.Verb.{Verb}
+use Rattle.atl_orders.specs.declared.verb.Verb.TheVariants as verbs
+use Rattle.atl_orders.specs.Orders.{Said}
+use Rattle.atl_tables.specs.Sums.{sum_over}
+use Rattle.atl_state.specs.Books.{entry_place}
+use Rattle.atl_state.specs.declared.books.Entry.{Entry}
+use Rattle.atl_state.specs.declared.books.Entry.TheVariants.{Left, Lost}
+use Rattle.atl_state.specs.declared.books.Thing.{Thing}
+use Rattle.atl_state.specs.declared.books.Thing.TheVariants.{Item, Money, People}
+use Rattle.atl_state.specs.declared.event.EventFault.{EventFault}
+use Rattle.atl_state.specs.declared.event.EventFault.TheVariants.{NotYours, WrongNumber}
+use Rattle.atl_state.specs.declared.event.Outcome.{Outcome}
+use Rattle.atl_state.specs.declared.event.Outcome.TheVariants.{Done}
+use Rattle.atl_state.specs.declared.records.Unit.{Unit}
+use Rattle.atl_state.specs.Held.{Held}
+use Rattle.atl_state.specs.Owners.{without_unit}
+use Rattle.atl_state.specs.State.{State, numbers_of, with_amount}
+use Rattle.atl_state.specs.Totals.{held}
+use Rattle.atl_instant.specs.Meaning.{Keeping, Meaning, Moving, most_moved, moves_only}
+use Rattle.atl_instant.specs.Outcomes.{first_fault, unless}
+use Rattle.atl_instant.specs.PhaseOrders.{Task}
+use Rattle.atl_instant.specs.Staying.{IsNoWorse}
+use Rattle.atl_instant.specs.Steps.{Concern, Reserve, Step, carried_out, spares_others}
+
+abbrev pub is_quitting : Verb → Bool
+is_quitting verbs.Quit = true
+is_quitting verb = false
+
+-- ---- a unit that leaves
+
+-- men are booked as left, money and items as lost
+abbrev pub gone_under : Thing → Entry
+gone_under People = Left
+gone_under thing = Lost
+
+-- so much of a thing is gone
+abbrev pub with_gone_amount : State → Thing → ℕ → State
+with_gone_amount c t amount = with_amount c (gone_under t) t (neg_ℤ (pos amount))
+
+abbrev pub item_gone : State → ℕ × ℕ → State
+item_gone c (item, amount) = with_gone_amount c (Item item) amount
+
+-- all that a unit has is gone
+abbrev pub booked_off : State → Held → State
+booked_off c h = fold item_gone (with_gone_amount (with_gone_amount c People h.men) Money h.money) (entries h.items)
+
+abbrev pub left_by : State → (n : ℕ) → Option Unit → State
+left_by c n None = c
+left_by c n (Some u) = without_unit (booked_off c u.holding) n
+
+-- the campaign once a unit has left it
+unfoldable pub left_at : State → (n : ℕ) → State
+left_at c n = left_by c n (get c.units n)
+
+-- ---- one order
+
+-- WrongNumber where it isn't the faction's own number
+abbrev pub quit_fault : (number : ℕ) → Unit → Option EventFault
+quit_fault number u = first_fault ((not (number == u.faction), WrongNumber) ∷ [])
+
+-- All units of the faction leave, in the order of their numbers.
+abbrev pub quit_by : State → (number : ℕ) → Option Unit → State × Outcome
+quit_by c number None = unless c (Some NotYours) (c, Done 0)
+quit_by c number (Some u) = unless c (quit_fault number u) (fold left_at c (numbers_of u.faction c.units), Done 0)
+
+unfoldable pub quit : State → (n number : ℕ) → State × Outcome
+quit c n number = quit_by c number (get c.units n)
+
+abbrev pub quit_said : State → Task → Said → State × Outcome
+quit_said c t (orders.Quit number) = quit c t.unit number
+quit_said c t other = (c, Done 0)
+
+abbrev pub quit_step : Step
+quit_step w aliases c t = quit_said c t t.said
+
+-- ---- the phase
+
+abbrev pub quit_meaning : Meaning
+quit_meaning = carried_out quit_step (λ s. true) is_quitting
+
+-- which units an order concerns: those of the faction that quits
+abbrev pub quit_concerns : Concern
+quit_concerns t number faction = (t.faction ≡ faction) × (t.said ≡ orders.Quit faction)
+
+-- a unit whose faction doesn't quit is no worse off
+abbrev pub quit_keeps : Keeping
+quit_keeps = spares_others quit_concerns IsNoWorse is_quitting
+
+-- ---- how far it moves the books
+
+-- what is booked of a thing under an entry as all that is held goes
+abbrev pub leaves : Entry → Thing → Held → ℕ
+leaves e t h = if entry_place e == entry_place (gone_under t) then held t h else 0
+
+-- no more than all units hold
+abbrev pub quit_reserve : Reserve
+quit_reserve c e t = sum_over (λ u. leaves e t u.holding) c.units
+
+abbrev pub quit_moves : Moving
+quit_moves e t = if entry_place e == entry_place (gone_under t) then most_moved else 0
+
+-- for proofs alone: what so much of some items that are gone may move
+abbrev pub items_move : List (ℕ × ℕ) → Moving
+items_move [] e t = 0
+items_move (x ∷ xs) e t = moves_only x.1 Lost (Item x.0) e t + items_move xs e t

@@ -1,0 +1,189 @@
+//! FORM: units form new ones.
+ghost use Rattle.std.specs.Prelude.{◌≡◌, ◌≤◌, IfOk, List, None, OnOk, ℕ};
+ghost use Rattle.std.specs.FinMap as map;
+ghost use Rattle.atl_orders.specs.Orders.{said};
+ghost use Rattle.atl_state.specs.Covers.{MarksChanges};
+ghost use Rattle.atl_state.specs.Good.{IsEarly};
+ghost use Rattle.atl_state.specs.Limits.{last_unit};
+ghost use Rattle.atl_instant.specs.Form.{alias_of, form_by, form_fault, form_keeps, form_meaning, formed, formed_written, is_forming, is_unit_limit, new_unit, noted};
+ghost use Rattle.atl_instant.specs.Steps.{is_of_faction};
+ghost use Rattle.atl_instant.specs.Unbooked.{moves_nothing};
+
+use crate::inside::{region_of, structure_of};
+use crate::month::Month;
+use crate::orders::PhaseVerbs;
+use crate::outcome::failed;
+use crate::phase::Phase;
+use crate::written::{Arrangement, Written};
+use atl_orders::{Order, Verb};
+use atl_state::{
+    Campaign, Event, EventFault, EventVerb, Holding, LAST_UNIT, MOST_UNITS, Outcome, Unit,
+};
+use atl_tables::{Numbered, Text, World};
+use std::alloc::{AllocError, Global};
+
+/// Units form new ones, which have a name and nothing else. See docs/RULES.md, "Form".
+#[derive(Drop, Clone, Copy)]
+pub struct FormPhase;
+
+/// Whether a unit is there, and of a faction.
+fn is_of_faction(campaign: &Campaign, unit: u32, faction: u32) -> bool
+    ensures { result ≡ is_of_faction faction (map.get campaign.now.what.units unit) }
+{
+    match campaign.unit(unit) {
+        Some(found) => found.faction == faction,
+        None => false,
+    }
+}
+
+/// Whether no further unit can come.
+fn is_unit_limit(campaign: &Campaign) -> bool
+    ensures { result ≡ is_unit_limit campaign.now.what }
+{
+    campaign.unit_count() >= MOST_UNITS || campaign.next_unit() > LAST_UNIT
+}
+
+/// Why a faction's order for a unit forms none.
+fn form_fault(campaign: &Campaign, faction: u32, unit: u32) -> Option<EventFault>
+    ensures { result ≡ form_fault campaign.now.what faction unit }
+{
+    if !is_of_faction(campaign, unit, faction) {
+        Some(EventFault::NotYours)
+    } else if is_unit_limit(campaign) {
+        Some(EventFault::UnitLimit)
+    } else {
+        None
+    }
+}
+
+/// A new unit, with a name and nothing else.
+fn new_unit(
+    alloc: Global,
+    number: u32,
+    faction: u32,
+    region: u32,
+    structure: u32,
+) -> Result<Unit, AllocError>
+    ensures { IfOk result (λ unit. unit ≡ new_unit number faction region structure) }
+{
+    let name = Text::from_string(format!(in alloc; "Unit {number}")?);
+    Ok(Unit {
+        faction,
+        region,
+        structure,
+        holding: Holding::new(name, 0, 0, Numbered::new(alloc), Numbered::new(alloc)),
+    })
+}
+
+/// A unit of a faction forms one of its faction, where it is itself. The answer is the new one's number.
+fn begin(
+    alloc: Global,
+    campaign: &mut Campaign,
+    faction: u32,
+    parent: u32,
+) -> Result<u32, AllocError>
+    requires free { map.get campaign.old.what.units campaign.old.what.next_unit ≡ None }
+    requires room { campaign.old.what.next_unit ≤ last_unit }
+    ensures what { OnOk result (campaign.new.what ≡ formed campaign.old.what faction parent) }
+    ensures number { IfOk result (λ number. number ≡ campaign.old.what.next_unit) }
+    ensures marks { OnOk result (MarksChanges campaign.old campaign.new) }
+{
+    let number = campaign.next_unit();
+    let region = region_of(campaign, parent);
+    let structure = structure_of(campaign, parent);
+    let unit = new_unit(alloc, number, faction, region, structure)?;
+    campaign.begin_unit(unit)
+}
+
+/// Forms a unit by an order of a faction for a unit, and notes it under its alias.
+fn form(
+    alloc: Global,
+    campaign: &mut Campaign,
+    month: &mut Month,
+    faction: u32,
+    parent: u32,
+    alias: u32,
+) -> Result<Outcome, AllocError>
+    requires free { map.get campaign.old.what.units campaign.old.what.next_unit ≡ None }
+    ensures value { IfOk result (λ outcome. (campaign.new.what, outcome) ≡ form_by campaign.old.what faction parent) }
+    ensures aliases { IfOk result (λ outcome. month.new ≡ record month.old { aliases = noted month.old.aliases faction alias outcome }) }
+    ensures marks { OnOk result (MarksChanges campaign.old campaign.new) }
+{
+    match form_fault(campaign, faction, parent) {
+        Some(fault) => Ok(failed(fault)),
+        None => {
+            let number = begin(alloc, campaign, faction, parent)?;
+            month.set_alias(alloc, faction, alias, number)?;
+            Ok(Outcome::Done(u64::from(number)))
+        }
+    }
+}
+
+/// The alias that an order gives, or 0.
+fn alias_of(what: &Order) -> u32
+    ensures { (text : List ℕ) → result ≡ alias_of (said text what.now) }
+{
+    match what {
+        Order::Form(alias) => *alias,
+        _ => 0,
+    }
+}
+
+/// Carries out an order, and tells of it.
+fn form_one(
+    alloc: Global,
+    campaign: &mut Campaign,
+    month: &mut Month,
+    order: Written,
+) -> Result<(), AllocError>
+    requires free { map.get campaign.old.what.units campaign.old.what.next_unit ≡ None }
+    ensures step { OnOk result ((campaign.new.what, month.new) ≡ formed_written (campaign.old.what, month.old) order) }
+    ensures marks { OnOk result (MarksChanges campaign.old campaign.new) }
+{
+    let (alias, verb) = match month.order(order.faction, order.place) {
+        Some((_, what)) => (alias_of(what), what.verb()),
+        None => return Ok(()),
+    };
+    let outcome = form(alloc, campaign, month, order.faction, order.unit, alias)?;
+    month.tell(Event {
+        faction: order.faction,
+        unit: order.unit,
+        line: order.line,
+        verb: EventVerb::Order(verb),
+        outcome,
+    })
+}
+
+impl PhaseVerbs for FormPhase {
+    ghost is_of = { is_forming };
+
+    fn has(&self, verb: Verb) -> bool {
+        matches!(verb, Verb::Form)
+    }
+}
+
+impl Phase for FormPhase {
+    ghost meaning = { form_meaning };
+
+    ghost needs = { IsEarly };
+
+    ghost leaves = { IsEarly };
+
+    ghost moving = { moves_nothing };
+
+    ghost keeps = { form_keeps };
+
+    fn run(
+        &self,
+        alloc: Global,
+        _world: &World,
+        mut campaign: Campaign,
+        mut month: Month,
+    ) -> Result<(Campaign, Month), AllocError> {
+        let orders = month.orders(alloc, self, Arrangement::ByFaction)?;
+        for order in &orders {
+            form_one(alloc, &mut campaign, &mut month, *order)?;
+        }
+        Ok((campaign, month))
+    }
+}

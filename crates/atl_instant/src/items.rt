@@ -1,0 +1,27 @@
+//! The items that units hold.
+ghost use Rattle.std.specs.Prelude.{◌≡◌, ◌<◌, IfOk, length};
+ghost use Rattle.std.specs.FinMap.{entries};
+ghost use Rattle.atl_state.specs.Good.{Every};
+
+use atl_state::Holding;
+use atl_tables::World;
+use std::alloc::{AllocError, Global};
+
+/// How much a unit holds of each item of the world, by the items' numbers in rising order. It takes memory for each of them.
+pub fn items_of(
+    alloc: Global,
+    world: &World,
+    holding: &Holding,
+) -> Result<Vec<(u16, u32)>, AllocError>
+    requires known { Every (λ i amount. i < length world.now.items) holding.now.items }
+    ensures { IfOk result (λ list. list.items ≡ entries holding.now.items) }
+{
+    let count = world.items().len();
+    let mut list = Vec::new(alloc);
+    for (item, amount) in holding.items() {
+        if (item as usize) < count {
+            list.push((item as u16, *amount))?;
+        }
+    }
+    Ok(list)
+}

@@ -1,0 +1,221 @@
+//! QUIT.
+ghost use Rattle.std.specs.Prelude.{◌≡◌, ◌<◌, IfOk, OnOk, fold, length, true};
+ghost use Rattle.atl_state.specs.Books.{IsGrid, amount_in, thing_place};
+ghost use Rattle.atl_state.specs.Covers.{MarksChanges};
+ghost use Rattle.atl_state.specs.Deciding.{EachOf};
+ghost use Rattle.atl_state.specs.Founding.{things_of};
+ghost use Rattle.atl_state.specs.Good.{IsSteady};
+ghost use Rattle.atl_state.specs.Marking.{mark_amount};
+ghost use Rattle.atl_state.specs.declared.books.Entry.TheVariants.{Left, Lost};
+ghost use Rattle.atl_state.specs.declared.books.Thing.TheVariants.{Money, People};
+ghost use Rattle.atl_instant.specs.Meaning.{HasRoom, HaveRoom, both_move, moves_only};
+ghost use Rattle.atl_instant.specs.Quit.{gone_under, is_quitting, item_gone, items_move, left_at, quit, quit_concerns, quit_fault, quit_keeps, quit_meaning, quit_moves, quit_reserve, quit_step, with_gone_amount};
+ghost use Rattle.atl_instant.specs.Staying.{IsNoWorse};
+
+use crate::items::items_of;
+use crate::month::Month;
+use crate::orders::PhaseVerbs;
+use crate::outcome::failed;
+use crate::phase::Phase;
+use crate::steps::{OrderPhase, carry_out_orders};
+use crate::written::Written;
+use atl_orders::{Mailing, Order, Verb};
+use atl_state::{Campaign, Entry, EventFault, Outcome, Thing, Unit};
+use atl_tables::World;
+use std::alloc::{AllocError, Global};
+
+/// Factions quit, and all their units leave with all that they have. See docs/RULES.md, "Quitting".
+#[derive(Drop, Clone, Copy)]
+pub struct QuitPhase;
+
+/// What a thing that goes is booked under.
+fn gone_under(thing: Thing) -> Entry
+    ensures { result ≡ gone_under thing }
+{
+    match thing {
+        Thing::People => Entry::Left,
+        Thing::Money | Thing::Item(_) => Entry::Lost,
+    }
+}
+
+/// Books that so much of a thing is gone.
+fn book_gone(campaign: &mut Campaign, thing: Thing, amount: u32)
+    requires there { thing_place thing < length campaign.old.what.books }
+    requires room { HasRoom amount (amount_in campaign.old.what.books (gone_under thing) thing) }
+    ensures what { campaign.new.what ≡ with_gone_amount campaign.old.what thing amount }
+    ensures marks { campaign.new.marks ≡ mark_amount campaign.old (gone_under thing) thing }
+{
+    campaign.book(gone_under(thing), thing, -i64::from(amount));
+}
+
+/// Books that items are gone.
+fn book_items(world: &World, campaign: &mut Campaign, items: &[(u16, u32)])
+    requires grid { IsGrid (things_of world.now) campaign.old.what.books }
+    requires known { EachOf (λ i amount. i < length world.now.items) items.now }
+    requires room { HaveRoom (items_move items.now) campaign.old.what }
+    ensures what { campaign.new.what ≡ fold item_gone campaign.old.what items.now }
+    ensures marks { MarksChanges campaign.old campaign.new }
+{
+    for (item, amount) in items.iter() {
+        book_gone(campaign, Thing::Item(*item), *amount);
+    }
+}
+
+/// Books that all that a unit has is gone.
+fn book_off(world: &World, campaign: &mut Campaign, men: u32, money: u32, items: &[(u16, u32)])
+    requires grid { IsGrid (things_of world.now) campaign.old.what.books }
+    requires known { EachOf (λ i amount. i < length world.now.items) items.now }
+    requires room { HaveRoom (both_move (moves_only men Left People) (both_move (moves_only money Lost Money) (items_move items.now))) campaign.old.what }
+    ensures what { campaign.new.what ≡ fold item_gone (with_gone_amount (with_gone_amount campaign.old.what People men) Money money) items.now }
+    ensures marks { MarksChanges campaign.old campaign.new }
+{
+    book_gone(campaign, Thing::People, men);
+    book_gone(campaign, Thing::Money, money);
+    book_items(world, campaign, items);
+}
+
+/// A unit leaves with all that it has.
+#[tactic(auto, unfolding(crate::specs::Quit::left_at))]
+fn leave(
+    alloc: Global,
+    world: &World,
+    campaign: &mut Campaign,
+    number: u32,
+) -> Result<(), AllocError>
+    requires steady { IsSteady world.now campaign.old.what }
+    requires room { HaveRoom (quit_reserve campaign.old.what) campaign.old.what }
+    ensures what { OnOk result (campaign.new.what ≡ left_at campaign.old.what number) }
+    ensures marks { OnOk result (MarksChanges campaign.old campaign.new) }
+{
+    let Some(unit) = campaign.unit(number) else {
+        return Ok(());
+    };
+    let men = unit.holding.men();
+    let money = unit.holding.money();
+    let items = items_of(alloc, world, &unit.holding)?;
+    book_off(world, campaign, men, money, &items);
+    campaign.remove_unit(number);
+    Ok(())
+}
+
+/// Units leave.
+fn leave_all(
+    alloc: Global,
+    world: &World,
+    campaign: &mut Campaign,
+    numbers: &[u32],
+) -> Result<(), AllocError>
+    requires steady { IsSteady world.now campaign.old.what }
+    requires room { HaveRoom (quit_reserve campaign.old.what) campaign.old.what }
+    ensures what { OnOk result (campaign.new.what ≡ fold left_at campaign.old.what numbers.now) }
+    ensures marks { OnOk result (MarksChanges campaign.old campaign.new) }
+{
+    for number in numbers.iter() {
+        leave(alloc, world, campaign, *number)?;
+    }
+    Ok(())
+}
+
+/// Why a unit's faction can't quit by this number.
+fn quit_fault(number: u32, unit: &Unit) -> Option<EventFault>
+    ensures { result ≡ quit_fault number unit.now }
+{
+    if number != unit.faction {
+        return Some(EventFault::WrongNumber);
+    }
+    None
+}
+
+/// The units of a unit's faction leave, or nothing changes where a fault fits.
+#[tactic(auto, unfolding(crate::specs::Quit::quit))]
+fn quit(
+    alloc: Global,
+    world: &World,
+    campaign: &mut Campaign,
+    unit: u32,
+    number: u32,
+) -> Result<Outcome, AllocError>
+    requires steady { IsSteady world.now campaign.old.what }
+    requires room { HaveRoom (quit_reserve campaign.old.what) campaign.old.what }
+    ensures what { IfOk result (λ outcome. (campaign.new.what, outcome) ≡ quit campaign.old.what unit number) }
+    ensures marks { OnOk result (MarksChanges campaign.old campaign.new) }
+{
+    let Some(found) = campaign.unit(unit) else {
+        return Ok(failed(EventFault::NotYours));
+    };
+    if let Some(fault) = quit_fault(number, found) {
+        return Ok(failed(fault));
+    }
+    let numbers = Vec::from_slice(alloc, campaign.of_faction(found.faction))?;
+    leave_all(alloc, world, campaign, &numbers)?;
+    Ok(Outcome::Done(0))
+}
+
+impl PhaseVerbs for QuitPhase {
+    ghost is_of = { is_quitting };
+
+    fn has(&self, verb: Verb) -> bool {
+        matches!(verb, Verb::Quit)
+    }
+}
+
+impl OrderPhase for QuitPhase {
+    ghost step = { quit_step };
+
+    ghost is_taken = { λ s. true };
+
+    ghost holds = { IsSteady };
+
+    ghost reserve = { quit_reserve };
+
+    ghost moving = { quit_moves };
+
+    ghost concerns = { quit_concerns };
+
+    ghost spares = { IsNoWorse };
+
+    fn takes(&self, _: &Order) -> bool {
+        true
+    }
+
+    fn carry_out(
+        &self,
+        alloc: Global,
+        world: &World,
+        campaign: &mut Campaign,
+        _: &Month,
+        order: Written,
+        _: &Mailing,
+        what: &Order,
+    ) -> Result<Outcome, AllocError> {
+        match what {
+            Order::Quit(number) => quit(alloc, world, campaign, order.unit, *number),
+            _ => Ok(Outcome::Done(0)),
+        }
+    }
+
+    fn is_orderly(&self) {}
+}
+
+impl Phase for QuitPhase {
+    ghost meaning = { quit_meaning };
+
+    ghost needs = { IsSteady };
+
+    ghost leaves = { IsSteady };
+
+    ghost moving = { quit_moves };
+
+    ghost keeps = { quit_keeps };
+
+    fn run(
+        &self,
+        alloc: Global,
+        world: &World,
+        mut campaign: Campaign,
+        mut month: Month,
+    ) -> Result<(Campaign, Month), AllocError> {
+        carry_out_orders(alloc, self, world, &mut campaign, &mut month)?;
+        Ok((campaign, month))
+    }
+}

@@ -1,0 +1,11 @@
+use Rattle.std.proofs.Common.{◌≡◌, ◌==◌, ◌++◌, ℕ}
+use Rattle.atl_tables.specs.Sums.{numbers_among}
+use Rattle.atl_state.specs.Kept.{list_of}
+use Rattle.atl_report.specs.Sight.{structures_in}
+use Rattle.atl_report.proofs.sites.sites_of.Given as goal
+
+abbrev pub invariant-loop-number : goal.invariant-loop-number
+invariant-loop-number l =
+    (goal.iterator-loop-number).can_next l.number-iterator ×
+    (goal.iterator-loop-number).is_finite l.number-iterator ×
+    ((region : ℕ) → list_of l.sites region ++ numbers_among (λ s. s.region == region) l.number-iterator ≡ structures_in region l.campaign.what.structures)

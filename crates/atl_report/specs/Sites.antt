@@ -1,0 +1,15 @@
+-- Which structures stand in which region.
+use Rattle.std.specs.Prelude.{◌≡◌, ◌++◌, ℕ, List, [], ◌∷◌}
+use Rattle.std.specs.Ordering.{nat_cmp}
+use Rattle.std.specs.FinMap.{FinMap, insert}
+use Rattle.atl_state.specs.declared.records.Structure.{Structure}
+use Rattle.atl_state.specs.Kept.{list_of}
+use Rattle.atl_report.specs.Sight.{structures_in}
+
+-- under each region's number stand the numbers of its structures, in rising order
+abbrev pub AreSites : FinMap nat_cmp Structure → FinMap nat_cmp (List ℕ) → Type 0
+AreSites structures sites = (region : ℕ) → list_of sites region ≡ structures_in region structures
+
+-- with one more at the end of a region's
+abbrev pub with_site : FinMap nat_cmp (List ℕ) → ℕ → ℕ → FinMap nat_cmp (List ℕ)
+with_site sites region number = insert sites region (list_of sites region ++ (number ∷ []))

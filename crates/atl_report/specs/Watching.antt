@@ -1,0 +1,54 @@
+-- Who sees, and who is seen. See docs/RULES.md, "Sight".
+use Rattle.std.specs.Prelude.{◌==◌, ◌&&◌, ◌||◌, ℕ, Bool, false, nat_lt, nat_le, max, List, [], ◌∷◌, map, if◌then◌else◌, Option, Some, None}
+use Rattle.std.specs.List.{list_any}
+use Rattle.std.specs.FinMap.{get}
+use Rattle.atl_tables.specs.Planet.{Planet}
+use Rattle.atl_state.specs.declared.records.Unit.{Unit}
+use Rattle.atl_state.specs.Good.{guards}
+use Rattle.atl_state.specs.Held.{Held, amount_of}
+use Rattle.atl_state.specs.Levels.{level_of}
+use Rattle.atl_state.specs.State.{State, numbers_in}
+use Rattle.atl_report.specs.declared.watch.Watch.{Watch}
+
+-- ---- regions
+
+-- a unit of the faction, with men
+abbrev pub is_watching : ℕ → Option Unit → Bool
+is_watching faction None = false
+is_watching faction (Some u) = u.faction == faction && nat_lt 0 u.holding.men
+
+-- the faction has a unit with men in the region
+abbrev pub sees_region : State → ℕ → ℕ → Bool
+sees_region c faction region = list_any (λ n. is_watching faction (get c.units n)) (numbers_in region c.units)
+
+-- ---- units
+
+-- a unit's level in the skill that the world names; where it names none, everybody's is 0
+abbrev pub level_in : Option ℕ → Held → ℕ
+level_in None h = 0
+level_in (Some skill) h = level_of (amount_of h.days skill) h.men
+
+-- how well a unit observes, where it is the faction's own
+abbrev pub observation_of : Planet → ℕ → Option Unit → ℕ
+observation_of w faction None = 0
+observation_of w faction (Some u) = if u.faction == faction then level_in w.rules.observation u.holding else 0
+
+abbrev pub greatest : List ℕ → ℕ
+greatest [] = 0
+greatest (n ∷ ns) = max n (greatest ns)
+
+-- the best observation level of the faction's units in a region
+abbrev pub observation_in : Planet → State → ℕ → ℕ → ℕ
+observation_in w c faction region = greatest (map (λ n. observation_of w faction (get c.units n)) (numbers_in region c.units))
+
+abbrev pub watch_over : Planet → State → ℕ → ℕ → Watch
+watch_over w c faction region = record { faction = faction; region = region; observation = observation_in w c faction region }
+
+-- a unit that is the faction's own, guards, or has a stealth level at most that observation level
+abbrev pub is_seen : Planet → Watch → Unit → Bool
+is_seen w watch u = u.faction == watch.faction || (guards u || nat_le (level_in w.rules.stealth u.holding) watch.observation)
+
+-- a unit that is seen, and stands in the region
+abbrev pub is_seen_there : Planet → Watch → Option Unit → Bool
+is_seen_there w watch None = false
+is_seen_there w watch (Some u) = u.region == watch.region && is_seen w watch u

@@ -1,0 +1,176 @@
+//! The text of the books.
+ghost use Rattle.std.specs.Prelude.{◌≡◌, ◌++◌, IfOk, OnOk, length, string_bytes};
+ghost use Rattle.std.specs.List.{slice_get};
+ghost use Rattle.atl_state.specs.Good.{AreInRange};
+ghost use Rattle.atl_state.specs.Totals.{IsCountable};
+ghost use Rattle.atl_report.specs.Books.{IsThing, entry_name, item_name, thing_name, amount_text, amount_line, amount_lines, total_line, thing_part, item_parts, books_of};
+
+use atl_state::{Campaign, Entry, Thing};
+use atl_tables::World;
+use std::alloc::{AllocError, Global};
+use std::fmt::Write;
+
+/// The entries in the order of their numbers.
+const ENTRIES: [Entry; 13] = [
+    Entry::Founding,
+    Entry::Joining,
+    Entry::Income,
+    Entry::Wages,
+    Entry::Recruiting,
+    Entry::Study,
+    Entry::Upkeep,
+    Entry::Lost,
+    Entry::Births,
+    Entry::Starved,
+    Entry::Left,
+    Entry::Made,
+    Entry::Used,
+];
+
+fn entry_name(entry: Entry) -> &'static str
+    ensures { result.now ≡ entry_name entry }
+{
+    match entry {
+        Entry::Founding => "founding",
+        Entry::Joining => "joining",
+        Entry::Income => "income",
+        Entry::Wages => "wages",
+        Entry::Recruiting => "recruiting",
+        Entry::Study => "study",
+        Entry::Upkeep => "upkeep",
+        Entry::Lost => "lost",
+        Entry::Births => "births",
+        Entry::Starved => "starved",
+        Entry::Left => "left",
+        Entry::Made => "made",
+        Entry::Used => "used",
+    }
+}
+
+/// What a line begins with: the thing.
+fn write_thing(out: &mut String, world: &World, thing: Thing) -> Result<(), AllocError>
+    ensures { OnOk result (string_bytes out.new ≡ string_bytes out.old ++ thing_name world.now thing) }
+{
+    match thing {
+        Thing::Money => out.push_str("money"),
+        Thing::People => out.push_str("people"),
+        Thing::Item(item) => write_item(out, world, item),
+    }
+}
+
+fn write_item(out: &mut String, world: &World, item: u16) -> Result<(), AllocError>
+    ensures { OnOk result (string_bytes out.new ≡ string_bytes out.old ++ item_name (slice_get world.now.items item)) }
+{
+    match world.items().get(usize::from(item)) {
+        Some(known) => {
+            let name = known.name.as_str();
+            write!(out, "item \"{name}\"")
+        }
+        None => Ok(()),
+    }
+}
+
+/// An amount under an entry, with its sign where it is negative.
+fn write_amount(out: &mut String, entry: Entry, amount: i64) -> Result<(), AllocError>
+    ensures { OnOk result (string_bytes out.new ≡ string_bytes out.old ++ amount_text entry amount) }
+{
+    let name = entry_name(entry);
+    write!(out, " {name} {amount}\n")
+}
+
+/// The line of an entry, where it has an amount.
+#[tactic(auto, unfolding(crate::specs::Books::amount_line))]
+fn write_entry(
+    out: &mut String,
+    world: &World,
+    thing: Thing,
+    entry: Entry,
+    amount: i64,
+) -> Result<(), AllocError>
+    ensures { OnOk result (string_bytes out.new ≡ string_bytes out.old ++ amount_line world.now thing entry amount) }
+{
+    if amount == 0 {
+        return Ok(());
+    }
+    write_thing(out, world, thing)?;
+    write_amount(out, entry, amount)?;
+    Ok(())
+}
+
+/// The lines of these entries of a thing.
+fn write_entries(
+    out: &mut String,
+    world: &World,
+    campaign: &Campaign,
+    thing: Thing,
+    entries: &[Entry],
+) -> Result<(), AllocError>
+    requires { IsThing campaign.now.what thing }
+    ensures { OnOk result (string_bytes out.new ≡ string_bytes out.old ++ amount_lines world.now campaign.now.what.books thing entries.now) }
+{
+    for entry in entries {
+        let amount = campaign.booked(*entry, thing);
+        write_entry(out, world, thing, *entry, amount)?;
+    }
+    Ok(())
+}
+
+/// The line of how much there is of a thing.
+#[tactic(auto, unfolding(crate::specs::Books::total_line))]
+fn write_total(
+    out: &mut String,
+    world: &World,
+    campaign: &Campaign,
+    thing: Thing,
+) -> Result<(), AllocError>
+    requires { IsCountable campaign.now.what }
+    ensures { OnOk result (string_bytes out.new ≡ string_bytes out.old ++ total_line world.now campaign.now.what thing) }
+{
+    let amount = campaign.total(thing);
+    write_thing(out, world, thing)?;
+    write!(out, " total {amount}\n")?;
+    Ok(())
+}
+
+/// All lines of a thing.
+#[tactic(auto, unfolding(crate::specs::Books::thing_part))]
+fn write_part(
+    out: &mut String,
+    world: &World,
+    campaign: &Campaign,
+    thing: Thing,
+) -> Result<(), AllocError>
+    requires countable { IsCountable campaign.now.what }
+    requires thing { IsThing campaign.now.what thing }
+    ensures { OnOk result (string_bytes out.new ≡ string_bytes out.old ++ thing_part world.now campaign.now.what thing) }
+{
+    write_entries(out, world, campaign, thing, &ENTRIES)?;
+    write_total(out, world, campaign, thing)?;
+    Ok(())
+}
+
+/// The parts of the items, in the order of the world.
+fn write_items(out: &mut String, world: &World, campaign: &Campaign) -> Result<(), AllocError>
+    requires { AreInRange world.now campaign.now.what }
+    ensures { OnOk result (string_bytes out.new ≡ string_bytes out.old ++ item_parts world.now campaign.now.what (length world.now.items)) }
+{
+    for item in 0..world.items().len() {
+        write_part(out, world, campaign, Thing::Item(item as u16))?;
+    }
+    Ok(())
+}
+
+/// The text of the books of a campaign of this world: for money, people and each item in the order of the world, a line for
+/// each entry that has an amount, and one for how much all units and regions hold. AllocError without memory. See
+/// docs/FORMATS.md, "Books".
+#[tactic(auto, unfolding(crate::specs::Books::books_of))]
+pub fn books_text(alloc: Global, world: &World, campaign: &Campaign) -> Result<String, AllocError>
+    requires { AreInRange world.now campaign.now.what }
+    ensures definition { IfOk result (λ text. string_bytes text ≡ books_of world.now campaign.now.what) }
+{
+    let mut out = String::new(alloc);
+    write_part(&mut out, world, campaign, Thing::Money)?;
+    write_part(&mut out, world, campaign, Thing::People)?;
+    write_items(&mut out, world, campaign)?;
+    Ok(out)
+}

@@ -1,0 +1,48 @@
+//! Which structures stand in which region.
+ghost use Rattle.std.specs.Prelude.{◌≡◌, IfOk, OnOk};
+ghost use Rattle.atl_state.specs.Kept.{list_of};
+ghost use Rattle.atl_report.specs.Sites.{AreSites, with_site};
+
+use atl_state::Campaign;
+use atl_tables::{Numbered, Sequence};
+use std::alloc::{AllocError, Global};
+
+/// The numbers of the structures of each region, in rising order, by the region's number. A region without structures may
+/// have no list.
+pub type Sites = Numbered<Sequence<u32>>;
+
+/// Lists a structure as the last one of a region. Without memory the lists are to be given up.
+fn add_site(alloc: Global, sites: &mut Sites, region: u32, number: u32) -> Result<(), AllocError>
+    ensures { OnOk result (sites.new ≡ with_site sites.old region number) }
+{
+    match sites.get_mut(region) {
+        Some(listed) => listed.push(number),
+        None => {
+            let mut listed = Sequence::new(alloc);
+            listed.push(number)?;
+            sites.insert(region, listed)
+        }
+    }
+}
+
+/// The structures of each region, from one pass over the campaign's structures. They stay right while no structure comes or
+/// moves. AllocError without memory.
+pub fn sites_of(alloc: Global, campaign: &Campaign) -> Result<Sites, AllocError>
+    ensures { IfOk result (AreSites campaign.now.what.structures) }
+{
+    let mut sites = Numbered::new(alloc);
+    for (number, structure) in campaign.structures() {
+        add_site(alloc, &mut sites, structure.region, number)?;
+    }
+    Ok(sites)
+}
+
+/// The numbers of the structures of a region.
+pub(crate) fn sites_in(sites: &Sites, region: u32) -> &[u32]
+    ensures { result.now ≡ list_of sites.now region }
+{
+    match sites.get(region) {
+        Some(listed) => listed.as_slice(),
+        None => &[],
+    }
+}

@@ -1,0 +1,99 @@
+//! Who sees, and who is seen.
+ghost use Rattle.std.specs.Prelude.{◌≡◌, Some, nat_le};
+ghost use Rattle.std.specs.Option.{option_copied};
+ghost use Rattle.atl_state.specs.Good.{guards};
+ghost use Rattle.atl_report.specs.Watching.{is_watching, level_in, observation_of, observation_in, watch_over, is_seen, is_seen_there};
+
+use atl_state::{Campaign, Holding, Unit, level};
+use atl_tables::World;
+
+/// A faction that looks about in a region, with the best observation level of its units there.
+#[derive(Drop, Clone, Copy)]
+pub(crate) struct Watch {
+    pub(crate) faction: u32,
+    pub(crate) region: u32,
+    pub(crate) observation: u32,
+}
+
+/// Whether a unit is the faction's and has men.
+pub(crate) fn is_watching(unit: &Unit, faction: u32) -> bool
+    ensures { result ≡ is_watching faction (Some unit.now) }
+{
+    unit.faction == faction && unit.holding.men() > 0
+}
+
+/// Whether a unit has the guard flag set, and men.
+pub(crate) fn is_guard(unit: &Unit) -> bool
+    ensures { result ≡ guards unit.now }
+{
+    unit.holding.guard() && unit.holding.men() > 0
+}
+
+/// A unit's level in a skill that the world may name. Where it names none it is 0.
+fn level_in(skill: Option<u16>, holding: &Holding) -> u32
+    ensures { result ≡ level_in skill holding.now }
+{
+    match skill {
+        Some(skill) => level(holding.days_of(u32::from(skill)), holding.men()),
+        None => 0,
+    }
+}
+
+/// A unit's observation level, where the unit is the faction's, and else 0.
+fn observation_of(world: &World, faction: u32, unit: &Unit) -> u32
+    ensures { result ≡ observation_of world.now faction (Some unit.now) }
+{
+    if unit.faction == faction {
+        level_in(world.rules().observation, &unit.holding)
+    } else {
+        0
+    }
+}
+
+/// The best observation level of the faction's units in a region.
+fn observation_in(world: &World, campaign: &Campaign, faction: u32, region: u32) -> u32
+    ensures { result ≡ observation_in world.now campaign.now.what faction region }
+{
+    let mut best = 0u32;
+    for number in campaign.in_region(region) {
+        if let Some(unit) = campaign.unit(*number) {
+            best = best.max(observation_of(world, faction, unit));
+        }
+    }
+    best
+}
+
+/// What a faction can make out in a region.
+pub(crate) fn watch_over(world: &World, campaign: &Campaign, faction: u32, region: u32) -> Watch
+    ensures { result ≡ watch_over world.now campaign.now.what faction region }
+{
+    Watch {
+        faction,
+        region,
+        observation: observation_in(world, campaign, faction, region),
+    }
+}
+
+/// Whether a unit's stealth isn't too high for a watch.
+fn is_made_out(world: &World, watch: Watch, unit: &Unit) -> bool
+    ensures { result ≡ nat_le (level_in world.now.rules.stealth unit.now.holding) watch.observation }
+{
+    level_in(world.rules().stealth, &unit.holding) <= watch.observation
+}
+
+/// Whether a unit is seen, where it stands in the region.
+pub(crate) fn is_seen(world: &World, watch: Watch, unit: &Unit) -> bool
+    ensures { result ≡ is_seen world.now watch unit.now }
+{
+    unit.faction == watch.faction || is_guard(unit) || is_made_out(world, watch, unit)
+}
+
+/// Whether a unit that may be there is seen, and stands in the region.
+pub(crate) fn is_seen_there(world: &World, watch: Watch, unit: Option<&Unit>) -> bool
+    ensures { result ≡ is_seen_there world.now watch (option_copied unit.entry) }
+{
+    match unit {
+        Some(unit) => unit.region == watch.region && is_seen(world, watch, unit),
+        None => false,
+    }
+}

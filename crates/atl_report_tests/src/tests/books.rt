@@ -1,0 +1,218 @@
+//! The text of the books, worked out by hand.
+ghost use Rattle.atl_state.specs.Good.{IsGood};
+
+use super::compare::is_text;
+use super::scenes::{CART, MAN, NOBODY, Person, Scene, WOOD, campaign_of};
+use super::worlds::{ISLE, SMALL};
+use atl_report::books_text;
+use atl_state::Campaign;
+use atl_tables::{World, read_world};
+use std::alloc::Global;
+use std::process::Abort;
+use std::test::Fail;
+
+/// A month after the first faction joined: its man worked for 12, 10 were spent on upkeep, and the region's income is 1,000.
+const FIRST_MONTH: Scene = Scene {
+    people: &[Person { money: 1002, ..MAN }],
+    regions: &[(1, 1000, 1500)],
+    books: &[
+        (1, 0, 500),
+        (2, 0, 1000),
+        (3, 0, 1000),
+        (4, 0, 12),
+        (7, 0, -10),
+        (1, 1, 1000),
+        (2, 1, 1),
+    ],
+    ..NOBODY
+};
+
+const OF_FIRST_MONTH: &str = "money founding 500
+money joining 1000
+money income 1000
+money wages 12
+money upkeep -10
+money total 2502
+people founding 1000
+people joining 1
+people total 1001
+";
+
+/// The same month, in which the faction left.
+const QUITTING: Scene = Scene {
+    regions: &[(1, 1000, 1500)],
+    books: &[
+        (1, 0, 500),
+        (2, 0, 1000),
+        (3, 0, 1000),
+        (8, 0, -1000),
+        (1, 1, 1000),
+        (2, 1, 1),
+        (11, 1, -1),
+    ],
+    ..NOBODY
+};
+
+const OF_QUITTING: &str = "money founding 500
+money joining 1000
+money income 1000
+money lost -1000
+money total 1500
+people founding 1000
+people joining 1
+people left -1
+people total 1000
+";
+
+/// Every entry has an amount, and many are negative.
+const EVERY_ENTRY: Scene = Scene {
+    regions: &[(1, 1000, 489)],
+    books: &[
+        (13, 0, -12),
+        (12, 0, 11),
+        (11, 0, -10),
+        (10, 0, 9),
+        (9, 0, -8),
+        (8, 0, -199999999999999),
+        (7, 0, -6),
+        (6, 0, 5),
+        (5, 0, -4),
+        (4, 0, 3),
+        (3, 0, 199999999999999),
+        (2, 0, 1),
+        (1, 0, 500),
+        (1, 1, 1000),
+    ],
+    ..NOBODY
+};
+
+const OF_EVERY_ENTRY: &str = "money founding 500
+money joining 1
+money income 199999999999999
+money wages 3
+money recruiting -4
+money study 5
+money upkeep -6
+money lost -199999999999999
+money births -8
+money starved 9
+money left -10
+money made 11
+money used -12
+money total 489
+people founding 1000
+people total 1000
+";
+
+/// Two units made 7 and 13 wood, and a third one 2 carts of 10 of its 12 wood.
+const PRODUCTION: Scene = Scene {
+    people: &[
+        Person {
+            region: 3,
+            men: 15,
+            has: &[(WOOD, 7)],
+            ..MAN
+        },
+        Person {
+            region: 3,
+            men: 25,
+            has: &[(WOOD, 13)],
+            ..MAN
+        },
+        Person {
+            region: 3,
+            men: 4,
+            has: &[(WOOD, 2), (CART, 2)],
+            ..MAN
+        },
+    ],
+    books: &[
+        (1, 0, 650),
+        (1, 1, 1300),
+        (2, 1, 44),
+        (2, 2, 12),
+        (12, 2, 20),
+        (13, 2, -10),
+        (12, 3, 2),
+    ],
+    ..NOBODY
+};
+
+const OF_PRODUCTION: &str = "money founding 650
+money total 650
+people founding 1300
+people joining 44
+people total 1344
+item \"wood\" joining 12
+item \"wood\" made 20
+item \"wood\" used -10
+item \"wood\" total 22
+item \"cart\" made 2
+item \"cart\" total 2
+";
+
+/// Nobody has joined, and there are no items.
+const OF_THE_ISLE: &str = "money founding 650
+money total 650
+people founding 1300
+people total 1300
+item \"wood\" total 0
+item \"cart\" total 0
+";
+
+const OF_SMALL: [(Scene, &str); 3] = [
+    (FIRST_MONTH, OF_FIRST_MONTH),
+    (QUITTING, OF_QUITTING),
+    (EVERY_ENTRY, OF_EVERY_ENTRY),
+];
+
+const OF_ISLE: [(Scene, &str); 2] = [(PRODUCTION, OF_PRODUCTION), (NOBODY, OF_THE_ISLE)];
+
+fn tell(
+    rt: &impl Abort,
+    alloc: Global,
+    world: &World,
+    campaign: &Campaign,
+    wanted: &str,
+) -> Result<(), Fail>
+    requires { IsGood world.now campaign.now.what }
+{
+    let text = books_text(alloc, world, campaign)?;
+    is_text(rt, text.as_str(), wanted);
+    Ok(())
+}
+
+fn tells(
+    rt: &impl Abort,
+    alloc: Global,
+    world: &World,
+    scene: &Scene,
+    wanted: &str,
+) -> Result<(), Fail> {
+    let campaign = campaign_of(alloc, world, scene)?;
+    tell(rt, alloc, world, &campaign, wanted)
+}
+
+fn tells_all(
+    rt: &impl Abort,
+    alloc: Global,
+    world: &World,
+    cases: &[(Scene, &str)],
+) -> Result<(), Fail> {
+    for (scene, wanted) in cases {
+        tells(rt, alloc, world, scene, wanted)?;
+    }
+    Ok(())
+}
+
+#[test]
+fn books_of_money_and_people(rt: HostRuntime) -> Result<(), Fail> {
+    let world = read_world(rt.alloc(), SMALL)?;
+    tells_all(&rt, rt.alloc(), &world, &OF_SMALL)
+}
+
+#[test]
+fn books_of_items(rt: HostRuntime) -> Result<(), Fail> {
+    let world = read_world(rt.alloc(), ISLE)?;
+    tells_all(&rt, rt.alloc(), &world, &OF_ISLE)
+}

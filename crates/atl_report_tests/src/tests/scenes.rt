@@ -1,0 +1,290 @@
+//! Campaigns to be looked at. Each is made of rows that are checked, so it is one that commands can reach.
+ghost use Rattle.std.specs.Prelude.{IfOk};
+ghost use Rattle.atl_state.specs.Good.{IsGood};
+
+use atl_state::check::check;
+use atl_state::parts::{
+    Parts, StoredBooks, StoredFaction, StoredHas, StoredHead, StoredRegion, StoredReport,
+    StoredStructure, StoredUnit,
+};
+use atl_state::{Campaign, founded};
+use atl_tables::{Sequence, Text, World};
+use std::alloc::Global;
+use std::test::Fail;
+
+/// The sort of an item and of a skill in `has`.
+const ITEM: i64 = 0;
+
+const SKILL: i64 = 1;
+
+pub(crate) const WOOD: (i64, i64) = (ITEM, 0);
+
+pub(crate) const CART: (i64, i64) = (ITEM, 1);
+
+pub(crate) const LUMBERJACK: (i64, i64) = (SKILL, 0);
+
+pub(crate) const SAILING: (i64, i64) = (SKILL, 3);
+
+pub(crate) const STEALTH: (i64, i64) = (SKILL, 4);
+
+pub(crate) const OBSERVATION: (i64, i64) = (SKILL, 5);
+
+/// The kinds of structures.
+pub(crate) const BOAT: i64 = 0;
+
+pub(crate) const LODGE: i64 = 1;
+
+/// A unit of faction 1 or 2, of the name that a new unit has.
+#[derive(Clone, Copy)]
+pub(crate) struct Person {
+    pub faction: i64,
+    pub region: i64,
+    pub structure: i64,
+    pub men: i64,
+    pub money: i64,
+    pub guard: i64,
+    /// How much of an item, or how many days of a skill.
+    pub has: &'static [((i64, i64), i64)],
+}
+
+/// One man of the first faction in the first region, and nothing else.
+pub(crate) const MAN: Person = Person {
+    faction: 1,
+    region: 1,
+    structure: 0,
+    men: 1,
+    money: 0,
+    guard: 0,
+    has: &[],
+};
+
+#[derive(Clone, Copy)]
+pub(crate) struct Built {
+    pub kind: i64,
+    pub name: &'static str,
+    pub region: i64,
+    pub done: i64,
+    pub owner: i64,
+}
+
+/// What there is in a world, behind its founding and the joining of factions 1 and 2.
+#[derive(Clone, Copy)]
+pub(crate) struct Scene {
+    /// The units, numbered from 1.
+    pub people: &'static [Person],
+    /// The structures, numbered from 1.
+    pub built: &'static [Built],
+    /// The regions with peasants and money; none where they are as they were founded.
+    pub regions: &'static [(i64, i64, i64)],
+    /// What is booked: by entry and thing an amount. Where nothing is, all that units have is booked under joining.
+    pub books: &'static [(i64, i64, i64)],
+}
+
+pub(crate) const NOBODY: Scene = Scene {
+    people: &[],
+    built: &[],
+    regions: &[],
+    books: &[],
+};
+
+fn heads(alloc: Global, scene: &Scene) -> Result<Sequence<StoredHead>, Fail> {
+    let mut all = Sequence::new(alloc);
+    all.push(StoredHead {
+        id: 1,
+        format: 1,
+        month: 0,
+        next_faction: 3,
+        next_unit: (scene.people.len() as i64).wrapping_add(1),
+        next_structure: (scene.built.len() as i64).wrapping_add(1),
+        pass: Sequence::from_slice(alloc, b"gm")?,
+    })?;
+    Ok(all)
+}
+
+fn faction(alloc: Global, number: i64, name: &str, scene: &Scene) -> Result<StoredFaction, Fail> {
+    let there = scene.people.iter().any(|unit| unit.faction == number);
+    Ok(StoredFaction {
+        number,
+        joined_as: Sequence::from_slice(alloc, name.as_bytes())?,
+        name: Sequence::from_slice(alloc, name.as_bytes())?,
+        pass: Sequence::from_slice(alloc, b"pw")?,
+        gone: i64::from(!there),
+    })
+}
+
+fn factions(alloc: Global, scene: &Scene) -> Result<Sequence<StoredFaction>, Fail> {
+    let mut all = Sequence::new(alloc);
+    all.push(faction(alloc, 1, "Avalon", scene)?)?;
+    all.push(faction(alloc, 2, "Bree", scene)?)?;
+    Ok(all)
+}
+
+fn reports(alloc: Global) -> Result<Sequence<StoredReport>, Fail> {
+    let mut all = Sequence::new(alloc);
+    for faction in 1..=2i64 {
+        all.push(StoredReport {
+            faction,
+            text: Text::from_str(alloc, "A report.\n")?,
+        })?;
+    }
+    Ok(all)
+}
+
+fn unit(alloc: Global, number: i64, person: &Person) -> Result<StoredUnit, Fail> {
+    let name = format!(in alloc; "Unit {number}")?;
+    Ok(StoredUnit {
+        number,
+        faction: person.faction,
+        name: Sequence::from_slice(alloc, name.as_bytes())?,
+        region: person.region,
+        structure: person.structure,
+        men: person.men,
+        money: person.money,
+        guard: person.guard,
+    })
+}
+
+fn units(alloc: Global, people: &[Person]) -> Result<Sequence<StoredUnit>, Fail> {
+    let mut all = Sequence::new(alloc);
+    let mut number: i64 = 0;
+    for person in people {
+        number = number.wrapping_add(1);
+        all.push(unit(alloc, number, person)?)?;
+    }
+    Ok(all)
+}
+
+fn has_of(all: &mut Sequence<StoredHas>, unit: i64, has: &[((i64, i64), i64)]) -> Result<(), Fail> {
+    for ((sort, thing), amount) in has {
+        all.push(StoredHas {
+            unit,
+            sort: *sort,
+            thing: *thing,
+            amount: *amount,
+        })?;
+    }
+    Ok(())
+}
+
+fn has(alloc: Global, people: &[Person]) -> Result<Sequence<StoredHas>, Fail> {
+    let mut all = Sequence::new(alloc);
+    let mut number: i64 = 0;
+    for person in people {
+        number = number.wrapping_add(1);
+        has_of(&mut all, number, person.has)?;
+    }
+    Ok(all)
+}
+
+fn structure(alloc: Global, number: i64, built: &Built) -> Result<StoredStructure, Fail> {
+    Ok(StoredStructure {
+        number,
+        kind: built.kind,
+        name: Sequence::from_slice(alloc, built.name.as_bytes())?,
+        region: built.region,
+        done: built.done,
+        owner: built.owner,
+    })
+}
+
+fn structures(alloc: Global, built: &[Built]) -> Result<Sequence<StoredStructure>, Fail> {
+    let mut all = Sequence::new(alloc);
+    let mut number: i64 = 0;
+    for one in built {
+        number = number.wrapping_add(1);
+        all.push(structure(alloc, number, one)?)?;
+    }
+    Ok(all)
+}
+
+fn regions(alloc: Global, rows: &[(i64, i64, i64)]) -> Result<Sequence<StoredRegion>, Fail> {
+    let mut all = Sequence::new(alloc);
+    for (number, peasants, money) in rows {
+        all.push(StoredRegion {
+            number: *number,
+            peasants: *peasants,
+            money: *money,
+        })?;
+    }
+    Ok(all)
+}
+
+fn books(alloc: Global, rows: &[(i64, i64, i64)]) -> Result<Sequence<StoredBooks>, Fail> {
+    let mut all = Sequence::new(alloc);
+    for (entry, thing, amount) in rows {
+        all.push(StoredBooks {
+            entry: *entry,
+            thing: *thing,
+            amount: *amount,
+        })?;
+    }
+    Ok(all)
+}
+
+/// How much of an item a unit has.
+fn held(person: &Person, item: i64) -> i64 {
+    let mut sum: i64 = 0;
+    for ((sort, thing), amount) in person.has {
+        if *sort == ITEM && *thing == item {
+            sum = sum.wrapping_add(*amount);
+        }
+    }
+    sum
+}
+
+/// How much the units have of a thing: 0 is money, 1 people, and 2 the first item.
+fn brought(people: &[Person], thing: i64) -> i64 {
+    let mut sum: i64 = 0;
+    for person in people {
+        let amount = match thing {
+            0 => person.money,
+            1 => person.men,
+            _ => held(person, thing.wrapping_sub(2)),
+        };
+        sum = sum.wrapping_add(amount);
+    }
+    sum
+}
+
+/// Books all that the units have under joining.
+fn book_joining(people: &[Person], all: &mut Sequence<StoredBooks>) -> Result<(), Fail> {
+    for thing in 0..=3i64 {
+        let amount = brought(people, thing);
+        if amount != 0 {
+            all.push(StoredBooks {
+                entry: 2,
+                thing,
+                amount,
+            })?;
+        }
+    }
+    Ok(())
+}
+
+fn rows_of(alloc: Global, world: &World, scene: &Scene) -> Result<Parts, Fail> {
+    let mut parts = founded(alloc, world, b"gm")?.parts()?;
+    book_joining(scene.people, &mut parts.books)?;
+    if !scene.regions.is_empty() {
+        parts.regions = regions(alloc, scene.regions)?;
+    }
+    if !scene.books.is_empty() {
+        parts.books = books(alloc, scene.books)?;
+    }
+    parts.campaign = heads(alloc, scene)?;
+    parts.factions = factions(alloc, scene)?;
+    parts.units = units(alloc, scene.people)?;
+    parts.has = has(alloc, scene.people)?;
+    parts.structures = structures(alloc, scene.built)?;
+    parts.reports = reports(alloc)?;
+    Ok(parts)
+}
+
+pub(crate) fn campaign_of(alloc: Global, world: &World, scene: &Scene) -> Result<Campaign, Fail>
+    ensures { IfOk result (λ c. IsGood world.now c.what) }
+{
+    let rows = rows_of(alloc, world, scene)?;
+    match check(alloc, world, rows) {
+        Ok(campaign) => Ok(campaign),
+        Err(_) => Err(Fail::new("rows of a good campaign")),
+    }
+}
