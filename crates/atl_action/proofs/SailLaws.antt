@@ -4,13 +4,14 @@ use Rattle.std.specs.Prelude.{fold, nat_lt, option_map, unwrap_or, if◌then◌e
 use Rattle.std.specs.List.{AllByRecursion, list_any}
 use Rattle.std.specs.Option.{option_map_or}
 use Rattle.std.specs.Ordering.{nat_cmp}
-use Rattle.std.specs.FinMap.{FinMap, get}
+use Rattle.std.specs.FinMap.{FinMap, get, values}
 use Rattle.std.proofs.lemmas.Bool.{and_parts}
 use Rattle.atl_tables.specs.Planet.{Planet}
 use Rattle.atl_tables.specs.Sums.{changed}
 use Rattle.atl_tables.specs.declared.world.RegionPlan.{RegionPlan}
 use Rattle.atl_orders.specs.declared.order.Direction.{Direction}
 use Rattle.atl_orders.specs.declared.order.Order.TheVariants as orders
+use Rattle.atl_orders.specs.Bounds.{IsOrderOf}
 use Rattle.atl_orders.specs.Orders.{Said}
 use Rattle.atl_state.specs.declared.event.EventFault.{EventFault}
 use Rattle.atl_state.specs.declared.event.EventFault.TheVariants.{NoCrew, NoMen, NotComplete, NotInside, NotOwner, NoWay, TooHeavy}
@@ -23,13 +24,21 @@ use Rattle.atl_state.specs.Owners.{handed, heir, is_owned_by, placed, with_place
 use Rattle.atl_state.specs.State.{State, numbers_inside, with_guard, with_structure_region}
 use Rattle.atl_state.proofs.EveryLaws.{none_some}
 use Rattle.atl_state.proofs.RemovedLaws.{IsListed, listed_passing, passing_listed}
+use Rattle.atl_instant.specs.declared.written.Arrangement.TheVariants.{ByUnit}
+use Rattle.atl_instant.specs.Course.{Aliases, Course}
+use Rattle.atl_instant.specs.Fit.{AreFit}
+use Rattle.atl_instant.specs.Inside.{inside}
+use Rattle.atl_instant.specs.Meaning.{Condition}
 use Rattle.atl_instant.specs.Outcomes.{unless}
-use Rattle.atl_instant.specs.Steps.{IsOrderly, IsOwnOrder, IsSpared, IsSparing, StepsWell}
+use Rattle.atl_instant.specs.PhaseOrders.{Task, orders_of}
+use Rattle.atl_instant.specs.Staying.{IsNoWorse}
+use Rattle.atl_instant.specs.Steps.{IsOrderly, IsOwnOrder, IsSpared, IsSparing, StepsWell, carried_out, is_own, spares_others}
 use Rattle.atl_instant.specs.Unbooked.{books_nothing, moves_nothing}
 use Rattle.atl_instant.proofs.OutcomeLaws.{none_fits}
 use Rattle.atl_instant.proofs.StructureLaws.{at_number, changed_else, equal, get-changed, is_equal, is_unequal, len-changed}
-use Rattle.atl_instant.proofs.StepLaws.{well_same}
-use Rattle.atl_action.specs.Sail.{IsCarried, capacity, crew_needed, crew_of, is_complete_ship, is_way, sail, sail_by, sail_fault, sail_said, sail_step, sailed, sum_inside, taken_along}
+use Rattle.atl_instant.proofs.StayingLaws.{no_worse}
+use Rattle.atl_instant.proofs.StepLaws.{no_worse_spares, orders_fit, orders_spare, well_same}
+use Rattle.atl_action.specs.Sail.{IsAboardWith, IsCarried, capacity, crew_needed, crew_of, is_complete_ship, is_sailing, is_way, sail, sail_by, sail_fault, sail_meaning, sail_said, sail_step, sailed, sum_inside, taken_along, takes_sailing}
 use Rattle.atl_action.specs.Ways.{is_region, neighbour}
 use Rattle.atl_action.proofs.PeopleLaws.{AreSamePeople, people_changed, people_same, people_twice, steady_well, total_people}
 use Rattle.atl_action.proofs.TravelLaws.{AreTravelled, IsPut, IsSameStructure, IsSameUnit, steady-travelled, travelled, under}
@@ -40,6 +49,9 @@ not_false false h = cc
 
 false_true : {P : Type 0} → false ≡ true → P
 false_true e = cc
+
+abbrev structure_in : Option Unit → ℕ
+structure_in o = option_map_or (λ (x : Unit). x.structure) o 0
 
 -- ---- lists of units
 
@@ -310,6 +322,24 @@ module _ (w : Planet) (c : State) (ship to : ℕ) (steady : IsSteady w c) (x : S
       subst (λ d. IsSpared IsCarried d k v) (sym sailed_is)
       (record { unit = f k v; there = units_at k ∙ ap (option_map (f k)) there; spared = carried_by v (v.structure == ship) refl })
 
+  -- everybody stays inside what it was inside
+  pub sailed_inside : (k : ℕ) → inside (sailed c ship to) k ≡ inside c k
+  sailed_inside k = ap (λ d. inside d k) sailed_is ∙ ap structure_in (units_at k) ∙ by_unit (get c.units k)
+    where
+      by_unit : (o : Option Unit) → structure_in (option_map (f k) o) ≡ structure_in o
+      by_unit None = refl
+      by_unit (Some v) = inside_same k v
+
+  stays_by : (v : Unit) (b : Bool) → (v.structure == ship) ≡ b → v.structure ≢ ship → IsNoWorse v (gone_if ship to b v)
+  stays_by v true t apart = absurd (apart (is_equal v.structure ship t))
+  stays_by v false t apart = no_worse v
+
+  -- who isn't inside the ship stays as it is
+  pub sailed_stays : (k : ℕ) (v : Unit) → get c.units k ≡ Some v → v.structure ≢ ship → IsSpared IsNoWorse (sailed c ship to) k v
+  sailed_stays k v there apart =
+      subst (λ d. IsSpared IsNoWorse d k v) (sym sailed_is)
+      (record { unit = f k v; there = units_at k ∙ ap (option_map (f k)) there; spared = stays_by v (v.structure == ship) refl apart })
+
 -- ---- an order
 
 carried_same : (v : Unit) → IsCarried v v
@@ -345,19 +375,19 @@ way_there w from (Some r) t = region_there w r (and_parts (is_region w r) (not (
 
 -- what is so of the campaign as it is, and of that in which a whole ship has gone, is so of the campaign behind the order
 sail_cases : (P : State → Type 0) (w : Planet) (c : State) (n : ℕ) (direction : Direction) → P c
-    → ((ship to : ℕ) (x : Structure) → get c.structures ship ≡ Some x → is_ship w x ≡ true → x.done ≡ size_of w x.kind → IsThere w.regions to → P (sailed c ship to)) → P (sail w c n direction).0
+    → ((ship to : ℕ) (x : Structure) → get c.structures ship ≡ Some x → is_ship w x ≡ true → x.done ≡ size_of w x.kind → IsThere w.regions to → inside c n ≡ ship → P (sailed c ship to)) → P (sail w c n direction).0
 unfolding sail
 sail_cases P w c n direction same gone_off = by_unit (get c.units n) refl
   where
-    by_ship : (u : Unit) (to : Option ℕ) (o : Option Structure) → get c.structures u.structure ≡ o → not (is_complete_ship w o) ≡ false → not (is_way w u.region to) ≡ false → P (sailed c u.structure (unwrap_or to 0))
-    by_ship u to None at whole way = false_true (sym whole)
-    by_ship u to (Some x) at whole way =
+    by_ship : (u : Unit) → get c.units n ≡ Some u → (to : Option ℕ) (o : Option Structure) → get c.structures u.structure ≡ o → not (is_complete_ship w o) ≡ false → not (is_way w u.region to) ≡ false → P (sailed c u.structure (unwrap_or to 0))
+    by_ship u here to None at whole way = false_true (sym whole)
+    by_ship u here to (Some x) at whole way =
         let parts = and_parts (is_ship w x) (x.done == size_of w x.kind) (not_false (is_complete_ship w (Some x)) whole) in
-        gone_off u.structure (unwrap_or to 0) x at parts.0 (is_equal x.done (size_of w x.kind) parts.1) (way_there w u.region to way)
+        gone_off u.structure (unwrap_or to 0) x at parts.0 (is_equal x.done (size_of w x.kind) parts.1) (way_there w u.region to way) (ap structure_in here)
 
-    by_fault : (u : Unit) (to : Option ℕ) (o : Option EventFault) → sail_fault w c n u (get c.structures u.structure) to ≡ o → P (unless c o (sailed c u.structure (unwrap_or to 0), Done 0)).0
-    by_fault u to (Some fault) e = same
-    by_fault u to None e =
+    by_fault : (u : Unit) → get c.units n ≡ Some u → (to : Option ℕ) (o : Option EventFault) → sail_fault w c n u (get c.structures u.structure) to ≡ o → P (unless c o (sailed c u.structure (unwrap_or to 0), Done 0)).0
+    by_fault u here to (Some fault) e = same
+    by_fault u here to None e =
         let ship = get c.structures u.structure in
         let heavy = (nat_lt (capacity w ship) (sum_inside (load_of w) c u.structure), TooHeavy) ∷ [] in
         let crew = (nat_lt (sum_inside (crew_of w) c u.structure) (crew_needed w ship), NoCrew) ∷ heavy in
@@ -369,21 +399,21 @@ sail_cases P w c n direction same gone_off = by_unit (get c.units n) refl
         let three = none_fits (not (is_owned_by ship n)) NotOwner whole two.1 in
         let four = none_fits (not (is_complete_ship w ship)) NotComplete way three.1 in
         let five = none_fits (not (is_way w u.region to)) NoWay crew four.1 in
-        by_ship u to ship refl four.0 five.0
+        by_ship u here to ship refl four.0 five.0
 
     by_unit : (o : Option Unit) → get c.units n ≡ o → P (sail_by w c n direction o).0
     by_unit None there = same
-    by_unit (Some u) there = by_fault u (neighbour w u.region direction) (sail_fault w c n u (get c.structures u.structure) (neighbour w u.region direction)) refl
+    by_unit (Some u) there = by_fault u there (neighbour w u.region direction) (sail_fault w c n u (get c.structures u.structure) (neighbour w u.region direction)) refl
 
 sail_well : (w : Planet) (c : State) (n : ℕ) (direction : Direction) → IsSteady w c → StepsWell IsSteady books_nothing w c (sail w c n direction).0
 sail_well w c n direction steady =
     sail_cases (λ d. StepsWell IsSteady books_nothing w c d) w c n direction (well_same w c steady)
-    (λ ship to x at floats whole there. sailed_well w c ship to steady x at floats whole ((steady.known.regions to).1 there))
+    (λ ship to x at floats whole there here. sailed_well w c ship to steady x at floats whole ((steady.known.regions to).1 there))
 
 sail_spares : (w : Planet) (c : State) (n : ℕ) (direction : Direction) → IsSteady w c → (k : ℕ) (v : Unit) → get c.units k ≡ Some v → IsSpared IsCarried (sail w c n direction).0 k v
 sail_spares w c n direction steady k v there =
     sail_cases (λ d. IsSpared IsCarried d k v) w c n direction (record { unit = v; there = there; spared = carried_same v })
-    (λ ship to x at floats whole near. sailed_spares w c ship to steady x at k v there)
+    (λ ship to x at floats whole near here. sailed_spares w c ship to steady x at k v there)
 
 pub sail_orderly : IsOrderly sail_step IsSteady books_nothing moves_nothing IsOwnOrder IsCarried
 sail_orderly = record {
@@ -400,3 +430,43 @@ sail_orderly = record {
     spared : (w : Planet) (c : State) (n : ℕ) → IsSteady w c → (k : ℕ) (v : Unit) → get c.units k ≡ Some v → (s : Said) → IsSpared IsCarried (sail_said w c n s).0 k v
     spared w c n steady k v there (orders.Sail direction) = sail_spares w c n direction steady k v there
     spared w c n steady k v there other = record { unit = v; there = there; spared = carried_same v }
+
+-- ---- who stays: where nobody inside is ordered to sail
+
+-- everybody is inside what it was inside as the phase began
+abbrev Stays : State → Condition
+Stays begun w c = IsSteady w c × ((k : ℕ) → inside c k ≡ inside begun k)
+
+module _ (begun : State) where
+  order_inside : (w : Planet) (c : State) (n : ℕ) → IsSteady w c → (s : Said) (k : ℕ) → inside (sail_said w c n s).0 k ≡ inside c k
+  order_inside w c n steady (orders.Sail direction) k = sail_cases (λ d. inside d k ≡ inside c k) w c n direction refl (λ ship to x at floats whole there here. sailed_inside w c ship to steady x at k)
+  order_inside w c n steady other k = refl
+
+  order_well : (w : Planet) (a : Aliases) (c : State) (t : Task) → Stays begun w c → IsOrderOf w t.said → is_own c t ≡ true → StepsWell (Stays begun) books_nothing w c (sail_step w a c t).0
+  order_well w a c t stays fit own =
+      let well = sail_orderly.well w a c t stays.0 fit own in
+      record { holds_still = (well.holds_still, λ k. order_inside w c t.unit stays.0 t.said k ∙ stays.1 k); same_month = well.same_month; balances = well.balances; drawn = well.drawn }
+
+  order_stays : (w : Planet) (c : State) (t : Task) → Stays begun w c → (k : ℕ) (v : Unit) → get c.units k ≡ Some v → (IsAboardWith begun t k v.faction → ⊥) → (s : Said) → IsSpared IsNoWorse (sail_said w c t.unit s).0 k v
+  order_stays w c t stays k v there apart (orders.Sail direction) =
+      sail_cases (λ d. IsSpared IsNoWorse d k v) w c t.unit direction (record { unit = v; there = there; spared = no_worse v })
+      (λ ship to x at floats whole near here. sailed_stays w c ship to stays.0 x at k v there (λ same.
+      let inside_is : inside c k ≡ v.structure = ap structure_in there in
+      apart (record {
+        aboard = λ none. ship_some w c ship to stays.0 x at (sym same ∙ sym inside_is ∙ stays.1 k ∙ none);
+        together = sym (stays.1 t.unit) ∙ here ∙ sym same ∙ sym inside_is ∙ stays.1 k;
+      })))
+  order_stays w c t stays k v there apart other = record { unit = v; there = there; spared = no_worse v }
+
+  stays_orderly : IsOrderly sail_step (Stays begun) books_nothing moves_nothing (IsAboardWith begun) IsNoWorse
+  stays_orderly = record {
+    well = order_well;
+    sparing = no_worse_spares;
+    spared = λ w a c t stays own k v there apart. order_stays w c t stays k v there apart t.said;
+    bounded = λ w c stays e t. omega arith;
+  }
+
+pub sail_spares_others : (w : Planet) (c : State) (m : Course) → IsSteady w c → AreFit w m.readings → spares_others (IsAboardWith c) IsNoWorse is_sailing w m c (sail_meaning w c m).0
+unfolding carried_out
+sail_spares_others w c m steady fit =
+    orders_spare sail_step takes_sailing (stays_orderly c) w c m (values (orders_of is_sailing ByUnit m.aliases m.readings)) (steady, λ k. refl) (orders_fit w m.aliases m.readings fit is_sailing)

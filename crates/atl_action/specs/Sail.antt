@@ -1,5 +1,5 @@
 -- SAIL: ships go to a neighbouring region with all that are inside. See docs/RULES.md, "Sailing".
-use Rattle.std.specs.Prelude.{◌≡◌, ◌≤◌, ℕ, ◌*◌, ◌==◌, ◌&&◌, nat_lt, Bool, true, false, not, [], ◌∷◌, fold, sum_by, unwrap_or, Option, Some, None}
+use Rattle.std.specs.Prelude.{◌≡◌, ◌≢◌, ◌≤◌, ℕ, ◌*◌, ◌==◌, ◌&&◌, nat_lt, Bool, true, false, not, [], ◌∷◌, fold, sum_by, unwrap_or, Option, Some, None}
 use Rattle.std.specs.List.{slice_get}
 use Rattle.std.specs.Option.{option_map_or}
 use Rattle.std.specs.FinMap.{get}
@@ -20,8 +20,11 @@ use Rattle.atl_state.specs.Held.{Held, amount_of}
 use Rattle.atl_state.specs.Levels.{level_of, load_of}
 use Rattle.atl_state.specs.Owners.{is_owned_by, with_place}
 use Rattle.atl_state.specs.State.{State, numbers_inside, with_guard, with_structure_region}
+use Rattle.atl_instant.specs.Inside.{inside}
 use Rattle.atl_instant.specs.Meaning.{Keeping, Meaning}
 use Rattle.atl_instant.specs.Outcomes.{first_fault, unless}
+use Rattle.atl_instant.specs.PhaseOrders.{Task}
+use Rattle.atl_instant.specs.Staying.{IsNoWorse}
 use Rattle.atl_instant.specs.Steps.{IsOwnOrder, Step, carried_out, spares_others}
 use Rattle.atl_action.specs.Ways.{is_region, neighbour}
 
@@ -129,6 +132,11 @@ pub record IsCarried (before after : Unit) : Type 0 where
   pub items : (i : ℕ) → amount_of before.holding.items i ≤ amount_of after.holding.items i
   pub days : (s : ℕ) → amount_of before.holding.days s ≤ amount_of after.holding.days s
 
--- who gives no such order goes at most with what it is inside
+-- an order for a unit that is inside the same structure, as the phase begins
+pub record IsAboardWith (begun : State) (t : Task) (n f : ℕ) : Type 0 where
+  pub aboard : inside begun n ≢ 0
+  pub together : inside begun t.unit ≡ inside begun n
+
+-- who gives no such order goes at most with what it is inside, and stays where nobody inside is ordered to sail
 abbrev pub sail_keeps : Keeping
-sail_keeps = spares_others IsOwnOrder IsCarried is_sailing
+sail_keeps w m before after = spares_others IsOwnOrder IsCarried is_sailing w m before after × spares_others (IsAboardWith before) IsNoWorse is_sailing w m before after
