@@ -1,5 +1,7 @@
 //! Campaigns of rows, months without mailings, and what is booked.
 ghost use Rattle.std.specs.Prelude.{IfOk};
+ghost use Rattle.atl_tables.specs.Planet.{Planet};
+ghost use Rattle.atl_instant.specs.Fit.{AreFit};
 ghost use Rattle.atl_state.specs.Good.{IsGood};
 
 use atl_instant::Month;
@@ -156,7 +158,9 @@ pub(crate) fn campaign_of(alloc: Global, world: &World, units: &[Stood]) -> Resu
 }
 
 /// A month without mailings, with these words.
-pub(crate) fn month_of(alloc: Global, words: &[u32]) -> Result<Month, AllocError> {
+pub(crate) fn month_of(alloc: Global, words: &[u32]) -> Result<Month, AllocError>
+    ensures { IfOk result (λ month. (w : Planet) → AreFit w month.readings) }
+{
     let words = Vec::from_slice(alloc, words)?;
     Ok(Month::new(alloc, Vec::new(alloc), words))
 }
