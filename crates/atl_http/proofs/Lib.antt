@@ -1,1 +1,4 @@
+pub mod HeadLaws
+pub mod JsonLaws
+pub mod PlaceLaws
 mod WordLaws

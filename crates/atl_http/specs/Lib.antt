@@ -1,1 +1,7 @@
 pub mod Dice
+pub mod Routes
+pub mod Fields
+pub mod Checks
+pub mod Heads
+pub mod Replies
+pub mod Finding
