@@ -1,4 +1,5 @@
 pub mod HeadLaws
 pub mod JsonLaws
+pub mod MovingLaws
 pub mod PlaceLaws
 mod WordLaws

@@ -4,4 +4,5 @@ pub mod Fields
 pub mod Checks
 pub mod Heads
 pub mod Replies
+pub mod Moving
 pub mod Finding

@@ -5,12 +5,13 @@ use Rattle.http.specs.StatusCode.{reason_phrase}
 use Rattle.atl_tables.specs.Texts.{◌▸◌}
 use Rattle.atl_http.specs.declared.problem.Problem.{Problem}
 use Rattle.atl_http.specs.declared.problem.Problem.TheVariants.{BadRequest, NoRoute, BadMethod, NoLength, BodyTooLong, NoPass, BadJson}
+use Rattle.atl_http.specs.declared.route.Route.{Route}
 use Rattle.atl_http.specs.Routes.{method_of}
 
--- a reply's status, the method that is allowed where another one was asked for, what its body is, and its body
+-- a reply's status, the route whose method is allowed where another one was asked for, what its body is, and its body
 pub record Reply : Type 0 where
   pub status : ℕ
-  pub allow : Option (List ℕ)
+  pub allow : Option Route
   pub kind : List ℕ
   pub body : List ℕ
 
@@ -22,17 +23,18 @@ plain = codes "text/plain"
 
 -- ---- its bytes
 
-abbrev pub allow_line : Option (List ℕ) → List ℕ
+abbrev pub allow_line : Option Route → List ℕ
 allow_line None = []
-allow_line (Some method) = codes "Allow: " ▸ method ▸ codes "\r\n"
+allow_line (Some route) = codes "Allow: " ▸ method_of route ▸ codes "\r\n"
 
-unfoldable pub head_of : Reply → List ℕ
-head_of r =
-    codes "HTTP/1.1 " ▸ decimal r.status ▸ codes " " ▸ unwrap_or (reason_phrase r.status) [] ▸ codes "\r\nContent-Type: " ▸ r.kind
-    ▸ codes "\r\nContent-Length: " ▸ decimal (length r.body) ▸ codes "\r\nConnection: close\r\n"
+-- the lines that every reply begins with
+unfoldable pub head_of : (status : ℕ) → (kind body : List ℕ) → List ℕ
+head_of status kind body =
+    codes "HTTP/1.1 " ▸ decimal status ▸ codes " " ▸ unwrap_or (reason_phrase status) [] ▸ codes "\r\nContent-Type: " ▸ kind
+    ▸ codes "\r\nContent-Length: " ▸ decimal (length body) ▸ codes "\r\nConnection: close\r\n"
 
-unfoldable pub bytes_of : Reply → List ℕ
-bytes_of r = head_of r ▸ allow_line r.allow ▸ codes "\r\n" ▸ r.body
+abbrev pub bytes_of : Reply → List ℕ
+bytes_of r = head_of r.status r.kind r.body ▸ allow_line r.allow ▸ codes "\r\n" ▸ r.body
 
 -- ---- what is told of a problem
 
@@ -54,8 +56,8 @@ problem_status BodyTooLong = 413
 problem_status NoPass = 400
 problem_status BadJson = 400
 
-abbrev pub allowed : Problem → Option (List ℕ)
-allowed (BadMethod route) = Some (method_of route)
+abbrev pub allowed : Problem → Option Route
+allowed (BadMethod route) = Some route
 allowed BadRequest = None
 allowed NoRoute = None
 allowed NoLength = None

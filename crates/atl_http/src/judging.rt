@@ -86,8 +86,8 @@ fn first_fields(fields: &[HeaderSpan], count: usize) -> &[HeaderSpan]
     &fields[..count]
 }
 
-/// What stands behind a head of this length.
-fn behind(seen: &[u8], len: usize) -> &[u8]
+/// What stands behind so many bytes.
+pub fn behind(seen: &[u8], len: usize) -> &[u8]
     requires { len ≤ length seen.now }
     ensures { result.now ≡ drop len seen.now }
 {

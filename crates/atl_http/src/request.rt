@@ -1,4 +1,6 @@
 //! Requests.
+ghost use Rattle.std.specs.Prelude.{◌≡◌, MatchBool};
+
 use crate::problem::Problem;
 use atl_tables::Sequence;
 
@@ -59,6 +61,21 @@ impl Drop for Verdict {
             Verdict::More => {}
             Verdict::Refused(_) => {}
             Verdict::Asks(_) => {}
+        }
+    }
+}
+
+impl Verdict {
+    ghost use Rattle.atl_http.specs.declared.request.Verdict.TheVariants.{More};
+    ghost use Rattle.atl_http.specs.Heads.{IsFinal};
+
+    /// Whether the request is whole, or refused.
+    pub fn is_final(&self) -> bool
+        ensures { MatchBool result (IsFinal self.now) (self.now ≡ More) }
+    {
+        match self {
+            Verdict::More => false,
+            Verdict::Refused(_) | Verdict::Asks(_) => true,
         }
     }
 }
