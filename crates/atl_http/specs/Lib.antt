@@ -4,5 +4,7 @@ pub mod Fields
 pub mod Checks
 pub mod Heads
 pub mod Replies
+pub mod Answered
+pub mod Serving
 pub mod Moving
 pub mod Finding

@@ -1,6 +1,10 @@
 -- What reading a request and writing a reply leave, and what stands between them. `before` and `after` are the known bytes that a reader has left, or that a writer holds.
-use Rattle.std.specs.Prelude.{◌≡◌, ◌≤◌, ℕ, List, [], ◌++◌, length, take, string_bytes, Option, Some, None, Result, Ok, Err, ⊤}
+use Rattle.std.specs.Prelude.{◌≡◌, ◌≤◌, ◌⊎◌, ℕ, List, [], ◌++◌, length, take, string_bytes, Option, Some, None, Result, Ok, Err, ⊤}
 use Rattle.std.specs.Io.KnownBytes.{Keeps, Appends, Consumes, IsAtEnd}
+use Rattle.std.specs.declared.alloc.AllocError.{AllocError}
+use Rattle.sqlite_trees.specs.declared.store.Store.{Ghosts}
+use Rattle.atl_service.specs.Engine.{Engine}
+use Rattle.atl_http.specs.declared.dice.Dice.{Dice}
 use Rattle.atl_http.specs.declared.message.Message.{Message}
 use Rattle.atl_http.specs.declared.moving.HttpFault.{HttpFault}
 use Rattle.atl_http.specs.declared.moving.HttpFault.TheVariants.{Cut, ReadFault, WriteFault, Memory}
@@ -8,6 +12,7 @@ use Rattle.atl_http.specs.declared.request.Verdict.{Verdict}
 use Rattle.atl_http.specs.declared.request.Verdict.TheVariants.{More}
 use Rattle.atl_http.specs.Heads.{Judges, IsFinal}
 use Rattle.atl_http.specs.Replies.{Reply, bytes_of}
+use Rattle.atl_http.specs.Serving.{Told}
 
 -- ---- reading
 
@@ -45,3 +50,8 @@ Sends before after bytes (Err Cut) = ⊥
 Sends before after bytes (Err ReadFault) = ⊥
 Sends before after bytes (Err WriteFault) = (count : ℕ) × Appends before after (take count bytes)
 Sends before after bytes (Err Memory) = ⊥
+
+-- a whole request was told of, unless there was no memory; a command may have been run then
+abbrev pub Tells : {S : Type 0} → Ghosts S → Dice → (old : Engine S) → Verdict → Result Message AllocError → (new : Engine S) → Type 0
+Tells g dice old verdict (Ok message) new = (reply : Reply) × Says reply message × Told g dice old verdict reply new
+Tells g dice old verdict (Err e) new = (new ≡ old) ⊎ ((reply : Reply) × Told g dice old verdict reply new)

@@ -1,6 +1,7 @@
-//! A campaign's side of the net.
+//! A campaign's side of the net: one request, its reply, and the words that dice give.
 #![tactic(auto)]
 
+mod answering;
 mod checks;
 pub mod dice;
 mod fields;
@@ -10,6 +11,7 @@ pub mod moving;
 pub mod problem;
 pub mod request;
 pub mod route;
+pub mod serving;
 
 pub use dice::Dice;
 pub use judging::judged;
@@ -17,3 +19,4 @@ pub use moving::HttpFault;
 pub use problem::Problem;
 pub use request::{Request, Verdict};
 pub use route::Route;
+pub use serving::serve_one;

@@ -10,7 +10,11 @@ use http::StatusCode;
 use std::alloc::{AllocError, Global};
 use std::fmt::Write;
 
-const JSON: &str = "application/json";
+/// What the body of an answer is, but for a report.
+pub const JSON: &str = "application/json";
+
+/// What a report is.
+pub const PLAIN: &str = "text/plain";
 
 /// A reply: its status, and all its bytes.
 pub struct Message {

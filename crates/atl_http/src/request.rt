@@ -1,8 +1,11 @@
 //! Requests.
-ghost use Rattle.std.specs.Prelude.{◌≡◌, MatchBool};
+ghost use Rattle.std.specs.Prelude.{◌≡◌, IfOk, MatchBool};
 
+use crate::dice::Dice;
 use crate::problem::Problem;
+use atl_service::Command;
 use atl_tables::Sequence;
+use std::alloc::{AllocError, Global};
 
 /// What is asked for by a whole request that passes every check.
 pub enum Request {
@@ -47,22 +50,55 @@ impl Drop for Request {
     }
 }
 
+impl Request {
+    ghost use Rattle.atl_http.specs.Serving.{command_of};
+
+    /// The command that is asked for, with the words of the dice: of the faction that comes next, or of a month for so many
+    /// regions. AllocError without memory for them.
+    pub fn into_command(
+        self,
+        alloc: Global,
+        dice: Dice,
+        next: u32,
+        regions: usize,
+    ) -> Result<Command, AllocError>
+        ensures { IfOk result (λ command. command ≡ command_of dice next regions self) }
+    {
+        match self {
+            Request::Join { name, pass } => Ok(Command::Join {
+                name,
+                pass,
+                word: dice.join_word(next),
+            }),
+            Request::Orders {
+                faction,
+                pass,
+                text,
+            } => Ok(Command::Mail {
+                faction,
+                pass,
+                text,
+            }),
+            Request::Close { month, pass } => {
+                let words = dice.month_words(alloc, month, regions)?;
+                Ok(Command::Close {
+                    month,
+                    pass,
+                    words: Sequence::from_vec(words),
+                })
+            }
+            Request::Report { faction, pass } => Ok(Command::Report { faction, pass }),
+        }
+    }
+}
+
 /// What the bytes that have come of a request come to.
+#[derive(Drop)]
 pub enum Verdict {
     /// The request isn't whole.
     More,
     Refused(Problem),
     Asks(Request),
-}
-
-impl Drop for Verdict {
-    fn drop(self) {
-        match self {
-            Verdict::More => {}
-            Verdict::Refused(_) => {}
-            Verdict::Asks(_) => {}
-        }
-    }
 }
 
 impl Verdict {
