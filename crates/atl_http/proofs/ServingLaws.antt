@@ -1,4 +1,4 @@
--- Laws of serving: what each part leaves makes what the whole leaves.
+-- Laws of what is told of a request.
 use Rattle.std.proofs.Common.{◌≡◌, ℕ, List, take, Option, Some, None, refl, sym, ap, ◌∙◌, subst, inl, inr}
 use Rattle.std.specs.Prelude.{Result, Ok, Err, IfOk, string_bytes, ◌⊎◌}
 use Rattle.std.specs.declared.alloc.AllocError.{AllocError}
@@ -20,34 +20,6 @@ use Rattle.atl_http.specs.Heads.{Judges, IsFinal}
 use Rattle.atl_http.specs.Replies.{Reply, bytes_of, problem_reply}
 use Rattle.atl_http.specs.Serving.{Told, Known, Serves, command_in}
 use Rattle.atl_http.specs.Moving.{Receives, Sends, Says, Tells}
-
-pub keeps_all : (known : Option (List ℕ)) → Keeps known known
-keeps_all None = tt
-keeps_all (Some xs) = refl
-
--- without a whole request nothing is written
-pub unread : {S : Type 0} (g : Ghosts S) (dice : Dice) (left after held : Option (List ℕ)) (old : Engine S) (seen : List ℕ) (fault : HttpFault) → Receives left after seen (Err fault) → Serves g dice (record { left = left; held = held }) (record { left = after; held = held }) old (Err fault) old
-unread g dice left after held old seen Cut (consumed, judged, at_end) = (seen, consumed, judged, at_end, keeps_all held, refl)
-unread g dice left after held old seen ReadFault (consumed, judged) = (seen, consumed, judged, keeps_all held, refl)
-unread g dice left after held old seen WriteFault none = absurd none
-unread g dice left after held old seen Memory done = (keeps_all held, inl refl)
-
--- without memory for the reply nothing is written
-pub untold : {S : Type 0} (g : Ghosts S) (dice : Dice) (left after held : Option (List ℕ)) (old new : Engine S) (seen : List ℕ) (verdict : Verdict) → Consumes left after seen → Judges seen verdict → ((new ≡ old) ⊎ ((reply : Reply) × Told g dice old verdict reply new)) → Serves g dice (record { left = left; held = held }) (record { left = after; held = held }) old (Err Memory) new
-untold g dice left after held old new seen verdict consumed judged (inl same) = (keeps_all held, inl same)
-untold g dice left after held old new seen verdict consumed judged (inr (reply, told)) = (keeps_all held, inr (seen, reply, consumed, (verdict, judged, told)))
-
--- the reply is written, or a front of it
-pub unsent : {S : Type 0} (g : Ghosts S) (dice : Dice) (left after held written : Option (List ℕ)) (old new : Engine S) (seen : List ℕ) (verdict : Verdict) (message : Message) (bytes : List ℕ) (fault : HttpFault) → Consumes left after seen → Judges seen verdict → bytes ≡ string_bytes message.bytes → (reply : Reply) × Says reply message × Told g dice old verdict reply new → Sends held written bytes (Err fault) → Serves g dice (record { left = left; held = held }) (record { left = after; held = written }) old (Err fault) new
-unsent g dice left after held written old new seen verdict message bytes Cut consumed judged e told none = absurd none
-unsent g dice left after held written old new seen verdict message bytes ReadFault consumed judged e told none = absurd none
-unsent g dice left after held written old new seen verdict message bytes WriteFault consumed judged e (reply, (status_is, bytes_are), told) (count, part) =
-    (seen, reply, consumed, (verdict, judged, told), count, subst (λ l. Appends held written (take count l)) (e ∙ bytes_are) part)
-unsent g dice left after held written old new seen verdict message bytes Memory consumed judged e told none = absurd none
-
-pub sent : {S : Type 0} (g : Ghosts S) (dice : Dice) (left after held written : Option (List ℕ)) (old new : Engine S) (seen : List ℕ) (verdict : Verdict) (message : Message) (bytes : List ℕ) → Consumes left after seen → Judges seen verdict → bytes ≡ string_bytes message.bytes → (reply : Reply) × Says reply message × Told g dice old verdict reply new → Appends held written bytes → Serves g dice (record { left = left; held = held }) (record { left = after; held = written }) old (Ok message.status) new
-sent g dice left after held written old new seen verdict message bytes consumed judged e (reply, (status_is, bytes_are), told) all =
-    (seen, reply, consumed, (verdict, judged, told), status_is, subst (λ l. Appends held written l) (e ∙ bytes_are) all)
 
 -- what is told of a problem
 pub told_problem : {S : Type 0} (g : Ghosts S) (dice : Dice) (old : Engine S) (verdict : Verdict) (problem : Problem) (r : Result Message AllocError) → verdict ≡ Refused problem → IfOk r (Says (problem_reply problem)) → Tells g dice old verdict r old
