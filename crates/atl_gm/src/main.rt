@@ -10,6 +10,7 @@ mod join;
 mod mail;
 mod options;
 mod report;
+mod serve;
 mod subcommand;
 mod told;
 mod trial;
@@ -29,7 +30,10 @@ type All = (
         found::Found,
         (
             join::Join,
-            (mail::Mail, (close::Close, (report::Report, ()))),
+            (
+                mail::Mail,
+                (close::Close, (report::Report, (serve::Serve, ()))),
+            ),
         ),
     ),
 );
