@@ -1,25 +1,26 @@
 -- The same people in other places: how many units there are, of which factions they are, and what they hold.
-use Rattle.std.proofs.Common.{◌≡◌, ◌==◌, ℕ, ◌+◌, Option, Some, None, refl, sym, ap, ◌∙◌, arith}
+use Rattle.std.proofs.Common.{◌≡◌, ◌==◌, ℕ, ◌+◌, Bool, true, false, Option, Some, None, refl, sym, ap, ◌∙◌, arith}
+use Rattle.std.specs.Prelude.{option_map, pos, ℤ, if◌then◌else◌}
 use Rattle.std.specs.Ordering.{nat_cmp}
 use Rattle.std.specs.FinMap.{FinMap, get, insert, len}
+use Rattle.std.proofs.lemmas.Int.{ints}
+use Rattle.atl_tables.specs.Planet.{Planet}
 use Rattle.atl_tables.specs.Sums.{changed, changed_at, sum_over}
 use Rattle.atl_tables.proofs.SumLaws.{numbers_where-insert_known, sum_over-insert_known}
 use Rattle.atl_state.specs.declared.books.Thing.{Thing}
 use Rattle.atl_state.specs.declared.books.Thing.TheVariants.{Item, Money, People}
 use Rattle.atl_state.specs.declared.records.Region.{Region}
 use Rattle.atl_state.specs.declared.records.Unit.{Unit}
-use Rattle.atl_state.specs.Good.{IsSteady}
+use Rattle.atl_state.specs.Good.{IsSteady, guards}
 use Rattle.atl_state.specs.Books.{amount_in, booked}
 use Rattle.atl_state.specs.Held.{amount_of}
 use Rattle.atl_state.specs.State.{State, numbers_of}
 use Rattle.atl_state.specs.Totals.{held, kept, total}
 use Rattle.atl_state.proofs.RegionLaws.{same_len}
-use Rattle.std.specs.Prelude.{pos, ℤ}
-use Rattle.std.proofs.lemmas.Int.{ints}
-use Rattle.atl_tables.specs.Planet.{Planet}
 use Rattle.atl_instant.specs.Meaning.{IsSameMonth}
 use Rattle.atl_instant.specs.Steps.{IsDrawn, StepsWell}
 use Rattle.atl_instant.specs.Unbooked.{books_nothing}
+use Rattle.atl_instant.proofs.StructureLaws.{at_number, get-changed}
 use Rattle.atl_action.proofs.TravelLaws.{IsSameUnit}
 
 pub record AreSamePeople (before after : FinMap nat_cmp Unit) : Type 0 where
@@ -32,6 +33,9 @@ people_same m = record { count = refl; of_factions = λ k. refl; hold = λ t. re
 
 pub people_twice : (a b c : FinMap nat_cmp Unit) → AreSamePeople a b → AreSamePeople b c → AreSamePeople a c
 people_twice a b c one two = record { count = two.count ∙ one.count; of_factions = λ k. two.of_factions k ∙ one.of_factions k; hold = λ t. two.hold t ∙ one.hold t }
+
+false_true : {P : Type 0} → false ≡ true → P
+false_true e = cc
 
 held_same : (u v : Unit) → IsSameUnit u v → (t : Thing) → held t v.holding ≡ held t u.holding
 held_same u v same Money = same.money
@@ -56,6 +60,52 @@ module _ (f : Unit → Unit) (same : (u : Unit) → IsSameUnit u (f u)) (m : Fin
   pub people_changed : AreSamePeople m (changed f m k)
   people_changed = changed_by (get m k) refl
 
+-- ---- units that are put elsewhere, with their flags cleared
+
+module _ (structure to : ℕ) where
+  abbrev put_there : Unit → Unit
+  put_there x = record x { region = to; structure = structure }
+
+  abbrev flag_off : Unit → Unit
+  flag_off x = record x { holding = record x.holding { guard = false } }
+
+  abbrev pub gone : Unit → Unit
+  gone x = flag_off (put_there x)
+
+  abbrev pub gone_if : Bool → Unit → Unit
+  gone_if b x = if b then gone x else x
+
+  -- the units with one of them elsewhere
+  abbrev pub elsewhere : FinMap nat_cmp Unit → ℕ → FinMap nat_cmp Unit
+  elsewhere m n = changed flag_off (changed put_there m n) n
+
+  pub elsewhere_people : (m : FinMap nat_cmp Unit) (n : ℕ) → AreSamePeople m (elsewhere m n)
+  elsewhere_people m n =
+      people_twice m (changed put_there m n) (elsewhere m n)
+      (people_changed put_there (λ x. record { faction = refl; name = refl; men = refl; money = refl; items = refl; days = refl }) m n)
+      (people_changed flag_off (λ x. record { faction = refl; name = refl; men = refl; money = refl; items = refl; days = refl }) (changed put_there m n) n)
+
+  elsewhere_by : (m : FinMap nat_cmp Unit) (n k : ℕ) (b : Bool) → (k == n) ≡ b → (o : Option Unit) → option_map (at_number flag_off (changed put_there m n) n k) (option_map (at_number put_there m n k) o) ≡ option_map (gone_if (k == n)) o
+  elsewhere_by m n k b t None = refl
+  elsewhere_by m n k true t (Some x) = rw t refl
+  elsewhere_by m n k false t (Some x) = rw t refl
+
+  pub elsewhere_at : (m : FinMap nat_cmp Unit) (n k : ℕ) → get (elsewhere m n) k ≡ option_map (gone_if (k == n)) (get m k)
+  elsewhere_at m n k =
+      get-changed flag_off (changed put_there m n) n k ∙ ap (option_map (at_number flag_off (changed put_there m n) n k)) (get-changed put_there m n k)
+      ∙ elsewhere_by m n k (k == n) refl (get m k)
+
+  pub gone_same : (b : Bool) (x : Unit) → IsSameUnit x (gone_if b x)
+  gone_same true x = record { faction = refl; name = refl; men = refl; money = refl; items = refl; days = refl }
+  gone_same false x = record { faction = refl; name = refl; men = refl; money = refl; items = refl; days = refl }
+
+  -- who guards has stayed
+  pub guards_stay : (b : Bool) (x : Unit) → guards (gone_if b x) ≡ true → gone_if b x ≡ x
+  guards_stay true x g = false_true g
+  guards_stay false x g = refl
+
+-- ---- the totals, and a step of which the books see nothing
+
 pub total_people : (c d : State) → AreSamePeople c.units d.units → d.regions ≡ c.regions → (t : Thing) → total d t ≡ total c t
 unfolding total
 total_people c d people regions t =
@@ -65,7 +115,6 @@ total_people c d people regions t =
 not_drawn : (a b : ℤ) → b ≡ a → IsDrawn 0 0 a b
 not_drawn a b is = record { above = omega (arith, ints, is); below = omega (arith, ints, is) }
 
--- a step of which the books see nothing
 pub steady_well : (w : Planet) (c d : State) → IsSteady w d → IsSameMonth c d → d.books ≡ c.books → ((t : Thing) → total d t ≡ total c t) → StepsWell IsSteady books_nothing w c d
 steady_well w c d steady same books totals = record {
   holds_still = steady;

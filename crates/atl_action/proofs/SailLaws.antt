@@ -18,7 +18,7 @@ use Rattle.atl_state.specs.declared.event.EventFault.TheVariants.{NoCrew, NoMen,
 use Rattle.atl_state.specs.declared.event.Outcome.TheVariants.{Done}
 use Rattle.atl_state.specs.declared.records.Structure.{Structure}
 use Rattle.atl_state.specs.declared.records.Unit.{Unit}
-use Rattle.atl_state.specs.Good.{Every, IsOwned, IsSteady, IsThere, guards, is_land_at, is_ship, size_of}
+use Rattle.atl_state.specs.Good.{Every, IsOwned, IsSteady, IsThere, is_land_at, is_ship, size_of}
 use Rattle.atl_state.specs.Levels.{load_of}
 use Rattle.atl_state.specs.Owners.{handed, heir, is_owned_by, placed, with_place, with_place_at}
 use Rattle.atl_state.specs.State.{State, numbers_inside, with_guard, with_structure_region}
@@ -40,8 +40,8 @@ use Rattle.atl_instant.proofs.StayingLaws.{no_worse}
 use Rattle.atl_instant.proofs.StepLaws.{no_worse_spares, orders_fit, orders_spare, well_same}
 use Rattle.atl_action.specs.Sail.{IsAboardWith, IsCarried, capacity, crew_needed, crew_of, is_complete_ship, is_sailing, is_way, sail, sail_by, sail_fault, sail_meaning, sail_said, sail_step, sailed, sum_inside, taken_along, takes_sailing}
 use Rattle.atl_action.specs.Ways.{is_region, neighbour}
-use Rattle.atl_action.proofs.PeopleLaws.{AreSamePeople, people_changed, people_same, people_twice, steady_well, total_people}
-use Rattle.atl_action.proofs.TravelLaws.{AreTravelled, IsPut, IsSameStructure, IsSameUnit, steady-travelled, travelled, under}
+use Rattle.atl_action.proofs.PeopleLaws.{AreSamePeople, elsewhere, elsewhere_at, elsewhere_people, gone_if, gone_same, guards_stay, people_same, people_twice, steady_well, total_people}
+use Rattle.atl_action.proofs.TravelLaws.{AreTravelled, IsPut, IsSameStructure, steady-travelled, travelled, under}
 
 not_false : (b : Bool) → not b ≡ false → b ≡ true
 not_false true h = refl
@@ -79,82 +79,51 @@ all_listed P (n ∷ ns) h = (h n (inl refl), all_listed P ns (λ k l. h k (inr l
 -- ---- units that go along
 
 module _ (ship to : ℕ) where
-  abbrev put_there : Unit → Unit
-  put_there x = record x { region = to; structure = ship }
+  all_people : (m : FinMap nat_cmp Unit) (ns : List ℕ) → AreSamePeople m (fold (elsewhere ship to) m ns)
+  all_people m [] = people_same m
+  all_people m (n ∷ ns) = people_twice m (elsewhere ship to m n) (fold (elsewhere ship to) (elsewhere ship to m n) ns) (elsewhere_people ship to m n) (all_people (elsewhere ship to m n) ns)
 
-  abbrev flag_off : Unit → Unit
-  flag_off x = record x { holding = record x.holding { guard = false } }
-
-  abbrev gone : Unit → Unit
-  gone x = flag_off (put_there x)
-
-  abbrev gone_if : Bool → Unit → Unit
-  gone_if b x = if b then gone x else x
-
-  abbrev crowd : FinMap nat_cmp Unit → ℕ → FinMap nat_cmp Unit
-  crowd m n = changed flag_off (changed put_there m n) n
-
-  crowd_people : (m : FinMap nat_cmp Unit) (n : ℕ) → AreSamePeople m (crowd m n)
-  crowd_people m n =
-      people_twice m (changed put_there m n) (crowd m n)
-      (people_changed put_there (λ x. record { faction = refl; name = refl; men = refl; money = refl; items = refl; days = refl }) m n)
-      (people_changed flag_off (λ x. record { faction = refl; name = refl; men = refl; money = refl; items = refl; days = refl }) (changed put_there m n) n)
-
-  crowds_people : (m : FinMap nat_cmp Unit) (ns : List ℕ) → AreSamePeople m (fold crowd m ns)
-  crowds_people m [] = people_same m
-  crowds_people m (n ∷ ns) = people_twice m (crowd m n) (fold crowd (crowd m n) ns) (crowd_people m n) (crowds_people (crowd m n) ns)
-
-  crowd_by : (m : FinMap nat_cmp Unit) (n k : ℕ) (b : Bool) → (k == n) ≡ b → (o : Option Unit) → option_map (at_number flag_off (changed put_there m n) n k) (option_map (at_number put_there m n k) o) ≡ option_map (gone_if (k == n)) o
-  crowd_by m n k b t None = refl
-  crowd_by m n k true t (Some x) = rw t refl
-  crowd_by m n k false t (Some x) = rw t refl
-
-  crowd_at : (m : FinMap nat_cmp Unit) (n k : ℕ) → get (crowd m n) k ≡ option_map (gone_if (k == n)) (get m k)
-  crowd_at m n k =
-      get-changed flag_off (changed put_there m n) n k ∙ ap (option_map (at_number flag_off (changed put_there m n) n k)) (get-changed put_there m n k)
-      ∙ crowd_by m n k (k == n) refl (get m k)
-
-  mapped_both : (a b : Bool) (o : Option Unit) → option_map (gone_if b) (option_map (gone_if a) o) ≡ option_map (gone_if (a || b)) o
+  mapped_both : (a b : Bool) (o : Option Unit) → option_map (gone_if ship to b) (option_map (gone_if ship to a) o) ≡ option_map (gone_if ship to (a || b)) o
   mapped_both a b None = refl
   mapped_both true true (Some x) = refl
   mapped_both true false (Some x) = refl
   mapped_both false b (Some x) = refl
 
-  mapped_none : (o : Option Unit) → o ≡ option_map (gone_if false) o
+  mapped_none : (o : Option Unit) → o ≡ option_map (gone_if ship to false) o
   mapped_none None = refl
   mapped_none (Some x) = refl
 
-  crowds_at : (m : FinMap nat_cmp Unit) (ns : List ℕ) (k : ℕ) → get (fold crowd m ns) k ≡ option_map (gone_if (list_any (λ n. k == n) ns)) (get m k)
-  crowds_at m [] k = mapped_none (get m k)
-  crowds_at m (n ∷ ns) k =
-      crowds_at (crowd m n) ns k ∙ ap (option_map (gone_if (list_any (λ n. k == n) ns))) (crowd_at m n k)
+  all_at : (m : FinMap nat_cmp Unit) (ns : List ℕ) (k : ℕ) → get (fold (elsewhere ship to) m ns) k ≡ option_map (gone_if ship to (list_any (λ n. k == n) ns)) (get m k)
+  all_at m [] k = mapped_none (get m k)
+  all_at m (n ∷ ns) k =
+      all_at (elsewhere ship to m n) ns k ∙ ap (option_map (gone_if ship to (list_any (λ n. k == n) ns))) (elsewhere_at ship to m n k)
       ∙ mapped_both (k == n) (list_any (λ n. k == n) ns) (get m k)
 
   abbrev IsInside : FinMap nat_cmp Unit → ℕ → Type 0
   IsInside m n = (v : Unit) × (get m n ≡ Some v) × (v.structure ≡ ship)
 
-  one_is : (d : State) (n : ℕ) (v : Unit) → get d.units n ≡ Some v → v.structure ≡ ship → taken_along ship to d n ≡ record d { units = crowd d.units n }
+  one_is : (d : State) (n : ℕ) (v : Unit) → get d.units n ≡ Some v → v.structure ≡ ship → taken_along ship to d n ≡ record d { units = elsewhere ship to d.units n }
   unfolding with_place
   one_is d n v is here =
       ap (λ o. with_guard (with_place_at d n to ship o) n false) is
       ∙ ap (λ b. with_guard (if b then placed d n to ship else handed (handed (placed d n to ship) v.structure n (heir d v.structure n)) ship 0 n) n false) (equal v.structure ship here)
 
-  still_inside : (m : FinMap nat_cmp Unit) (n k : ℕ) → IsInside m k → IsInside (crowd m n) k
-  still_inside m n k (v, there, here) = (gone_if (k == n) v, crowd_at m n k ∙ ap (option_map (gone_if (k == n))) there, by_test (k == n))
+  still_inside : (m : FinMap nat_cmp Unit) (n k : ℕ) → IsInside m k → IsInside (elsewhere ship to m n) k
+  still_inside m n k (v, there, here) = (gone_if ship to (k == n) v, elsewhere_at ship to m n k ∙ ap (option_map (gone_if ship to (k == n))) there, by_test (k == n))
     where
-      by_test : (b : Bool) → (gone_if b v).structure ≡ ship
+      by_test : (b : Bool) → (gone_if ship to b v).structure ≡ ship
       by_test true = refl
       by_test false = here
 
-  still_all : (m : FinMap nat_cmp Unit) (n : ℕ) (ns : List ℕ) → AllByRecursion (IsInside m) ns → AllByRecursion (IsInside (crowd m n)) ns
+  still_all : (m : FinMap nat_cmp Unit) (n : ℕ) (ns : List ℕ) → AllByRecursion (IsInside m) ns → AllByRecursion (IsInside (elsewhere ship to m n)) ns
   still_all m n [] all = tt
   still_all m n (k ∷ ns) all = (still_inside m n k all.0, still_all m n ns all.1)
 
-  all_is : (d : State) (ns : List ℕ) → AllByRecursion (IsInside d.units) ns → fold (taken_along ship to) d ns ≡ record d { units = fold crowd d.units ns }
+  all_is : (d : State) (ns : List ℕ) → AllByRecursion (IsInside d.units) ns → fold (taken_along ship to) d ns ≡ record d { units = fold (elsewhere ship to) d.units ns }
   all_is d [] all = refl
   all_is d (n ∷ ns) all =
       let (v, there, here) = all.0 in
-      ap (λ e. fold (taken_along ship to) e ns) (one_is d n v there here) ∙ all_is (record d { units = crowd d.units n }) ns (still_all d.units n ns all.1)
+      ap (λ e. fold (taken_along ship to) e ns) (one_is d n v there here) ∙ all_is (record d { units = elsewhere ship to d.units n }) ns (still_all d.units n ns all.1)
 
 -- ---- a ship that goes
 
@@ -163,7 +132,7 @@ module _ (w : Planet) (c : State) (ship to : ℕ) (steady : IsSteady w c) (x : S
   ns = numbers_inside ship c.units
 
   abbrev units : FinMap nat_cmp Unit
-  units = fold (crowd ship to) c.units ns
+  units = fold (elsewhere ship to) c.units ns
 
   abbrev shifted : Structure → Structure
   shifted y = record y { region = to }
@@ -203,15 +172,7 @@ module _ (w : Planet) (c : State) (ship to : ℕ) (steady : IsSteady w c) (x : S
   units_by k (Some v) there = ap (λ b. Some (gone_if ship to b v)) (member_by k v there (v.structure == ship) (list_any (λ n. k == n) ns) refl refl)
 
   units_at : (k : ℕ) → get units k ≡ option_map (f k) (get c.units k)
-  units_at k = crowds_at ship to c.units ns k ∙ units_by k (get c.units k) refl
-
-  same_by : (b : Bool) (v : Unit) → IsSameUnit v (gone_if ship to b v)
-  same_by true v = record { faction = refl; name = refl; men = refl; money = refl; items = refl; days = refl }
-  same_by false v = record { faction = refl; name = refl; men = refl; money = refl; items = refl; days = refl }
-
-  guards_by : (b : Bool) (v : Unit) → guards (gone_if ship to b v) ≡ true → gone_if ship to b v ≡ v
-  guards_by true v g = false_true g
-  guards_by false v g = refl
+  units_at k = all_at ship to c.units ns k ∙ units_by k (get c.units k) refl
 
   inside_by : (v : Unit) (b : Bool) → (v.structure == ship) ≡ b → (gone_if ship to b v).structure ≡ v.structure
   inside_by v true t = sym (is_equal v.structure ship t)
@@ -279,24 +240,24 @@ module _ (w : Planet) (c : State) (ship to : ℕ) (steady : IsSteady w c) (x : S
     are = record {
       units_at = units_at;
       structures_at = get-changed shifted c.structures ship;
-      unit_count = (crowds_people ship to c.units ns).count;
+      unit_count = (all_people ship to c.units ns).count;
       structure_count = len-changed shifted c.structures ship;
-      of_factions = (crowds_people ship to c.units ns).of_factions;
-      same_units = λ k v there. same_by (v.structure == ship) v;
+      of_factions = (all_people ship to c.units ns).of_factions;
+      same_units = λ k v there. gone_same ship to (v.structure == ship) v;
       same_structures = λ q y there. ship_same q y (q == ship);
       put = λ k v there. put_by k v there (v.structure == ship) refl;
       built = λ q y there. built_by q y there (q == ship);
       owned = λ q y there. ship_owned q y there (q == ship);
       aboard = λ k v there. aboard_by k v there (v.structure == ship) refl;
       afloat = λ q y there. afloat_by q y there (q == ship) refl;
-      guarding = λ k v there. guards_by (v.structure == ship) v;
+      guarding = λ k v there. guards_stay ship to (v.structure == ship) v;
     }
 
     pub sailed_well : StepsWell IsSteady books_nothing w c (sailed c ship to)
     sailed_well =
         subst (StepsWell IsSteady books_nothing w c) (sym sailed_is)
         (steady_well w c behind (steady-travelled w c units structures f g are steady)
-        (record { month = refl; reports = refl; count = refl; factions = λ k there. there }) refl (total_people c behind (crowds_people ship to c.units ns) refl))
+        (record { month = refl; reports = refl; count = refl; factions = λ k there. there }) refl (total_people c behind (all_people ship to c.units ns) refl))
 
   -- ---- what stays of each unit
 

@@ -6,7 +6,6 @@ use Rattle.std.specs.Ordering.{nat_cmp}
 use Rattle.std.specs.FinMap.{FinMap, get, len}
 use Rattle.std.proofs.lemmas.Bool.{cases_eq}
 use Rattle.atl_tables.specs.Planet.{Planet, is_land}
-use Rattle.atl_tables.specs.Sums.{changed}
 use Rattle.atl_tables.specs.declared.world.RegionPlan.{RegionPlan}
 use Rattle.atl_orders.specs.declared.order.Direction.{Direction}
 use Rattle.atl_orders.specs.declared.order.Order.TheVariants as orders
@@ -16,7 +15,7 @@ use Rattle.atl_state.specs.declared.event.EventFault.TheVariants.{AtSea, NoMen, 
 use Rattle.atl_state.specs.declared.event.Outcome.TheVariants.{Done}
 use Rattle.atl_state.specs.declared.records.Structure.{Structure}
 use Rattle.atl_state.specs.declared.records.Unit.{Unit}
-use Rattle.atl_state.specs.Good.{Every, IsOwned, IsSteady, IsThere, guards, is_land_at, is_ship}
+use Rattle.atl_state.specs.Good.{Every, IsOwned, IsSteady, IsThere, is_land_at, is_ship}
 use Rattle.atl_state.specs.Levels.{carried_by, goods_of}
 use Rattle.atl_state.specs.Owners.{handed, heir, placed, with_place, with_place_at}
 use Rattle.atl_state.specs.State.{State, numbers_inside, with_guard}
@@ -29,13 +28,13 @@ use Rattle.atl_instant.specs.Steps.{IsOrderly, IsOwnOrder, StepsWell}
 use Rattle.atl_instant.specs.Unbooked.{books_nothing, moves_nothing}
 use Rattle.atl_instant.proofs.OutcomeLaws.{none_fits}
 use Rattle.atl_instant.proofs.PlacingLaws.{place_stays}
-use Rattle.atl_instant.proofs.StructureLaws.{at_number, changed_else, equal, get-changed, get-handed, handed_is, handed_on, is_equal, is_unequal, len-handed, unequal}
+use Rattle.atl_instant.proofs.StructureLaws.{changed_else, equal, get-handed, handed_is, handed_on, is_equal, is_unequal, len-handed, unequal}
 use Rattle.atl_instant.proofs.StepLaws.{no_worse_spares, well_same}
 use Rattle.atl_instant.proofs.UnbookedLaws.{other_spared}
 use Rattle.atl_action.specs.Walk.{is_land_there, walk, walk_by, walk_fault, walk_said, walk_step, walked}
 use Rattle.atl_action.specs.Ways.{neighbour}
-use Rattle.atl_action.proofs.PeopleLaws.{AreSamePeople, people_changed, people_twice, steady_well, total_people}
-use Rattle.atl_action.proofs.TravelLaws.{AreTravelled, IsPut, IsSameStructure, IsSameUnit, steady-travelled, travelled}
+use Rattle.atl_action.proofs.PeopleLaws.{AreSamePeople, elsewhere, elsewhere_at, elsewhere_people, gone, gone_if, gone_same, guards_stay, steady_well, total_people}
+use Rattle.atl_action.proofs.TravelLaws.{AreTravelled, IsPut, IsSameStructure, steady-travelled, travelled}
 
 not_true : (b : Bool) → not b ≡ true → b ≡ false
 not_true true h = cc
@@ -74,59 +73,32 @@ module _ (w : Planet) (c : State) (n : ℕ) (u : Unit) (to : ℕ) (is : get c.un
   abbrev next : ℕ
   next = heir c old_place n
 
-  abbrev put_there : Unit → Unit
-  put_there x = record x { region = to; structure = 0 }
-
-  abbrev flag_off : Unit → Unit
-  flag_off x = record x { holding = record x.holding { guard = false } }
-
-  abbrev gone : Unit → Unit
-  gone x = flag_off (put_there x)
-
   abbrev units : FinMap nat_cmp Unit
-  units = changed flag_off (changed put_there c.units n) n
+  units = elsewhere 0 to c.units n
 
   abbrev f : ℕ → Unit → Unit
-  f k x = if k == n then gone x else x
+  f k = gone_if 0 to (k == n)
 
   -- ---- the units
 
-  units_by : (k : ℕ) (b : Bool) → (k == n) ≡ b → (o : Option Unit) → option_map (at_number flag_off (changed put_there c.units n) n k) (option_map (at_number put_there c.units n k) o) ≡ option_map (f k) o
-  units_by k b t None = refl
-  units_by k true t (Some x) = rw t refl
-  units_by k false t (Some x) = rw t refl
+  same_people : AreSamePeople c.units units
+  same_people = elsewhere_people 0 to c.units n
 
   units_at : (k : ℕ) → get units k ≡ option_map (f k) (get c.units k)
-  units_at k =
-      get-changed flag_off (changed put_there c.units n) n k ∙ ap (option_map (at_number flag_off (changed put_there c.units n) n k)) (get-changed put_there c.units n k)
-      ∙ units_by k (k == n) refl (get c.units k)
+  units_at = elsewhere_at 0 to c.units n
 
-  same_people : AreSamePeople c.units units
-  same_people =
-      people_twice c.units (changed put_there c.units n) units
-      (people_changed put_there (λ x. record { faction = refl; name = refl; men = refl; money = refl; items = refl; days = refl }) c.units n)
-      (people_changed flag_off (λ x. record { faction = refl; name = refl; men = refl; money = refl; items = refl; days = refl }) (changed put_there c.units n) n)
-
-  same_by : (b : Bool) (x : Unit) → IsSameUnit x (if b then gone x else x)
-  same_by true x = record { faction = refl; name = refl; men = refl; money = refl; items = refl; days = refl }
-  same_by false x = record { faction = refl; name = refl; men = refl; money = refl; items = refl; days = refl }
-
-  guards_by : (b : Bool) (x : Unit) → guards (if b then gone x else x) ≡ true → (if b then gone x else x) ≡ x
-  guards_by true x g = false_true g
-  guards_by false x g = refl
-
-  here : get units n ≡ Some (gone u)
-  here = units_at n ∙ ap (option_map (f n)) is ∙ ap (λ b. Some (if b then gone u else u)) (equal n n refl)
+  here : get units n ≡ Some (gone 0 to u)
+  here = units_at n ∙ ap (option_map (f n)) is ∙ ap (λ b. Some (gone_if 0 to b u)) (equal n n refl)
 
   away : (k : ℕ) → k ≢ n → get units k ≡ get c.units k
-  away k apart = changed_else flag_off (changed put_there c.units n) n k apart (get (changed put_there c.units n) n) ∙ changed_else put_there c.units n k apart (get c.units n)
+  away k apart = units_at k ∙ ap (λ b. option_map (gone_if 0 to b) (get c.units k)) (unequal k n apart) ∙ sym (mapped_itself (get c.units k))
 
-  every_away : (P : ℕ → Unit → Type 0) → P n (gone u) → ((k : ℕ) (x : Unit) → k ≢ n → get c.units k ≡ Some x → P k x) → Every P units
+  every_away : (P : ℕ → Unit → Type 0) → P n (gone 0 to u) → ((k : ℕ) (x : Unit) → k ≢ n → get c.units k ≡ Some x → P k x) → Every P units
   every_away P mine others k x there = elim (cases_eq k n) [
     | inl same ↦
-        let one : Some (gone u) ≡ Some x = sym here ∙ ap (get units) (sym same) ∙ there in
-        let unit : gone u ≡ x = cc in
-        subst (λ y. P k y) unit (subst (λ j. P j (gone u)) (sym same) mine)
+        let one : Some (gone 0 to u) ≡ Some x = sym here ∙ ap (get units) (sym same) ∙ there in
+        let unit : gone 0 to u ≡ x = cc in
+        subst (λ y. P k y) unit (subst (λ j. P j (gone 0 to u)) (sym same) mine)
     | inr apart ↦ others k x apart (sym (away k apart) ∙ there)
   ]
 
@@ -182,14 +154,14 @@ module _ (w : Planet) (c : State) (n : ℕ) (u : Unit) (to : ℕ) (is : get c.un
       forth : (k : ℕ) (y : Structure) → get c.structures k ≡ Some y → get structures k ≡ Some (g k y)
       forth k y there = at k ∙ ap (option_map (g k)) there
 
-      put_by : (k : ℕ) (x : Unit) → get c.units k ≡ Some x → (b : Bool) → IsPut w c units structures f g (if b then gone x else x)
+      put_by : (k : ℕ) (x : Unit) → get c.units k ≡ Some x → (b : Bool) → IsPut w c units structures f g (gone_if 0 to b x)
       put_by k x there true = record { region = (steady.known.regions to).1 (land_is_there w to land); structure = λ some. absurd (some refl) }
       put_by k x there false =
           let p = steady.known.units k x there in
           record { region = p.region; structure = λ some. let (s, was, near) = p.structure some in (g x.structure s, forth x.structure s was, (same x.structure s was).1 ∙ near) }
 
-      aboard_by : (k : ℕ) (x : Unit) → get c.units k ≡ Some x → (b : Bool) → is_land_at w (if b then gone x else x).region ≡ false
-          → (s : Structure) × (get structures (if b then gone x else x).structure ≡ Some s) × (is_ship w s ≡ true)
+      aboard_by : (k : ℕ) (x : Unit) → get c.units k ≡ Some x → (b : Bool) → is_land_at w (gone_if 0 to b x).region ≡ false
+          → (s : Structure) × (get structures (gone_if 0 to b x).structure ≡ Some s) × (is_ship w s ≡ true)
       aboard_by k x there true wet = true_false (sym land ∙ wet)
       aboard_by k x there false wet =
           let (s, was, ship) = steady.water.units k x there wet in
@@ -202,14 +174,14 @@ module _ (w : Planet) (c : State) (n : ℕ) (u : Unit) (to : ℕ) (is : get c.un
         unit_count = same_people.count;
         structure_count = count;
         of_factions = same_people.of_factions;
-        same_units = λ k x there. same_by (k == n) x;
+        same_units = λ k x there. gone_same 0 to (k == n) x;
         same_structures = λ k y there. (same k y there).0;
         put = λ k x there. put_by k x there (k == n);
         built = λ k y there. rw (same k y there).1 ((steady.known.structures k y there).region);
         owned = λ k y there. owned k y there;
         aboard = λ k x there. aboard_by k x there (k == n);
         afloat = λ k y there wet. steady.water.structures k y there (ap (is_land_at w) (sym (same k y there).1) ∙ wet);
-        guarding = λ k x there. guards_by (k == n) x;
+        guarding = λ k x there. guards_stay 0 to (k == n) x;
       }
 
       behind_well : StepsWell IsSteady books_nothing w c behind

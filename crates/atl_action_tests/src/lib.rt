@@ -1,2 +1,5 @@
 //! Tests of travel and learning.
 #![tactic(auto)]
+
+#[cfg(test)]
+mod tests;

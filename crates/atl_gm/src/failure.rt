@@ -25,6 +25,8 @@ pub enum Failure {
     /// The database refuses.
     Store,
     Memory,
+    /// The net refuses.
+    Net,
     /// Standard output can't be written.
     Output,
 }
@@ -42,6 +44,7 @@ impl Drop for Failure {
             Failure::Damaged(_) => {}
             Failure::Store => {}
             Failure::Memory => {}
+            Failure::Net => {}
             Failure::Output => {}
         }
     }
@@ -114,6 +117,7 @@ impl Failure {
             Failure::Damaged(number) => eprintln!(rt; "fault: Damaged {number}"),
             Failure::Store => eprintln!(rt; "fault: Store"),
             Failure::Memory => eprintln!(rt; "fault: Memory"),
+            Failure::Net => eprintln!(rt; "fault: Net"),
             Failure::Output => Ok(()),
         };
         match self {

@@ -11,6 +11,7 @@ mod join;
 mod mail;
 mod options;
 mod report;
+mod serve;
 mod subcommand;
 mod told;
 mod trial;
@@ -32,7 +33,10 @@ type All = (
             join::Join,
             (
                 mail::Mail,
-                (close::Close, (report::Report, (books::Books, ()))),
+                (
+                    close::Close,
+                    (report::Report, (books::Books, (serve::Serve, ()))),
+                ),
             ),
         ),
     ),

@@ -23,6 +23,13 @@ pub fn number<'a>(alloc: Global, name: &'a str) -> Arg<'a> {
         .value_parser(value_parser!(u32))
 }
 
+/// An option whose value is the number of a port.
+pub fn port<'a>(alloc: Global, name: &'a str) -> Arg<'a> {
+    text(alloc, name)
+        .value_name("N")
+        .value_parser(value_parser!(u16))
+}
+
 /// An option whose value is a number of 64 bits.
 pub fn long_number<'a>(alloc: Global, name: &'a str) -> Arg<'a> {
     text(alloc, name)
@@ -37,6 +44,11 @@ pub fn text_of<'a>(options: &ArgMatches<'a>, name: &str) -> Result<&'a str, Fail
 
 /// The number that was given.
 pub fn number_of(options: &ArgMatches<'_>, name: &str) -> Result<u32, Failure> {
+    options.get_one(name).ok_or(Failure::NoValue)
+}
+
+/// The number of a port that was given.
+pub fn port_of(options: &ArgMatches<'_>, name: &str) -> Result<u16, Failure> {
     options.get_one(name).ok_or(Failure::NoValue)
 }
 

@@ -1,1 +1,7 @@
+pub mod HeadLaws
+pub mod JsonLaws
+pub mod MovingLaws
+pub mod PieceLaws
+pub mod PlaceLaws
+pub mod ServingLaws
 mod WordLaws

@@ -1,1 +1,10 @@
 pub mod Dice
+pub mod Routes
+pub mod Fields
+pub mod Checks
+pub mod Heads
+pub mod Replies
+pub mod Answered
+pub mod Serving
+pub mod Moving
+pub mod Finding

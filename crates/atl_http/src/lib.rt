@@ -1,6 +1,25 @@
-//! A campaign's side of the net. Today this is the dice alone.
+//! A campaign's side of the net: one request, its reply, and the words that dice give.
 #![tactic(auto)]
 
+mod answering;
+mod checks;
 pub mod dice;
+mod fields;
+pub mod judging;
+pub mod listening;
+pub mod message;
+pub mod moving;
+pub mod pieces;
+pub mod problem;
+pub mod request;
+pub mod route;
+pub mod serving;
 
 pub use dice::Dice;
+pub use judging::judged;
+pub use moving::HttpFault;
+pub use pieces::pieces_do_not_matter;
+pub use problem::Problem;
+pub use request::{Request, Verdict};
+pub use route::Route;
+pub use serving::serve_one;

@@ -1,2 +1,7 @@
 //! Tests of atl_http by its public calls alone.
+mod compare;
 mod dice;
+mod listening;
+mod making;
+mod moving;
+mod requests;

@@ -1,0 +1,5 @@
+//! Tests of atl_action by its public calls alone.
+mod campaigns;
+mod island;
+mod sail;
+mod walk;

@@ -1,0 +1,68 @@
+//! Serves the campaign of a file over HTTP, to this machine alone.
+use crate::database::{Opening, Work, work_on};
+use crate::failure::Failure;
+use crate::options;
+use crate::subcommand::Subcommand;
+use atl_http::Dice;
+use atl_http::listening::{ListenFault, serve_each};
+use atl_service::Service;
+use clap::{Arg, ArgMatches};
+use sqlite::Alter;
+use std::alloc::{AllocError, Global};
+use std::net::{Ipv4Addr, TcpListener};
+
+/// So many connections to a port of this machine, with the dice of a seed.
+#[derive(Clone, Copy)]
+struct Serving<'a> {
+    rt: &'a HostRuntime,
+    port: u16,
+    count: u32,
+    dice: Dice,
+}
+
+impl<'a> Work for Serving<'a> {
+    type Done = ();
+
+    fn run<S: Alter>(&self, service: &mut Service<S>) -> Result<(), Failure> {
+        let Ok(listener) = TcpListener::bind(self.rt, (Ipv4Addr::LOCALHOST, self.port)) else {
+            return Err(Failure::Net);
+        };
+        match serve_each(self.rt.alloc(), &listener, service, self.count, self.dice) {
+            Ok(()) => Ok(()),
+            Err(ListenFault::Net) => Err(Failure::Net),
+            Err(ListenFault::Memory) => Err(Failure::Memory),
+        }
+    }
+}
+
+/// Serves so many connections, and prints nothing.
+pub struct Serve;
+
+impl Subcommand for Serve {
+    const NAME: &'static str = "serve";
+
+    const ABOUT: &'static str =
+        "Serves the campaign over HTTP to this machine, for so many connections";
+
+    fn options<'a>(alloc: Global) -> Result<Vec<Arg<'a>>, AllocError> {
+        Ok(vec![in alloc;
+            options::file(alloc, "db"),
+            options::port(alloc, "port"),
+            options::number(alloc, "count"),
+            options::long_number(alloc, "seed"),
+        ]?)
+    }
+
+    fn run(rt: &HostRuntime, options: &ArgMatches<'_>) -> Result<(), Failure> {
+        let path = options::text_of(options, "db")?;
+        let serving = Serving {
+            rt,
+            port: options::port_of(options, "port")?,
+            count: options::number_of(options, "count")?,
+            dice: Dice {
+                seed: options::long_number_of(options, "seed")?,
+            },
+        };
+        work_on(rt, path, Opening::Kept, &serving)
+    }
+}

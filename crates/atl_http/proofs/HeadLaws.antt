@@ -1,0 +1,105 @@
+-- Laws of heads.
+use Rattle.std.proofs.Common.{◌≡◌, ℕ, ◌≤◌, ◌<◌, ◌+◌, ◌⊎◌, List, [], ◌∷◌, ◌++◌, length, map, take, drop, min, sym, ap, ◌∙◌, subst, inl, inr, refl, arith}
+use Rattle.std.specs.Prelude.{Result, Ok, Err, IfOk}
+use Rattle.std.proofs.lemmas.List.{append_assoc, take-append-drop, drop-append-le, length-take, length-map, take_min}
+use Rattle.std.proofs.Math.Seq.{take-length}
+use Rattle.httparse.specs.Grammar.{RequestHead, print_request, ReadsRequest, HasNoRequest, NeverHasRequest, MayBecomeRequest}
+use Rattle.httparse.specs.Spans.{RequestExceeds, RequestOverflows, IsRequestAt, IsRequestOf, IsRequestWithin, span_bytes, header_bytes, name_and_value}
+use Rattle.httparse.specs.declared.spans.HeaderSpan.{HeaderSpan}
+use Rattle.httparse.specs.declared.spans.RequestSpans.{RequestSpans}
+use Rattle.httparse.proofs.GrammarLemmas.{ReadsRequest-append, request_unique}
+use Rattle.atl_http.specs.declared.problem.Problem.TheVariants.{BadRequest}
+use Rattle.atl_http.specs.declared.request.Verdict.{Verdict}
+use Rattle.atl_http.specs.declared.request.Verdict.TheVariants.{More, Refused, Asks}
+use Rattle.atl_http.specs.Fields.{fields_of}
+use Rattle.atl_http.specs.Checks.{head_checks, ended, verdict_of}
+use Rattle.atl_http.specs.Finding.{seen}
+use Rattle.atl_http.specs.Heads.{most_head, most_fields, HasHead, IsRefused, IsTooLong, IsUnfinished, Judges, whole, too_long, refused, unfinished}
+
+-- the bytes of a head at most, and then the others
+front_and_rest : (input : List ℕ) → take most_head input ++ drop most_head input ≡ input
+front_and_rest input = take-append-drop most_head input
+
+front_short : (input : List ℕ) → length (take most_head input) ≤ most_head
+front_short input = let e = length-take most_head input in omega (arith, e)
+
+pub front_within : (input : List ℕ) → length (take most_head input) ≤ length input
+front_within input = let e = length-take most_head input in omega (arith, e)
+
+-- ---- a whole head
+
+few_fields : (front : List ℕ) (headers : List HeaderSpan) (spans : RequestSpans) (head : RequestHead) → IsRequestAt front headers spans head → length headers ≡ most_fields → length head.fields ≤ most_fields
+few_fields front headers spans head at room =
+    let same = ap length at.fields in
+    let taken = length-map (take spans.headers headers) (header_bytes front) in
+    let named = length-map head.fields name_and_value in
+    let count = length-take spans.headers headers in
+    omega (arith, same, taken, named, count, room)
+
+pub whole_head : (input : List ℕ) (headers : List HeaderSpan) (spans : RequestSpans) (head : RequestHead) → IsRequestWithin (take most_head input) headers spans → IsRequestAt (take most_head input) headers spans head → length headers ≡ most_fields → HasHead input head (drop spans.len input)
+whole_head input headers spans head lies at room =
+    let front = take most_head input in
+    let long = ReadsRequest-append front head (drop spans.len front) (drop most_head input) at.reads in
+    let rest : drop spans.len front ++ drop most_head input ≡ drop spans.len input =
+    sym (drop-append-le spans.len front (drop most_head input) lies.section.len_fits) ∙ ap (λ l. drop spans.len l) (front_and_rest input) in
+    record {
+      reads = (long.0, sym (front_and_rest input) ∙ long.1 ∙ ap (λ l. print_request head ++ l) rest);
+      bytes = (let e = at.len in let s = front_short input in let w = lies.section.len_fits in omega (arith, e, s, w));
+      fields = few_fields front headers spans head at room;
+    }
+
+pub verdict_is : (input : List ℕ) (headers : List HeaderSpan) (spans : RequestSpans) (head : RequestHead) → IsRequestAt (take most_head input) headers spans head → ended (head_checks spans.version (span_bytes (take most_head input) spans.method) (span_bytes (take most_head input) spans.path) (seen (take most_head input) (take spans.headers headers))) (drop spans.len input) ≡ verdict_of head (drop spans.len input)
+verdict_is input headers spans head at = rw (at.version, at.method, at.path, at.fields) refl
+
+-- ---- a head that isn't one
+
+exceeds_stays : (input more : List ℕ) → RequestExceeds most_fields input → RequestExceeds most_fields (input ++ more)
+exceeds_stays input more (front, rest, e, head, reads, over) = (front, rest ++ more, ap (λ l. l ++ more) e ∙ append_assoc front rest more, head, reads, over)
+
+overflows_stays : (input more : List ℕ) → RequestOverflows most_fields input → RequestOverflows most_fields (input ++ more)
+overflows_stays input more over again head rest reads = over (more ++ again) head rest (subst (λ l. ReadsRequest l head rest) (append_assoc input more again) reads)
+
+pub refused_stays : (input more : List ℕ) → IsRefused input → IsRefused (input ++ more)
+refused_stays input more (inl never) = inl (λ again. subst HasNoRequest (sym (append_assoc input more again)) (never (more ++ again)))
+refused_stays input more (inr (exceeds, over)) = inr (exceeds_stays input more exceeds, overflows_stays input more over)
+
+-- what is refused at its front is refused
+pub front_refused : (input : List ℕ) → IsRefused (take most_head input) → IsRefused input
+front_refused input h = subst IsRefused (front_and_rest input) (refused_stays (take most_head input) (drop most_head input) h)
+
+-- ---- a head that isn't whole
+
+pub short_front : (input : List ℕ) → length input < most_head → HasNoRequest (take most_head input) → MayBecomeRequest (take most_head input) → IsUnfinished input
+short_front input h none goes_on =
+    let least : min most_head (length input) ≡ length input = omega arith in
+    let e : take most_head input ≡ input = sym (take_min most_head input) ∙ ap (λ k. take k input) least ∙ take-length input in
+    record { short = h; none = subst HasNoRequest e none; open_end = subst MayBecomeRequest e goes_on }
+
+-- ---- what the parser tells of the front
+
+pub judges_whole : (input front method target rest : List ℕ) (headers fields : List HeaderSpan) (spans : RequestSpans) (verdict : Verdict) → front ≡ take most_head input → IsRequestWithin front headers spans × IsRequestOf front headers spans → length headers ≡ most_fields → method ≡ span_bytes front spans.method → target ≡ span_bytes front spans.path → fields ≡ take spans.headers headers → rest ≡ drop spans.len input → verdict ≡ ended (head_checks spans.version method target (seen front fields)) rest → Judges input verdict
+judges_whole input front method target rest headers fields spans verdict e (lies, (head, at)) room method_is target_is fields_are rest_is is =
+    let at_front : IsRequestAt (take most_head input) headers spans head = subst (λ l. IsRequestAt l headers spans head) e at in
+    let lies_front : IsRequestWithin (take most_head input) headers spans = subst (λ l. IsRequestWithin l headers spans) e lies in
+    let checked : head_checks spans.version method target (seen front fields) ≡ head_checks spans.version (span_bytes (take most_head input) spans.method) (span_bytes (take most_head input) spans.path) (seen (take most_head input) (take spans.headers headers)) =
+    ap (λ m. head_checks spans.version m target (seen front fields)) method_is
+    ∙ ap (λ t. head_checks spans.version (span_bytes front spans.method) t (seen front fields)) target_is
+    ∙ ap (λ fs. head_checks spans.version (span_bytes front spans.method) (span_bytes front spans.path) (seen front fs)) fields_are
+    ∙ ap (λ l. head_checks spans.version (span_bytes l spans.method) (span_bytes l spans.path) (seen l (take spans.headers headers))) e in
+    let parts_are : ended (head_checks spans.version method target (seen front fields)) rest ≡ ended (head_checks spans.version (span_bytes (take most_head input) spans.method) (span_bytes (take most_head input) spans.path) (seen (take most_head input) (take spans.headers headers))) (drop spans.len input) =
+    ap (λ r. ended r rest) checked
+    ∙ ap (λ l. ended (head_checks spans.version (span_bytes (take most_head input) spans.method) (span_bytes (take most_head input) spans.path) (seen (take most_head input) (take spans.headers headers))) l) rest_is in
+    whole head (drop spans.len input) (whole_head input headers spans head lies_front at_front room) (is ∙ parts_are ∙ verdict_is input headers spans head at_front)
+
+pub judges_refused : (input front : List ℕ) → front ≡ take most_head input → IsRefused front → Judges input (Refused BadRequest)
+judges_refused input front e h = refused (front_refused input (subst IsRefused e h)) refl
+
+pub judges_more : (input front : List ℕ) → front ≡ take most_head input → length input < most_head → HasNoRequest front × MayBecomeRequest front → Judges input More
+judges_more input front e h (none, goes_on) = unfinished (short_front input h (subst HasNoRequest e none) (subst MayBecomeRequest e goes_on)) refl
+
+pub judges_too_long : (input front : List ℕ) → front ≡ take most_head input → most_head ≤ length input → HasNoRequest front × MayBecomeRequest front → Judges input (Refused BadRequest)
+judges_too_long input front e h unfinished_front = too_long (h, subst HasNoRequest e unfinished_front.0) refl
+
+pub if_ok : {T E : Type 0} {P Q : T → Type 0} (r : Result T E) → ((x : T) → P x → Q x) → IfOk r P → IfOk r Q
+if_ok (Ok x) f h = f x h
+if_ok (Err e) f h = tt

@@ -1,0 +1,17 @@
+-- Laws of the body of a joining.
+use Rattle.std.proofs.Common.{◌≡◌, ℕ, Bool, true, false, cond, List, Option, Some, None, refl, ap}
+use Rattle.std.specs.Str.{is_utf8, IsUtf8}
+use Rattle.std.proofs.lemmas.Str.{is_utf8-from_IsUtf8, IsUtf8-from_is_utf8}
+use Rattle.serde_json.specs.Data.{Data}
+use Rattle.serde_json.specs.Read.{read}
+use Rattle.atl_http.specs.Checks.{json_of}
+
+pub json_read : (body : List ℕ) → IsUtf8 body → json_of body ≡ read body
+json_read body h = ap (λ t. cond t (read body) None) (is_utf8-from_IsUtf8 body h)
+
+no_text : (t : Bool) (body : List ℕ) → is_utf8 body ≡ t → (IsUtf8 body → ⊥) → cond t (read body) None ≡ None
+no_text true body e h = absurd (h (IsUtf8-from_is_utf8 body e))
+no_text false body e h = refl
+
+pub json_none : (body : List ℕ) → (IsUtf8 body → ⊥) → json_of body ≡ None
+json_none body h = no_text (is_utf8 body) body refl h

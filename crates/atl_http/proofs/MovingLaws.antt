@@ -1,0 +1,84 @@
+-- Laws of what was read and written so far.
+use Rattle.std.proofs.Common.{◌≡◌, ℕ, ◌+◌, ◌≤◌, List, [], ◌++◌, length, take, drop, Option, Some, None, refl, sym, ap, ◌∙◌, subst, arith}
+use Rattle.std.specs.Io.KnownBytes.{Keeps, Appends, Consumes, IsAtEnd}
+use Rattle.std.proofs.lemmas.List.{append_assoc, append-nil}
+use Rattle.std.specs.Prelude.{Result, Ok, Err}
+use Rattle.atl_http.specs.declared.moving.HttpFault.{HttpFault}
+use Rattle.atl_http.specs.declared.moving.HttpFault.TheVariants.{Cut, ReadFault, WriteFault, Memory}
+use Rattle.atl_http.specs.declared.request.Verdict.{Verdict}
+use Rattle.atl_http.specs.declared.request.Verdict.TheVariants.{More}
+use Rattle.atl_http.specs.Heads.{Judges}
+use Rattle.atl_http.specs.Moving.{ReadsMore, Receives}
+use Rattle.std.proofs.Math.Seq.{take-add, take-length}
+
+-- what was read, and then a piece
+pub consumes_more : (before between after : Option (List ℕ)) (seen piece : List ℕ) → Consumes before between seen → Consumes between after piece → Consumes before after (seen ++ piece)
+consumes_more None between after seen piece h k = tt
+consumes_more (Some xs) None after seen piece h k = absurd h
+consumes_more (Some xs) (Some ys) None seen piece h k = absurd k
+consumes_more (Some xs) (Some ys) (Some zs) seen piece h k = h ∙ ap (λ l. seen ++ l) k ∙ sym (append_assoc seen piece zs)
+
+-- what was read, and then nothing
+pub consumes_kept : (before between after : Option (List ℕ)) (seen : List ℕ) → Consumes before between seen → Keeps between after → Consumes before after seen
+consumes_kept None between after seen h k = tt
+consumes_kept (Some xs) None after seen h k = absurd h
+consumes_kept (Some xs) (Some ys) None seen h k = absurd k
+consumes_kept (Some xs) (Some ys) (Some zs) seen h k = h ∙ ap (λ l. seen ++ l) (sym k)
+
+-- what was written, and then a piece
+pub appends_more : (before between after : Option (List ℕ)) (sent piece : List ℕ) → Appends before between sent → Appends between after piece → Appends before after (sent ++ piece)
+appends_more None between after sent piece h k = tt
+appends_more (Some xs) None after sent piece h k = absurd h
+appends_more (Some xs) (Some ys) None sent piece h k = absurd k
+appends_more (Some xs) (Some ys) (Some zs) sent piece h k = k ∙ ap (λ l. l ++ piece) h ∙ append_assoc xs sent piece
+
+-- what is kept grows by nothing
+pub kept_appends : (before after : Option (List ℕ)) → Keeps before after → Appends before after []
+kept_appends None after h = tt
+kept_appends (Some xs) None h = absurd h
+kept_appends (Some xs) (Some ys) h = h ∙ sym (append-nil xs)
+
+pub appends_stop : (before between after : Option (List ℕ)) (sent : List ℕ) → Appends before between sent → Appends between after [] → Appends before after sent
+appends_stop before between after sent h k =
+    let P : List ℕ → Type 0 = λ l. Appends before after l in
+    subst P (append-nil sent) (appends_more before between after sent [] h k)
+
+-- nothing was written
+pub appends_nothing : (before : Option (List ℕ)) → Appends before before []
+appends_nothing None = tt
+appends_nothing (Some xs) = sym (append-nil xs)
+
+-- so many bytes were written, and then so many more
+pub appends_next : (before between after : Option (List ℕ)) (bytes : List ℕ) (sent count : ℕ) → Appends before between (take sent bytes) → Appends between after (take count (drop sent bytes)) → Appends before after (take (sent + count) bytes)
+appends_next before between after bytes sent count h k =
+    let P : List ℕ → Type 0 = λ l. Appends before after l in
+    subst P (sym (take-add sent count bytes)) (appends_more before between after (take sent bytes) (take count (drop sent bytes)) h k)
+
+-- all bytes were written
+pub appends_all : (before after : Option (List ℕ)) (bytes : List ℕ) (sent : ℕ) → sent ≤ length bytes → length bytes ≤ sent → Appends before after (take sent bytes) → Appends before after bytes
+appends_all before after bytes sent h k written =
+    let P : List ℕ → Type 0 = λ l. Appends before after l in
+    let e : sent ≡ length bytes = omega arith in
+    subst P (ap (λ n. take n bytes) e ∙ take-length bytes) written
+
+-- ---- reading
+
+-- reading ends behind bytes that are no whole request
+pub stopped : (before between after : Option (List ℕ)) (seen new : List ℕ) (fault : HttpFault) → Consumes before between seen → Judges seen More → ReadsMore between after seen new (Err fault) → Receives before after new (Err fault)
+stopped before between after seen new Cut h judged (kept, at_end, same) =
+    (subst (λ l. Consumes before after l) (sym same) (consumes_kept before between after seen h kept), subst (λ l. Judges l More) (sym same) judged, at_end)
+stopped before between after seen new ReadFault h judged (kept, same) =
+    (subst (λ l. Consumes before after l) (sym same) (consumes_kept before between after seen h kept), subst (λ l. Judges l More) (sym same) judged)
+stopped before between after seen new WriteFault h judged none = absurd none
+stopped before between after seen new Memory h judged done = tt
+
+pub went_on : (before between after : Option (List ℕ)) (seen new : List ℕ) (done : Unit {0}) → Consumes before between seen → ReadsMore between after seen new (Ok done) → Consumes before after new
+went_on before between after seen new done h (piece, more, same) = subst (λ l. Consumes before after l) (sym same) (consumes_more before between after seen piece h more)
+
+-- nothing was read
+pub consumes_nothing : (before : Option (List ℕ)) (seen : List ℕ) → seen ≡ [] → Consumes before before seen
+consumes_nothing None seen e = tt
+consumes_nothing (Some xs) seen e = ap (λ l. l ++ xs) (sym e)
+
+pub judged_more : (seen items : List ℕ) (verdict : Verdict) → seen ≡ items → verdict ≡ More → Judges seen verdict → Judges items More
+judged_more seen items verdict e f h = subst (λ l. Judges l More) e (subst (λ v. Judges seen v) f h)

@@ -1,0 +1,84 @@
+-- Bytes behind a request that was judged change nothing, and it is judged in one way alone.
+use Rattle.std.proofs.Common.{◌≡◌, ℕ, ◌≤◌, ◌<◌, ◌+◌, ◌-◌, Bool, true, false, cond, List, [], ◌++◌, length, take, drop, nat_lt, refl, sym, ap, ◌∙◌, subst, inl, inr, arith}
+use Rattle.std.specs.Prelude.{Result, Ok, Err}
+use Rattle.std.proofs.lemmas.List.{append-nil, append_assoc, take-append-le, length-append, take-append-drop}
+use Rattle.std.proofs.Math.Seq.{take-append-add}
+use Rattle.std.proofs.lemmas.Bool.Decides.{nat_tests}
+use Rattle.httparse.specs.Grammar.{RequestHead, print_request, ReadsRequest, HasNoRequest}
+use Rattle.httparse.proofs.GrammarLemmas.{ReadsRequest-append, request_unique}
+use Rattle.atl_http.specs.declared.problem.Problem.{Problem}
+use Rattle.atl_http.specs.declared.problem.Problem.TheVariants.{BadRequest}
+use Rattle.atl_http.specs.declared.route.Route.{Route}
+use Rattle.atl_http.specs.declared.request.Verdict.{Verdict}
+use Rattle.atl_http.specs.declared.request.Verdict.TheVariants.{More, Refused, Asks}
+use Rattle.atl_http.specs.Checks.{ended, told, request_of, verdict_of, head_checks}
+use Rattle.atl_http.specs.Fields.{fields_of}
+use Rattle.atl_http.specs.Heads.{most_head, HasHead, IsRefused, IsTooLong, IsUnfinished, Judges, whole, too_long, refused, unfinished, IsFinal}
+use Rattle.atl_http.proofs.HeadLaws.{refused_stays}
+
+-- ---- more bytes
+
+pub head_stays : (input more : List ℕ) (head : RequestHead) (rest : List ℕ) → HasHead input head rest → HasHead (input ++ more) head (rest ++ more)
+head_stays input more head rest h = record { reads = ReadsRequest-append input head rest more h.reads; bytes = h.bytes; fields = h.fields }
+
+-- a body that is whole stays what it is
+ended_at : (short : Bool) (route : Route) (size : ℕ) (pass rest more : List ℕ) → nat_lt (length rest) size ≡ short → IsFinal (cond short More (told (request_of route pass (take size rest)))) → cond (nat_lt (length (rest ++ more)) size) More (told (request_of route pass (take size (rest ++ more)))) ≡ cond short More (told (request_of route pass (take size rest)))
+ended_at true route size pass rest more e final = absurd final
+ended_at false route size pass rest more e final =
+    let long : size ≤ length rest = grind (arith, nat_tests) in
+    let longer : nat_lt (length (rest ++ more)) size ≡ false = (let k = length-append rest more in grind (arith, nat_tests)) in
+    ap (λ t. cond t More (told (request_of route pass (take size (rest ++ more))))) longer
+    ∙ ap (λ body. told (request_of route pass body)) (take-append-le size rest more long)
+
+ended_still : (wanted : Result (Route × ℕ × List ℕ) Problem) (rest more : List ℕ) → IsFinal (ended wanted rest) → ended wanted (rest ++ more) ≡ ended wanted rest
+ended_still (Err problem) rest more final = refl
+ended_still (Ok (route, size, pass)) rest more final = ended_at (nat_lt (length rest) size) route size pass rest more refl final
+
+long_stays : (input more : List ℕ) → IsTooLong input → IsTooLong (input ++ more)
+long_stays input more (long, none) =
+    ((let k = length-append input more in omega (arith, long, k)), subst HasNoRequest (sym (take-append-le most_head input more long)) none)
+
+pub judged_still : (input more : List ℕ) (v : Verdict) → Judges input v → IsFinal v → Judges (input ++ more) v
+judged_still input more v (whole head rest h e) final =
+    whole head (rest ++ more) (head_stays input more head rest h) (e ∙ sym (ended_still (head_checks head.minor head.method head.target (fields_of head)) rest more (subst IsFinal e final)))
+judged_still input more v (too_long h e) final = too_long (long_stays input more h) e
+judged_still input more v (refused h e) final = refused (refused_stays input more h) e
+judged_still input more v (unfinished h e) final = absurd (subst IsFinal e final)
+
+-- ---- one verdict
+
+-- what has a head isn't refused
+not_refused : (input : List ℕ) (head : RequestHead) (rest : List ℕ) → HasHead input head rest → IsRefused input → ⊥
+not_refused input head rest h (inl never) = never [] head rest (subst (λ l. ReadsRequest l head rest) (sym (append-nil input)) h.reads)
+not_refused input head rest h (inr (exceeds, over)) =
+    let many = over [] head rest (subst (λ l. ReadsRequest l head rest) (sym (append-nil input)) h.reads) in
+    let few = h.fields in omega (arith, many, few)
+
+take-append-more : (n : ℕ) (xs ys : List ℕ) → length xs ≤ n → take n (xs ++ ys) ≡ xs ++ take (n - length xs) ys
+take-append-more n xs ys h =
+    let e : n ≡ length xs + (n - length xs) = omega arith in
+    ap (λ k. take k (xs ++ ys)) e ∙ take-append-add xs ys (n - length xs)
+
+-- a head that is whole stands in the bytes that it may have
+not_too_long : (input : List ℕ) (head : RequestHead) (rest : List ℕ) → HasHead input head rest → IsTooLong input → ⊥
+not_too_long input head rest h (long, none) =
+    let front : take most_head input ≡ print_request head ++ take (most_head - length (print_request head)) rest =
+    ap (λ l. take most_head l) h.reads.1 ∙ take-append-more most_head (print_request head) rest h.bytes in
+    none head (take (most_head - length (print_request head)) rest) (h.reads.0, front)
+
+pub one_verdict : (input : List ℕ) (v w : Verdict) → Judges input v → Judges input w → IsFinal v → IsFinal w → v ≡ w
+one_verdict input v w (whole head rest h e) (whole other behind k f) final last =
+    let same = request_unique input head other rest behind h.reads k.reads in
+    e ∙ ap (λ x. verdict_of x rest) same.0 ∙ ap (λ r. verdict_of other r) same.1 ∙ sym f
+one_verdict input v w (whole head rest h e) (too_long k f) final last = absurd (not_too_long input head rest h k)
+one_verdict input v w (whole head rest h e) (refused k f) final last = absurd (not_refused input head rest h k)
+one_verdict input v w (whole head rest h e) (unfinished k f) final last = absurd (subst IsFinal f last)
+one_verdict input v w (too_long h e) (whole other behind k f) final last = absurd (not_too_long input other behind k h)
+one_verdict input v w (too_long h e) (too_long k f) final last = e ∙ sym f
+one_verdict input v w (too_long h e) (refused k f) final last = e ∙ sym f
+one_verdict input v w (too_long h e) (unfinished k f) final last = absurd (subst IsFinal f last)
+one_verdict input v w (refused h e) (whole other behind k f) final last = absurd (not_refused input other behind k h)
+one_verdict input v w (refused h e) (too_long k f) final last = e ∙ sym f
+one_verdict input v w (refused h e) (refused k f) final last = e ∙ sym f
+one_verdict input v w (refused h e) (unfinished k f) final last = absurd (subst IsFinal f last)
+one_verdict input v w (unfinished h e) other final last = absurd (subst IsFinal e final)

@@ -1,0 +1,92 @@
+-- What is told of the answer to a command.
+use Rattle.std.specs.Prelude.{ℕ, List, [], ◌∷◌, codes, None}
+use Rattle.std.specs.Fmt.{decimal}
+use Rattle.atl_tables.specs.Texts.{◌▸◌}
+use Rattle.atl_orders.specs.declared.fault.FaultyLine.{FaultyLine}
+use Rattle.atl_orders.specs.Faulting.{fault_number}
+use Rattle.atl_service.specs.declared.command.Answer.{Answer}
+use Rattle.atl_service.specs.declared.command.Answer.TheVariants.{Joined, Mailed, MonthDone, Text, Refused, Fault}
+use Rattle.atl_service.specs.declared.command.Fault.{Fault as Failure}
+use Rattle.atl_service.specs.declared.command.Fault.TheVariants.{Memory, Store, Closed}
+use Rattle.atl_service.specs.declared.command.Refusal.{Refusal}
+use Rattle.atl_service.specs.declared.command.Refusal.TheVariants.{BadName, BadPassText, NameTaken, Full, NoFaction, WrongPass, Gone, TooLong, NoHeader, BadHeader, WrongFaction, WrongMonth, MonthLimit, WrongDice}
+use Rattle.atl_service.specs.Numbers.{number_of}
+use Rattle.atl_http.specs.Replies.{Reply, json, plain, error_body}
+
+-- ---- what was done
+
+unfoldable pub joined_body : (faction unit : ℕ) → List ℕ
+joined_body faction unit = codes "{\"faction\":" ▸ decimal faction ▸ codes ",\"unit\":" ▸ decimal unit ▸ codes "}"
+
+-- a faulty line, with the number of what is wrong with it
+unfoldable pub pair : FaultyLine → List ℕ
+pair faulty = codes "[" ▸ decimal faulty.line ▸ codes "," ▸ decimal (fault_number faulty.fault) ▸ codes "]"
+
+abbrev pub more_pairs : List FaultyLine → List ℕ
+more_pairs [] = []
+more_pairs (faulty ∷ more) = (codes "," ▸ pair faulty) ▸ more_pairs more
+
+abbrev pub pairs : List FaultyLine → List ℕ
+pairs [] = []
+pairs (faulty ∷ more) = pair faulty ▸ more_pairs more
+
+unfoldable pub mailed_body : (orders : ℕ) → List FaultyLine → List ℕ
+mailed_body orders faults = codes "{\"faults\":[" ▸ pairs faults ▸ codes "],\"orders\":" ▸ decimal orders ▸ codes "}"
+
+unfoldable pub month_body : (month : ℕ) → List ℕ
+month_body month = codes "{\"month\":" ▸ decimal month ▸ codes "}"
+
+abbrev pub success : (kind body : List ℕ) → Reply
+success kind body = record { status = 200; allow = None; kind = kind; body = body }
+
+-- ---- refusals and faults
+
+abbrev pub refusal_name : Refusal → List ℕ
+refusal_name BadName = codes "BadName"
+refusal_name BadPassText = codes "BadPassText"
+refusal_name NameTaken = codes "NameTaken"
+refusal_name Full = codes "Full"
+refusal_name NoFaction = codes "NoFaction"
+refusal_name WrongPass = codes "WrongPass"
+refusal_name Gone = codes "Gone"
+refusal_name TooLong = codes "TooLong"
+refusal_name NoHeader = codes "NoHeader"
+refusal_name BadHeader = codes "BadHeader"
+refusal_name WrongFaction = codes "WrongFaction"
+refusal_name WrongMonth = codes "WrongMonth"
+refusal_name MonthLimit = codes "MonthLimit"
+refusal_name WrongDice = codes "WrongDice"
+
+abbrev pub refusal_status : Refusal → ℕ
+refusal_status BadName = 400
+refusal_status BadPassText = 400
+refusal_status NameTaken = 409
+refusal_status Full = 409
+refusal_status NoFaction = 404
+refusal_status WrongPass = 403
+refusal_status Gone = 403
+refusal_status TooLong = 413
+refusal_status NoHeader = 400
+refusal_status BadHeader = 400
+refusal_status WrongFaction = 409
+refusal_status WrongMonth = 409
+refusal_status MonthLimit = 409
+refusal_status WrongDice = 400
+
+abbrev pub fault_name : Failure → List ℕ
+fault_name Memory = codes "Memory"
+fault_name Store = codes "Store"
+fault_name Closed = codes "Closed"
+
+abbrev pub failure : (status : ℕ) → (name : List ℕ) → (number : ℕ) → Reply
+failure status name number = record { status = status; allow = None; kind = json; body = error_body name number }
+
+-- ---- the whole
+
+abbrev pub answer_reply : Answer → Reply
+answer_reply (Joined faction unit) = success json (joined_body faction unit)
+answer_reply (Mailed orders faults) = success json (mailed_body orders faults)
+answer_reply (MonthDone month) = success json (month_body month)
+answer_reply (Text report) = success plain report
+answer_reply (Refused why) = failure (refusal_status why) (refusal_name why) (number_of why)
+answer_reply (Fault fault) = failure 500 (fault_name fault) 0

@@ -1,0 +1,131 @@
+-- What a whole head and the bytes behind it come to: the checks, in their order. See docs/FORMATS.md, "HTTP".
+use Rattle.std.specs.Prelude.{ℕ, Bool, true, false, ◌||◌, ◌==◌, nat_lt, bytes_eq, codes, if◌then◌else◌, List, [], ◌∷◌, length, take, Option, Some, None, is_some, Result, Ok, Err, option_and_then}
+use Rattle.std.specs.Str.{is_utf8}
+use Rattle.httparse.specs.Grammar.{RequestHead}
+use Rattle.serde_json.specs.Data.{Data}
+use Rattle.serde_json.specs.Read.{read}
+use Rattle.serde_json.specs.Find.{get, as_str}
+use Rattle.atl_http.specs.declared.problem.Problem.{Problem}
+use Rattle.atl_http.specs.declared.problem.Problem.TheVariants.{BadRequest, NoRoute, BadMethod, NoLength, BodyTooLong, NoPass, BadJson}
+use Rattle.atl_http.specs.declared.route.Route.{Route}
+use Rattle.atl_http.specs.declared.route.Route.TheVariants.{Join, Orders, Close, Report}
+use Rattle.atl_http.specs.declared.request.Request.{Request}
+use Rattle.atl_http.specs.declared.request.Request.TheVariants as request
+use Rattle.atl_http.specs.declared.request.Verdict.{Verdict}
+use Rattle.atl_http.specs.declared.request.Verdict.TheVariants.{More, Refused, Asks}
+use Rattle.atl_http.specs.Routes.{number_of, path_of, route_of, method_of}
+use Rattle.atl_http.specs.Fields.{Pair, fields_of, values_of, only}
+
+infixl 10 ◌>>=◌
+abbrev pub ◌>>=◌ : {A B : Type 0} → Result A Problem → (A → Result B Problem) → Result B Problem
+(Ok x) >>= f = f x
+(Err e) >>= f = Err e
+
+-- the value, or a problem where there is none
+abbrev pub or_problem : {A : Type 0} → Problem → Option A → Result A Problem
+or_problem problem None = Err problem
+or_problem problem (Some x) = Ok x
+
+-- ---- the first check: a request of HTTP/1.1 has exactly one Host
+
+unfoldable pub has_host : (minor : ℕ) → List Pair → Bool
+has_host minor fields = minor == 0 || is_some (only (values_of (codes "Host") fields))
+
+-- ---- the second: a route, and its method
+
+abbrev pub with_method : (method : List ℕ) → Option Route → Result Route Problem
+with_method method None = Err NoRoute
+with_method method (Some route) = if bytes_eq method (method_of route) then Ok route else Err (BadMethod route)
+
+-- the route of a request, by the first two checks
+unfoldable pub routed : (minor : ℕ) → (method target : List ℕ) → List Pair → Result Route Problem
+routed minor method target fields = if has_host minor fields then with_method method (route_of (path_of target)) else Err BadRequest
+
+-- ---- the third: how many bytes the body of a POST has
+
+-- the most bytes of a body
+abbrev pub most_bytes : ℕ
+most_bytes = 65536
+
+abbrev pub within : Option ℕ → Result ℕ Problem
+within None = Err BadRequest
+within (Some n) = if nat_lt most_bytes n then Err BodyTooLong else Ok n
+
+-- as the fields Content-Length say, which some requests may lack
+abbrev pub declared : (optional : Bool) → List (List ℕ) → Result ℕ Problem
+declared true [] = Ok 0
+declared false [] = Err NoLength
+declared optional (value ∷ []) = within (number_of value)
+declared optional (value ∷ other ∷ more) = Err BadRequest
+
+abbrev pub unless_coded : List (List ℕ) → Result ℕ Problem → Result ℕ Problem
+unless_coded [] size = size
+unless_coded (coding ∷ more) size = Err NoLength
+
+unfoldable pub posted : (optional : Bool) → List Pair → Result ℕ Problem
+posted optional fields = unless_coded (values_of (codes "Transfer-Encoding") fields) (declared optional (values_of (codes "Content-Length") fields))
+
+-- the body of a GET isn't read, and that of a closing may be missing
+abbrev pub size_of : Route → List Pair → Result ℕ Problem
+size_of Join fields = posted false fields
+size_of (Orders faction) fields = posted false fields
+size_of (Close month) fields = posted true fields
+size_of (Report faction) fields = Ok 0
+
+-- ---- the fourth: exactly one pass text, but for a joining
+
+unfoldable pub given_pass : List Pair → Result (List ℕ) Problem
+given_pass fields = or_problem NoPass (only (values_of (codes "Atlantis-Pass") fields))
+
+abbrev pub pass_of : Route → List Pair → Result (List ℕ) Problem
+pass_of Join fields = Ok []
+pass_of (Orders faction) fields = given_pass fields
+pass_of (Close month) fields = given_pass fields
+pass_of (Report faction) fields = given_pass fields
+
+-- ---- the fifth: the body
+
+-- what a text of JSON says
+abbrev pub json_of : List ℕ → Option Data
+json_of body = if is_utf8 body then read body else None
+
+-- the text under a key
+abbrev pub text_at : List ℕ → Data → Option (List ℕ)
+text_at key d = option_and_then as_str (get key d)
+
+-- an object with the texts name and pass
+unfoldable pub joining : List ℕ → Result Request Problem
+joining body = do
+  said ← or_problem BadJson (json_of body)
+  name ← or_problem BadJson (text_at (codes "name") said)
+  pass ← or_problem BadJson (text_at (codes "pass") said)
+  Ok (request.Join name pass)
+
+abbrev pub request_of : Route → (pass body : List ℕ) → Result Request Problem
+request_of Join pass body = joining body
+request_of (Orders faction) pass body = Ok (request.Orders faction pass body)
+request_of (Close month) pass body = Ok (request.Close month pass)
+request_of (Report faction) pass body = Ok (request.Report faction pass)
+
+-- ---- the whole
+
+-- the first four checks: the route of a head, how many bytes of body it has, and its pass text
+unfoldable pub head_checks : (minor : ℕ) → (method target : List ℕ) → List Pair → Result (Route × ℕ × List ℕ) Problem
+head_checks minor method target fields = do
+  route ← routed minor method target fields
+  size ← size_of route fields
+  pass ← pass_of route fields
+  Ok (route, size, pass)
+
+abbrev pub told : Result Request Problem → Verdict
+told (Err problem) = Refused problem
+told (Ok asked) = Asks asked
+
+-- a request whose body is whole
+abbrev pub ended : Result (Route × ℕ × List ℕ) Problem → (rest : List ℕ) → Verdict
+ended (Err problem) rest = Refused problem
+ended (Ok (route, size, pass)) rest = if nat_lt (length rest) size then More else told (request_of route pass (take size rest))
+
+-- what a head comes to, with the bytes behind it
+abbrev pub verdict_of : RequestHead → (rest : List ℕ) → Verdict
+verdict_of head rest = ended (head_checks head.minor head.method head.target (fields_of head)) rest

@@ -1,0 +1,73 @@
+-- The bytes of a reply.
+use Rattle.std.specs.Prelude.{ℕ, List, [], ◌∷◌, length, codes, Option, Some, None, unwrap_or}
+use Rattle.std.specs.Fmt.{decimal}
+use Rattle.http.specs.StatusCode.{reason_phrase}
+use Rattle.atl_tables.specs.Texts.{◌▸◌}
+use Rattle.atl_http.specs.declared.problem.Problem.{Problem}
+use Rattle.atl_http.specs.declared.problem.Problem.TheVariants.{BadRequest, NoRoute, BadMethod, NoLength, BodyTooLong, NoPass, BadJson}
+use Rattle.atl_http.specs.declared.route.Route.{Route}
+use Rattle.atl_http.specs.Routes.{method_of}
+
+-- a reply's status, the route whose method is allowed where another one was asked for, what its body is, and its body
+pub record Reply : Type 0 where
+  pub status : ℕ
+  pub allow : Option Route
+  pub kind : List ℕ
+  pub body : List ℕ
+
+abbrev pub json : List ℕ
+json = codes "application/json"
+
+abbrev pub plain : List ℕ
+plain = codes "text/plain"
+
+-- ---- its bytes
+
+abbrev pub allow_line : Option Route → List ℕ
+allow_line None = []
+allow_line (Some route) = codes "Allow: " ▸ method_of route ▸ codes "\r\n"
+
+-- the lines that every reply begins with
+unfoldable pub head_of : (status : ℕ) → (kind body : List ℕ) → List ℕ
+head_of status kind body =
+    codes "HTTP/1.1 " ▸ decimal status ▸ codes " " ▸ unwrap_or (reason_phrase status) [] ▸ codes "\r\nContent-Type: " ▸ kind
+    ▸ codes "\r\nContent-Length: " ▸ decimal (length body) ▸ codes "\r\nConnection: close\r\n"
+
+abbrev pub bytes_of : Reply → List ℕ
+bytes_of r = head_of r.status r.kind r.body ▸ allow_line r.allow ▸ codes "\r\n" ▸ r.body
+
+-- ---- what is told of a problem
+
+abbrev pub problem_name : Problem → List ℕ
+problem_name BadRequest = codes "BadRequest"
+problem_name NoRoute = codes "NoRoute"
+problem_name (BadMethod route) = codes "BadMethod"
+problem_name NoLength = codes "NoLength"
+problem_name BodyTooLong = codes "BodyTooLong"
+problem_name NoPass = codes "NoPass"
+problem_name BadJson = codes "BadJson"
+
+abbrev pub problem_status : Problem → ℕ
+problem_status BadRequest = 400
+problem_status NoRoute = 404
+problem_status (BadMethod route) = 405
+problem_status NoLength = 411
+problem_status BodyTooLong = 413
+problem_status NoPass = 400
+problem_status BadJson = 400
+
+abbrev pub allowed : Problem → Option Route
+allowed (BadMethod route) = Some route
+allowed BadRequest = None
+allowed NoRoute = None
+allowed NoLength = None
+allowed BodyTooLong = None
+allowed NoPass = None
+allowed BadJson = None
+
+-- the body that tells an error, with its number
+unfoldable pub error_body : (name : List ℕ) → (number : ℕ) → List ℕ
+error_body name number = codes "{\"error\":\"" ▸ name ▸ codes "\",\"number\":" ▸ decimal number ▸ codes "}"
+
+abbrev pub problem_reply : Problem → Reply
+problem_reply p = record { status = problem_status p; allow = allowed p; kind = json; body = error_body (problem_name p) 0 }

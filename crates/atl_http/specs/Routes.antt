@@ -1,0 +1,43 @@
+-- The routes, and which of them a path is.
+use Rattle.std.specs.Prelude.{ℕ, Bool, List, length, take, drop, ◌&&◌, nat_eq, nat_lt, nat_le, ◌==◌, bytes_eq, codes, if◌then◌else◌, Option, Some, None, option_map}
+use Rattle.std.specs.Cmp.Lexicographic.{pointwise}
+use Rattle.std.specs.List.{list_all, before_first}
+use Rattle.std.specs.Char.{is_ascii_digit}
+use Rattle.std.specs.Str.Parse.{digits_value}
+use Rattle.atl_http.specs.declared.route.Route.{Route}
+use Rattle.atl_http.specs.declared.route.Route.TheVariants.{Join, Orders, Close, Report}
+
+-- a number of 1 to 9 digits
+unfoldable pub number_of : List ℕ → Option ℕ
+number_of bytes = if nat_lt 0 (length bytes) && (nat_le (length bytes) 9 && list_all is_ascii_digit bytes) then Some (digits_value 10 bytes) else None
+
+-- what stands behind a text at the front of another
+abbrev pub behind : List ℕ → List ℕ → Option (List ℕ)
+behind front text = if pointwise nat_eq (take (length front) text) front then Some (drop (length front) text) else None
+
+-- the route whose number stands behind a front, or what comes of a path without the front
+abbrev pub numbered : (ℕ → Route) → Option (List ℕ) → Option Route → Option Route
+numbered route None other = other
+numbered route (Some parameter) other = option_map route (number_of parameter)
+
+abbrev pub is_question : ℕ → Bool
+is_question b = b == 63
+
+-- the path of a target: up to the question mark
+abbrev pub path_of : List ℕ → List ℕ
+path_of target = before_first is_question target
+
+-- the route of a path
+unfoldable pub route_of : List ℕ → Option Route
+route_of path =
+    if bytes_eq path (codes "/join") then Some Join
+    else numbered Orders (behind (codes "/orders/") path)
+    (numbered Close (behind (codes "/close/") path)
+    (numbered Report (behind (codes "/report/") path) None))
+
+-- the method of a route
+abbrev pub method_of : Route → List ℕ
+method_of Join = codes "POST"
+method_of (Orders faction) = codes "POST"
+method_of (Close month) = codes "POST"
+method_of (Report faction) = codes "GET"

@@ -1,0 +1,70 @@
+-- What serving one request may answer and leave.
+use Rattle.std.specs.Prelude.{◌≡◌, ◌+◌, ◌⊎◌, ℕ, List, take, Option, Some, None, Result, Ok, Err}
+use Rattle.std.specs.FinMap.{len}
+use Rattle.std.specs.Io.KnownBytes.{Keeps, Appends, Consumes, IsAtEnd}
+use Rattle.sqlite_trees.specs.declared.store.Store.{Ghosts}
+use Rattle.atl_state.specs.State.{State as Campaign}
+use Rattle.atl_service.specs.declared.command.Command.{Command}
+use Rattle.atl_service.specs.declared.command.Command.TheVariants as command
+use Rattle.atl_service.specs.declared.command.Answer.{Answer}
+use Rattle.atl_service.specs.Engine.{Engine}
+use Rattle.atl_service.specs.Runs.{Runs}
+use Rattle.atl_http.specs.declared.dice.Dice.{Dice}
+use Rattle.atl_http.specs.declared.moving.HttpFault.{HttpFault}
+use Rattle.atl_http.specs.declared.moving.HttpFault.TheVariants.{Cut, ReadFault, WriteFault, Memory}
+use Rattle.atl_http.specs.declared.request.Request.{Request}
+use Rattle.atl_http.specs.declared.request.Request.TheVariants.{Join, Orders, Close, Report}
+use Rattle.atl_http.specs.declared.request.Verdict.{Verdict}
+use Rattle.atl_http.specs.declared.request.Verdict.TheVariants.{More, Refused, Asks}
+use Rattle.atl_http.specs.Dice.{generator, joining_streams, word_of, first_words}
+use Rattle.atl_http.specs.Heads.{Judges}
+use Rattle.atl_http.specs.Replies.{Reply, bytes_of, problem_reply}
+use Rattle.atl_http.specs.Answered.{answer_reply}
+
+-- the number of the faction that joins next; 0 for a closed service, which takes no command
+abbrev pub next_faction : Option Campaign → ℕ
+next_faction None = 0
+next_faction (Some c) = c.next_faction
+
+-- the command that a request asks for, with the words of the dice: of the faction that comes next, or of the month, one for each region
+abbrev pub command_of : Dice → (next regions : ℕ) → Request → Command
+command_of dice next regions (Join name pass) = command.Join name pass (word_of (generator dice.seed (joining_streams + next)))
+command_of dice next regions (Orders faction pass text) = command.Mail faction pass text
+command_of dice next regions (Close month pass) = command.Close month pass (first_words regions (generator dice.seed month))
+command_of dice next regions (Report faction pass) = command.Report faction pass
+
+abbrev pub command_in : {S : Type 0} → Dice → Engine S → Request → Command
+command_in dice old request = command_of dice (next_faction old.campaign) (len old.world.regions) request
+
+-- the reply to what a request comes to, and what is left of it: nothing is changed, or the command was run
+abbrev pub Told : {S : Type 0} → Ghosts S → Dice → (old : Engine S) → Verdict → Reply → (new : Engine S) → Type 0
+Told g dice old More reply new = ⊥
+Told g dice old (Refused problem) reply new = (reply ≡ problem_reply problem) × (new ≡ old)
+Told g dice old (Asks request) reply new = (answer : Answer) × Runs g old (command_in dice old request) answer new × (reply ≡ answer_reply answer)
+
+-- the reply to the bytes that were seen
+abbrev pub RepliesTo : {S : Type 0} → Ghosts S → Dice → (old : Engine S) → (seen : List ℕ) → Reply → (new : Engine S) → Type 0
+RepliesTo g dice old seen reply new = (verdict : Verdict) × Judges seen verdict × Told g dice old verdict reply new
+
+-- the bytes that are known: those that a reader has left, and those that a writer holds
+pub record Known : Type 0 where
+  pub left : Option (List ℕ)
+  pub held : Option (List ℕ)
+
+-- Of the bytes that were seen the status and all bytes of the reply; or there is no reply, or a part of it.
+abbrev pub Serves : {S : Type 0} → Ghosts S → Dice → (before after : Known) → (old : Engine S) → Result ℕ HttpFault → (new : Engine S) → Type 0
+Serves g dice before after old (Ok status) new =
+    (seen : List ℕ) × (reply : Reply) × Consumes before.left after.left seen × RepliesTo g dice old seen reply new × (status ≡ reply.status) × Appends before.held after.held (bytes_of reply)
+-- the input ended within the request
+Serves g dice before after old (Err Cut) new =
+    (seen : List ℕ) × Consumes before.left after.left seen × Judges seen More × IsAtEnd after.left × Keeps before.held after.held × (new ≡ old)
+-- the reads failed before the request was whole
+Serves g dice before after old (Err ReadFault) new =
+    (seen : List ℕ) × Consumes before.left after.left seen × Judges seen More × Keeps before.held after.held × (new ≡ old)
+-- the writes failed
+Serves g dice before after old (Err WriteFault) new =
+    (seen : List ℕ) × (reply : Reply) × Consumes before.left after.left seen × RepliesTo g dice old seen reply new × (count : ℕ) × Appends before.held after.held (take count (bytes_of reply))
+-- there was no memory for the request, or none for its reply
+Serves g dice before after old (Err Memory) new =
+    Keeps before.held after.held
+    × ((new ≡ old) ⊎ ((seen : List ℕ) × (reply : Reply) × Consumes before.left after.left seen × RepliesTo g dice old seen reply new))

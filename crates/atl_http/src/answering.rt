@@ -1,0 +1,177 @@
+//! What is told of the answer to a command.
+ghost use Rattle.std.specs.Prelude.{◌≡◌, ◌++◌, IfOk, OnOk, string_bytes};
+ghost use Rattle.atl_http.specs.Answered.{joined_body, pair, more_pairs, pairs, mailed_body, month_body, refusal_name, refusal_status, fault_name, success, answer_reply};
+ghost use Rattle.atl_http.specs.Replies.{json};
+ghost use Rattle.atl_http.specs.Moving.{Says};
+
+use crate::message::{JSON, Message, PLAIN, error_message, told_by};
+use atl_orders::FaultyLine;
+use atl_service::{Answer, Fault, Refusal};
+use http::StatusCode;
+use std::alloc::{AllocError, Global};
+use std::fmt::Write;
+
+#[tactic(auto, unfolding(crate::specs::Answered::joined_body))]
+fn joined_body(alloc: Global, faction: u32, unit: u32) -> Result<String, AllocError>
+    ensures { IfOk result (λ body. string_bytes body ≡ joined_body faction unit) }
+{
+    format!(in alloc; "{{\"faction\":{faction},\"unit\":{unit}}}")
+}
+
+#[tactic(auto, unfolding(crate::specs::Answered::pair))]
+fn write_pair(out: &mut String, faulty: &FaultyLine) -> Result<(), AllocError>
+    ensures { OnOk result (string_bytes out.new ≡ string_bytes out.old ++ pair faulty.now) }
+{
+    let line = faulty.line;
+    let number = faulty.fault.number();
+    write!(out, "[{line},{number}]")
+}
+
+fn write_more_pairs(out: &mut String, faults: &[FaultyLine]) -> Result<(), AllocError>
+    ensures { OnOk result (string_bytes out.new ≡ string_bytes out.old ++ more_pairs faults.now) }
+{
+    for faulty in faults {
+        out.push(',')?;
+        write_pair(out, faulty)?;
+    }
+    Ok(())
+}
+
+fn write_pairs(out: &mut String, faults: &[FaultyLine]) -> Result<(), AllocError>
+    ensures { OnOk result (string_bytes out.new ≡ string_bytes out.old ++ pairs faults.now) }
+{
+    match faults {
+        [] => Ok(()),
+        [faulty, more @ ..] => {
+            write_pair(out, faulty)?;
+            write_more_pairs(out, more)
+        }
+    }
+}
+
+#[tactic(auto, unfolding(crate::specs::Answered::mailed_body))]
+fn mailed_body(alloc: Global, orders: usize, faults: &[FaultyLine]) -> Result<String, AllocError>
+    ensures { IfOk result (λ body. string_bytes body ≡ mailed_body orders faults.now) }
+{
+    let mut body = String::from_str(alloc, "{\"faults\":[")?;
+    write_pairs(&mut body, faults)?;
+    write!(&mut body, "],\"orders\":{orders}}}")?;
+    Ok(body)
+}
+
+#[tactic(auto, unfolding(crate::specs::Answered::month_body))]
+fn month_body(alloc: Global, month: u32) -> Result<String, AllocError>
+    ensures { IfOk result (λ body. string_bytes body ≡ month_body month) }
+{
+    format!(in alloc; "{{\"month\":{month}}}")
+}
+
+/// The name under which a refusal is told.
+fn refusal_name(refusal: Refusal) -> &'static str
+    ensures { result.now ≡ refusal_name refusal }
+{
+    match refusal {
+        Refusal::BadName => "BadName",
+        Refusal::BadPassText => "BadPassText",
+        Refusal::NameTaken => "NameTaken",
+        Refusal::Full => "Full",
+        Refusal::NoFaction => "NoFaction",
+        Refusal::WrongPass => "WrongPass",
+        Refusal::Gone => "Gone",
+        Refusal::TooLong => "TooLong",
+        Refusal::NoHeader => "NoHeader",
+        Refusal::BadHeader => "BadHeader",
+        Refusal::WrongFaction => "WrongFaction",
+        Refusal::WrongMonth => "WrongMonth",
+        Refusal::MonthLimit => "MonthLimit",
+        Refusal::WrongDice => "WrongDice",
+    }
+}
+
+/// The status under which a refusal is told.
+fn refusal_status(refusal: Refusal) -> StatusCode
+    ensures { result ≡ refusal_status refusal }
+{
+    match refusal {
+        Refusal::BadName
+        | Refusal::BadPassText
+        | Refusal::NoHeader
+        | Refusal::BadHeader
+        | Refusal::WrongDice => StatusCode::BAD_REQUEST,
+        Refusal::WrongPass | Refusal::Gone => StatusCode::FORBIDDEN,
+        Refusal::NoFaction => StatusCode::NOT_FOUND,
+        Refusal::NameTaken
+        | Refusal::Full
+        | Refusal::WrongFaction
+        | Refusal::WrongMonth
+        | Refusal::MonthLimit => StatusCode::CONFLICT,
+        Refusal::TooLong => StatusCode::PAYLOAD_TOO_LARGE,
+    }
+}
+
+/// The name under which a fault is told.
+fn fault_name(fault: Fault) -> &'static str
+    ensures { result.now ≡ fault_name fault }
+{
+    match fault {
+        Fault::Memory => "Memory",
+        Fault::Store => "Store",
+        Fault::Closed => "Closed",
+    }
+}
+
+/// The reply that tells a refusal.
+fn refusal_message(alloc: Global, refusal: Refusal) -> Result<Message, AllocError>
+    ensures { IfOk result (Says (answer_reply (Answer.Refused refusal))) }
+{
+    error_message(
+        alloc,
+        refusal_status(refusal),
+        None,
+        refusal_name(refusal),
+        refusal.number(),
+    )
+}
+
+/// The reply that tells a fault.
+fn fault_message(alloc: Global, fault: Fault) -> Result<Message, AllocError>
+    ensures { IfOk result (Says (answer_reply (Answer.Fault fault))) }
+{
+    error_message(
+        alloc,
+        StatusCode::INTERNAL_SERVER_ERROR,
+        None,
+        fault_name(fault),
+        0,
+    )
+}
+
+/// The reply that tells what was done.
+fn success_message(alloc: Global, body: &str) -> Result<Message, AllocError>
+    ensures { IfOk result (Says (success json body.now)) }
+{
+    told_by(alloc, StatusCode::OK, None, JSON, body)
+}
+
+/// The reply to an answer.
+pub fn answer_message(alloc: Global, answer: &Answer) -> Result<Message, AllocError>
+    ensures { IfOk result (Says (answer_reply answer.now)) }
+{
+    match answer {
+        Answer::Joined { faction, unit } => {
+            let body = joined_body(alloc, *faction, *unit)?;
+            success_message(alloc, body.as_str())
+        }
+        Answer::Mailed { orders, faults } => {
+            let body = mailed_body(alloc, *orders, faults.as_slice())?;
+            success_message(alloc, body.as_str())
+        }
+        Answer::MonthDone { month } => {
+            let body = month_body(alloc, *month)?;
+            success_message(alloc, body.as_str())
+        }
+        Answer::Text(text) => told_by(alloc, StatusCode::OK, None, PLAIN, text.as_str()),
+        Answer::Refused(refusal) => refusal_message(alloc, *refusal),
+        Answer::Fault(fault) => fault_message(alloc, *fault),
+    }
+}

@@ -1,0 +1,217 @@
+//! The checks of a request, in their order.
+ghost use Rattle.std.specs.Prelude.{◌≡◌, All, length, bytes_eq};
+ghost use Rattle.httparse.specs.Spans.{IsHeaderWithin};
+ghost use Rattle.serde_json.specs.View.{view};
+ghost use Rattle.atl_http.specs.declared.problem.Problem.TheVariants.{BadJson};
+ghost use Rattle.atl_http.specs.Routes.{number_of, method_of};
+ghost use Rattle.atl_http.specs.Checks.{or_problem, has_host, routed, within, posted, size_of, given_pass, pass_of, json_of, text_at, joining, request_of, head_checks};
+ghost use Rattle.atl_http.specs.Finding.{seen, Gives};
+
+use crate::fields::{Found, find_value, only_value};
+use crate::problem::{Problem, Stopped};
+use crate::request::Request;
+use crate::route::{Route, number_of, path_of, route_of};
+use atl_tables::Sequence;
+use httparse::spans::HeaderSpan;
+use serde_json::Value;
+use std::alloc::Global;
+use std::str;
+
+/// The most bytes of a body.
+const MOST_BYTES: u32 = 65_536;
+
+const HOST: &[u8] = b"Host";
+
+const TRANSFER_ENCODING: &[u8] = b"Transfer-Encoding";
+
+const CONTENT_LENGTH: &[u8] = b"Content-Length";
+
+const PASS: &[u8] = b"Atlantis-Pass";
+
+/// Whether a request of HTTP/1.1 has exactly one Host.
+#[tactic(auto, unfolding(crate::specs::Checks::has_host))]
+fn has_host(minor: u8, bytes: &[u8], fields: &[HeaderSpan]) -> bool
+    requires { All (IsHeaderWithin (length bytes.now)) fields.now }
+    ensures { result ≡ has_host minor (seen bytes.now fields.now) }
+{
+    minor == 0 || only_value(bytes, fields, HOST).is_some()
+}
+
+/// The route of a request, if its method is the route's.
+#[tactic(auto, unfolding(crate::specs::Checks::routed))]
+fn routed(
+    minor: u8,
+    method: &[u8],
+    target: &[u8],
+    bytes: &[u8],
+    fields: &[HeaderSpan],
+) -> Result<Route, Stopped>
+    requires { All (IsHeaderWithin (length bytes.now)) fields.now }
+    ensures { Gives (λ route. route) result (routed minor method.now target.now (seen bytes.now fields.now)) }
+{
+    if !has_host(minor, bytes, fields) {
+        return Err(Stopped::Failed(Problem::BadRequest));
+    }
+    match route_of(path_of(target)) {
+        None => Err(Stopped::Failed(Problem::NoRoute)),
+        Some(route) if is_method(method, route) => Ok(route),
+        Some(route) => Err(Stopped::Failed(Problem::BadMethod(route))),
+    }
+}
+
+/// Whether a method is the route's.
+fn is_method(method: &[u8], route: Route) -> bool
+    ensures { result ≡ bytes_eq method.now (method_of route) }
+{
+    method == route.method().as_str().as_bytes()
+}
+
+/// The length that a text says, if a body may have it.
+fn within(text: &[u8]) -> Result<usize, Stopped>
+    ensures { Gives (λ size. size) result (within (number_of text.now)) }
+{
+    match number_of(text) {
+        None => Err(Stopped::Failed(Problem::BadRequest)),
+        Some(size) if MOST_BYTES < size => Err(Stopped::Failed(Problem::BodyTooLong)),
+        Some(size) => Ok(size as usize),
+    }
+}
+
+/// The length of the body of a POST.
+#[tactic(auto, unfolding(crate::specs::Checks::posted))]
+fn posted(is_optional: bool, bytes: &[u8], fields: &[HeaderSpan]) -> Result<usize, Stopped>
+    requires { All (IsHeaderWithin (length bytes.now)) fields.now }
+    ensures { Gives (λ size. size) result (posted is_optional (seen bytes.now fields.now)) }
+{
+    if !matches!(find_value(bytes, fields, TRANSFER_ENCODING), Found::Nowhere) {
+        return Err(Stopped::Failed(Problem::NoLength));
+    }
+    match find_value(bytes, fields, CONTENT_LENGTH) {
+        Found::Nowhere if is_optional => Ok(0),
+        Found::Nowhere => Err(Stopped::Failed(Problem::NoLength)),
+        Found::Once(value) => within(value.of(bytes)),
+        Found::Several => Err(Stopped::Failed(Problem::BadRequest)),
+    }
+}
+
+/// The length of the body that is read.
+fn size_of(route: Route, bytes: &[u8], fields: &[HeaderSpan]) -> Result<usize, Stopped>
+    requires { All (IsHeaderWithin (length bytes.now)) fields.now }
+    ensures { Gives (λ size. size) result (size_of route (seen bytes.now fields.now)) }
+{
+    match route {
+        Route::Join | Route::Orders(_) => posted(false, bytes, fields),
+        Route::Close(_) => posted(true, bytes, fields),
+        Route::Report(_) => Ok(0),
+    }
+}
+
+/// The pass text, which stands exactly once.
+#[tactic(auto, unfolding(crate::specs::Checks::given_pass))]
+fn given_pass<'a>(bytes: &'a [u8], fields: &[HeaderSpan]) -> Result<&'a [u8], Stopped>
+    requires { All (IsHeaderWithin (length bytes.now)) fields.now }
+    ensures { Gives (λ pass. pass.now) result (given_pass (seen bytes.now fields.now)) }
+{
+    match only_value(bytes, fields, PASS) {
+        None => Err(Stopped::Failed(Problem::NoPass)),
+        Some(pass) => Ok(pass),
+    }
+}
+
+/// The pass text that a route needs.
+fn pass_of<'a>(route: Route, bytes: &'a [u8], fields: &[HeaderSpan]) -> Result<&'a [u8], Stopped>
+    requires { All (IsHeaderWithin (length bytes.now)) fields.now }
+    ensures { Gives (λ pass. pass.now) result (pass_of route (seen bytes.now fields.now)) }
+{
+    match route {
+        Route::Join => Ok(&[]),
+        Route::Orders(_) | Route::Close(_) | Route::Report(_) => given_pass(bytes, fields),
+    }
+}
+
+/// What a head asks for.
+#[derive(Drop, Clone, Copy)]
+pub struct Wanted<'a> {
+    pub route: Route,
+    /// How many bytes the body has.
+    pub size: usize,
+    pub pass: &'a [u8],
+}
+
+/// The checks of a head.
+#[tactic(auto, unfolding(crate::specs::Checks::head_checks))]
+pub fn head_checks<'a>(
+    minor: u8,
+    method: &[u8],
+    target: &[u8],
+    bytes: &'a [u8],
+    fields: &[HeaderSpan],
+) -> Result<Wanted<'a>, Stopped>
+    requires { All (IsHeaderWithin (length bytes.now)) fields.now }
+    ensures { Gives (λ w. (w.route, w.size, w.pass.now)) result (head_checks minor method.now target.now (seen bytes.now fields.now)) }
+{
+    let route = routed(minor, method, target, bytes, fields)?;
+    let size = size_of(route, bytes, fields)?;
+    let pass = pass_of(route, bytes, fields)?;
+    Ok(Wanted { route, size, pass })
+}
+
+/// What a body of JSON says.
+fn json_of(alloc: Global, body: &[u8]) -> Result<Value, Stopped>
+    ensures { Gives view result (or_problem BadJson (json_of body.now)) }
+{
+    let Ok(text) = str::from_utf8(body) else {
+        return Err(Stopped::Failed(Problem::BadJson));
+    };
+    match Value::from_str(alloc, text) {
+        Ok(said) => Ok(said),
+        Err(error) if error.is_memory() => Err(Stopped::Memory),
+        Err(_) => Err(Stopped::Failed(Problem::BadJson)),
+    }
+}
+
+/// The text under a key.
+fn text_at<'a>(said: &'a Value, key: &str) -> Result<&'a str, Stopped>
+    ensures { Gives (λ text. text.now) result (or_problem BadJson (text_at key.now (view said.now))) }
+{
+    match said.get(key).and_then(Value::as_str) {
+        None => Err(Stopped::Failed(Problem::BadJson)),
+        Some(text) => Ok(text),
+    }
+}
+
+/// The joining that a body asks for.
+#[tactic(auto, unfolding(crate::specs::Checks::joining))]
+fn joining(alloc: Global, body: &[u8]) -> Result<Request, Stopped>
+    ensures { Gives (λ request. request) result (joining body.now) }
+{
+    let said = json_of(alloc, body)?;
+    let name = text_at(&said, "name")?;
+    let pass = text_at(&said, "pass")?;
+    Ok(Request::Join {
+        name: Sequence::from_slice(alloc, name.as_bytes())?,
+        pass: Sequence::from_slice(alloc, pass.as_bytes())?,
+    })
+}
+
+/// What a request asks for, by its whole body.
+pub fn request_of(alloc: Global, route: Route, pass: &[u8], body: &[u8]) -> Result<Request, Stopped>
+    ensures { Gives (λ request. request) result (request_of route pass.now body.now) }
+{
+    match route {
+        Route::Join => joining(alloc, body),
+        Route::Orders(faction) => Ok(Request::Orders {
+            faction,
+            pass: Sequence::from_slice(alloc, pass)?,
+            text: Sequence::from_slice(alloc, body)?,
+        }),
+        Route::Close(month) => Ok(Request::Close {
+            month,
+            pass: Sequence::from_slice(alloc, pass)?,
+        }),
+        Route::Report(faction) => Ok(Request::Report {
+            faction,
+            pass: Sequence::from_slice(alloc, pass)?,
+        }),
+    }
+}

@@ -1,0 +1,59 @@
+//! The fields of a head.
+ghost use Rattle.std.specs.Prelude.{◌≡◌, All, length, option_map};
+ghost use Rattle.std.specs.Str.{str_eq_ignore_ascii_case};
+ghost use Rattle.httparse.specs.Spans.{IsHeaderWithin};
+ghost use Rattle.atl_http.specs.Fields.{values_of, only};
+ghost use Rattle.atl_http.specs.Finding.{Tells, one_more, seen};
+
+use httparse::spans::{HeaderSpan, Span};
+
+/// How often a name stands among the fields, and where its value is.
+#[derive(Drop, Clone, Copy)]
+pub enum Found {
+    Nowhere,
+    Once(Span),
+    Several,
+}
+
+/// Whether two names are equal, ignoring ASCII case.
+fn is_same(name: &[u8], other: &[u8]) -> bool
+    ensures { result ≡ str_eq_ignore_ascii_case name.now other.now }
+{
+    name.eq_ignore_ascii_case(other)
+}
+
+/// What is found, with one value more.
+fn with_value(found: Found, value: Span) -> Found
+    ensures { result ≡ one_more found value }
+{
+    match found {
+        Found::Nowhere => Found::Once(value),
+        Found::Once(_) | Found::Several => Found::Several,
+    }
+}
+
+/// Where the value of a name is, among the fields whose places these are.
+#[tactic(auto, unfolding(crate::specs::Fields::values_of))]
+pub fn find_value(bytes: &[u8], fields: &[HeaderSpan], name: &[u8]) -> Found
+    requires { All (IsHeaderWithin (length bytes.now)) fields.now }
+    ensures { Tells bytes.now result (values_of name.now (seen bytes.now fields.now)) }
+{
+    let mut found = Found::Nowhere;
+    for field in fields {
+        if is_same(field.name.of(bytes), name) {
+            found = with_value(found, field.value);
+        }
+    }
+    found
+}
+
+/// The value of a name that stands exactly once.
+pub fn only_value<'a>(bytes: &'a [u8], fields: &[HeaderSpan], name: &[u8]) -> Option<&'a [u8]>
+    requires { All (IsHeaderWithin (length bytes.now)) fields.now }
+    ensures { option_map (λ value. value.now) result ≡ only (values_of name.now (seen bytes.now fields.now)) }
+{
+    match find_value(bytes, fields, name) {
+        Found::Once(value) => Some(value.of(bytes)),
+        Found::Nowhere | Found::Several => None,
+    }
+}

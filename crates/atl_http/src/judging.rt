@@ -1,0 +1,139 @@
+//! What the bytes that have come of a request come to.
+ghost use Rattle.std.specs.Prelude.{◌≡◌, ◌≤◌, All, IfOk, length, take, drop};
+ghost use Rattle.httparse.specs.Spans.{IsHeaderWithin, IsRequestWithin, IsRequestOf};
+ghost use Rattle.atl_http.specs.Checks.{ended, head_checks};
+ghost use Rattle.atl_http.specs.Heads.{most_head, most_fields, Judges};
+ghost use Rattle.atl_http.specs.Finding.{seen, TellsFront};
+
+use crate::checks::{head_checks, request_of};
+use crate::problem::{Problem, Stopped};
+use crate::request::Verdict;
+use httparse::Status;
+use httparse::spans::{EMPTY_HEADER_SPAN, HeaderSpan, RequestSpans, parse_request};
+use std::alloc::{AllocError, Global};
+
+/// The most bytes of a head, its empty line among them.
+const MOST_HEAD: usize = 8_192;
+
+/// The most fields of a head.
+const MOST_FIELDS: usize = 32;
+
+/// What a whole head comes to, with the bytes behind it.
+fn verdict(
+    alloc: Global,
+    minor: u8,
+    method: &[u8],
+    target: &[u8],
+    bytes: &[u8],
+    fields: &[HeaderSpan],
+    rest: &[u8],
+) -> Result<Verdict, AllocError>
+    requires { All (IsHeaderWithin (length bytes.now)) fields.now }
+    ensures { IfOk result (λ verdict. verdict ≡ ended (head_checks minor method.now target.now (seen bytes.now fields.now)) rest.now) }
+{
+    let wanted = match head_checks(minor, method, target, bytes, fields) {
+        Ok(wanted) => wanted,
+        Err(Stopped::Memory) => return Err(AllocError),
+        Err(Stopped::Failed(problem)) => return Ok(Verdict::Refused(problem)),
+    };
+    if rest.len() < wanted.size {
+        return Ok(Verdict::More);
+    }
+    let body = &rest[..wanted.size];
+    match request_of(alloc, wanted.route, wanted.pass, body) {
+        Ok(request) => Ok(Verdict::Asks(request)),
+        Err(Stopped::Memory) => Err(AllocError),
+        Err(Stopped::Failed(problem)) => Ok(Verdict::Refused(problem)),
+    }
+}
+
+/// The bytes in which the head has to end.
+#[tactic(auto, using(std::proofs::lemmas::List::take_min, crate::proofs::HeadLaws::front_within))]
+fn front_of(seen: &[u8]) -> &[u8]
+    ensures front { result.now ≡ take most_head seen.now }
+    ensures within { length result.now ≤ length seen.now }
+{
+    &seen[..MOST_HEAD.min(seen.len())]
+}
+
+/// What the front of the bytes tells of their head.
+#[derive(Drop, Clone, Copy)]
+pub enum Front {
+    Whole(RequestSpans),
+    Partial,
+    /// No head begins so, or it has too many fields.
+    Refused,
+}
+
+/// What the front of the bytes tells of their head, which has as many fields at most as there is room for.
+fn read_front(front: &[u8], fields: &mut [HeaderSpan]) -> Front
+    requires { length fields.old ≡ most_fields }
+    ensures tells { TellsFront front.now fields.new result }
+    ensures room { length fields.new ≡ most_fields }
+{
+    match parse_request(front, fields) {
+        Ok(Status::Complete(head)) => Front::Whole(head),
+        Ok(Status::Partial) => Front::Partial,
+        Err(_) => Front::Refused,
+    }
+}
+
+/// The fields that were found.
+fn first_fields(fields: &[HeaderSpan], count: usize) -> &[HeaderSpan]
+    requires { count ≤ length fields.now }
+    ensures { result.now ≡ take count fields.now }
+{
+    &fields[..count]
+}
+
+/// What stands behind so many bytes.
+pub fn behind(seen: &[u8], len: usize) -> &[u8]
+    requires { len ≤ length seen.now }
+    ensures { result.now ≡ drop len seen.now }
+{
+    &seen[len..]
+}
+
+/// What the bytes come to behind whose front a whole head was found.
+fn judged_whole(
+    alloc: Global,
+    seen: &[u8],
+    front: &[u8],
+    fields: &[HeaderSpan],
+    head: &RequestSpans,
+) -> Result<Verdict, AllocError>
+    requires front { front.now ≡ take most_head seen.now }
+    requires within { length front.now ≤ length seen.now }
+    requires room { length fields.now ≡ most_fields }
+    requires tells { IsRequestWithin front.now fields.now head.now × IsRequestOf front.now fields.now head.now }
+    ensures { IfOk result (Judges seen.now) }
+{
+    let method = head.method.of(front);
+    let target = head.path.of(front);
+    let fields = first_fields(fields, head.headers);
+    let rest = behind(seen, head.len);
+    verdict(alloc, head.version, method, target, front, fields, rest)
+}
+
+/// What the bytes come to, with room for the fields of their head.
+fn judged_in(alloc: Global, seen: &[u8], fields: &mut [HeaderSpan]) -> Result<Verdict, AllocError>
+    requires { length fields.old ≡ most_fields }
+    ensures { IfOk result (Judges seen.now) }
+{
+    let front = front_of(seen);
+    match read_front(front, fields) {
+        Front::Whole(head) => judged_whole(alloc, seen, front, fields, &head),
+        Front::Partial if seen.len() < MOST_HEAD => Ok(Verdict::More),
+        Front::Partial => Ok(Verdict::Refused(Problem::BadRequest)),
+        Front::Refused => Ok(Verdict::Refused(Problem::BadRequest)),
+    }
+}
+
+/// What the bytes that have come of a request come to. AllocError without memory for what is asked. See docs/FORMATS.md,
+/// "HTTP".
+pub fn judged(alloc: Global, seen: &[u8]) -> Result<Verdict, AllocError>
+    ensures { IfOk result (Judges seen.now) }
+{
+    let mut fields = [EMPTY_HEADER_SPAN; MOST_FIELDS];
+    judged_in(alloc, seen, &mut fields)
+}

@@ -1,0 +1,58 @@
+//! Connections, one after another.
+use crate::dice::Dice;
+use crate::moving::HttpFault;
+use crate::serving::serve_one;
+use atl_service::Service;
+use sqlite::Alter;
+use std::alloc::Global;
+use std::io::ErrorKind;
+use std::net::{TcpListener, TcpStream};
+use std::time::Duration;
+
+/// How many seconds a peer is waited for, at each read and at each write.
+const PATIENCE: u64 = 10;
+
+/// Why no more connections are served.
+#[derive(Drop, Clone, Copy, Debug, PartialEq, Eq)]
+pub enum ListenFault {
+    /// No connection can be taken.
+    Net,
+    /// There was no memory for a request or its reply.
+    Memory,
+}
+
+/// Serves the one request of a connection. A peer that sends nothing, or takes nothing, is left where the system lets a limit
+/// be set. A connection without a whole request or reply counts as served.
+fn serve_stream<S: Alter>(
+    alloc: Global,
+    stream: &TcpStream,
+    service: &mut Service<S>,
+    dice: Dice,
+) -> Result<(), ListenFault> {
+    let _ = stream.set_read_timeout(Some(Duration::from_secs(PATIENCE)));
+    let _ = stream.set_write_timeout(Some(Duration::from_secs(PATIENCE)));
+    let mut reader = stream;
+    let mut writer = stream;
+    match serve_one(alloc, &mut reader, &mut writer, service, dice) {
+        Err(HttpFault::Memory) => Err(ListenFault::Memory),
+        Ok(_) | Err(_) => Ok(()),
+    }
+}
+
+/// Serves so many connections of a bound listener, one after another, one request each.
+pub fn serve_each<S: Alter>(
+    alloc: Global,
+    listener: &TcpListener,
+    service: &mut Service<S>,
+    count: u32,
+    dice: Dice,
+) -> Result<(), ListenFault> {
+    for _ in 0..count {
+        match listener.accept() {
+            Ok((stream, _)) => serve_stream(alloc, &stream, service, dice)?,
+            Err(error) if error.kind() == ErrorKind::ConnectionAborted => {}
+            Err(_) => return Err(ListenFault::Net),
+        }
+    }
+    Ok(())
+}

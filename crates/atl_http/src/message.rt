@@ -1,0 +1,128 @@
+//! Replies, as their bytes.
+ghost use Rattle.std.specs.Prelude.{◌≡◌, IfOk, OnOk, ◌++◌, [], unwrap_or, string_bytes};
+ghost use Rattle.http.specs.StatusCode.{reason_phrase};
+ghost use Rattle.atl_http.specs.Replies.{json, allow_line, head_of, error_body, problem_reply};
+ghost use Rattle.atl_http.specs.Moving.{Says};
+
+use crate::problem::Problem;
+use crate::route::Route;
+use http::StatusCode;
+use std::alloc::{AllocError, Global};
+use std::fmt::Write;
+
+/// What the body of an answer is, but for a report.
+pub const JSON: &str = "application/json";
+
+/// What a report is.
+pub const PLAIN: &str = "text/plain";
+
+/// A reply: its status, and all its bytes.
+pub struct Message {
+    pub status: u16,
+    pub bytes: String,
+}
+
+impl Drop for Message {
+    fn drop(self) {
+        let Message {
+            status: _,
+            bytes: _,
+        } = self;
+    }
+}
+
+/// The phrase of a status; nothing where it has none.
+fn phrase_of(status: StatusCode) -> &'static str
+    ensures { result.now ≡ unwrap_or (reason_phrase status) [] }
+{
+    match status.canonical_reason() {
+        Some(phrase) => phrase,
+        None => "",
+    }
+}
+
+/// Writes the lines that every reply begins with.
+#[tactic(auto, unfolding(crate::specs::Replies::head_of))]
+fn write_head(
+    out: &mut String,
+    status: StatusCode,
+    kind: &str,
+    body: &str,
+) -> Result<(), AllocError>
+    ensures { OnOk result (string_bytes out.new ≡ string_bytes out.old ++ head_of status kind.now body.now) }
+{
+    let number = status.as_u16();
+    let phrase = phrase_of(status);
+    let len = body.len();
+    write!(
+        out,
+        "HTTP/1.1 {number} {phrase}\r\nContent-Type: {kind}\r\nContent-Length: {len}\r\nConnection: close\r\n"
+    )
+}
+
+/// Writes the method of the route, if it is to be told.
+fn write_allowed(out: &mut String, allow: Option<Route>) -> Result<(), AllocError>
+    ensures { OnOk result (string_bytes out.new ≡ string_bytes out.old ++ allow_line allow) }
+{
+    match allow {
+        None => Ok(()),
+        Some(route) => {
+            let method = route.method();
+            let method = method.as_str();
+            write!(out, "Allow: {method}\r\n")
+        }
+    }
+}
+
+/// The reply of these parts.
+pub fn told_by(
+    alloc: Global,
+    status: StatusCode,
+    allow: Option<Route>,
+    kind: &str,
+    body: &str,
+) -> Result<Message, AllocError>
+    ensures { IfOk result (Says (record { status = status; allow = allow; kind = kind.now; body = body.now })) }
+{
+    let mut bytes = String::new(alloc);
+    write_head(&mut bytes, status, kind, body)?;
+    write_allowed(&mut bytes, allow)?;
+    write!(&mut bytes, "\r\n{body}")?;
+    Ok(Message {
+        status: status.as_u16(),
+        bytes,
+    })
+}
+
+/// The body that tells an error.
+#[tactic(auto, unfolding(crate::specs::Replies::error_body))]
+fn error_body(alloc: Global, name: &str, number: u8) -> Result<String, AllocError>
+    ensures { IfOk result (λ body. string_bytes body ≡ error_body name.now number) }
+{
+    format!(in alloc; "{{\"error\":\"{name}\",\"number\":{number}}}")
+}
+
+/// The reply that tells an error.
+pub fn error_message(
+    alloc: Global,
+    status: StatusCode,
+    allow: Option<Route>,
+    name: &str,
+    number: u8,
+) -> Result<Message, AllocError>
+    ensures { IfOk result (Says (record { status = status; allow = allow; kind = json; body = error_body name.now number })) }
+{
+    let body = error_body(alloc, name, number)?;
+    told_by(alloc, status, allow, JSON, body.as_str())
+}
+
+/// The reply to a request with a problem.
+pub fn problem_message(alloc: Global, problem: Problem) -> Result<Message, AllocError>
+    ensures { IfOk result (Says (problem_reply problem)) }
+{
+    let allow = match problem {
+        Problem::BadMethod(route) => Some(route),
+        _ => None,
+    };
+    error_message(alloc, problem.status(), allow, problem.name(), 0)
+}

@@ -1,0 +1,73 @@
+//! What is wrong with a request.
+ghost use Rattle.std.specs.Prelude.{◌≡◌};
+ghost use Rattle.atl_http.specs.Replies.{problem_name, problem_status};
+
+use crate::route::Route;
+use http::StatusCode;
+use std::alloc::AllocError;
+
+/// Why a request is refused before any command is run: the first check that it fails. See docs/FORMATS.md, "HTTP".
+#[derive(Drop, Clone, Copy, Debug, PartialEq, Eq)]
+pub enum Problem {
+    /// The head is none of HTTP/1, is too long, or has too many fields, not one Host, or no good Content-Length.
+    BadRequest,
+    /// No route has this path.
+    NoRoute,
+    /// The route has another method.
+    BadMethod(Route),
+    /// It isn't said how long the body is, or it comes in another coding.
+    NoLength,
+    /// The body has more than 65,536 bytes.
+    BodyTooLong,
+    /// There isn't exactly one pass text.
+    NoPass,
+    /// The body isn't the JSON that is asked for.
+    BadJson,
+}
+
+impl Problem {
+    /// The name under which the problem is told.
+    pub fn name(self) -> &'static str
+        ensures { result.now ≡ problem_name self }
+    {
+        match self {
+            Problem::BadRequest => "BadRequest",
+            Problem::NoRoute => "NoRoute",
+            Problem::BadMethod(_) => "BadMethod",
+            Problem::NoLength => "NoLength",
+            Problem::BodyTooLong => "BodyTooLong",
+            Problem::NoPass => "NoPass",
+            Problem::BadJson => "BadJson",
+        }
+    }
+
+    /// The status under which the problem is told.
+    pub fn status(self) -> StatusCode
+        ensures { result ≡ problem_status self }
+    {
+        match self {
+            Problem::BadRequest | Problem::NoPass | Problem::BadJson => StatusCode::BAD_REQUEST,
+            Problem::NoRoute => StatusCode::NOT_FOUND,
+            Problem::BadMethod(_) => StatusCode::METHOD_NOT_ALLOWED,
+            Problem::NoLength => StatusCode::LENGTH_REQUIRED,
+            Problem::BodyTooLong => StatusCode::PAYLOAD_TOO_LARGE,
+        }
+    }
+}
+
+/// Why there is nothing to go on with.
+#[derive(Drop, Clone, Copy)]
+pub enum Stopped {
+    Memory,
+    Failed(Problem),
+}
+
+impl From<AllocError> for Stopped {
+    ghost use Rattle.atl_http.specs.declared.problem.Stopped.TheVariants.{Memory};
+
+    ghost from_gives = { λ _ e. e ≡ Memory };
+
+    fn from(_e: AllocError) -> Stopped {
+        Stopped::Memory
+    }
+}

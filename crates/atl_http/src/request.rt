@@ -1,0 +1,117 @@
+//! Requests.
+ghost use Rattle.std.specs.Prelude.{◌≡◌, IfOk, MatchBool};
+
+use crate::dice::Dice;
+use crate::problem::Problem;
+use atl_service::Command;
+use atl_tables::Sequence;
+use std::alloc::{AllocError, Global};
+
+/// What is asked for by a whole request that passes every check.
+pub enum Request {
+    /// A faction joins, under a name, with a pass text of its own.
+    Join {
+        name: Sequence<u8>,
+        pass: Sequence<u8>,
+    },
+    /// A faction sends its orders.
+    Orders {
+        faction: u32,
+        pass: Sequence<u8>,
+        text: Sequence<u8>,
+    },
+    /// The moderator closes a month.
+    Close {
+        month: u32,
+        pass: Sequence<u8>,
+    },
+    /// A faction asks for its report.
+    Report {
+        faction: u32,
+        pass: Sequence<u8>,
+    },
+}
+
+impl Drop for Request {
+    fn drop(self) {
+        match self {
+            Request::Join { name: _, pass: _ } => {}
+            Request::Orders {
+                faction: _,
+                pass: _,
+                text: _,
+            } => {}
+            Request::Close { month: _, pass: _ } => {}
+            Request::Report {
+                faction: _,
+                pass: _,
+            } => {}
+        }
+    }
+}
+
+impl Request {
+    ghost use Rattle.atl_http.specs.Serving.{command_of};
+
+    /// The command that is asked for, with the words of the dice: of the faction that comes next, or of a month for so many
+    /// regions. AllocError without memory for them.
+    pub fn into_command(
+        self,
+        alloc: Global,
+        dice: Dice,
+        next: u32,
+        regions: usize,
+    ) -> Result<Command, AllocError>
+        ensures { IfOk result (λ command. command ≡ command_of dice next regions self) }
+    {
+        match self {
+            Request::Join { name, pass } => Ok(Command::Join {
+                name,
+                pass,
+                word: dice.join_word(next),
+            }),
+            Request::Orders {
+                faction,
+                pass,
+                text,
+            } => Ok(Command::Mail {
+                faction,
+                pass,
+                text,
+            }),
+            Request::Close { month, pass } => {
+                let words = dice.month_words(alloc, month, regions)?;
+                Ok(Command::Close {
+                    month,
+                    pass,
+                    words: Sequence::from_vec(words),
+                })
+            }
+            Request::Report { faction, pass } => Ok(Command::Report { faction, pass }),
+        }
+    }
+}
+
+/// What the bytes that have come of a request come to.
+#[derive(Drop)]
+pub enum Verdict {
+    /// The request isn't whole.
+    More,
+    Refused(Problem),
+    Asks(Request),
+}
+
+impl Verdict {
+    ghost use Rattle.atl_http.specs.declared.request.Verdict.TheVariants.{More};
+    ghost use Rattle.atl_http.specs.Heads.{IsFinal};
+
+    /// Whether the request is whole, or refused.
+    pub fn is_final(&self) -> bool
+        ensures { MatchBool result (IsFinal self.now) (self.now ≡ More) }
+    {
+        match self {
+            Verdict::More => false,
+            Verdict::Refused(_) | Verdict::Asks(_) => true,
+        }
+    }
+}

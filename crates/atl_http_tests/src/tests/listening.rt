@@ -1,0 +1,65 @@
+//! Connections over a socket of this machine, in one process: each peer has sent its request before they are served.
+use super::compare::is_text;
+use super::making::begun;
+use super::requests::{JOIN, JOINED, REPORT, REPORTED};
+use atl_http::Dice;
+use atl_http::listening::serve_each;
+use atl_service::Service;
+use sqlite::{Alter, Connection};
+use std::alloc::Global;
+use std::io::{self, Read, Write};
+use std::net::{Ipv4Addr, Net, Shutdown, SocketAddr, TcpListener, TcpStream};
+use std::process::Abort;
+use std::test::Fail;
+
+/// A peer that has sent a request and sends no more.
+fn peer<R: Net<Stream = TcpStream>>(
+    net: &R,
+    to: SocketAddr,
+    request: &str,
+) -> io::Result<TcpStream> {
+    let mut stream = TcpStream::connect(net, to)?;
+    stream.write_all(request.as_bytes())?;
+    stream.shutdown(Shutdown::Write)?;
+    Ok(stream)
+}
+
+/// All that a peer is told.
+fn told_to(alloc: Global, mut stream: TcpStream) -> io::Result<String> {
+    let mut told = String::new(alloc);
+    stream.read_to_string(&mut told)?;
+    Ok(told)
+}
+
+/// One joins, one ends within its request, which counts as served, and one asks for a report.
+fn three_are_served<R: Net<Stream = TcpStream> + Abort, S: Alter>(
+    rt: &R,
+    alloc: Global,
+    listener: &TcpListener,
+    service: &mut Service<S>,
+) -> io::Result<()> {
+    let to = listener.local_addr()?;
+    let joining = peer(rt, to, JOIN)?;
+    let cut = peer(rt, to, "GET /report/1")?;
+    let reporting = peer(rt, to, REPORT)?;
+    let done = serve_each(alloc, listener, service, 3, Dice { seed: 1 });
+    assert!(rt; done.is_ok());
+    is_text(rt, told_to(alloc, joining)?.as_str(), JOINED);
+    is_text(rt, told_to(alloc, cut)?.as_str(), "");
+    is_text(rt, told_to(alloc, reporting)?.as_str(), REPORTED);
+    Ok(())
+}
+
+#[test]
+fn over_a_socket(rt: HostRuntime) -> Result<(), Fail> {
+    let Ok(listener) = TcpListener::bind(&rt, (Ipv4Addr::LOCALHOST, 0)) else {
+        return Err(Fail::new("bind"));
+    };
+    let mut service = begun(rt.alloc(), Connection::open_in_memory(rt.alloc())?)?;
+    let done = three_are_served(&rt, rt.alloc(), &listener, &mut service);
+    let _conn = service.end();
+    match done {
+        Ok(()) => Ok(()),
+        Err(_) => Err(Fail::new("a peer")),
+    }
+}

@@ -1,0 +1,97 @@
+//! Services, requests and what is told of them. What works on a service takes any store.
+use super::compare::is_text;
+use atl_http::{Dice, HttpFault, serve_one};
+use atl_service::{Service, found};
+use sqlite::{Alter, Connection};
+use std::alloc::Global;
+use std::io::{Read, Write};
+use std::process::Abort;
+use std::str;
+use std::test::Fail;
+
+/// A world of one region.
+pub(crate) const SMALL: &str = "[rules]
+maintenance = 10
+tax_per_man = 10
+recruit_price = 50
+recruit_fraction = 4
+growth = 0
+income = 1
+start_money = 1000
+man_weight = 10
+man_carry = 5
+[[terrain]]
+name = \"plain\"
+land = true
+wage = 12
+places = 100
+money_limit = 5000
+peasant_limit = 2000
+[[region]]
+number = 1
+name = \"Vale\"
+terrain = \"plain\"
+peasants = 1000
+money = 500
+";
+
+/// A request and what is told of it: its reply, or the fault.
+pub(crate) type Case = (&'static str, &'static str);
+
+/// A campaign of the small world, in this database.
+pub(crate) fn begun<S: Alter + Drop>(
+    alloc: Global,
+    conn: Connection<S>,
+) -> Result<Service<S>, Fail> {
+    match found(alloc, conn, SMALL, b"gm") {
+        Ok(service) => Ok(service),
+        Err(_) => Err(Fail::new("found")),
+    }
+}
+
+/// What is told of a request: the bytes of its reply; of a fault its name, and the bytes that were written.
+pub(crate) fn told(served: Result<u16, HttpFault>, written: &[u8]) -> &str {
+    match served {
+        Ok(_) => str::from_utf8(written).unwrap_or("no text"),
+        Err(_) if !written.is_empty() => "a part",
+        Err(HttpFault::Cut) => "cut",
+        Err(HttpFault::ReadFault) => "read fault",
+        Err(HttpFault::WriteFault) => "write fault",
+        Err(HttpFault::Memory) => "memory",
+    }
+}
+
+/// Serves what comes from a reader, and asserts what is told of it.
+pub(crate) fn tells<R: Read, S: Alter>(
+    rt: &impl Abort,
+    alloc: Global,
+    service: &mut Service<S>,
+    reader: &mut R,
+    wanted: &str,
+) {
+    let mut written = Vec::new(alloc);
+    let served = serve_one(alloc, reader, &mut written, service, Dice { seed: 1 });
+    is_text(rt, told(served, &written), wanted);
+}
+
+/// Serves requests one after another, each from all its bytes at once.
+pub(crate) fn tell_each<S: Alter>(
+    rt: &impl Abort,
+    alloc: Global,
+    service: &mut Service<S>,
+    cases: &[Case],
+) {
+    for (request, wanted) in cases.iter() {
+        let mut reader = request.as_bytes();
+        tells(rt, alloc, service, &mut reader, wanted);
+    }
+}
+
+/// Plays requests on a new campaign of the small world.
+pub(crate) fn plays(rt: &impl Abort, alloc: Global, cases: &[Case]) -> Result<(), Fail> {
+    let conn = Connection::open_in_memory(alloc)?;
+    let mut service = begun(alloc, conn)?;
+    tell_each(rt, alloc, &mut service, cases);
+    let _conn = service.end();
+    Ok(())
+}

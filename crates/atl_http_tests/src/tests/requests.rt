@@ -1,0 +1,251 @@
+//! Requests, each with its whole reply.
+use super::making::{Case, plays};
+use std::test::Fail;
+
+pub(crate) const JOIN: &str =
+    "POST /join HTTP/1.1\r\nHost: x\r\nContent-Length: 29\r\n\r\n{\"name\":\"Avalon\",\"pass\":\"pw\"}";
+
+pub(crate) const JOINED: &str =
+    "HTTP/1.1 200 OK\r\nContent-Type: application/json\r\nContent-Length: 22\r\nConnection: close\r\n\r\n{\"faction\":1,\"unit\":1}";
+
+pub(crate) const REPORT: &str = "GET /report/1 HTTP/1.1\r\nHost: x\r\nAtlantis-Pass: pw\r\n\r\n";
+
+pub(crate) const REPORTED: &str =
+    "HTTP/1.1 200 OK\r\nContent-Type: text/plain\r\nContent-Length: 161\r\nConnection: close\r\n\r\nAtlantis report, month 0, faction 1 \"Avalon\".
+Orders:
+None.
+Region 1 \"Vale\", plain: 1000 peasants, 500 money.
+Exits: none.
+* Unit 1 \"Unit 1\": 1 men, 1000 money.
+";
+
+pub(crate) const BAD_REQUEST: &str =
+    "HTTP/1.1 400 Bad Request\r\nContent-Type: application/json\r\nContent-Length: 33\r\nConnection: close\r\n\r\n{\"error\":\"BadRequest\",\"number\":0}";
+
+const NO_ROUTE: &str =
+    "HTTP/1.1 404 Not Found\r\nContent-Type: application/json\r\nContent-Length: 30\r\nConnection: close\r\n\r\n{\"error\":\"NoRoute\",\"number\":0}";
+
+const POST_ONLY: &str =
+    "HTTP/1.1 405 Method Not Allowed\r\nContent-Type: application/json\r\nContent-Length: 32\r\nConnection: close\r\nAllow: POST\r\n\r\n{\"error\":\"BadMethod\",\"number\":0}";
+
+const GET_ONLY: &str =
+    "HTTP/1.1 405 Method Not Allowed\r\nContent-Type: application/json\r\nContent-Length: 32\r\nConnection: close\r\nAllow: GET\r\n\r\n{\"error\":\"BadMethod\",\"number\":0}";
+
+const NO_LENGTH: &str =
+    "HTTP/1.1 411 Length Required\r\nContent-Type: application/json\r\nContent-Length: 31\r\nConnection: close\r\n\r\n{\"error\":\"NoLength\",\"number\":0}";
+
+const TOO_LONG: &str =
+    "HTTP/1.1 413 Payload Too Large\r\nContent-Type: application/json\r\nContent-Length: 34\r\nConnection: close\r\n\r\n{\"error\":\"BodyTooLong\",\"number\":0}";
+
+const NO_PASS: &str =
+    "HTTP/1.1 400 Bad Request\r\nContent-Type: application/json\r\nContent-Length: 29\r\nConnection: close\r\n\r\n{\"error\":\"NoPass\",\"number\":0}";
+
+const BAD_JSON: &str =
+    "HTTP/1.1 400 Bad Request\r\nContent-Type: application/json\r\nContent-Length: 30\r\nConnection: close\r\n\r\n{\"error\":\"BadJson\",\"number\":0}";
+
+/// A faction joins, the name is taken from then on, and its report is told. The same pass text twice is none.
+const JOINING: [Case; 4] = [
+    (JOIN, JOINED),
+    (
+        JOIN,
+        "HTTP/1.1 409 Conflict\r\nContent-Type: application/json\r\nContent-Length: 32\r\nConnection: close\r\n\r\n{\"error\":\"NameTaken\",\"number\":3}",
+    ),
+    (REPORT, REPORTED),
+    (
+        "GET /report/1?a=b HTTP/1.0\r\natlantis-pass: \tpw \r\nContent-Length: x\r\n\r\n",
+        REPORTED,
+    ),
+];
+
+#[test]
+fn joining(rt: HostRuntime) -> Result<(), Fail> {
+    plays(&rt, rt.alloc(), &JOINING)
+}
+
+/// Orders are sent, a month is closed, and what comes of it is told.
+const A_MONTH: [Case; 4] = [
+    (JOIN, JOINED),
+    (
+        "POST /orders/1 HTTP/1.1\r\nHost: x\r\nAtlantis-Pass: pw\r\nContent-Length: 34\r\n\r\n#ATLANTIS 1\nUNIT 1\nATTACK 2\nwork\nx",
+        "HTTP/1.1 200 OK\r\nContent-Type: application/json\r\nContent-Length: 35\r\nConnection: close\r\n\r\n{\"faults\":[[3,2],[5,2]],\"orders\":1}",
+    ),
+    (
+        "POST /close/1 HTTP/1.1\r\nHost: x\r\nAtlantis-Pass: gm\r\n\r\n",
+        "HTTP/1.1 200 OK\r\nContent-Type: application/json\r\nContent-Length: 11\r\nConnection: close\r\n\r\n{\"month\":1}",
+    ),
+    (
+        "POST /close/1 HTTP/1.1\r\nHost: x\r\nAtlantis-Pass: gm\r\nContent-Length: 0\r\n\r\n",
+        "HTTP/1.1 409 Conflict\r\nContent-Type: application/json\r\nContent-Length: 34\r\nConnection: close\r\n\r\n{\"error\":\"WrongMonth\",\"number\":12}",
+    ),
+];
+
+#[test]
+fn a_month(rt: HostRuntime) -> Result<(), Fail> {
+    plays(&rt, rt.alloc(), &A_MONTH)
+}
+
+/// Refusals of the campaign, one of each status.
+const REFUSALS: [Case; 7] = [
+    (
+        "POST /join HTTP/1.1\r\nHost: x\r\nContent-Length: 24\r\n\r\n{\"name\":\" x\",\"pass\":\"p\"}",
+        "HTTP/1.1 400 Bad Request\r\nContent-Type: application/json\r\nContent-Length: 30\r\nConnection: close\r\n\r\n{\"error\":\"BadName\",\"number\":1}",
+    ),
+    (
+        "POST /join HTTP/1.1\r\nHost: x\r\nContent-Length: 24\r\n\r\n{\"name\":\"A\",\"pass\":\"a b\"}",
+        BAD_JSON,
+    ),
+    (
+        "POST /join HTTP/1.1\r\nHost: x\r\nContent-Length: 25\r\n\r\n{\"name\":\"A\",\"pass\":\"a b\"}",
+        "HTTP/1.1 400 Bad Request\r\nContent-Type: application/json\r\nContent-Length: 34\r\nConnection: close\r\n\r\n{\"error\":\"BadPassText\",\"number\":2}",
+    ),
+    (
+        "GET /report/9 HTTP/1.1\r\nHost: x\r\nAtlantis-Pass: pw\r\n\r\n",
+        "HTTP/1.1 404 Not Found\r\nContent-Type: application/json\r\nContent-Length: 32\r\nConnection: close\r\n\r\n{\"error\":\"NoFaction\",\"number\":5}",
+    ),
+    (
+        "POST /close/1 HTTP/1.1\r\nHost: x\r\nAtlantis-Pass: no\r\n\r\n",
+        "HTTP/1.1 403 Forbidden\r\nContent-Type: application/json\r\nContent-Length: 32\r\nConnection: close\r\n\r\n{\"error\":\"WrongPass\",\"number\":6}",
+    ),
+    (JOIN, JOINED),
+    (
+        "POST /orders/1 HTTP/1.1\r\nHost: x\r\nAtlantis-Pass: pw\r\nContent-Length: 5\r\n\r\nhello",
+        "HTTP/1.1 400 Bad Request\r\nContent-Type: application/json\r\nContent-Length: 31\r\nConnection: close\r\n\r\n{\"error\":\"NoHeader\",\"number\":9}",
+    ),
+];
+
+#[test]
+fn refusals(rt: HostRuntime) -> Result<(), Fail> {
+    plays(&rt, rt.alloc(), &REFUSALS)
+}
+
+/// Heads that are refused, with as many fields of Host as they should not have, or with none.
+const HEADS: [Case; 6] = [
+    ("\u{1}", BAD_REQUEST),
+    ("GET /report/1 HTTP/2.0\r\n\r\n", BAD_REQUEST),
+    (
+        "GET /report/1 HTTP/1.1\r\nAtlantis-Pass: pw\r\n\r\n",
+        BAD_REQUEST,
+    ),
+    (
+        "GET /report/1 HTTP/1.1\r\nHost: x\r\nhost: x\r\nAtlantis-Pass: pw\r\n\r\n",
+        BAD_REQUEST,
+    ),
+    ("GET /nowhere HTTP/1.1\r\n\r\n", BAD_REQUEST),
+    ("GET /report/1", "cut"),
+];
+
+#[test]
+fn heads(rt: HostRuntime) -> Result<(), Fail> {
+    plays(&rt, rt.alloc(), &HEADS)
+}
+
+/// Paths without a route, and methods that a route has not.
+const ROUTES: [Case; 13] = [
+    ("GET / HTTP/1.0\r\n\r\n", NO_ROUTE),
+    ("GET /report/1234567890 HTTP/1.0\r\n\r\n", NO_ROUTE),
+    ("GET /report/ HTTP/1.0\r\n\r\n", NO_ROUTE),
+    ("GET /report/1/ HTTP/1.0\r\n\r\n", NO_ROUTE),
+    ("GET /report/+1 HTTP/1.0\r\n\r\n", NO_ROUTE),
+    ("GET /report/%31 HTTP/1.0\r\n\r\n", NO_ROUTE),
+    ("GET /orders/x HTTP/1.0\r\n\r\n", NO_ROUTE),
+    ("GET /joins HTTP/1.0\r\n\r\n", NO_ROUTE),
+    ("POST http://x/join HTTP/1.0\r\n\r\n", NO_ROUTE),
+    ("GET /orders/1 HTTP/1.0\r\n\r\n", POST_ONLY),
+    ("GET /join HTTP/1.0\r\n\r\n", POST_ONLY),
+    ("DELETE /close/1 HTTP/1.0\r\n\r\n", POST_ONLY),
+    ("POST /report/1 HTTP/1.0\r\n\r\n", GET_ONLY),
+];
+
+#[test]
+fn routes(rt: HostRuntime) -> Result<(), Fail> {
+    plays(&rt, rt.alloc(), &ROUTES)
+}
+
+/// Bodies without a good length, and requests without one pass text.
+const LENGTHS: [Case; 12] = [
+    ("POST /join HTTP/1.0\r\n\r\n", NO_LENGTH),
+    (
+        "POST /join HTTP/1.0\r\nTransfer-Encoding: chunked\r\nContent-Length: x\r\n\r\n",
+        NO_LENGTH,
+    ),
+    (
+        "POST /close/1 HTTP/1.0\r\nTransfer-Encoding: chunked\r\nAtlantis-Pass: gm\r\n\r\n",
+        NO_LENGTH,
+    ),
+    (
+        "POST /join HTTP/1.0\r\nContent-Length: 65537\r\n\r\n",
+        TOO_LONG,
+    ),
+    (
+        "POST /join HTTP/1.0\r\nContent-Length: 1\r\nContent-Length: 1\r\n\r\n",
+        BAD_REQUEST,
+    ),
+    (
+        "POST /join HTTP/1.0\r\nContent-Length: 1234567890\r\n\r\n",
+        BAD_REQUEST,
+    ),
+    (
+        "POST /join HTTP/1.0\r\nContent-Length: +1\r\n\r\n",
+        BAD_REQUEST,
+    ),
+    (
+        "POST /join HTTP/1.0\r\nContent-Length:\r\n\r\n",
+        BAD_REQUEST,
+    ),
+    (
+        "POST /orders/1 HTTP/1.0\r\nContent-Length: 1\r\n\r\n",
+        NO_PASS,
+    ),
+    (
+        "GET /report/1 HTTP/1.0\r\nAtlantis-Pass: pw\r\nAtlantis-Pass: pw\r\n\r\n",
+        NO_PASS,
+    ),
+    (
+        "POST /join HTTP/1.0\r\nContent-Length: 65536\r\n\r\n",
+        "cut",
+    ),
+    ("POST /join HTTP/1.0\r\nContent-Length: 1\r\n\r\n", "cut"),
+];
+
+#[test]
+fn lengths(rt: HostRuntime) -> Result<(), Fail> {
+    plays(&rt, rt.alloc(), &LENGTHS)
+}
+
+/// Bodies that are no object with both texts; of equal keys the last counts, and bytes behind the body don't.
+const BODIES: [Case; 8] = [
+    ("POST /join HTTP/1.0\r\nContent-Length: 0\r\n\r\n", BAD_JSON),
+    (
+        "POST /join HTTP/1.0\r\nContent-Length: 2\r\n\r\n[]",
+        BAD_JSON,
+    ),
+    (
+        "POST /join HTTP/1.0\r\nContent-Length: 2\r\n\r\n{}",
+        BAD_JSON,
+    ),
+    (
+        "POST /join HTTP/1.0\r\nContent-Length: 12\r\n\r\n{\"name\":\"A\"}",
+        BAD_JSON,
+    ),
+    (
+        "POST /join HTTP/1.0\r\nContent-Length: 21\r\n\r\n{\"name\":\"A\",\"pass\":1}",
+        BAD_JSON,
+    ),
+    (
+        "POST /join HTTP/1.0\r\nContent-Length: 6\r\n\r\n\"name\"",
+        BAD_JSON,
+    ),
+    (
+        "POST /join HTTP/1.0\r\nContent-Length: 1\r\n\r\n{",
+        BAD_JSON,
+    ),
+    (
+        "POST /join HTTP/1.0\nContent-Length: 54\n\n{\"pass\":1,\"pass\":\"pw\",\"more\":[1,{}],\"name\":\"Avalon\" }\r\n",
+        JOINED,
+    ),
+];
+
+#[test]
+fn bodies(rt: HostRuntime) -> Result<(), Fail> {
+    plays(&rt, rt.alloc(), &BODIES)
+}
