@@ -5,7 +5,6 @@ pub mod WantLaws
 pub mod DrawLaws
 pub mod OrderedLaws
 pub mod PurseLaws
-pub mod HavingLaws
 pub mod TaxLaws
 pub mod RecruitLaws
 pub mod WorkLaws
