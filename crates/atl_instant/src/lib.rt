@@ -1,9 +1,9 @@
 //! The month that is played out at once: what it carries from phase to phase, and the orders of a phase.
 #![tactic(auto)]
 
+mod form;
 mod give;
 mod guard;
-mod form;
 mod inside;
 mod items;
 mod month;
@@ -19,9 +19,9 @@ mod terrain;
 mod transfer;
 mod written;
 
+pub use form::FormPhase;
 pub use give::GivePhase;
 pub use guard::GuardPhase;
-pub use form::FormPhase;
 pub use items::items_of;
 pub use month::{Month, mailings_have_no_order};
 pub use name::NamePhase;

@@ -4,7 +4,7 @@ mod carried;
 mod forming;
 mod isle;
 mod months;
-mod names;
 mod moving;
+mod names;
 mod phases;
 mod places;
