@@ -11,10 +11,10 @@ ghost use Rattle.atl_instant.specs.Steps.{IsOwnOrder};
 ghost use Rattle.atl_instant.specs.Unbooked.{books_nothing, moves_nothing};
 ghost use Rattle.atl_action.specs.Sail.{IsCarried, capacity, crew_needed, crew_of, days_of_sailing, is_complete_ship, is_sailing, is_way, of_unit, sail, sail_fault, sail_keeps, sail_meaning, sail_step, sailed, sum_inside, taken_along, takes_sailing};
 
-use crate::ways::{is_land_at, is_region, neighbour};
-use atl_instant::{Month, OrderPhase, Phase, PhaseVerbs, Written, carry_out_orders};
+use crate::ways::{is_region, neighbour};
+use atl_instant::{Month, OrderPhase, Phase, PhaseVerbs, Written, carry_out_orders, failed};
 use atl_orders::{Direction, Mailing, Order, Verb};
-use atl_state::{Campaign, EventFault, Holding, Outcome, Structure, Unit, level, load};
+use atl_state::{Campaign, EventFault, Holding, Outcome, Structure, Unit, is_land_at, level, load};
 use atl_tables::{Kind, World};
 use std::alloc::{AllocError, Global};
 
@@ -233,11 +233,11 @@ fn sail(
     ensures marks { OnOk result (MarksChanges campaign.old campaign.new) }
 {
     let Some(unit) = campaign.unit(number) else {
-        return Ok(Outcome::Fault(EventFault::NotYours.number()));
+        return Ok(failed(EventFault::NotYours));
     };
     let to = neighbour(world, unit.region, direction);
     if let Some(fault) = sail_fault(world, campaign, number, unit, to) {
-        return Ok(Outcome::Fault(fault.number()));
+        return Ok(failed(fault));
     }
     let ship = unit.structure;
     put_there(alloc, campaign, ship, to.unwrap_or(0))?;
@@ -253,7 +253,7 @@ impl PhaseVerbs for SailPhase {
 }
 
 impl OrderPhase for SailPhase {
-    ghost step = { sail_step };
+    ghost step = { λ _. sail_step };
 
     ghost is_taken = { takes_sailing };
 

@@ -7,10 +7,10 @@ ghost use Rattle.atl_instant.specs.Steps.{IsOwnOrder};
 ghost use Rattle.atl_instant.specs.Unbooked.{books_nothing, moves_nothing};
 ghost use Rattle.atl_action.specs.Walk.{is_land_there, is_walking, takes_walking, walk, walk_fault, walk_keeps, walk_meaning, walk_step, walked};
 
-use crate::ways::{is_land_at, neighbour};
-use atl_instant::{Month, OrderPhase, Phase, PhaseVerbs, Written, carry_out_orders};
+use crate::ways::neighbour;
+use atl_instant::{Month, OrderPhase, Phase, PhaseVerbs, Written, carry_out_orders, failed};
 use atl_orders::{Direction, Mailing, Order, Verb};
-use atl_state::{Campaign, EventFault, Outcome, Unit, carry, goods};
+use atl_state::{Campaign, EventFault, Outcome, Unit, carry, goods, is_land_at};
 use atl_tables::World;
 use std::alloc::{AllocError, Global};
 
@@ -67,11 +67,11 @@ fn walk(
     ensures marks { OnOk result (MarksChanges campaign.old campaign.new) }
 {
     let Some(unit) = campaign.unit(number) else {
-        return Ok(Outcome::Fault(EventFault::NotYours.number()));
+        return Ok(failed(EventFault::NotYours));
     };
     let to = neighbour(world, unit.region, direction);
     if let Some(fault) = walk_fault(world, unit, to) {
-        return Ok(Outcome::Fault(fault.number()));
+        return Ok(failed(fault));
     }
     put_there(campaign, number, to.unwrap_or(0))?;
     Ok(Outcome::Done(0))
@@ -86,7 +86,7 @@ impl PhaseVerbs for MovePhase {
 }
 
 impl OrderPhase for MovePhase {
-    ghost step = { walk_step };
+    ghost step = { λ _. walk_step };
 
     ghost is_taken = { takes_walking };
 

@@ -1,6 +1,5 @@
 //! Ways from a region to its neighbours.
 ghost use Rattle.std.specs.Prelude.{◌≡◌};
-ghost use Rattle.atl_state.specs.Good.{is_land_at};
 ghost use Rattle.atl_action.specs.Ways.{beside, is_region, neighbour};
 
 use atl_orders::Direction;
@@ -23,19 +22,6 @@ pub(crate) fn neighbour(world: &World, region: u32, direction: Direction) -> Opt
     ensures { result ≡ neighbour world.now region direction }
 {
     beside(world.region(region)?, direction)
-}
-
-/// Whether a region is there and has land.
-pub(crate) fn is_land_at(world: &World, region: u32) -> bool
-    ensures { result ≡ is_land_at world.now region }
-{
-    match world.region(region) {
-        Some(plan) => match world.terrains().get(usize::from(plan.terrain)) {
-            Some(terrain) => terrain.land,
-            None => false,
-        },
-        None => false,
-    }
 }
 
 /// Whether it is a region of the world.

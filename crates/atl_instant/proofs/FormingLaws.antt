@@ -26,7 +26,7 @@ use Rattle.atl_instant.specs.Form.{is_unit_limit, new_unit}
 use Rattle.atl_instant.specs.Steps.{StepsWell}
 use Rattle.atl_instant.specs.Unbooked.{books_nothing}
 use Rattle.atl_instant.proofs.UnbookedLaws.{unbooked_well}
-use Rattle.atl_instant.proofs.UnitNameLaws.{unit_name_ok}
+use Rattle.atl_state.proofs.NumberedNameLaws.{unit_name_ok}
 
 true_false : {P : Type 0} → true ≡ false → P
 true_false e = cc

@@ -29,7 +29,7 @@ use Rattle.atl_instant.specs.Steps.{IsOrderly, IsOwnOrder, IsSpared, StepsWell}
 use Rattle.atl_instant.specs.declared.give.Gift.{Gift}
 use Rattle.atl_instant.specs.declared.give.Gift.TheVariants.{Item, Money}
 use Rattle.atl_instant.proofs.AmountsLaws.{alike, amount_within, every_amount, set_amount}
-use Rattle.atl_instant.proofs.HavingLaws.{MayHave, may_have}
+use Rattle.atl_state.proofs.HavingLaws.{MayHave, may_have}
 use Rattle.atl_instant.proofs.MovingLaws.{early-moved, moved, receiver_still, spared-moved, steps-moved}
 use Rattle.atl_instant.proofs.OutcomeLaws.{apart_own, none_fits, not_apart, not_less, unless_itself}
 use Rattle.atl_instant.proofs.StayingLaws.{no_worse}

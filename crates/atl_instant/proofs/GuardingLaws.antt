@@ -28,7 +28,7 @@ use Rattle.atl_instant.specs.Outcomes.{unless}
 use Rattle.atl_instant.specs.Staying.{IsNoWorse}
 use Rattle.atl_instant.specs.PhaseOrders.{Task}
 use Rattle.atl_instant.specs.Steps.{IsOrderly, IsSpared, StepsWell}
-use Rattle.atl_instant.proofs.HavingLaws.{may_have, steady-having}
+use Rattle.atl_state.proofs.HavingLaws.{may_have, steady-having}
 use Rattle.atl_instant.proofs.OutcomeLaws.{apart_own, none_fits, not_apart}
 use Rattle.atl_instant.proofs.StayingLaws.{no_worse}
 use Rattle.atl_instant.proofs.StepLaws.{drawn_same, no_worse_spares, well_same}

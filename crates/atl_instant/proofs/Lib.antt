@@ -10,7 +10,6 @@ pub mod StayingLaws
 pub mod StepLaws
 pub mod OutcomeLaws
 pub mod AmountsLaws
-pub mod HavingLaws
 pub mod MovingLaws
 pub mod GiveLaws
 pub mod TransferLaws
@@ -23,7 +22,6 @@ pub mod PlacingLaws
 pub mod UnbookedLaws
 pub mod NameLaws
 pub mod PlaceLaws
-pub mod UnitNameLaws
 pub mod FormingLaws
 pub mod FormLaws
 pub mod QuitLaws

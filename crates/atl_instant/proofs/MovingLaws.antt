@@ -19,7 +19,7 @@ use Rattle.atl_state.proofs.HoldingLaws.{marks-lent, marks-unit_row, total-held}
 use Rattle.atl_state.proofs.RegionLaws.{get-insert_same}
 use Rattle.atl_instant.specs.Staying.{IsNoWorse}
 use Rattle.atl_instant.specs.Steps.{IsSpared, StepsWell}
-use Rattle.atl_instant.proofs.HavingLaws.{MayHave, early-having}
+use Rattle.atl_state.proofs.HavingLaws.{MayHave, early-having}
 use Rattle.atl_instant.proofs.StayingLaws.{no_worse}
 use Rattle.atl_instant.proofs.StepLaws.{drawn_same}
 

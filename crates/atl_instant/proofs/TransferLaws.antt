@@ -30,7 +30,7 @@ use Rattle.atl_instant.specs.PhaseOrders.{Task, unit_of}
 use Rattle.atl_instant.specs.Steps.{IsOrderly, IsOwnOrder, IsSpared, StepsWell}
 use Rattle.atl_instant.specs.Transfer.{days_going, sent, transfer, transfer_fault, transfer_from, transfer_said, transfer_step, transfer_to, with_days, with_fewer, with_more}
 use Rattle.atl_instant.proofs.AmountsLaws.{alike, every_amount, set_amount}
-use Rattle.atl_instant.proofs.HavingLaws.{MayHave, may_have}
+use Rattle.atl_state.proofs.HavingLaws.{MayHave, may_have}
 use Rattle.atl_instant.proofs.MovingLaws.{early-moved, moved, receiver_still, spared-moved, steps-moved}
 use Rattle.atl_instant.proofs.OutcomeLaws.{apart_own, none_fits, not_apart, not_less, unless_itself}
 use Rattle.atl_instant.proofs.StayingLaws.{no_worse}

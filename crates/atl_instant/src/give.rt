@@ -19,9 +19,8 @@ use crate::phase::Phase;
 use crate::steps::{OrderPhase, carry_out_orders};
 use crate::written::Written;
 use atl_orders::{Mailing, Order, Verb};
-use atl_state::{Campaign, EventFault, Holding, Outcome, Unit};
+use atl_state::{Campaign, EventFault, HOLDING_LIMIT, Holding, Outcome, Unit};
 use atl_tables::World;
-use atl_tables::limits::MOST_AMOUNT;
 use std::alloc::{AllocError, Global};
 
 /// Units give money and items to units of their region, each the whole amount or nothing. See docs/RULES.md, "Giving".
@@ -49,7 +48,7 @@ fn held_of(gift: Gift, holding: &Holding) -> u32
 fn is_too_much(have: u32, amount: u32) -> bool
     ensures { result ≡ nat_lt holding_limit (have + amount) }
 {
-    u64::from(have) + u64::from(amount) > u64::from(MOST_AMOUNT)
+    u64::from(have) + u64::from(amount) > u64::from(HOLDING_LIMIT)
 }
 
 /// Why so much can't go from a unit to another.
@@ -166,7 +165,7 @@ impl PhaseVerbs for GivePhase {
 }
 
 impl OrderPhase for GivePhase {
-    ghost step = { give_step };
+    ghost step = { λ _. give_step };
 
     ghost is_taken = { λ s. true };
 

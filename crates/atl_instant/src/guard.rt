@@ -81,7 +81,7 @@ impl PhaseVerbs for GuardPhase {
 }
 
 impl OrderPhase for GuardPhase {
-    ghost step = { guard_step };
+    ghost step = { λ _. guard_step };
 
     ghost is_taken = { sets_flag };
 

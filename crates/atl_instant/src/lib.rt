@@ -26,6 +26,7 @@ pub use items::items_of;
 pub use month::{Month, mailings_have_no_order};
 pub use name::NamePhase;
 pub use orders::{MonthLongVerbs, PhaseVerbs, orders_are_in_mailings};
+pub use outcome::failed;
 pub use phase::Phase;
 pub use place::PlacePhase;
 pub use quit::QuitPhase;

@@ -151,7 +151,7 @@ impl PhaseVerbs for NamePhase {
 }
 
 impl OrderPhase for NamePhase {
-    ghost step = { name_step };
+    ghost step = { λ _. name_step };
 
     ghost is_taken = { takes_naming };
 

@@ -6,7 +6,7 @@ ghost use Rattle.atl_state.specs.declared.event.Outcome.TheVariants.{Fault};
 use atl_state::{EventFault, Outcome};
 
 /// An order that isn't carried out.
-pub(crate) fn failed(fault: EventFault) -> Outcome
+pub fn failed(fault: EventFault) -> Outcome
     ensures { result ≡ Fault (event_fault_number fault) }
 {
     Outcome::Fault(fault.number())

@@ -2,7 +2,7 @@
 ghost use Rattle.std.specs.Prelude.{◌≡◌, IfOk, OnOk};
 ghost use Rattle.std.specs.FinMap as map;
 ghost use Rattle.atl_state.specs.Covers.{MarksChanges};
-ghost use Rattle.atl_state.specs.Good.{IsEarly, is_land_at};
+ghost use Rattle.atl_state.specs.Good.{IsEarly};
 ghost use Rattle.atl_state.specs.Owners.{is_owned_by, with_place};
 ghost use Rattle.atl_state.specs.State.{with_owner};
 ghost use Rattle.atl_instant.specs.Inside.{region_of};
@@ -19,7 +19,7 @@ use crate::phase::Phase;
 use crate::steps::{OrderPhase, carry_out_orders};
 use crate::written::Written;
 use atl_orders::{Mailing, Order, Verb};
-use atl_state::{Campaign, EventFault, Outcome};
+use atl_state::{Campaign, EventFault, Outcome, is_land_at};
 use atl_tables::World;
 use std::alloc::{AllocError, Global};
 
@@ -27,19 +27,6 @@ use std::alloc::{AllocError, Global};
 /// "Place".
 #[derive(Drop, Clone, Copy)]
 pub struct PlacePhase;
-
-/// Whether a region is there and has land.
-fn is_land_at(world: &World, region: u32) -> bool
-    ensures { result ≡ is_land_at world.now region }
-{
-    match world.region(region) {
-        Some(plan) => match world.terrains().get(usize::from(plan.terrain)) {
-            Some(terrain) => terrain.land,
-            None => false,
-        },
-        None => false,
-    }
-}
 
 /// Whether a structure is there, and in a region.
 fn is_in(campaign: &Campaign, structure: u32, region: u32) -> bool
@@ -169,7 +156,7 @@ impl PhaseVerbs for PlacePhase {
 }
 
 impl OrderPhase for PlacePhase {
-    ghost step = { place_step };
+    ghost step = { λ _. place_step };
 
     ghost is_taken = { takes_placing };
 

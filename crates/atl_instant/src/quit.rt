@@ -160,7 +160,7 @@ impl PhaseVerbs for QuitPhase {
 }
 
 impl OrderPhase for QuitPhase {
-    ghost step = { quit_step };
+    ghost step = { λ _. quit_step };
 
     ghost is_taken = { λ s. true };
 

@@ -11,6 +11,7 @@ ghost use Rattle.atl_instant.specs.Carrying.{carried_written, task_of};
 
 use crate::month::Month;
 use crate::orders::PhaseVerbs;
+use crate::outcome::failed;
 use crate::written::{Arrangement, Written};
 use atl_orders::{Mailing, Order};
 use atl_state::{Campaign, Event, EventFault, EventVerb, Outcome};
@@ -20,7 +21,7 @@ use std::alloc::{AllocError, Global};
 /// A phase that carries its orders out one by one, each over what the one before left.
 pub trait OrderPhase: PhaseVerbs {
     // What an order of a unit's own faction makes of a campaign, and what came of it.
-    ghost step: { Step };
+    ghost step: { Self → Step };
 
     // Which orders of its verbs it takes; it passes over the others.
     ghost is_taken: { Said → Bool };
@@ -58,12 +59,12 @@ pub trait OrderPhase: PhaseVerbs {
         requires room { HaveRoom (reserve campaign.old.what) campaign.old.what }
         requires own { is_own campaign.old.what (task_of order (said mailing.now.text what.now)) ≡ true }
         requires fit { IsOrderOf world.now (said mailing.now.text what.now) }
-        ensures step { IfOk result (λ outcome. (campaign.new.what, outcome) ≡ step world.now month.now.aliases campaign.old.what (task_of order (said mailing.now.text what.now))) }
+        ensures step { IfOk result (λ outcome. (campaign.new.what, outcome) ≡ step self.now world.now month.now.aliases campaign.old.what (task_of order (said mailing.now.text what.now))) }
         ensures marks { OnOk result (MarksChanges campaign.old campaign.new) };
 
     /// What each step leaves, and what it spares.
     fn is_orderly(&self)
-        ensures { IsOrderly step holds reserve moving concerns spares };
+        ensures { IsOrderly (step self.now) holds reserve moving concerns spares };
 }
 
 /// Whether the unit of an order is there, and of the faction that wrote it.
@@ -90,13 +91,13 @@ fn outcome_of<P: OrderPhase>(
     requires holds { P.holds world.now campaign.old.what }
     requires room { HaveRoom (P.reserve campaign.old.what) campaign.old.what }
     requires fit { IsOrderOf world.now (said mailing.now.text what.now) }
-    ensures step { IfOk result (λ outcome. (campaign.new.what, outcome) ≡ carried P.step world.now month.now.aliases campaign.old.what (task_of order (said mailing.now.text what.now))) }
+    ensures step { IfOk result (λ outcome. (campaign.new.what, outcome) ≡ carried (P.step phase.now) world.now month.now.aliases campaign.old.what (task_of order (said mailing.now.text what.now))) }
     ensures marks { OnOk result (MarksChanges campaign.old campaign.new) }
 {
     if is_own(campaign, order) {
         phase.carry_out(alloc, world, campaign, month, order, mailing, what)
     } else {
-        Ok(Outcome::Fault(EventFault::NotYours.number()))
+        Ok(failed(EventFault::NotYours))
     }
 }
 
@@ -125,7 +126,7 @@ fn carry_one<P: OrderPhase>(
     requires holds { P.holds world.now campaign.old.what }
     requires room { HaveRoom (P.reserve campaign.old.what) campaign.old.what }
     requires read { AreFit world.now month.old.readings }
-    ensures step { OnOk result ((campaign.new.what, month.new) ≡ carried_written P.step P.is_taken world.now (campaign.old.what, month.old) order) }
+    ensures step { OnOk result ((campaign.new.what, month.new) ≡ carried_written (P.step phase.now) P.is_taken world.now (campaign.old.what, month.old) order) }
     ensures well { OnOk result (StepsWell P.holds P.reserve world.now campaign.old.what campaign.new.what) }
     ensures marks { OnOk result (MarksChanges campaign.old campaign.new) }
 {
@@ -152,7 +153,7 @@ pub fn carry_out_orders<P: OrderPhase>(
     requires holds { P.holds world.now campaign.old.what }
     requires room { HaveRoom P.moving campaign.old.what }
     requires read { AreFit world.now month.old.readings }
-    ensures meaning { OnOk result ((campaign.new.what, month.new) ≡ carried_out P.step P.is_taken P.is_of world.now campaign.old.what month.old) }
+    ensures meaning { OnOk result ((campaign.new.what, month.new) ≡ carried_out (P.step phase.now) P.is_taken P.is_of world.now campaign.old.what month.old) }
     ensures leaves { OnOk result (LeavesWell P.holds P.moving world.now campaign.old.what campaign.new.what) }
     ensures readings { OnOk result (month.new.readings ≡ month.old.readings) }
     ensures keeps { OnOk result (spares_others P.concerns P.spares P.is_of world.now month.old campaign.old.what campaign.new.what) }

@@ -19,16 +19,13 @@ use crate::phase::Phase;
 use crate::steps::{OrderPhase, carry_out_orders};
 use crate::written::Written;
 use atl_orders::{Mailing, Order, Verb};
-use atl_state::{Campaign, EventFault, Holding, Outcome, Unit};
+use atl_state::{Campaign, EventFault, Holding, MEN_LIMIT, Outcome, Unit};
 use atl_tables::{Numbered, World};
 use std::alloc::{AllocError, Global};
 
 /// Men go to units of their faction in their region, with their part of the days of study. See docs/RULES.md, "Transferring".
 #[derive(Drop, Clone, Copy)]
 pub struct TransferPhase;
-
-/// The most men of a unit.
-const MEN_LIMIT: u32 = 999_999;
 
 /// The days of a skill that go with so many of a unit's men.
 fn days_going(going: u32, men: u32, days: u32) -> u32
@@ -217,7 +214,7 @@ impl PhaseVerbs for TransferPhase {
 }
 
 impl OrderPhase for TransferPhase {
-    ghost step = { transfer_step };
+    ghost step = { λ _. transfer_step };
 
     ghost is_taken = { λ s. true };
 

@@ -40,7 +40,7 @@ use Rattle.atl_market.specs.PotPhase.{CanInTurn, given_by, shared_out}
 use Rattle.atl_market.specs.Recruit.{CanRecruit, recruit_moves, recruited, recruited_by, recruited_from, recruiting, recruits_at, recruits_in, with_men, with_recruits}
 use Rattle.atl_market.specs.Unordered.{OthersAreNoWorse}
 use Rattle.atl_market.proofs.DrawLaws.{AreUntouched, HaveEnough, HaveLess, all_pairs, changed_regions, drawn, first_draws, others_draw, pot_is_enough, still, untouched}
-use Rattle.atl_instant.proofs.HavingLaws.{MayHave, early-having, may_have}
+use Rattle.atl_state.proofs.HavingLaws.{MayHave, early-having, may_have}
 use Rattle.atl_market.proofs.OrderedLaws.{others_no_worse}
 use Rattle.atl_market.proofs.TurnLaws.{first_room, later_room, turns_leave_well}
 use Rattle.atl_market.proofs.PotLaws.{pots_give}

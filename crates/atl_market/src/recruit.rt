@@ -18,7 +18,7 @@ use crate::pot_phase::{PotPhase, share_out, tell_all};
 use crate::pots::{Pots, pot_shares};
 use atl_instant::{Arrangement, Month, Phase, PhaseVerbs, Written};
 use atl_orders::{Order, Verb};
-use atl_state::{Campaign, Entry, EventFault, Holding, Thing, Unit};
+use atl_state::{Campaign, Entry, EventFault, Holding, MEN_LIMIT, Thing, Unit};
 use atl_tables::{Numbered, World};
 use std::alloc::{AllocError, Global};
 
@@ -122,7 +122,7 @@ impl<'a> PotPhase for MailedRecruiting<'a> {
 
     fn want(&self, world: &World, unit: &Unit, order: Written) -> u32 {
         let payable = unit.holding.money() / world.rules().recruit_price;
-        let room = 999_999 - unit.holding.men();
+        let room = MEN_LIMIT - unit.holding.men();
         asked(self.month, order).min(payable.min(room))
     }
 

@@ -11,7 +11,7 @@ use crate::pot_phase::{PotPhase, share_out, tell_all};
 use crate::pots::{Pots, pot_shares};
 use atl_instant::{Arrangement, Month, Phase, PhaseVerbs, Written};
 use atl_orders::Verb;
-use atl_state::{Campaign, EventFault, Unit};
+use atl_state::{Campaign, EventFault, HOLDING_LIMIT, Unit};
 use atl_tables::{Numbered, World};
 use std::alloc::{AllocError, Global};
 
@@ -74,7 +74,7 @@ impl PotPhase for TaxPhase {
     }
 
     fn want(&self, world: &World, unit: &Unit, _order: Written) -> u32 {
-        let room = 999_999_999 - unit.holding.money();
+        let room = HOLDING_LIMIT - unit.holding.money();
         (unit.holding.men() * world.rules().tax_per_man).min(room)
     }
 

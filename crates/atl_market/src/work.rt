@@ -18,7 +18,7 @@ use crate::pot_phase::{PotPhase, share_out, tell_all};
 use crate::pots::{Pots, pot_shares};
 use atl_instant::{Arrangement, Month, MonthLongVerbs, Phase, Written, terrain_of};
 use atl_orders::Verb;
-use atl_state::{Campaign, Entry, EventFault, Thing, Unit};
+use atl_state::{Campaign, Entry, EventFault, HOLDING_LIMIT, Thing, Unit};
 use atl_tables::{Numbered, World};
 use std::alloc::{AllocError, Global};
 
@@ -196,7 +196,7 @@ impl PotPhase for WorkPhase {
     fn want(&self, world: &World, unit: &Unit, _order: Written) -> u32 {
         match terrain_of(world, unit.region) {
             Some(terrain) => {
-                let room = 999_999_999 - unit.holding.money();
+                let room = HOLDING_LIMIT - unit.holding.money();
                 unit.holding.men().min(room / terrain.wage)
             }
             None => 0,

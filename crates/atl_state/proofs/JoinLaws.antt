@@ -35,6 +35,7 @@ use Rattle.atl_state.specs.Joining.{joined, new_faction, first_unit, home_of, is
 use Rattle.atl_state.specs.Ordered.{put_number, first_above}
 use Rattle.atl_state.proofs.BookLaws.{booked-with_booked, IsGrid-with_booked, IsWithin-with_booked, IsSmall-within, share_of}
 use Rattle.atl_state.proofs.EveryLaws.{every-empty, every-insert, every-from_none, get-insert_other, there-new, there-insert, passes-listed, none_some}
+use Rattle.atl_state.proofs.NumberedNameLaws.{unit_name_ok}
 use Rattle.atl_state.proofs.OrderedLaws.{numbers_where-insert_new}
 use Rattle.atl_state.proofs.TotalLaws.{total-with_unit}
 
@@ -99,49 +100,6 @@ still_there m k q v x free is = get-insert_other m k q v (λ same. none_some x (
 
 other_key : {V : Type 0} (m : FinMap nat_cmp V) (k n : ℕ) (v : V) → get m k ≡ None → get m n ≡ Some v → (k == n) ≡ false
 other_key m k n v free is = let apart : k ≢ n = λ same. none_some v (sym free ∙ ap (get m) same ∙ is) in grind (arith, nat_tests)
-
--- ---- the name of the first unit
-
-digit_ok : (d : ℕ) → 48 ≤ d → d ≤ 57 → is_name_byte d ≡ true
-digit_ok d h k = grind (arith, nat_tests)
-
--- digits, of which the last is told apart
-record EndsInDigit (ds : List ℕ) : Type 0 where
-  front : List ℕ
-  last : ℕ
-  is : ds ≡ front ++ last ∷ []
-  digits : list_all is_name_byte front ≡ true
-  least : 48 ≤ last
-  most : last ≤ 57
-
-all_digits : (ds : List ℕ) → EndsInDigit ds → list_all is_name_byte ds ≡ true
-all_digits ds e =
-    ap (list_all is_name_byte) e.is ∙ list_all-append is_name_byte e.front (e.last ∷ []) ∙ both_true e.digits (both_true (digit_ok e.last e.least e.most) refl)
-
-decimal_ends : (n : ℕ) → n < 2 ^ 64 → EndsInDigit (decimal n)
-decimal_ends n h = decimal_by_steps (λ _ ds. EndsInDigit ds) one more n h
-  where
-    one : (n : ℕ) → n < 10 → EndsInDigit ((48 + n) ∷ [])
-    one n h = record { front = []; last = 48 + n; is = refl; digits = refl; least = omega arith; most = omega arith }
-
-    more : (n : ℕ) (ds : List ℕ) → 10 ≤ n → EndsInDigit ds → EndsInDigit (ds ++ (48 + n % 10) ∷ [])
-    more n ds h e = record { front = ds; last = 48 + n % 10; is = refl; digits = all_digits ds e; least = omega arith; most = omega arith }
-
-open_ends : (front : List ℕ) (last : ℕ) → 48 ≤ last → has_open_ends (codes "Unit " ++ (front ++ last ∷ [])) ≡ true
-open_ends front last h =
-    let bs = codes "Unit " ++ (front ++ last ∷ []) in
-    let place : length bs - 1 ≡ length (codes "Unit " ++ front) = omega (arith, length-append front (last ∷ [])) in
-    let other : (last == 32) ≡ false = grind (arith, nat_tests) in
-    both_true refl (ap (λ i. not (get_or bs i 0 == 32)) place ∙ ap (λ b. not (b == 32)) (get_or-append_seam (codes "Unit " ++ front) last [] 0) ∙ ap not other)
-
-short : (bs : List ℕ) → 1 ≤ length bs → length bs ≤ 40 → is_short bs ≡ true
-short bs h k = grind (arith, nat_tests)
-
-unit_name_ok : (n : ℕ) → n ≤ last_unit → name_ok (codes "Unit " ++ decimal n) ≡ true
-unit_name_ok n h =
-    let e = decimal_ends n (omega arith) in
-    let few : length (decimal n) ≤ 20 = length-decimal-le 20 n (omega arith) (omega arith) (omega arith) in
-    both_true (both_true (short (codes "Unit " ++ decimal n) (omega arith) (omega (arith, few))) (ap (λ ds. has_open_ends (codes "Unit " ++ ds)) e.is ∙ open_ends e.front e.last e.least)) (all_digits (decimal n) e)
 
 -- ---- each rule
 

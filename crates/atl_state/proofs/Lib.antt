@@ -13,6 +13,7 @@ pub mod TotalLaws
 pub mod MadeOf
 pub mod FlagLaws
 pub mod FoundingLaws
+pub mod NumberedNameLaws
 pub mod JoinLaws
 pub mod OwnerLaws
 pub mod LevelLaws
@@ -40,3 +41,4 @@ pub mod RemovedLaws
 pub mod LeavingLaws
 pub mod GoneLaws
 pub mod PostLaws
+pub mod HavingLaws

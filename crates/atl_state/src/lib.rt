@@ -16,6 +16,7 @@ pub mod records;
 mod row_rules;
 mod rows;
 mod rules;
+mod terrains;
 mod totals;
 mod units;
 
@@ -24,6 +25,10 @@ pub use campaign::{Campaign, founded};
 pub use event::{Event, EventFault, EventVerb, Outcome};
 pub use holding::Holding;
 pub use levels::{carry, goods, level, load};
-pub use limits::{ENTRY_COUNT, LAST_MONTH, LAST_UNIT, MOST_STRUCTURES, MOST_UNITS};
+pub use limits::{
+    ENTRY_COUNT, HOLDING_LIMIT, LAST_MONTH, LAST_UNIT, MEN_LIMIT, MOST_DAYS, MOST_STRUCTURES,
+    MOST_UNITS,
+};
 pub use records::{Faction, JoinFault, Region, Structure, Unit};
 pub use row_rules::are_distinct;
+pub use terrains::{is_land_at, is_ship, size_of};

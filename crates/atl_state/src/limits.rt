@@ -16,13 +16,13 @@ pub const ENTRY_COUNT: usize = 13;
 pub const LAST_MONTH: u32 = 9_999;
 
 /// The most men of a unit.
-pub(crate) const MEN_LIMIT: u32 = 999_999;
+pub const MEN_LIMIT: u32 = 999_999;
 
 /// The most money, or of one item, of a unit.
-pub(crate) const HOLDING_LIMIT: u32 = 999_999_999;
+pub const HOLDING_LIMIT: u32 = 999_999_999;
 
 /// The most days of a skill for each man.
-pub(crate) const MOST_DAYS: u32 = 450;
+pub const MOST_DAYS: u32 = 450;
 
 /// The largest size that a structure can have.
 pub(crate) const MOST_SIZE: u32 = 999_999;

@@ -13,7 +13,7 @@ use crate::parts::{
     Parts, StoredBooks, StoredFaction, StoredHas, StoredHead, StoredMail, StoredRegion,
     StoredReport, StoredStructure, StoredUnit,
 };
-use crate::rules::size_of;
+use crate::terrains::size_of;
 use atl_orders::LAST_FACTION;
 use atl_tables::limits::{MOST_AMOUNT, MOST_REGIONS};
 use atl_tables::{World, name_ok, pass_ok};

@@ -20,4 +20,4 @@ pub(crate) use mail::are_mailings;
 pub(crate) use next::are_numbered;
 pub(crate) use owners::are_owned;
 pub(crate) use reports::are_reported;
-pub(crate) use water::{are_afloat, size_of};
+pub(crate) use water::are_afloat;

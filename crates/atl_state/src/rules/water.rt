@@ -4,42 +4,9 @@ ghost use Rattle.std.specs.Bool.{Decides};
 ghost use Rattle.atl_state.specs.Good.{Every, AreAfloat, IsAboard, is_land_at, is_ship, size_of};
 
 use crate::campaign::Campaign;
-use crate::limits::MOST_SIZE;
 use crate::records::{Structure, Unit};
+use crate::terrains::{is_land_at, is_ship, size_of};
 use atl_tables::World;
-
-/// Whether a region is there and has land.
-fn is_land_at(world: &World, region: u32) -> bool
-    ensures { result ≡ is_land_at world.now region }
-{
-    match world.region(region) {
-        Some(plan) => match world.terrains().get(usize::from(plan.terrain)) {
-            Some(terrain) => terrain.land,
-            None => false,
-        },
-        None => false,
-    }
-}
-
-/// Whether a structure is a ship.
-fn is_ship(world: &World, structure: &Structure) -> bool
-    ensures { result ≡ is_ship world.now structure.now }
-{
-    match world.kinds().get(usize::from(structure.kind)) {
-        Some(kind) => kind.ship,
-        None => false,
-    }
-}
-
-/// The full size of a kind; where there is no such kind, the largest.
-pub(crate) fn size_of(world: &World, kind: u16) -> u32
-    ensures { result ≡ size_of world.now kind }
-{
-    match world.kinds().get(usize::from(kind)) {
-        Some(kind) => kind.size,
-        None => MOST_SIZE,
-    }
-}
 
 /// Whether a unit is inside a ship.
 fn is_aboard(world: &World, campaign: &Campaign, unit: &Unit) -> bool

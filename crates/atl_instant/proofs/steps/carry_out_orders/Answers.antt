@@ -44,13 +44,13 @@ loop-order-preserved g c =
     let P = g.P.OrderPhase in
     let w = c.args.world.now in
     let before : State × Course = (c.loop-order.campaign.what, c.loop-order.month) in
-    let one = carried_written P.step P.is_taken w in
+    let one = carried_written (P.step c.args.phase.now) P.is_taken w in
     let xs = c.deref-order-items.result.now in
     let i = c.loop-order.order-index in
     let step = c.in_ok-carry_one.ensures.step in
     record {
       orders = ap (λ p. fold one p (drop (i + 1) xs)) step ∙ sym (ap (fold one before) (drop_more xs i none c.loop-order-test.true)) ∙ c.loop-order.invariant.orders;
-      readings = ap (λ p. p.1.readings) step ∙ written_readings P.step P.is_taken w before (get_or xs i none) ∙ c.loop-order.invariant.readings;
+      readings = ap (λ p. p.1.readings) step ∙ written_readings (P.step c.args.phase.now) P.is_taken w before (get_or xs i none) ∙ c.loop-order.invariant.readings;
       well = well_twice w c.args.campaign.now.what c.loop-order.campaign.what _ c.loop-order.invariant.well c.in_ok-carry_one.ensures.well;
       marks = marks-trans c.args.campaign.now c.loop-order.campaign _ c.loop-order.invariant.marks c.in_ok-carry_one.ensures.marks;
     }
@@ -64,8 +64,8 @@ returns-clause-meaning g c =
     let i = c.loop-order.order-index in
     let past : drop i xs ≡ [] = drop_all i xs (omega (arith, c.loop-order-test.false)) in
     let behind : State × Course = (c.loop-order.campaign.what, c.loop-order.month) in
-    sym (ap (fold (carried_written P.step P.is_taken w) behind) past) ∙ c.loop-order.invariant.orders ∙ ap (fold (carried_written P.step P.is_taken w) start) (c.deref-order-items.ensures.value ∙ c.in_ok-orders.ensures)
-    ∙ written_out P.step P.is_taken w g.P.PhaseVerbs.is_of c.args.campaign.now.what c.args.month.now
+    sym (ap (fold (carried_written (P.step c.args.phase.now) P.is_taken w) behind) past) ∙ c.loop-order.invariant.orders ∙ ap (fold (carried_written (P.step c.args.phase.now) P.is_taken w) start) (c.deref-order-items.ensures.value ∙ c.in_ok-orders.ensures)
+    ∙ written_out (P.step c.args.phase.now) P.is_taken w g.P.PhaseVerbs.is_of c.args.campaign.now.what c.args.month.now
 
 pub returns-clause-leaves : goal.returns-clause-leaves
 returns-clause-leaves g c =
@@ -80,7 +80,7 @@ returns-clause-keeps g c =
     let m = c.args.month.now in
     let ts = values (orders_of g.P.PhaseVerbs.is_of ByUnit m.aliases m.readings) in
     subst (λ d. AreSpared P.concerns P.spares ts c.args.campaign.now.what d) (sym (ap (λ p. p.0) (returns-clause-meaning g c)))
-    (orders_spare P.step P.is_taken c.is_orderly.ensures w c.args.campaign.now.what m ts c.requires.holds (orders_fit w m.aliases m.readings c.requires.read g.P.PhaseVerbs.is_of))
+    (orders_spare (P.step c.args.phase.now) P.is_taken c.is_orderly.ensures w c.args.campaign.now.what m ts c.requires.holds (orders_fit w m.aliases m.readings c.requires.read g.P.PhaseVerbs.is_of))
 
 pub returns-clause-marks : goal.returns-clause-marks
 returns-clause-marks g c = c.loop-order.invariant.marks
