@@ -17,4 +17,5 @@ mod remade;
 mod script;
 mod state;
 mod tables;
+mod whole_month;
 mod worlds;
