@@ -15,4 +15,4 @@ returns-then-is_own-clause-step g c =
 pub returns-else-is_own-clause-step : goal.returns-else-is_own-clause-step
 returns-else-is_own-clause-step g c =
     let s = said c.args.mailing.now.text c.args.what.now in
-    rw (carried_other (g.P.OrderPhase.step c.args.phase.now) c.args.world.now c.args.month.now.aliases c.args.campaign.now.what (task_of c.args.order s) (c.if-is_own.ensures s), c.number.ensures) refl
+    rw (carried_other (g.P.OrderPhase.step c.args.phase.now) c.args.world.now c.args.month.now.aliases c.args.campaign.now.what (task_of c.args.order s) (c.if-is_own.ensures s), c.failed.ensures) refl
