@@ -26,3 +26,5 @@ pub mod FormingLaws
 pub mod FormLaws
 pub mod QuitLaws
 pub mod FitLaws
+pub mod UnmailedLaws
+pub mod UnmailedStepLaws

@@ -219,7 +219,7 @@ abbrev behind : State → (from to n : ℕ) → Unit → Unit → (itself : Bool
 behind c from to n u v itself = if itself then c else with_held (with_held c from (with_fewer n u.holding) (Some u)) to (with_more n u.holding v.holding) (Some v)
 
 -- what is so of the campaign as it is, and of each in which men went from one unit to another, is so of the campaign behind the order
-transfer_cases : (P : State → Type 0) (c : State) (from to n : ℕ) → P c
+pub transfer_cases : (P : State → Type 0) (c : State) (from to n : ℕ) → P c
     → ((u v : Unit) (sender : get c.units from ≡ Some u) (receiver : get c.units to ≡ Some v) (apart : to ≢ from) → CanSend n false u v
     → P (moved c from to u v (with_fewer n u.holding) (with_more n u.holding v.holding) sender receiver apart))
     → P (transfer c from to n).0

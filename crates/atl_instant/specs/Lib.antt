@@ -17,3 +17,4 @@ pub mod Name
 pub mod Place
 pub mod Form
 pub mod Quit
+pub mod Unmailed

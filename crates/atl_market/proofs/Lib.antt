@@ -10,3 +10,4 @@ pub mod RecruitLaws
 pub mod WorkLaws
 pub mod WorkOrderLaws
 pub mod PaidLaws
+pub mod UnmailedPotLaws

@@ -73,10 +73,14 @@ module _ (step : State → ℕ × ℕ → State) (others : (c : State) (e : ℕ 
   passed_over c [] n apart = refl
   passed_over c (e ∷ es) n apart = passed_over (step c e) es n apart.1 ∙ others c e n apart.0
 
-pub others_no_worse : (p : PotMeaning) (w : Planet) → ((c : State) (e : ℕ × ℕ) (k : ℕ) → k ≢ e.0 → get (p.paid w c e).units k ≡ get c.units k)
-    → (c : State) → GivesToWants p w c → (os : List Written) → OthersAreNoWorse os c (shared_out p w c os)
+pub unordered_stays : (p : PotMeaning) (w : Planet) → ((c : State) (e : ℕ × ℕ) (k : ℕ) → k ≢ e.0 → get (p.paid w c e).units k ≡ get c.units k)
+    → (c : State) → GivesToWants p w c → (os : List Written) (n : ℕ) (u : Unit) → get c.units n ≡ Some u → is_ordered os n u ≡ false → get (shared_out p w c os).units n ≡ get c.units n
 unfolding shared_out
-others_no_worse p w others c gives os n u there none =
+unordered_stays p w others c gives os n u there none =
     let given = given_by p w c os in
     let apart = each-from_every (λ k share. n ≢ k) given (λ k share is same. not_given p w c n u there gives os none share (ap (get given) same ∙ is)) in
-    (u, passed_over (p.paid w) others c (entries given) n (all_pairs (λ e. n ≢ e.0) (entries given) apart) ∙ there, no_worse u)
+    passed_over (p.paid w) others c (entries given) n (all_pairs (λ e. n ≢ e.0) (entries given) apart)
+
+pub others_no_worse : (p : PotMeaning) (w : Planet) → ((c : State) (e : ℕ × ℕ) (k : ℕ) → k ≢ e.0 → get (p.paid w c e).units k ≡ get c.units k)
+    → (c : State) → GivesToWants p w c → (os : List Written) → OthersAreNoWorse os c (shared_out p w c os)
+others_no_worse p w others c gives os n u there none = (u, unordered_stays p w others c gives os n u there none ∙ there, no_worse u)

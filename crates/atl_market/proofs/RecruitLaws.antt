@@ -177,7 +177,7 @@ module _ (w : Planet) (c : State) (e : ℕ × ℕ) where
       subst (λ d. HaveLess c.units peasants_of c d can.unit.region can.region e.1) (sym (made_is can))
       (recruits_drain w c e.0 can.unit can.region e.1 price can.there can.around can.fits can.payable can.enough can.early)
 
-  recruited_others : (k : ℕ) → k ≢ e.0 → get (recruited w c e).units k ≡ get c.units k
+  pub recruited_others : (k : ℕ) → k ≢ e.0 → get (recruited w c e).units k ≡ get c.units k
   unfolding recruited
   recruited_others k apart = by_unit (get c.units e.0) refl
     where

@@ -6,3 +6,4 @@ pub mod Upkeep
 pub mod Month
 pub mod Sweep
 pub mod Receivers
+pub mod Unmailed

@@ -1,0 +1,265 @@
+-- What phases leave to the units of a faction that sent no mailing.
+use Rattle.std.proofs.Common.{◌≡◌, ◌≢◌, ◌==◌, ℕ, ◌+◌, ◌-◌, ◌≤◌, ◌<◌, Bool, true, false, List, [], ◌∷◌, ◌++◌, Option, Some, None, refl, sym, ap, subst, ◌∙◌, inl, inr, arith}
+use Rattle.std.specs.Prelude.{fold, option_map, if◌then◌else◌}
+use Rattle.std.specs.List.{All, AllByRecursion}
+use Rattle.std.specs.Ordering.{nat_cmp}
+use Rattle.std.specs.FinMap.{FinMap, get, insert, values}
+use Rattle.std.proofs.lemmas.Bool.{cases_eq}
+use Rattle.std.proofs.lemmas.List.Elements.{All-from_recursion, recursion_from_All}
+use Rattle.std.proofs.lemmas.List.Sums.{sum_by_push}
+use Rattle.atl_tables.specs.Planet.{Planet}
+use Rattle.atl_tables.specs.Sums.{changed}
+use Rattle.atl_orders.specs.declared.verb.Verb.{Verb}
+use Rattle.atl_orders.specs.Mailing.{Reading}
+use Rattle.atl_orders.specs.Orders.{Said}
+use Rattle.atl_state.specs.declared.event.Event.{Event}
+use Rattle.atl_state.specs.declared.event.EventFault.{EventFault}
+use Rattle.atl_state.specs.declared.event.Outcome.{Outcome}
+use Rattle.atl_state.specs.declared.records.Unit.{Unit}
+use Rattle.atl_state.specs.Good.{Every}
+use Rattle.atl_state.specs.Held.{amount_of}
+use Rattle.atl_state.specs.State.{State}
+use Rattle.atl_state.proofs.EveryLaws.{get-insert_other, none_some}
+use Rattle.atl_state.proofs.RegionLaws.{get-insert_same}
+use Rattle.atl_instant.specs.Course.{Aliases, Course}
+use Rattle.atl_instant.specs.Meaning.{Keeping, Meaning, both_keep, then_also}
+use Rattle.atl_instant.specs.Outcomes.{unless}
+use Rattle.atl_instant.specs.PhaseOrders.{IsInMailing, Task, orders_of}
+use Rattle.atl_instant.specs.Staying.{AreNoWorse, IsNoWorse}
+use Rattle.atl_instant.specs.Steps.{Concern, IsOwnOrder, IsSpared, Sparing, Step, and_told, carried, carried_out, is_of_faction, is_own, one_order, spares_others, told}
+use Rattle.atl_instant.specs.Unmailed.{IsLeft, IsLessBy, starved_in, starved_told}
+use Rattle.atl_instant.specs.declared.written.Arrangement.{Arrangement}
+use Rattle.atl_instant.specs.declared.written.Arrangement.TheVariants.{ByUnit}
+use Rattle.atl_instant.proofs.StructureLaws.{at_number, get-changed}
+use Rattle.atl_instant.proofs.WrittenLaws.{orders_are_in_mailings}
+
+Some_same : {X : Type 0} {x y : X} → Some x ≡ Some y → x ≡ y
+Some_same e = cc
+
+-- ---- phases one after the other
+
+-- A phase keeps the mailings and takes back no event, and a unit whose faction sent no mailing stays, but for the men who starve in it.
+pub record LeavesUnmailed (meaning : Meaning) (keeps : Keeping) : Type 0 where
+  pub readings : (w : Planet) (c : State) (m : Course) → (meaning w c m).1.readings ≡ m.readings
+  pub told : (w : Planet) (c : State) (m : Course) (n : ℕ) → starved_in m.events n ≤ starved_in (meaning w c m).1.events n
+  pub left : (w : Planet) (c : State) (m : Course) → keeps w m c (meaning w c m).0 →
+      Every (λ n u. get m.readings u.faction ≡ None → IsSpared (IsLessBy (starved_in (meaning w c m).1.events n - starved_in m.events n)) (meaning w c m).0 n u) c.units
+
+-- the same of phases behind which a unit may be gone whose men starved
+pub record ClosesUnmailed (meaning : Meaning) (keeps : Keeping) : Type 0 where
+  pub told : (w : Planet) (c : State) (m : Course) (n : ℕ) → starved_in m.events n ≤ starved_in (meaning w c m).1.events n
+  pub left : (w : Planet) (c : State) (m : Course) → keeps w m c (meaning w c m).0 →
+      Every (λ n u. get m.readings u.faction ≡ None → IsLeft (starved_in (meaning w c m).1.events n - starved_in m.events n) (meaning w c m).0 n u) c.units
+
+less_twice : (x y z : ℕ) (u v t : Unit) → x ≤ y → y ≤ z → IsLessBy (y - x) u v → IsLessBy (z - y) v t → IsLessBy (z - x) u t
+less_twice x y z u v t l k one two = record {
+  faction = two.faction ∙ one.faction;
+  name = two.name ∙ one.name;
+  men = less u.holding.men v.holding.men t.holding.men one.men two.men;
+  items = λ i. omega (arith, one.items i, two.items i);
+}
+  where
+    less : (a b d : ℕ) → b ≡ a - (y - x) → d ≡ b - (z - y) → d ≡ a - (z - x)
+    less a b d e f = omega (arith, l, k)
+
+some_left : (x y z a b : ℕ) → x ≤ y → y ≤ z → b ≡ a - (y - x) → z - x < a → z - y < b
+some_left x y z a b l k e some = omega arith
+
+still_none : {first : Meaning} {early : Keeping} → LeavesUnmailed first early → (w : Planet) (c : State) (m : Course) (f g : ℕ) → g ≡ f → get m.readings f ≡ None → get (first w c m).1.readings g ≡ None
+still_none one w c m f g same none = ap (λ (r : FinMap nat_cmp Reading). get r g) (one.readings w c m) ∙ ap (get m.readings) same ∙ none
+
+module _ {first second : Meaning} {early late : Keeping} where
+  pub both_leave : LeavesUnmailed first early → LeavesUnmailed second late → LeavesUnmailed (then_also first second) (both_keep first early late)
+  both_leave one two = record {
+    readings = λ w c m. two.readings w (first w c m).0 (first w c m).1 ∙ one.readings w c m;
+    told = λ w c m n. omega (arith, one.told w c m n, two.told w (first w c m).0 (first w c m).1 n);
+    left = λ w c m keeps n u there none.
+        let between = first w c m in
+        let a = one.left w c m keeps.0 n u there none in
+        let b = two.left w between.0 between.1 keeps.1 n a.unit a.there (still_none one w c m u.faction a.unit.faction a.spared.faction none) in
+        record { unit = b.unit; there = b.there; spared = less_twice _ _ _ u a.unit b.unit (one.told w c m n) (two.told w between.0 between.1 n) a.spared b.spared };
+  }
+
+  pub then_closes : LeavesUnmailed first early → ClosesUnmailed second late → ClosesUnmailed (then_also first second) (both_keep first early late)
+  then_closes one two = record {
+    told = λ w c m n. omega (arith, one.told w c m n, two.told w (first w c m).0 (first w c m).1 n);
+    left = λ w c m keeps n u there none some.
+        let between = first w c m in
+        let a = one.left w c m keeps.0 n u there none in
+        let early = one.told w c m n in
+        let late = two.told w between.0 between.1 n in
+        let b = two.left w between.0 between.1 keeps.1 n a.unit a.there (still_none one w c m u.faction a.unit.faction a.spared.faction none)
+            (some_left _ _ _ u.holding.men a.unit.holding.men early late a.spared.men some) in
+        record { unit = b.unit; there = b.there; spared = less_twice _ _ _ u a.unit b.unit early late a.spared b.spared };
+  }
+
+-- ---- a phase in which nobody starves: men and items
+
+-- a unit with exactly its men
+pub record HasItsMen (before after : Unit) : Type 0 where
+  pub faction : after.faction ≡ before.faction
+  pub men : after.holding.men ≡ before.holding.men
+
+-- each unit has
+abbrev pub HaveTheirMen : State → State → Type 0
+HaveTheirMen before after = Every (λ n u. IsSpared HasItsMen after n u) before.units
+
+pub men_stay : (c : State) → HaveTheirMen c c
+men_stay c n u there = record { unit = u; there = there; spared = record { faction = refl; men = refl } }
+
+pub men_twice : (a b c : State) → HaveTheirMen a b → HaveTheirMen b c → HaveTheirMen a c
+men_twice a b c one two n u there =
+    let x = one n u there in
+    let y = two n x.unit x.there in
+    record { unit = y.unit; there = y.there; spared = record { faction = y.spared.faction ∙ x.spared.faction; men = y.spared.men ∙ x.spared.men } }
+
+pub men_same : (c d : State) → d.units ≡ c.units → HaveTheirMen c d
+men_same c d same n u there = record { unit = u; there = ap (λ (m : FinMap nat_cmp Unit). get m n) same ∙ there; spared = record { faction = refl; men = refl } }
+
+-- a unit changes, and keeps its men
+pub men_changed : (f : Unit → Unit) → ((u : Unit) → HasItsMen u (f u)) → (c d : State) (k : ℕ) → d.units ≡ changed f c.units k → HaveTheirMen c d
+men_changed f stay c d k same n u there =
+    record { unit = at_number f c.units k n u; there = ap (λ (m : FinMap nat_cmp Unit). get m n) same ∙ get-changed f c.units k n ∙ ap (option_map (at_number f c.units k n)) there; spared = by_number (n == k) }
+  where
+    by_number : (b : Bool) → HasItsMen u (if b then f u else u)
+    by_number true = stay u
+    by_number false = record { faction = refl; men = refl }
+
+-- a unit is put back, with its men
+pub men_put : (c d : State) (k : ℕ) (v x : Unit) → get c.units k ≡ Some v → HasItsMen v x → d.units ≡ insert c.units k x → HaveTheirMen c d
+men_put c d k v x here stay same n u there = elim (cases_eq n k) [
+  | inl own ↦
+      let unit : v ≡ u = Some_same (sym here ∙ ap (get c.units) (sym own) ∙ there) in
+      record { unit = x; there = ap (λ (m : FinMap nat_cmp Unit). get m n) same ∙ ap (get (insert c.units k x)) own ∙ get-insert_same c.units k x; spared = subst (λ y. HasItsMen y x) unit stay }
+  | inr apart ↦
+      record { unit = u; there = ap (λ (m : FinMap nat_cmp Unit). get m n) same ∙ get-insert_other c.units k n x apart ∙ there; spared = record { faction = refl; men = refl } }
+]
+
+-- steps in turn, each of which keeps the men
+pub men_in_turn : {X : Type 0} (step : State → X → State) → ((c : State) (x : X) → HaveTheirMen c (step c x)) → (c : State) (xs : List X) → HaveTheirMen c (fold step c xs)
+men_in_turn step each c [] = men_stay c
+men_in_turn step each c (x ∷ xs) = men_twice c (step c x) (fold step (step c x) xs) (each c x) (men_in_turn step each (step c x) xs)
+
+-- with a fault nothing changes
+pub men_unless : (c d : State) (o : Outcome) (fault : Option EventFault) → HaveTheirMen c d → HaveTheirMen c (unless c fault (d, o)).0
+men_unless c d o (Some fault) h = men_stay c
+men_unless c d o None h = h
+
+-- a unit with its name and no less of any item
+pub record HasItsItems (before after : Unit) : Type 0 where
+  pub name : after.holding.name ≡ before.holding.name
+  pub items : (i : ℕ) → amount_of before.holding.items i ≤ amount_of after.holding.items i
+
+pub items_of_no_worse : (u v : Unit) → IsNoWorse u v → HasItsItems u v
+items_of_no_worse u v h = record { name = h.name; items = h.items }
+
+-- what is so of each unit whose faction sent no mailing
+abbrev pub UnmailedAre : Sparing → Course → State → State → Type 0
+UnmailedAre spares m before after = Every (λ n u. get m.readings u.faction ≡ None → IsSpared spares after n u) before.units
+
+whole : (x y : ℕ) (u v : Unit) → y ≡ x → HasItsMen u v → HasItsItems u v → IsLessBy (y - x) u v
+whole x y u v same men items = record { faction = men.faction; name = items.name; men = nobody u.holding.men v.holding.men men.men; items = items.items }
+  where
+    nobody : (a b : ℕ) → b ≡ a → b ≡ a - (y - x)
+    nobody a b e = omega (arith, same)
+
+module _ {meaning : Meaning} {keeps : Keeping} (readings : (w : Planet) (c : State) (m : Course) → (meaning w c m).1.readings ≡ m.readings)
+    (nobody : (w : Planet) (c : State) (m : Course) (n : ℕ) → starved_in (meaning w c m).1.events n ≡ starved_in m.events n)
+    (men : (w : Planet) (c : State) (m : Course) → keeps w m c (meaning w c m).0 → UnmailedAre HasItsMen m c (meaning w c m).0)
+    (items : (w : Planet) (c : State) (m : Course) → keeps w m c (meaning w c m).0 → UnmailedAre HasItsItems m c (meaning w c m).0) where
+  pub whole_leaves : LeavesUnmailed meaning keeps
+  whole_leaves = record {
+    readings = readings;
+    told = λ w c m n. omega (arith, nobody w c m n);
+    left = λ w c m h n u there none.
+        let one = men w c m h n u there none in
+        let two = items w c m h n u there none in
+        let unit : two.unit ≡ one.unit = Some_same (sym two.there ∙ one.there) in
+        record { unit = one.unit; there = one.there; spared = whole _ _ u one.unit (nobody w c m n) one.spared (subst (HasItsItems u) unit two.spared) };
+  }
+
+-- ---- a phase whose orders are carried out one by one
+
+-- no order of a phase is of a faction that sent no mailing
+pub none_ordered : (is_of : Verb → Bool) (arrangement : Arrangement) (m : Course) (f : ℕ) → get m.readings f ≡ None → All (λ t. t.faction ≢ f) (values (orders_of is_of arrangement m.aliases m.readings))
+none_ordered is_of arrangement m f none k d l same =
+    let h = orders_are_in_mailings is_of arrangement m.aliases m.readings k d l in
+    none_some h.reading (sym none ∙ ap (get m.readings) (sym same) ∙ h.of_faction)
+
+-- what came of an order tells of nobody who starved
+pub told_of_order : (events : List Event) (t : Task) (outcome : Outcome) (n : ℕ) → starved_in (events ++ told t outcome ∷ []) n ≡ starved_in events n
+told_of_order events t outcome n =
+    sum_by_push (λ (e : Event). if e.unit == n then starved_told e.verb e.outcome else 0) events (told t outcome) ∙ by_unit (t.unit == n) (starved_in events n)
+  where
+    by_unit : (b : Bool) (x : ℕ) → x + (if b then 0 else 0) ≡ x
+    by_unit true x = omega arith
+    by_unit false x = omega arith
+
+-- behind an order each unit of another faction than the one that wrote it has its men
+abbrev pub SparesMen : Step → Type 0
+SparesMen step = (w : Planet) (a : Aliases) (c : State) (t : Task) → is_own c t ≡ true → Every (λ n u. t.faction ≢ u.faction → IsSpared HasItsMen (step w a c t).0 n u) c.units
+
+module _ (step : Step) (is_taken : Said → Bool) where
+  order_spares : SparesMen step → (w : Planet) (c : State) (m : Course) (t : Task) → Every (λ n u. t.faction ≢ u.faction → IsSpared HasItsMen (one_order step is_taken w (c, m) t).0 n u) c.units
+  order_spares spares w c m t n u there other = by_taken (is_taken t.said)
+    where
+      by_own : (b : Bool) → is_own c t ≡ b → IsSpared HasItsMen (carried step w m.aliases c t).0 n u
+      by_own true own = rw own (spares w m.aliases c t own n u there other)
+      by_own false own = rw own (men_stay c n u there)
+
+      by_taken : (b : Bool) → IsSpared HasItsMen (if b then and_told m t (carried step w m.aliases c t) else (c, m)).0 n u
+      by_taken true = by_own (is_own c t) refl
+      by_taken false = men_stay c n u there
+
+  orders_spare : SparesMen step → (w : Planet) (c : State) (m : Course) (ts : List Task) → (n : ℕ) (u : Unit) → get c.units n ≡ Some u → AllByRecursion (λ t. t.faction ≢ u.faction) ts → IsSpared HasItsMen (fold (one_order step is_taken w) (c, m) ts).0 n u
+  orders_spare spares w c m [] n u there others = men_stay c n u there
+  orders_spare spares w c m (t ∷ ts) n u there others =
+      let next = one_order step is_taken w (c, m) t in
+      let one = order_spares spares w c m t n u there others.0 in
+      let two = orders_spare spares w next.0 next.1 ts n one.unit one.there (subst (λ f. AllByRecursion (λ t. t.faction ≢ f) ts) (sym one.spared.faction) others.1) in
+      record { unit = two.unit; there = two.there; spared = record { faction = two.spared.faction ∙ one.spared.faction; men = two.spared.men ∙ one.spared.men } }
+
+  order_readings : (w : Planet) (p : State × Course) (t : Task) → (one_order step is_taken w p t).1.readings ≡ p.1.readings
+  order_readings w p t = by_taken (is_taken t.said)
+    where
+      by_taken : (b : Bool) → (if b then and_told p.1 t (carried step w p.1.aliases p.0 t) else p).1.readings ≡ p.1.readings
+      by_taken true = refl
+      by_taken false = refl
+
+  orders_readings : (w : Planet) (p : State × Course) (ts : List Task) → (fold (one_order step is_taken w) p ts).1.readings ≡ p.1.readings
+  orders_readings w p [] = refl
+  orders_readings w p (t ∷ ts) = orders_readings w (one_order step is_taken w p t) ts ∙ order_readings w p t
+
+  order_told : (w : Planet) (p : State × Course) (t : Task) (n : ℕ) → starved_in (one_order step is_taken w p t).1.events n ≡ starved_in p.1.events n
+  order_told w p t n = by_taken (is_taken t.said)
+    where
+      by_taken : (b : Bool) → starved_in (if b then and_told p.1 t (carried step w p.1.aliases p.0 t) else p).1.events n ≡ starved_in p.1.events n
+      by_taken true = told_of_order p.1.events t (carried step w p.1.aliases p.0 t).1 n
+      by_taken false = refl
+
+  orders_told : (w : Planet) (p : State × Course) (ts : List Task) (n : ℕ) → starved_in (fold (one_order step is_taken w) p ts).1.events n ≡ starved_in p.1.events n
+  orders_told w p [] n = refl
+  orders_told w p (t ∷ ts) n = orders_told w (one_order step is_taken w p t) ts n ∙ order_told w p t n
+
+  module _ (is_of : Verb → Bool) where
+    pub carried_leaves : {keeps : Keeping} → SparesMen step → ((w : Planet) (c d : State) (m : Course) → keeps w m c d → UnmailedAre HasItsItems m c d) → LeavesUnmailed (carried_out step is_taken is_of) keeps
+    unfolding carried_out
+    carried_leaves {keeps} spares items =
+        whole_leaves {meaning = carried_out step is_taken is_of} {keeps = keeps}
+        (λ w c m. orders_readings w (c, m) (values (orders_of is_of ByUnit m.aliases m.readings)))
+        (λ w c m n. orders_told w (c, m) (values (orders_of is_of ByUnit m.aliases m.readings)) n)
+        (λ w c m h n u there none.
+        let ts = values (orders_of is_of ByUnit m.aliases m.readings) in
+        orders_spare spares w c m ts n u there (recursion_from_All (λ t. t.faction ≢ u.faction) ts (none_ordered is_of ByUnit m u.faction none)))
+        (λ w c m h. items w c (carried_out step is_taken is_of w c m).0 m h)
+
+pub own_faction : (t : Task) (n f : ℕ) → IsOwnOrder t n f → t.faction ≡ f
+own_faction t n f h = h.faction
+
+-- a phase that spares those whom no order of it concerns spares them, where only orders of its own faction concern a unit
+pub unmailed_spared : {concerns : Concern} {spares : Sparing} (is_of : Verb → Bool) → ((t : Task) (n f : ℕ) → concerns t n f → t.faction ≡ f) → ((u v : Unit) → spares u v → HasItsItems u v)
+    → (w : Planet) (c d : State) (m : Course) → spares_others concerns spares is_of w m c d → UnmailedAre HasItsItems m c d
+unmailed_spared {concerns} {spares} is_of own items w c d m h n u there none =
+    let others = none_ordered is_of ByUnit m u.faction none in
+    let one = h n u there (λ k e l concerned. others k e l (own _ n u.faction concerned)) in
+    record { unit = one.unit; there = one.there; spared = items u one.unit one.spared }

@@ -1,0 +1,31 @@
+-- What is left of the units of a faction that sent no mailing. See docs/RULES.md, "Closing a month".
+use Rattle.std.specs.Prelude.{◌≡◌, ◌≤◌, ◌<◌, ◌-◌, ◌==◌, ℕ, List, sum_by, if◌then◌else◌}
+use Rattle.atl_state.specs.declared.event.Event.{Event}
+use Rattle.atl_state.specs.declared.event.EventVerb.{EventVerb}
+use Rattle.atl_state.specs.declared.event.EventVerb.TheVariants as verbs
+use Rattle.atl_state.specs.declared.event.Outcome.{Outcome}
+use Rattle.atl_state.specs.declared.event.Outcome.TheVariants as outcomes
+use Rattle.atl_state.specs.declared.records.Unit.{Unit}
+use Rattle.atl_state.specs.Held.{amount_of}
+use Rattle.atl_state.specs.State.{State}
+use Rattle.atl_instant.specs.Steps.{IsSpared}
+
+-- how many men starved, as the upkeep of their unit tells
+abbrev pub starved_told : EventVerb → Outcome → ℕ
+starved_told verbs.Upkeep (outcomes.Starved men) = men
+starved_told verb outcome = 0
+
+-- how many men of a unit, by its number, starved, as the events of a month tell
+abbrev pub starved_in : List Event → (number : ℕ) → ℕ
+starved_in events number = sum_by (λ e. if e.unit == number then starved_told e.verb e.outcome else 0) events
+
+-- a unit with its name, exactly so many men less, and no less of any item
+pub record IsLessBy (fewer : ℕ) (before after : Unit) : Type 0 where
+  pub faction : after.faction ≡ before.faction
+  pub name : after.holding.name ≡ before.holding.name
+  pub men : after.holding.men ≡ before.holding.men - fewer
+  pub items : (i : ℕ) → amount_of before.holding.items i ≤ amount_of after.holding.items i
+
+-- A unit of whom not all men starved is there, without those.
+abbrev pub IsLeft : (starved : ℕ) → (after : State) → (number : ℕ) → Unit → Type 0
+IsLeft starved after number u = starved < u.holding.men → IsSpared (IsLessBy starved) after number u

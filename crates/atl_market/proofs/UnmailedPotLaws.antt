@@ -1,0 +1,129 @@
+-- What TAX, RECRUIT and WORK leave to the units of a faction that sent no mailing.
+use Rattle.std.proofs.Common.{◌≡◌, ◌≢◌, ◌==◌, ◌&&◌, ◌||◌, ◌+◌, ℕ, Bool, true, false, List, [], ◌∷◌, ◌++◌, map, Option, Some, None, refl, sym, ap, ◌∙◌, arith}
+use Rattle.std.specs.Prelude.{if◌then◌else◌}
+use Rattle.std.specs.List.{AllByRecursion, list_any}
+use Rattle.std.specs.Ordering.{nat_cmp}
+use Rattle.std.specs.FinMap.{FinMap, entries, get, values}
+use Rattle.std.proofs.lemmas.List.Elements.{recursion_from_All}
+use Rattle.std.proofs.lemmas.List.Sums.{sum_by-append, sum_by-cons}
+use Rattle.atl_tables.specs.Planet.{Planet}
+use Rattle.atl_state.specs.declared.event.Event.{Event}
+use Rattle.atl_state.specs.declared.records.Region.{Region}
+use Rattle.atl_state.specs.declared.records.Unit.{Unit}
+use Rattle.atl_state.specs.State.{State}
+use Rattle.atl_instant.specs.Course.{Course}
+use Rattle.atl_instant.specs.Meaning.{Keeping}
+use Rattle.atl_instant.specs.PhaseOrders.{Task, orders_of, written}
+use Rattle.atl_instant.specs.Staying.{AreNoWorse}
+use Rattle.atl_instant.specs.Unmailed.{starved_in, starved_told}
+use Rattle.atl_instant.specs.declared.written.Arrangement.TheVariants.{ByUnit}
+use Rattle.atl_instant.specs.declared.written.Written.{Written}
+use Rattle.atl_instant.proofs.StructureLaws.{unequal}
+use Rattle.atl_instant.proofs.UnmailedLaws.{HasItsItems, HaveTheirMen, LeavesUnmailed, UnmailedAre, items_of_no_worse, men_changed, men_in_turn, men_stay, none_ordered, whole_leaves}
+use Rattle.atl_market.specs.PotPhase.{PotMeaning, event_of, events_by, given_by, pots_meaning, shared_out}
+use Rattle.atl_market.specs.Recruit.{is_recruit, recruit_keeps, recruit_meaning, recruit_orders, recruiting, recruits_at}
+use Rattle.atl_market.specs.Tax.{tax_keeps, tax_meaning, tax_orders, taxed, taxed_by, taxed_from, taxing}
+use Rattle.atl_market.specs.Unordered.{is_ordered}
+use Rattle.atl_market.specs.Work.{earned, work_keeps, work_meaning, work_orders, worked, worked_by, working}
+use Rattle.atl_market.proofs.OrderedLaws.{unordered_stays}
+use Rattle.atl_market.proofs.PotLaws.{pots_give}
+use Rattle.atl_market.proofs.RecruitLaws.{recruited_others}
+
+-- ---- all phases with pots
+
+module _ (p : PotMeaning) (w : Planet) (c : State) where
+  none_starve : (given : FinMap nat_cmp ℕ) (os : List Written) (n : ℕ) → starved_in (map (event_of p w c given) os) n ≡ 0
+  none_starve given [] n = refl
+  none_starve given (o ∷ os) n =
+      sum_by-cons (λ (e : Event). if e.unit == n then starved_told e.verb e.outcome else 0) (event_of p w c given o) (map (event_of p w c given) os)
+      ∙ ap (λ x. (if o.unit == n then 0 else 0) + x) (none_starve given os n) ∙ nobody (o.unit == n)
+    where
+      nobody : (b : Bool) → (if b then 0 else 0) + 0 ≡ 0
+      nobody true = refl
+      nobody false = refl
+
+  -- what is told of the orders tells of nobody who starved
+  told_of_pots : (events : List Event) (os : List Written) (n : ℕ) → starved_in (events ++ events_by p w c os) n ≡ starved_in events n
+  unfolding events_by
+  told_of_pots events os n =
+      sum_by-append (λ (e : Event). if e.unit == n then starved_told e.verb e.outcome else 0) events (map (event_of p w c (given_by p w c os)) os)
+      ∙ ap (λ x. starved_in events n + x) (none_starve (given_by p w c os) os n) ∙ plus_none (starved_in events n)
+    where
+      plus_none : (x : ℕ) → x + 0 ≡ x
+      plus_none x = omega arith
+
+-- a phase whose payments keep the men
+pub pots_leave : (p : PotMeaning) (orders : State → Course → List Written) {keeps : Keeping} → ((w : Planet) (c : State) (e : ℕ × ℕ) → HaveTheirMen c (p.paid w c e))
+    → ((w : Planet) (c d : State) (m : Course) → keeps w m c d → UnmailedAre HasItsItems m c d) → LeavesUnmailed (pots_meaning p orders) keeps
+unfolding shared_out
+pots_leave p orders {keeps} paid items =
+    whole_leaves {meaning = pots_meaning p orders} {keeps = keeps}
+    (λ w c m. refl)
+    (λ w c m n. told_of_pots p w c m.events (orders c m) n)
+    (λ w c m h n u there none. men_in_turn (p.paid w) (paid w) c (entries (given_by p w c (orders c m))) n u there)
+    (λ w c m h. items w c (pots_meaning p orders w c m).0 m h)
+
+-- a phase that takes nothing from any unit
+pub none_worse : (w : Planet) (c d : State) (m : Course) → AreNoWorse c d → UnmailedAre HasItsItems m c d
+none_worse w c d m h n u there none = let (v, behind, better) = h n u there in record { unit = v; there = behind; spared = items_of_no_worse u v better }
+
+-- ---- TAX
+
+tax_men : (w : Planet) (c : State) (e : ℕ × ℕ) → HaveTheirMen c (taxed c e)
+unfolding taxed
+tax_men w c e = by_unit (get c.units e.0)
+  where
+    by_region : (u : Unit) (o : Option Region) → HaveTheirMen c (taxed_from c e u o)
+    by_region u None = men_stay c
+    by_region u (Some q) = men_changed (λ v. record v { holding = record v.holding { money = u.holding.money + e.1 } }) (λ v. record { faction = refl; men = refl }) c (taxed_from c e u (Some q)) e.0 refl
+
+    by_unit : (o : Option Unit) → HaveTheirMen c (taxed_by c e o)
+    by_unit None = men_stay c
+    by_unit (Some u) = by_region u (get c.regions u.region)
+
+pub tax_leaves : LeavesUnmailed tax_meaning tax_keeps
+tax_leaves = pots_leave taxing tax_orders tax_men none_worse
+
+-- ---- WORK
+
+work_men : (w : Planet) (c : State) (e : ℕ × ℕ) → HaveTheirMen c (worked w c e)
+unfolding worked
+work_men w c e = by_unit (get c.units e.0)
+  where
+    by_unit : (o : Option Unit) → HaveTheirMen c (worked_by w c e o)
+    by_unit None = men_stay c
+    by_unit (Some u) = men_changed (λ v. record v { holding = record v.holding { money = u.holding.money + earned w u.region e.1 } }) (λ v. record { faction = refl; men = refl }) c (worked_by w c e (Some u)) e.0 refl
+
+pub work_leaves : LeavesUnmailed work_meaning work_keeps
+work_leaves = pots_leave working work_orders work_men none_worse
+
+-- ---- RECRUIT
+
+none_listed : (n f : ℕ) (ts : List Task) → AllByRecursion (λ t. t.faction ≢ f) ts → list_any (λ o. o.unit == n && o.faction == f) (map written ts) ≡ false
+none_listed n f [] h = refl
+none_listed n f (t ∷ ts) h = neither (t.unit == n) (t.faction == f) _ (unequal t.faction f h.0) (none_listed n f ts h.1)
+  where
+    neither : (a b d : Bool) → b ≡ false → d ≡ false → (a && b || d) ≡ false
+    neither true b d e g = rw (e, g) refl
+    neither false b d e g = g
+
+-- a unit of a faction that sent no mailing has no order
+unordered : (m : Course) (n : ℕ) (u : Unit) → get m.readings u.faction ≡ None → is_ordered (recruit_orders m) n u ≡ false
+unordered m n u none =
+    let ts = values (orders_of is_recruit ByUnit m.aliases m.readings) in
+    none_listed n u.faction ts (recursion_from_All (λ t. t.faction ≢ u.faction) ts (none_ordered is_recruit ByUnit m u.faction none))
+
+pub recruit_leaves : LeavesUnmailed recruit_meaning recruit_keeps
+recruit_leaves =
+    whole_leaves {meaning = recruit_meaning} {keeps = recruit_keeps}
+    (λ w c m. refl)
+    (λ w c m n. told_of_pots (recruiting m.readings) w c m.events (recruit_orders m) n)
+    (λ w c m h n u there none.
+    record {
+      unit = u;
+      there = unordered_stays (recruiting m.readings) w (recruited_others w) c (pots_give (recruits_at w c) c) (recruit_orders m) n u there (unordered m n u none) ∙ there;
+      spared = record { faction = refl; men = refl };
+    })
+    (λ w c m h n u there none.
+    let (v, behind, better) = h n u there (unordered m n u none) in
+    record { unit = v; there = behind; spared = items_of_no_worse u v better })
