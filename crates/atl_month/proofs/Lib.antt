@@ -9,3 +9,4 @@ pub mod MonthLaws
 pub mod SettlingLaws
 pub mod UpkeepLaws
 pub mod AloneLaws
+pub mod UnmailedMonthLaws

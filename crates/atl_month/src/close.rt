@@ -10,6 +10,7 @@ ghost use Rattle.atl_instant.specs.Fit.{AreFit};
 ghost use Rattle.atl_instant.specs.Meaning.{LeavesWell};
 ghost use Rattle.atl_month.specs.Month.{MonthHasNoOrder, begun, finished, month_of, month_phases};
 ghost use Rattle.atl_month.specs.Swept.{IsSwept};
+ghost use Rattle.atl_month.specs.Unmailed.{UnmailedAreLeft};
 
 use crate::season::SeasonPhase;
 use crate::sweep::SweepPhase;
@@ -50,7 +51,8 @@ fn run_phases(
 
 /// Closes a month: runs its phases over a good campaign, with the mailings of its factions and one word of the dice for each
 /// region, and gives the campaign behind them and what came of the orders. The month isn't counted and the mail is still there:
-/// with these done the campaign is good again. AllocError without memory; the campaign is then given up. See
+/// with these done the campaign is good again. A unit whose faction sent no mailing is behind it with its name, no less of any
+/// item, and all its men but for those of whom its Starved event tells; it is gone only where all starved. AllocError without memory; the campaign is then given up. See
 /// docs/RULES.md, "Closing a month".
 pub fn close_month(
     alloc: Global,
@@ -67,6 +69,7 @@ pub fn close_month(
     ensures definition { IfOk result (λ r. (r.0.what, r.1.items) ≡ month_of world.now campaign.what (by_faction (map reading_of mailings.items)) words.now) }
     ensures good { IfOk result (λ r. IsGood world.now (finished r.0.what)) }
     ensures keeps { IfOk result (λ r. month_phases.keeps world.now (begun (by_faction (map reading_of mailings.items)) words.now) campaign.what r.0.what) }
+    ensures unmailed { IfOk result (λ r. UnmailedAreLeft mailings.items r.1.items campaign.what r.0.what) }
     ensures marks { IfOk result (λ r. MarksChanges campaign r.0) }
 {
     let month = Month::new(alloc, mailings, words.to_vec(alloc)?);

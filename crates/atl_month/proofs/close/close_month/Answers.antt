@@ -7,6 +7,7 @@ use Rattle.atl_month.specs.Month.{begun, month_phases}
 use Rattle.atl_month.proofs.MonthLaws.{finished_good, month_is}
 use Rattle.atl_instant.proofs.FitLaws.{read_fit}
 use Rattle.atl_month.proofs.MoveLaws.{phases_little}
+use Rattle.atl_month.proofs.UnmailedMonthLaws.{unmailed_left}
 use Rattle.atl_month.proofs.close.close_month.Goals as goal
 
 pub returns-clause-good : goal.returns-clause-good
@@ -29,3 +30,7 @@ returns-clause-definition c =
     let is : c.new-month.result ≡ begun (by_faction (map reading_of c.args.mailings.items)) c.args.words.now = search rules in
     month_is c.args.world.now c.args.campaign.what c.in_ok-campaign.campaign.what c.new-month.result c.in_ok-campaign.month (by_faction (map reading_of c.args.mailings.items)) c.args.words.now c.into_events.result.items
     c.in_ok-campaign.ensures.meaning is c.into_events.ensures
+
+pub returns-clause-unmailed : goal.returns-clause-unmailed
+returns-clause-unmailed c =
+    unmailed_left c.args.world.now c.args.campaign.what c.in_ok-campaign.campaign.what c.args.mailings.items c.args.words.now c.into_events.result.items (returns-clause-definition c) (returns-clause-keeps c)
