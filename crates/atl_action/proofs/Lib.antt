@@ -3,3 +3,7 @@ pub mod PeopleLaws
 pub mod WalkLaws
 pub mod SailLaws
 pub mod UnmailedTravelLaws
+pub mod FoundLaws
+pub mod TeachLaws
+pub mod OnceLaws
+pub mod StudyLaws

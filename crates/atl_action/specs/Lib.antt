@@ -1,3 +1,6 @@
 pub mod Ways
 pub mod Walk
 pub mod Sail
+pub mod Learners
+pub mod Teach
+pub mod Study

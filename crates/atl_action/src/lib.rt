@@ -1,9 +1,15 @@
 //! Travel and learning: units walk, ships sail, and people teach and study.
 #![tactic(auto)]
 
+mod learn;
+mod learners;
 mod sail;
+mod study;
+mod teach;
 mod walk;
 mod ways;
 
+pub use learn::LearnPhase;
 pub use sail::SailPhase;
+pub use teach::nobody_is_taught_twice;
 pub use walk::MovePhase;

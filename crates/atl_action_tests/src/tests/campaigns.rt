@@ -264,7 +264,7 @@ fn tell_structures(alloc: Global, campaign: &Campaign, told: &mut String) -> Res
     Ok(())
 }
 
-fn tell_event(alloc: Global, event: &Event, told: &mut String) -> Result<(), Fail> {
+pub(crate) fn tell_event(alloc: Global, event: &Event, told: &mut String) -> Result<(), Fail> {
     let (word, number) = match event.outcome {
         Outcome::Done(number) => ("done", number),
         Outcome::Fault(fault) => ("fault", u64::from(fault)),

@@ -1,0 +1,211 @@
+-- STUDY leaves a campaign well, and every unit without an order of it as it is.
+use Rattle.std.proofs.Common.{◌≡◌, ◌≢◌, ◌==◌, ℕ, ◌+◌, ◌-◌, ◌*◌, ◌≤◌, ◌<◌, Bool, true, false, cond, [], ◌∷◌, length, Option, Some, None, refl, sym, ap, ◌∙◌, arith}
+use Rattle.std.specs.Prelude.{ℤ, pos, neg_ℤ, ◌+ℤ◌, nat_lt, if◌then◌else◌}
+use Rattle.std.specs.FinMap.{get}
+use Rattle.std.proofs.lemmas.Int.{ints}
+use Rattle.std.proofs.lemmas.Bool.Decides.{nat_tests}
+use Rattle.atl_tables.specs.Planet.{Planet}
+use Rattle.atl_tables.specs.Sums.{sum_over}
+use Rattle.atl_tables.proofs.SumLaws.{sum_over-insert_known}
+use Rattle.atl_orders.specs.Bounds.{IsOrderOf}
+use Rattle.atl_orders.specs.declared.order.Order.TheVariants as orders
+use Rattle.atl_orders.specs.Orders.{Said}
+use Rattle.atl_state.specs.Books.{IsGrid, amount_in, thing_place}
+use Rattle.atl_state.specs.Covers.{MarksChanges}
+use Rattle.atl_state.specs.declared.books.Entry.{Entry}
+use Rattle.atl_state.specs.declared.books.Entry.TheVariants.{Lost, Study}
+use Rattle.atl_state.specs.declared.books.Thing.{Thing}
+use Rattle.atl_state.specs.declared.books.Thing.TheVariants.{Item, Money, People}
+use Rattle.atl_state.specs.declared.event.EventFault.{EventFault}
+use Rattle.atl_state.specs.declared.event.EventFault.TheVariants.{NoFee, NoMen}
+use Rattle.atl_state.specs.declared.event.Outcome.TheVariants.{Done}
+use Rattle.atl_state.specs.declared.records.Unit.{Unit}
+use Rattle.atl_state.specs.Founding.{things_of}
+use Rattle.atl_state.specs.Good.{IsSteady}
+use Rattle.atl_state.specs.Held.{Held, amount_of}
+use Rattle.atl_state.specs.Lending.{lent, with_held}
+use Rattle.atl_state.specs.Limits.{most_days}
+use Rattle.atl_state.specs.Marking.{mark_amount}
+use Rattle.atl_state.specs.Marks.{amount_number}
+use Rattle.atl_state.specs.State.{Marked, State, with_amount}
+use Rattle.atl_state.specs.Totals.{Balances, held, total}
+use Rattle.atl_state.proofs.BookLaws.{booked-with_booked}
+use Rattle.atl_state.proofs.CoverLaws.{marks-amount, marks-trans}
+use Rattle.atl_state.proofs.EveryLaws.{get-insert_other}
+use Rattle.atl_state.proofs.HavingLaws.{may_have}
+use Rattle.atl_state.proofs.HoldingLaws.{MayHold, steady-held, total-held}
+use Rattle.atl_state.proofs.RegionLaws.{steady-amount, total-amount}
+use Rattle.atl_instant.specs.Meaning.{HasRoom, HaveRoom, IsNear, moves_only}
+use Rattle.atl_instant.specs.Outcomes.{unless}
+use Rattle.atl_instant.specs.Steps.{IsDrawn, IsOrderly, IsOwnOrder, IsSparing, StepsWell}
+use Rattle.atl_instant.proofs.AmountsLaws.{every_amount}
+use Rattle.atl_instant.proofs.BookingLaws.{booked-near, within-neg}
+use Rattle.atl_instant.proofs.MarkLaws.{marks_by}
+use Rattle.atl_instant.proofs.MovingLaws.{lent_marks}
+use Rattle.atl_instant.proofs.OutcomeLaws.{none_fits, not_less}
+use Rattle.atl_instant.proofs.QuitLaws.{quit_orderly}
+use Rattle.atl_instant.proofs.StepLaws.{well_same}
+use Rattle.atl_instant.proofs.UnbookedLaws.{other_unit}
+use Rattle.atl_action.specs.Learners.{fee_of}
+use Rattle.atl_action.specs.Study.{IsUnchanged, days_after, is_helpful, studied, study, study_by, study_fault, study_moves, study_reserve, study_said, study_step, with_study}
+use Rattle.atl_action.specs.Teach.{Taught}
+
+drawn_near : (x reserve left : ℕ) (a b : ℤ) → left + x ≡ reserve → IsNear x a b → IsDrawn reserve left a b
+drawn_near x reserve left a b e near = record { above = omega (arith, ints, e, near.above); below = omega (arith, ints, e, near.below) }
+
+-- ---- what is marked
+
+-- a unit whose holding was lent, and an amount that is booked
+pub paid_marks : (things : ℕ) (a b d : Marked) (n : ℕ) (h : Held) (z : ℤ) → IsGrid things b.what.books → 0 < things → b ≡ lent a n h → d.what ≡ with_amount b.what Study Money z → d.marks ≡ mark_amount b Study Money → MarksChanges a d
+paid_marks things a b d n h z grid some first what marks =
+    marks-trans a b d (lent_marks a b n h first)
+    (marks_by b d (record { what = with_amount b.what Study Money z; marks = mark_amount b Study Money }) what marks (marks-amount things b Study Money z grid some))
+
+-- ---- a unit that pays, and reaches so many days
+
+module _ (w : Planet) (c : State) (n : ℕ) (u : Unit) (s cost days : ℕ) (is : get c.units n ≡ Some u) (steady : IsSteady w c) (payable : cost ≤ u.holding.money) where
+  abbrev learned : Held
+  learned = with_study u.holding s cost days
+
+  abbrev paid : State
+  paid = with_held c n learned (Some u)
+
+  abbrev behind : State
+  behind = studied c n u s cost days
+
+  may : s < length w.skills → days ≤ most_days * u.holding.men → MayHold w u learned
+  may known most =
+      let old = may_have w c n u is steady in
+      record {
+        limits = record { men = old.limits.men; money = omega (arith, old.limits.money); items = old.limits.items };
+        name = old.name;
+        items = old.items;
+        skills = every_amount (λ t d. t < length w.skills) u.holding.days s days (λ some. known) old.skills;
+        days = every_amount (λ t d. (1 ≤ d) × (d ≤ most_days * u.holding.men)) u.holding.days s days (λ some. (some, most)) old.days;
+        guard = λ g. g;
+      }
+
+  steady_behind : s < length w.skills → days ≤ most_days * u.holding.men → IsSteady w behind
+  steady_behind known most = steady-amount w paid Study Money (neg_ℤ (pos cost)) (steady-held w c n u learned is (may known most) steady)
+
+  -- what is booked is what all have less
+  owed : (t : Thing) (a b : ℕ) → a + held t u.holding ≡ b + held t learned → pos a ≡ pos b +ℤ cond (thing_place t == 0) (neg_ℤ (pos cost)) (pos 0)
+  owed Money a b e = omega (arith, ints, e, payable)
+  owed People a b e = omega (arith, ints, e)
+  owed (Item i) a b e = nothing (2 + i == 0) (let other : (2 + i == 0) ≡ false = grind (arith, nat_tests) in other)
+    where
+      nothing : (q : Bool) → q ≡ false → pos a ≡ pos b +ℤ cond q (neg_ℤ (pos cost)) (pos 0)
+      nothing true off = cc
+      nothing false off = omega (arith, ints, e)
+
+  balanced : Balances c → Balances behind
+  balanced old t =
+      let sum : total behind t + held t u.holding ≡ total c t + held t learned =
+      ap (λ k. k + held t u.holding) (total-amount paid Study Money t (neg_ℤ (pos cost))) ∙ total-held w c n u learned is t in
+      owed t (total behind t) (total c t) sum ∙ ap (λ z. z +ℤ cond (thing_place t == 0) (neg_ℤ (pos cost)) (pos 0)) (old t)
+      ∙ sym (booked-with_booked (things_of w) c.books Study Money (neg_ℤ (pos cost)) steady.numbers.books (omega arith) t)
+
+  -- the money of all units is less by what is paid
+  less : sum_over (λ (x : Unit). x.holding.money) behind.units + cost ≡ sum_over (λ (x : Unit). x.holding.money) c.units
+  less =
+      let money = λ (x : Unit). x.holding.money in
+      sum (sum_over money behind.units) (sum_over money c.units) u.holding.money (sum_over-insert_known money c.units n u (record u { holding = learned }) is) payable
+    where
+      sum : (a b m : ℕ) → a + m ≡ b + (m - cost) → cost ≤ m → a + cost ≡ b
+      sum a b m e l = omega (arith, e, l)
+
+  -- there is room for what is paid
+  pub cost_room : HaveRoom (study_reserve c) c → HasRoom cost (amount_in c.books Study Money)
+  cost_room room =
+      let all : HasRoom (sum_over (λ (x : Unit). x.holding.money) c.units) (amount_in c.books Study Money) = room Study Money in
+      record { above = omega (arith, ints, all.above, less); below = omega (arith, ints, all.below, less) }
+
+  drawn : (e : Entry) (t : Thing) → IsDrawn (study_reserve c e t) (study_reserve behind e t) (amount_in c.books e t) (amount_in behind.books e t)
+  drawn e t =
+      drawn_near (moves_only cost Study Money e t) (study_reserve c e t) (study_reserve behind e t) (amount_in c.books e t) (amount_in behind.books e t)
+      (by_amount (amount_number e t == amount_number Study Money) _ _ less)
+      (booked-near (things_of w) c.books Study Money (neg_ℤ (pos cost)) cost steady.numbers.books (omega arith) (within-neg cost cost (omega arith)) e t)
+    where
+      by_amount : (q : Bool) (a b : ℕ) → a + cost ≡ b → (if q then a else 0) + (if q then cost else 0) ≡ (if q then b else 0)
+      by_amount true a b e = e
+      by_amount false a b e = omega arith
+
+  studied_well : s < length w.skills → days ≤ most_days * u.holding.men → StepsWell IsSteady study_reserve w c behind
+  studied_well known most = record {
+    holds_still = steady_behind known most;
+    same_month = record { month = refl; reports = refl; count = refl; factions = λ k there. there };
+    balances = balanced;
+    drawn = drawn;
+  }
+
+-- ---- an order
+
+-- no more than 450 days for each man
+pub days_most : (men old taught : ℕ) (helped : Bool) → days_after men old taught helped ≤ most_days * men
+days_most men old taught helped = omega arith
+
+-- who has no fault can pay
+pub payable_fee : (h : Held) (cost : ℕ) → study_fault h cost ≡ None → cost ≤ h.money
+payable_fee h cost e =
+    let poor = (nat_lt h.money cost, NoFee) ∷ [] in
+    let one = none_fits (h.men == 0) NoMen poor e in
+    let two = none_fits (nat_lt h.money cost) NoFee [] one.1 in
+    not_less h.money cost two.0
+
+-- what is so of the campaign as it is, and of that in which the unit studied, is so of the campaign behind the order
+study_cases : (P : State → Type 0) (w : Planet) (taught : ℕ) (c : State) (n s : ℕ) → P c
+    → ((u : Unit) (days : ℕ) → get c.units n ≡ Some u → fee_of w s * u.holding.men ≤ u.holding.money → days ≤ most_days * u.holding.men → P (studied c n u s (fee_of w s * u.holding.men) days))
+    → P (study w taught c n s).0
+unfolding study
+study_cases P w taught c n s same learned = by_unit (get c.units n) refl
+  where
+    by_fault : (u : Unit) (days done : ℕ) → get c.units n ≡ Some u → days ≤ most_days * u.holding.men → (o : Option EventFault) → study_fault u.holding (fee_of w s * u.holding.men) ≡ o
+        → P (unless c o (studied c n u s (fee_of w s * u.holding.men) days, Done done)).0
+    by_fault u days done is most (Some fault) e = same
+    by_fault u days done is most None e = learned u days is (payable_fee u.holding (fee_of w s * u.holding.men) e) most
+
+    by_unit : (o : Option Unit) → get c.units n ≡ o → P (study_by w taught c n s o).0
+    by_unit None is = same
+    by_unit (Some u) is =
+        let old = amount_of u.holding.days s in
+        let helped = is_helpful w s (get c.structures u.structure) in
+        by_fault u (days_after u.holding.men old taught helped) (days_after u.holding.men old taught helped - old) is (days_most u.holding.men old taught helped) (study_fault u.holding (fee_of w s * u.holding.men)) refl
+
+study_well : (w : Planet) (taught : ℕ) (c : State) (n s : ℕ) → IsSteady w c → s < length w.skills → StepsWell IsSteady study_reserve w c (study w taught c n s).0
+study_well w taught c n s steady known =
+    study_cases (λ d. StepsWell IsSteady study_reserve w c d) w taught c n s (well_same w c steady)
+    (λ u days is payable most. studied_well w c n u s (fee_of w s * u.holding.men) days is steady payable known most)
+
+study_stays : (w : Planet) (taught : ℕ) (c : State) (n s k : ℕ) → k ≢ n → get (study w taught c n s).0.units k ≡ get c.units k
+study_stays w taught c n s k apart =
+    study_cases (λ d. get d.units k ≡ get c.units k) w taught c n s refl
+    (λ u days is payable most. get-insert_other c.units n k (record u { holding = with_study u.holding s (fee_of w s * u.holding.men) days }) apart)
+
+-- ---- the phase
+
+unchanged : IsSparing IsUnchanged
+unchanged = record { same = λ u. refl; again = λ u v x one two. two ∙ one; faction = λ u v same. ap (λ (x : Unit). x.faction) same }
+
+-- the money of all units is no more than could be lost by QUIT
+money_most : (w : Planet) (c : State) → IsSteady w c → (e : Entry) (t : Thing) → study_reserve c e t ≤ study_moves e t
+money_most w c steady e t = by_amount (amount_number e t == amount_number Study Money) _ _ (quit_orderly.bounded w c steady Lost Money)
+  where
+    by_amount : (q : Bool) (a b : ℕ) → a ≤ b → (if q then a else 0) ≤ (if q then b else 0)
+    by_amount true a b l = l
+    by_amount false a b l = omega arith
+
+pub study_orderly : (taught : Taught) → IsOrderly (study_step taught) IsSteady study_reserve study_moves IsOwnOrder IsUnchanged
+study_orderly taught = record {
+  well = λ w a c t steady fit own. well w c t.unit steady t.said fit;
+  sparing = unchanged;
+  spared = λ w a c t steady own k v there apart. record { unit = v; there = stays w c t.unit k (other_unit c t k v own there apart) t.said ∙ there; spared = refl };
+  bounded = money_most;
+}
+  where
+    well : (w : Planet) (c : State) (n : ℕ) → IsSteady w c → (s : Said) → IsOrderOf w s → StepsWell IsSteady study_reserve w c (study_said w taught c n s).0
+    well w c n steady (orders.Study s) fit = study_well w (amount_of taught n) c n s steady fit
+    well w c n steady other fit = well_same w c steady
+
+    stays : (w : Planet) (c : State) (n k : ℕ) → k ≢ n → (s : Said) → get (study_said w taught c n s).0.units k ≡ get c.units k
+    stays w c n k apart (orders.Study s) = study_stays w (amount_of taught n) c n s k apart
+    stays w c n k apart other = refl

@@ -1,0 +1,10 @@
+use Rattle.std.proofs.Common.{◌≡◌, drop}
+use Rattle.std.specs.Prelude.{fold}
+use Rattle.std.specs.FinMap.{empty}
+use Rattle.atl_action.specs.Learners.{found_written, with_learner}
+use Rattle.atl_action.proofs.learners.learners.Given as goal
+
+abbrev pub invariant-loop-order : goal.invariant-loop-order
+invariant-loop-order l =
+    fold (found_written (with_learner l.world l.campaign.what) l.month.readings) l.learning (drop l.order-index l.order-items)
+    ≡ fold (found_written (with_learner l.world l.campaign.what) l.month.readings) empty l.order-items

@@ -1,0 +1,67 @@
+-- Who is learning, as the phase begins. See docs/RULES.md, "Learning".
+use Rattle.std.specs.Prelude.{◌*◌, ◌==◌, ◌&&◌, ℕ, nat_le, nat_lt, Bool, true, false, fold, Option, Some, None, if◌then◌else◌}
+use Rattle.std.specs.List.{slice_get}
+use Rattle.std.specs.Option.{option_map_or}
+use Rattle.std.specs.Ordering.{nat_cmp}
+use Rattle.std.specs.FinMap.{FinMap, empty, get, insert, values}
+use Rattle.atl_tables.specs.Planet.{Planet}
+use Rattle.atl_orders.specs.declared.order.Order.TheVariants as orders
+use Rattle.atl_orders.specs.declared.verb.Verb.{Verb}
+use Rattle.atl_orders.specs.declared.verb.Verb.TheVariants as verbs
+use Rattle.atl_orders.specs.Mailing.{Reading}
+use Rattle.atl_orders.specs.Orders.{Said}
+use Rattle.atl_state.specs.declared.records.Unit.{Unit}
+use Rattle.atl_state.specs.Held.{Held}
+use Rattle.atl_state.specs.State.{State}
+use Rattle.atl_instant.specs.Carrying.{task_of}
+use Rattle.atl_instant.specs.Course.{Course, order_at}
+use Rattle.atl_instant.specs.PhaseOrders.{Task, orders_of}
+use Rattle.atl_instant.specs.declared.written.Arrangement.TheVariants.{ByUnit}
+use Rattle.atl_instant.specs.declared.written.Written.{Written}
+
+abbrev pub is_studying : Verb → Bool
+is_studying verbs.Study = true
+is_studying verb = false
+
+-- the skill that an order has its unit study
+abbrev pub skill_of : Said → Option ℕ
+skill_of (orders.Study s) = Some s
+skill_of order = None
+
+-- what a man pays for a month of study
+abbrev pub fee_of : Planet → (skill : ℕ) → ℕ
+fee_of w s = option_map_or (λ k. k.fee) (slice_get w.skills s) 0
+
+-- people who can pay for it
+abbrev pub can_learn : Planet → (skill : ℕ) → Held → Bool
+can_learn w s h = nat_lt 0 h.men && nat_le (fee_of w s * h.men) h.money
+
+-- a unit of the faction that gives the order
+abbrev pub learns : Planet → (skill faction : ℕ) → Option Unit → Bool
+learns w s f None = false
+learns w s f (Some u) = u.faction == f && can_learn w s u.holding
+
+-- the skill that each unit is learning, by the units' numbers
+abbrev pub Learning : Type 0
+Learning = FinMap nat_cmp ℕ
+
+abbrev pub with_skill : Planet → State → Learning → Task → Option ℕ → Learning
+with_skill w c learning t None = learning
+with_skill w c learning t (Some s) = if learns w s t.faction (get c.units t.unit) then insert learning t.unit s else learning
+
+-- what a STUDY order that stands adds
+abbrev pub with_learner : Planet → State → Learning → Task → Learning
+with_learner w c learning t = with_skill w c learning t (skill_of t.said)
+
+-- At most one order of STUDY stands for a unit in the mailing of its own faction.
+unfoldable pub learners : Planet → State → Course → Learning
+learners w c m = fold (with_learner w c) empty (values (orders_of is_studying ByUnit m.aliases m.readings))
+
+-- ---- for proofs alone: how the code finds what an order says
+
+abbrev pub found_said : {A : Type 0} → (A → Task → A) → A → Written → Option Said → A
+found_said f a o None = a
+found_said f a o (Some s) = f a (task_of o s)
+
+abbrev pub found_written : {A : Type 0} → (A → Task → A) → FinMap nat_cmp Reading → A → Written → A
+found_written f readings a o = found_said f a o (order_at readings o.faction o.place)

@@ -1,0 +1,108 @@
+-- STUDY, behind TEACH. See docs/RULES.md, "Learning".
+use Rattle.std.specs.Prelude.{◌≡◌, ◌+◌, ◌-◌, ◌*◌, ◌==◌, ◌&&◌, ℕ, pos, neg_ℤ, min, nat_lt, Bool, true, false, [], ◌∷◌, Option, Some, None, if◌then◌else◌}
+use Rattle.std.specs.List.{slice_get}
+use Rattle.std.specs.Option.{option_map_or}
+use Rattle.std.specs.FinMap.{get}
+use Rattle.atl_tables.specs.Planet.{Planet}
+use Rattle.atl_tables.specs.Sums.{sum_over}
+use Rattle.atl_orders.specs.declared.order.Order.TheVariants as orders
+use Rattle.atl_orders.specs.Orders.{Said}
+use Rattle.atl_state.specs.declared.books.Entry.TheVariants.{Study}
+use Rattle.atl_state.specs.declared.books.Thing.TheVariants.{Money}
+use Rattle.atl_state.specs.declared.event.EventFault.{EventFault}
+use Rattle.atl_state.specs.declared.event.EventFault.TheVariants.{NoFee, NoMen, NotYours}
+use Rattle.atl_state.specs.declared.event.Outcome.{Outcome}
+use Rattle.atl_state.specs.declared.event.Outcome.TheVariants.{Done}
+use Rattle.atl_state.specs.declared.records.Structure.{Structure}
+use Rattle.atl_state.specs.declared.records.Unit.{Unit}
+use Rattle.atl_state.specs.Good.{size_of}
+use Rattle.atl_state.specs.Held.{Held, amount_of, with_amount_of}
+use Rattle.atl_state.specs.Lending.{with_held}
+use Rattle.atl_state.specs.Limits.{most_days}
+use Rattle.atl_state.specs.State.{State, with_amount}
+use Rattle.atl_instant.specs.Meaning.{Keeping, Meaning, Moving, most_moved, moves_only}
+use Rattle.atl_instant.specs.Outcomes.{first_fault, unless}
+use Rattle.atl_instant.specs.Steps.{IsOwnOrder, Reserve, Sparing, Step, carried_out, spares_others}
+use Rattle.atl_action.specs.Learners.{fee_of, is_studying, learners}
+use Rattle.atl_action.specs.Teach.{Taught, taught_out}
+
+abbrev pub takes_study : Said → Bool
+takes_study order = true
+
+-- ---- days
+
+-- whether a kind of structure helps a skill
+abbrev pub is_skill : (skill : ℕ) → Option ℕ → Bool
+is_skill s None = false
+is_skill s (Some helps) = helps == s
+
+-- a complete structure whose kind helps
+abbrev pub is_helpful : Planet → (skill : ℕ) → Option Structure → Bool
+is_helpful w s None = false
+is_helpful w s (Some b) = b.done == size_of w b.kind && option_map_or (λ k. is_skill s k.helps) (slice_get w.kinds b.kind) false
+
+-- the days of so many men behind a month of study, of whom so many were taught
+abbrev pub days_after : (men old taught : ℕ) → (helped : Bool) → ℕ
+days_after men old taught helped = min (old + 30 * men + 30 * taught + (if helped then 10 * men else 0)) (most_days * men)
+
+-- ---- STUDY, of a unit of which so many men were taught
+
+-- NoMen, NoFee
+abbrev pub study_fault : Held → (cost : ℕ) → Option EventFault
+study_fault h cost = first_fault ((h.men == 0, NoMen) ∷ (nat_lt h.money cost, NoFee) ∷ [])
+
+-- the fee is paid, and so many days are reached
+abbrev pub with_study : Held → (skill cost days : ℕ) → Held
+with_study h s cost days = record h { money = h.money - cost; days = with_amount_of h.days s days }
+
+-- what is paid is booked
+abbrev pub studied : State → (n : ℕ) → Unit → (skill cost days : ℕ) → State
+studied c n u s cost days = with_amount (with_held c n (with_study u.holding s cost days) (Some u)) Study Money (neg_ℤ (pos cost))
+
+abbrev pub study_with : Planet → (taught : ℕ) → State → (n skill : ℕ) → Unit → State × Outcome
+study_with w taught c n s u =
+    let cost = fee_of w s * u.holding.men in
+    let old = amount_of u.holding.days s in
+    let days = days_after u.holding.men old taught (is_helpful w s (get c.structures u.structure)) in
+    unless c (study_fault u.holding cost) (studied c n u s cost days, Done (days - old))
+
+-- a unit that isn't there doesn't study
+abbrev pub study_by : Planet → (taught : ℕ) → State → (n skill : ℕ) → Option Unit → State × Outcome
+study_by w taught c n s None = unless c (Some NotYours) (c, Done 0)
+study_by w taught c n s (Some u) = study_with w taught c n s u
+
+unfoldable pub study : Planet → (taught : ℕ) → State → (n skill : ℕ) → State × Outcome
+study w taught c n s = study_by w taught c n s (get c.units n)
+
+abbrev pub study_said : Planet → Taught → State → (n : ℕ) → Said → State × Outcome
+study_said w taught c n (orders.Study s) = study w (amount_of taught n) c n s
+study_said w taught c n other = (c, Done 0)
+
+-- what an order of a unit's own faction makes of a campaign, where so many were taught
+abbrev pub study_step : Taught → Step
+study_step taught w aliases c t = study_said w taught c t.unit t.said
+
+-- ---- the phase
+
+-- all teach, and then all study
+abbrev pub learn_meaning : Meaning
+learn_meaning w c m =
+    let lessons = taught_out c (learners w c m) m in
+    carried_out (study_step lessons.0) takes_study is_studying w c lessons.1
+
+-- it stays as it is
+abbrev pub IsUnchanged : Sparing
+IsUnchanged before after = after ≡ before
+
+-- a unit for which its own faction wrote no order of STUDY
+abbrev pub learn_keeps : Keeping
+learn_keeps = spares_others IsOwnOrder IsUnchanged is_studying
+
+-- ---- how far it moves the books
+
+-- no more than the money of all units is spent
+abbrev pub study_reserve : Reserve
+study_reserve c = moves_only (sum_over (λ u. u.holding.money) c.units) Study Money
+
+abbrev pub study_moves : Moving
+study_moves = moves_only most_moved Study Money

@@ -1,0 +1,41 @@
+//! TEACH and STUDY.
+ghost use Rattle.atl_state.specs.Good.{IsSteady};
+ghost use Rattle.atl_action.specs.Study.{learn_keeps, learn_meaning, study_moves};
+
+use crate::learners::learners;
+use crate::study::Studying;
+use crate::teach::teach_all;
+use atl_instant::{Month, Phase, carry_out_orders};
+use atl_state::Campaign;
+use atl_tables::World;
+use std::alloc::{AllocError, Global};
+
+/// People study skills for a fee, and others teach them. All teach before anybody studies. See docs/RULES.md, "Learning".
+#[derive(Drop, Clone, Copy)]
+pub struct LearnPhase;
+
+impl Phase for LearnPhase {
+    ghost meaning = { learn_meaning };
+
+    ghost needs = { IsSteady };
+
+    ghost leaves = { IsSteady };
+
+    ghost moving = { study_moves };
+
+    ghost keeps = { learn_keeps };
+
+    fn run(
+        &self,
+        alloc: Global,
+        world: &World,
+        mut campaign: Campaign,
+        mut month: Month,
+    ) -> Result<(Campaign, Month), AllocError> {
+        let learning = learners(alloc, world, &campaign, &month)?;
+        let taught = teach_all(alloc, &campaign, &mut month, &learning)?;
+        let studying = Studying { taught };
+        carry_out_orders(alloc, &studying, world, &mut campaign, &mut month)?;
+        Ok((campaign, month))
+    }
+}

@@ -1,0 +1,119 @@
+//! Who is learning, as the phase of TEACH and STUDY begins.
+ghost use Rattle.std.specs.Prelude.{◌≡◌, ◌*◌, IfOk, List, OnOk, ℕ};
+ghost use Rattle.std.specs.FinMap as map;
+ghost use Rattle.atl_orders.specs.Orders.{Said, said};
+ghost use Rattle.atl_instant.specs.Carrying.{task_of};
+ghost use Rattle.atl_action.specs.Learners.{can_learn, fee_of, found_written, is_studying, learners, learns, skill_of, with_learner, with_skill};
+
+use atl_instant::{Arrangement, Month, PhaseVerbs, Written};
+use atl_orders::{Order, Verb};
+use atl_state::{Campaign, Holding};
+use atl_tables::{Numbered, World};
+use std::alloc::{AllocError, Global};
+
+/// The verb of those who learn.
+pub(crate) struct StudyVerbs;
+
+impl PhaseVerbs for StudyVerbs {
+    ghost is_of = { is_studying };
+
+    fn has(&self, verb: Verb) -> bool {
+        matches!(verb, Verb::Study)
+    }
+}
+
+/// The skill that an order has its unit study.
+fn skill_of(what: &Order) -> Option<u16>
+    ensures { (text : List ℕ) → result ≡ skill_of (said text what.now) }
+{
+    match what {
+        Order::Study(skill) => Some(*skill),
+        _ => None,
+    }
+}
+
+/// What a man pays for a month of study.
+fn fee_of(world: &World, skill: u16) -> u32
+    ensures { result ≡ fee_of world.now skill }
+{
+    match world.skills().get(usize::from(skill)) {
+        Some(found) => found.fee,
+        None => 0,
+    }
+}
+
+/// What so many men pay for it.
+pub(crate) fn cost_of(world: &World, skill: u16, men: u32) -> u64
+    ensures { result ≡ fee_of world.now skill * men }
+{
+    u64::from(fee_of(world, skill)) * u64::from(men)
+}
+
+/// Whether people can pay for it.
+fn can_learn(world: &World, skill: u16, holding: &Holding) -> bool
+    ensures { result ≡ can_learn world.now skill holding.now }
+{
+    let men = holding.men();
+    0 < men && cost_of(world, skill, men) <= u64::from(holding.money())
+}
+
+/// Whether a unit that a faction orders to study is its own, and learns.
+fn learns(world: &World, campaign: &Campaign, skill: u16, faction: u32, unit: u32) -> bool
+    ensures { result ≡ learns world.now skill faction (map.get campaign.now.what.units unit) }
+{
+    match campaign.unit(unit) {
+        Some(found) => found.faction == faction && can_learn(world, skill, &found.holding),
+        None => false,
+    }
+}
+
+/// Notes the skill that a unit is ordered to study, if it learns.
+fn add_skill(
+    world: &World,
+    campaign: &Campaign,
+    order: Written,
+    skill: Option<u16>,
+    learning: &mut Numbered<u32>,
+) -> Result<(), AllocError>
+    ensures { OnOk result ((what : Said) → learning.new ≡ with_skill world.now campaign.now.what learning.old (task_of order what) skill) }
+{
+    if let Some(skill) = skill
+        && learns(world, campaign, skill, order.faction, order.unit)
+    {
+        learning.insert(order.unit, u32::from(skill))?;
+    }
+    Ok(())
+}
+
+/// Notes who learns by an order of STUDY.
+fn add_learner(
+    world: &World,
+    campaign: &Campaign,
+    month: &Month,
+    order: Written,
+    learning: &mut Numbered<u32>,
+) -> Result<(), AllocError>
+    ensures { OnOk result (learning.new ≡ found_written (with_learner world.now campaign.now.what) month.now.readings learning.old order) }
+{
+    match month.order(order.faction, order.place) {
+        Some((_, what)) => add_skill(world, campaign, order, skill_of(what), learning),
+        None => Ok(()),
+    }
+}
+
+/// The skill that each unit is learning, by the units' numbers.
+pub(crate) fn learners(
+    alloc: Global,
+    world: &World,
+    campaign: &Campaign,
+    month: &Month,
+) -> Result<Numbered<u32>, AllocError>
+    ensures { IfOk result (λ learning. learning ≡ learners world.now campaign.now.what month.now) }
+{
+    let orders = month.orders(alloc, &StudyVerbs, Arrangement::ByUnit)?;
+    let mut learning = Numbered::new(alloc);
+    for order in &orders {
+        add_learner(world, campaign, month, *order, &mut learning)?;
+    }
+    Ok(learning)
+}

@@ -1,0 +1,214 @@
+//! STUDY, behind TEACH.
+ghost use Rattle.std.specs.Prelude.{◌≡◌, ◌≤◌, ◌*◌, ◌<◌, IfOk, OnOk, Some, length, neg_ℤ, option_copied, pos, ℕ};
+ghost use Rattle.std.specs.List.{slice_get};
+ghost use Rattle.std.specs.FinMap as map;
+ghost use Rattle.atl_state.specs.Books.{IsGrid, amount_in};
+ghost use Rattle.atl_state.specs.Covers.{MarksChanges};
+ghost use Rattle.atl_state.specs.declared.books.Entry.TheVariants.{Study};
+ghost use Rattle.atl_state.specs.declared.books.Thing.TheVariants.{Money};
+ghost use Rattle.atl_state.specs.declared.records.Unit.{Unit};
+ghost use Rattle.atl_state.specs.Founding.{things_of};
+ghost use Rattle.atl_state.specs.Good.{IsSteady};
+ghost use Rattle.atl_state.specs.Held.{with_amount_of};
+ghost use Rattle.atl_state.specs.Lending.{lent};
+ghost use Rattle.atl_state.specs.Marking.{mark_amount};
+ghost use Rattle.atl_state.specs.Limits.{holding_limit, men_limit, most_days};
+ghost use Rattle.atl_state.specs.State.{with_amount};
+ghost use Rattle.atl_instant.specs.Meaning.{HasRoom, HaveRoom};
+ghost use Rattle.atl_instant.specs.Steps.{IsOwnOrder};
+ghost use Rattle.atl_action.specs.Learners.{fee_of, is_studying};
+ghost use Rattle.atl_action.specs.Study.{IsUnchanged, days_after, is_helpful, studied, study, study_fault, study_moves, study_reserve, study_step, takes_study, with_study};
+
+use crate::learners::cost_of;
+use crate::teach::taught_at;
+use atl_instant::{Month, OrderPhase, PhaseVerbs, Written, failed};
+use atl_orders::{Mailing, Order, Verb};
+use atl_state::{
+    Campaign, Entry, EventFault, Holding, MOST_DAYS, Outcome, Structure, Thing, Unit, size_of,
+};
+use atl_tables::{Numbered, World};
+use std::alloc::{AllocError, Global};
+
+/// All who study, with how many men of each unit were taught.
+#[derive(Drop)]
+pub(crate) struct Studying {
+    pub(crate) taught: Numbered<u32>,
+}
+
+/// Whether a structure is complete, and of a kind that helps a skill.
+fn is_helpful(world: &World, skill: u16, structure: Option<&Structure>) -> bool
+    ensures { result ≡ is_helpful world.now skill (option_copied structure.entry) }
+{
+    let Some(building) = structure else {
+        return false;
+    };
+    if building.done != size_of(world, building.kind) {
+        return false;
+    }
+    match world.kinds().get(usize::from(building.kind)) {
+        Some(kind) => match kind.helps {
+            Some(helped) => helped == skill,
+            None => false,
+        },
+        None => false,
+    }
+}
+
+/// The days of so many men behind a month of study, of whom so many were taught.
+fn days_after(men: u32, old: u32, taught: u32, helped: bool) -> u32
+    requires { men ≤ men_limit }
+    ensures { result ≡ days_after men old taught helped }
+{
+    let men = u64::from(men);
+    let help = if helped { 10 * men } else { 0 };
+    let days = u64::from(old) + 30 * men + 30 * u64::from(taught) + help;
+    days.min(u64::from(MOST_DAYS) * men) as u32
+}
+
+/// Why people don't study.
+fn study_fault(holding: &Holding, cost: u64) -> Option<EventFault>
+    ensures { result ≡ study_fault holding.now cost }
+{
+    if holding.men() == 0 {
+        Some(EventFault::NoMen)
+    } else if u64::from(holding.money()) < cost {
+        Some(EventFault::NoFee)
+    } else {
+        None
+    }
+}
+
+/// People pay, and reach so many days of a skill.
+fn learn(holding: &mut Holding, skill: u16, cost: u32, days: u32) -> Result<(), AllocError>
+    requires { cost ≤ holding.old.money }
+    ensures { OnOk result (holding.new ≡ with_study holding.old skill cost days) }
+{
+    let money = holding.money() - cost;
+    holding.set_money(money);
+    holding.set_days(u32::from(skill), days)
+}
+
+/// A unit that is there pays, and reaches so many days of a skill.
+fn learn_at(
+    campaign: &mut Campaign,
+    unit: u32,
+    skill: u16,
+    cost: u32,
+    days: u32,
+) -> Result<(), AllocError>
+    requires { (u : Unit) → map.get campaign.old.what.units unit ≡ Some u → cost ≤ u.holding.money }
+    ensures { OnOk result ((u : Unit) → map.get campaign.old.what.units unit ≡ Some u → campaign.new ≡ lent campaign.old unit (with_study u.holding skill cost days)) }
+{
+    match campaign.unit_mut(unit) {
+        Some(holding) => learn(holding, skill, cost, days),
+        None => Ok(()),
+    }
+}
+
+/// Books what is paid.
+fn book_cost(campaign: &mut Campaign, cost: u32)
+    requires there { 0 < length campaign.old.what.books }
+    requires room { HasRoom cost (amount_in campaign.old.what.books Study Money) }
+    ensures what { campaign.new.what ≡ with_amount campaign.old.what Study Money (neg_ℤ (pos cost)) }
+    ensures marks { campaign.new.marks ≡ mark_amount campaign.old Study Money }
+{
+    campaign.book(Entry::Study, Thing::Money, -i64::from(cost));
+}
+
+/// A unit that is there studies, and what it pays is booked.
+fn put_study(
+    world: &World,
+    campaign: &mut Campaign,
+    unit: u32,
+    skill: u16,
+    cost: u32,
+    days: u32,
+) -> Result<(), AllocError>
+    requires steady { IsSteady world.now campaign.old.what }
+    requires room { HaveRoom (study_reserve campaign.old.what) campaign.old.what }
+    requires payable { (u : Unit) × (map.get campaign.old.what.units unit ≡ Some u) × (cost ≤ u.holding.money) }
+    ensures what { OnOk result ((u : Unit) → map.get campaign.old.what.units unit ≡ Some u → campaign.new.what ≡ studied campaign.old.what unit u skill cost days) }
+    ensures marks { OnOk result (MarksChanges campaign.old campaign.new) }
+{
+    learn_at(campaign, unit, skill, cost, days)?;
+    book_cost(campaign, cost);
+    Ok(())
+}
+
+/// A unit studies a skill.
+#[tactic(auto, unfolding(crate::specs::Study::study))]
+fn study(
+    world: &World,
+    campaign: &mut Campaign,
+    taught: u32,
+    number: u32,
+    skill: u16,
+) -> Result<Outcome, AllocError>
+    requires steady { IsSteady world.now campaign.old.what }
+    requires room { HaveRoom (study_reserve campaign.old.what) campaign.old.what }
+    ensures what { IfOk result (λ outcome. (campaign.new.what, outcome) ≡ study world.now taught campaign.old.what number skill) }
+    ensures marks { OnOk result (MarksChanges campaign.old campaign.new) }
+{
+    let Some(unit) = campaign.unit(number) else {
+        return Ok(failed(EventFault::NotYours));
+    };
+    let men = unit.holding.men();
+    let cost = cost_of(world, skill, men);
+    if let Some(fault) = study_fault(&unit.holding, cost) {
+        return Ok(failed(fault));
+    }
+    let old = unit.holding.days_of(u32::from(skill));
+    let helped = is_helpful(world, skill, campaign.structure(unit.structure));
+    let days = days_after(men, old, taught, helped);
+    put_study(world, campaign, number, skill, cost as u32, days)?;
+    Ok(Outcome::Done(u64::from(days - old)))
+}
+
+impl PhaseVerbs for Studying {
+    ghost is_of = { is_studying };
+
+    fn has(&self, verb: Verb) -> bool {
+        matches!(verb, Verb::Study)
+    }
+}
+
+impl OrderPhase for Studying {
+    ghost step = { λ s. study_step s.taught };
+
+    ghost is_taken = { takes_study };
+
+    ghost holds = { IsSteady };
+
+    ghost reserve = { study_reserve };
+
+    ghost moving = { study_moves };
+
+    ghost concerns = { IsOwnOrder };
+
+    ghost spares = { IsUnchanged };
+
+    fn takes(&self, _: &Order) -> bool {
+        true
+    }
+
+    fn carry_out(
+        &self,
+        _: Global,
+        world: &World,
+        campaign: &mut Campaign,
+        _: &Month,
+        order: Written,
+        _: &Mailing,
+        what: &Order,
+    ) -> Result<Outcome, AllocError> {
+        match what {
+            Order::Study(skill) => {
+                let taught = taught_at(&self.taught, order.unit);
+                study(world, campaign, taught, order.unit, *skill)
+            }
+            _ => Ok(Outcome::Done(0)),
+        }
+    }
+
+    fn is_orderly(&self) {}
+}
