@@ -7,3 +7,4 @@ pub mod FoundLaws
 pub mod TeachLaws
 pub mod OnceLaws
 pub mod StudyLaws
+pub mod UnmailedLearnLaws

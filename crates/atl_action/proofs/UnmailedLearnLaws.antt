@@ -1,0 +1,94 @@
+-- What TEACH and STUDY leave to the units of a faction that sent no mailing.
+use Rattle.std.proofs.Common.{◌≡◌, ◌∷◌, [], List, ◌-◌, ◌*◌, ℕ, Option, Some, None, refl, ap, subst, ◌∙◌, arith}
+use Rattle.std.specs.Prelude.{fold}
+use Rattle.std.specs.FinMap.{empty, get, values}
+use Rattle.atl_tables.specs.Planet.{Planet}
+use Rattle.atl_orders.specs.declared.order.Order.TheVariants as orders
+use Rattle.atl_orders.specs.Orders.{Said}
+use Rattle.atl_state.specs.declared.event.Outcome.TheVariants.{Done}
+use Rattle.atl_state.specs.declared.records.Unit.{Unit}
+use Rattle.atl_state.specs.Held.{amount_of}
+use Rattle.atl_state.specs.State.{State}
+use Rattle.atl_instant.specs.Course.{Course}
+use Rattle.atl_instant.specs.PhaseOrders.{Task, orders_of}
+use Rattle.atl_instant.specs.Steps.{carried_out}
+use Rattle.atl_instant.specs.Unmailed.{IsLessBy, starved_in}
+use Rattle.atl_instant.specs.declared.written.Arrangement.TheVariants.{ByUnit}
+use Rattle.atl_instant.proofs.UnmailedLaws.{HasItsItems, HaveTheirMen, LeavesUnmailed, SparesMen, carried_leaves, men_put, men_stay, men_unless, own_faction, told_of_order, unmailed_spared}
+use Rattle.atl_action.specs.Learners.{Learning, fee_of, is_studying, learners}
+use Rattle.atl_action.specs.Study.{IsUnchanged, days_after, is_helpful, learn_keeps, learn_meaning, studied, study, study_by, study_fault, study_said, study_step, takes_study, with_study}
+use Rattle.atl_action.specs.Teach.{Taught, is_teaching, listed, taught_out, teach, teach_order}
+
+-- ---- TEACH tells its events and changes nothing else of the month
+
+-- the month with as many who starved, and the same mailings and aliases
+record IsTold (before after : Course) : Type 0 where
+  readings : after.readings ≡ before.readings
+  aliases : after.aliases ≡ before.aliases
+  starved : (n : ℕ) → starved_in after.events n ≡ starved_in before.events n
+
+lesson_told : (c : State) (learning : Learning) (p : Taught × Course) (t : Task) → IsTold p.1 (teach_order c learning p t).1
+lesson_told c learning (taught, m) t = record {
+  readings = refl;
+  aliases = refl;
+  starved = λ n. told_of_order m.events t (teach c m.aliases learning taught t.faction t.unit (listed t.said)).1 n;
+}
+
+lessons_told : (c : State) (learning : Learning) (p : Taught × Course) (ts : List Task) → IsTold p.1 (fold (teach_order c learning) p ts).1
+lessons_told c learning p [] = record { readings = refl; aliases = refl; starved = λ n. refl }
+lessons_told c learning p (t ∷ ts) =
+    let one = lesson_told c learning p t in
+    let rest = lessons_told c learning (teach_order c learning p t) ts in
+    record { readings = rest.readings ∙ one.readings; aliases = rest.aliases ∙ one.aliases; starved = λ n. rest.starved n ∙ one.starved n }
+
+taught_told : (c : State) (learning : Learning) (m : Course) → IsTold m (taught_out c learning m).1
+unfolding taught_out
+taught_told c learning m = lessons_told c learning (empty, m) (values (orders_of is_teaching ByUnit m.aliases m.readings))
+
+-- ---- STUDY
+
+study_men : (w : Planet) (taught : ℕ) (c : State) (n s : ℕ) → HaveTheirMen c (study w taught c n s).0
+unfolding study
+study_men w taught c n s = by_unit (get c.units n) refl
+  where
+    by_unit : (o : Option Unit) → get c.units n ≡ o → HaveTheirMen c (study_by w taught c n s o).0
+    by_unit None is = men_stay c
+    by_unit (Some u) is =
+        let cost = fee_of w s * u.holding.men in
+        let old = amount_of u.holding.days s in
+        let days = days_after u.holding.men old taught (is_helpful w s (get c.structures u.structure)) in
+        men_unless c (studied c n u s cost days) (Done (days - old)) (study_fault u.holding cost)
+        (men_put c (studied c n u s cost days) n u (record u { holding = with_study u.holding s cost days }) is (record { faction = refl; men = refl }) refl)
+
+studied_men : (w : Planet) (taught : Taught) (c : State) (n : ℕ) (o : Said) → HaveTheirMen c (study_said w taught c n o).0
+studied_men w taught c n (orders.Study s) = study_men w (amount_of taught n) c n s
+studied_men w taught c n other = men_stay c
+
+study_spares : (taught : Taught) → SparesMen (study_step taught)
+study_spares taught w a c t own n u there other = studied_men w taught c t.unit t.said n u there
+
+items_of_unchanged : (u v : Unit) → IsUnchanged u v → HasItsItems u v
+items_of_unchanged u v same = record { name = ap (λ (x : Unit). x.holding.name) same; items = λ i. omega (arith, ap (λ (x : Unit). amount_of x.holding.items i) same) }
+
+all_study : (taught : Taught) → LeavesUnmailed (carried_out (study_step taught) takes_study is_studying) learn_keeps
+all_study taught = carried_leaves (study_step taught) takes_study is_studying (study_spares taught) (unmailed_spared is_studying own_faction items_of_unchanged)
+
+-- ---- both
+
+pub learn_leaves : LeavesUnmailed learn_meaning learn_keeps
+learn_leaves = record {
+  readings = λ w c m. let lessons = taught_out c (learners w c m) m in (all_study lessons.0).readings w c lessons.1 ∙ (taught_told c (learners w c m) m).readings;
+  told = λ w c m n.
+      let lessons = taught_out c (learners w c m) m in
+      omega (arith, (all_study lessons.0).told w c lessons.1 n, (taught_told c (learners w c m) m).starved n);
+  left = λ w c m keeps n u there none.
+      let lessons = taught_out c (learners w c m) m in
+      let same = taught_told c (learners w c m) m in
+      let kept : learn_keeps w lessons.1 c (learn_meaning w c m).0 = alike w c (learn_meaning w c m).0 m lessons.1 same.readings same.aliases keeps in
+      let unread : get lessons.1.readings u.faction ≡ None = ap (λ r. get r u.faction) same.readings ∙ none in
+      let one = (all_study lessons.0).left w c lessons.1 kept n u there unread in
+      record { unit = one.unit; there = one.there; spared = subst (λ k. IsLessBy (starved_in (learn_meaning w c m).1.events n - k) u one.unit) (same.starved n) one.spared };
+}
+  where
+    alike : (w : Planet) (c d : State) (m l : Course) → l.readings ≡ m.readings → l.aliases ≡ m.aliases → learn_keeps w m c d → learn_keeps w l c d
+    alike w c d m l readings aliases h = rw (readings, aliases) h
