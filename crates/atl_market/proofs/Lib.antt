@@ -11,3 +11,6 @@ pub mod WorkLaws
 pub mod WorkOrderLaws
 pub mod PaidLaws
 pub mod UnmailedPotLaws
+pub mod BuildUsedLaws
+pub mod BuildBegunLaws
+pub mod BuildPlaceLaws

@@ -6,3 +6,4 @@ pub mod Unordered
 pub mod Tax
 pub mod Recruit
 pub mod Work
+pub mod Build

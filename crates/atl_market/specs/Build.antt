@@ -1,0 +1,176 @@
+-- BUILD: units begin structures, and go on with those that they are inside. See docs/RULES.md, "Building".
+use Rattle.std.specs.Prelude.{◌≡◌, length, ◌++◌, ℕ, pos, neg_ℤ, ◌+◌, ◌-◌, ◌*◌, ◌==◌, min, nat_le, nat_lt, not, Bool, true, false, List, [], ◌∷◌, codes, Option, Some, None, if◌then◌else◌}
+use Rattle.std.specs.Fmt.{decimal}
+use Rattle.std.specs.List.{slice_get}
+use Rattle.std.specs.FinMap.{get}
+use Rattle.atl_tables.specs.Planet.{IsKind, Planet}
+use Rattle.atl_tables.specs.Sums.{sum_over}
+use Rattle.atl_tables.specs.declared.world.Kind.{Kind}
+use Rattle.atl_orders.specs.declared.order.Order.TheVariants as orders
+use Rattle.atl_orders.specs.declared.verb.Verb.{Verb}
+use Rattle.atl_orders.specs.declared.verb.Verb.TheVariants as verbs
+use Rattle.atl_orders.specs.Orders.{Said}
+use Rattle.atl_state.specs.Books.{entry_place}
+use Rattle.atl_state.specs.declared.books.Entry.{Entry}
+use Rattle.atl_state.specs.declared.books.Entry.TheVariants.{Used}
+use Rattle.atl_state.specs.declared.books.Thing.{Thing}
+use Rattle.atl_state.specs.declared.books.Thing.TheVariants.{Item}
+use Rattle.atl_state.specs.declared.event.EventFault.{EventFault}
+use Rattle.atl_state.specs.declared.event.EventFault.TheVariants.{AtSea, Complete, NoMaterial, NoMen, NoSkill, NotInside, NotYours, StructureLimit}
+use Rattle.atl_state.specs.declared.event.Outcome.{Outcome}
+use Rattle.atl_state.specs.declared.event.Outcome.TheVariants.{Done}
+use Rattle.atl_state.specs.declared.records.Structure.{Structure}
+use Rattle.atl_state.specs.declared.records.Unit.{Unit}
+use Rattle.atl_state.specs.Good.{IsSteady, is_land_at}
+use Rattle.atl_state.specs.Held.{Held, amount_of, with_amount_of}
+use Rattle.atl_state.specs.Lending.{with_held}
+use Rattle.atl_state.specs.Levels.{level_of}
+use Rattle.atl_state.specs.Limits.{most_structures}
+use Rattle.atl_state.specs.Owners.{with_place}
+use Rattle.atl_state.specs.State.{State, with_amount, with_done, with_structure_begun}
+use Rattle.atl_instant.specs.Meaning.{Keeping, Meaning, Moving, most_moved}
+use Rattle.atl_instant.specs.Outcomes.{first_fault, unless}
+use Rattle.atl_instant.specs.PhaseOrders.{Task}
+use Rattle.atl_instant.specs.Staying.{IsNoWorse}
+use Rattle.atl_instant.specs.Steps.{IsOwnOrder, Reserve, Step, carried_out, spares_others}
+
+abbrev pub is_building : Verb → Bool
+is_building verbs.Build = true
+is_building verb = false
+
+-- ---- what a unit adds
+
+-- the level of a unit's men in a skill
+abbrev pub level_in : Held → (skill : ℕ) → ℕ
+level_in h skill = level_of (amount_of h.days skill) h.men
+
+-- the least of men times level, the material held, and what is missing of a structure
+abbrev pub size_added : Kind → Held → (done : ℕ) → ℕ
+size_added k h done = min (min (h.men * level_in h k.skill) (amount_of h.items k.material)) (k.size - done)
+
+-- ---- what it uses
+
+abbrev pub with_less : Held → (item amount : ℕ) → Held
+with_less h item amount = record h { items = with_amount_of h.items item (amount_of h.items item - amount) }
+
+abbrev pub with_used_by : State → (n item amount : ℕ) → Option Unit → State
+with_used_by c n item amount None = c
+with_used_by c n item amount (Some u) = with_amount (with_held c n (with_less u.holding item amount) (Some u)) Used (Item item) (neg_ℤ (pos amount))
+
+-- a unit has so much less of an item, which is booked as used
+abbrev pub with_used : State → (n item amount : ℕ) → State
+with_used c n item amount = with_used_by c n item amount (get c.units n)
+
+-- ---- BUILD kind
+
+-- NoMen, AtSea, NoSkill, NoMaterial, StructureLimit
+abbrev pub begin_fault : Planet → State → Unit → Kind → Option EventFault
+begin_fault w c u k = first_fault (
+    (u.holding.men == 0, NoMen)
+    ∷ (not (is_land_at w u.region), AtSea)
+    ∷ (nat_lt (level_in u.holding k.skill) k.level, NoSkill)
+    ∷ (amount_of u.holding.items k.material == 0, NoMaterial)
+    ∷ (nat_lt most_structures c.next_structure, StructureLimit)
+    ∷ [])
+
+abbrev pub sort_of : Kind → List ℕ
+sort_of k = if k.ship then codes "Ship " else codes "Building "
+
+-- a structure as it is begun, which nobody owns yet
+abbrev pub new_structure : (number kind : ℕ) → Kind → (region size : ℕ) → Structure
+new_structure number kind k region size = record { kind = kind; name = sort_of k ++ decimal number; region = region; done = size; owner = 0 }
+
+-- with one structure more
+abbrev pub with_new : State → (kind : ℕ) → Kind → (region size : ℕ) → State
+with_new c kind k region size = with_structure_begun c (new_structure c.next_structure kind k region size)
+
+-- a unit uses so much for a new structure, leaves its old one and enters this, which it owns
+abbrev pub begun : State → (n kind : ℕ) → Kind → (region size : ℕ) → State
+begun c n kind k region size = with_place (with_new (with_used c n k.material size) kind k region size) n region c.next_structure
+
+abbrev pub begin_with : Planet → State → (n kind : ℕ) → Unit → Option Kind → State × Outcome
+begin_with w c n kind u None = (c, Done 0)
+begin_with w c n kind u (Some k) = let size = size_added k u.holding 0 in unless c (begin_fault w c u k) (begun c n kind k u.region size, Done size)
+
+-- a unit that isn't there begins nothing
+abbrev pub begin_by : Planet → State → (n kind : ℕ) → Option Unit → State × Outcome
+begin_by w c n kind None = unless c (Some NotYours) (c, Done 0)
+begin_by w c n kind (Some u) = begin_with w c n kind u (slice_get w.kinds kind)
+
+unfoldable pub begin : Planet → State → (n kind : ℕ) → State × Outcome
+begin w c n kind = begin_by w c n kind (get c.units n)
+
+-- ---- BUILD
+
+-- why a unit that is inside no structure builds at none
+abbrev pub outside_fault : Unit → Option EventFault
+outside_fault u = first_fault ((u.holding.men == 0, NoMen) ∷ (true, NotInside) ∷ [])
+
+-- NoMen, Complete, NoSkill, NoMaterial
+abbrev pub inside_fault : Unit → Structure → Kind → Option EventFault
+inside_fault u s k = first_fault (
+    (u.holding.men == 0, NoMen)
+    ∷ (nat_le k.size s.done, Complete)
+    ∷ (nat_lt (level_in u.holding k.skill) k.level, NoSkill)
+    ∷ (amount_of u.holding.items k.material == 0, NoMaterial)
+    ∷ [])
+
+-- a unit uses so much for a structure, of which so much is done then
+abbrev pub gone_on : State → (n material size place done : ℕ) → State
+gone_on c n material size place done = with_done (with_used c n material size) place done
+
+abbrev pub go_on_with : State → (n : ℕ) → Unit → Structure → Option Kind → State × Outcome
+go_on_with c n u s None = (c, Done 0)
+go_on_with c n u s (Some k) = let size = size_added k u.holding s.done in unless c (inside_fault u s k) (gone_on c n k.material size u.structure (s.done + size), Done size)
+
+abbrev pub go_on_at : Planet → State → (n : ℕ) → Unit → Option Structure → State × Outcome
+go_on_at w c n u None = unless c (outside_fault u) (c, Done 0)
+go_on_at w c n u (Some s) = go_on_with c n u s (slice_get w.kinds s.kind)
+
+-- a unit that isn't there goes on with nothing
+abbrev pub go_on_by : Planet → State → (n : ℕ) → Option Unit → State × Outcome
+go_on_by w c n None = unless c (Some NotYours) (c, Done 0)
+go_on_by w c n (Some u) = go_on_at w c n u (get c.structures u.structure)
+
+unfoldable pub go_on : Planet → State → (n : ℕ) → State × Outcome
+go_on w c n = go_on_by w c n (get c.units n)
+
+-- ---- the step
+
+abbrev pub build_said : Planet → State → (n : ℕ) → Said → State × Outcome
+build_said w c n (orders.Build (Some kind)) = begin w c n kind
+build_said w c n (orders.Build None) = go_on w c n
+build_said w c n other = (c, Done 0)
+
+-- what an order of a unit's own faction makes of a campaign
+abbrev pub build_step : Step
+build_step w aliases c t = build_said w c t.unit t.said
+
+-- ---- the phase
+
+abbrev pub build_meaning : Meaning
+build_meaning = carried_out build_step (λ s. true) is_building
+
+-- a unit for which its own faction wrote no such order is no worse off
+abbrev pub build_keeps : Keeping
+build_keeps = spares_others IsOwnOrder IsNoWorse is_building
+
+-- ---- how far it moves the books
+
+-- what of a thing a unit may use: all that it holds of an item
+abbrev pub usable : Entry → Thing → Held → ℕ
+usable e (Item i) h = if entry_place e == entry_place Used then amount_of h.items i else 0
+usable e t h = 0
+
+-- no more than all units hold
+abbrev pub build_reserve : Reserve
+build_reserve c e t = sum_over (λ u. usable e t u.holding) c.units
+
+abbrev pub build_moves : Moving
+build_moves e (Item i) = if entry_place e == entry_place Used then most_moved else 0
+build_moves e t = 0
+
+-- a steady campaign, in a world whose kinds are of its items and skills
+pub record CanBuild (w : Planet) (c : State) : Type 0 where
+  pub steady : IsSteady w c
+  pub kinds : (i : ℕ) (k : Kind) → slice_get w.kinds i ≡ Some k → IsKind (length w.items) (length w.skills) k
