@@ -14,3 +14,4 @@ pub mod UnmailedPotLaws
 pub mod BuildUsedLaws
 pub mod BuildBegunLaws
 pub mod BuildPlaceLaws
+pub mod BuildLaws

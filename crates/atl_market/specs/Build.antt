@@ -1,5 +1,5 @@
 -- BUILD: units begin structures, and go on with those that they are inside. See docs/RULES.md, "Building".
-use Rattle.std.specs.Prelude.{◌≡◌, length, ◌++◌, ℕ, pos, neg_ℤ, ◌+◌, ◌-◌, ◌*◌, ◌==◌, min, nat_le, nat_lt, not, Bool, true, false, List, [], ◌∷◌, codes, Option, Some, None, if◌then◌else◌}
+use Rattle.std.specs.Prelude.{◌≡◌, ◌≤◌, ◌<◌, length, ◌++◌, ℕ, pos, neg_ℤ, ◌+◌, ◌-◌, ◌*◌, ◌==◌, min, nat_le, nat_lt, not, Bool, true, false, List, [], ◌∷◌, codes, Option, Some, None, if◌then◌else◌}
 use Rattle.std.specs.Fmt.{decimal}
 use Rattle.std.specs.List.{slice_get}
 use Rattle.std.specs.FinMap.{get}
@@ -10,7 +10,7 @@ use Rattle.atl_orders.specs.declared.order.Order.TheVariants as orders
 use Rattle.atl_orders.specs.declared.verb.Verb.{Verb}
 use Rattle.atl_orders.specs.declared.verb.Verb.TheVariants as verbs
 use Rattle.atl_orders.specs.Orders.{Said}
-use Rattle.atl_state.specs.Books.{entry_place}
+use Rattle.atl_state.specs.Books.{IsGrid, amount_in, entry_place, thing_place}
 use Rattle.atl_state.specs.declared.books.Entry.{Entry}
 use Rattle.atl_state.specs.declared.books.Entry.TheVariants.{Used}
 use Rattle.atl_state.specs.declared.books.Thing.{Thing}
@@ -21,14 +21,14 @@ use Rattle.atl_state.specs.declared.event.Outcome.{Outcome}
 use Rattle.atl_state.specs.declared.event.Outcome.TheVariants.{Done}
 use Rattle.atl_state.specs.declared.records.Structure.{Structure}
 use Rattle.atl_state.specs.declared.records.Unit.{Unit}
-use Rattle.atl_state.specs.Good.{IsSteady, is_land_at}
-use Rattle.atl_state.specs.Held.{Held, amount_of, with_amount_of}
+use Rattle.atl_state.specs.Good.{Every, IsSteady, is_land_at}
+use Rattle.atl_state.specs.Held.{Held, IsHolding, amount_of, with_amount_of}
 use Rattle.atl_state.specs.Lending.{with_held}
 use Rattle.atl_state.specs.Levels.{level_of}
 use Rattle.atl_state.specs.Limits.{most_structures}
 use Rattle.atl_state.specs.Owners.{with_place}
 use Rattle.atl_state.specs.State.{State, with_amount, with_done, with_structure_begun}
-use Rattle.atl_instant.specs.Meaning.{Keeping, Meaning, Moving, most_moved}
+use Rattle.atl_instant.specs.Meaning.{HasRoom, Keeping, Meaning, Moving, most_moved}
 use Rattle.atl_instant.specs.Outcomes.{first_fault, unless}
 use Rattle.atl_instant.specs.PhaseOrders.{Task}
 use Rattle.atl_instant.specs.Staying.{IsNoWorse}
@@ -174,3 +174,11 @@ build_moves e t = 0
 pub record CanBuild (w : Planet) (c : State) : Type 0 where
   pub steady : IsSteady w c
   pub kinds : (i : ℕ) (k : Kind) → slice_get w.kinds i ≡ Some k → IsKind (length w.items) (length w.skills) k
+
+-- for proofs alone: a unit holds so much of an item, and there is room for what is booked of it
+pub record CanUse (c : State) (n item amount : ℕ) : Type 0 where
+  pub limits : Every (λ m u. IsHolding u.holding) c.units
+  pub grid : IsGrid (length c.books) c.books
+  pub there : thing_place (Item item) < length c.books
+  pub enough : (u : Unit) → get c.units n ≡ Some u → amount ≤ amount_of u.holding.items item
+  pub room : HasRoom amount (amount_in c.books Used (Item item))

@@ -1,0 +1,356 @@
+-- BUILD leaves a campaign well, and spares who doesn't order it.
+use Rattle.std.proofs.Common.{◌≡◌, ◌≢◌, ◌==◌, ℕ, ◌+◌, ◌-◌, ◌*◌, ◌≤◌, ◌<◌, Bool, true, false, not, List, [], ◌∷◌, length, sum_by, Option, Some, None, refl, sym, ap, subst, ◌∙◌, arith}
+use Rattle.std.specs.Prelude.{min, nat_le, nat_lt, if◌then◌else◌}
+use Rattle.std.specs.List.{slice_get}
+use Rattle.std.specs.Option.{option_map_or}
+use Rattle.std.proofs.lemmas.Bool.Decides.{nat_tests}
+use Rattle.std.proofs.lemmas.Option.{slice_get_within}
+use Rattle.std.proofs.lemmas.List.Sums.{sum_by-cons}
+use Rattle.std.proofs.Math.Nat.{mul-le-mul_left, suc-mul}
+use Rattle.std.specs.FinMap.{entries, get, len-entries}
+use Rattle.atl_tables.specs.Limits.{most_size}
+use Rattle.atl_tables.specs.Planet.{IsKind, Planet}
+use Rattle.atl_tables.specs.Sums.{sum_over}
+use Rattle.atl_tables.specs.declared.world.Kind.{Kind}
+use Rattle.atl_orders.specs.declared.order.Order.TheVariants as orders
+use Rattle.atl_orders.specs.Orders.{Said}
+use Rattle.atl_state.specs.declared.event.EventFault.{EventFault}
+use Rattle.atl_state.specs.declared.event.EventFault.TheVariants.{AtSea, Complete, NoMaterial, NoMen, NoSkill, NotInside, StructureLimit}
+use Rattle.atl_state.specs.declared.event.Outcome.TheVariants.{Done}
+use Rattle.atl_state.specs.declared.books.Entry.{Entry}
+use Rattle.atl_state.specs.declared.books.Entry.TheVariants.{Used}
+use Rattle.atl_state.specs.declared.books.Thing.{Thing}
+use Rattle.atl_state.specs.declared.books.Thing.TheVariants.{Item, Money, People}
+use Rattle.atl_state.specs.declared.records.Structure.{Structure}
+use Rattle.atl_state.specs.declared.records.Unit.{Unit}
+use Rattle.atl_state.specs.Books.{entry_place}
+use Rattle.atl_state.specs.Deciding.{EachOf}
+use Rattle.atl_state.specs.Good.{IsSteady, is_land_at, size_of}
+use Rattle.atl_state.specs.Held.{Held, IsHolding, amount_of}
+use Rattle.atl_state.specs.Limits.{holding_limit, most_structures, most_units}
+use Rattle.atl_state.specs.Owners.{with_place}
+use Rattle.atl_state.specs.State.{State, with_done}
+use Rattle.atl_state.proofs.EveryLaws.{each-from_every}
+use Rattle.atl_instant.specs.Meaning.{HaveRoom, LeavesWell, most_moved}
+use Rattle.atl_instant.specs.Outcomes.{unless}
+use Rattle.atl_instant.specs.Staying.{IsNoWorse}
+use Rattle.atl_instant.specs.Steps.{IsOrderly, IsOwnOrder, StepsWell}
+use Rattle.atl_instant.proofs.AmountsLaws.{amount_within}
+use Rattle.atl_instant.proofs.OutcomeLaws.{none_fits, not_less}
+use Rattle.atl_instant.proofs.PlacingLaws.{place_stays}
+use Rattle.atl_instant.proofs.StepLaws.{no_worse_spares, well_same, well_twice}
+use Rattle.atl_instant.proofs.UnbookedLaws.{other_spared}
+use Rattle.atl_market.specs.Build.{CanBuild, CanUse, begin, begin_by, begin_fault, begin_with, begun, build_moves, build_reserve, build_said, build_step, go_on, go_on_at, go_on_by, go_on_with, gone_on, inside_fault, level_in, new_structure, size_added, usable, with_new}
+use Rattle.atl_market.proofs.BuildBegunLaws.{IsFresh, built, built_is, built_well, nobody_inside, raised, raised_there, raised_well, sort_name_ok}
+use Rattle.atl_market.proofs.BuildPlaceLaws.{place_well}
+use Rattle.atl_market.proofs.BuildUsedLaws.{others_stay, used, used_is, used_room, used_well, user, user_there}
+
+true_false : {P : Type 0} → true ≡ false → P
+true_false e = cc
+
+not_false : (b : Bool) → not b ≡ false → b ≡ true
+not_false true h = refl
+not_false false h = cc
+
+some : (n : ℕ) → (n == 0) ≡ false → 1 ≤ n
+some n is = grind (arith, nat_tests)
+
+more_than : (a b : ℕ) → nat_le a b ≡ false → b < a
+more_than a b is = grind (arith, nat_tests)
+
+-- ---- where no fault fits
+
+-- a unit that begins a structure of a kind
+pub record CanBegin (w : Planet) (c : State) (u : Unit) (k : Kind) : Type 0 where
+  pub men : 1 ≤ u.holding.men
+  pub land : is_land_at w u.region ≡ true
+  pub skill : k.level ≤ level_in u.holding k.skill
+  pub material : 1 ≤ amount_of u.holding.items k.material
+  pub room : c.next_structure ≤ most_structures
+
+pub can_begin : (w : Planet) (c : State) (u : Unit) (k : Kind) → begin_fault w c u k ≡ None → CanBegin w c u k
+can_begin w c u k is =
+    let limit = (nat_lt most_structures c.next_structure, StructureLimit) ∷ [] in
+    let material = (amount_of u.holding.items k.material == 0, NoMaterial) ∷ limit in
+    let skill = (nat_lt (level_in u.holding k.skill) k.level, NoSkill) ∷ material in
+    let one = none_fits (u.holding.men == 0) NoMen ((not (is_land_at w u.region), AtSea) ∷ skill) is in
+    let two = none_fits (not (is_land_at w u.region)) AtSea skill one.1 in
+    let three = none_fits (nat_lt (level_in u.holding k.skill) k.level) NoSkill material two.1 in
+    let four = none_fits (amount_of u.holding.items k.material == 0) NoMaterial limit three.1 in
+    let five = none_fits (nat_lt most_structures c.next_structure) StructureLimit [] four.1 in
+    record {
+      men = some u.holding.men one.0;
+      land = not_false (is_land_at w u.region) two.0;
+      skill = not_less (level_in u.holding k.skill) k.level three.0;
+      material = some (amount_of u.holding.items k.material) four.0;
+      room = not_less most_structures c.next_structure five.0;
+    }
+
+-- a unit that goes on with a structure
+pub record CanGoOn (u : Unit) (s : Structure) (k : Kind) : Type 0 where
+  pub men : 1 ≤ u.holding.men
+  pub missing : s.done < k.size
+  pub skill : k.level ≤ level_in u.holding k.skill
+  pub material : 1 ≤ amount_of u.holding.items k.material
+
+pub can_go_on : (u : Unit) (s : Structure) (k : Kind) → inside_fault u s k ≡ None → CanGoOn u s k
+can_go_on u s k is =
+    let material = (amount_of u.holding.items k.material == 0, NoMaterial) ∷ [] in
+    let skill = (nat_lt (level_in u.holding k.skill) k.level, NoSkill) ∷ material in
+    let one = none_fits (u.holding.men == 0) NoMen ((nat_le k.size s.done, Complete) ∷ skill) is in
+    let two = none_fits (nat_le k.size s.done) Complete skill one.1 in
+    let three = none_fits (nat_lt (level_in u.holding k.skill) k.level) NoSkill material two.1 in
+    let four = none_fits (amount_of u.holding.items k.material == 0) NoMaterial [] three.1 in
+    record {
+      men = some u.holding.men one.0;
+      missing = more_than k.size s.done two.0;
+      skill = not_less (level_in u.holding k.skill) k.level three.0;
+      material = some (amount_of u.holding.items k.material) four.0;
+    }
+
+-- ---- the size that is added
+
+least_of : (x y z : ℕ) → 1 ≤ x → 1 ≤ y → 1 ≤ z → 1 ≤ min (min x y) z
+least_of x y z a b c = omega (arith, a, b, c)
+
+within_of : (x y z : ℕ) → min (min x y) z ≤ y
+within_of x y z = omega arith
+
+missing_of : (x y z : ℕ) → min (min x y) z ≤ z
+missing_of x y z = omega arith
+
+product : (a b : ℕ) → 1 ≤ a → 1 ≤ b → 1 ≤ a * b
+product a b l m = let h : a * 1 ≤ a * b = mul-le-mul_left a m in omega (arith, l, h)
+
+module _ (k : Kind) (h : Held) (done : ℕ) where
+  pub size_held : size_added k h done ≤ amount_of h.items k.material
+  size_held = within_of (h.men * level_in h k.skill) (amount_of h.items k.material) (k.size - done)
+
+  pub size_missing : size_added k h done ≤ k.size - done
+  size_missing = missing_of (h.men * level_in h k.skill) (amount_of h.items k.material) (k.size - done)
+
+  size_some : 1 ≤ h.men → 1 ≤ level_in h k.skill → 1 ≤ amount_of h.items k.material → done < k.size → 1 ≤ size_added k h done
+  size_some men level material missing =
+      least_of (h.men * level_in h k.skill) (amount_of h.items k.material) (k.size - done) (product h.men (level_in h k.skill) men level) material (omega (arith, missing))
+
+kind_size : (w : Planet) (i : ℕ) (k : Kind) → slice_get w.kinds i ≡ Some k → size_of w i ≡ k.size
+kind_size w i k is = ap (λ o. option_map_or (λ (x : Kind). x.size) o most_size) is
+
+-- ---- a structure is begun
+
+module _ (w : Planet) (c : State) (n kind : ℕ) (u : Unit) (k : Kind) (is : get c.units n ≡ Some u) where
+  abbrev size : ℕ
+  size = size_added k u.holding 0
+
+  abbrev one : State
+  one = used w c n k.material size u is
+
+  abbrev from_used : State → State
+  from_used d = with_place (with_new d kind k u.region size) n u.region c.next_structure
+
+  begun_is : begun c n kind k u.region size ≡ from_used one
+  begun_is = ap from_used (used_is w c n k.material size u is)
+
+  begun_stays : (j : ℕ) → j ≢ n → get (begun c n kind k u.region size).units j ≡ get c.units j
+  begun_stays j apart =
+      ap (λ (d : State). get d.units j) begun_is ∙ place_stays (with_new one kind k u.region size) n u.region c.next_structure j apart
+      ∙ others_stay w c n k.material size u is j apart
+
+  module _ (kind_is : slice_get w.kinds kind ≡ Some k) (can : CanBuild w c) (fit : CanBegin w c u k) where
+    good : IsKind (length w.items) (length w.skills) k
+    good = can.kinds kind k kind_is
+
+    one_well : StepsWell CanBuild build_reserve w c one
+    one_well = used_well w c n k.material size u is (size_held k u.holding 0) good.material can
+
+    abbrev new : Structure
+    new = new_structure c.next_structure kind k u.region size
+
+    fresh : IsFresh w one new
+    fresh = record {
+      kind = slice_get_within w.kinds kind k kind_is;
+      name = sort_name_ok k c.next_structure (omega (arith, fit.room));
+      region = (can.steady.known.units n u is).region;
+      land = fit.land;
+      least = size_some k u.holding 0 fit.men (omega (arith, good.level_least, fit.skill)) fit.material (omega (arith, good.size_least));
+      most = subst (λ x. size ≤ x) (sym (kind_size w kind k kind_is)) (omega (arith, size_missing k u.holding 0));
+      ownerless = refl;
+    }
+
+    two : State
+    two = raised w one new fresh fit.room one_well.holds_still
+
+    begun_well : StepsWell CanBuild build_reserve w c (begun c n kind k u.region size)
+    unfolding two
+    begun_well =
+        let between = one_well.holds_still in
+        let two_well = raised_well w one new fresh fit.room between in
+        let there = user_there w c n k.material size u is in
+        let apart = nobody_inside w one new fresh fit.room between n (user w c n k.material size u is) there in
+        let three_well =
+        place_well w two n (user w c n k.material size u is) c.next_structure there two_well.holds_still apart (λ some. (new, raised_there w one new fresh fit.room between, refl)) (λ wet. true_false (sym fit.land ∙ wet)) in
+        subst (StepsWell CanBuild build_reserve w c) (sym begun_is) (well_twice w c one (from_used one) one_well (well_twice w one two (from_used one) two_well three_well))
+
+-- ---- more of a structure is done
+
+module _ (w : Planet) (c : State) (n : ℕ) (u : Unit) (s : Structure) (k : Kind) (is : get c.units n ≡ Some u) where
+  abbrev added : ℕ
+  added = size_added k u.holding s.done
+
+  abbrev paid : State
+  paid = used w c n k.material added u is
+
+  abbrev further : State → State
+  further d = with_done d u.structure (s.done + added)
+
+  on_is : gone_on c n k.material added u.structure (s.done + added) ≡ further paid
+  on_is = ap further (used_is w c n k.material added u is)
+
+  on_stays : (j : ℕ) → j ≢ n → get (gone_on c n k.material added u.structure (s.done + added)).units j ≡ get c.units j
+  on_stays j apart = ap (λ (d : State). get d.units j) on_is ∙ others_stay w c n k.material added u is j apart
+
+  module _ (there : get c.structures u.structure ≡ Some s) (kind_is : slice_get w.kinds s.kind ≡ Some k) (can : CanBuild w c) (fit : CanGoOn u s k) where
+    paid_well : StepsWell CanBuild build_reserve w c paid
+    paid_well = used_well w c n k.material added u is (size_held k u.holding s.done) (can.kinds s.kind k kind_is).material can
+
+    most : s.done + added ≤ size_of w s.kind
+    most = subst (λ x. s.done + added ≤ x) (sym (kind_size w s.kind k kind_is)) (up added s.done k.size (size_missing k u.holding s.done) fit.missing)
+      where
+        up : (a d m : ℕ) → a ≤ m - d → d < m → d + a ≤ m
+        up a d m l h = omega (arith, l, h)
+
+    on_well : StepsWell CanBuild build_reserve w c (gone_on c n k.material added u.structure (s.done + added))
+    on_well =
+        let done_is = built_is w paid u.structure s (s.done + added) there in
+        subst (StepsWell CanBuild build_reserve w c) (sym (on_is ∙ done_is))
+        (well_twice w c paid (built w paid u.structure s (s.done + added) there) paid_well (built_well w paid u.structure s (s.done + added) there (omega arith) most paid_well.holds_still))
+
+-- ---- an order
+
+-- what is so of the campaign as it is, and of that in which the structure is begun, is so of the campaign behind the order
+begin_cases : (P : State → Type 0) (w : Planet) (c : State) (n kind : ℕ) → P c
+    → ((u : Unit) (k : Kind) → get c.units n ≡ Some u → slice_get w.kinds kind ≡ Some k → CanBegin w c u k → P (begun c n kind k u.region (size_added k u.holding 0))) → P (begin w c n kind).0
+unfolding begin
+begin_cases P w c n kind same go = by_unit (get c.units n) refl
+  where
+    by_fault : (u : Unit) (k : Kind) → get c.units n ≡ Some u → slice_get w.kinds kind ≡ Some k → (o : Option EventFault) → begin_fault w c u k ≡ o → P (unless c o (begun c n kind k u.region (size_added k u.holding 0), Done (size_added k u.holding 0))).0
+    by_fault u k is kind_is (Some fault) e = same
+    by_fault u k is kind_is None e = go u k is kind_is (can_begin w c u k e)
+
+    by_kind : (u : Unit) → get c.units n ≡ Some u → (o : Option Kind) → slice_get w.kinds kind ≡ o → P (begin_with w c n kind u o).0
+    by_kind u is None kind_is = same
+    by_kind u is (Some k) kind_is = by_fault u k is kind_is (begin_fault w c u k) refl
+
+    by_unit : (o : Option Unit) → get c.units n ≡ o → P (begin_by w c n kind o).0
+    by_unit None is = same
+    by_unit (Some u) is = by_kind u is (slice_get w.kinds kind) refl
+
+-- and so where a unit goes on
+go_on_cases : (P : State → Type 0) (w : Planet) (c : State) (n : ℕ) → P c
+    → ((u : Unit) (s : Structure) (k : Kind) → get c.units n ≡ Some u → get c.structures u.structure ≡ Some s → slice_get w.kinds s.kind ≡ Some k → CanGoOn u s k
+    → P (gone_on c n k.material (size_added k u.holding s.done) u.structure (s.done + size_added k u.holding s.done))) → P (go_on w c n).0
+unfolding go_on
+go_on_cases P w c n same go = by_unit (get c.units n) refl
+  where
+    by_fault : (u : Unit) (s : Structure) (k : Kind) → get c.units n ≡ Some u → get c.structures u.structure ≡ Some s → slice_get w.kinds s.kind ≡ Some k → (o : Option EventFault) → inside_fault u s k ≡ o
+        → P (unless c o (gone_on c n k.material (size_added k u.holding s.done) u.structure (s.done + size_added k u.holding s.done), Done (size_added k u.holding s.done))).0
+    by_fault u s k is there kind_is (Some fault) e = same
+    by_fault u s k is there kind_is None e = go u s k is there kind_is (can_go_on u s k e)
+
+    by_kind : (u : Unit) (s : Structure) → get c.units n ≡ Some u → get c.structures u.structure ≡ Some s → (o : Option Kind) → slice_get w.kinds s.kind ≡ o → P (go_on_with c n u s o).0
+    by_kind u s is there None kind_is = same
+    by_kind u s is there (Some k) kind_is = by_fault u s k is there kind_is (inside_fault u s k) refl
+
+    outside : (u : Unit) (b : Bool) → P (unless c (if b then Some NoMen else Some NotInside) (c, Done 0)).0
+    outside u true = same
+    outside u false = same
+
+    by_structure : (u : Unit) → get c.units n ≡ Some u → (o : Option Structure) → get c.structures u.structure ≡ o → P (go_on_at w c n u o).0
+    by_structure u is None there = outside u (u.holding.men == 0)
+    by_structure u is (Some s) there = by_kind u s is there (slice_get w.kinds s.kind) refl
+
+    by_unit : (o : Option Unit) → get c.units n ≡ o → P (go_on_by w c n o).0
+    by_unit None is = same
+    by_unit (Some u) is = by_structure u is (get c.structures u.structure) refl
+
+begin_well : (w : Planet) (c : State) (n kind : ℕ) → CanBuild w c → StepsWell CanBuild build_reserve w c (begin w c n kind).0
+begin_well w c n kind can = begin_cases (λ d. StepsWell CanBuild build_reserve w c d) w c n kind (well_same w c can) (λ u k is kind_is fit. begun_well w c n kind u k is kind_is can fit)
+
+go_on_well : (w : Planet) (c : State) (n : ℕ) → CanBuild w c → StepsWell CanBuild build_reserve w c (go_on w c n).0
+go_on_well w c n can = go_on_cases (λ d. StepsWell CanBuild build_reserve w c d) w c n (well_same w c can) (λ u s k is there kind_is fit. on_well w c n u s k is there kind_is can fit)
+
+begin_stays : (w : Planet) (c : State) (n kind j : ℕ) → j ≢ n → get (begin w c n kind).0.units j ≡ get c.units j
+begin_stays w c n kind j apart = begin_cases (λ d. get d.units j ≡ get c.units j) w c n kind refl (λ u k is kind_is fit. begun_stays w c n kind u k is j apart)
+
+go_on_stays : (w : Planet) (c : State) (n j : ℕ) → j ≢ n → get (go_on w c n).0.units j ≡ get c.units j
+go_on_stays w c n j apart = go_on_cases (λ d. get d.units j ≡ get c.units j) w c n refl (λ u s k is there kind_is fit. on_stays w c n u s k is j apart)
+
+-- ---- what all units hold of an item
+
+sum_within : {V : Type 0} (f : V → ℕ) (most : ℕ) (es : List (ℕ × V)) → EachOf (λ n v. f v ≤ most) es → sum_by (λ e. f e.1) es ≤ length es * most
+sum_within f most [] each = omega arith
+sum_within {V} f most (e ∷ es) each =
+    more (sum_by (λ (d : ℕ × V). f d.1) (e ∷ es)) (f e.1) (sum_by (λ (d : ℕ × V). f d.1) es) (length (e ∷ es) * most) (length es * most) most (sum_by-cons (λ (d : ℕ × V). f d.1) e es) (suc-mul (length es) most) each.0 (sum_within f most es each.1)
+  where
+    more : (s x y a b m : ℕ) → s ≡ x + y → a ≡ b + m → x ≤ m → y ≤ b → s ≤ a
+    more s x y a b m e f k l = omega (arith, e, f, k, l)
+
+reserve_within : (w : Planet) (c : State) → CanBuild w c → (e : Entry) (t : Thing) → build_reserve c e t ≤ build_moves e t
+reserve_within w c can e t = by_thing t
+  where
+    all_within : (f : Held → ℕ) (most : ℕ) → ((h : Held) → IsHolding h → f h ≤ most) → sum_over (λ (u : Unit). f u.holding) c.units ≤ length (entries c.units) * most
+    all_within f most each = sum_within (λ (u : Unit). f u.holding) most (entries c.units) (each-from_every (λ n u. f u.holding ≤ most) c.units (λ n u is. each u.holding (can.steady.numbers.units n u is).1))
+
+    few : (s n : ℕ) → s ≤ n * holding_limit → n ≤ most_units → s ≤ most_moved
+    few s n l m = omega (arith, l, m)
+
+    nothing : (s n : ℕ) → s ≤ n * 0 → s ≤ 0
+    nothing s n l = omega (arith, l)
+
+    none : sum_over (λ (u : Unit). 0) c.units ≤ 0
+    none = nothing (sum_over (λ (u : Unit). 0) c.units) (length (entries c.units)) (all_within (λ h. 0) 0 (λ h is. omega arith))
+
+    by_entry : (i : ℕ) (b : Bool) → sum_over (λ (u : Unit). if b then amount_of u.holding.items i else 0) c.units ≤ (if b then most_moved else 0)
+    by_entry i true = few (sum_over (λ (u : Unit). amount_of u.holding.items i) c.units) (length (entries c.units)) (all_within (λ h. amount_of h.items i) holding_limit (λ h is. amount_within h i is)) (omega (arith, len-entries c.units, can.steady.numbers.few_units))
+    by_entry i false = none
+
+    by_thing : (s : Thing) → build_reserve c e s ≤ build_moves e s
+    by_thing Money = none
+    by_thing People = none
+    by_thing (Item i) = by_entry i (entry_place e == entry_place Used)
+
+-- ---- the phase
+
+pub build_orderly : IsOrderly build_step CanBuild build_reserve build_moves IsOwnOrder IsNoWorse
+build_orderly = record {
+  well = λ w a c t can fit own. well w c t.unit can t.said;
+  sparing = no_worse_spares;
+  spared = λ w a c t can own j v there apart. other_spared c (build_said w c t.unit t.said).0 t (λ i other. stays w c t.unit i other t.said) own j v there apart;
+  bounded = reserve_within;
+}
+  where
+    well : (w : Planet) (c : State) (n : ℕ) → CanBuild w c → (s : Said) → StepsWell CanBuild build_reserve w c (build_said w c n s).0
+    well w c n can (orders.Build (Some kind)) = begin_well w c n kind can
+    well w c n can (orders.Build None) = go_on_well w c n can
+    well w c n can other = well_same w c can
+
+    stays : (w : Planet) (c : State) (n j : ℕ) → j ≢ n → (s : Said) → get (build_said w c n s).0.units j ≡ get c.units j
+    stays w c n j apart (orders.Build (Some kind)) = begin_stays w c n kind j apart
+    stays w c n j apart (orders.Build None) = go_on_stays w c n j apart
+    stays w c n j apart other = refl
+
+-- a phase that leaves a campaign in which units can build leaves a steady one
+pub leaves_steady : (w : Planet) (c d : State) → LeavesWell CanBuild build_moves w c d → LeavesWell IsSteady build_moves w c d
+leaves_steady w c d h = record { leaves_it = h.leaves_it.steady; same_month = h.same_month; balances = h.balances; near = h.near }
+
+-- a unit can use what it holds
+pub can_use : (w : Planet) (c : State) (n item amount : ℕ) (u : Unit) → get c.units n ≡ Some u → amount ≤ amount_of u.holding.items item → item < length w.items → CanBuild w c → HaveRoom (build_reserve c) c → CanUse c n item amount
+can_use w c n item amount u is enough known can room =
+    let grid = can.steady.numbers.books in
+    record {
+      limits = λ m v there. (can.steady.numbers.units m v there).1;
+      grid = record { rows = refl; wide = grid.wide };
+      there = omega (arith, grid.rows, known);
+      enough = λ v there. let one : Some u ≡ Some v = sym is ∙ there in let unit : u ≡ v = cc in subst (λ (x : Unit). amount ≤ amount_of x.holding.items item) unit enough;
+      room = used_room c n item amount u is enough room;
+    }
