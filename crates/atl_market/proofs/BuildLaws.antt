@@ -16,6 +16,7 @@ use Rattle.atl_orders.specs.declared.order.Order.TheVariants as orders
 use Rattle.atl_orders.specs.Orders.{Said}
 use Rattle.atl_state.specs.declared.event.EventFault.{EventFault}
 use Rattle.atl_state.specs.declared.event.EventFault.TheVariants.{AtSea, Complete, NoMaterial, NoMen, NoSkill, NotInside, StructureLimit}
+use Rattle.atl_state.specs.declared.event.Outcome.{Outcome}
 use Rattle.atl_state.specs.declared.event.Outcome.TheVariants.{Done}
 use Rattle.atl_state.specs.declared.books.Entry.{Entry}
 use Rattle.atl_state.specs.declared.books.Entry.TheVariants.{Used}
@@ -354,3 +355,35 @@ can_use w c n item amount u is enough known can room =
       enough = λ v there. let one : Some u ≡ Some v = sym is ∙ there in let unit : u ≡ v = cc in subst (λ (x : Unit). amount ≤ amount_of x.holding.items item) unit enough;
       room = used_room c n item amount u is enough room;
     }
+
+-- ---- what the code does is what is said
+
+abbrev begun_told : State → (n kind : ℕ) → Kind → (region size : ℕ) → State × Outcome
+begun_told c n kind k region size = (begun c n kind k region size, Done size)
+
+abbrev on_told : State → (n material size place done : ℕ) → State × Outcome
+on_told c n material size place done = (gone_on c n material size place done, Done size)
+
+pub begin_done : (w : Planet) (c d : State) (n kind : ℕ) (u : Unit) (k : Kind) (size told : ℕ) → get c.units n ≡ Some u → slice_get w.kinds kind ≡ Some k → begin_fault w c u k ≡ None
+    → d ≡ begun c n kind k u.region size → told ≡ size → size ≡ size_added k u.holding 0 → (d, Done told) ≡ begin w c n kind
+unfolding begin
+begin_done w c d n kind u k size told is kind_is none first told_is size_is =
+    let whole = begun_told c n kind k u.region (size_added k u.holding 0) in
+    let chain : begin_by w c n kind (get c.units n) ≡ whole = ap (begin_by w c n kind) is ∙ ap (begin_with w c n kind u) kind_is ∙ ap (λ o. unless c o whole) none in
+    rw (first, told_is, size_is) (sym chain)
+
+pub go_on_done : (w : Planet) (c d : State) (n : ℕ) (u : Unit) (s : Structure) (k : Kind) (size told : ℕ) → get c.units n ≡ Some u → get c.structures u.structure ≡ Some s → slice_get w.kinds s.kind ≡ Some k → inside_fault u s k ≡ None
+    → d ≡ gone_on c n k.material size u.structure (s.done + size) → told ≡ size → size ≡ size_added k u.holding s.done → (d, Done told) ≡ go_on w c n
+unfolding go_on
+go_on_done w c d n u s k size told is there kind_is none first told_is size_is =
+    let added = size_added k u.holding s.done in
+    let whole = on_told c n k.material added u.structure (s.done + added) in
+    let chain : go_on_by w c n (get c.units n) ≡ whole = ap (go_on_by w c n) is ∙ ap (go_on_at w c n u) there ∙ ap (go_on_with c n u s) kind_is ∙ ap (λ o. unless c o whole) none in
+    rw (first, told_is, size_is) (sym chain)
+
+-- what is done then isn't more than the kind's size
+pub done_small : (u : Unit) (s : Structure) (k : Kind) → inside_fault u s k ≡ None → k.size ≤ most_size → s.done + size_added k u.holding s.done ≤ most_size
+done_small u s k none small = up (size_added k u.holding s.done) s.done k.size (size_missing k u.holding s.done) (can_go_on u s k none).missing small
+  where
+    up : (a d m : ℕ) → a ≤ m - d → d < m → m ≤ most_size → d + a ≤ most_size
+    up a d m l h small = omega (arith, l, h, small)

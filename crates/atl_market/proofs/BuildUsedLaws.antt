@@ -14,16 +14,19 @@ use Rattle.atl_state.specs.declared.books.Entry.TheVariants.{Used}
 use Rattle.atl_state.specs.declared.books.Thing.{Thing}
 use Rattle.atl_state.specs.declared.books.Thing.TheVariants.{Item, Money, People}
 use Rattle.atl_state.specs.declared.records.Unit.{Unit}
-use Rattle.atl_state.specs.Books.{amount_in, booked, entry_place, thing_place}
+use Rattle.atl_state.specs.Books.{IsGrid, amount_in, booked, entry_place, thing_place}
 use Rattle.atl_state.specs.Founding.{things_of}
 use Rattle.atl_state.specs.Good.{IsSteady}
 use Rattle.atl_state.specs.Held.{Held, amount_of}
 use Rattle.atl_state.specs.Lending.{with_held}
 use Rattle.atl_state.specs.Limits.{entry_count, holding_limit}
+use Rattle.atl_state.specs.Covers.{MarksChanges}
+use Rattle.atl_state.specs.Marking.{mark_amount}
 use Rattle.atl_state.specs.Marks.{amount_number}
-use Rattle.atl_state.specs.State.{State, with_amount}
+use Rattle.atl_state.specs.State.{Marked, State, with_amount}
 use Rattle.atl_state.specs.Totals.{Balances, held, total}
 use Rattle.atl_state.proofs.BookLaws.{booked-with_booked, entry_small}
+use Rattle.atl_state.proofs.CoverLaws.{marks-amount}
 use Rattle.atl_state.proofs.EveryLaws.{get-insert_other}
 use Rattle.atl_state.proofs.HavingLaws.{may_have}
 use Rattle.atl_state.proofs.HoldingLaws.{MayHold, steady-held, total-held}
@@ -33,6 +36,7 @@ use Rattle.atl_instant.specs.Meaning.{HasRoom, HaveRoom, IsNear, moves_only}
 use Rattle.atl_instant.specs.Steps.{IsDrawn, StepsWell}
 use Rattle.atl_instant.proofs.AmountsLaws.{alike, amount_within, every_amount, set_amount}
 use Rattle.atl_instant.proofs.BookingLaws.{booked-near, within-neg}
+use Rattle.atl_instant.proofs.MarkLaws.{marks_by}
 use Rattle.atl_instant.proofs.MeaningLaws.{near_more}
 use Rattle.atl_market.specs.Build.{CanBuild, build_reserve, usable, with_less, with_used, with_used_by}
 
@@ -186,6 +190,29 @@ module _ (w : Planet) (c : State) (n item amount : ℕ) (u : Unit) (is : get c.u
       balances = balanced;
       drawn = drawn;
     }
+
+-- ---- what stays, and what is marked
+
+-- the structures, and the number that comes next
+pub same_structures : (c : State) (n item amount : ℕ) → (with_used c n item amount).structures ≡ c.structures
+same_structures c n item amount = by_unit (get c.units n)
+  where
+    by_unit : (o : Option Unit) → (with_used_by c n item amount o).structures ≡ c.structures
+    by_unit None = refl
+    by_unit (Some u) = refl
+
+pub same_next : (c : State) (n item amount : ℕ) → (with_used c n item amount).next_structure ≡ c.next_structure
+same_next c n item amount = by_unit (get c.units n)
+  where
+    by_unit : (o : Option Unit) → (with_used_by c n item amount o).next_structure ≡ c.next_structure
+    by_unit None = refl
+    by_unit (Some u) = refl
+
+-- an amount that is booked as used
+pub marks-used : (c d : Marked) (item amount : ℕ) → IsGrid (length c.what.books) c.what.books → thing_place (Item item) < length c.what.books → d.what ≡ with_amount c.what Used (Item item) (neg_ℤ (pos amount)) → d.marks ≡ mark_amount c Used (Item item) → MarksChanges c d
+marks-used c d item amount grid there what marks =
+    marks_by c d (record { what = with_amount c.what Used (Item item) (neg_ℤ (pos amount)); marks = mark_amount c Used (Item item) }) what marks
+    (marks-amount (length c.what.books) c Used (Item item) (neg_ℤ (pos amount)) grid there)
 
 -- ---- there is room for what a unit may use
 

@@ -2,6 +2,7 @@
 #![tactic(auto)]
 
 mod booking;
+mod build;
 mod pot_phase;
 pub mod pots;
 pub mod recruit;
@@ -9,6 +10,7 @@ pub mod shares;
 pub mod tax;
 pub mod work;
 
+pub use build::BuildPhase;
 pub use pots::{Pots, pot_shares};
 pub use recruit::RecruitPhase;
 pub use shares::share;

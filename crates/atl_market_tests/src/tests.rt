@@ -1,8 +1,11 @@
 //! Tests of atl_market by its public calls alone.
+mod build;
 mod campaigns;
+mod isle;
 mod plain;
 mod pots;
 mod recruit;
 mod shares;
+mod sites;
 mod tax;
 mod work;

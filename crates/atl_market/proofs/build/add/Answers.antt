@@ -1,0 +1,15 @@
+use Rattle.atl_state.specs.Marking.{mark_structure}
+use Rattle.atl_state.specs.State.{with_done}
+use Rattle.atl_state.proofs.CoverLaws.{marks-trans}
+use Rattle.atl_state.proofs.LeavingLaws.{marks-structure}
+use Rattle.atl_instant.proofs.MarkLaws.{marks_by}
+use Rattle.atl_market.proofs.build.add.Goals as goal
+
+pub returns-clause-marks : goal.returns-clause-marks
+returns-clause-marks c =
+    let old = c.args.campaign.now in
+    let mid = c.use_up.new.campaign in
+    let set = c.set_done in
+    marks-trans old mid set.new.self c.in_ok-use_up.ensures.marks
+    (marks_by mid set.new.self (record { what = with_done mid.what c.args.structure c.args.done; marks = mark_structure mid c.args.structure })
+    set.ensures.what set.ensures.marks (marks-structure (λ s. record s { done = c.args.done }) mid c.args.structure))

@@ -1,0 +1,24 @@
+use Rattle.std.proofs.Common.{◌≡◌, None, Some, sym}
+use Rattle.std.specs.List.{slice_get}
+use Rattle.atl_market.specs.Build.{begin_fault, size_added}
+use Rattle.atl_market.proofs.BuildLaws.{begin_done, can_use, size_held}
+use Rattle.atl_market.proofs.build.begin.Goals as goal
+
+pub start-requires-clause-uses : goal.start-requires-clause-uses
+start-requires-clause-uses c =
+    let w = c.args.world.now in
+    let u = c.in-Some.unit.now in
+    let k = c.in-Some-kind_of.found.now in
+    let kind_is : slice_get w.kinds c.args.kind ≡ Some k = sym c.in-Some-kind_of.ensures in
+    rw c.size_added-size.ensures
+    (can_use w c.args.campaign.now.what c.args.number k.material (size_added k u.holding 0) u (sym c.in-Some.ensures) (size_held k u.holding 0) (c.requires.can.kinds c.args.kind k kind_is).material c.requires.can c.requires.room)
+
+pub returns-clause-what : goal.returns-clause-what
+returns-clause-what c =
+    let w = c.args.world.now in
+    let old = c.args.campaign.now.what in
+    let u = c.in-Some.unit.now in
+    let k = c.in-Some-kind_of.found.now in
+    let kind_is : slice_get w.kinds c.args.kind ≡ Some k = sym c.in-Some-kind_of.ensures in
+    let none : begin_fault w old u k ≡ None = cc (c.in_default-begin_fault.ensures, c.in_default-begin_fault.is, c.begin_fault.ensures) in
+    begin_done w old c.start.new.campaign.what c.args.number c.args.kind u k c.size_added-size.result c.from.result (sym c.in-Some.ensures) kind_is none c.in_ok-start.ensures.what c.from.ensures c.size_added-size.ensures

@@ -1,0 +1,347 @@
+//! BUILD: units begin structures, and go on with those that they are inside.
+ghost use Rattle.std.specs.Prelude.{◌≡◌, ◌≤◌, ◌<◌, ◌++◌, IfOk, None, OnOk, Some, length, neg_ℤ, pos, true};
+ghost use Rattle.std.specs.FinMap as map;
+ghost use Rattle.std.specs.Fmt.{decimal};
+ghost use Rattle.std.specs.List.{slice_get};
+ghost use Rattle.std.specs.Option.{option_copied};
+ghost use Rattle.atl_tables.specs.Limits.{last_level};
+ghost use Rattle.atl_state.specs.Books.{amount_in, thing_place};
+ghost use Rattle.atl_state.specs.Covers.{MarksChanges};
+ghost use Rattle.atl_state.specs.Good.{IsSteady};
+ghost use Rattle.atl_state.specs.Held.{with_amount_of};
+ghost use Rattle.atl_state.specs.Lending.{lent};
+ghost use Rattle.atl_state.specs.Limits.{holding_limit, last_unit, most_structures};
+ghost use Rattle.atl_state.specs.Marking.{mark_amount};
+ghost use Rattle.atl_state.specs.State.{with_amount, with_done};
+ghost use Rattle.atl_state.specs.declared.books.Entry.TheVariants.{Used};
+ghost use Rattle.atl_state.specs.declared.books.Thing.TheVariants.{Item};
+ghost use Rattle.atl_state.specs.declared.records.Unit.{Unit};
+ghost use Rattle.atl_instant.specs.Meaning.{HasRoom, HaveRoom};
+ghost use Rattle.atl_instant.specs.Staying.{IsNoWorse};
+ghost use Rattle.atl_instant.specs.Steps.{IsOwnOrder};
+ghost use Rattle.atl_market.specs.Build.{CanBuild, CanUse, begin, begin_fault, begun, build_keeps, build_meaning, build_moves, build_reserve, build_step, go_on, gone_on, inside_fault, is_building, level_in, new_structure, outside_fault, size_added, sort_of, with_new, with_used};
+
+use atl_instant::{Month, OrderPhase, Phase, PhaseVerbs, Written, carry_out_orders, failed};
+use atl_orders::{Mailing, Order, Verb};
+use atl_state::{
+    Campaign, Entry, EventFault, Holding, MOST_STRUCTURES, Outcome, Structure, Thing, Unit,
+    is_land_at, level,
+};
+use atl_tables::{Kind, Text, World};
+use std::alloc::{AllocError, Global};
+
+/// Units begin structures, and go on with those that they are inside. See docs/RULES.md, "Building".
+#[derive(Drop, Clone, Copy)]
+pub struct BuildPhase;
+
+/// The level of a unit's men in a skill.
+fn level_in(holding: &Holding, skill: u16) -> u32
+    ensures value { result ≡ level_in holding.now skill }
+    ensures small { result ≤ last_level }
+{
+    level(holding.days_of(u32::from(skill)), holding.men())
+}
+
+/// A kind of the world by its number.
+fn kind_of(world: &World, number: u16) -> Option<&Kind>
+    ensures { option_copied result ≡ slice_get world.now.kinds number }
+{
+    world.kinds().get(usize::from(number))
+}
+
+/// How much material a unit adds in a month to a structure of a kind, of which so much is done.
+fn size_added(kind: &Kind, holding: &Holding, done: u32) -> u32
+    ensures { result ≡ size_added kind.now holding.now done }
+{
+    let work = holding.men() * level_in(holding, kind.skill);
+    let material = holding.amount(u32::from(kind.material));
+    work.min(material).min(kind.size.saturating_sub(done))
+}
+
+/// Why a unit doesn't begin a structure of a kind.
+fn begin_fault(world: &World, campaign: &Campaign, unit: &Unit, kind: &Kind) -> Option<EventFault>
+    ensures { result ≡ begin_fault world.now campaign.now.what unit.now kind.now }
+{
+    if unit.holding.men() == 0 {
+        Some(EventFault::NoMen)
+    } else if !is_land_at(world, unit.region) {
+        Some(EventFault::AtSea)
+    } else if level_in(&unit.holding, kind.skill) < kind.level {
+        Some(EventFault::NoSkill)
+    } else if unit.holding.amount(u32::from(kind.material)) == 0 {
+        Some(EventFault::NoMaterial)
+    } else if campaign.next_structure() > MOST_STRUCTURES {
+        Some(EventFault::StructureLimit)
+    } else {
+        None
+    }
+}
+
+/// Why a unit that is inside no structure doesn't go on with one.
+fn outside_fault(unit: &Unit) -> EventFault
+    ensures { Some result ≡ outside_fault unit.now }
+{
+    if unit.holding.men() == 0 {
+        EventFault::NoMen
+    } else {
+        EventFault::NotInside
+    }
+}
+
+/// Why a unit doesn't go on with the structure that it is inside, which is of a kind.
+fn inside_fault(unit: &Unit, structure: &Structure, kind: &Kind) -> Option<EventFault>
+    ensures { result ≡ inside_fault unit.now structure.now kind.now }
+{
+    if unit.holding.men() == 0 {
+        Some(EventFault::NoMen)
+    } else if kind.size <= structure.done {
+        Some(EventFault::Complete)
+    } else if level_in(&unit.holding, kind.skill) < kind.level {
+        Some(EventFault::NoSkill)
+    } else if unit.holding.amount(u32::from(kind.material)) == 0 {
+        Some(EventFault::NoMaterial)
+    } else {
+        None
+    }
+}
+
+/// Sets how much of an item a unit holds that is there.
+fn set_item(campaign: &mut Campaign, number: u32, item: u32, amount: u32) -> Result<(), AllocError>
+    requires { amount ≤ holding_limit }
+    ensures { OnOk result ((u : Unit) → map.get campaign.old.what.units number ≡ Some u → campaign.new ≡ lent campaign.old number (record u.holding { items = with_amount_of u.holding.items item amount })) }
+{
+    match campaign.unit_mut(number) {
+        Some(holding) => holding.set_amount(item, amount),
+        None => Ok(()),
+    }
+}
+
+/// Books that so much of an item is used.
+fn book_used(campaign: &mut Campaign, item: u16, amount: u32)
+    requires there { thing_place (Item item) < length campaign.old.what.books }
+    requires room { HasRoom amount (amount_in campaign.old.what.books Used (Item item)) }
+    ensures what { campaign.new.what ≡ with_amount campaign.old.what Used (Item item) (neg_ℤ (pos amount)) }
+    ensures marks { campaign.new.marks ≡ mark_amount campaign.old Used (Item item) }
+{
+    campaign.book(Entry::Used, Thing::Item(item), -i64::from(amount));
+}
+
+/// A unit has so much less of an item, which is booked as used.
+fn use_up(campaign: &mut Campaign, number: u32, item: u16, amount: u32) -> Result<(), AllocError>
+    requires { CanUse campaign.old.what number item amount }
+    ensures what { OnOk result (campaign.new.what ≡ with_used campaign.old.what number item amount) }
+    ensures marks { OnOk result (MarksChanges campaign.old campaign.new) }
+{
+    let Some(unit) = campaign.unit(number) else {
+        return Ok(());
+    };
+    let left = unit.holding.amount(u32::from(item)) - amount;
+    set_item(campaign, number, u32::from(item), left)?;
+    book_used(campaign, item, amount);
+    Ok(())
+}
+
+/// The name of a structure that has none of its own yet: `Ship 7` or `Building 7`.
+fn name_of(alloc: Global, kind: &Kind, number: u32) -> Result<Text, AllocError>
+    requires { number ≤ last_unit }
+    ensures { IfOk result (λ name. name ≡ sort_of kind.now ++ decimal number) }
+{
+    let letters = if kind.ship {
+        format!(in alloc; "Ship {number}")?
+    } else {
+        format!(in alloc; "Building {number}")?
+    };
+    Ok(Text::from_string(letters))
+}
+
+/// A structure that is begun, which nobody owns yet. The answer is its number.
+fn raise(
+    alloc: Global,
+    campaign: &mut Campaign,
+    number: u16,
+    kind: &Kind,
+    region: u32,
+    size: u32,
+) -> Result<u32, AllocError>
+    requires fresh { map.get campaign.old.what.structures campaign.old.what.next_structure ≡ None }
+    requires room { campaign.old.what.next_structure ≤ most_structures }
+    ensures what { OnOk result (campaign.new.what ≡ with_new campaign.old.what number kind.now region size) }
+    ensures number { IfOk result (λ place. place ≡ campaign.old.what.next_structure) }
+    ensures marks { OnOk result (MarksChanges campaign.old campaign.new) }
+{
+    let name = name_of(alloc, kind, campaign.next_structure())?;
+    campaign.begin_structure(Structure {
+        kind: number,
+        name,
+        region,
+        done: size,
+        owner: 0,
+    })
+}
+
+/// A unit uses so much for a new structure, leaves its old one and enters this.
+fn start(
+    alloc: Global,
+    campaign: &mut Campaign,
+    unit: u32,
+    number: u16,
+    kind: &Kind,
+    region: u32,
+    size: u32,
+) -> Result<(), AllocError>
+    requires uses { CanUse campaign.old.what unit kind.now.material size }
+    requires fresh { map.get campaign.old.what.structures campaign.old.what.next_structure ≡ None }
+    requires room { campaign.old.what.next_structure ≤ most_structures }
+    ensures what { OnOk result (campaign.new.what ≡ begun campaign.old.what unit number kind.now region size) }
+    ensures marks { OnOk result (MarksChanges campaign.old campaign.new) }
+{
+    use_up(campaign, unit, kind.material, size)?;
+    let next = raise(alloc, campaign, number, kind, region, size)?;
+    campaign.place(unit, region, next)?;
+    Ok(())
+}
+
+/// A unit begins a structure of a kind, or nothing changes where a fault fits.
+#[tactic(auto, unfolding(crate::specs::Build::begin))]
+fn begin(
+    alloc: Global,
+    world: &World,
+    campaign: &mut Campaign,
+    number: u32,
+    kind: u16,
+) -> Result<Outcome, AllocError>
+    requires can { CanBuild world.now campaign.old.what }
+    requires room { HaveRoom (build_reserve campaign.old.what) campaign.old.what }
+    ensures what { IfOk result (λ outcome. (campaign.new.what, outcome) ≡ begin world.now campaign.old.what number kind) }
+    ensures marks { OnOk result (MarksChanges campaign.old campaign.new) }
+{
+    let Some(unit) = campaign.unit(number) else {
+        return Ok(failed(EventFault::NotYours));
+    };
+    let Some(found) = kind_of(world, kind) else {
+        return Ok(Outcome::Done(0));
+    };
+    if let Some(fault) = begin_fault(world, campaign, unit, found) {
+        return Ok(failed(fault));
+    }
+    let size = size_added(found, &unit.holding, 0);
+    let region = unit.region;
+    start(alloc, campaign, number, kind, found, region, size)?;
+    Ok(Outcome::Done(u64::from(size)))
+}
+
+/// A unit uses so much for a structure, of which so much is done then.
+fn add(
+    campaign: &mut Campaign,
+    unit: u32,
+    material: u16,
+    size: u32,
+    structure: u32,
+    done: u32,
+) -> Result<(), AllocError>
+    requires { CanUse campaign.old.what unit material size }
+    ensures what { OnOk result (campaign.new.what ≡ gone_on campaign.old.what unit material size structure done) }
+    ensures marks { OnOk result (MarksChanges campaign.old campaign.new) }
+{
+    use_up(campaign, unit, material, size)?;
+    campaign.set_done(structure, done);
+    Ok(())
+}
+
+/// A unit goes on with the structure that it is inside, or nothing changes where a fault fits.
+#[tactic(auto, unfolding(crate::specs::Build::go_on))]
+fn go_on(world: &World, campaign: &mut Campaign, number: u32) -> Result<Outcome, AllocError>
+    requires can { CanBuild world.now campaign.old.what }
+    requires room { HaveRoom (build_reserve campaign.old.what) campaign.old.what }
+    ensures what { IfOk result (λ outcome. (campaign.new.what, outcome) ≡ go_on world.now campaign.old.what number) }
+    ensures marks { OnOk result (MarksChanges campaign.old campaign.new) }
+{
+    let Some(unit) = campaign.unit(number) else {
+        return Ok(failed(EventFault::NotYours));
+    };
+    let place = unit.structure;
+    let Some(structure) = campaign.structure(place) else {
+        return Ok(failed(outside_fault(unit)));
+    };
+    let Some(kind) = kind_of(world, structure.kind) else {
+        return Ok(Outcome::Done(0));
+    };
+    if let Some(fault) = inside_fault(unit, structure, kind) {
+        return Ok(failed(fault));
+    }
+    let size = size_added(kind, &unit.holding, structure.done);
+    let done = structure.done + size;
+    add(campaign, number, kind.material, size, place, done)?;
+    Ok(Outcome::Done(u64::from(size)))
+}
+
+impl PhaseVerbs for BuildPhase {
+    ghost is_of = { is_building };
+
+    fn has(&self, verb: Verb) -> bool {
+        matches!(verb, Verb::Build)
+    }
+}
+
+impl OrderPhase for BuildPhase {
+    ghost step = { λ _. build_step };
+
+    ghost is_taken = { λ s. true };
+
+    ghost holds = { CanBuild };
+
+    ghost reserve = { build_reserve };
+
+    ghost moving = { build_moves };
+
+    ghost concerns = { IsOwnOrder };
+
+    ghost spares = { IsNoWorse };
+
+    fn takes(&self, _: &Order) -> bool {
+        true
+    }
+
+    fn carry_out(
+        &self,
+        alloc: Global,
+        world: &World,
+        campaign: &mut Campaign,
+        _: &Month,
+        order: Written,
+        _: &Mailing,
+        what: &Order,
+    ) -> Result<Outcome, AllocError> {
+        match what {
+            Order::Build(Some(kind)) => begin(alloc, world, campaign, order.unit, *kind),
+            Order::Build(None) => go_on(world, campaign, order.unit),
+            _ => Ok(Outcome::Done(0)),
+        }
+    }
+
+    fn is_orderly(&self) {}
+}
+
+impl Phase for BuildPhase {
+    ghost meaning = { build_meaning };
+
+    ghost needs = { IsSteady };
+
+    ghost leaves = { IsSteady };
+
+    ghost moving = { build_moves };
+
+    ghost keeps = { build_keeps };
+
+    fn run(
+        &self,
+        alloc: Global,
+        world: &World,
+        mut campaign: Campaign,
+        mut month: Month,
+    ) -> Result<(Campaign, Month), AllocError> {
+        let _kinds = world.kinds();
+        carry_out_orders(alloc, self, world, &mut campaign, &mut month)?;
+        Ok((campaign, month))
+    }
+}

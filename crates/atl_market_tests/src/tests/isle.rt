@@ -1,0 +1,123 @@
+//! An island: a shore in the west, a sound, and two woods in the east.
+use atl_tables::{World, read_world};
+use std::alloc::Global;
+use std::test::Fail;
+
+/// Regions 1, 2 and 3 lie from west to east, and 4 in the north of 3; 2 is water.
+const WORLD: &str = r#"[rules]
+maintenance = 10
+tax_per_man = 10
+recruit_price = 50
+recruit_fraction = 4
+growth = 0
+income = 1
+start_money = 1000
+man_weight = 10
+man_carry = 5
+observation = "observation"
+stealth = "stealth"
+sailing = "sailing"
+[[terrain]]
+name = "plain"
+land = true
+wage = 12
+places = 100
+money_limit = 5000
+peasant_limit = 2000
+[[terrain]]
+name = "forest"
+land = true
+wage = 10
+places = 50
+money_limit = 2000
+peasant_limit = 500
+output = { wood = 20 }
+[[terrain]]
+name = "ocean"
+land = false
+wage = 1
+places = 0
+money_limit = 0
+peasant_limit = 0
+[[item]]
+name = "wood"
+weight = 5
+carry = 0
+skill = "lumberjack"
+[[item]]
+name = "cart"
+weight = 50
+carry = 100
+skill = "carpentry"
+raw = "wood"
+raw_count = 5
+[[skill]]
+name = "lumberjack"
+fee = 0
+[[skill]]
+name = "carpentry"
+fee = 10
+[[skill]]
+name = "shipbuilding"
+fee = 20
+[[skill]]
+name = "sailing"
+fee = 10
+[[skill]]
+name = "stealth"
+fee = 20
+[[skill]]
+name = "observation"
+fee = 20
+[[kind]]
+name = "boat"
+ship = true
+material = "wood"
+size = 10
+skill = "shipbuilding"
+level = 1
+capacity = 200
+crew = 2
+[[kind]]
+name = "lodge"
+ship = false
+material = "wood"
+size = 20
+skill = "carpentry"
+level = 1
+helps = "lumberjack"
+[[region]]
+number = 1
+name = "Shore"
+terrain = "plain"
+peasants = 1000
+money = 500
+east = 2
+[[region]]
+number = 2
+name = "Sound"
+terrain = "ocean"
+peasants = 0
+money = 0
+east = 3
+west = 1
+[[region]]
+number = 3
+name = "Far"
+terrain = "forest"
+peasants = 200
+money = 100
+north = 4
+west = 2
+[[region]]
+number = 4
+name = "Wood"
+terrain = "forest"
+peasants = 100
+money = 50
+south = 3
+"#;
+
+pub(crate) fn isle(alloc: Global) -> Result<World, Fail> {
+    Ok(read_world(alloc, WORLD)?)
+}
