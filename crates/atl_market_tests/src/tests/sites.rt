@@ -25,12 +25,7 @@ pub(crate) type Had = (u32, u8, u32, u32);
 pub(crate) type Built = (u32, u32, u32, u32);
 
 /// Units, what they have, and structures, numbered from 1; and how many boats stand besides, which are done and nobody's.
-pub(crate) type Setting = (
-    &'static [Stood],
-    &'static [Had],
-    &'static [Built],
-    u32,
-);
+pub(crate) type Setting = (&'static [Stood], &'static [Had], &'static [Built], u32);
 
 /// How many factions there are.
 const FACTIONS: u32 = 2;

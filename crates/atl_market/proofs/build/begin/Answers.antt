@@ -20,5 +20,5 @@ returns-clause-what c =
     let u = c.in-Some.unit.now in
     let k = c.in-Some-kind_of.found.now in
     let kind_is : slice_get w.kinds c.args.kind ≡ Some k = sym c.in-Some-kind_of.ensures in
-    let none : begin_fault w old u k ≡ None = cc (c.in_default-begin_fault.ensures, c.in_default-begin_fault.is, c.begin_fault.ensures) in
+    let none : begin_fault w old u k ≡ None = sym c.in_default-begin_fault.ensures in
     begin_done w old c.start.new.campaign.what c.args.number c.args.kind u k c.size_added-size.result c.from.result (sym c.in-Some.ensures) kind_is none c.in_ok-start.ensures.what c.from.ensures c.size_added-size.ensures

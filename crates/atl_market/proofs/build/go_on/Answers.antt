@@ -10,7 +10,7 @@ overflow_add-done c =
     let s = c.in-Some-structure.structure.now in
     let k = c.in-Some-kind_of.kind.now in
     let kind_is : slice_get c.args.world.now.kinds s.kind ≡ Some k = sym c.in-Some-kind_of.ensures in
-    let none : inside_fault u s k ≡ None = cc (c.in_default-inside_fault.ensures, c.in_default-inside_fault.is, c.inside_fault.ensures) in
+    let none : inside_fault u s k ≡ None = sym c.in_default-inside_fault.ensures in
     let small : s.done + c.size_added-size.result ≤ 999999 = rw c.size_added-size.ensures (done_small u s k none (c.requires.can.kinds s.kind k kind_is).size) in
     omega (arith, small)
 
@@ -32,5 +32,5 @@ returns-clause-what c =
     let s = c.in-Some-structure.structure.now in
     let k = c.in-Some-kind_of.kind.now in
     let kind_is : slice_get w.kinds s.kind ≡ Some k = sym c.in-Some-kind_of.ensures in
-    let none : inside_fault u s k ≡ None = cc (c.in_default-inside_fault.ensures, c.in_default-inside_fault.is, c.inside_fault.ensures) in
+    let none : inside_fault u s k ≡ None = sym c.in_default-inside_fault.ensures in
     go_on_done w old c.add.new.campaign.what c.args.number u s k c.size_added-size.result c.from.result (sym c.in-Some.ensures) (sym c.in-Some-structure.ensures) kind_is none c.in_ok-add.ensures.what c.from.ensures c.size_added-size.ensures
