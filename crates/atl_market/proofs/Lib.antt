@@ -15,3 +15,6 @@ pub mod BuildUsedLaws
 pub mod BuildBegunLaws
 pub mod BuildPlaceLaws
 pub mod BuildLaws
+pub mod GroupLaws
+pub mod StockLaws
+pub mod ProduceLaws

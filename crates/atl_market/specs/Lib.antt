@@ -7,3 +7,5 @@ pub mod Tax
 pub mod Recruit
 pub mod Work
 pub mod Build
+pub mod Produce
+pub mod Making

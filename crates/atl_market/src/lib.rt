@@ -5,6 +5,7 @@ mod booking;
 mod build;
 mod pot_phase;
 pub mod pots;
+pub mod produce;
 pub mod recruit;
 pub mod shares;
 pub mod tax;
@@ -12,6 +13,7 @@ pub mod work;
 
 pub use build::BuildPhase;
 pub use pots::{Pots, pot_shares};
+pub use produce::ProducePhase;
 pub use recruit::RecruitPhase;
 pub use shares::share;
 pub use tax::TaxPhase;

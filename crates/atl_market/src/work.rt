@@ -27,7 +27,7 @@ use std::alloc::{AllocError, Global};
 pub struct WorkPhase;
 
 /// Whether a unit's own faction wrote an order for it.
-fn is_own(campaign: &Campaign, order: Written) -> bool
+pub(crate) fn is_own(campaign: &Campaign, order: Written) -> bool
     ensures { result ≡ is_own order (finmap.get campaign.now.what.units order.unit) }
 {
     match campaign.unit(order.unit) {

@@ -1,1 +1,2 @@
 pub mod FitLaws
+pub mod ProduceFitLaws

@@ -4,6 +4,8 @@ mod campaigns;
 mod isle;
 mod plain;
 mod pots;
+mod produce;
+mod produce_plain;
 mod recruit;
 mod shares;
 mod sites;

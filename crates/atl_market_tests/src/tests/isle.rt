@@ -3,8 +3,8 @@ use atl_tables::{World, read_world};
 use std::alloc::Global;
 use std::test::Fail;
 
-/// Regions 1, 2 and 3 lie from west to east, and 4 in the north of 3; 2 is water.
-const WORLD: &str = r#"[rules]
+/// Regions 1, 2 and 3 lie from west to east, and 4 in the north of 3; 2 is water. Forests give 20 wood, and a cart is made of 5.
+pub(crate) const ISLE: &str = r#"[rules]
 maintenance = 10
 tax_per_man = 10
 recruit_price = 50
@@ -119,5 +119,5 @@ south = 3
 "#;
 
 pub(crate) fn isle(alloc: Global) -> Result<World, Fail> {
-    Ok(read_world(alloc, WORLD)?)
+    Ok(read_world(alloc, ISLE)?)
 }

@@ -1,0 +1,298 @@
+-- Producing leaves a campaign well.
+use Rattle.std.proofs.Common.{◌≡◌, ◌≢◌, ◌==◌, ℕ, ◌+◌, ◌-◌, ◌*◌, ◌/◌, ◌≤◌, ◌<◌, Bool, true, false, List, [], ◌∷◌, length, Option, Some, None, refl, sym, ap, subst, ◌∙◌, arith}
+use Rattle.std.specs.Prelude.{IfSome, fold, min, if◌then◌else◌}
+use Rattle.std.specs.List.{AllByRecursion, flat_map, slice_get}
+use Rattle.std.specs.Ordering.{nat_cmp}
+use Rattle.std.specs.FinMap.{FinMap, empty, entries, get}
+use Rattle.std.proofs.lemmas.Bool.Decides.{nat_tests}
+use Rattle.std.proofs.lemmas.Option.{slice_get_within}
+use Rattle.std.proofs.Math.Nat.{mul-div-le, mul-le-mul_right, mul_comm}
+use Rattle.atl_tables.specs.Planet.{IsWorld, Planet}
+use Rattle.atl_tables.specs.declared.world.Item.{Item}
+use Rattle.atl_state.specs.declared.books.Entry.{Entry}
+use Rattle.atl_state.specs.declared.books.Entry.TheVariants as booked
+use Rattle.atl_state.specs.declared.books.Thing.{Thing}
+use Rattle.atl_state.specs.declared.books.Thing.TheVariants as things
+use Rattle.atl_state.specs.declared.event.EventFault.{EventFault}
+use Rattle.atl_state.specs.declared.records.Unit.{Unit}
+use Rattle.atl_state.specs.Deciding.{EachOf}
+use Rattle.atl_state.specs.Good.{Every, IsSteady}
+use Rattle.atl_state.specs.Held.{Held, amount_of, with_amount_of}
+use Rattle.atl_state.specs.Limits.{holding_limit, most_units}
+use Rattle.atl_state.specs.Marks.{amount_number}
+use Rattle.atl_state.specs.State.{State}
+use Rattle.atl_state.proofs.BackLaws.{Rise, entries_rise}
+use Rattle.atl_state.proofs.EveryLaws.{each-from_every, every-empty, none_some}
+use Rattle.atl_instant.specs.Meaning.{HaveRoom, LeavesWell, Moving, both_move, moved_times, most_moved, moves_only}
+use Rattle.atl_instant.specs.declared.written.Written.{Written}
+use Rattle.atl_instant.proofs.AmountsLaws.{amount_within}
+use Rattle.atl_instant.proofs.MeaningLaws.{MovesLess, both_leave_well, room_behind, room_less, well_unchanged, well_within}
+use Rattle.atl_market.specs.Making.{CanMake, CanMakeOf, CanProduce, CanUse, Fits, step_most}
+use Rattle.atl_market.specs.PotPhase.{CanInTurn, fault_of, given_by, shared_out, want_at, want_by, wants_by}
+use Rattle.atl_market.specs.Pots.{with_each}
+use Rattle.atl_market.specs.Produce.{can_make, can_make_of, level_in, produce_moves, produced, produced_by, produced_of, producing, up_to_raw, with_made, with_raw_used, with_used}
+use Rattle.atl_market.specs.Unordered.{OthersAreNoWorse}
+use Rattle.atl_market.proofs.GroupLaws.{makes_give}
+use Rattle.atl_market.proofs.OrderedLaws.{others_no_worse}
+use Rattle.atl_market.proofs.StockLaws.{made_others, made_well, no_more, used_others, used_unit, used_well}
+use Rattle.atl_market.proofs.TurnLaws.{first_room, later_room, turns_leave_well}
+use Rattle.atl_market.proofs.WantLaws.{appended_entries, every-with_each, few_given}
+
+-- ---- what is moved
+
+on : (b : Bool) → (if b then holding_limit else 0) ≤ holding_limit
+on true = omega arith
+on false = omega arith
+
+off : (a b : ℕ) → a ≢ b → (if a == b then holding_limit else 0) ≤ 0
+off a b apart = let other : (a == b) ≡ false = grind (arith, nat_tests) in rw other (omega arith)
+
+used_less : (r : ℕ) → MovesLess (moves_only holding_limit booked.Used (things.Item r)) (produce_moves holding_limit)
+used_less r booked.Made (things.Item j) = on (amount_number booked.Made (things.Item j) == amount_number booked.Used (things.Item r))
+used_less r booked.Used (things.Item j) = on (amount_number booked.Used (things.Item j) == amount_number booked.Used (things.Item r))
+used_less r e t = off (amount_number e t) (amount_number booked.Used (things.Item r)) (omega arith)
+
+made_less : (i : ℕ) → MovesLess (moves_only holding_limit booked.Made (things.Item i)) (produce_moves holding_limit)
+made_less i booked.Made (things.Item j) = on (amount_number booked.Made (things.Item j) == amount_number booked.Made (things.Item i))
+made_less i booked.Used (things.Item j) = on (amount_number booked.Used (things.Item j) == amount_number booked.Made (things.Item i))
+made_less i e t = off (amount_number e t) (amount_number booked.Made (things.Item i)) (omega arith)
+
+scaled : (steps one all : ℕ) → steps * one ≤ all → (e : Entry) (t : Thing) → steps * produce_moves one e t ≤ produce_moves all e t
+scaled steps one all few booked.Made (things.Item i) = few
+scaled steps one all few booked.Used (things.Item i) = few
+scaled steps one all few e t = omega arith
+
+twice : (e : Entry) (t : Thing) → 2 * produce_moves holding_limit e t ≤ produce_moves step_most e t
+twice e t = scaled 2 holding_limit step_most (omega arith) e t
+
+both_less : (r i : ℕ) → MovesLess (both_move (moves_only holding_limit booked.Used (things.Item r)) (moves_only holding_limit booked.Made (things.Item i))) (produce_moves step_most)
+both_less r i e t = omega (arith, used_less r e t, made_less i e t, twice e t)
+
+used_and_more : (r : ℕ) → MovesLess (both_move (moves_only holding_limit booked.Used (things.Item r)) (produce_moves holding_limit)) (produce_moves step_most)
+used_and_more r e t = omega (arith, used_less r e t, twice e t)
+
+one_step : MovesLess (produce_moves holding_limit) (produce_moves step_most)
+one_step e t = omega (arith, twice e t)
+
+made_step : (i : ℕ) → MovesLess (moves_only holding_limit booked.Made (things.Item i)) (produce_moves step_most)
+made_step i e t = omega (arith, made_less i e t, twice e t)
+
+-- ---- one step
+
+module _ (asked : FinMap nat_cmp ℕ) (w : Planet) (c : State) (e : ℕ × ℕ) where
+  module _ (can : CanProduce asked w c e) (i : ℕ) (x : Item) (told : get asked e.0 ≡ Some i) (there : slice_get w.items i ≡ Some x) where
+    -- it can use the raw items
+    can_use : (r : ℕ) → x.raw ≡ Some r → CanUse w c e.0 r (e.1 * x.raw_count)
+    can_use r raw =
+        let fits = can.fits i x told there in
+        record {
+          unit = can.unit;
+          there = can.there;
+          known = fits.raw_known r raw;
+          enough = fits.raw r raw;
+          steady = can.steady;
+          room = room_less (produce_moves holding_limit) (produce_moves step_most) c one_step can.room booked.Used (things.Item r);
+        }
+
+    can_at_once : CanMake w c e.0 i e.1
+    can_at_once =
+        let fits = can.fits i x told there in
+        record {
+          unit = can.unit;
+          there = can.there;
+          known = fits.known;
+          fits = fits.fits;
+          steady = can.steady;
+          room = room_less (produce_moves holding_limit) (produce_moves step_most) c one_step can.room booked.Made (things.Item i);
+        }
+
+    can_behind : (r : ℕ) → x.raw ≡ Some r → CanMake w (with_used c e.0 r (e.1 * x.raw_count)) e.0 i e.1
+    can_behind r raw =
+        let fits = can.fits i x told there in
+        let well = used_well w c e.0 r (e.1 * x.raw_count) (can_use r raw) in
+        let left = no_more can.unit.holding r i (e.1 * x.raw_count) in
+        let h : Held = record can.unit.holding { items = with_amount_of can.unit.holding.items r (amount_of can.unit.holding.items r - e.1 * x.raw_count) } in
+        record {
+          unit = record can.unit { holding = h };
+          there = used_unit w c e.0 r (e.1 * x.raw_count) can.unit can.there;
+          known = fits.known;
+          fits = below (amount_of h.items i) (amount_of can.unit.holding.items i) left fits.fits;
+          steady = well.leaves_it;
+          room = room_behind (moves_only holding_limit booked.Used (things.Item r)) (produce_moves holding_limit) w c (with_used c e.0 r (e.1 * x.raw_count)) well
+              (room_less (both_move (moves_only holding_limit booked.Used (things.Item r)) (produce_moves holding_limit)) (produce_moves step_most) c (used_and_more r) can.room) booked.Made (things.Item i);
+        }
+      where
+        below : (a b : ℕ) → a ≤ b → b + e.1 ≤ holding_limit → a + e.1 ≤ holding_limit
+        below a b l m = omega (arith, l, m)
+
+    -- and make the item then
+    can_make_then : CanMake w (with_raw_used c e.0 (e.1 * x.raw_count) x.raw) e.0 i e.1
+    can_make_then = by_raw x.raw refl
+      where
+        by_raw : (o : Option ℕ) → x.raw ≡ o → CanMake w (with_raw_used c e.0 (e.1 * x.raw_count) o) e.0 i e.1
+        by_raw None is = can_at_once
+        by_raw (Some r) is = can_behind r is
+
+    pub can_make_item : CanMakeOf w c e.0 e.1 i x
+    can_make_item = record {
+      use_raw = can_use;
+      few_raw = λ r raw. omega (arith, (can.fits i x told there).raw r raw, amount_within can.unit.holding r (can.steady.numbers.units e.0 can.unit can.there).1);
+      make = can_make_then;
+    }
+
+    item_well : LeavesWell IsSteady (produce_moves step_most) w c (with_made (with_raw_used c e.0 (e.1 * x.raw_count) x.raw) e.0 i e.1)
+    item_well = by_raw x.raw refl
+      where
+        by_raw : (o : Option ℕ) → x.raw ≡ o → LeavesWell IsSteady (produce_moves step_most) w c (with_made (with_raw_used c e.0 (e.1 * x.raw_count) o) e.0 i e.1)
+        by_raw None is = well_within (moves_only holding_limit booked.Made (things.Item i)) (produce_moves step_most) w c (with_made c e.0 i e.1) (made_step i) (made_well w c e.0 i e.1 can_at_once)
+        by_raw (Some r) is =
+            let d = with_used c e.0 r (e.1 * x.raw_count) in
+            let one = moves_only holding_limit booked.Used (things.Item r) in
+            let two = moves_only holding_limit booked.Made (things.Item i) in
+            well_within (both_move one two) (produce_moves step_most) w c (with_made d e.0 i e.1) (both_less r i)
+            (both_leave_well one two w c d (with_made d e.0 i e.1) (used_well w c e.0 r (e.1 * x.raw_count) (can_use r is)) (made_well w d e.0 i e.1 (can_behind r is)))
+
+  pub produced_well : CanProduce asked w c e → LeavesWell IsSteady (produce_moves step_most) w c (produced asked w c e)
+  unfolding produced
+  produced_well can = by_item (get asked e.0) refl
+    where
+      by_world : (i : ℕ) → get asked e.0 ≡ Some i → (o : Option Item) → slice_get w.items i ≡ o → LeavesWell IsSteady (produce_moves step_most) w c (produced_of c e i o)
+      by_world i told None is = well_unchanged (produce_moves step_most) w c can.steady
+      by_world i told (Some x) is = item_well can i x told is
+
+      by_item : (o : Option ℕ) → get asked e.0 ≡ o → LeavesWell IsSteady (produce_moves step_most) w c (produced_by w c e o)
+      by_item None is = well_unchanged (produce_moves step_most) w c can.steady
+      by_item (Some i) is = by_world i is (slice_get w.items i) refl
+
+  -- nothing changes for other units
+  pub produced_others : (k : ℕ) → k ≢ e.0 → get (produced asked w c e).units k ≡ get c.units k
+  unfolding produced
+  produced_others k apart = by_item (get asked e.0)
+    where
+      by_raw : (i amount : ℕ) (o : Option ℕ) → get (with_made (with_raw_used c e.0 amount o) e.0 i e.1).units k ≡ get c.units k
+      by_raw i amount None = made_others w c e.0 i e.1 k apart
+      by_raw i amount (Some r) = made_others w (with_used c e.0 r amount) e.0 i e.1 k apart ∙ used_others w c e.0 r amount k apart
+
+      by_world : (i : ℕ) (o : Option Item) → get (produced_of c e i o).units k ≡ get c.units k
+      by_world i None = refl
+      by_world i (Some x) = by_raw i (e.1 * x.raw_count) x.raw
+
+      by_item : (o : Option ℕ) → get (produced_by w c e o).units k ≡ get c.units k
+      by_item None = refl
+      by_item (Some i) = by_world i (slice_get w.items i)
+
+pub produce_keeps_others : (asked : FinMap nat_cmp ℕ) (w : Planet) (c : State) (os : List Written) → OthersAreNoWorse os c (shared_out (producing asked) w c os)
+produce_keeps_others asked w c os = others_no_worse (producing asked) w (produced_others asked w) c (makes_give asked w c) os
+
+-- ---- what a unit makes it can make
+
+module _ (asked : FinMap nat_cmp ℕ) (w : Planet) (c : State) where
+  -- a unit wants what it can make
+  abbrev IsWanted : ℕ → ℕ → Type 0
+  IsWanted n want = (u : Unit) × (get c.units n ≡ Some u) × (want ≡ can_make w u.holding (get asked n))
+
+  wanted_at : (o : Written) (f : Option EventFault) (u : Option Unit) → get c.units o.unit ≡ u → AllByRecursion (λ e. IsWanted e.0 e.1) (want_at (producing asked) w c o f u)
+  wanted_at o (Some f) u is = tt
+  wanted_at o None (Some u) is = ((u, is, refl), tt)
+  wanted_at o None None is = tt
+
+  all_wanted : (m : FinMap nat_cmp ℕ) (os : List Written) → Every IsWanted m → Every IsWanted (with_each m (flat_map (want_by (producing asked) w c) os))
+  all_wanted m [] old = old
+  all_wanted m (o ∷ os) old =
+      subst (Every IsWanted) (sym (appended_entries m (want_by (producing asked) w c o) (flat_map (want_by (producing asked) w c) os)))
+      (all_wanted (with_each m (want_by (producing asked) w c o)) os
+      (every-with_each IsWanted m (want_by (producing asked) w c o) (wanted_at o (fault_of (producing asked) w c o) (get c.units o.unit) refl) old))
+
+  -- and makes that much at most
+  abbrev Makes : ℕ × ℕ → Type 0
+  Makes e = (u : Unit) × (get c.units e.0 ≡ Some u) × (e.1 ≤ can_make w u.holding (get asked e.0))
+
+  given_can : (os : List Written) → Every (λ n made. Makes (n, made)) (given_by (producing asked) w c os)
+  given_can os n made is =
+      let (want, wanted, low) = makes_give asked w c (wants_by (producing asked) w c os) n made is in
+      let (u, there, same) = all_wanted empty os (every-empty IsWanted) n want wanted in
+      (u, there, subst (λ k. made ≤ k) same low)
+
+up_to_most : (h : Held) (count : ℕ) (raw : Option ℕ) (most : ℕ) → up_to_raw h count raw most ≤ most
+up_to_most h count None most = omega arith
+up_to_most h count (Some r) most = omega arith
+
+up_to_held : (h : Held) (count : ℕ) (raw : Option ℕ) (most r : ℕ) → raw ≡ Some r → up_to_raw h count raw most ≤ amount_of h.items r / count
+up_to_held h count raw most r is = subst (λ o. up_to_raw h count o most ≤ amount_of h.items r / count) (sym is) (omega arith)
+
+has_room : (made skilled limit held most : ℕ) → held ≤ limit → made ≤ most → most ≤ min skilled (limit - held) → held + made ≤ limit
+has_room made skilled limit held most fits low least = omega (arith, fits, low, least)
+
+has_raw : (made count held : ℕ) → made ≤ held / count → made * count ≤ held
+has_raw made count held low = omega (arith, mul-le-mul_right count low, mul-div-le held count, mul_comm (held / count) count)
+
+raw_in : (items r : ℕ) (o : Option ℕ) → o ≡ Some r → IfSome o (λ k. k < items) → r < items
+raw_in items r None is known = none_some r is
+raw_in items r (Some k) is known = let same : k ≡ r = cc in subst (λ m. m < items) same known
+
+module _ (asked : FinMap nat_cmp ℕ) (w : Planet) (c : State) (world : IsWorld w) (steady : IsSteady w c) where
+  fits_by : (n made : ℕ) (u : Unit) → get c.units n ≡ Some u → made ≤ can_make w u.holding (get asked n) → (i : ℕ) (x : Item) → get asked n ≡ Some i → slice_get w.items i ≡ Some x → Fits w u made i x
+  fits_by n made u there low i x told is =
+      let all : made ≤ can_make_of u.holding i (Some x) = subst (λ o. made ≤ can_make_of u.holding i o) is (subst (λ o. made ≤ can_make w u.holding o) told low) in
+      let skilled = u.holding.men * level_in u.holding x.skill in
+      let most = min skilled (holding_limit - amount_of u.holding.items i) in
+      record {
+        known = slice_get_within w.items i x is;
+        fits = has_room made skilled holding_limit (amount_of u.holding.items i) (up_to_raw u.holding x.raw_count x.raw most) (amount_within u.holding i (steady.numbers.units n u there).1) all (up_to_most u.holding x.raw_count x.raw most);
+        raw_known = λ r raw. raw_in (length w.items) r x.raw raw (world.items i x is).raw;
+        raw = λ r raw. has_raw made x.raw_count (amount_of u.holding.items r) (omega (arith, all, up_to_held u.holding x.raw_count x.raw most r raw));
+      }
+
+-- ---- all steps can be taken
+
+-- a unit is there and can make so much
+abbrev HasRoomFor : (FinMap nat_cmp ℕ) → Planet → State → ℕ × ℕ → Type 0
+HasRoomFor asked w c e = (u : Unit) × (get c.units e.0 ≡ Some u) × ((i : ℕ) (x : Item) → get asked e.0 ≡ Some i → slice_get w.items i ≡ Some x → Fits w u e.1 i x)
+
+module _ (asked : FinMap nat_cmp ℕ) (w : Planet) where
+  abbrev step_moves : Moving
+  step_moves = produce_moves step_most
+
+  still : (c d : State) (n : ℕ) (es : List (ℕ × ℕ)) → ((k : ℕ) → k ≢ n → get d.units k ≡ get c.units k) → AllByRecursion (λ f. n < f.0) es → AllByRecursion (HasRoomFor asked w c) es → AllByRecursion (HasRoomFor asked w d) es
+  still c d n [] same above all = tt
+  still c d n (f ∷ es) same above ((u, there, fits), all) = ((u, same f.0 (λ e. absurd (omega (arith, e, above.0))) ∙ there, fits), still c d n es same above.1 all)
+
+  pub produce_in_turn : (c : State) (es : List (ℕ × ℕ)) → Rise es → IsSteady w c → HaveRoom (moved_times (length es) step_moves) c → AllByRecursion (HasRoomFor asked w c) es → CanInTurn (CanProduce asked w) (produced asked w) c es
+  produce_in_turn c [] rise steady room all = tt
+  produce_in_turn c (e ∷ es) rise steady room ((u, there, fits), all) =
+      let can : CanProduce asked w c e = record { unit = u; there = there; fits = fits; steady = steady; room = first_room step_moves c e es room } in
+      let well = produced_well asked w c e can in (
+        can,
+        produce_in_turn (produced asked w c e) es rise.1 well.leaves_it (later_room step_moves w c (produced asked w c e) e es well room)
+            (still c (produced asked w c e) e.0 es (produced_others asked w c e) rise.0 all),
+      )
+
+  module _ (c : State) (world : IsWorld w) (steady : IsSteady w c) (os : List Written) where
+    abbrev shares : List (ℕ × ℕ)
+    shares = entries (given_by (producing asked) w c os)
+
+    each_fits : Every (λ n made. HasRoomFor asked w c (n, made)) (given_by (producing asked) w c os)
+    each_fits n made is =
+        let (u, there, low) = given_can asked w c os n made is in
+        (u, there, fits_by asked w c world steady n made u there low)
+
+    few : length shares ≤ most_units
+    few = omega (arith, few_given (producing asked) w c (makes_give asked w c) os, steady.numbers.few_units)
+
+    little : MovesLess (moved_times (length shares) step_moves) (produce_moves most_moved)
+    little e t = scaled (length shares) step_most most_moved (omega (arith, few)) e t
+
+    pub can_share_out : HaveRoom (produce_moves most_moved) c → CanInTurn (CanProduce asked w) (produced asked w) c shares
+    can_share_out room =
+        produce_in_turn c shares (entries_rise (given_by (producing asked) w c os)) steady (room_less (moved_times (length shares) step_moves) (produce_moves most_moved) c little room)
+        (all_fit shares (each-from_every (λ n made. HasRoomFor asked w c (n, made)) (given_by (producing asked) w c os) each_fits))
+      where
+        all_fit : (es : List (ℕ × ℕ)) → EachOf (λ n made. HasRoomFor asked w c (n, made)) es → AllByRecursion (HasRoomFor asked w c) es
+        all_fit [] h = tt
+        all_fit (e ∷ es) h = (h.0, all_fit es h.1)
+
+    pub produce_leaves_well : HaveRoom (produce_moves most_moved) c → LeavesWell IsSteady (produce_moves most_moved) w c (shared_out (producing asked) w c os)
+    unfolding shared_out
+    produce_leaves_well room =
+        well_within (moved_times (length shares) step_moves) (produce_moves most_moved) w c (fold (produced asked w) c shares) little
+        (turns_leave_well step_moves w (CanProduce asked w) (produced asked w) (produced_well asked w) c shares steady (can_share_out room))

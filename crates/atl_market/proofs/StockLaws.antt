@@ -1,0 +1,185 @@
+-- A unit uses an item, or makes one.
+use Rattle.std.proofs.Common.{◌≡◌, ◌≢◌, ◌==◌, ℕ, ◌+◌, ◌-◌, ◌≤◌, ◌<◌, Bool, true, false, cond, Option, Some, None, length, refl, sym, ap, subst, ◌∙◌, arith}
+use Rattle.std.specs.Prelude.{ℤ, pos, neg_ℤ, ◌+ℤ◌, if◌then◌else◌}
+use Rattle.std.specs.Ordering.{nat_cmp, eq_by_cmp}
+use Rattle.std.specs.Cmp.{unsigned_ties}
+use Rattle.std.specs.FinMap.{get, insert}
+use Rattle.std.proofs.lemmas.Int.{ints}
+use Rattle.std.proofs.lemmas.Bool.Decides.{nat_tests}
+use Rattle.atl_tables.specs.Planet.{Planet}
+use Rattle.atl_state.specs.declared.books.Entry.{Entry}
+use Rattle.atl_state.specs.declared.books.Entry.TheVariants as entries
+use Rattle.atl_state.specs.declared.books.Thing.{Thing}
+use Rattle.atl_state.specs.declared.books.Thing.TheVariants.{Item, Money, People}
+use Rattle.atl_state.specs.declared.records.Unit.{Unit}
+use Rattle.atl_state.specs.Books.{IsGrid, IsWithin}
+use Rattle.atl_state.specs.Covers.{MarksChanges}
+use Rattle.atl_state.specs.Founding.{things_of}
+use Rattle.atl_state.specs.Good.{IsSteady}
+use Rattle.atl_state.specs.Held.{Held, amount_of, with_amount_of}
+use Rattle.atl_state.specs.Lending.{lent, with_held}
+use Rattle.atl_state.specs.Limits.{holding_limit}
+use Rattle.atl_state.specs.Marking.{mark_amount}
+use Rattle.atl_state.specs.State.{Marked, State, with_amount}
+use Rattle.atl_state.specs.Totals.{held, total}
+use Rattle.atl_state.proofs.BookLaws.{booked-with_booked, share_of}
+use Rattle.atl_state.proofs.CoverLaws.{marks-amount, marks-trans}
+use Rattle.atl_state.proofs.EveryLaws.{get-insert_other}
+use Rattle.atl_state.proofs.HavingLaws.{MayHave, may_have}
+use Rattle.atl_state.proofs.HoldingLaws.{marks-lent, steady-held, total-held}
+use Rattle.atl_state.proofs.RegionLaws.{get-insert_same, steady-amount, total-amount}
+use Rattle.atl_instant.specs.Meaning.{HaveRoom, LeavesWell, moves_only}
+use Rattle.atl_instant.proofs.AmountsLaws.{alike, amount_within, every_amount, set_amount}
+use Rattle.atl_instant.proofs.BookingLaws.{booked-near, within-neg, within-pos}
+use Rattle.atl_market.specs.Making.{CanMake, CanUse}
+use Rattle.atl_market.specs.Produce.{made_to, used_by, with_item, with_made, with_used}
+
+moved : (x y t k a l : ℕ) (z : ℤ) → x ≡ y → y + k ≡ t + a → k ≡ l → pos a ≡ pos l +ℤ z → pos x ≡ pos t +ℤ z
+moved x y t k a l z e f g h = omega (arith, ints, e, f, g, h)
+
+unmoved : (x y t k : ℕ) → x ≡ y → y + k ≡ t + k → pos x ≡ pos t +ℤ pos 0
+unmoved x y t k e f = omega (arith, ints, e, f)
+
+-- ---- a unit holds another amount of an item, which is booked
+
+module _ (w : Planet) (c : State) (n : ℕ) (u : Unit) (i amount : ℕ) (is : get c.units n ≡ Some u) where
+  abbrev more : Held
+  more = record u.holding { items = with_amount_of u.holding.items i amount }
+
+  abbrev stocked : State
+  stocked = with_item c n u i amount
+
+  may : i < length w.items → amount ≤ holding_limit → MayHave w u.holding → MayHave w more
+  may known most old = record {
+    limits = record { men = old.limits.men; money = old.limits.money; items = every_amount (λ j a. (1 ≤ a) × (a ≤ holding_limit)) u.holding.items i amount (λ some. (some, most)) old.limits.items };
+    name = old.name;
+    items = every_amount (λ j a. j < length w.items) u.holding.items i amount (λ some. known) old.items;
+    skills = old.skills;
+    days = old.days;
+  }
+
+  module _ (e : Entry) (z : ℤ) where
+    abbrev after : State
+    after = with_amount stocked e (Item i) z
+
+    module _ (change : pos amount ≡ pos (amount_of u.holding.items i) +ℤ z) where
+      by_test : (j : ℕ) (q : Bool) → eq_by_cmp nat_cmp j i ≡ q → (x y t : ℕ) → x ≡ y → y + amount_of u.holding.items j ≡ t + cond q amount (amount_of u.holding.items j) → pos x ≡ pos t +ℤ cond (2 + j == 2 + i) z (pos 0)
+      by_test j true q x y t a b =
+          let j_is : j ≡ i = alike i j q in
+          let mine : (2 + j == 2 + i) ≡ true = grind (arith, nat_tests) in
+          moved x y t (amount_of u.holding.items j) amount (amount_of u.holding.items i) z a b (ap (amount_of u.holding.items) j_is) change
+          ∙ sym (ap (λ p. pos t +ℤ cond p z (pos 0)) mine)
+      by_test j false q x y t a b =
+          let apart : (j == i) ≡ false = unsigned_ties j i ∙ q in
+          let other : (2 + j == 2 + i) ≡ false = grind (arith, nat_tests) in
+          unmoved x y t (amount_of u.holding.items j) a b ∙ sym (ap (λ p. pos t +ℤ cond p z (pos 0)) other)
+
+      total_of : (t : Thing) → total after t ≡ total stocked t → total stocked t + held t u.holding ≡ total c t + held t more → pos (total after t) ≡ pos (total c t) +ℤ share_of t (Item i) z
+      total_of Money a b =
+          let other : (0 == 2 + i) ≡ false = grind (arith, nat_tests) in
+          unmoved (total after Money) (total stocked Money) (total c Money) u.holding.money a b ∙ sym (ap (λ p. pos (total c Money) +ℤ cond p z (pos 0)) other)
+      total_of People a b =
+          let other : (1 == 2 + i) ≡ false = grind (arith, nat_tests) in
+          unmoved (total after People) (total stocked People) (total c People) u.holding.men a b ∙ sym (ap (λ p. pos (total c People) +ℤ cond p z (pos 0)) other)
+      total_of (Item j) a b =
+          by_test j (eq_by_cmp nat_cmp j i) refl (total after (Item j)) (total stocked (Item j)) (total c (Item j)) a
+          (b ∙ ap (λ k. total c (Item j) + k) (set_amount u.holding.items i amount j))
+
+      pub stocked_well : i < length w.items → amount ≤ holding_limit → IsWithin holding_limit z → IsSteady w c → LeavesWell IsSteady (moves_only holding_limit e (Item i)) w c after
+      stocked_well known most small steady =
+          let has = may known most (may_have w c n u is steady) in
+          let grid = steady.numbers.books in
+          record {
+            leaves_it =
+                steady-amount w stocked e (Item i) z
+                (steady-held w c n u more is (record { limits = has.limits; name = has.name; items = has.items; skills = has.skills; days = has.days; guard = λ g. g }) steady);
+            same_month = record { month = refl; reports = refl; count = refl; factions = λ k there. there };
+            balances = λ old t.
+                total_of t (total-amount stocked e (Item i) t z) (total-held w c n u more is t)
+                ∙ ap (λ y. y +ℤ share_of t (Item i) z) (old t) ∙ sym (booked-with_booked (things_of w) c.books e (Item i) z grid (omega (arith, known)) t);
+            near = booked-near (things_of w) c.books e (Item i) z holding_limit grid (omega (arith, known)) small;
+          }
+
+-- ---- what is used
+
+taken_off : (a k : ℕ) → k ≤ a → pos (a - k) ≡ pos a +ℤ neg_ℤ (pos k)
+taken_off a k l = omega (arith, ints, l)
+
+put_to : (a k : ℕ) → pos (a + k) ≡ pos a +ℤ pos k
+put_to a k = omega (arith, ints)
+
+module _ (w : Planet) (c : State) (n i k : ℕ) where
+  pub used_is : (u : Unit) → get c.units n ≡ Some u → with_used c n i k ≡ with_amount (with_item c n u i (amount_of u.holding.items i - k)) entries.Used (Item i) (neg_ℤ (pos k))
+  used_is u is = ap (used_by c n i k) is
+
+  pub made_is : (u : Unit) → get c.units n ≡ Some u → with_made c n i k ≡ with_amount (with_item c n u i (amount_of u.holding.items i + k)) entries.Made (Item i) (pos k)
+  made_is u is = ap (made_to c n i k) is
+
+  held_within : (u : Unit) → get c.units n ≡ Some u → IsSteady w c → amount_of u.holding.items i ≤ holding_limit
+  held_within u is steady = amount_within u.holding i (steady.numbers.units n u is).1
+
+  pub used_well : CanUse w c n i k → LeavesWell IsSteady (moves_only holding_limit entries.Used (Item i)) w c (with_used c n i k)
+  used_well can =
+      let u = can.unit in
+      let a = amount_of u.holding.items i in
+      let within = held_within u can.there can.steady in
+      subst (λ d. LeavesWell IsSteady (moves_only holding_limit entries.Used (Item i)) w c d) (sym (used_is u can.there))
+      (stocked_well w c n u i (a - k) can.there entries.Used (neg_ℤ (pos k)) (taken_off a k can.enough) can.known (omega (arith, within)) (within-neg k holding_limit (omega (arith, within, can.enough))) can.steady)
+
+  pub made_well : CanMake w c n i k → LeavesWell IsSteady (moves_only holding_limit entries.Made (Item i)) w c (with_made c n i k)
+  made_well can =
+      let u = can.unit in
+      let a = amount_of u.holding.items i in
+      subst (λ d. LeavesWell IsSteady (moves_only holding_limit entries.Made (Item i)) w c d) (sym (made_is u can.there))
+      (stocked_well w c n u i (a + k) can.there entries.Made (pos k) (put_to a k) can.known can.fits (within-pos k holding_limit (omega (arith, can.fits))) can.steady)
+
+  -- the unit behind it
+  pub used_unit : (u : Unit) → get c.units n ≡ Some u → get (with_used c n i k).units n ≡ Some (record u { holding = record u.holding { items = with_amount_of u.holding.items i (amount_of u.holding.items i - k) } })
+  used_unit u is = ap (λ (d : State). get d.units n) (used_is u is) ∙ get-insert_same c.units n (record u { holding = record u.holding { items = with_amount_of u.holding.items i (amount_of u.holding.items i - k) } })
+
+  -- and others
+  pub used_others : (m : ℕ) → m ≢ n → get (with_used c n i k).units m ≡ get c.units m
+  used_others m apart = by_unit (get c.units n)
+    where
+      by_unit : (o : Option Unit) → get (used_by c n i k o).units m ≡ get c.units m
+      by_unit None = refl
+      by_unit (Some u) = get-insert_other c.units n m (record u { holding = record u.holding { items = with_amount_of u.holding.items i (amount_of u.holding.items i - k) } }) apart
+
+  pub made_others : (m : ℕ) → m ≢ n → get (with_made c n i k).units m ≡ get c.units m
+  made_others m apart = by_unit (get c.units n)
+    where
+      by_unit : (o : Option Unit) → get (made_to c n i k o).units m ≡ get c.units m
+      by_unit None = refl
+      by_unit (Some u) = get-insert_other c.units n m (record u { holding = record u.holding { items = with_amount_of u.holding.items i (amount_of u.holding.items i + k) } }) apart
+
+-- with less of one item a unit has no more of another
+pub no_more : (h : Held) (r i k : ℕ) → amount_of (with_amount_of h.items r (amount_of h.items r - k)) i ≤ amount_of h.items i
+no_more h r i k = subst (λ a. a ≤ amount_of h.items i) (sym (set_amount h.items r (amount_of h.items r - k) i)) (by_test (eq_by_cmp nat_cmp i r) refl)
+  where
+    less : (a b k : ℕ) → b ≡ a → a - k ≤ b
+    less a b k e = omega (arith, e)
+
+    by_test : (q : Bool) → eq_by_cmp nat_cmp i r ≡ q → cond q (amount_of h.items r - k) (amount_of h.items i) ≤ amount_of h.items i
+    by_test true is = less (amount_of h.items r) (amount_of h.items i) k (ap (amount_of h.items) (alike r i is))
+    by_test false is = omega arith
+
+-- ---- what the code does
+
+module _ (c d e : Marked) (n : ℕ) (u : Unit) (i amount : ℕ) (entry : Entry) (z : ℤ) (things : ℕ) (is : get c.what.units n ≡ Some u) (set : d ≡ lent c n (record u.holding { items = with_amount_of u.holding.items i amount })) where
+  pub lent_item : d.what ≡ with_item c.what n u i amount
+  lent_item = ap (λ (m : Marked). m.what) set ∙ ap (with_held c.what n (record u.holding { items = with_amount_of u.holding.items i amount })) is
+
+  pub same_books : d.what.books ≡ c.what.books
+  same_books = ap (λ (s : State). s.books) lent_item
+
+  pub stock_what : e.what ≡ with_amount d.what entry (Item i) z → e.what ≡ with_amount (with_item c.what n u i amount) entry (Item i) z
+  stock_what what = what ∙ ap (λ s. with_amount s entry (Item i) z) lent_item
+
+  pub stock_marks : e.what ≡ with_amount d.what entry (Item i) z → e.marks ≡ mark_amount d entry (Item i) → IsGrid things c.what.books → 2 + i < things → MarksChanges c e
+  stock_marks what marks grid known =
+      let d_grid : IsGrid things d.what.books = rw same_books grid in
+      marks-trans c d e (subst (MarksChanges c) (sym set) (marks-lent c n (record u.holding { items = with_amount_of u.holding.items i amount })))
+      (marks_by d e _ what marks (marks-amount things d entry (Item i) z d_grid (omega (arith, known))))
+    where
+      marks_by : (a b m : Marked) → b.what ≡ m.what → b.marks ≡ m.marks → MarksChanges a m → MarksChanges a b
+      marks_by a b m what marks h = rw (what, marks) (record { stay = h.stay; covers = h.covers })

@@ -1,0 +1,21 @@
+use Rattle.std.proofs.Common.{◌≡◌, subst, sym, rules}
+use Rattle.atl_state.specs.Good.{IsSteady}
+use Rattle.atl_instant.specs.Meaning.{LeavesWell, most_moved}
+use Rattle.atl_market.specs.Produce.{produce_moves, produce_orders}
+use Rattle.atl_market.specs.Unordered.{OthersAreNoWorse}
+use Rattle.atl_market.proofs.ProduceLaws.{can_share_out, produce_keeps_others, produce_leaves_well}
+use Rattle.atl_market.proofs.produce.ProducePhasePhase.run.Goals as goal
+
+pub share_out-requires-clause-can : goal.share_out-requires-clause-can
+share_out-requires-clause-can c = can_share_out c.in_ok-asked.asked c.args.world.now c.args.campaign.what c.world_is_sound.ensures c.requires.needs c.deref-2.result.now c.requires.room
+
+pub returns-clause-leaves : goal.returns-clause-leaves
+returns-clause-leaves c =
+    subst (λ d. LeavesWell IsSteady (produce_moves most_moved) c.args.world.now c.args.campaign.what d) (sym c.in_ok-events.ensures.what)
+    (produce_leaves_well c.in_ok-asked.asked c.args.world.now c.args.campaign.what c.world_is_sound.ensures c.requires.needs c.deref-2.result.now c.requires.room)
+
+pub returns-clause-keeps : goal.returns-clause-keeps
+returns-clause-keeps c =
+    let orders : c.deref-2.result.now ≡ produce_orders c.args.month = search rules in
+    let kept = produce_keeps_others c.in_ok-asked.asked c.args.world.now c.args.campaign.what c.deref-2.result.now in
+    subst (λ os. OthersAreNoWorse os c.args.campaign.what c.share_out.new.campaign.what) orders (subst (λ d. OthersAreNoWorse c.deref-2.result.now c.args.campaign.what d) (sym c.in_ok-events.ensures.what) kept)

@@ -1,0 +1,91 @@
+-- For proofs alone: how wants and shares are kept by item, and when a unit can make something.
+use Rattle.std.specs.Prelude.{◌≡◌, ◌≤◌, ◌<◌, ◌+◌, ◌*◌, ℕ, List, length, Option, Some, None, unwrap_or}
+use Rattle.std.specs.List.{fold, slice_get}
+use Rattle.std.specs.Ordering.{nat_cmp}
+use Rattle.std.specs.FinMap.{FinMap, get, insert}
+use Rattle.atl_tables.specs.Planet.{Planet}
+use Rattle.atl_tables.specs.declared.world.Item.{Item}
+use Rattle.atl_state.specs.declared.books.Entry.TheVariants.{Made, Used}
+use Rattle.atl_state.specs.declared.books.Thing.TheVariants as things
+use Rattle.atl_state.specs.declared.records.Unit.{Unit}
+use Rattle.atl_state.specs.Books.{amount_in}
+use Rattle.atl_state.specs.FromRows.{group_of}
+use Rattle.atl_state.specs.Good.{IsSteady}
+use Rattle.atl_state.specs.Held.{amount_of}
+use Rattle.atl_state.specs.Limits.{holding_limit}
+use Rattle.atl_state.specs.State.{State}
+use Rattle.atl_instant.specs.Meaning.{HasRoom, HaveRoom}
+use Rattle.atl_market.specs.Pots.{pot_shares}
+use Rattle.atl_market.specs.Produce.{gathered, output_at, produce_moves, with_raw_used}
+
+abbrev pub Groups : Type 0
+Groups = FinMap nat_cmp (FinMap nat_cmp ℕ)
+
+abbrev pub want_put : Groups → ℕ × ℕ → Option ℕ → Groups
+want_put groups e None = groups
+want_put groups e (Some i) = insert groups i (insert (group_of groups i) e.0 e.1)
+
+-- a want beside those of its item
+abbrev pub with_want : Planet → FinMap nat_cmp ℕ → Groups → ℕ × ℕ → Groups
+with_want w asked groups e = want_put groups e (gathered w asked e.0)
+
+-- the wants of the units by item
+abbrev pub grouped : Planet → FinMap nat_cmp ℕ → Groups → List (ℕ × ℕ) → Groups
+grouped w asked groups es = fold (with_want w asked) groups es
+
+-- the shares of the units by item
+abbrev pub with_shares : Planet → State → Groups → ℕ × FinMap nat_cmp ℕ → Groups
+with_shares w c shares e = insert shares e.0 (pot_shares (output_at w e.0) e.1 c)
+
+abbrev pub amount_among : Option (FinMap nat_cmp ℕ) → ℕ → ℕ
+amount_among None n = 0
+amount_among (Some shares) n = unwrap_or (get shares n) 0
+
+abbrev pub amount_of_group : Groups → ℕ × ℕ → Option ℕ → ℕ
+amount_of_group shares e None = e.1
+amount_of_group shares e (Some i) = amount_among (get shares i) e.0
+
+-- how much a unit makes by them
+abbrev pub made_from : Planet → FinMap nat_cmp ℕ → Groups → ℕ × ℕ → ℕ
+made_from w asked shares e = amount_of_group shares e (gathered w asked e.0)
+
+-- ---- a unit, by its number, can use and make so much of an item: it is there, holds enough or has room, and so have the books
+pub record CanUse (w : Planet) (c : State) (n i amount : ℕ) : Type 0 where
+  pub unit : Unit
+  pub there : get c.units n ≡ Some unit
+  pub known : i < length w.items
+  pub enough : amount ≤ amount_of unit.holding.items i
+  pub steady : IsSteady w c
+  pub room : HasRoom holding_limit (amount_in c.books Used (things.Item i))
+
+pub record CanMake (w : Planet) (c : State) (n i amount : ℕ) : Type 0 where
+  pub unit : Unit
+  pub there : get c.units n ≡ Some unit
+  pub known : i < length w.items
+  pub fits : amount_of unit.holding.items i + amount ≤ holding_limit
+  pub steady : IsSteady w c
+  pub room : HasRoom holding_limit (amount_in c.books Made (things.Item i))
+
+-- it can use the raw items of so many, and make them then
+pub record CanMakeOf (w : Planet) (c : State) (n made i : ℕ) (x : Item) : Type 0 where
+  pub use_raw : (r : ℕ) → x.raw ≡ Some r → CanUse w c n r (made * x.raw_count)
+  pub few_raw : (r : ℕ) → x.raw ≡ Some r → made * x.raw_count ≤ holding_limit
+  pub make : CanMake w (with_raw_used c n (made * x.raw_count) x.raw) n i made
+
+-- it has room for so much of an item, and raw items for it
+pub record Fits (w : Planet) (u : Unit) (made i : ℕ) (x : Item) : Type 0 where
+  pub known : i < length w.items
+  pub fits : amount_of u.holding.items i + made ≤ holding_limit
+  pub raw_known : (r : ℕ) → x.raw ≡ Some r → r < length w.items
+  pub raw : (r : ℕ) → x.raw ≡ Some r → made * x.raw_count ≤ amount_of u.holding.items r
+
+-- so many, but no more than are used of an item and are made of one in a step
+abbrev pub step_most : ℕ
+step_most = 1999999998
+
+pub record CanProduce (asked : FinMap nat_cmp ℕ) (w : Planet) (c : State) (e : ℕ × ℕ) : Type 0 where
+  pub unit : Unit
+  pub there : get c.units e.0 ≡ Some unit
+  pub fits : (i : ℕ) (x : Item) → get asked e.0 ≡ Some i → slice_get w.items i ≡ Some x → Fits w unit e.1 i x
+  pub steady : IsSteady w c
+  pub room : HaveRoom (produce_moves step_most) c
