@@ -242,16 +242,24 @@ module _ (step : Step) (is_taken : Said → Bool) where
   orders_told w p (t ∷ ts) n = orders_told w (one_order step is_taken w p t) ts n ∙ order_told w p t n
 
   module _ (is_of : Verb → Bool) where
-    pub carried_leaves : {keeps : Keeping} → SparesMen step → ((w : Planet) (c d : State) (m : Course) → keeps w m c d → UnmailedAre HasItsItems m c d) → LeavesUnmailed (carried_out step is_taken is_of) keeps
+    pub carried_readings : (w : Planet) (c : State) (m : Course) → (carried_out step is_taken is_of w c m).1.readings ≡ m.readings
     unfolding carried_out
-    carried_leaves {keeps} spares items =
-        whole_leaves {meaning = carried_out step is_taken is_of} {keeps = keeps}
-        (λ w c m. orders_readings w (c, m) (values (orders_of is_of ByUnit m.aliases m.readings)))
-        (λ w c m n. orders_told w (c, m) (values (orders_of is_of ByUnit m.aliases m.readings)) n)
-        (λ w c m h n u there none.
+    carried_readings w c m = orders_readings w (c, m) (values (orders_of is_of ByUnit m.aliases m.readings))
+
+    pub carried_told : (w : Planet) (c : State) (m : Course) (n : ℕ) → starved_in (carried_out step is_taken is_of w c m).1.events n ≡ starved_in m.events n
+    unfolding carried_out
+    carried_told w c m n = orders_told w (c, m) (values (orders_of is_of ByUnit m.aliases m.readings)) n
+
+    pub carried_men : SparesMen step → (w : Planet) (c : State) (m : Course) → UnmailedAre HasItsMen m c (carried_out step is_taken is_of w c m).0
+    unfolding carried_out
+    carried_men spares w c m n u there none =
         let ts = values (orders_of is_of ByUnit m.aliases m.readings) in
-        orders_spare spares w c m ts n u there (recursion_from_All (λ t. t.faction ≢ u.faction) ts (none_ordered is_of ByUnit m u.faction none)))
-        (λ w c m h. items w c (carried_out step is_taken is_of w c m).0 m h)
+        orders_spare spares w c m ts n u there (recursion_from_All (λ t. t.faction ≢ u.faction) ts (none_ordered is_of ByUnit m u.faction none))
+
+    pub carried_leaves : {keeps : Keeping} → SparesMen step → ((w : Planet) (c d : State) (m : Course) → keeps w m c d → UnmailedAre HasItsItems m c d) → LeavesUnmailed (carried_out step is_taken is_of) keeps
+    carried_leaves {keeps} spares items =
+        whole_leaves {meaning = carried_out step is_taken is_of} {keeps = keeps} carried_readings carried_told
+        (λ w c m h. carried_men spares w c m) (λ w c m h. items w c (carried_out step is_taken is_of w c m).0 m h)
 
 pub own_faction : (t : Task) (n f : ℕ) → IsOwnOrder t n f → t.faction ≡ f
 own_faction t n f h = h.faction

@@ -7,23 +7,24 @@ use Rattle.std.specs.FinMap.{FinMap, entries, get, values}
 use Rattle.std.proofs.lemmas.List.Elements.{recursion_from_All}
 use Rattle.std.proofs.lemmas.List.Sums.{sum_by-append, sum_by-cons}
 use Rattle.atl_tables.specs.Planet.{Planet}
+use Rattle.atl_orders.specs.declared.verb.Verb.{Verb}
 use Rattle.atl_state.specs.declared.event.Event.{Event}
 use Rattle.atl_state.specs.declared.records.Region.{Region}
 use Rattle.atl_state.specs.declared.records.Unit.{Unit}
 use Rattle.atl_state.specs.State.{State}
 use Rattle.atl_instant.specs.Course.{Course}
-use Rattle.atl_instant.specs.Meaning.{Keeping}
+use Rattle.atl_instant.specs.Meaning.{Keeping, Meaning}
 use Rattle.atl_instant.specs.PhaseOrders.{Task, orders_of, written}
 use Rattle.atl_instant.specs.Staying.{AreNoWorse}
 use Rattle.atl_instant.specs.Unmailed.{starved_in, starved_told}
 use Rattle.atl_instant.specs.declared.written.Arrangement.TheVariants.{ByUnit}
 use Rattle.atl_instant.specs.declared.written.Written.{Written}
 use Rattle.atl_instant.proofs.StructureLaws.{unequal}
-use Rattle.atl_instant.proofs.UnmailedLaws.{HasItsItems, HaveTheirMen, LeavesUnmailed, UnmailedAre, items_of_no_worse, men_changed, men_in_turn, men_stay, none_ordered, whole_leaves}
-use Rattle.atl_market.specs.PotPhase.{PotMeaning, event_of, events_by, given_by, pots_meaning, shared_out}
+use Rattle.atl_instant.proofs.UnmailedLaws.{HasItsItems, HasItsMen, HaveTheirMen, LeavesUnmailed, UnmailedAre, items_of_no_worse, men_changed, men_in_turn, men_stay, none_ordered, whole_leaves}
+use Rattle.atl_market.specs.PotPhase.{PotMeaning, event_of, events_by, given_by, shared_out}
 use Rattle.atl_market.specs.Recruit.{is_recruit, recruit_keeps, recruit_meaning, recruit_orders, recruiting, recruits_at}
 use Rattle.atl_market.specs.Tax.{tax_keeps, tax_meaning, tax_orders, taxed, taxed_by, taxed_from, taxing}
-use Rattle.atl_market.specs.Unordered.{is_ordered}
+use Rattle.atl_market.specs.Unordered.{OthersAreNoWorse, is_ordered}
 use Rattle.atl_market.specs.Work.{earned, work_keeps, work_meaning, work_orders, worked, worked_by, working}
 use Rattle.atl_market.proofs.OrderedLaws.{unordered_stays}
 use Rattle.atl_market.proofs.PotLaws.{pots_give}
@@ -52,16 +53,19 @@ module _ (p : PotMeaning) (w : Planet) (c : State) where
       plus_none : (x : ℕ) → x + 0 ≡ x
       plus_none x = omega arith
 
--- a phase whose payments keep the men
-pub pots_leave : (p : PotMeaning) (orders : State → Course → List Written) {keeps : Keeping} → ((w : Planet) (c : State) (e : ℕ × ℕ) → HaveTheirMen c (p.paid w c e))
-    → ((w : Planet) (c d : State) (m : Course) → keeps w m c d → UnmailedAre HasItsItems m c d) → LeavesUnmailed (pots_meaning p orders) keeps
-unfolding shared_out
-pots_leave p orders {keeps} paid items =
-    whole_leaves {meaning = pots_meaning p orders} {keeps = keeps}
-    (λ w c m. refl)
-    (λ w c m n. told_of_pots p w c m.events (orders c m) n)
-    (λ w c m h n u there none. men_in_turn (p.paid w) (paid w) c (entries (given_by p w c (orders c m))) n u there)
-    (λ w c m h. items w c (pots_meaning p orders w c m).0 m h)
+-- a phase with pots, which may be of what the mailings say
+module _ (p : State → Course → PotMeaning) (orders : State → Course → List Written) where
+  abbrev pub shared : Meaning
+  shared w c m = (shared_out (p c m) w c (orders c m), record m { events = m.events ++ events_by (p c m) w c (orders c m) })
+
+  pub shared_leave : {keeps : Keeping} → ((w : Planet) (c : State) (m : Course) → UnmailedAre HasItsMen m c (shared w c m).0) → ((w : Planet) (c d : State) (m : Course) → keeps w m c d → UnmailedAre HasItsItems m c d) → LeavesUnmailed shared keeps
+  shared_leave {keeps} men items =
+      whole_leaves {meaning = shared} {keeps = keeps} (λ w c m. refl) (λ w c m n. told_of_pots (p c m) w c m.events (orders c m) n) (λ w c m h. men w c m) (λ w c m h. items w c (shared w c m).0 m h)
+
+  -- payments that keep the men of all units
+  pub paid_men : ((w : Planet) (c : State) (m : Course) (d : State) (e : ℕ × ℕ) → HaveTheirMen d ((p c m).paid w d e)) → (w : Planet) (c : State) (m : Course) → UnmailedAre HasItsMen m c (shared w c m).0
+  unfolding shared_out
+  paid_men paid w c m n u there none = men_in_turn ((p c m).paid w) (paid w c m) c (entries (given_by (p c m) w c (orders c m))) n u there
 
 -- a phase that takes nothing from any unit
 pub none_worse : (w : Planet) (c d : State) (m : Course) → AreNoWorse c d → UnmailedAre HasItsItems m c d
@@ -82,7 +86,7 @@ tax_men w c e = by_unit (get c.units e.0)
     by_unit (Some u) = by_region u (get c.regions u.region)
 
 pub tax_leaves : LeavesUnmailed tax_meaning tax_keeps
-tax_leaves = pots_leave taxing tax_orders tax_men none_worse
+tax_leaves = shared_leave (λ c m. taxing) tax_orders (paid_men (λ c m. taxing) tax_orders (λ w c m. tax_men w)) none_worse
 
 -- ---- WORK
 
@@ -95,7 +99,7 @@ work_men w c e = by_unit (get c.units e.0)
     by_unit (Some u) = men_changed (λ v. record v { holding = record v.holding { money = u.holding.money + earned w u.region e.1 } }) (λ v. record { faction = refl; men = refl }) c (worked_by w c e (Some u)) e.0 refl
 
 pub work_leaves : LeavesUnmailed work_meaning work_keeps
-work_leaves = pots_leave working work_orders work_men none_worse
+work_leaves = shared_leave (λ c m. working) work_orders (paid_men (λ c m. working) work_orders (λ w c m. work_men w)) none_worse
 
 -- ---- RECRUIT
 
@@ -107,23 +111,27 @@ none_listed n f (t ∷ ts) h = neither (t.unit == n) (t.faction == f) _ (unequal
     neither true b d e g = rw (e, g) refl
     neither false b d e g = g
 
--- a unit of a faction that sent no mailing has no order
-unordered : (m : Course) (n : ℕ) (u : Unit) → get m.readings u.faction ≡ None → is_ordered (recruit_orders m) n u ≡ false
-unordered m n u none =
-    let ts = values (orders_of is_recruit ByUnit m.aliases m.readings) in
-    none_listed n u.faction ts (recursion_from_All (λ t. t.faction ≢ u.faction) ts (none_ordered is_recruit ByUnit m u.faction none))
+module _ (is_of : Verb → Bool) (m : Course) where
+  abbrev os : List Written
+  os = map written (values (orders_of is_of ByUnit m.aliases m.readings))
+
+  -- a unit of a faction that sent no mailing has no order
+  pub unordered : (n : ℕ) (u : Unit) → get m.readings u.faction ≡ None → is_ordered os n u ≡ false
+  unordered n u none =
+      let ts = values (orders_of is_of ByUnit m.aliases m.readings) in
+      none_listed n u.faction ts (recursion_from_All (λ t. t.faction ≢ u.faction) ts (none_ordered is_of ByUnit m u.faction none))
+
+  -- a phase that takes nothing from units without an order takes nothing from it
+  pub others_items : (c d : State) → OthersAreNoWorse os c d → UnmailedAre HasItsItems m c d
+  others_items c d h n u there none = let (v, behind, better) = h n u there (unordered n u none) in record { unit = v; there = behind; spared = items_of_no_worse u v better }
 
 pub recruit_leaves : LeavesUnmailed recruit_meaning recruit_keeps
 recruit_leaves =
-    whole_leaves {meaning = recruit_meaning} {keeps = recruit_keeps}
-    (λ w c m. refl)
-    (λ w c m n. told_of_pots (recruiting m.readings) w c m.events (recruit_orders m) n)
-    (λ w c m h n u there none.
+    shared_leave (λ c m. recruiting m.readings) (λ c m. recruit_orders m)
+    (λ w c m n u there none.
     record {
       unit = u;
-      there = unordered_stays (recruiting m.readings) w (recruited_others w) c (pots_give (recruits_at w c) c) (recruit_orders m) n u there (unordered m n u none) ∙ there;
+      there = unordered_stays (recruiting m.readings) w (recruited_others w) c (pots_give (recruits_at w c) c) (recruit_orders m) n u there (unordered is_recruit m n u none) ∙ there;
       spared = record { faction = refl; men = refl };
     })
-    (λ w c m h n u there none.
-    let (v, behind, better) = h n u there (unordered m n u none) in
-    record { unit = v; there = behind; spared = items_of_no_worse u v better })
+    (λ w c d m. others_items is_recruit m c d)

@@ -55,21 +55,21 @@ nobody_less u = record { faction = refl; name = refl; men = omega arith; items =
 abbrev supplied_unit : Settled → Unit → Unit
 supplied_unit s u = record u { holding = supplied s u.holding }
 
+abbrev men_left : Settled → Unit → ℕ
+men_left s u = u.holding.men - min s.starved u.holding.men
+
+abbrev held_by : Settled → Unit → Bool → Held
+held_by s u b = record (if b then u.holding else record u.holding { men = men_left s u; days = days_with (men_left s u) u.holding.men u.holding.days }) { money = u.holding.money - money_paid s u.holding }
+
 fewer_by : (s : Settled) (u : Unit) → IsLessBy s.starved u (supplied_unit s u)
-fewer_by s u = by_test (left == u.holding.men) refl
+fewer_by s u = by_test (men_left s u == u.holding.men) refl
   where
-    left : ℕ
-    left = u.holding.men - min s.starved u.holding.men
-
-    abbrev behind : Bool → Held
-    behind b = record (if b then u.holding else record u.holding { men = left; days = days_with left u.holding.men u.holding.days }) { money = u.holding.money - money_paid s u.holding }
-
     least : (a b d : ℕ) → d ≡ b - min a b → d ≡ b - a
     least a b d is = omega (arith, is)
 
-    by_test : (b : Bool) → (left == u.holding.men) ≡ b → IsLessBy s.starved u (record u { holding = behind b })
-    by_test true is = record { faction = refl; name = refl; men = least s.starved u.holding.men u.holding.men (sym (is_equal left u.holding.men is)); items = λ i. omega arith }
-    by_test false is = record { faction = refl; name = refl; men = least s.starved u.holding.men left refl; items = λ i. omega arith }
+    by_test : (b : Bool) → (men_left s u == u.holding.men) ≡ b → IsLessBy s.starved u (record u { holding = held_by s u b })
+    by_test true is = record { faction = refl; name = refl; men = least s.starved u.holding.men u.holding.men (sym (is_equal (men_left s u) u.holding.men is)); items = λ i. omega arith }
+    by_test false is = record { faction = refl; name = refl; men = least s.starved u.holding.men (men_left s u) refl; items = λ i. omega arith }
 
 -- how many men of a unit starve by some settlements
 abbrev among : ℕ → Settled → ℕ
@@ -100,19 +100,19 @@ all_supplied c (s ∷ ss) n u there =
 abbrev by_event : ℕ → Event → ℕ
 by_event n e = if e.unit == n then starved_told e.verb e.outcome else 0
 
+abbrev told : ℕ → List Settled → ℕ
+told n ss = starved_in (map starved_event ss) n
+
 -- the events tell of them
-starved_told_of : (ss : List Settled) (n : ℕ) → starved_in (map starved_event (filter starves ss)) n ≡ sum_by (among n) ss
+starved_told_of : (ss : List Settled) (n : ℕ) → told n (filter starves ss) ≡ sum_by (among n) ss
 starved_told_of [] n = refl
 starved_told_of (s ∷ ss) n = by_test (starved_told_of ss n) (s.starved == 0) refl ∙ sym (sum_by-cons (among n) s ss)
   where
-    abbrev told : List Settled → ℕ
-    told list = starved_in (map starved_event list) n
-
     none : (a x : ℕ) (b : Bool) → a ≡ 0 → x ≡ (if b then a else 0) + x
     none a x true is = omega (arith, is)
     none a x false is = omega arith
 
-    by_test : told (filter starves ss) ≡ sum_by (among n) ss → (b : Bool) → (s.starved == 0) ≡ b → told (cond (not b) (s ∷ filter starves ss) (filter starves ss)) ≡ among n s + sum_by (among n) ss
+    by_test : told n (filter starves ss) ≡ sum_by (among n) ss → (b : Bool) → (s.starved == 0) ≡ b → told n (cond (not b) (s ∷ filter starves ss) (filter starves ss)) ≡ among n s + sum_by (among n) ss
     by_test rest true is = rest ∙ none s.starved (sum_by (among n) ss) (s.unit == n) (is_equal s.starved 0 is)
     by_test rest false is = sum_by-cons (by_event n) (starved_event s) (map starved_event (filter starves ss)) ∙ ap (λ x. among n s + x) rest
 
