@@ -1,7 +1,9 @@
+mod FrontLaws
 pub mod HeadLaws
 pub mod JsonLaws
 pub mod MovingLaws
 pub mod PieceLaws
 pub mod PlaceLaws
+pub mod RouteLaws
 pub mod ServingLaws
 mod WordLaws

@@ -13,6 +13,7 @@ use Rattle.atl_http.specs.declared.request.Request.{Request}
 use Rattle.atl_http.specs.declared.request.Request.TheVariants as request
 use Rattle.atl_http.specs.declared.request.Verdict.{Verdict}
 use Rattle.atl_http.specs.declared.request.Verdict.TheVariants.{More, Refused, Asks}
+use Rattle.atl_orders.specs.Limits.{most_bytes}
 use Rattle.atl_http.specs.Routes.{number_of, path_of, route_of, method_of}
 use Rattle.atl_http.specs.Fields.{Pair, fields_of, values_of, only}
 
@@ -43,10 +44,7 @@ routed minor method target fields = if has_host minor fields then with_method me
 
 -- ---- the third: how many bytes the body of a POST has
 
--- the most bytes of a body
-abbrev pub most_bytes : ℕ
-most_bytes = 65536
-
+-- a body has no more bytes than a mailing
 abbrev pub within : Option ℕ → Result ℕ Problem
 within None = Err BadRequest
 within (Some n) = if nat_lt most_bytes n then Err BodyTooLong else Ok n

@@ -1,5 +1,6 @@
 pub mod Dice
 pub mod Routes
+pub mod Routing
 pub mod Fields
 pub mod Checks
 pub mod Heads

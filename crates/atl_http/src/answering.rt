@@ -153,7 +153,7 @@ fn success_message(alloc: Global, body: &str) -> Result<Message, AllocError>
     told_by(alloc, StatusCode::OK, None, JSON, body)
 }
 
-/// The reply to an answer.
+/// The reply to an answer. AllocError without memory for its bytes.
 pub fn answer_message(alloc: Global, answer: &Answer) -> Result<Message, AllocError>
     ensures { IfOk result (Says (answer_reply answer.now)) }
 {

@@ -11,14 +11,12 @@ use crate::fields::{Found, find_value, only_value};
 use crate::problem::{Problem, Stopped};
 use crate::request::Request;
 use crate::route::{Route, number_of, path_of, route_of};
+use atl_orders::MOST_BYTES;
 use atl_tables::Sequence;
 use httparse::spans::HeaderSpan;
 use serde_json::Value;
 use std::alloc::Global;
 use std::str;
-
-/// The most bytes of a body.
-const MOST_BYTES: u32 = 65_536;
 
 const HOST: &[u8] = b"Host";
 
@@ -37,9 +35,11 @@ fn has_host(minor: u8, bytes: &[u8], fields: &[HeaderSpan]) -> bool
     minor == 0 || only_value(bytes, fields, HOST).is_some()
 }
 
-/// The route of a request, if its method is the route's.
+/// The route of a request, if its method is the route's: BadRequest, NoRoute or BadMethod where it isn't, Memory without memory for
+/// the routes.
 #[tactic(auto, unfolding(crate::specs::Checks::routed))]
 fn routed(
+    alloc: Global,
     minor: u8,
     method: &[u8],
     target: &[u8],
@@ -52,7 +52,7 @@ fn routed(
     if !has_host(minor, bytes, fields) {
         return Err(Stopped::Failed(Problem::BadRequest));
     }
-    match route_of(path_of(target)) {
+    match route_of(alloc, path_of(target))? {
         None => Err(Stopped::Failed(Problem::NoRoute)),
         Some(route) if is_method(method, route) => Ok(route),
         Some(route) => Err(Stopped::Failed(Problem::BadMethod(route))),
@@ -72,7 +72,7 @@ fn within(text: &[u8]) -> Result<usize, Stopped>
 {
     match number_of(text) {
         None => Err(Stopped::Failed(Problem::BadRequest)),
-        Some(size) if MOST_BYTES < size => Err(Stopped::Failed(Problem::BodyTooLong)),
+        Some(size) if MOST_BYTES < size as usize => Err(Stopped::Failed(Problem::BodyTooLong)),
         Some(size) => Ok(size as usize),
     }
 }
@@ -138,9 +138,10 @@ pub struct Wanted<'a> {
     pub pass: &'a [u8],
 }
 
-/// The checks of a head.
+/// The checks of a head: the problem of the first that it fails, or Memory without memory for the routes.
 #[tactic(auto, unfolding(crate::specs::Checks::head_checks))]
 pub fn head_checks<'a>(
+    alloc: Global,
     minor: u8,
     method: &[u8],
     target: &[u8],
@@ -150,7 +151,7 @@ pub fn head_checks<'a>(
     requires { All (IsHeaderWithin (length bytes.now)) fields.now }
     ensures { Gives (λ w. (w.route, w.size, w.pass.now)) result (head_checks minor method.now target.now (seen bytes.now fields.now)) }
 {
-    let route = routed(minor, method, target, bytes, fields)?;
+    let route = routed(alloc, minor, method, target, bytes, fields)?;
     let size = size_of(route, bytes, fields)?;
     let pass = pass_of(route, bytes, fields)?;
     Ok(Wanted { route, size, pass })
@@ -194,7 +195,8 @@ fn joining(alloc: Global, body: &[u8]) -> Result<Request, Stopped>
     })
 }
 
-/// What a request asks for, by its whole body.
+/// What a request asks for, by its whole body. BadJson where a joining's body is no object with both texts; Memory without memory
+/// for them.
 pub fn request_of(alloc: Global, route: Route, pass: &[u8], body: &[u8]) -> Result<Request, Stopped>
     ensures { Gives (λ request. request) result (request_of route pass.now body.now) }
 {

@@ -18,7 +18,7 @@ const MOST_HEAD: usize = 8_192;
 /// The most fields of a head.
 const MOST_FIELDS: usize = 32;
 
-/// What a whole head comes to, with the bytes behind it.
+/// What a whole head comes to, with the bytes behind it. AllocError without memory for the routes or for what is asked.
 fn verdict(
     alloc: Global,
     minor: u8,
@@ -31,7 +31,7 @@ fn verdict(
     requires { All (IsHeaderWithin (length bytes.now)) fields.now }
     ensures { IfOk result (λ verdict. verdict ≡ ended (head_checks minor method.now target.now (seen bytes.now fields.now)) rest.now) }
 {
-    let wanted = match head_checks(minor, method, target, bytes, fields) {
+    let wanted = match head_checks(alloc, minor, method, target, bytes, fields) {
         Ok(wanted) => wanted,
         Err(Stopped::Memory) => return Err(AllocError),
         Err(Stopped::Failed(problem)) => return Ok(Verdict::Refused(problem)),
@@ -129,8 +129,8 @@ fn judged_in(alloc: Global, seen: &[u8], fields: &mut [HeaderSpan]) -> Result<Ve
     }
 }
 
-/// What the bytes that have come of a request come to. AllocError without memory for what is asked. See docs/FORMATS.md,
-/// "HTTP".
+/// What the bytes that have come of a request come to. AllocError without memory for the routes or for what is asked. See
+/// docs/FORMATS.md, "HTTP".
 pub fn judged(alloc: Global, seen: &[u8]) -> Result<Verdict, AllocError>
     ensures { IfOk result (Judges seen.now) }
 {

@@ -39,7 +39,8 @@ fn serve_stream<S: Alter>(
     }
 }
 
-/// Serves so many connections of a bound listener, one after another, one request each.
+/// Serves so many connections of a bound listener, one after another, one request each. Net where no connection can be taken;
+/// Memory where there was none for a request or its reply: the connections before are served, and no more are taken.
 pub fn serve_each<S: Alter>(
     alloc: Global,
     listener: &TcpListener,

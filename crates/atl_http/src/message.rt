@@ -74,7 +74,7 @@ fn write_allowed(out: &mut String, allow: Option<Route>) -> Result<(), AllocErro
     }
 }
 
-/// The reply of these parts.
+/// The reply of these parts. AllocError without memory for its bytes.
 pub fn told_by(
     alloc: Global,
     status: StatusCode,
@@ -102,7 +102,7 @@ fn error_body(alloc: Global, name: &str, number: u8) -> Result<String, AllocErro
     format!(in alloc; "{{\"error\":\"{name}\",\"number\":{number}}}")
 }
 
-/// The reply that tells an error.
+/// The reply that tells an error. AllocError without memory for its bytes.
 pub fn error_message(
     alloc: Global,
     status: StatusCode,
@@ -116,7 +116,7 @@ pub fn error_message(
     told_by(alloc, status, allow, JSON, body.as_str())
 }
 
-/// The reply to a request with a problem.
+/// The reply to a request with a problem. AllocError without memory for its bytes.
 pub fn problem_message(alloc: Global, problem: Problem) -> Result<Message, AllocError>
     ensures { IfOk result (Says (problem_reply problem)) }
 {

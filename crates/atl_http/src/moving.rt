@@ -74,7 +74,8 @@ fn write_more<W: Write>(writer: &mut W, rest: &[u8]) -> Option<usize>
     }
 }
 
-/// Writes all bytes.
+/// Writes all bytes. WriteFault where a write fails or takes no byte, or 1,000,000 writes were interrupted: then a front of them is
+/// written.
 pub fn send<W: Write>(writer: &mut W, bytes: &[u8]) -> Result<(), HttpFault>
     ensures { Sends (W.contents writer.old) (W.contents writer.new) bytes.now result }
 {
@@ -132,7 +133,8 @@ fn receive_in<R: Read>(
     Err(HttpFault::ReadFault)
 }
 
-/// Reads until the request is whole or refused, and leaves in `seen` all that was read.
+/// Reads until the request is whole or refused, and leaves in `seen` all that was read. Cut where the input ends before, ReadFault
+/// where a read fails or 1,000,000 reads haven't brought all of it, Memory without memory for what is read or asked.
 pub fn receive<R: Read>(
     alloc: Global,
     reader: &mut R,

@@ -17,7 +17,7 @@ pub enum Problem {
     BadMethod(Route),
     /// It isn't said how long the body is, or it comes in another coding.
     NoLength,
-    /// The body has more than 65,536 bytes.
+    /// The body has more bytes than a mailing may have.
     BodyTooLong,
     /// There isn't exactly one pass text.
     NoPass,
@@ -55,7 +55,7 @@ impl Problem {
     }
 }
 
-/// Why there is nothing to go on with.
+/// Why there is nothing to go on with: there was no memory, or a check failed.
 #[derive(Drop, Clone, Copy)]
 pub enum Stopped {
     Memory,

@@ -1,10 +1,15 @@
 //! The routes.
-ghost use Rattle.std.specs.Prelude.{◌≡◌, ◌≤◌, length};
+ghost use Rattle.std.specs.Prelude.{◌≡◌, ◌≤◌, Ok, IfOk, OnOk, length, option_map};
 ghost use Rattle.std.specs.List.{position, position_or_len};
+ghost use Rattle.matchit.specs.Route.{parse_route};
+ghost use Rattle.matchit.specs.Router.{InsertsRead};
 ghost use Rattle.atl_http.specs.Routes.{number_of, route_of, method_of, is_question, path_of};
+ghost use Rattle.atl_http.specs.Routing.{kept, route_in};
 
 use http::Method;
+use matchit::Router;
 use std::alloc::{AllocError, Global};
+use std::str;
 
 /// The most digits of a number.
 const MOST_DIGITS: usize = 9;
@@ -19,6 +24,15 @@ pub enum Route {
     Close(u32),
     /// The report of the faction of this number.
     Report(u32),
+}
+
+/// What a path leads to, whatever its number.
+#[derive(Drop, Clone, Copy)]
+pub enum Place {
+    Join,
+    Orders,
+    Close,
+    Report,
 }
 
 impl Route {
@@ -74,22 +88,59 @@ pub fn path_of(target: &[u8]) -> &[u8]
     &target[..end]
 }
 
-/// What a path leads to.
-#[tactic(auto, unfolding(crate::specs::Routes::route_of))]
-pub fn route_of(path: &[u8]) -> Option<Route>
+/// Adds a route to a router.
+fn add(router: &mut Router<Place>, route: &str, place: Place) -> Result<(), AllocError>
+    ensures { OnOk result (InsertsRead (parse_route route.now) place router.old router.new (Ok tt)) }
+{
+    match router.insert(route, place) {
+        Ok(()) => Ok(()),
+        Err(_) => Err(AllocError),
+    }
+}
+
+/// A router of the four routes.
+fn router(alloc: Global) -> Result<Router<Place>, AllocError>
+    ensures { IfOk result (λ router. router ≡ kept) }
+{
+    let mut router = Router::new(alloc);
+    add(&mut router, "/join", Place::Join)?;
+    add(&mut router, "/orders/{number}", Place::Orders)?;
+    add(&mut router, "/close/{number}", Place::Close)?;
+    add(&mut router, "/report/{number}", Place::Report)?;
+    Ok(router)
+}
+
+/// The route of a place, by the text of its number.
+fn route_in(place: Place, parameter: Option<&str>) -> Option<Route>
+    ensures { result ≡ route_in place (option_map (λ text. text.now) parameter.entry) }
+{
+    match (place, parameter) {
+        (Place::Join, _) => Some(Route::Join),
+        (Place::Orders, Some(text)) => number_of(text.as_bytes()).map(Route::Orders),
+        (Place::Close, Some(text)) => number_of(text.as_bytes()).map(Route::Close),
+        (Place::Report, Some(text)) => number_of(text.as_bytes()).map(Route::Report),
+        (Place::Orders | Place::Close | Place::Report, None) => None,
+    }
+}
+
+/// What a path leads to, by a router of the four routes.
+fn found_by(router: &Router<Place>, path: &str) -> Option<Route>
+    requires { router.now ≡ kept }
     ensures { result ≡ route_of path.now }
 {
-    if path == b"/join".as_slice() {
-        return Some(Route::Join);
+    match router.at(path) {
+        Ok(found) => route_in(*found.value, found.params.get("number")),
+        Err(_) => None,
     }
-    if let Some(parameter) = path.strip_prefix(b"/orders/".as_slice()) {
-        return number_of(parameter).map(Route::Orders);
-    }
-    if let Some(parameter) = path.strip_prefix(b"/close/".as_slice()) {
-        return number_of(parameter).map(Route::Close);
-    }
-    if let Some(parameter) = path.strip_prefix(b"/report/".as_slice()) {
-        return number_of(parameter).map(Route::Report);
-    }
-    None
+}
+
+/// What a path leads to. AllocError without memory for the routes.
+pub fn route_of(alloc: Global, path: &[u8]) -> Result<Option<Route>, AllocError>
+    ensures { IfOk result (λ route. route ≡ route_of path.now) }
+{
+    let Ok(path) = str::from_utf8(path) else {
+        return Ok(None);
+    };
+    let router = router(alloc)?;
+    Ok(found_by(&router, path))
 }

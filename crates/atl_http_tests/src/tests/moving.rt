@@ -96,7 +96,7 @@ fn joins_in_pieces<S: Alter>(rt: &impl Abort, alloc: Global, service: &mut Servi
         &mut Pieces::of(&JOIN.as_bytes()[..62], 50),
         "cut",
     );
-    for reads in 0..10 {
+    for reads in 0..11 {
         let mut reader = Pieces::of(JOIN.as_bytes(), 8);
         reader.reads_left = reads;
         tells(rt, alloc, service, &mut reader, "read fault");
@@ -146,8 +146,9 @@ fn writes_in_pieces<S: Alter>(rt: &impl Abort, alloc: Global, service: &mut Serv
     joins_over_narrow(rt, alloc, service, 1_000, true, REPORTED);
     joins_over_narrow(rt, alloc, service, 0, true, "write fault");
     joins_over_narrow(rt, alloc, service, 0, false, "write fault");
-    joins_over_narrow(rt, alloc, service, 100, true, "a part");
-    joins_over_narrow(rt, alloc, service, 100, false, "a part");
+    for most in 1..REPORTED.len() {
+        joins_over_narrow(rt, alloc, service, most, most % 2 == 0, "a part");
+    }
 }
 
 /// A head with a field of so many bytes and so many short ones.

@@ -40,11 +40,12 @@ const TOO_LONG: &str =
 const NO_PASS: &str =
     "HTTP/1.1 400 Bad Request\r\nContent-Type: application/json\r\nContent-Length: 29\r\nConnection: close\r\n\r\n{\"error\":\"NoPass\",\"number\":0}";
 
-const BAD_JSON: &str =
+pub(crate) const BAD_JSON: &str =
     "HTTP/1.1 400 Bad Request\r\nContent-Type: application/json\r\nContent-Length: 30\r\nConnection: close\r\n\r\n{\"error\":\"BadJson\",\"number\":0}";
 
-/// A faction joins, the name is taken from then on, and its report is told. The same pass text twice is none.
-const JOINING: [Case; 4] = [
+/// A faction joins, the name is taken from then on, and its report is told. An empty Host is one, HTTP/1.0 may have two, and
+/// of a GET neither Content-Length nor Transfer-Encoding counts.
+const JOINING: [Case; 6] = [
     (JOIN, JOINED),
     (
         JOIN,
@@ -52,7 +53,15 @@ const JOINING: [Case; 4] = [
     ),
     (REPORT, REPORTED),
     (
-        "GET /report/1?a=b HTTP/1.0\r\natlantis-pass: \tpw \r\nContent-Length: x\r\n\r\n",
+        "GET /report/1?a=b HTTP/1.0\r\natlantis-pass: \tpw \r\nContent-Length: x\r\nTransfer-Encoding: chunked\r\n\r\n",
+        REPORTED,
+    ),
+    (
+        "GET /report/000000001 HTTP/1.1\r\nHost:\r\nAtlantis-Pass: pw\r\n\r\n",
+        REPORTED,
+    ),
+    (
+        "GET /report/1 HTTP/1.0\r\nHost: x\r\nHost: y\r\nAtlantis-Pass: pw\r\n\r\n",
         REPORTED,
     ),
 ];
@@ -82,6 +91,28 @@ const A_MONTH: [Case; 4] = [
 #[test]
 fn a_month(rt: HostRuntime) -> Result<(), Fail> {
     plays(&rt, rt.alloc(), &A_MONTH)
+}
+
+/// A faction quits, and sends orders no more. A mailing that is too long is a body that is too long, which is told first.
+const QUITTING: [Case; 4] = [
+    (JOIN, JOINED),
+    (
+        "POST /orders/1 HTTP/1.1\r\nHost: x\r\nAtlantis-Pass: pw\r\nContent-Length: 25\r\n\r\n#ATLANTIS 1\nUNIT 1\nQUIT 1",
+        "HTTP/1.1 200 OK\r\nContent-Type: application/json\r\nContent-Length: 24\r\nConnection: close\r\n\r\n{\"faults\":[],\"orders\":1}",
+    ),
+    (
+        "POST /close/1 HTTP/1.1\r\nHost: x\r\nAtlantis-Pass: gm\r\n\r\n",
+        "HTTP/1.1 200 OK\r\nContent-Type: application/json\r\nContent-Length: 11\r\nConnection: close\r\n\r\n{\"month\":1}",
+    ),
+    (
+        "POST /orders/1 HTTP/1.1\r\nHost: x\r\nAtlantis-Pass: pw\r\nContent-Length: 11\r\n\r\n#ATLANTIS 1",
+        "HTTP/1.1 403 Forbidden\r\nContent-Type: application/json\r\nContent-Length: 27\r\nConnection: close\r\n\r\n{\"error\":\"Gone\",\"number\":7}",
+    ),
+];
+
+#[test]
+fn quitting(rt: HostRuntime) -> Result<(), Fail> {
+    plays(&rt, rt.alloc(), &QUITTING)
 }
 
 /// Refusals of the campaign, one of each status.
@@ -162,7 +193,7 @@ fn routes(rt: HostRuntime) -> Result<(), Fail> {
 }
 
 /// Bodies without a good length, and requests without one pass text.
-const LENGTHS: [Case; 12] = [
+const LENGTHS: [Case; 13] = [
     ("POST /join HTTP/1.0\r\n\r\n", NO_LENGTH),
     (
         "POST /join HTTP/1.0\r\nTransfer-Encoding: chunked\r\nContent-Length: x\r\n\r\n",
@@ -205,6 +236,10 @@ const LENGTHS: [Case; 12] = [
         "cut",
     ),
     ("POST /join HTTP/1.0\r\nContent-Length: 1\r\n\r\n", "cut"),
+    (
+        "POST /close/1 HTTP/1.0\r\nAtlantis-Pass: gm\r\nContent-Length: 1\r\n\r\n",
+        "cut",
+    ),
 ];
 
 #[test]
@@ -213,7 +248,7 @@ fn lengths(rt: HostRuntime) -> Result<(), Fail> {
 }
 
 /// Bodies that are no object with both texts; of equal keys the last counts, and bytes behind the body don't.
-const BODIES: [Case; 8] = [
+const BODIES: [Case; 9] = [
     ("POST /join HTTP/1.0\r\nContent-Length: 0\r\n\r\n", BAD_JSON),
     (
         "POST /join HTTP/1.0\r\nContent-Length: 2\r\n\r\n[]",
@@ -229,6 +264,10 @@ const BODIES: [Case; 8] = [
     ),
     (
         "POST /join HTTP/1.0\r\nContent-Length: 21\r\n\r\n{\"name\":\"A\",\"pass\":1}",
+        BAD_JSON,
+    ),
+    (
+        "POST /join HTTP/1.0\r\nContent-Length: 22\r\n\r\n{\"name\":1,\"pass\":\"pw\"}",
         BAD_JSON,
     ),
     (

@@ -1,11 +1,11 @@
-use Rattle.std.proofs.Common.{◌≡◌, ◌+◌, ◌*◌, ◌-◌, ◌<◌, ◌≤◌, ◌^◌, true, ap, ◌∙◌, get_or, take, length, subst, sym, arith}
+use Rattle.std.proofs.Common.{◌≡◌, ◌+◌, ◌*◌, ◌-◌, true, ap, ◌∙◌, get_or, take, arith}
 use Rattle.std.specs.Str.Parse.{digits_value}
 use Rattle.std.proofs.lemmas.Int.Digits.{digits_value_more}
 use Rattle.std.proofs.lemmas.List.Folds.{list_all_more}
 use Rattle.std.proofs.lemmas.Grind.{common_steps}
 use Rattle.std.proofs.lemmas.Bool.Decides.{nat_tests}
 use Rattle.std.specs.Char.{is_ascii_digit}
-use Rattle.atl_http.proofs.PlaceLaws.{digit_value_of, few_digits, digit_more}
+use Rattle.atl_http.proofs.PlaceLaws.{digit_value_of, digit_more}
 use Rattle.atl_http.proofs.route.number_of.Goals as goal
 
 pub loop-byte-preserved : goal.loop-byte-preserved

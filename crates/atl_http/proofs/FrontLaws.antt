@@ -1,0 +1,155 @@
+-- Laws of rows with a common front, and of a number behind it.
+use Rattle.std.proofs.Common.{get_or, ltb, ◌&&◌, ◌≡◌, ◌≢◌, ℕ, ◌-◌, ◌<◌, ◌⊎◌, inl, inr, List, [], ◌∷◌, ◌++◌, length, take, drop, Option, Some, None, Bool, true, false, cond, refl, sym, ap, ◌∙◌, subst, arith, nat_eq, ◌==◌}
+use Rattle.std.specs.Prelude.{option_and_then}
+use Rattle.std.specs.Cmp.Lexicographic.{pointwise}
+use Rattle.std.proofs.lemmas.Bool.Decides.{nat_tests}
+use Rattle.matchit.specs.Rows.{Rows, prepend, param_token}
+use Rattle.matchit.specs.Seek.{step, or_else, seek, first, param_step, has_slash, after_param}
+use Rattle.matchit.specs.Level.{IsText}
+use Rattle.matchit.proofs.SeekLemmas.{prepend-nil, own-prepend, step-hit, step-miss, seek-empty, seek-lit, param_step-empty}
+use Rattle.matchit.proofs.ParamLemmas.{after_param-end, after_param-stop}
+use Rattle.std.specs.List.{list_all}
+use Rattle.std.specs.Char.{is_ascii_digit}
+use Rattle.std.specs.Str.{IsUtf8}
+use Rattle.std.proofs.lemmas.Str.{IsUtf8-from_ascii}
+use Rattle.std.proofs.lemmas.Str.Ascii.{IsAscii-from_all}
+use Rattle.atl_http.specs.Routes.{behind, number_of}
+use Rattle.std.proofs.lemmas.List.Folds.{list_all_at}
+use Rattle.std.specs.Str.Parse.{digits_value}
+use Rattle.std.specs.Prelude.{nat_lt, nat_le}
+
+-- ---- what stands behind a front
+
+behind_step : (x y : ℕ) (w p : List ℕ) → behind (x ∷ w) (y ∷ p) ≡ cond (y == x) (behind w p) None
+behind_step x y w p =
+    elim (y == x) as (λ t. cond (t && pointwise nat_eq (take (length w) p) w) (Some (drop (length w) p)) None ≡ cond t (behind w p) None) [
+      | true ↦ refl
+      | false ↦ refl
+    ]
+
+behind_by : (x y : ℕ) (w p rest : List ℕ) (t : Bool) → (y == x) ≡ t → (behind w p ≡ Some rest → p ≡ w ++ rest) → cond t (behind w p) None ≡ Some rest → y ∷ p ≡ x ∷ (w ++ rest)
+behind_by x y w p rest true e ih k =
+    let same : y ≡ x = grind (arith, nat_tests) in
+    rw (same, ih k) refl
+behind_by x y w p rest false e ih k = cc
+
+pub behind_is : (w p rest : List ℕ) → behind w p ≡ Some rest → p ≡ w ++ rest
+behind_is [] p rest h = cc
+behind_is (x ∷ w) [] rest h = cc
+behind_is (x ∷ w) (y ∷ p) rest h = behind_by x y w p rest (y == x) refl (λ k. behind_is w p rest k) (sym (behind_step x y w p) ∙ h)
+
+-- rows with a common front
+front_by : (x y : ℕ) (w p : List ℕ) (t : Rows) (v : Bool) → (y == x) ≡ v → first (prepend w t) p ≡ option_and_then (λ rest. first t rest) (behind w p) → seek 0 (step y (prepend (x ∷ w) t)) p ≡ option_and_then (λ rest. first t rest) (cond v (behind w p) None)
+front_by x y w p t true e ih =
+    let same : y ≡ x = grind (arith, nat_tests) in
+    rw (same, step-hit x w t) ih
+front_by x y w p t false e ih =
+    let differ : x ≢ y = λ q. grind (arith, nat_tests) in
+    rw (step-miss y x w t differ) (seek-empty 0 p)
+
+pub first_behind : (w : List ℕ) (t : Rows) (path : List ℕ) → IsText w → first (prepend w t) path ≡ option_and_then (λ rest. first t rest) (behind w path)
+unfolding seek
+first_behind [] t path h = ap (λ r. first r path) (prepend-nil t)
+first_behind (x ∷ w) t [] h = own-prepend x w t
+first_behind (x ∷ w) t (y ∷ p) h =
+    seek-lit x w t y p h.0
+    ∙ front_by x y w p t (y == x) refl (first_behind w t p h.1)
+    ∙ ap (λ r. option_and_then (λ rest. first t rest) r) (sym (behind_step x y w p))
+
+-- ---- a number behind a front
+
+abbrev pub number_row : ℕ → Rows
+number_row key = (param_token ∷ [], key) ∷ []
+
+slash_step : (b : ℕ) (p : List ℕ) (t : Bool) → is_ascii_digit b ≡ t → (list_all is_ascii_digit p ≡ true → has_slash p ≡ false) → (t && list_all is_ascii_digit p) ≡ true → has_slash (b ∷ p) ≡ false
+slash_step b p true e ih h =
+    let differ : (b == 47) ≡ false = grind (arith, nat_tests) in
+    rw differ (ih h)
+slash_step b p false e ih h = cc
+
+no_slash : (p : List ℕ) → list_all is_ascii_digit p ≡ true → has_slash p ≡ false
+no_slash [] h = refl
+no_slash (b ∷ p) h = slash_step b p (is_ascii_digit b) refl (λ k. no_slash p k) h
+
+first_digit : (b : ℕ) (p : List ℕ) (t : Bool) → is_ascii_digit b ≡ t → (t && list_all is_ascii_digit p) ≡ true → (param_token == b) ≡ false
+first_digit b p true e h = grind (arith, nat_tests)
+first_digit b p false e h = cc
+
+-- a text without a slash is taken whole
+taken_whole : (key b : ℕ) (p : List ℕ) → (param_token == b) ≡ false → has_slash (b ∷ p) ≡ false → first (number_row key) (b ∷ p) ≡ Some key
+unfolding seek
+taken_whole key b p e h =
+    let whole : after_param (([], key) ∷ []) (b ∷ p) ≡ Some key = after_param-end [] (Some key) b p tt refl h in
+    rw (e, seek-empty 0 p, whole) refl
+
+-- the route, or none
+abbrev IsAt : ℕ → Option ℕ → Type 0
+IsAt key found = (found ≡ Some key) ⊎ (found ≡ None)
+
+or_either : (key : ℕ) (a b : Option ℕ) → IsAt key a → IsAt key b → IsAt key (or_else a b)
+or_either key a b (inl e) h = inl (ap (λ x. or_else x b) e)
+or_either key a b (inr e) h = subst (λ x. IsAt key (or_else x b)) (sym e) h
+
+pub end_none : (key b : ℕ) (p : List ℕ) → seek 0 (([], key) ∷ []) (b ∷ p) ≡ None
+unfolding seek
+end_none key b p = simp (seek-empty 0 p, param_step-empty (b ∷ p), seek-empty ((param_step {K = ℕ} [] (b ∷ p)).0 - 1) p)
+
+end_alone : (key : ℕ) (p : List ℕ) → IsAt key (seek 0 (([], key) ∷ []) p)
+unfolding seek
+end_alone key [] = inl refl
+end_alone key (b ∷ p) = inr (end_none key b p)
+
+stepped : (key b : ℕ) (p : List ℕ) (t : Bool) → IsAt key (seek 0 (cond t (([], key) ∷ []) []) p)
+stepped key b p true = end_alone key p
+stepped key b p false = inr (seek-empty 0 p)
+
+after_by : (key b : ℕ) (p : List ℕ) (t : Bool) → has_slash (b ∷ p) ≡ t → IsAt key (after_param (([], key) ∷ []) (b ∷ p))
+after_by key b p true h = inr (after_param-stop [] (Some key) b p refl h)
+after_by key b p false h = inl (after_param-end [] (Some key) b p tt refl h)
+
+one_or_none : (key b : ℕ) (p : List ℕ) → IsAt key (first (number_row key) (b ∷ p))
+unfolding seek
+one_or_none key b p =
+    or_either key (seek 0 (cond (param_token == b) (([], key) ∷ []) []) p) (or_else (after_param (([], key) ∷ []) (b ∷ p)) None) (stepped key b p (param_token == b))
+    (or_either key (after_param (([], key) ∷ []) (b ∷ p)) None (after_by key b p (has_slash (b ∷ p)) refl) (inr refl))
+
+number_none : (x y : Bool) (n : Option ℕ) → cond (x && (y && false)) n None ≡ None
+number_none true true n = refl
+number_none true false n = refl
+number_none false y n = refl
+
+small_by : (test : ℕ → Bool) (b : ℕ) (t : Bool) → test b ≡ t → (test b ≡ true → b < 128) → (t ≡ false → ⊥) → b < 128
+small_by test b true e small h = small e
+small_by test b false e small h = absurd (h refl)
+
+all_utf8 : (test : ℕ → Bool) → ((b : ℕ) → test b ≡ true → b < 128) → (p : List ℕ) → list_all test p ≡ true → IsUtf8 p
+all_utf8 test small p h =
+    IsUtf8-from_ascii p (IsAscii-from_all p (λ k d l. small_by test (get_or p k d) (test (get_or p k d)) refl (small (get_or p k d)) (λ e.
+    let none = list_all_at test p k d l e in
+    cc)))
+
+digits_utf8 : (p : List ℕ) → list_all is_ascii_digit p ≡ true → IsUtf8 p
+digits_utf8 p h = all_utf8 is_ascii_digit (λ b e. grind (arith, nat_tests)) p h
+
+pub ascii_utf8 : (p : List ℕ) → list_all (λ b. ltb b 128) p ≡ true → IsUtf8 p
+ascii_utf8 p h = all_utf8 (λ b. ltb b 128) (λ b e. grind (arith, nat_tests)) p h
+
+-- what is found behind a front is a number, or nothing that leads anywhere
+abbrev pub NumberSays : ℕ → List ℕ → Type 0
+NumberSays key rest = ((first (number_row key) rest ≡ Some key) × ((number_of rest ≡ None) ⊎ IsUtf8 rest)) ⊎ ((first (number_row key) rest ≡ None) × (number_of rest ≡ None))
+
+found_or_none : (key : ℕ) (rest : List ℕ) → number_of rest ≡ None → IsAt key (first (number_row key) rest) → NumberSays key rest
+found_or_none key rest none (inl e) = inl (e, inl none)
+found_or_none key rest none (inr e) = inr (e, none)
+
+number_by : (key b : ℕ) (p : List ℕ) (t : Bool) → list_all is_ascii_digit (b ∷ p) ≡ t → NumberSays key (b ∷ p)
+unfolding number_of
+number_by key b p true e = inl (taken_whole key b p (first_digit b p (is_ascii_digit b) refl e) (no_slash (b ∷ p) e), inr (digits_utf8 (b ∷ p) e))
+number_by key b p false e =
+    let none : number_of (b ∷ p) ≡ None = rw e (number_none (nat_lt 0 (length (b ∷ p))) (nat_le (length (b ∷ p)) 9) (Some (digits_value 10 (b ∷ p)))) in
+    found_or_none key (b ∷ p) none (one_or_none key b p)
+
+pub number_says : (key : ℕ) (rest : List ℕ) → NumberSays key rest
+unfolding seek number_of
+number_says key [] = inr (refl, refl)
+number_says key (b ∷ p) = number_by key b p (list_all is_ascii_digit (b ∷ p)) refl

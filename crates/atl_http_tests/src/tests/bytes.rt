@@ -1,0 +1,47 @@
+//! Requests that are no text.
+use super::making::{begun, tells};
+use super::requests::{BAD_JSON, BAD_REQUEST, JOIN, JOINED};
+use atl_service::Service;
+use sqlite::{Alter, Connection};
+use std::alloc::Global;
+use std::process::Abort;
+use std::test::Fail;
+
+/// What is told of orders of which no line can be read.
+const NO_HEADER: &str =
+    "HTTP/1.1 400 Bad Request\r\nContent-Type: application/json\r\nContent-Length: 31\r\nConnection: close\r\n\r\n{\"error\":\"NoHeader\",\"number\":9}";
+
+/// A target, a field's name and bodies of bytes 255. In a query too they are no target; in a value they may stand.
+const CASES: [(&[u8], &str); 6] = [
+    (b"GET /\xff HTTP/1.0\r\n\r\n", BAD_REQUEST),
+    (b"GET /report/1?\xff HTTP/1.0\r\n\r\n", BAD_REQUEST),
+    (b"GET /report/1 HTTP/1.0\r\n\xff: x\r\n\r\n", BAD_REQUEST),
+    (
+        b"POST /join HTTP/1.0\r\nContent-Length: 2\r\n\r\n\xff\xff",
+        BAD_JSON,
+    ),
+    (
+        b"POST /join HTTP/1.0\r\nA: \xff\r\nContent-Length: 23\r\n\r\n{\"name\":\"\xff\",\"pass\":\"p\"}",
+        BAD_JSON,
+    ),
+    (
+        b"POST /orders/1 HTTP/1.0\r\nAtlantis-Pass: pw\r\nContent-Length: 2\r\n\r\n\xff\xff",
+        NO_HEADER,
+    ),
+];
+
+fn no_texts<S: Alter>(rt: &impl Abort, alloc: Global, service: &mut Service<S>) {
+    tells(rt, alloc, service, &mut JOIN.as_bytes(), JOINED);
+    for (request, wanted) in CASES.iter() {
+        let mut reader = *request;
+        tells(rt, alloc, service, &mut reader, wanted);
+    }
+}
+
+#[test]
+fn no_text(rt: HostRuntime) -> Result<(), Fail> {
+    let mut service = begun(rt.alloc(), Connection::open_in_memory(rt.alloc())?)?;
+    no_texts(&rt, rt.alloc(), &mut service);
+    let _conn = service.end();
+    Ok(())
+}
