@@ -18,3 +18,4 @@ pub mod BuildLaws
 pub mod GroupLaws
 pub mod StockLaws
 pub mod ProduceLaws
+pub mod UnmailedMakeLaws

@@ -11,6 +11,8 @@ use Rattle.atl_state.specs.Marks.{amount_number}
 use Rattle.atl_instant.specs.Meaning.{Moving, most_moved, moves_only}
 use Rattle.atl_instant.proofs.MeaningLaws.{MovesLess}
 use Rattle.atl_instant.specs.Quit.{quit_moves}
+use Rattle.atl_market.specs.Build.{build_moves}
+use Rattle.atl_market.specs.Produce.{produce_moves}
 use Rattle.atl_month.specs.Month.{month_phases}
 use Rattle.atl_month.specs.Sweep.{loses_by}
 
@@ -61,10 +63,20 @@ quit_in e Money = omega arith
 quit_in e People = omega arith
 quit_in e (Item i) = omega arith
 
+build_in : (e : Entry) (t : Thing) → build_moves e t ≤ in_entry entries.Used e t
+build_in e Money = omega arith
+build_in e People = omega arith
+build_in e (Item i) = omega arith
+
+produce_in : (e : Entry) (t : Thing) → produce_moves most_moved e t ≤ in_entry entries.Made e t + in_entry entries.Used e t
+produce_in entries.Made (Item i) = omega arith
+produce_in entries.Used (Item i) = omega arith
+produce_in e t = omega arith
+
 -- ---- the phases
 
 -- each entry with the phases that move it
-by_entry : (e : Entry) (t : Thing) → in_entry entries.Recruiting e t + (in_entry entries.Left e t + in_entry entries.Lost e t) + in_entry entries.Wages e t + in_entry entries.Upkeep e t + in_entry entries.Starved e t + in_entry entries.Births e t + in_entry entries.Income e t + in_entry entries.Lost e t ≤ 200000000000000
+by_entry : (e : Entry) (t : Thing) → in_entry entries.Recruiting e t + (in_entry entries.Left e t + in_entry entries.Lost e t) + in_entry entries.Used e t + in_entry entries.Study e t + (in_entry entries.Made e t + in_entry entries.Used e t) + in_entry entries.Wages e t + in_entry entries.Upkeep e t + in_entry entries.Starved e t + in_entry entries.Births e t + in_entry entries.Income e t + in_entry entries.Lost e t ≤ 200000000000000
 by_entry entries.Founding t = omega arith
 by_entry entries.Joining t = omega arith
 by_entry entries.Income t = omega arith
@@ -81,4 +93,4 @@ by_entry entries.Used t = omega arith
 
 pub phases_little : MovesLess month_phases.moving month_moves
 phases_little e t =
-    omega (arith, by_entry e t, only_in entries.Recruiting Money e t, quit_in e t, only_in entries.Wages Money e t, only_in entries.Upkeep Money e t, only_in entries.Starved People e t, only_in entries.Births People e t, only_in entries.Income Money e t, lost_in e t)
+    omega (arith, by_entry e t, only_in entries.Recruiting Money e t, quit_in e t, build_in e t, only_in entries.Study Money e t, produce_in e t, only_in entries.Wages Money e t, only_in entries.Upkeep Money e t, only_in entries.Starved People e t, only_in entries.Births People e t, only_in entries.Income Money e t, lost_in e t)

@@ -26,7 +26,9 @@ use Rattle.atl_instant.specs.Unmailed.{IsLeft, IsLessBy, starved_in, starved_tol
 use Rattle.atl_instant.proofs.StructureLaws.{equal, is_equal, unequal}
 use Rattle.atl_instant.proofs.UnmailedLaws.{ClosesUnmailed, LeavesUnmailed, both_leave, men_same, then_closes, whole_leaves}
 use Rattle.atl_instant.proofs.UnmailedStepLaws.{form_leaves, give_leaves, guard_leaves, name_leaves, place_leaves, quit_leaves, transfer_leaves}
+use Rattle.atl_action.proofs.UnmailedLearnLaws.{learn_leaves}
 use Rattle.atl_action.proofs.UnmailedTravelLaws.{sail_leaves, walk_leaves}
+use Rattle.atl_market.proofs.UnmailedMakeLaws.{build_leaves, produce_leaves}
 use Rattle.atl_market.proofs.UnmailedPotLaws.{recruit_leaves, tax_leaves, work_leaves}
 use Rattle.atl_month.specs.declared.settling.Settled.{Settled}
 use Rattle.atl_month.specs.Month.{PhaseTerms, begun, early_orders, later_orders, month_of, month_phases}
@@ -168,7 +170,7 @@ early_leave : Leaves early_orders
 early_leave = both_leave form_leaves (both_leave name_leaves (both_leave place_leaves (both_leave give_leaves (both_leave transfer_leaves (both_leave tax_leaves recruit_leaves)))))
 
 later_leave : Leaves later_orders
-later_leave = both_leave guard_leaves (both_leave quit_leaves (both_leave walk_leaves (both_leave sail_leaves work_leaves)))
+later_leave = both_leave guard_leaves (both_leave quit_leaves (both_leave walk_leaves (both_leave sail_leaves (both_leave build_leaves (both_leave learn_leaves (both_leave produce_leaves work_leaves))))))
 
 month_closes : ClosesUnmailed month_phases.meaning month_phases.keeps
 month_closes = then_closes early_leave (then_closes later_leave (then_closes upkeep_leaves (then_closes season_leaves sweep_closes)))

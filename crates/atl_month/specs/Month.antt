@@ -19,7 +19,10 @@ use Rattle.atl_instant.specs.Quit.{quit_keeps, quit_meaning, quit_moves}
 use Rattle.atl_instant.specs.Transfer.{transfer_keeps, transfer_meaning}
 use Rattle.atl_instant.specs.Unbooked.{moves_nothing}
 use Rattle.atl_action.specs.Sail.{sail_keeps, sail_meaning}
+use Rattle.atl_action.specs.Study.{learn_keeps, learn_meaning, study_moves}
 use Rattle.atl_action.specs.Walk.{walk_keeps, walk_meaning}
+use Rattle.atl_market.specs.Build.{build_keeps, build_meaning, build_moves}
+use Rattle.atl_market.specs.Produce.{produce_keeps, produce_meaning, produce_moves}
 use Rattle.atl_market.specs.Recruit.{recruit_keeps, recruit_meaning, recruit_moves}
 use Rattle.atl_market.specs.Tax.{tax_keeps, tax_meaning, tax_moves}
 use Rattle.atl_market.specs.Work.{work_keeps, work_meaning, work_moves}
@@ -81,6 +84,15 @@ walking = record { meaning = walk_meaning; moving = moves_nothing; keeps = walk_
 abbrev pub sailing : PhaseTerms
 sailing = record { meaning = sail_meaning; moving = moves_nothing; keeps = sail_keeps }
 
+abbrev pub building : PhaseTerms
+building = record { meaning = build_meaning; moving = build_moves; keeps = build_keeps }
+
+abbrev pub learning : PhaseTerms
+learning = record { meaning = learn_meaning; moving = study_moves; keeps = learn_keeps }
+
+abbrev pub producing : PhaseTerms
+producing = record { meaning = produce_meaning; moving = produce_moves most_moved; keeps = produce_keeps }
+
 abbrev pub working : PhaseTerms
 working = record { meaning = work_meaning; moving = work_moves most_moved; keeps = work_keeps }
 
@@ -99,7 +111,7 @@ early_orders = forming ▷ naming ▷ placing ▷ giving ▷ transferring ▷ ta
 
 -- and the others
 abbrev pub later_orders : PhaseTerms
-later_orders = guarding ▷ quitting ▷ walking ▷ sailing ▷ working
+later_orders = guarding ▷ quitting ▷ walking ▷ sailing ▷ building ▷ learning ▷ producing ▷ working
 
 -- a month, from its first phase to its last
 abbrev pub month_phases : PhaseTerms

@@ -15,11 +15,11 @@ ghost use Rattle.atl_month.specs.Unmailed.{UnmailedAreLeft};
 use crate::season::SeasonPhase;
 use crate::sweep::SweepPhase;
 use crate::upkeep::UpkeepPhase;
-use atl_action::{MovePhase, SailPhase};
+use atl_action::{LearnPhase, MovePhase, SailPhase};
 use atl_instant::{
     FormPhase, GivePhase, GuardPhase, Month, NamePhase, Phase, PlacePhase, QuitPhase, TransferPhase,
 };
-use atl_market::{RecruitPhase, TaxPhase, WorkPhase};
+use atl_market::{BuildPhase, ProducePhase, RecruitPhase, TaxPhase, WorkPhase};
 use atl_orders::Mailing;
 use atl_state::{Campaign, Event};
 use atl_tables::World;
@@ -41,7 +41,8 @@ fn run_phases(
 {
     let goods = (GivePhase, (TransferPhase, (TaxPhase, RecruitPhase)));
     let early = (FormPhase, (NamePhase, (PlacePhase, goods)));
-    let long = (MovePhase, (SailPhase, WorkPhase));
+    let making = (BuildPhase, (LearnPhase, (ProducePhase, WorkPhase)));
+    let long = (MovePhase, (SailPhase, making));
     let later = (GuardPhase, (QuitPhase, long));
     let closing = (UpkeepPhase, (SeasonPhase, SweepPhase));
     let phases = (early, (later, closing));

@@ -5,7 +5,7 @@ pub run-requires-clause-needs : goal.run-requires-clause-needs
 run-requires-clause-needs c =
     let early = sound_early c.args.world.now c.args.campaign.what c.requires.sound in (
       (early, λ w d h. (h, λ w d h. (h, λ w d h. (h, λ w d h. (h, λ w d h. (h, λ w d h. h)))))),
-      λ w d h. ((h.steady, λ w d h. (h, λ w d h. (h, λ w d h. (h, λ w d h. h)))), λ w d h. (h, λ w d h. (h, λ w d h. h))),
+      λ w d h. ((h.steady, λ w d h. (h, λ w d h. (h, λ w d h. (h, λ w d h. (h, λ w d h. (h, λ w d h. (h, λ w d h. h))))))), λ w d h. (h, λ w d h. (h, λ w d h. h))),
     )
 
 pub run-requires-clause-room : goal.run-requires-clause-room

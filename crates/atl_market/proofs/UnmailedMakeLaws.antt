@@ -1,0 +1,128 @@
+-- What BUILD and PRODUCE leave to the units of a faction that sent no mailing.
+use Rattle.std.proofs.Common.{◌≡◌, ◌+◌, ◌-◌, ◌*◌, ℕ, true, Option, Some, None, refl}
+use Rattle.std.specs.List.{slice_get}
+use Rattle.std.specs.Ordering.{nat_cmp}
+use Rattle.std.specs.FinMap.{FinMap, get}
+use Rattle.atl_tables.specs.Planet.{Planet}
+use Rattle.atl_tables.specs.declared.world.Item.{Item}
+use Rattle.atl_tables.specs.declared.world.Kind.{Kind}
+use Rattle.atl_orders.specs.declared.order.Order.TheVariants as orders
+use Rattle.atl_orders.specs.Orders.{Said}
+use Rattle.atl_state.specs.declared.event.Outcome.TheVariants.{Done}
+use Rattle.atl_state.specs.declared.records.Structure.{Structure}
+use Rattle.atl_state.specs.declared.records.Unit.{Unit}
+use Rattle.atl_state.specs.Held.{amount_of, with_amount_of}
+use Rattle.atl_state.specs.Owners.{with_place}
+use Rattle.atl_state.specs.State.{State}
+use Rattle.atl_instant.specs.Course.{Course}
+use Rattle.atl_instant.proofs.UnmailedLaws.{HaveTheirMen, LeavesUnmailed, SparesMen, carried_leaves, items_of_no_worse, men_put, men_same, men_stay, men_twice, men_unless, own_faction, unmailed_spared}
+use Rattle.atl_instant.proofs.UnmailedStepLaws.{place_men}
+use Rattle.atl_market.specs.Build.{begin, begin_by, begin_fault, begin_with, begun, build_keeps, build_meaning, build_said, build_step, go_on, go_on_at, go_on_by, go_on_with, gone_on, inside_fault, is_building, outside_fault, size_added, with_less, with_new, with_used, with_used_by}
+use Rattle.atl_market.specs.PotPhase.{PotMeaning}
+use Rattle.atl_market.specs.Produce as produce
+use Rattle.atl_market.proofs.UnmailedPotLaws.{others_items, paid_men, shared_leave}
+
+-- ---- BUILD
+
+used_men : (c : State) (n item amount : ℕ) → HaveTheirMen c (with_used c n item amount)
+used_men c n item amount = by_unit (get c.units n) refl
+  where
+    by_unit : (o : Option Unit) → get c.units n ≡ o → HaveTheirMen c (with_used_by c n item amount o)
+    by_unit None is = men_stay c
+    by_unit (Some u) is = men_put c (with_used_by c n item amount (Some u)) n u (record u { holding = with_less u.holding item amount }) is (record { faction = refl; men = refl }) refl
+
+begun_men : (c : State) (n kind : ℕ) (k : Kind) (region size : ℕ) → HaveTheirMen c (begun c n kind k region size)
+begun_men c n kind k region size =
+    let used = with_used c n k.material size in
+    let new = with_new used kind k region size in
+    men_twice c used (with_place new n region c.next_structure) (used_men c n k.material size)
+    (men_twice used new (with_place new n region c.next_structure) (men_same used new refl) (place_men new n region c.next_structure))
+
+begin_men : (w : Planet) (c : State) (n kind : ℕ) → HaveTheirMen c (begin w c n kind).0
+unfolding begin
+begin_men w c n kind = by_unit (get c.units n)
+  where
+    by_kind : (u : Unit) (o : Option Kind) → HaveTheirMen c (begin_with w c n kind u o).0
+    by_kind u None = men_stay c
+    by_kind u (Some k) = let size = size_added k u.holding 0 in men_unless c (begun c n kind k u.region size) (Done size) (begin_fault w c u k) (begun_men c n kind k u.region size)
+
+    by_unit : (o : Option Unit) → HaveTheirMen c (begin_by w c n kind o).0
+    by_unit None = men_stay c
+    by_unit (Some u) = by_kind u (slice_get w.kinds kind)
+
+gone_on_men : (c : State) (n material size place done : ℕ) → HaveTheirMen c (gone_on c n material size place done)
+gone_on_men c n material size place done = let used = with_used c n material size in men_twice c used (gone_on c n material size place done) (used_men c n material size) (men_same used (gone_on c n material size place done) refl)
+
+go_on_men : (w : Planet) (c : State) (n : ℕ) → HaveTheirMen c (go_on w c n).0
+unfolding go_on
+go_on_men w c n = by_unit (get c.units n)
+  where
+    by_kind : (u : Unit) (s : Structure) (o : Option Kind) → HaveTheirMen c (go_on_with c n u s o).0
+    by_kind u s None = men_stay c
+    by_kind u s (Some k) = let size = size_added k u.holding s.done in men_unless c (gone_on c n k.material size u.structure (s.done + size)) (Done size) (inside_fault u s k) (gone_on_men c n k.material size u.structure (s.done + size))
+
+    by_structure : (u : Unit) (o : Option Structure) → HaveTheirMen c (go_on_at w c n u o).0
+    by_structure u None = men_unless c c (Done 0) (outside_fault u) (men_stay c)
+    by_structure u (Some s) = by_kind u s (slice_get w.kinds s.kind)
+
+    by_unit : (o : Option Unit) → HaveTheirMen c (go_on_by w c n o).0
+    by_unit None = men_stay c
+    by_unit (Some u) = by_structure u (get c.structures u.structure)
+
+built_men : (w : Planet) (c : State) (n : ℕ) (s : Said) → HaveTheirMen c (build_said w c n s).0
+built_men w c n (orders.Build (Some kind)) = begin_men w c n kind
+built_men w c n (orders.Build None) = go_on_men w c n
+built_men w c n other = men_stay c
+
+build_spares : SparesMen build_step
+build_spares w a c t own n u there other = built_men w c t.unit t.said n u there
+
+pub build_leaves : LeavesUnmailed build_meaning build_keeps
+build_leaves = carried_leaves build_step (λ s. true) is_building build_spares (unmailed_spared is_building own_faction items_of_no_worse)
+
+-- ---- PRODUCE
+
+-- a unit that is there has so much of an item
+abbrev stocked : (item amount : ℕ) → Unit → Unit
+stocked i amount u = record u { holding = record u.holding { items = with_amount_of u.holding.items i amount } }
+
+raw_men : (c : State) (n i amount : ℕ) → HaveTheirMen c (produce.with_used c n i amount)
+raw_men c n i amount = by_unit (get c.units n) refl
+  where
+    by_unit : (o : Option Unit) → get c.units n ≡ o → HaveTheirMen c (produce.used_by c n i amount o)
+    by_unit None is = men_stay c
+    by_unit (Some u) is = men_put c (produce.used_by c n i amount (Some u)) n u (stocked i (amount_of u.holding.items i - amount) u) is (record { faction = refl; men = refl }) refl
+
+made_men : (c : State) (n i amount : ℕ) → HaveTheirMen c (produce.with_made c n i amount)
+made_men c n i amount = by_unit (get c.units n) refl
+  where
+    by_unit : (o : Option Unit) → get c.units n ≡ o → HaveTheirMen c (produce.made_to c n i amount o)
+    by_unit None is = men_stay c
+    by_unit (Some u) is = men_put c (produce.made_to c n i amount (Some u)) n u (stocked i (amount_of u.holding.items i + amount) u) is (record { faction = refl; men = refl }) refl
+
+produced_men : (asked : FinMap nat_cmp ℕ) (w : Planet) (c : State) (e : ℕ × ℕ) → HaveTheirMen c (produce.produced asked w c e)
+unfolding produce.produced
+produced_men asked w c e = by_item (get asked e.0)
+  where
+    by_raw : (amount : ℕ) (o : Option ℕ) → HaveTheirMen c (produce.with_raw_used c e.0 amount o)
+    by_raw amount None = men_stay c
+    by_raw amount (Some raw) = raw_men c e.0 raw amount
+
+    by_kind : (i : ℕ) (o : Option Item) → HaveTheirMen c (produce.produced_of c e i o)
+    by_kind i None = men_stay c
+    by_kind i (Some x) =
+        let used = produce.with_raw_used c e.0 (e.1 * x.raw_count) x.raw in
+        men_twice c used (produce.with_made used e.0 i e.1) (by_raw (e.1 * x.raw_count) x.raw) (made_men used e.0 i e.1)
+
+    by_item : (o : Option ℕ) → HaveTheirMen c (produce.produced_by w c e o)
+    by_item None = men_stay c
+    by_item (Some i) = by_kind i (slice_get w.items i)
+
+abbrev as_asked : State → Course → PotMeaning
+as_asked c m = produce.producing (produce.items_asked m.readings c (produce.produce_orders m))
+
+pub produce_leaves : LeavesUnmailed produce.produce_meaning produce.produce_keeps
+produce_leaves =
+    shared_leave as_asked (λ c m. produce.produce_orders m)
+    (paid_men as_asked (λ c m. produce.produce_orders m) (λ w c m. produced_men (produce.items_asked m.readings c (produce.produce_orders m)) w))
+    (λ w c d m. others_items produce.is_produce m c d)
