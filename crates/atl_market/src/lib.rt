@@ -3,6 +3,8 @@
 
 mod booking;
 mod build;
+mod gathering;
+mod making;
 mod pot_phase;
 pub mod pots;
 pub mod produce;

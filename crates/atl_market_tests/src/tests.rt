@@ -1,7 +1,6 @@
 //! Tests of atl_market by its public calls alone.
 mod build;
 mod campaigns;
-mod isle;
 mod plain;
 mod pots;
 mod produce;
@@ -9,5 +8,7 @@ mod produce_plain;
 mod recruit;
 mod shares;
 mod sites;
+mod stocks;
 mod tax;
 mod work;
+mod worlds;

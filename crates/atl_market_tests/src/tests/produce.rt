@@ -1,122 +1,14 @@
 //! Production of a month, worked out by hand.
-ghost use Rattle.std.specs.Prelude.{IfOk};
-ghost use Rattle.atl_state.specs.Good.{IsEarly, IsGood};
-ghost use Rattle.atl_instant.specs.Fit.{AreFit};
-ghost use Rattle.atl_instant.specs.Meaning.{HaveRoom, most_moved};
-ghost use Rattle.atl_market.specs.Produce.{produce_moves};
-
-use super::campaigns::{Stood, campaign_of, loses_men, month_of, tell_event};
-use super::isle::ISLE;
-use atl_instant::{Month, Phase};
-use atl_market::ProducePhase;
-use atl_state::check::check;
-use atl_state::parts::{Parts, StoredBooks, StoredHas};
-use atl_state::{Campaign, Event};
+use super::campaigns::{Stood, month_of};
+use super::stocks::{DAYS, Goods, ITEM, campaign_before, produced, tell_books, told_of};
+use super::worlds::{CRAFTS, ISLE};
 use atl_tables::{World, read_world};
-use std::alloc::{AllocError, Global};
+use std::alloc::Global;
 use std::process::Abort;
 use std::test::Fail;
 
-/// Region 1 gives 20 wood; region 2 gives 6 wood, 9 carts and 4 fish; region 3 gives nothing. No skill makes a stone, and a
-/// plough is made of 3 wood, at level 2.
-const WORLD: &str = r#"[rules]
-maintenance = 10
-tax_per_man = 10
-recruit_price = 50
-recruit_fraction = 4
-growth = 0
-income = 1
-start_money = 1000
-man_weight = 10
-man_carry = 5
-[[terrain]]
-name = "forest"
-land = true
-wage = 12
-places = 100
-money_limit = 5000
-peasant_limit = 2000
-output = { wood = 20 }
-[[terrain]]
-name = "yard"
-land = true
-wage = 12
-places = 100
-money_limit = 5000
-peasant_limit = 2000
-output = { wood = 6, cart = 9, fish = 4 }
-[[terrain]]
-name = "rock"
-land = true
-wage = 12
-places = 100
-money_limit = 5000
-peasant_limit = 2000
-[[item]]
-name = "wood"
-weight = 5
-carry = 0
-skill = "lumberjack"
-[[item]]
-name = "cart"
-weight = 50
-carry = 100
-skill = "carpentry"
-raw = "wood"
-raw_count = 5
-[[item]]
-name = "stone"
-weight = 50
-carry = 0
-[[item]]
-name = "plough"
-weight = 20
-carry = 0
-skill = "carpentry"
-level = 2
-raw = "wood"
-raw_count = 3
-[[item]]
-name = "fish"
-weight = 1
-carry = 0
-skill = "lumberjack"
-[[skill]]
-name = "lumberjack"
-fee = 0
-[[skill]]
-name = "carpentry"
-fee = 10
-[[region]]
-number = 1
-name = "Vale"
-terrain = "forest"
-peasants = 0
-money = 0
-[[region]]
-number = 2
-name = "Down"
-terrain = "yard"
-peasants = 0
-money = 0
-[[region]]
-number = 3
-name = "Tor"
-terrain = "rock"
-peasants = 0
-money = 0
-"#;
-
 /// A unit's faction, region and men.
 type Row = (u32, u32, u32);
-
-/// What a unit holds, or has studied: the unit, the sort, the number of the item or skill, and the amount or the days.
-pub(crate) type Goods = (i64, i64, i64, i64);
-
-/// The sorts of goods: items, and days of study.
-pub(crate) const ITEM: i64 = 0;
-
-pub(crate) const DAYS: i64 = 1;
 
 /// The units, what they have, the mailings; the units' items behind it, what is booked as made (12) and as used (13), by
 /// thing, and what is told.
@@ -328,77 +220,6 @@ fn row_is(rt: &impl Abort, row: usize, told: &str, wanted: &str) {
     assert_eq!(rt; told, wanted, "at {row}");
 }
 
-/// Puts goods among rows; items are booked under joining.
-fn put_goods(parts: &mut Parts, goods: &[Goods]) -> Result<(), Fail> {
-    for (unit, sort, thing, amount) in goods {
-        parts.has.push(StoredHas {
-            unit: *unit,
-            sort: *sort,
-            thing: *thing,
-            amount: *amount,
-        })?;
-    }
-    Ok(())
-}
-
-/// How much of an item all units hold.
-fn all_of(goods: &[Goods], item: i64) -> i64 {
-    let mut all: i64 = 0;
-    for (_, sort, thing, amount) in goods {
-        if *sort == ITEM && *thing == item {
-            all = all.wrapping_add(*amount);
-        }
-    }
-    all
-}
-
-/// Books the items that the units hold under joining.
-fn book_goods(parts: &mut Parts, goods: &[Goods]) -> Result<(), Fail> {
-    for item in 0..5i64 {
-        let amount = all_of(goods, item);
-        if amount != 0 {
-            parts.books.push(StoredBooks {
-                entry: 2,
-                thing: item.wrapping_add(2),
-                amount,
-            })?;
-        }
-    }
-    Ok(())
-}
-
-/// The campaign of the rows of these units with these goods.
-fn good_campaign(
-    alloc: Global,
-    world: &World,
-    units: &[Stood],
-    goods: &[Goods],
-) -> Result<Campaign, Fail>
-    ensures { IfOk result (λ c. IsGood world.now c.what) }
-{
-    let mut parts = campaign_of(alloc, world, units)?.parts()?;
-    put_goods(&mut parts, goods)?;
-    book_goods(&mut parts, goods)?;
-    match check(alloc, world, parts) {
-        Ok(campaign) => Ok(campaign),
-        Err(_) => Err(Fail::new("rows of a good campaign")),
-    }
-}
-
-/// The campaign of these units with these goods.
-pub(crate) fn stocked(
-    alloc: Global,
-    world: &World,
-    units: &[Stood],
-    goods: &[Goods],
-) -> Result<Campaign, Fail>
-    ensures early { IfOk result (λ c. IsEarly world.now c.what) }
-    ensures room { IfOk result (λ c. HaveRoom (produce_moves most_moved) c.what) }
-{
-    let campaign = good_campaign(alloc, world, units, goods)?;
-    Ok(campaign)
-}
-
 fn units_of(alloc: Global, rows: &[Row]) -> Result<Vec<Stood>, Fail> {
     let mut units = Vec::new(alloc);
     for (faction, region, men) in rows {
@@ -411,80 +232,6 @@ fn units_of(alloc: Global, rows: &[Row]) -> Result<Vec<Stood>, Fail> {
         })?;
     }
     Ok(units)
-}
-
-/// The campaign and the month behind the production.
-pub(crate) fn produced(
-    alloc: Global,
-    world: &World,
-    campaign: Campaign,
-    month: Month,
-) -> Result<(Campaign, Month), AllocError>
-    requires early { IsEarly world.now campaign.what }
-    requires room { HaveRoom (produce_moves most_moved) campaign.what }
-    requires read { AreFit world.now month.readings }
-{
-    ProducePhase.run(alloc, world, campaign, month)
-}
-
-/// The campaign of these units; unit 1 has lost its men, or not.
-pub(crate) fn campaign_before(
-    alloc: Global,
-    world: &World,
-    units: &[Stood],
-    goods: &[Goods],
-    menless: bool,
-) -> Result<Campaign, Fail>
-    ensures early { IfOk result (λ c. IsEarly world.now c.what) }
-    ensures room { IfOk result (λ c. HaveRoom (produce_moves most_moved) c.what) }
-{
-    let mut campaign = stocked(alloc, world, units, goods)?;
-    if menless {
-        loses_men(alloc, world, &mut campaign, 1);
-    }
-    Ok(campaign)
-}
-
-fn tell_units(alloc: Global, campaign: &Campaign, told: &mut String) -> Result<(), Fail> {
-    for (number, unit) in campaign.units() {
-        let part = format!(in alloc; "{number}")?;
-        told.push_str(&part)?;
-        for (item, amount) in unit.holding.items() {
-            let part = format!(in alloc; " {item}:{amount}")?;
-            told.push_str(&part)?;
-        }
-        told.push_str(";")?;
-    }
-    told.push_str("|")?;
-    Ok(())
-}
-
-/// The books from an entry on: entry, thing and amount.
-fn tell_books(
-    alloc: Global,
-    campaign: &Campaign,
-    first: i64,
-    told: &mut String,
-) -> Result<(), Fail> {
-    let parts = campaign.parts()?;
-    for row in parts.books.as_slice() {
-        if row.entry >= first {
-            let part = format!(in alloc; "{} {} {};", row.entry, row.thing, row.amount)?;
-            told.push_str(&part)?;
-        }
-    }
-    Ok(())
-}
-
-fn told_of(alloc: Global, campaign: &Campaign, events: &[Event]) -> Result<String, Fail> {
-    let mut told = String::new(alloc);
-    tell_units(alloc, campaign, &mut told)?;
-    tell_books(alloc, campaign, 12, &mut told)?;
-    told.push_str("|")?;
-    for event in events {
-        tell_event(alloc, event, &mut told)?;
-    }
-    Ok(told)
 }
 
 fn produce(
@@ -522,7 +269,7 @@ fn books_behind(
 #[test]
 fn production_of_a_month(rt: HostRuntime) -> Result<(), Fail> {
     let alloc = rt.alloc();
-    let world = read_world(alloc, WORLD)?;
+    let world = read_world(alloc, CRAFTS)?;
     for (row, (units, goods, texts, wanted)) in ROWS.iter().enumerate() {
         let told = produce(alloc, &world, units, goods, texts, false)?;
         row_is(&rt, row, told.as_str(), wanted);
@@ -533,7 +280,7 @@ fn production_of_a_month(rt: HostRuntime) -> Result<(), Fail> {
 #[test]
 fn production_needs_men(rt: HostRuntime) -> Result<(), Fail> {
     let alloc = rt.alloc();
-    let world = read_world(alloc, WORLD)?;
+    let world = read_world(alloc, CRAFTS)?;
     for (row, (units, goods, texts, wanted)) in WITHOUT_MEN.iter().enumerate() {
         let told = produce(alloc, &world, units, goods, texts, true)?;
         row_is(&rt, row, told.as_str(), wanted);

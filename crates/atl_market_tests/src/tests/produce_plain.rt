@@ -3,7 +3,7 @@
 ghost use Rattle.std.specs.Prelude.{◌<◌};
 
 use super::campaigns::{Stood, month_of};
-use super::produce::{DAYS, Goods, ITEM, produced, stocked};
+use super::stocks::{DAYS, Goods, ITEM, produced, stocked};
 use atl_state::Campaign;
 use atl_tables::{World, read_world};
 use std::alloc::Global;

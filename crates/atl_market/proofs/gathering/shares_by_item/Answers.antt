@@ -5,7 +5,7 @@ use Rattle.atl_state.specs.Deciding.{EachOf}
 use Rattle.atl_market.specs.Making.{with_shares}
 use Rattle.atl_market.specs.Pots.{AreWants}
 use Rattle.atl_market.proofs.GroupLaws.{small_groups}
-use Rattle.atl_market.proofs.produce.shares_by_item.Goals as goal
+use Rattle.atl_market.proofs.gathering.shares_by_item.Goals as goal
 
 pub loop-item-init : goal.loop-item-init
 loop-item-init c =

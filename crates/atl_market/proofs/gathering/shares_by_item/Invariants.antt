@@ -4,7 +4,7 @@ use Rattle.std.specs.FinMap.{empty, entries}
 use Rattle.atl_state.specs.Deciding.{EachOf}
 use Rattle.atl_market.specs.Making.{with_shares}
 use Rattle.atl_market.specs.Pots.{AreWants}
-use Rattle.atl_market.proofs.produce.shares_by_item.Given as goal
+use Rattle.atl_market.proofs.gathering.shares_by_item.Given as goal
 
 abbrev pub invariant-loop-item : goal.invariant-loop-item
 invariant-loop-item l = record {

@@ -1,5 +1,5 @@
 use Rattle.std.proofs.Common.{◌≡◌, Some, rules}
-use Rattle.atl_market.proofs.produce.use_raw.Goals as goal
+use Rattle.atl_market.proofs.making.use_raw.Goals as goal
 
 pub use_item-requires : goal.use_item-requires
 use_item-requires c =

@@ -2,7 +2,7 @@ use Rattle.std.proofs.Common.{◌≡◌, Some, sym, subst, rules}
 use Rattle.std.specs.Prelude.{OnOk}
 use Rattle.std.specs.List.{slice_get}
 use Rattle.atl_market.specs.Produce.{produced_of}
-use Rattle.atl_market.proofs.produce.make.Goals as goal
+use Rattle.atl_market.proofs.making.make.Goals as goal
 
 pub make_of-requires : goal.make_of-requires
 make_of-requires c =

@@ -9,7 +9,7 @@ use Rattle.atl_state.specs.declared.books.Thing.TheVariants.{Item}
 use Rattle.atl_instant.proofs.BookingLaws.{booking_fits, within-pos}
 use Rattle.atl_market.specs.Produce.{with_item}
 use Rattle.atl_market.proofs.StockLaws.{made_is, same_books, stock_marks, stock_what}
-use Rattle.atl_market.proofs.produce.make_item.Goals as goal
+use Rattle.atl_market.proofs.making.make_item.Goals as goal
 
 pub book-requires-clause-there : goal.book-requires-clause-there
 book-requires-clause-there c =

@@ -4,7 +4,7 @@ use Rattle.std.specs.List.{slice_get}
 use Rattle.std.proofs.lemmas.Bool.Decides.{nat_tests}
 use Rattle.std.proofs.lemmas.Option.{slice_get-get_or}
 use Rattle.atl_tables.specs.declared.world.Item.{Item}
-use Rattle.atl_market.proofs.produce.item_of.Goals as goal
+use Rattle.atl_market.proofs.making.item_of.Goals as goal
 
 some_raw : (xs : List Item) → ((i : ℕ) (x : Item) → slice_get xs i ≡ Some x → 1 ≤ x.raw_count) → (i : ℕ) (o : Option (Bor Item))
     → is_some o ≡ nat_lt i (length xs) → IfSome o (λ x. x.now ≡ get_or xs i x.now) → IfSome o (λ x. 1 ≤ x.now.raw_count)

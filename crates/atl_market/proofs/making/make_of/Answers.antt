@@ -1,5 +1,5 @@
 use Rattle.atl_state.proofs.CoverLaws.{marks-trans}
-use Rattle.atl_market.proofs.produce.make_of.Goals as goal
+use Rattle.atl_market.proofs.making.make_of.Goals as goal
 
 pub returns-clause-marks : goal.returns-clause-marks
 returns-clause-marks c = marks-trans c.args.campaign.now c.use_raw.new.campaign c.make_item.new.campaign c.in_ok-use_raw.ensures.marks c.in_ok-make_item.ensures.marks

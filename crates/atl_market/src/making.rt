@@ -1,0 +1,221 @@
+//! How much a unit can make of an item, and that it makes it.
+ghost use Rattle.std.specs.Prelude.{ℕ, ◌≡◌, ◌≤◌, ◌*◌, IfSome, OnOk};
+ghost use Rattle.std.specs.Option.{option_copied};
+ghost use Rattle.std.specs.List.{slice_get};
+ghost use Rattle.std.specs.FinMap as finmap;
+ghost use Rattle.atl_tables.specs.Limits.{last_level, most_amount};
+ghost use Rattle.atl_state.specs.Covers.{MarksChanges};
+ghost use Rattle.atl_state.specs.Held.{amount_of, with_amount_of};
+ghost use Rattle.atl_state.specs.Lending.{lent};
+ghost use Rattle.atl_state.specs.Limits.{holding_limit};
+ghost use Rattle.atl_state.specs.declared.records.Unit.{Unit};
+ghost use Rattle.atl_tables.specs.declared.world.Item.{Item};
+ghost use Rattle.atl_market.specs.Making.{CanMake, CanMakeOf, CanUse};
+ghost use Rattle.atl_market.specs.Produce.{can_make, can_make_of, is_unskilled, item_of, lacks_raw, level_in, make_fault, produced_of, up_to_raw, with_made, with_raw_used, with_used};
+
+use crate::booking::book_taken;
+use atl_state::{Campaign, Entry, EventFault, HOLDING_LIMIT, Holding, Thing, level};
+use atl_tables::{Item, World};
+use std::alloc::AllocError;
+
+/// An item of the world, by its number.
+pub(crate) fn item_of(world: &World, asked: Option<u16>) -> Option<&Item>
+    ensures value { option_copied result ≡ item_of world.now asked }
+    ensures bounds { IfSome result (λ item. 1 ≤ item.now.raw_count) }
+{
+    world.items().get(usize::from(asked?))
+}
+
+/// The level of a unit in the skill of an item.
+fn level_in(holding: &Holding, skill: Option<u16>) -> u32
+    ensures value { result ≡ level_in holding.now skill }
+    ensures small { result ≤ last_level }
+{
+    match skill {
+        Some(skill) => level(holding.days_of(u32::from(skill)), holding.men()),
+        None => 0,
+    }
+}
+
+/// Whether a unit hasn't the skill to make an item.
+fn is_unskilled(holding: &Holding, item: &Item) -> bool
+    ensures { result ≡ is_unskilled holding.now item.now }
+{
+    item.skill.is_none() || level_in(holding, item.skill) < item.level
+}
+
+/// Whether the raw items are enough for none.
+fn lacks_raw(holding: &Holding, count: u32, raw: Option<u16>) -> bool
+    requires { 1 ≤ count }
+    ensures { result ≡ lacks_raw holding.now count raw }
+{
+    match raw {
+        Some(raw) => holding.amount(u32::from(raw)) / count == 0,
+        None => false,
+    }
+}
+
+/// So many, but no more than the raw items are enough for.
+fn up_to_raw(holding: &Holding, count: u32, raw: Option<u16>, most: u32) -> u32
+    requires { 1 ≤ count }
+    ensures value { result ≡ up_to_raw holding.now count raw most }
+    ensures bound { result ≤ most }
+{
+    match raw {
+        Some(raw) => (holding.amount(u32::from(raw)) / count).min(most),
+        None => most,
+    }
+}
+
+/// Why a unit doesn't make an item of the world, or a thing that is none.
+pub(crate) fn make_fault(world: &World, holding: &Holding, asked: Option<u16>) -> Option<EventFault>
+    ensures { result ≡ make_fault holding.now (item_of world.now asked) }
+{
+    if holding.men() == 0 {
+        return Some(EventFault::NoMen);
+    }
+    let Some(item) = item_of(world, asked) else {
+        return Some(EventFault::NoSkill);
+    };
+    if is_unskilled(holding, item) {
+        Some(EventFault::NoSkill)
+    } else if lacks_raw(holding, item.raw_count, item.raw) {
+        Some(EventFault::NoMaterial)
+    } else {
+        None
+    }
+}
+
+/// How much of an item a unit can make, at most 999,999,999.
+fn can_make_of(holding: &Holding, number: u16, item: &Item) -> u32
+    requires { 1 ≤ item.now.raw_count }
+    ensures value { result ≡ can_make_of holding.now number (Some item.now) }
+    ensures bound { result ≤ most_amount }
+{
+    let skilled = holding.men() * level_in(holding, item.skill);
+    let room = HOLDING_LIMIT.saturating_sub(holding.amount(u32::from(number)));
+    up_to_raw(holding, item.raw_count, item.raw, skilled.min(room))
+}
+
+/// How much a unit can make of what it is told to make, at most 999,999,999.
+pub(crate) fn can_make(world: &World, holding: &Holding, asked: Option<u16>) -> u32
+    ensures value { result ≡ can_make world.now holding.now asked }
+    ensures bound { result ≤ most_amount }
+{
+    match (asked, item_of(world, asked)) {
+        (Some(number), Some(item)) => can_make_of(holding, number, item),
+        _ => 0,
+    }
+}
+
+/// How much of an item a unit holds that is there.
+fn held_of(campaign: &Campaign, number: u32, item: u16) -> u32
+    ensures { (u : Unit) → finmap.get campaign.now.what.units number ≡ Some u → result ≡ amount_of u.holding.items item }
+{
+    match campaign.unit(number) {
+        Some(unit) => unit.holding.amount(u32::from(item)),
+        None => 0,
+    }
+}
+
+/// Sets how much of an item a unit holds that is there.
+fn set_item(campaign: &mut Campaign, number: u32, item: u16, amount: u32) -> Result<(), AllocError>
+    requires { amount ≤ holding_limit }
+    ensures { OnOk result ((u : Unit) → finmap.get campaign.old.what.units number ≡ Some u → campaign.new ≡ lent campaign.old number (record u.holding { items = with_amount_of u.holding.items item amount })) }
+{
+    match campaign.unit_mut(number) {
+        Some(holding) => holding.set_amount(u32::from(item), amount),
+        None => Ok(()),
+    }
+}
+
+/// A unit uses so much of an item, which is booked.
+fn use_item(
+    world: &World,
+    campaign: &mut Campaign,
+    number: u32,
+    item: u16,
+    amount: u32,
+) -> Result<(), AllocError>
+    requires can { CanUse world.now campaign.old.what number item amount }
+    ensures what { OnOk result (campaign.new.what ≡ with_used campaign.old.what number item amount) }
+    ensures marks { OnOk result (MarksChanges campaign.old campaign.new) }
+{
+    let left = held_of(campaign, number, item) - amount;
+    set_item(campaign, number, item, left)?;
+    book_taken(campaign, Entry::Used, Thing::Item(item), amount);
+    Ok(())
+}
+
+/// A unit makes so much of an item, which is booked.
+fn make_item(
+    world: &World,
+    campaign: &mut Campaign,
+    number: u32,
+    item: u16,
+    amount: u32,
+) -> Result<(), AllocError>
+    requires can { CanMake world.now campaign.old.what number item amount }
+    ensures what { OnOk result (campaign.new.what ≡ with_made campaign.old.what number item amount) }
+    ensures marks { OnOk result (MarksChanges campaign.old campaign.new) }
+{
+    let more = held_of(campaign, number, item) + amount;
+    set_item(campaign, number, item, more)?;
+    campaign.book(Entry::Made, Thing::Item(item), i64::from(amount));
+    Ok(())
+}
+
+/// A unit uses the raw items of so many, where one is named.
+fn use_raw(
+    world: &World,
+    campaign: &mut Campaign,
+    number: u32,
+    item: &Item,
+    made: u32,
+) -> Result<(), AllocError>
+    requires can { (r : ℕ) → item.now.raw ≡ Some r → CanUse world.now campaign.old.what number r (made * item.now.raw_count) }
+    requires fits { (r : ℕ) → item.now.raw ≡ Some r → made * item.now.raw_count ≤ holding_limit }
+    ensures what { OnOk result (campaign.new.what ≡ with_raw_used campaign.old.what number (made * item.now.raw_count) item.now.raw) }
+    ensures marks { OnOk result (MarksChanges campaign.old campaign.new) }
+{
+    match item.raw {
+        Some(raw) => use_item(world, campaign, number, raw, made * item.raw_count),
+        None => Ok(()),
+    }
+}
+
+/// A unit makes so many of an item, and uses the raw items.
+fn make_of(
+    world: &World,
+    campaign: &mut Campaign,
+    number: u32,
+    item: u16,
+    found: &Item,
+    made: u32,
+) -> Result<(), AllocError>
+    requires { CanMakeOf world.now campaign.old.what number made item found.now }
+    ensures what { OnOk result (campaign.new.what ≡ produced_of campaign.old.what (number, made) item (Some found.now)) }
+    ensures marks { OnOk result (MarksChanges campaign.old campaign.new) }
+{
+    use_raw(world, campaign, number, found, made)?;
+    make_item(world, campaign, number, item, made)?;
+    Ok(())
+}
+
+/// A unit makes so many of a thing, where that is one of the world's items.
+pub(crate) fn make(
+    world: &World,
+    campaign: &mut Campaign,
+    number: u32,
+    item: u16,
+    made: u32,
+) -> Result<(), AllocError>
+    requires { (x : Item) → slice_get world.now.items item ≡ Some x → CanMakeOf world.now campaign.old.what number made item x }
+    ensures what { OnOk result (campaign.new.what ≡ produced_of campaign.old.what (number, made) item (slice_get world.now.items item)) }
+    ensures marks { OnOk result (MarksChanges campaign.old campaign.new) }
+{
+    match item_of(world, Some(item)) {
+        Some(found) => make_of(world, campaign, number, item, found, made),
+        None => Ok(()),
+    }
+}
