@@ -89,7 +89,7 @@ module _ {first second : Meaning} {early late : Keeping} where
         let early = one.told w c m n in
         let late = two.told w between.0 between.1 n in
         let b = two.left w between.0 between.1 keeps.1 n a.unit a.there (still_none one w c m u.faction a.unit.faction a.spared.faction none)
-            (some_left _ _ _ u.holding.men a.unit.holding.men early late a.spared.men some) in
+        (some_left _ _ _ u.holding.men a.unit.holding.men early late a.spared.men some) in
         record { unit = b.unit; there = b.there; spared = less_twice _ _ _ u a.unit b.unit early late a.spared b.spared };
   }
 
