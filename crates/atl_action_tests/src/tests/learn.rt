@@ -181,11 +181,7 @@ const ROWS: [(Setting, &[&str], &str); 26] = [
         "1 0 0 0 450;2 0 30 0 0;0|1 3 fault 22;2 5 done 30;",
     ),
     (
-        (
-            &[(1, 1, 0, 1, 0, false), (1, 1, 0, 1, 0, false)],
-            &[],
-            &[],
-        ),
+        (&[(1, 1, 0, 1, 0, false), (1, 1, 0, 1, 0, false)], &[], &[]),
         &["#ATLANTIS 1\nUNIT 1\nTEACH 2"],
         "1 0 0 0 0;2 0 0 0 0;0|1 3 fault 21;",
     ),
@@ -290,7 +286,9 @@ const ROWS: [(Setting, &[&str], &str); 26] = [
             &[(1, 1, 0, 90)],
             &[],
         ),
-        &["#ATLANTIS 1\nUNIT 1\nFORM 1\nSTUDY lumberjack\nEND\nTEACH NEW 1\nUNIT 2\nFORM 2\nTEACH 1\nEND"],
+        &[
+            "#ATLANTIS 1\nUNIT 1\nFORM 1\nSTUDY lumberjack\nEND\nTEACH NEW 1\nUNIT 2\nFORM 2\nTEACH 1\nEND",
+        ],
         "1 0 90 0 0;2 0 0 0 0;3 0 0 0 0;4 0 0 0 0;0|1 3 done 3;2 8 done 4;1 6 fault 21;4 9 fault 10;3 4 fault 10;",
     ),
     // The new unit of an alias is of the region, but has nobody to teach: the other one is taught.
@@ -300,7 +298,9 @@ const ROWS: [(Setting, &[&str], &str); 26] = [
             &[(1, 1, 0, 90)],
             &[],
         ),
-        &["#ATLANTIS 1\nUNIT 1\nFORM 1\nSTUDY lumberjack\nEND\nTEACH NEW 1 2\nUNIT 2\nSTUDY lumberjack"],
+        &[
+            "#ATLANTIS 1\nUNIT 1\nFORM 1\nSTUDY lumberjack\nEND\nTEACH NEW 1 2\nUNIT 2\nSTUDY lumberjack",
+        ],
         "1 0 90 0 0;2 0 180 0 0;3 0 0 0 0;0|1 3 done 3;1 6 done 3;2 8 done 180;3 4 fault 10;",
     ),
     // Two men teach 20 places: 7, 9 and 4.

@@ -5,8 +5,8 @@ ghost use Rattle.atl_instant.specs.Meaning.{HaveRoom};
 ghost use Rattle.atl_market.specs.Build.{build_moves};
 
 use super::campaigns::month_of;
-use super::worlds::isle;
 use super::sites::{Setting, books_of, campaign_with, told_of};
+use super::worlds::isle;
 use atl_instant::{Month, Phase};
 use atl_market::BuildPhase;
 use atl_state::Campaign;
