@@ -1,9 +1,9 @@
 -- A unit uses an item, or makes one.
 use Rattle.std.proofs.Common.{◌≡◌, ◌≢◌, ◌==◌, ℕ, ◌+◌, ◌-◌, ◌≤◌, ◌<◌, Bool, true, false, cond, Option, Some, None, length, refl, sym, ap, subst, ◌∙◌, arith}
-use Rattle.std.specs.Prelude.{ℤ, pos, neg_ℤ, ◌+ℤ◌, if◌then◌else◌}
+use Rattle.std.specs.Prelude.{ℤ, pos, neg_ℤ, ◌+ℤ◌}
 use Rattle.std.specs.Ordering.{nat_cmp, eq_by_cmp}
 use Rattle.std.specs.Cmp.{unsigned_ties}
-use Rattle.std.specs.FinMap.{get, insert}
+use Rattle.std.specs.FinMap.{get}
 use Rattle.std.proofs.lemmas.Int.{ints}
 use Rattle.std.proofs.lemmas.Bool.Decides.{nat_tests}
 use Rattle.atl_tables.specs.Planet.{Planet}
@@ -28,7 +28,7 @@ use Rattle.atl_state.proofs.EveryLaws.{get-insert_other}
 use Rattle.atl_state.proofs.HavingLaws.{MayHave, may_have}
 use Rattle.atl_state.proofs.HoldingLaws.{marks-lent, steady-held, total-held}
 use Rattle.atl_state.proofs.RegionLaws.{get-insert_same, steady-amount, total-amount}
-use Rattle.atl_instant.specs.Meaning.{HaveRoom, LeavesWell, moves_only}
+use Rattle.atl_instant.specs.Meaning.{LeavesWell, moves_only}
 use Rattle.atl_instant.proofs.AmountsLaws.{alike, amount_within, every_amount, set_amount}
 use Rattle.atl_instant.proofs.BookingLaws.{booked-near, within-neg, within-pos}
 use Rattle.atl_market.specs.Making.{CanMake, CanUse}
