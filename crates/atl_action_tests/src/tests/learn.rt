@@ -15,18 +15,10 @@ use std::test::Fail;
 /// The setting and the mailings; behind FORM, TEACH and STUDY each unit's money and its days of lumberjack (skill 0, fee 0), of
 /// carpentry (1, fee 10) and of shipbuilding (2, fee 20), and the money booked as study; and what is told. A level of 1 takes 30
 /// days a man, of 2 it takes 90, and of 5 it takes 450.
-const ROWS: [(Setting, &[&str], &str); 26] = [
-    // Six men study alone, with a fee and without; the fee is booked.
-    (
-        (&[(1, 1, 0, 6, 0, false)], &[], &[]),
-        &["#ATLANTIS 1\nUNIT 1\nSTUDY lumberjack"],
-        "1 0 180 0 0;0|1 3 done 180;",
-    ),
-    (
-        (&[(1, 1, 0, 6, 100, false)], &[(1, 1, 1, 60)], &[]),
-        &["#ATLANTIS 1\nUNIT 1\nSTUDY carpentry"],
-        "1 40 0 240 0;-60|1 3 done 180;",
-    ),
+type Row = (Setting, &'static [&'static str], &'static str);
+
+/// Who is taught, and why nobody is.
+const TEACHING: [Row; 15] = [
     // One teacher: 6 men and 4 are taught.
     (
         (
@@ -209,6 +201,40 @@ const ROWS: [(Setting, &[&str], &str); 26] = [
         &["#ATLANTIS 1\nUNIT 1\nSTUDY lumberjack\nTEACH 2\nUNIT 2\nSTUDY lumberjack"],
         "1 0 90 0 0;2 0 149 0 0;0|1 4 done 1;2 6 done 60;",
     ),
+    // Two men teach 20 places: 7, 9 and 4.
+    (
+        (
+            &[
+                (1, 1, 0, 2, 0, false),
+                (1, 1, 0, 7, 0, false),
+                (2, 1, 0, 9, 0, false),
+                (1, 1, 0, 8, 0, false),
+                (1, 1, 0, 8, 0, false),
+            ],
+            &[(1, 1, 0, 60)],
+            &[],
+        ),
+        &[
+            "#ATLANTIS 1\nUNIT 1\nTEACH 2 3 4 5\nUNIT 2\nSTUDY lumberjack\nUNIT 4\nSTUDY lumberjack\nUNIT 5\nSTUDY lumberjack",
+            "#ATLANTIS 2\nUNIT 3\nSTUDY lumberjack",
+        ],
+        "1 0 60 0 0;2 0 420 0 0;3 0 540 0 0;4 0 360 0 0;5 0 240 0 0;0|1 3 done 20;2 5 done 420;3 3 done 540;4 7 done 360;5 9 done 240;",
+    ),
+];
+
+/// What studying gives and costs.
+const STUDYING: [Row; 11] = [
+    // Six men study alone, with a fee and without; the fee is booked.
+    (
+        (&[(1, 1, 0, 6, 0, false)], &[], &[]),
+        &["#ATLANTIS 1\nUNIT 1\nSTUDY lumberjack"],
+        "1 0 180 0 0;0|1 3 done 180;",
+    ),
+    (
+        (&[(1, 1, 0, 6, 100, false)], &[(1, 1, 1, 60)], &[]),
+        &["#ATLANTIS 1\nUNIT 1\nSTUDY carpentry"],
+        "1 40 0 240 0;-60|1 3 done 180;",
+    ),
     // Inside a complete lodge lumberjack is learned better, and carpentry isn't.
     (
         (
@@ -303,25 +329,6 @@ const ROWS: [(Setting, &[&str], &str); 26] = [
         ],
         "1 0 90 0 0;2 0 180 0 0;3 0 0 0 0;0|1 3 done 3;1 6 done 3;2 8 done 180;3 4 fault 10;",
     ),
-    // Two men teach 20 places: 7, 9 and 4.
-    (
-        (
-            &[
-                (1, 1, 0, 2, 0, false),
-                (1, 1, 0, 7, 0, false),
-                (2, 1, 0, 9, 0, false),
-                (1, 1, 0, 8, 0, false),
-                (1, 1, 0, 8, 0, false),
-            ],
-            &[(1, 1, 0, 60)],
-            &[],
-        ),
-        &[
-            "#ATLANTIS 1\nUNIT 1\nTEACH 2 3 4 5\nUNIT 2\nSTUDY lumberjack\nUNIT 4\nSTUDY lumberjack\nUNIT 5\nSTUDY lumberjack",
-            "#ATLANTIS 2\nUNIT 3\nSTUDY lumberjack",
-        ],
-        "1 0 60 0 0;2 0 420 0 0;3 0 540 0 0;4 0 360 0 0;5 0 240 0 0;0|1 3 done 20;2 5 done 420;3 3 done 540;4 7 done 360;5 9 done 240;",
-    ),
 ];
 
 fn tell_unit(alloc: Global, number: u32, unit: &Unit, told: &mut String) -> Result<(), Fail> {
@@ -382,13 +389,21 @@ fn learn(alloc: Global, world: &World, setting: &Setting, texts: &[&str]) -> Res
     learned_of(alloc, &campaign, month.events())
 }
 
-#[test]
-fn learning_of_a_month(rt: HostRuntime) -> Result<(), Fail> {
-    let alloc = rt.alloc();
+fn rows_are(rt: &impl Abort, alloc: Global, rows: &[Row]) -> Result<(), Fail> {
     let world = island(alloc)?;
-    for (row, (setting, texts, wanted)) in ROWS.iter().enumerate() {
+    for (row, (setting, texts, wanted)) in rows.iter().enumerate() {
         let told = learn(alloc, &world, setting, texts)?;
-        row_is(&rt, row, told.as_str(), wanted);
+        row_is(rt, row, told.as_str(), wanted);
     }
     Ok(())
+}
+
+#[test]
+fn teaching_of_a_month(rt: HostRuntime) -> Result<(), Fail> {
+    rows_are(&rt, rt.alloc(), &TEACHING)
+}
+
+#[test]
+fn studying_of_a_month(rt: HostRuntime) -> Result<(), Fail> {
+    rows_are(&rt, rt.alloc(), &STUDYING)
 }
