@@ -217,6 +217,15 @@ fn good_campaign(alloc: Global, world: &World, setting: &Setting) -> Result<Camp
     }
 }
 
+/// A campaign of a setting.
+fn campaign_of(alloc: Global, world: &World, setting: &Setting) -> Result<Campaign, Fail>
+    ensures early { IfOk result (λ c. IsEarly world.now c.what) }
+    ensures room { IfOk result (λ c. HaveRoom build_moves c.what) }
+{
+    let campaign = good_campaign(alloc, world, setting)?;
+    Ok(campaign)
+}
+
 /// The campaign of a setting, in which unit 1 has lost its men, or not.
 pub(crate) fn campaign_with(
     alloc: Global,
@@ -227,7 +236,7 @@ pub(crate) fn campaign_with(
     ensures early { IfOk result (λ c. IsEarly world.now c.what) }
     ensures room { IfOk result (λ c. HaveRoom build_moves c.what) }
 {
-    let mut campaign = good_campaign(alloc, world, setting)?;
+    let mut campaign = campaign_of(alloc, world, setting)?;
     if menless {
         loses_men(alloc, world, &mut campaign, 1);
     }
