@@ -1,7 +1,6 @@
 -- A structure more, and more done of a structure.
-use Rattle.std.proofs.Common.{◌≡◌, ◌≢◌, ◌==◌, ℕ, ◌+◌, ◌≤◌, ◌<◌, Bool, true, false, cond, length, codes, decimal, ◌++◌, Option, Some, None, refl, sym, ap, subst, ◌∙◌, inl, inr, arith, lit≤}
+use Rattle.std.proofs.Common.{◌≡◌, ◌≢◌, ℕ, ◌+◌, ◌≤◌, ◌<◌, Bool, true, false, cond, length, codes, decimal, ◌++◌, Some, None, refl, sym, ap, subst, ◌∙◌, inl, inr, arith, lit≤}
 use Rattle.std.specs.Prelude.{ℤ, pos, IsTrue, is_some, if◌then◌else◌}
-use Rattle.std.specs.Option.{option_map_or}
 use Rattle.std.proofs.lemmas.Bool.{cases_eq}
 use Rattle.std.proofs.lemmas.Int.{ints}
 use Rattle.std.specs.Cmp.{nat_cmp_total}
@@ -14,16 +13,15 @@ use Rattle.atl_state.specs.Covers.{MarksChanges}
 use Rattle.atl_state.specs.declared.books.Entry.{Entry}
 use Rattle.atl_state.specs.declared.books.Thing.{Thing}
 use Rattle.atl_state.specs.declared.records.Structure.{Structure}
-use Rattle.atl_state.specs.declared.records.Unit.{Unit}
 use Rattle.atl_state.specs.Books.{amount_in, booked}
-use Rattle.atl_state.specs.Good.{AreAfloat, AreInRange, AreKnown, AreNumbered, AreOwned, Every, IsAboard, IsBuilt, IsOwned, IsPlaced, IsSteady, IsThere, is_land_at, is_ship, size_of}
+use Rattle.atl_state.specs.Good.{AreAfloat, AreInRange, AreKnown, AreNumbered, AreOwned, Every, IsBuilt, IsOwned, IsSteady, IsThere, is_land_at, is_ship, size_of}
 use Rattle.atl_state.specs.Limits.{last_unit, most_structures}
 use Rattle.atl_state.specs.Marking.{mark_structure_begun}
 use Rattle.atl_state.specs.State.{Marked, State, with_done, with_structure_begun}
-use Rattle.atl_state.specs.Totals.{Balances, total}
+use Rattle.atl_state.specs.Totals.{total}
 use Rattle.atl_state.proofs.CoverLaws.{apart_by, put_stays}
 use Rattle.atl_state.proofs.EveryLaws.{every-insert, get-insert_other, none_some}
-use Rattle.atl_state.proofs.NumberedNameLaws.{IsFront, numbered_name_ok}
+use Rattle.atl_state.proofs.NumberedNameLaws.{numbered_name_ok}
 use Rattle.atl_state.proofs.RegionLaws.{changed-known, get-insert_same, same_len}
 use Rattle.atl_instant.specs.Meaning.{IsSameMonth}
 use Rattle.atl_instant.specs.Steps.{IsDrawn, StepsWell}

@@ -41,7 +41,7 @@ use Rattle.atl_instant.proofs.OutcomeLaws.{none_fits, not_less}
 use Rattle.atl_instant.proofs.PlacingLaws.{place_stays}
 use Rattle.atl_instant.proofs.StepLaws.{no_worse_spares, well_same, well_twice}
 use Rattle.atl_instant.proofs.UnbookedLaws.{other_spared}
-use Rattle.atl_market.specs.Build.{CanBuild, CanUse, begin, begin_by, begin_fault, begin_with, begun, build_moves, build_reserve, build_said, build_step, go_on, go_on_at, go_on_by, go_on_with, gone_on, inside_fault, level_in, new_structure, size_added, usable, with_new}
+use Rattle.atl_market.specs.Build.{CanBuild, CanUse, begin, begin_by, begin_fault, begin_with, begun, build_moves, build_reserve, build_said, build_step, go_on, go_on_at, go_on_by, go_on_with, gone_on, inside_fault, level_in, new_structure, size_added, with_new}
 use Rattle.atl_market.proofs.BuildBegunLaws.{IsFresh, built, built_is, built_well, nobody_inside, raised, raised_there, raised_well, sort_name_ok}
 use Rattle.atl_market.proofs.BuildPlaceLaws.{place_well}
 use Rattle.atl_market.proofs.BuildUsedLaws.{others_stay, used, used_is, used_room, used_well, user, user_there}

@@ -9,15 +9,15 @@ use Rattle.atl_state.specs.declared.books.Thing.{Thing}
 use Rattle.atl_state.specs.declared.records.Structure.{Structure}
 use Rattle.atl_state.specs.declared.records.Unit.{Unit}
 use Rattle.atl_state.specs.Good.{Every, IsOwned, is_land_at, is_ship}
-use Rattle.atl_state.specs.Owners.{handed, heir, is_owned_by, placed, with_place, with_place_at}
-use Rattle.atl_state.specs.State.{State, numbers_inside, with_owner}
+use Rattle.atl_state.specs.Owners.{handed, heir, placed, with_place, with_place_at}
+use Rattle.atl_state.specs.State.{State, numbers_inside}
 use Rattle.atl_state.proofs.EveryLaws.{every-insert, get-insert_other}
 use Rattle.atl_state.proofs.LeavingLaws.{owned_by}
 use Rattle.atl_state.proofs.RegionLaws.{changed-known, get-insert_same}
 use Rattle.atl_state.proofs.RemovedLaws.{IsListed, every-insert_other, first_of, listed_passing, passing_listed}
 use Rattle.atl_instant.specs.Steps.{StepsWell}
 use Rattle.atl_instant.proofs.RefitLaws.{IsRefit, IsRelabelled, refitted, steady-refitted, total-refitted}
-use Rattle.atl_instant.proofs.StructureLaws.{changed_else, equal, get-handed, handed_is, handed_on, is_equal, is_unequal, len-handed, unequal}
+use Rattle.atl_instant.proofs.StructureLaws.{equal, get-handed, handed_is, handed_on, is_equal, is_unequal, len-handed, unequal}
 use Rattle.atl_market.specs.Build.{CanBuild, build_reserve, usable}
 use Rattle.atl_market.proofs.BuildBegunLaws.{still_well}
 

@@ -1,10 +1,9 @@
 -- Tax leaves a campaign well.
-use Rattle.std.proofs.Common.{◌≡◌, ◌≢◌, ℕ, ◌+◌, ◌-◌, ◌≤◌, ◌<◌, ◌⊎◌, Option, Some, None, List, [], ◌∷◌, length, refl, sym, ap, subst, ◌∙◌, inl, inr, arith}
+use Rattle.std.proofs.Common.{◌≡◌, ◌≢◌, ℕ, ◌+◌, ◌-◌, ◌≤◌, Option, Some, None, List, [], ◌∷◌, length, refl, sym, ap, subst, ◌∙◌, inl, inr, arith}
 use Rattle.std.specs.Prelude.{fold, pos, min}
 use Rattle.std.specs.List.{AllByRecursion}
 use Rattle.std.specs.Option.{option_map_or}
 use Rattle.std.specs.FinMap.{entries, get}
-use Rattle.atl_tables.specs.Limits.{most_amount}
 use Rattle.atl_tables.specs.Planet.{Planet}
 use Rattle.atl_state.specs.declared.books.Thing.{Thing}
 use Rattle.atl_state.specs.declared.books.Thing.TheVariants.{Money, People, Item}
@@ -12,7 +11,7 @@ use Rattle.atl_state.specs.declared.records.Region.{Region}
 use Rattle.atl_state.specs.declared.records.Unit.{Unit}
 use Rattle.atl_state.specs.Books.{amount_in}
 use Rattle.atl_state.specs.Covers.{MarksChanges}
-use Rattle.atl_state.specs.Good.{Every, IsEarly, IsSteady, IsThere}
+use Rattle.atl_state.specs.Good.{Every, IsEarly}
 use Rattle.atl_state.specs.Held.{amount_of}
 use Rattle.atl_state.specs.Limits.{holding_limit}
 use Rattle.atl_state.specs.Marking.{mark_region, mark_unit_row}
@@ -29,7 +28,7 @@ use Rattle.atl_instant.specs.declared.written.Written.{Written}
 use Rattle.atl_instant.proofs.MeaningLaws.{near_same, well_within}
 use Rattle.atl_instant.proofs.StayingLaws.{are_no_worse, are_no_worse_twice}
 use Rattle.atl_market.specs.PotPhase.{CanInTurn, given_by, shared_out}
-use Rattle.atl_market.specs.Tax.{CanTax, money_at, tax_moves, tax_wanted, taxed, taxed_by, taxed_from, taxing, with_tax}
+use Rattle.atl_market.specs.Tax.{CanTax, money_at, tax_moves, taxed, taxed_by, taxed_from, taxing, with_tax}
 use Rattle.atl_market.proofs.DrawLaws.{all_pairs, HaveEnough, HaveLess, changed_regions, drawn, first_draws, others_draw, pot_is_enough, still, untouched}
 use Rattle.atl_market.proofs.PurseLaws.{others_stay, paid, richer, richer_is, richer_no_worse}
 use Rattle.atl_market.proofs.TurnLaws.{turns_leave_well}

@@ -30,7 +30,6 @@ use Rattle.atl_state.specs.Owners.{with_place}
 use Rattle.atl_state.specs.State.{State, with_amount, with_done, with_structure_begun}
 use Rattle.atl_instant.specs.Meaning.{HasRoom, Keeping, Meaning, Moving, most_moved}
 use Rattle.atl_instant.specs.Outcomes.{first_fault, unless}
-use Rattle.atl_instant.specs.PhaseOrders.{Task}
 use Rattle.atl_instant.specs.Staying.{IsNoWorse}
 use Rattle.atl_instant.specs.Steps.{IsOwnOrder, Reserve, Step, carried_out, spares_others}
 

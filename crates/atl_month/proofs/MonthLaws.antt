@@ -1,5 +1,5 @@
 -- A campaign behind the phases of a month is good again once the month is counted and the mail is taken away.
-use Rattle.std.proofs.Common.{◌≡◌, ◌&&◌, ℕ, ◌+◌, ◌*◌, ◌≤◌, ◌<◌, Bool, true, false, List, [], ◌∷◌, map, ap, ◌∙◌, arith}
+use Rattle.std.proofs.Common.{◌≡◌, ◌&&◌, ℕ, ◌+◌, ◌*◌, ◌≤◌, ◌<◌, Bool, true, false, List, ap, ◌∙◌, arith}
 use Rattle.std.specs.Prelude.{ℤ, nat_lt}
 use Rattle.std.specs.FinMap.{FinMap, get, len}
 use Rattle.std.specs.Ordering.{nat_cmp}
@@ -12,11 +12,9 @@ use Rattle.atl_state.specs.Good.{AreAmountsWithin, AreInRange, AreKnown, IsEarly
 use Rattle.atl_state.specs.Limits.{last_month}
 use Rattle.atl_state.specs.State.{State}
 use Rattle.atl_state.specs.Totals.{Balances, total}
-use Rattle.atl_orders.specs.Mailing.{Reading, reading_of}
-use Rattle.atl_orders.specs.declared.mailing.Mailing.{Mailing}
+use Rattle.atl_orders.specs.Mailing.{Reading}
 use Rattle.atl_state.proofs.EveryLaws.{every-empty}
-use Rattle.atl_instant.specs.Course.{Course, by_faction}
-use Rattle.atl_instant.specs.Fit.{AreFit}
+use Rattle.atl_instant.specs.Course.{Course}
 use Rattle.atl_instant.specs.Meaning.{HaveRoom, IsNear, IsSameMonth, LeavesWell, Meaning, Moving}
 use Rattle.atl_instant.proofs.CourseLaws.{mailings_have_no_order}
 use Rattle.atl_instant.proofs.MeaningLaws.{MovesLess, room_when_sound}

@@ -1,8 +1,6 @@
-use Rattle.std.proofs.Common.{◌≡◌, ap, arith}
+use Rattle.std.proofs.Common.{ap, arith}
 use Rattle.atl_state.specs.Founding.{things_of}
 use Rattle.atl_state.specs.State.{State}
-use Rattle.atl_state.specs.declared.books.Entry.{Entry}
-use Rattle.atl_state.specs.declared.books.Thing.{Thing}
 use Rattle.atl_market.proofs.RecruitLaws.{lent_is, recruit_marks}
 use Rattle.atl_market.proofs.recruit.MailedRecruitingPotPhase.pay.Goals as goal
 
