@@ -1,0 +1,9 @@
+use Rattle.std.proofs.Common.{◌≡◌}
+use Rattle.atl_state.specs.Good.{IsEarly}
+use Rattle.atl_phase_tests.proofs.settings.lose_men.Given as goal
+
+abbrev pub invariant-loop-number : goal.invariant-loop-number
+invariant-loop-number l = record {
+  early : IsEarly l.world l.campaign.what;
+  books : l.campaign.what.books ≡ l.fn.campaign.what.books;
+}

@@ -1,0 +1,409 @@
+//! What has changed from one campaign to another, a line each.
+ghost use Rattle.std.specs.Prelude.{◌≡◌};
+ghost use Rattle.atl_state.specs.Books.{thing_place};
+
+use atl_state::{Campaign, Entry, Faction, Region, Structure, Thing, Unit};
+use atl_tables::World;
+use std::alloc::{AllocError, Global};
+
+/// All entries of the books, by their names.
+const ENTRIES: [(&str, Entry); 13] = [
+    ("founding", Entry::Founding),
+    ("joining", Entry::Joining),
+    ("income", Entry::Income),
+    ("wages", Entry::Wages),
+    ("recruiting", Entry::Recruiting),
+    ("study", Entry::Study),
+    ("upkeep", Entry::Upkeep),
+    ("lost", Entry::Lost),
+    ("births", Entry::Births),
+    ("starved", Entry::Starved),
+    ("left", Entry::Left),
+    ("made", Entry::Made),
+    ("used", Entry::Used),
+];
+
+/// Tells a number where it isn't what it was.
+fn number(
+    alloc: Global,
+    of: &str,
+    what: &str,
+    before: i64,
+    after: i64,
+    told: &mut String,
+) -> Result<(), AllocError> {
+    if before == after {
+        return Ok(());
+    }
+    let line = format!(in alloc; "{of} {what} {after}\n")?;
+    told.push_str(line.as_str())
+}
+
+/// Tells a text where it isn't what it was.
+fn text(
+    alloc: Global,
+    of: &str,
+    what: &str,
+    before: &str,
+    after: &str,
+    told: &mut String,
+) -> Result<(), AllocError> {
+    if before == after {
+        return Ok(());
+    }
+    let line = format!(in alloc; "{of} {what} {after}\n")?;
+    told.push_str(line.as_str())
+}
+
+// ---- units
+
+/// A unit's faction, region, structure, men, money and flag; nothing of one that isn't there.
+fn numbers_of(unit: Option<&Unit>) -> [i64; 6] {
+    match unit {
+        Some(found) => [
+            i64::from(found.faction),
+            i64::from(found.region),
+            i64::from(found.structure),
+            i64::from(found.holding.men()),
+            i64::from(found.holding.money()),
+            i64::from(found.holding.guard()),
+        ],
+        None => [0; 6],
+    }
+}
+
+const NUMBERS: [&str; 6] = ["faction", "region", "inside", "men", "money", "guard"];
+
+fn unit_name(unit: Option<&Unit>) -> &str {
+    match unit {
+        Some(found) => found.holding.name().as_str(),
+        None => "",
+    }
+}
+
+fn amount_of(unit: Option<&Unit>, item: u32) -> i64 {
+    match unit {
+        Some(found) => i64::from(found.holding.amount(item)),
+        None => 0,
+    }
+}
+
+fn days_of(unit: Option<&Unit>, skill: u32) -> i64 {
+    match unit {
+        Some(found) => i64::from(found.holding.days_of(skill)),
+        None => 0,
+    }
+}
+
+/// Tells what a unit has more or less.
+fn goods(
+    alloc: Global,
+    world: &World,
+    of: &str,
+    before: Option<&Unit>,
+    after: Option<&Unit>,
+    told: &mut String,
+) -> Result<(), AllocError> {
+    let mut thing: u32 = 0;
+    for item in world.items() {
+        let (had, has) = (amount_of(before, thing), amount_of(after, thing));
+        number(alloc, of, item.name.as_str(), had, has, told)?;
+        thing = thing.wrapping_add(1);
+    }
+    Ok(())
+}
+
+/// Tells what a unit has studied more or less.
+fn skills(
+    alloc: Global,
+    world: &World,
+    of: &str,
+    before: Option<&Unit>,
+    after: Option<&Unit>,
+    told: &mut String,
+) -> Result<(), AllocError> {
+    let mut thing: u32 = 0;
+    for skill in world.skills() {
+        let (had, has) = (days_of(before, thing), days_of(after, thing));
+        number(alloc, of, skill.name.as_str(), had, has, told)?;
+        thing = thing.wrapping_add(1);
+    }
+    Ok(())
+}
+
+/// Tells how a unit that is there has changed.
+fn unit(
+    alloc: Global,
+    world: &World,
+    of: &str,
+    before: Option<&Unit>,
+    after: Option<&Unit>,
+    told: &mut String,
+) -> Result<(), AllocError> {
+    text(alloc, of, "name", unit_name(before), unit_name(after), told)?;
+    let (old, new) = (numbers_of(before), numbers_of(after));
+    for (what, (was, is)) in NUMBERS.iter().zip(old.iter().zip(new.iter())) {
+        number(alloc, of, what, *was, *is, told)?;
+    }
+    goods(alloc, world, of, before, after, told)?;
+    skills(alloc, world, of, before, after, told)
+}
+
+/// Tells how the units have changed that were there before.
+fn units(
+    alloc: Global,
+    world: &World,
+    before: &Campaign,
+    after: &Campaign,
+    told: &mut String,
+) -> Result<(), AllocError> {
+    for (number, old) in before.units() {
+        let of = format!(in alloc; "unit {number}")?;
+        let new = after.unit(number);
+        if new.is_none() {
+            told.push_str(of.as_str())?;
+            told.push_str(" gone\n")?;
+        } else {
+            unit(alloc, world, of.as_str(), Some(old), new, told)?;
+        }
+    }
+    Ok(())
+}
+
+/// Tells of the units that are new.
+fn new_units(
+    alloc: Global,
+    world: &World,
+    before: &Campaign,
+    after: &Campaign,
+    told: &mut String,
+) -> Result<(), AllocError> {
+    for (number, new) in after.units() {
+        if before.unit(number).is_none() {
+            let of = format!(in alloc; "unit {number}")?;
+            unit(alloc, world, of.as_str(), None, Some(new), told)?;
+        }
+    }
+    Ok(())
+}
+
+// ---- structures
+
+/// A structure's region, how much is done, and its owner; nothing of one that isn't there.
+fn sides_of(structure: Option<&Structure>) -> [i64; 3] {
+    match structure {
+        Some(found) => [
+            i64::from(found.region),
+            i64::from(found.done),
+            i64::from(found.owner),
+        ],
+        None => [0; 3],
+    }
+}
+
+const SIDES: [&str; 3] = ["region", "done", "owner"];
+
+/// The name of a structure and that of its kind.
+fn names_of<'a>(world: &'a World, structure: Option<&'a Structure>) -> (&'a str, &'a str) {
+    let Some(found) = structure else {
+        return ("", "");
+    };
+    match world.kinds().get(usize::from(found.kind)) {
+        Some(kind) => (found.name.as_str(), kind.name.as_str()),
+        None => (found.name.as_str(), ""),
+    }
+}
+
+/// Tells how a structure that is there has changed.
+fn structure(
+    alloc: Global,
+    world: &World,
+    of: &str,
+    before: Option<&Structure>,
+    after: Option<&Structure>,
+    told: &mut String,
+) -> Result<(), AllocError> {
+    let ((old_name, old_kind), (name, kind)) = (names_of(world, before), names_of(world, after));
+    text(alloc, of, "name", old_name, name, told)?;
+    text(alloc, of, "kind", old_kind, kind, told)?;
+    let (old, new) = (sides_of(before), sides_of(after));
+    for (what, (was, is)) in SIDES.iter().zip(old.iter().zip(new.iter())) {
+        number(alloc, of, what, *was, *is, told)?;
+    }
+    Ok(())
+}
+
+/// Tells how structures have changed, those that are new among them.
+fn structures(
+    alloc: Global,
+    world: &World,
+    before: &Campaign,
+    after: &Campaign,
+    told: &mut String,
+) -> Result<(), AllocError> {
+    for (place, new) in after.structures() {
+        let of = format!(in alloc; "structure {place}")?;
+        structure(
+            alloc,
+            world,
+            of.as_str(),
+            before.structure(place),
+            Some(new),
+            told,
+        )?;
+    }
+    Ok(())
+}
+
+// ---- regions and factions
+
+fn region(
+    alloc: Global,
+    place: u32,
+    old: &Region,
+    new: &Region,
+    told: &mut String,
+) -> Result<(), AllocError> {
+    let of = format!(in alloc; "region {place}")?;
+    let (peasants, now) = (i64::from(old.peasants), i64::from(new.peasants));
+    number(alloc, of.as_str(), "peasants", peasants, now, told)?;
+    let (money, now) = (i64::from(old.money), i64::from(new.money));
+    number(alloc, of.as_str(), "money", money, now, told)
+}
+
+fn regions(
+    alloc: Global,
+    before: &Campaign,
+    after: &Campaign,
+    told: &mut String,
+) -> Result<(), AllocError> {
+    for (place, new) in after.regions() {
+        if let Some(old) = before.region(place) {
+            region(alloc, place, old, new, told)?;
+        }
+    }
+    Ok(())
+}
+
+fn faction(
+    alloc: Global,
+    place: u32,
+    old: &Faction,
+    new: &Faction,
+    told: &mut String,
+) -> Result<(), AllocError> {
+    let of = format!(in alloc; "faction {place}")?;
+    text(
+        alloc,
+        of.as_str(),
+        "name",
+        old.name.as_str(),
+        new.name.as_str(),
+        told,
+    )?;
+    number(
+        alloc,
+        of.as_str(),
+        "gone",
+        i64::from(old.gone),
+        i64::from(new.gone),
+        told,
+    )
+}
+
+fn factions(
+    alloc: Global,
+    before: &Campaign,
+    after: &Campaign,
+    told: &mut String,
+) -> Result<(), AllocError> {
+    for (place, new) in after.factions() {
+        if let Some(old) = before.faction(place) {
+            faction(alloc, place, old, new, told)?;
+        }
+    }
+    Ok(())
+}
+
+// ---- books
+
+/// What is booked of a thing under an entry; 0 where there is no such thing.
+fn booked(campaign: &Campaign, entry: Entry, place: usize, thing: Thing) -> i64
+    requires { thing_place thing ≡ place }
+{
+    if place < campaign.things() {
+        campaign.booked(entry, thing)
+    } else {
+        0
+    }
+}
+
+/// Tells what was booked of a thing.
+fn thing(
+    alloc: Global,
+    of: &str,
+    place: usize,
+    thing: Thing,
+    before: &Campaign,
+    after: &Campaign,
+    told: &mut String,
+) -> Result<(), AllocError>
+    requires { thing_place thing ≡ place }
+{
+    for (what, entry) in ENTRIES.iter() {
+        let old = booked(before, *entry, place, thing);
+        let new = booked(after, *entry, place, thing);
+        let more = new.wrapping_sub(old);
+        number(alloc, of, what, 0, more, told)?;
+    }
+    Ok(())
+}
+
+/// Tells what was booked.
+fn books(
+    alloc: Global,
+    world: &World,
+    before: &Campaign,
+    after: &Campaign,
+    told: &mut String,
+) -> Result<(), AllocError> {
+    thing(alloc, "booked money", 0, Thing::Money, before, after, told)?;
+    thing(
+        alloc,
+        "booked people",
+        1,
+        Thing::People,
+        before,
+        after,
+        told,
+    )?;
+    for (place, item) in world.items().iter().enumerate() {
+        let of = format!(in alloc; "booked {}", item.name.as_str())?;
+        thing(
+            alloc,
+            of.as_str(),
+            place + 2,
+            Thing::Item(place as u16),
+            before,
+            after,
+            told,
+        )?;
+    }
+    Ok(())
+}
+
+/// Tells all that has changed from one campaign of the world to another: names, numbers, goods, days, and what was booked.
+pub(crate) fn tell_changes(
+    alloc: Global,
+    world: &World,
+    before: &Campaign,
+    after: &Campaign,
+    told: &mut String,
+) -> Result<(), AllocError> {
+    units(alloc, world, before, after, told)?;
+    new_units(alloc, world, before, after, told)?;
+    structures(alloc, world, before, after, told)?;
+    regions(alloc, before, after, told)?;
+    factions(alloc, before, after, told)?;
+    books(alloc, world, before, after, told)
+}

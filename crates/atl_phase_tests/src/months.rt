@@ -1,0 +1,63 @@
+//! Months of mailings that are given as texts.
+ghost use Rattle.std.specs.Prelude.{◌≡◌, All, IfOk, map};
+ghost use Rattle.atl_orders.specs.Mailing.{IsReadWith};
+ghost use Rattle.atl_instant.specs.Course.{HaveOwnFactions};
+ghost use Rattle.atl_instant.specs.Fit.{AreFit};
+
+use anyhow::{Result, bail};
+use atl_instant::Month;
+use atl_orders::{Mailing, read_mailing};
+use atl_state::are_distinct;
+use atl_tables::World;
+use std::alloc::{AllocError, Global};
+
+fn mailings_of(alloc: Global, world: &World, texts: &[String]) -> Result<Vec<Mailing>>
+    ensures { IfOk result (λ mailings. All (IsReadWith world.now) mailings.items) }
+{
+    let mut mailings = Vec::new(alloc);
+    for text in texts {
+        match read_mailing(alloc, world, text.as_bytes()) {
+            Ok(mailing) => mailings.push(mailing)?,
+            Err(_) => bail!("a text is no mailing"),
+        }
+    }
+    Ok(mailings)
+}
+
+fn factions_of(alloc: Global, mailings: &[Mailing]) -> Result<Vec<u32>, AllocError>
+    ensures { IfOk result (λ factions. factions.items ≡ map (λ m. m.faction) mailings.now) }
+{
+    let mut factions = Vec::new(alloc);
+    for mailing in mailings {
+        factions.push(mailing.faction)?;
+    }
+    Ok(factions)
+}
+
+/// The mailings of these texts, no two of one faction.
+pub(crate) fn read_all(alloc: Global, world: &World, texts: &[String]) -> Result<Vec<Mailing>>
+    ensures read { IfOk result (λ mailings. All (IsReadWith world.now) mailings.items) }
+    ensures own { IfOk result (λ mailings. HaveOwnFactions mailings.items) }
+{
+    let mailings = mailings_of(alloc, world, texts)?;
+    let factions = factions_of(alloc, &mailings)?;
+    if !are_distinct(alloc, &factions)? {
+        bail!("two mailings are of one faction");
+    }
+    Ok(mailings)
+}
+
+/// A month with these mailings and words.
+pub(crate) fn month_of(
+    alloc: Global,
+    world: &World,
+    mailings: Vec<Mailing>,
+    words: &[u32],
+) -> Result<Month, AllocError>
+    requires read { All (IsReadWith world.now) mailings.items }
+    requires own { HaveOwnFactions mailings.items }
+    ensures { IfOk result (λ m. AreFit world.now m.readings) }
+{
+    let words = Vec::from_slice(alloc, words)?;
+    Ok(Month::new(alloc, mailings, words))
+}

@@ -1,0 +1,204 @@
+//! Which phases a case plays.
+ghost use Rattle.std.specs.Prelude.{All};
+ghost use Rattle.atl_orders.specs.Mailing.{IsReadWith};
+ghost use Rattle.atl_state.specs.Good.{IsEarly};
+ghost use Rattle.atl_instant.specs.Course.{HaveOwnFactions};
+ghost use Rattle.atl_instant.specs.Fit.{AreFit};
+ghost use Rattle.atl_phase_tests.specs.Roomy.{IsRoomy};
+
+use crate::months::month_of;
+use crate::settings::{Setting, campaign_of, good_campaign};
+use anyhow::{Result, bail};
+use atl_action::{LearnPhase, MovePhase, SailPhase};
+use atl_instant::{
+    FormPhase, GivePhase, GuardPhase, Month, NamePhase, Phase, PlacePhase, QuitPhase, TransferPhase,
+};
+use atl_market::{BuildPhase, ProducePhase, RecruitPhase, TaxPhase, WorkPhase};
+use atl_month::{SeasonPhase, SweepPhase, UpkeepPhase, close_month};
+use atl_orders::Mailing;
+use atl_state::{Campaign, Event, LAST_MONTH};
+use atl_tables::World;
+use std::alloc::{AllocError, Global};
+
+/// Phases that a case plays.
+#[derive(Clone, Copy, Drop)]
+pub(crate) enum Run {
+    /// All that carry out orders but for WORK, which units have without an order, too.
+    Orders,
+    Work,
+    Upkeep,
+    Season,
+    /// The season, twice with the same words.
+    Seasons,
+    Sweep,
+    /// All phases, as a month is closed.
+    Month,
+}
+
+impl Run {
+    /// The phases of a name.
+    pub fn of_name(name: &str) -> Option<Run> {
+        let runs = [
+            ("orders", Run::Orders),
+            ("work", Run::Work),
+            ("upkeep", Run::Upkeep),
+            ("season", Run::Season),
+            ("seasons", Run::Seasons),
+            ("sweep", Run::Sweep),
+            ("month", Run::Month),
+        ];
+        for (listed, run) in runs.iter() {
+            if name == *listed {
+                return Some(*run);
+            }
+        }
+        None
+    }
+}
+
+fn carry_out(
+    alloc: Global,
+    world: &World,
+    campaign: Campaign,
+    month: Month,
+) -> Result<(Campaign, Month), AllocError>
+    requires early { IsEarly world.now campaign.what }
+    requires room { IsRoomy campaign.what }
+    requires read { AreFit world.now month.readings }
+{
+    let goods = (GivePhase, (TransferPhase, (TaxPhase, RecruitPhase)));
+    let early = (FormPhase, (NamePhase, (PlacePhase, goods)));
+    let making = (BuildPhase, (LearnPhase, ProducePhase));
+    let later = (GuardPhase, (QuitPhase, (MovePhase, (SailPhase, making))));
+    (early, later).run(alloc, world, campaign, month)
+}
+
+fn work(
+    alloc: Global,
+    world: &World,
+    campaign: Campaign,
+    month: Month,
+) -> Result<(Campaign, Month), AllocError>
+    requires early { IsEarly world.now campaign.what }
+    requires room { IsRoomy campaign.what }
+    requires read { AreFit world.now month.readings }
+{
+    WorkPhase.run(alloc, world, campaign, month)
+}
+
+fn pay_upkeep(
+    alloc: Global,
+    world: &World,
+    campaign: Campaign,
+    month: Month,
+) -> Result<(Campaign, Month), AllocError>
+    requires early { IsEarly world.now campaign.what }
+    requires room { IsRoomy campaign.what }
+    requires read { AreFit world.now month.readings }
+{
+    UpkeepPhase.run(alloc, world, campaign, month)
+}
+
+fn grow(
+    alloc: Global,
+    world: &World,
+    campaign: Campaign,
+    month: Month,
+) -> Result<(Campaign, Month), AllocError>
+    requires early { IsEarly world.now campaign.what }
+    requires room { IsRoomy campaign.what }
+    requires read { AreFit world.now month.readings }
+{
+    SeasonPhase.run(alloc, world, campaign, month)
+}
+
+fn grow_twice(
+    alloc: Global,
+    world: &World,
+    campaign: Campaign,
+    month: Month,
+) -> Result<(Campaign, Month), AllocError>
+    requires early { IsEarly world.now campaign.what }
+    requires room { IsRoomy campaign.what }
+    requires read { AreFit world.now month.readings }
+{
+    (SeasonPhase, SeasonPhase).run(alloc, world, campaign, month)
+}
+
+fn sweep(
+    alloc: Global,
+    world: &World,
+    campaign: Campaign,
+    month: Month,
+) -> Result<(Campaign, Month), AllocError>
+    requires early { IsEarly world.now campaign.what }
+    requires room { IsRoomy campaign.what }
+    requires read { AreFit world.now month.readings }
+{
+    SweepPhase.run(alloc, world, campaign, month)
+}
+
+/// The campaign and the month behind some phases; nothing is played of a whole month.
+fn run_on(
+    alloc: Global,
+    world: &World,
+    run: Run,
+    campaign: Campaign,
+    month: Month,
+) -> Result<(Campaign, Month), AllocError>
+    requires early { IsEarly world.now campaign.what }
+    requires room { IsRoomy campaign.what }
+    requires read { AreFit world.now month.readings }
+{
+    match run {
+        Run::Orders => carry_out(alloc, world, campaign, month),
+        Run::Work => work(alloc, world, campaign, month),
+        Run::Upkeep => pay_upkeep(alloc, world, campaign, month),
+        Run::Season => grow(alloc, world, campaign, month),
+        Run::Seasons => grow_twice(alloc, world, campaign, month),
+        Run::Sweep => sweep(alloc, world, campaign, month),
+        Run::Month => Ok((campaign, month)),
+    }
+}
+
+/// Closes a month over the campaign of a setting.
+fn close(
+    alloc: Global,
+    world: &World,
+    setting: &Setting,
+    mailings: Vec<Mailing>,
+    words: &[u32],
+) -> Result<(Campaign, Vec<Event>)>
+    requires read { All (IsReadWith world.now) mailings.items }
+    requires own { HaveOwnFactions mailings.items }
+{
+    let campaign = good_campaign(alloc, world, setting)?;
+    if campaign.month() >= LAST_MONTH {
+        bail!("no month comes behind the last");
+    }
+    if words.len() != world.regions().len() {
+        bail!("a month has a word for each region");
+    }
+    Ok(close_month(alloc, world, campaign, mailings, words)?)
+}
+
+/// The campaign behind phases over the campaign of a setting, and what is told of it.
+pub(crate) fn played(
+    alloc: Global,
+    world: &World,
+    run: Run,
+    setting: &Setting,
+    mailings: Vec<Mailing>,
+    words: &[u32],
+) -> Result<(Campaign, Vec<Event>)>
+    requires read { All (IsReadWith world.now) mailings.items }
+    requires own { HaveOwnFactions mailings.items }
+{
+    if let Run::Month = run {
+        return close(alloc, world, setting, mailings, words);
+    }
+    let campaign = campaign_of(alloc, world, setting)?;
+    let month = month_of(alloc, world, mailings, words)?;
+    let (campaign, month) = run_on(alloc, world, run, campaign, month)?;
+    Ok((campaign, month.into_events()))
+}

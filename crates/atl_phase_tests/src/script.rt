@@ -1,0 +1,154 @@
+//! What a line of a file of cases says.
+use crate::runs::Run;
+use crate::settings::{Built, Had, Setting, Stood};
+use anyhow::{Context, Result, bail};
+use atl_tables::World;
+use std::alloc::{AllocError, Global};
+
+/// A case: what it begins with, the mailings and the words of its month, and the lines that are to be told of it.
+pub(crate) struct Case {
+    pub title: String,
+    pub mailings: Vec<String>,
+    pub words: Vec<u32>,
+    pub wanted: String,
+}
+
+impl Drop for Case {
+    fn drop(self) {
+        let Case {
+            title: _,
+            mailings: _,
+            words: _,
+            wanted: _,
+        } = self;
+    }
+}
+
+impl Case {
+    /// A case of a title, without mailings and words.
+    pub fn new(alloc: Global, title: &str) -> Result<Case, AllocError> {
+        Ok(Case {
+            title: String::from_str(alloc, title)?,
+            mailings: Vec::new(alloc),
+            words: Vec::new(alloc),
+            wanted: String::new(alloc),
+        })
+    }
+
+    /// Adds a line to the last mailing.
+    fn add_mail(&mut self, line: &str) -> Result<(), AllocError> {
+        if let Some(mailing) = self.mailings.last_mut() {
+            mailing.push_str(line)?;
+            mailing.push_str("\n")?;
+        }
+        Ok(())
+    }
+
+    /// Adds a line that is to be told.
+    fn add_wanted(&mut self, line: &str) -> Result<(), AllocError> {
+        self.wanted.push_str(line)?;
+        self.wanted.push_str("\n")
+    }
+}
+
+/// The numbers that a text is made of, with blanks between them: just so many.
+fn numbers<const N: usize>(text: &str) -> Option<[i64; N]> {
+    let mut all = [0; N];
+    let mut words = text.split_whitespace();
+    for place in all.iter_mut() {
+        *place = words.next()?.parse::<i64>().ok()?;
+    }
+    if words.next().is_some() {
+        return None;
+    }
+    Some(all)
+}
+
+/// `FACTION REGION STRUCTURE MEN MONEY`, and `guard` behind it for one with its flag set.
+fn unit(text: &str) -> Option<Stood> {
+    let (text, guard) = match text.strip_suffix(" guard") {
+        Some(front) => (front, true),
+        None => (text, false),
+    };
+    let [faction, region, structure, men, money] = numbers::<5>(text)?;
+    Some(Stood {
+        faction,
+        region,
+        structure,
+        men,
+        money,
+        guard,
+    })
+}
+
+/// `UNIT THING AMOUNT`, of an item or of a skill of the world.
+fn had(world: &World, text: &str) -> Option<Had> {
+    let (unit, rest) = text.split_once(' ')?;
+    let (name, amount) = rest.split_once(' ')?;
+    let item = world.item_named(name.as_bytes(), false);
+    let thing = match item {
+        Some(item) => item,
+        None => world.skill_named(name.as_bytes(), false)?,
+    };
+    Some(Had {
+        unit: unit.parse::<i64>().ok()?,
+        is_skill: item.is_none(),
+        thing: i64::from(thing),
+        amount: amount.parse::<i64>().ok()?,
+    })
+}
+
+/// `KIND REGION DONE OWNER`, of a kind of the world.
+fn structure(world: &World, text: &str) -> Option<Built> {
+    let (name, rest) = text.split_once(' ')?;
+    let [region, done, owner] = numbers::<3>(rest)?;
+    Some(Built {
+        kind: i64::from(world.kind_named(name.as_bytes(), false)?),
+        region,
+        done,
+        owner,
+    })
+}
+
+/// Adds what a line says to a setting; false where it says nothing of one.
+pub(crate) fn take_setting(
+    world: &World,
+    setting: &mut Setting,
+    word: &str,
+    rest: &str,
+) -> Result<bool> {
+    if word == "unit" {
+        setting.units.push(unit(rest).context("no unit")?)?;
+    } else if word == "has" {
+        setting.has.push(had(world, rest).context("no goods")?)?;
+    } else if word == "structure" {
+        setting
+            .structures
+            .push(structure(world, rest).context("no structure")?)?;
+    } else if word == "menless" {
+        setting
+            .menless
+            .push(rest.parse::<u32>().context("no number")?)?;
+    } else if word == "next_unit" {
+        setting.next_unit = rest.parse::<i64>().context("no number")?;
+    } else {
+        return Ok(false);
+    }
+    Ok(true)
+}
+
+/// Adds what a line says to a case.
+pub(crate) fn take_case(alloc: Global, case: &mut Case, word: &str, rest: &str) -> Result<()> {
+    if word == "mail" {
+        case.mailings.push(String::new(alloc))?;
+    } else if word == ">" {
+        case.add_mail(rest)?;
+    } else if word == "=" {
+        case.add_wanted(rest)?;
+    } else if word == "word" {
+        case.words.push(rest.parse::<u32>().context("no number")?)?;
+    } else {
+        bail!("what is {word}?");
+    }
+    Ok(())
+}

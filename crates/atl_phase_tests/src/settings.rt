@@ -1,0 +1,306 @@
+//! The campaign that a case begins with, by its rows.
+ghost use Rattle.std.specs.Prelude.{◌≡◌, IfOk};
+ghost use Rattle.atl_state.specs.Good.{IsEarly, IsGood};
+ghost use Rattle.atl_phase_tests.specs.Roomy.{IsRoomy};
+
+use anyhow::{Result, bail};
+use atl_state::check::check;
+use atl_state::parts::{
+    Parts, StoredBooks, StoredFaction, StoredHas, StoredHead, StoredReport, StoredStructure,
+    StoredUnit,
+};
+use atl_state::{Campaign, founded};
+use atl_tables::{Numbered, Sequence, Text, World};
+use std::alloc::{AllocError, Global};
+
+/// A unit of faction 1 or 2.
+#[derive(Clone, Copy, Drop)]
+pub(crate) struct Stood {
+    pub faction: i64,
+    pub region: i64,
+    pub structure: i64,
+    pub men: i64,
+    pub money: i64,
+    pub guard: bool,
+}
+
+/// What a unit has: an item, or days of a skill.
+#[derive(Clone, Copy, Drop)]
+pub(crate) struct Had {
+    pub unit: i64,
+    pub is_skill: bool,
+    pub thing: i64,
+    pub amount: i64,
+}
+
+/// A structure, and how much of it is done.
+#[derive(Clone, Copy, Drop)]
+pub(crate) struct Built {
+    pub kind: i64,
+    pub region: i64,
+    pub done: i64,
+    pub owner: i64,
+}
+
+/// Units and structures, numbered from 1, what the units have, and which of them have lost their men since. No unit comes next before this
+/// number.
+pub(crate) struct Setting {
+    pub units: Vec<Stood>,
+    pub has: Vec<Had>,
+    pub structures: Vec<Built>,
+    pub menless: Vec<u32>,
+    pub next_unit: i64,
+}
+
+impl Drop for Setting {
+    fn drop(self) {
+        let Setting {
+            units: _,
+            has: _,
+            structures: _,
+            menless: _,
+            next_unit: _,
+        } = self;
+    }
+}
+
+impl Setting {
+    /// A setting of two factions without units.
+    pub fn new(alloc: Global) -> Setting {
+        Setting {
+            units: Vec::new(alloc),
+            has: Vec::new(alloc),
+            structures: Vec::new(alloc),
+            menless: Vec::new(alloc),
+            next_unit: 1,
+        }
+    }
+
+    fn next_unit(&self) -> i64 {
+        (self.units.len() as i64)
+            .wrapping_add(1)
+            .max(self.next_unit)
+    }
+}
+
+/// The names that the factions joined under, in the order of their numbers.
+const FACTIONS: [&str; 2] = ["Avalon", "Bree"];
+
+fn head(alloc: Global, setting: &Setting) -> Result<Sequence<StoredHead>, AllocError> {
+    let mut all = Sequence::new(alloc);
+    all.push(StoredHead {
+        id: 1,
+        format: 1,
+        month: 0,
+        next_faction: 3,
+        next_unit: setting.next_unit(),
+        next_structure: (setting.structures.len() as i64).wrapping_add(1),
+        pass: Sequence::from_slice(alloc, b"gm")?,
+    })?;
+    Ok(all)
+}
+
+/// A faction, which is gone where it has no unit.
+fn faction(
+    alloc: Global,
+    number: i64,
+    name: &str,
+    units: &[Stood],
+) -> Result<StoredFaction, AllocError> {
+    let there = units.iter().any(|unit| unit.faction == number);
+    Ok(StoredFaction {
+        number,
+        joined_as: Sequence::from_slice(alloc, name.as_bytes())?,
+        name: Sequence::from_slice(alloc, name.as_bytes())?,
+        pass: Sequence::from_slice(alloc, b"pw")?,
+        gone: i64::from(!there),
+    })
+}
+
+fn factions(alloc: Global, units: &[Stood]) -> Result<Sequence<StoredFaction>, AllocError> {
+    let mut all = Sequence::new(alloc);
+    let mut number: i64 = 0;
+    for name in FACTIONS.iter() {
+        number = number.wrapping_add(1);
+        all.push(faction(alloc, number, name, units)?)?;
+    }
+    Ok(all)
+}
+
+fn reports(alloc: Global) -> Result<Sequence<StoredReport>, AllocError> {
+    let mut all = Sequence::new(alloc);
+    for faction in 1..3i64 {
+        all.push(StoredReport {
+            faction,
+            text: Text::from_str(alloc, "A report.\n")?,
+        })?;
+    }
+    Ok(all)
+}
+
+fn unit(alloc: Global, number: i64, stood: &Stood) -> Result<StoredUnit, AllocError> {
+    Ok(StoredUnit {
+        number,
+        faction: stood.faction,
+        name: Sequence::from_slice(alloc, b"A unit")?,
+        region: stood.region,
+        structure: stood.structure,
+        men: stood.men,
+        money: stood.money,
+        guard: i64::from(stood.guard),
+    })
+}
+
+fn units_of(alloc: Global, units: &[Stood]) -> Result<Sequence<StoredUnit>, AllocError> {
+    let mut all = Sequence::new(alloc);
+    let mut number: i64 = 0;
+    for stood in units {
+        number = number.wrapping_add(1);
+        all.push(unit(alloc, number, stood)?)?;
+    }
+    Ok(all)
+}
+
+fn has_of(alloc: Global, has: &[Had]) -> Result<Sequence<StoredHas>, AllocError> {
+    let mut all = Sequence::new(alloc);
+    for had in has {
+        all.push(StoredHas {
+            unit: had.unit,
+            sort: i64::from(had.is_skill),
+            thing: had.thing,
+            amount: had.amount,
+        })?;
+    }
+    Ok(all)
+}
+
+fn structure(alloc: Global, number: i64, built: &Built) -> Result<StoredStructure, AllocError> {
+    Ok(StoredStructure {
+        number,
+        kind: built.kind,
+        name: Sequence::from_slice(alloc, b"A place")?,
+        region: built.region,
+        done: built.done,
+        owner: built.owner,
+    })
+}
+
+fn structures_of(
+    alloc: Global,
+    structures: &[Built],
+) -> Result<Sequence<StoredStructure>, AllocError> {
+    let mut all = Sequence::new(alloc);
+    let mut number: i64 = 0;
+    for built in structures {
+        number = number.wrapping_add(1);
+        all.push(structure(alloc, number, built)?)?;
+    }
+    Ok(all)
+}
+
+/// Books an amount of a thing, by its number in the table, under joining.
+fn book(books: &mut Sequence<StoredBooks>, thing: i64, amount: i64) -> Result<(), AllocError> {
+    if amount != 0 {
+        books.push(StoredBooks {
+            entry: 2,
+            thing,
+            amount,
+        })?;
+    }
+    Ok(())
+}
+
+/// How much of an item all units have.
+fn all_of(has: &[Had], item: i64) -> i64 {
+    let mut sum: i64 = 0;
+    for had in has {
+        if !had.is_skill && had.thing == item {
+            sum = sum.wrapping_add(had.amount);
+        }
+    }
+    sum
+}
+
+/// The money and the men of all units.
+fn money_and_men(units: &[Stood]) -> (i64, i64) {
+    let mut money: i64 = 0;
+    let mut men: i64 = 0;
+    for unit in units {
+        money = money.wrapping_add(unit.money);
+        men = men.wrapping_add(unit.men);
+    }
+    (money, men)
+}
+
+/// Books what the units have under joining.
+fn book_all(
+    world: &World,
+    setting: &Setting,
+    books: &mut Sequence<StoredBooks>,
+) -> Result<(), AllocError> {
+    let (money, men) = money_and_men(&setting.units);
+    book(books, 0, money)?;
+    book(books, 1, men)?;
+    let mut item: i64 = 0;
+    for _ in world.items() {
+        book(books, item.wrapping_add(2), all_of(&setting.has, item))?;
+        item = item.wrapping_add(1);
+    }
+    Ok(())
+}
+
+fn rows_of(alloc: Global, world: &World, setting: &Setting) -> Result<Parts, AllocError> {
+    let mut parts = founded(alloc, world, b"gm")?.parts()?;
+    book_all(world, setting, &mut parts.books)?;
+    parts.campaign = head(alloc, setting)?;
+    parts.factions = factions(alloc, &setting.units)?;
+    parts.units = units_of(alloc, &setting.units)?;
+    parts.has = has_of(alloc, &setting.has)?;
+    parts.structures = structures_of(alloc, &setting.structures)?;
+    parts.reports = reports(alloc)?;
+    Ok(parts)
+}
+
+/// The campaign of a setting before units lose their men.
+pub(crate) fn good_campaign(alloc: Global, world: &World, setting: &Setting) -> Result<Campaign>
+    ensures { IfOk result (λ c. IsGood world.now c.what) }
+{
+    let rows = rows_of(alloc, world, setting)?;
+    match check(alloc, world, rows) {
+        Ok(campaign) => Ok(campaign),
+        Err(_) => bail!("the rows are of no good campaign"),
+    }
+}
+
+/// A unit loses its men and what they studied.
+fn loses_men(alloc: Global, world: &World, campaign: &mut Campaign, number: u32)
+    requires early { IsEarly world.now campaign.old.what }
+    ensures early { IsEarly world.now campaign.new.what }
+    ensures books { campaign.new.what.books ≡ campaign.old.what.books }
+{
+    if let Some(holding) = campaign.unit_mut(number) {
+        holding.set_men(0);
+        holding.set_all_days(Numbered::new(alloc));
+    }
+}
+
+/// Units lose their men.
+fn lose_men(alloc: Global, world: &World, campaign: &mut Campaign, units: &[u32])
+    requires early { IsEarly world.now campaign.old.what }
+    ensures early { IsEarly world.now campaign.new.what }
+    ensures books { campaign.new.what.books ≡ campaign.old.what.books }
+{
+    for number in units {
+        loses_men(alloc, world, campaign, *number);
+    }
+}
+
+/// The campaign of a setting.
+pub(crate) fn campaign_of(alloc: Global, world: &World, setting: &Setting) -> Result<Campaign>
+    ensures early { IfOk result (λ c. IsEarly world.now c.what) }
+    ensures room { IfOk result (λ c. IsRoomy c.what) }
+{
+    let mut campaign = good_campaign(alloc, world, setting)?;
+    lose_men(alloc, world, &mut campaign, &setting.menless);
+    Ok(campaign)
+}
