@@ -1,1 +1,2 @@
-pub mod Equipped
+pub mod Phases
+pub mod Places

@@ -1,4 +1,4 @@
-//! Tests of the end of a month.
+//! Tests of the calls that the phases of a month stand on. The phases themselves are played by atl_phase_tests.
 #![tactic(auto)]
 
 #[cfg(test)]

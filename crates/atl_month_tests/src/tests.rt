@@ -1,7 +1,8 @@
-//! Tests of atl_month by its public calls alone.
-mod campaigns;
-mod plain;
-mod season;
+//! Tests of atl_instant, atl_market, atl_action and atl_month by their public calls alone.
+mod laws;
+mod months;
+mod orders;
+mod phases;
+mod pots;
 mod settling;
-mod sweep;
-mod upkeep;
+mod shares;

@@ -1,5 +1,0 @@
-//! Tests of travel and learning.
-#![tactic(auto)]
-
-#[cfg(test)]
-mod tests;

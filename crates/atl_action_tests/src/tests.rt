@@ -1,6 +1,0 @@
-//! Tests of atl_action by its public calls alone.
-mod campaigns;
-mod island;
-mod learn;
-mod sail;
-mod walk;

@@ -1,2 +1,0 @@
-pub mod StageLaws
-pub mod MovingLaws

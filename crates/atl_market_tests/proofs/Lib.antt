@@ -1,2 +1,0 @@
-pub mod FitLaws
-pub mod ProduceFitLaws

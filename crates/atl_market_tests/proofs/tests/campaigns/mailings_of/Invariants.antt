@@ -1,6 +1,0 @@
-use Rattle.std.proofs.Common.{All}
-use Rattle.atl_orders.specs.Mailing.{IsReadWith}
-use Rattle.atl_market_tests.proofs.tests.campaigns.mailings_of.Given as goal
-
-abbrev pub invariant-loop-text : goal.invariant-loop-text
-invariant-loop-text l = All (IsReadWith l.world) l.mailings.items

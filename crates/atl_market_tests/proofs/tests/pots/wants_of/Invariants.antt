@@ -1,5 +1,0 @@
-use Rattle.atl_market.specs.Pots.{AreWants}
-use Rattle.atl_market_tests.proofs.tests.pots.wants_of.Given as goal
-
-abbrev pub invariant-loop-want : goal.invariant-loop-want
-invariant-loop-want l = AreWants l.wants

@@ -1,5 +1,0 @@
-//! Tests of pots.
-#![tactic(auto)]
-
-#[cfg(test)]
-mod tests;

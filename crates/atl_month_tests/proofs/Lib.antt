@@ -1,2 +1,0 @@
-pub mod RoomLaws
-pub mod EquippedLaws

@@ -1,0 +1,5 @@
+use Rattle.atl_market.specs.Pots.{AreWants}
+use Rattle.atl_month_tests.proofs.tests.pots.wants_of.Given as goal
+
+abbrev pub invariant-loop-want : goal.invariant-loop-want
+invariant-loop-want l = AreWants l.wants

@@ -1,0 +1,19 @@
+//! Calls that only state a law.
+use atl_action::nobody_is_taught_twice;
+use atl_instant::{mailings_have_no_order, orders_are_in_mailings};
+use atl_market::pots::{each_pot_is_shared, takers_alone_get};
+use atl_market::shares::splitting_keeps_others;
+use atl_market::work_pays_all_at_once;
+use atl_month::months_have_no_order;
+
+#[test]
+fn laws_are_called() {
+    mailings_have_no_order();
+    orders_are_in_mailings();
+    takers_alone_get();
+    each_pot_is_shared();
+    splitting_keeps_others();
+    work_pays_all_at_once();
+    nobody_is_taught_twice();
+    months_have_no_order();
+}

@@ -1,0 +1,252 @@
+//! Which orders phases have, and in which order, by hand.
+use super::months::{month, world};
+use super::phases::{Forming, Giving, Recruiting, Studying, Working};
+use atl_instant::{Arrangement, Month, MonthLongVerbs, PhaseVerbs};
+use atl_orders::Verb;
+use atl_state::{Event, EventVerb, Outcome};
+use atl_tables::World;
+use std::alloc::Global;
+use std::process::Abort;
+use std::test::Fail;
+
+fn row_is(rt: &impl Abort, row: &str, told: &str, wanted: &str) {
+    assert_eq!(rt; told, wanted, "at {row}");
+}
+
+/// Adds the orders of a phase: unit, line, faction and keyword of each.
+fn tell<P: PhaseVerbs>(
+    alloc: Global,
+    month: &Month,
+    phase: &P,
+    arrangement: Arrangement,
+    told: &mut String,
+) -> Result<(), Fail> {
+    for order in month.orders(alloc, phase, arrangement)?.iter() {
+        let line = format!(in alloc;
+            "{} {} {} {};",
+            order.unit,
+            order.line,
+            order.faction,
+            order.verb.keyword()
+        )?;
+        told.push_str(&line)?;
+    }
+    told.push_str("|")?;
+    Ok(())
+}
+
+/// What the phases of FORM, GIVE, RECRUIT, STUDY and WORK have.
+fn told_of(alloc: Global, month: &Month) -> Result<String, Fail> {
+    let mut told = String::new(alloc);
+    tell(alloc, month, &Forming, Arrangement::ByFaction, &mut told)?;
+    tell(alloc, month, &Giving, Arrangement::ByUnit, &mut told)?;
+    tell(alloc, month, &Recruiting, Arrangement::ByUnit, &mut told)?;
+    tell(alloc, month, &Studying, Arrangement::ByUnit, &mut told)?;
+    tell(alloc, month, &Working, Arrangement::ByUnit, &mut told)?;
+    Ok(told)
+}
+
+/// Mailings, and what each phase has of them.
+const ROWS: [(&[&str], &str); 9] = [
+    (&[], "|||||"),
+    // Of month-long orders the last stands, whatever its verb.
+    (
+        &["#ATLANTIS 1\nUNIT 1\nWORK\nSTUDY sailing"],
+        "|||1 4 1 STUDY;||",
+    ),
+    (
+        &["#ATLANTIS 1\nUNIT 1\nSTUDY sailing\nUNIT 2\nWORK\nUNIT 1\nMOVE north"],
+        "||||2 5 1 WORK;|",
+    ),
+    // So with RECRUIT, and GIVE stands each time.
+    (
+        &["#ATLANTIS 1\nUNIT 1\nRECRUIT 2\nGIVE 2 1 wood\nRECRUIT 3\nGIVE 2 1 wood\nPAY 2 1"],
+        "|1 4 1 GIVE;1 6 1 GIVE;1 7 1 PAY;|1 5 1 RECRUIT;|||",
+    ),
+    // Aliases without a unit are all unit 0.
+    (
+        &["#ATLANTIS 1\nUNIT 4\nFORM 1\nWORK\nEND\nFORM 2\nSTUDY sailing"],
+        "4 3 1 FORM;4 6 1 FORM;|||0 7 1 STUDY;||",
+    ),
+    // By unit, then by line, then by faction.
+    (
+        &[
+            "#ATLANTIS 3\nUNIT 2\nPAY 1 1\nUNIT 1\nPAY 2 1",
+            "#ATLANTIS 1\nUNIT 2\nPAY 1 1\n\nPAY 3 1",
+        ],
+        "|1 5 3 PAY;2 3 1 PAY;2 3 3 PAY;2 5 1 PAY;||||",
+    ),
+    (
+        &[
+            "#ATLANTIS 1\nUNIT 2\nPAY 1 1\n\nPAY 3 1",
+            "#ATLANTIS 3\nUNIT 2\nPAY 1 1\nUNIT 1\nPAY 2 1",
+        ],
+        "|1 5 3 PAY;2 3 1 PAY;2 3 3 PAY;2 5 1 PAY;||||",
+    ),
+    // FORM by faction, then by line.
+    (
+        &[
+            "#ATLANTIS 2\nUNIT 1\nFORM 1\nEND",
+            "#ATLANTIS 1\nUNIT 9\nFORM 7\nEND\nUNIT 8\nFORM 1\nEND",
+        ],
+        "9 3 1 FORM;8 6 1 FORM;1 3 2 FORM;|||||",
+    ),
+    // A unit that two factions give orders has the slots of both.
+    (
+        &[
+            "#ATLANTIS 2\nUNIT 1\nWORK",
+            "#ATLANTIS 1\nUNIT 1\nWORK\nWORK",
+        ],
+        "||||1 3 2 WORK;1 4 1 WORK;|",
+    ),
+];
+
+fn row_tells(
+    rt: &impl Abort,
+    alloc: Global,
+    world: &World,
+    texts: &[&str],
+    wanted: &str,
+) -> Result<(), Fail> {
+    let month = month(alloc, world, texts)?;
+    let told = told_of(alloc, &month)?;
+    row_is(rt, wanted, told.as_str(), wanted);
+    Ok(())
+}
+
+fn rows_tell(rt: &impl Abort, alloc: Global, world: &World) -> Result<(), Fail> {
+    for (texts, wanted) in ROWS.iter() {
+        row_tells(rt, alloc, world, texts, wanted)?;
+    }
+    Ok(())
+}
+
+#[test]
+fn orders_of_phases(rt: HostRuntime) -> Result<(), Fail> {
+    let world = world(rt.alloc())?;
+    rows_tell(&rt, rt.alloc(), &world)
+}
+
+/// FORM 1 of faction 1 made unit 7, and FORM 2 of faction 2 unit 6.
+fn formed(alloc: Global, world: &World) -> Result<Month, Fail> {
+    let first = "#ATLANTIS 1\nUNIT 4\nFORM 1\nWORK\nEND\nFORM 2\nWORK";
+    let second = "#ATLANTIS 2\nUNIT 5\nFORM 1\nSTUDY sailing\nEND\nFORM 2\nWORK";
+    let mut month = month(alloc, world, &[second, first])?;
+    month.set_alias(alloc, 1, 1, 7)?;
+    month.set_alias(alloc, 2, 2, 6)?;
+    Ok(month)
+}
+
+/// The month-long orders that stand.
+fn month_long_are(
+    rt: &impl Abort,
+    alloc: Global,
+    world: &World,
+    texts: &[&str],
+    wanted: &str,
+) -> Result<(), Fail> {
+    let month = month(alloc, world, texts)?;
+    let mut told = String::new(alloc);
+    tell(
+        alloc,
+        &month,
+        &MonthLongVerbs,
+        Arrangement::ByUnit,
+        &mut told,
+    )?;
+    row_is(rt, wanted, told.as_str(), wanted);
+    Ok(())
+}
+
+#[test]
+fn month_long_orders(rt: HostRuntime) -> Result<(), Fail> {
+    let world = world(rt.alloc())?;
+    let first =
+        "#ATLANTIS 1\nUNIT 2\nWORK\nTAX\nMOVE north\nUNIT 1\nSTUDY sailing\nBUILD\nGIVE 2 1 wood";
+    let second =
+        "#ATLANTIS 2\nUNIT 2\nSAIL east\nUNIT 3\nTEACH 1\nUNIT 4\nPRODUCE wood\nUNIT 5\nTAX";
+    month_long_are(
+        &rt,
+        rt.alloc(),
+        &world,
+        &[second, first],
+        "1 8 1 BUILD;2 3 2 SAIL;2 5 1 MOVE;3 5 2 TEACH;4 7 2 PRODUCE;|",
+    )
+}
+
+fn aliases_are(rt: &impl Abort, month: &Month) {
+    assert!(rt; month.alias(1, 1) == Some(7));
+    assert!(rt; month.alias(1, 2).is_none());
+    assert!(rt; month.alias(2, 2) == Some(6));
+    assert!(rt; month.alias(3, 1).is_none());
+}
+
+fn formed_tells(rt: &impl Abort, alloc: Global, month: &Month) -> Result<(), Fail> {
+    aliases_are(rt, month);
+    let told = told_of(alloc, month)?;
+    row_is(
+        rt,
+        "aliases",
+        told.as_str(),
+        "4 3 1 FORM;4 6 1 FORM;5 3 2 FORM;5 6 2 FORM;|||0 4 2 STUDY;|0 7 1 WORK;6 7 2 WORK;7 4 1 WORK;|",
+    );
+    Ok(())
+}
+
+#[test]
+fn aliases_of_factions(rt: HostRuntime) -> Result<(), Fail> {
+    let world = world(rt.alloc())?;
+    let month = formed(rt.alloc(), &world)?;
+    formed_tells(&rt, rt.alloc(), &month)
+}
+
+const EVENT: Event = Event {
+    faction: 1,
+    unit: 4,
+    line: 3,
+    verb: EventVerb::Order(Verb::Form),
+    outcome: Outcome::Done(7),
+};
+
+fn is_verb(rt: &impl Abort, told: Option<Verb>, wanted: Option<Verb>) {
+    assert!(rt; told == wanted);
+}
+
+/// The verb of the order at a place of a faction's mailing.
+fn verb_at(month: &Month, faction: u32, place: usize) -> Option<Verb> {
+    let (_, order) = month.order(faction, place)?;
+    Some(order.verb())
+}
+
+/// The orders at places, as far as there are any, and the mailings.
+fn orders_are(rt: &impl Abort, month: &Month) {
+    is_verb(rt, verb_at(month, 1, 1), Some(Verb::Work));
+    is_verb(rt, verb_at(month, 2, 1), Some(Verb::Study));
+    is_verb(rt, verb_at(month, 2, 4), None);
+    is_verb(rt, verb_at(month, 3, 0), None);
+    assert!(rt;
+        month
+            .mailing(2)
+            .map(|mailing| mailing.entries.as_slice().len())
+            == Some(4)
+    );
+    assert!(rt; month.mailing(3).is_none());
+}
+
+fn events_are(rt: &impl Abort, mut month: Month) -> Result<(), Fail> {
+    assert!(rt; month.events().is_empty());
+    month.tell(EVENT)?;
+    assert!(rt; month.events() == [EVENT].as_slice());
+    assert!(rt; month.words() == [7, 9].as_slice());
+    let events = month.into_events();
+    assert!(rt; events.len() == 1);
+    Ok(())
+}
+
+#[test]
+fn orders_and_events(rt: HostRuntime) -> Result<(), Fail> {
+    let world = world(rt.alloc())?;
+    let month = formed(rt.alloc(), &world)?;
+    orders_are(&rt, &month);
+    events_are(&rt, month)
+}

@@ -1,0 +1,195 @@
+//! Pots of two regions, worked out by hand.
+ghost use Rattle.std.specs.Prelude.{IfOk, ⊤};
+ghost use Rattle.atl_market.specs.Pots.{AreWants};
+ghost use Rattle.atl_month_tests.specs.Places.{pot_in};
+
+use atl_market::{Pots, pot_shares};
+use atl_state::{Campaign, Holding, LAST_UNIT, Unit, founded};
+use atl_tables::{Numbered, Text, World, read_world};
+use std::alloc::Global;
+use std::process::Abort;
+use std::test::Fail;
+
+/// Two regions, 1 and 2.
+const WORLD: &str = r#"[rules]
+maintenance = 10
+tax_per_man = 10
+recruit_price = 50
+recruit_fraction = 4
+growth = 0
+income = 1
+start_money = 1000
+man_weight = 10
+man_carry = 5
+[[terrain]]
+name = "plain"
+land = true
+wage = 12
+places = 100
+money_limit = 5000
+peasant_limit = 2000
+[[region]]
+number = 1
+name = "Vale"
+terrain = "plain"
+peasants = 1000
+money = 500
+east = 2
+[[region]]
+number = 2
+name = "Dale"
+terrain = "plain"
+peasants = 1000
+money = 500
+west = 1
+"#;
+
+/// The pots of regions 1 and 2.
+#[derive(Drop)]
+struct Places {
+    first: u16,
+    second: u16,
+}
+
+impl Pots for Places {
+    ghost pot_of = { λ places. pot_in places.first places.second };
+
+    ghost ready = { λ _. ⊤ };
+
+    fn pot(&self, region: u32) -> u64 {
+        match region {
+            1 => u64::from(self.first),
+            2 => u64::from(self.second),
+            _ => 0,
+        }
+    }
+}
+
+/// A unit's region, and what it wants, if it has a want.
+type Taker = (u32, Option<u16>);
+
+/// The units in their order, the pots of the two regions, and each unit's number with its share.
+const SHARED: [(&[Taker], (u16, u16), &str); 8] = [
+    (&[], (100, 100), ""),
+    (
+        &[(1, Some(50)), (1, Some(60)), (1, Some(70))],
+        (100, 0),
+        "1 27;2 34;3 39;",
+    ),
+    // The takers of the two regions take turns.
+    (
+        &[
+            (1, Some(50)),
+            (2, Some(110)),
+            (1, Some(60)),
+            (2, Some(70)),
+            (1, Some(70)),
+        ],
+        (100, 100),
+        "1 27;2 61;3 34;4 39;5 39;",
+    ),
+    // A unit without a want is not listed.
+    (
+        &[(1, Some(50)), (1, None), (1, Some(60)), (1, Some(70))],
+        (100, 0),
+        "1 27;3 34;4 39;",
+    ),
+    // One that wants 0 is.
+    (
+        &[(1, Some(3)), (1, Some(0)), (1, Some(4))],
+        (7, 0),
+        "1 3;2 0;3 4;",
+    ),
+    (&[(1, Some(3)), (1, Some(4))], (0, 9), "1 0;2 0;"),
+    // What one region has left is not for the other.
+    (&[(1, Some(3)), (2, Some(4))], (9, 2), "1 3;2 2;"),
+    // Region 9 is not there.
+    (&[(9, Some(5)), (1, Some(5))], (5, 5), "2 5;"),
+];
+
+fn row_is(rt: &impl Abort, row: usize, told: &str, wanted: &str) {
+    assert_eq!(rt; told, wanted, "at {row}");
+}
+
+/// One man with nothing.
+fn one_man(alloc: Global) -> Result<Holding, Fail> {
+    let name = Text::from_str(alloc, "A man")?;
+    Ok(Holding::new(name, 1, 0, Numbered::new(alloc), Numbered::new(alloc)))
+}
+
+/// A unit comes, under the number that comes next.
+fn unit_comes(alloc: Global, campaign: &mut Campaign, region: u32) -> Result<(), Fail> {
+    let holding = one_man(alloc)?;
+    if campaign.next_unit() > LAST_UNIT || campaign.unit(campaign.next_unit()).is_some() {
+        return Err(Fail::new("a free number"));
+    }
+    campaign.begin_unit(Unit {
+        faction: 1,
+        region,
+        structure: 0,
+        holding,
+    })?;
+    Ok(())
+}
+
+/// The two regions with these units, numbered from 1.
+fn campaign_of(alloc: Global, world: &World, takers: &[Taker]) -> Result<Campaign, Fail> {
+    let mut campaign = founded(alloc, world, b"gm")?;
+    for (region, _) in takers {
+        unit_comes(alloc, &mut campaign, *region)?;
+    }
+    Ok(campaign)
+}
+
+fn wants_of(alloc: Global, takers: &[Taker]) -> Result<Numbered<u32>, Fail>
+    ensures { IfOk result (λ wants. AreWants wants) }
+{
+    let mut wants = Numbered::new(alloc);
+    let mut number: u32 = 0;
+    for (_, want) in takers {
+        number = number.wrapping_add(1);
+        if let Some(want) = want {
+            wants.insert(number, u32::from(*want))?;
+        }
+    }
+    Ok(wants)
+}
+
+fn told_of(alloc: Global, given: &Numbered<u32>) -> Result<String, Fail> {
+    let mut told = String::new(alloc);
+    for (number, share) in given.iter() {
+        let part = format!(in alloc; "{} {};", number, *share)?;
+        told.push_str(&part)?;
+    }
+    Ok(told)
+}
+
+fn shares(
+    alloc: Global,
+    world: &World,
+    takers: &[Taker],
+    pots: (u16, u16),
+) -> Result<String, Fail> {
+    let campaign = campaign_of(alloc, world, takers)?;
+    let wants = wants_of(alloc, takers)?;
+    let places = Places {
+        first: pots.0,
+        second: pots.1,
+    };
+    let given = pot_shares(alloc, &campaign, &places, &wants)?;
+    told_of(alloc, &given)
+}
+
+fn shares_all(rt: &impl Abort, alloc: Global, world: &World) -> Result<(), Fail> {
+    for (row, (takers, pots, wanted)) in SHARED.iter().enumerate() {
+        let told = shares(alloc, world, takers, *pots)?;
+        row_is(rt, row, told.as_str(), wanted);
+    }
+    Ok(())
+}
+
+#[test]
+fn pots_are_shared(rt: HostRuntime) -> Result<(), Fail> {
+    let world = read_world(rt.alloc(), WORLD)?;
+    shares_all(&rt, rt.alloc(), &world)
+}
