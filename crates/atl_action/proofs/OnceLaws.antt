@@ -16,6 +16,7 @@ use Rattle.atl_instant.specs.Course.{Aliases, Course}
 use Rattle.atl_instant.specs.PhaseOrders.{Task, orders_of}
 use Rattle.atl_instant.specs.declared.written.Arrangement.TheVariants.{ByUnit}
 use Rattle.atl_action.specs.Learners.{Learning}
+use Rattle.atl_action.specs.Limits.{places_each}
 use Rattle.atl_action.specs.Teach.{AreTaughtOnce, NobodyIsTaughtTwice, Taught, below_of, dealt, first_mentions, is_teaching, lesson, lesson_behind, listed, men_at, pupils_of, taught_out, teach, teach_by, teach_fault, teach_order, teach_pupils, unless_taught, untaught, with_taught}
 
 dealt_most : (places before want : ℕ) → dealt places before want ≤ want
@@ -47,9 +48,9 @@ module _ (c : State) where
     once_pupils : (u : Unit) (pupils : List ℕ) → AreTaughtOnce c (teach_pupils c learning taught n u pupils).0
     once_pupils u pupils = by_fault (first_mentions empty (below_of c learning n pupils)) (teach_fault u pupils (below_of c learning n pupils))
       where
-        by_fault : (ns : List ℕ) (o : Option EventFault) → AreTaughtOnce c (unless_taught taught o (lesson c taught (10 * u.holding.men) ns)).0
+        by_fault : (ns : List ℕ) (o : Option EventFault) → AreTaughtOnce c (unless_taught taught o (lesson c taught (places_each * u.holding.men) ns)).0
         by_fault ns (Some fault) = old
-        by_fault ns None = once_lesson taught (10 * u.holding.men) ns old
+        by_fault ns None = once_lesson taught (places_each * u.holding.men) ns old
 
     pub once_taught : AreTaughtOnce c (teach c aliases learning taught f n refs).0
     unfolding teach

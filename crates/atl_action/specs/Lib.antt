@@ -1,3 +1,4 @@
+pub mod Limits
 pub mod Ways
 pub mod Walk
 pub mod Sail

@@ -17,7 +17,7 @@ use Rattle.atl_state.specs.declared.records.Structure.{Structure}
 use Rattle.atl_state.specs.declared.records.Unit.{Unit}
 use Rattle.atl_state.specs.Good.{is_land_at, is_ship, size_of}
 use Rattle.atl_state.specs.Held.{Held, amount_of}
-use Rattle.atl_state.specs.Levels.{level_of, load_of}
+use Rattle.atl_state.specs.Levels.{level_in_any, load_of}
 use Rattle.atl_state.specs.Owners.{is_owned_by, with_place}
 use Rattle.atl_state.specs.State.{State, numbers_inside, with_guard, with_structure_region}
 use Rattle.atl_instant.specs.Inside.{inside}
@@ -53,13 +53,9 @@ abbrev pub capacity : Planet → Option Structure → ℕ
 capacity w None = 0
 capacity w (Some s) = option_map_or (λ k. k.capacity) (slice_get w.kinds s.kind) 0
 
--- the days that were studied of the world's skill of sailing, where it has one
-abbrev pub days_of_sailing : Planet → Held → ℕ
-days_of_sailing w h = option_map_or (λ s. amount_of h.days s) w.rules.sailing 0
-
--- what people are worth as a crew: each man his level of sailing
+-- what people are worth as a crew: each man his level in the world's skill of sailing
 abbrev pub crew_of : Planet → Held → ℕ
-crew_of w h = h.men * level_of (days_of_sailing w h) h.men
+crew_of w h = h.men * level_in_any h w.rules.sailing
 
 abbrev pub of_unit : (Held → ℕ) → Option Unit → ℕ
 of_unit f u = option_map_or (λ x. f x.holding) u 0

@@ -24,6 +24,7 @@ use Rattle.atl_instant.specs.Meaning.{Keeping, Meaning, Moving, most_moved, move
 use Rattle.atl_instant.specs.Outcomes.{first_fault, unless}
 use Rattle.atl_instant.specs.Steps.{IsOwnOrder, Reserve, Sparing, Step, carried_out, spares_others}
 use Rattle.atl_action.specs.Learners.{fee_of, is_studying, learners}
+use Rattle.atl_action.specs.Limits.{helped_days, month_days, taught_days}
 use Rattle.atl_action.specs.Teach.{Taught, taught_out}
 
 abbrev pub takes_study : Said → Bool
@@ -43,7 +44,7 @@ is_helpful w s (Some b) = b.done == size_of w b.kind && option_map_or (λ k. is_
 
 -- the days of so many men behind a month of study, of whom so many were taught
 abbrev pub days_after : (men old taught : ℕ) → (helped : Bool) → ℕ
-days_after men old taught helped = min (old + 30 * men + 30 * taught + (if helped then 10 * men else 0)) (most_days * men)
+days_after men old taught helped = min (old + month_days * men + taught_days * taught + (if helped then helped_days * men else 0)) (most_days * men)
 
 -- ---- STUDY, of a unit of which so many men were taught
 

@@ -15,7 +15,7 @@ use Rattle.atl_state.specs.declared.event.Outcome.TheVariants.{Done, Fault}
 use Rattle.atl_state.specs.declared.records.Unit.{Unit}
 use Rattle.atl_state.specs.Events.{event_fault_number}
 use Rattle.atl_state.specs.Held.{amount_of}
-use Rattle.atl_state.specs.Levels.{level_of}
+use Rattle.atl_state.specs.Levels.{level_in}
 use Rattle.atl_state.specs.State.{State}
 use Rattle.atl_instant.specs.Course.{Aliases, Course}
 use Rattle.atl_instant.specs.Inside.{region_of}
@@ -24,6 +24,7 @@ use Rattle.atl_instant.specs.PhaseOrders.{Task, orders_of, unit_of}
 use Rattle.atl_instant.specs.Steps.{told}
 use Rattle.atl_instant.specs.declared.written.Arrangement.TheVariants.{ByUnit}
 use Rattle.atl_action.specs.Learners.{Learning}
+use Rattle.atl_action.specs.Limits.{places_each}
 
 abbrev pub is_teaching : Verb → Bool
 is_teaching verbs.Teach = true
@@ -41,7 +42,7 @@ Taught = FinMap nat_cmp ℕ
 -- ---- who of the listed units is taught
 
 abbrev pub level_at : State → (n skill : ℕ) → ℕ
-level_at c n s = option_map_or (λ u. level_of (amount_of u.holding.days s) u.holding.men) (get c.units n) 0
+level_at c n s = option_map_or (λ u. level_in u.holding s) (get c.units n) 0
 
 -- a unit of the region that is learning
 abbrev pub is_pupil : State → Learning → (region n : ℕ) → Bool
@@ -105,7 +106,7 @@ unless_taught taught None done = done
 abbrev pub teach_pupils : State → Learning → Taught → (n : ℕ) → Unit → (pupils : List ℕ) → Taught × Outcome
 teach_pupils c learning taught n u pupils =
     let below = below_of c learning n pupils in
-    unless_taught taught (teach_fault u pupils below) (lesson c taught (10 * u.holding.men) (first_mentions empty below))
+    unless_taught taught (teach_fault u pupils below) (lesson c taught (places_each * u.holding.men) (first_mentions empty below))
 
 abbrev pub teach_by : State → Aliases → Learning → Taught → (f n : ℕ) → List UnitRef → Option Unit → Taught × Outcome
 teach_by c aliases learning taught f n refs None = unless_taught taught (Some NotYours) (taught, Done 0)

@@ -3,6 +3,7 @@
 
 mod learn;
 mod learners;
+mod limits;
 mod sail;
 mod study;
 mod teach;

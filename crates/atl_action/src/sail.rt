@@ -9,12 +9,14 @@ ghost use Rattle.atl_state.specs.Owners.{is_owned_by};
 ghost use Rattle.atl_state.specs.State.{numbers_inside, with_structure_region};
 ghost use Rattle.atl_instant.specs.Steps.{IsOwnOrder};
 ghost use Rattle.atl_instant.specs.Unbooked.{books_nothing, moves_nothing};
-ghost use Rattle.atl_action.specs.Sail.{IsCarried, capacity, crew_needed, crew_of, days_of_sailing, is_complete_ship, is_sailing, is_way, of_unit, sail, sail_fault, sail_keeps, sail_meaning, sail_step, sailed, sum_inside, taken_along, takes_sailing};
+ghost use Rattle.atl_action.specs.Sail.{IsCarried, capacity, crew_needed, crew_of, is_complete_ship, is_sailing, is_way, of_unit, sail, sail_fault, sail_keeps, sail_meaning, sail_step, sailed, sum_inside, taken_along, takes_sailing};
 
 use crate::ways::{is_region, neighbour};
 use atl_instant::{Month, OrderPhase, Phase, PhaseVerbs, Written, carry_out_orders, failed};
 use atl_orders::{Direction, Mailing, Order, Verb};
-use atl_state::{Campaign, EventFault, Holding, Outcome, Structure, Unit, is_land_at, level, load};
+use atl_state::{
+    Campaign, EventFault, Holding, Outcome, Structure, Unit, is_land_at, level_in_any, load,
+};
 use atl_tables::{Kind, World};
 use std::alloc::{AllocError, Global};
 
@@ -78,22 +80,11 @@ fn is_owned_by(structure: Option<&Structure>, unit: u32) -> bool
     }
 }
 
-/// The days that people studied sailing.
-fn days_of_sailing(world: &World, holding: &Holding) -> u32
-    ensures { result ≡ days_of_sailing world.now holding.now }
-{
-    match world.rules().sailing {
-        Some(skill) => holding.days_of(u32::from(skill)),
-        None => 0,
-    }
-}
-
 /// What people are worth as a crew.
 fn crew_of(world: &World, holding: &Holding) -> u64
     ensures { result ≡ crew_of world.now holding.now }
 {
-    let men = holding.men();
-    u64::from(men) * u64::from(level(days_of_sailing(world, holding), men))
+    u64::from(holding.men()) * u64::from(level_in_any(holding, world.rules().sailing))
 }
 
 /// What a unit is worth as a crew.

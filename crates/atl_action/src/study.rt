@@ -20,8 +20,9 @@ ghost use Rattle.atl_action.specs.Learners.{fee_of, is_studying};
 ghost use Rattle.atl_action.specs.Study.{IsUnchanged, days_after, is_helpful, studied, study, study_fault, study_moves, study_reserve, study_step, takes_study, with_study};
 
 use crate::learners::cost_of;
+use crate::limits::{HELPED_DAYS, MONTH_DAYS, TAUGHT_DAYS};
 use crate::teach::taught_at;
-use atl_instant::{Month, OrderPhase, PhaseVerbs, Written, failed};
+use atl_instant::{Month, OrderPhase, PhaseVerbs, Written, book_taken, failed};
 use atl_orders::{Mailing, Order, Verb};
 use atl_state::{
     Campaign, Entry, EventFault, Holding, MOST_DAYS, Outcome, Structure, Thing, Unit, size_of,
@@ -60,8 +61,8 @@ fn days_after(men: u32, old: u32, taught: u32, helped: bool) -> u32
     ensures { result ≡ days_after men old taught helped }
 {
     let men = u64::from(men);
-    let help = if helped { 10 * men } else { 0 };
-    let days = u64::from(old) + 30 * men + 30 * u64::from(taught) + help;
+    let help = if helped { HELPED_DAYS * men } else { 0 };
+    let days = u64::from(old) + MONTH_DAYS * men + TAUGHT_DAYS * u64::from(taught) + help;
     days.min(u64::from(MOST_DAYS) * men) as u32
 }
 
@@ -105,16 +106,6 @@ fn learn_at(
     }
 }
 
-/// Books what is paid.
-fn book_cost(campaign: &mut Campaign, cost: u32)
-    requires there { 0 < length campaign.old.what.books }
-    requires room { HasRoom cost (amount_in campaign.old.what.books Study Money) }
-    ensures what { campaign.new.what ≡ with_amount campaign.old.what Study Money (neg_ℤ (pos cost)) }
-    ensures marks { campaign.new.marks ≡ mark_amount campaign.old Study Money }
-{
-    campaign.book(Entry::Study, Thing::Money, -i64::from(cost));
-}
-
 /// A unit that is there studies, and what it pays is booked.
 fn put_study(
     world: &World,
@@ -131,7 +122,7 @@ fn put_study(
     ensures marks { OnOk result (MarksChanges campaign.old campaign.new) }
 {
     learn_at(campaign, unit, skill, cost, days)?;
-    book_cost(campaign, cost);
+    book_taken(campaign, Entry::Study, Thing::Money, cost);
     Ok(())
 }
 

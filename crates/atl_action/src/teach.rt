@@ -4,11 +4,11 @@ ghost use Rattle.std.specs.FinMap as map;
 ghost use Rattle.atl_orders.specs.Orders.{said};
 ghost use Rattle.atl_state.specs.Held.{amount_of};
 ghost use Rattle.atl_state.specs.Limits.{men_limit};
-ghost use Rattle.atl_instant.specs.Inside.{region_of};
 ghost use Rattle.atl_action.specs.Learners.{found_written};
 ghost use Rattle.atl_action.specs.Teach.{NobodyIsTaughtTwice, below_of, first_mentions, is_below, is_pupil, is_teaching, lesson, lesson_behind, level_at, listed, pupils_of, taught_out, teach, teach_fault, teach_order, teach_pupils, untaught, with_taught};
 
-use atl_instant::{Arrangement, Month, PhaseVerbs, Written, failed};
+use crate::limits::PLACES_EACH;
+use atl_instant::{Arrangement, Month, PhaseVerbs, Written, failed, region_of};
 use atl_orders::{Order, UnitRef, Verb};
 use atl_state::{Campaign, Event, EventFault, EventVerb, Outcome, Unit, level};
 use atl_tables::Numbered;
@@ -41,16 +41,6 @@ fn level_at(campaign: &Campaign, unit: u32, skill: u32) -> u32
 {
     match campaign.unit(unit) {
         Some(found) => level(found.holding.days_of(skill), found.holding.men()),
-        None => 0,
-    }
-}
-
-/// The region where a unit stands, or 0.
-fn region_of(campaign: &Campaign, unit: u32) -> u32
-    ensures { result ≡ region_of campaign.now.what unit }
-{
-    match campaign.unit(unit) {
-        Some(found) => found.region,
         None => 0,
     }
 }
@@ -240,7 +230,13 @@ fn teach_pupils(
         return Ok(failed(fault));
     }
     let units = first_mentions(alloc, &below)?;
-    give_lesson(alloc, campaign, taught, 10 * unit.holding.men(), &units)
+    give_lesson(
+        alloc,
+        campaign,
+        taught,
+        PLACES_EACH * unit.holding.men(),
+        &units,
+    )
 }
 
 /// A unit teaches by an order of a faction, which lists units.

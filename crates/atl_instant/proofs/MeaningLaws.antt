@@ -24,7 +24,7 @@ near_same k a = record { above = omega (arith, ints); below = omega (arith, ints
 pub near_room : (j k : ℕ) (a b : ℤ) → IsNear j a b → HasRoom (j + k) a → HasRoom k b
 near_room j k a b near room = record { above = omega (arith, ints, near.above, room.above); below = omega (arith, ints, near.below, room.below) }
 
-less_room : (j k : ℕ) (a : ℤ) → j ≤ k → HasRoom k a → HasRoom j a
+pub less_room : (j k : ℕ) (a : ℤ) → j ≤ k → HasRoom k a → HasRoom j a
 less_room j k a l room = record { above = omega (arith, ints, room.above); below = omega (arith, ints, room.below) }
 
 -- one moves no amount further than the other

@@ -5,16 +5,18 @@ use Rattle.std.specs.FinMap.{get}
 use Rattle.atl_tables.specs.Planet.{Planet}
 use Rattle.atl_state.specs.declared.records.Structure.{Structure}
 use Rattle.atl_state.specs.declared.records.Unit.{Unit}
-use Rattle.atl_state.specs.Good.{Every, IsEarly, IsOwned, is_land_at, is_ship}
+use Rattle.atl_state.specs.Good.{Every, IsEarly, IsOwned, IsSteady, is_land_at, is_ship}
+use Rattle.atl_state.specs.declared.books.Thing.{Thing}
 use Rattle.atl_state.specs.Owners.{handed, heir, is_owned_by, placed, with_place, with_place_at}
 use Rattle.atl_state.specs.State.{State, numbers_inside, with_owner}
+use Rattle.atl_state.specs.Totals.{total}
 use Rattle.atl_state.proofs.EveryLaws.{every-insert, get-insert_other}
 use Rattle.atl_state.proofs.LeavingLaws.{owned_by}
 use Rattle.atl_state.proofs.RegionLaws.{changed-known, get-insert_same}
 use Rattle.atl_state.proofs.RemovedLaws.{IsListed, every-insert_other, first_of, listed_passing, passing_listed}
 use Rattle.atl_instant.specs.Steps.{StepsWell}
 use Rattle.atl_instant.specs.Unbooked.{books_nothing}
-use Rattle.atl_instant.proofs.RefitLaws.{IsRefit, IsRelabelled, early-refitted, refitted, total-refitted}
+use Rattle.atl_instant.proofs.RefitLaws.{IsRefit, IsRelabelled, early-refitted, refitted, steady-refitted, total-refitted}
 use Rattle.atl_instant.proofs.StructureLaws.{changed_else, equal, get-handed, handed_is, handed_on, is_equal, is_unequal, len-handed, unequal}
 use Rattle.atl_instant.proofs.UnbookedLaws.{unbooked_well}
 
@@ -40,7 +42,7 @@ relabelled_if false to y = record { kind = refl; region = refl; done = refl; nam
 relabelled_twice : (x y z : Structure) → IsRelabelled x y → IsRelabelled y z → IsRelabelled x z
 relabelled_twice x y z one two = record { kind = two.kind ∙ one.kind; region = two.region ∙ one.region; done = two.done ∙ one.done; name = λ old. two.name (one.name old) }
 
-module _ (w : Planet) (c : State) (n : ℕ) (u : Unit) (s : ℕ) (is : get c.units n ≡ Some u) (early : IsEarly w c) (apart : u.structure ≢ s) where
+module _ (w : Planet) (c : State) (n : ℕ) (u : Unit) (s : ℕ) (is : get c.units n ≡ Some u) (steady : IsSteady w c) (apart : u.structure ≢ s) where
   abbrev old_place : ℕ
   old_place = u.structure
 
@@ -59,8 +61,12 @@ module _ (w : Planet) (c : State) (n : ℕ) (u : Unit) (s : ℕ) (is : get c.uni
   abbrev gone_in : State
   gone_in = handed gone_out s 0 n
 
-  abbrev behind : State
-  behind = refitted w c n u s is gone_in.structures (λ q y. handed_on s 0 n q (handed_on old_place n next q y))
+  abbrev owner_behind : ℕ → Structure → Structure
+  owner_behind q y = handed_on s 0 n q (handed_on old_place n next q y)
+
+  -- the campaign behind it
+  abbrev pub behind : State
+  behind = refitted w c n u s is gone_in.structures owner_behind
 
   placed_is : with_place c n u.region s ≡ gone_in
   unfolding with_place
@@ -70,6 +76,9 @@ module _ (w : Planet) (c : State) (n : ℕ) (u : Unit) (s : ℕ) (is : get c.uni
   behind_is =
       handed_is gone_out s 0 n ∙ ap (λ (d : State). record d { structures = gone_in.structures }) (handed_is begun old_place n next)
       ∙ ap (λ m. record c { units = m; structures = gone_in.structures }) (changed-known (λ (x : Unit). record x { region = u.region; structure = s }) c.units n u is)
+
+  pub place_is : with_place c n u.region s ≡ behind
+  place_is = placed_is ∙ behind_is
 
   at : (q : ℕ) → get gone_in.structures q ≡ option_map (λ y. handed_on s 0 n q (handed_on old_place n next q y)) (get c.structures q)
   at q =
@@ -84,7 +93,7 @@ module _ (w : Planet) (c : State) (n : ℕ) (u : Unit) (s : ℕ) (is : get c.uni
   -- ---- who owns the structures then
 
   low : Every (λ k v. 1 ≤ k) c.units
-  low k v there = (early.steady.numbers.units k v there).0
+  low k v there = (steady.numbers.units k v there).0
 
   abbrev within : Unit → Bool
   within v = v.structure == old_place
@@ -107,7 +116,7 @@ module _ (w : Planet) (c : State) (n : ℕ) (u : Unit) (s : ℕ) (is : get c.uni
   -- a structure that keeps its owner
   still_owned : (q : ℕ) (y : Structure) → get c.structures q ≡ Some y → y.owner ≢ n → (y.owner ≡ 0 → s ≢ q) → IsOwned behind q y
   still_owned q y there other free =
-      let o = early.steady.owners q y there in
+      let o = steady.owners q y there in
       record {
         owned = λ some. let (v, here, inside) = o.owned some in (v, get-insert_other c.units n y.owner moved other ∙ here, inside);
         ownerless = λ none. every-insert (λ m v. v.structure ≢ q) c.units n moved (free none) (o.ownerless none);
@@ -121,7 +130,7 @@ module _ (w : Planet) (c : State) (n : ℕ) (u : Unit) (s : ℕ) (is : get c.uni
   not_owner : (q : ℕ) (y : Structure) → get c.structures q ≡ Some y → q ≢ old_place → y.owner ≢ n
   not_owner q y there other own =
       let least = low n u is in
-      let (v, here, inside) = (early.steady.owners q y there).owned (λ none. absurd (omega (arith, own, none, least))) in
+      let (v, here, inside) = (steady.owners q y there).owned (λ none. absurd (omega (arith, own, none, least))) in
       let one : Some v ≡ Some u = sym here ∙ ap (get c.units) own ∙ is in
       let unit : v ≡ u = cc in
       other (sym inside ∙ ap (λ (x : Unit). x.structure) unit)
@@ -146,7 +155,7 @@ module _ (w : Planet) (c : State) (n : ℕ) (u : Unit) (s : ℕ) (is : get c.uni
   -- ---- the campaign
 
   module _ (inside : s ≢ 0 → (x : Structure) × (get c.structures s ≡ Some x) × (x.region ≡ u.region)) (afloat : is_land_at w u.region ≡ false → (x : Structure) × (get c.structures s ≡ Some x) × (is_ship w x ≡ true)) where
-    refit : IsRefit w c n u s is gone_in.structures (λ q y. handed_on s 0 n q (handed_on old_place n next q y))
+    refit : IsRefit w c n u s is gone_in.structures owner_behind
     refit = record {
       at = at;
       count = len-handed gone_out s 0 n ∙ len-handed begun old_place n next;
@@ -156,12 +165,22 @@ module _ (w : Planet) (c : State) (n : ℕ) (u : Unit) (s : ℕ) (is : get c.uni
       afloat = afloat;
     }
 
-    pub place_well : StepsWell IsEarly books_nothing w c (with_place c n u.region s)
-    place_well =
-        subst (StepsWell IsEarly books_nothing w c) (sym (placed_is ∙ behind_is))
-        (unbooked_well w c behind (early-refitted w c n u s is gone_in.structures (λ q y. handed_on s 0 n q (handed_on old_place n next q y)) refit early)
-        (record { month = refl; reports = refl; count = refl; factions = λ k there. there }) refl
-        (total-refitted w c n u s is gone_in.structures (λ q y. handed_on s 0 n q (handed_on old_place n next q y))))
+    pub placed_steady : IsSteady w behind
+    placed_steady = steady-refitted w c n u s is gone_in.structures owner_behind refit steady
+
+    pub placed_early : IsEarly w c → IsEarly w behind
+    placed_early early = early-refitted w c n u s is gone_in.structures owner_behind refit early
+
+    pub placed_total : (t : Thing) → total behind t ≡ total c t
+    placed_total = total-refitted w c n u s is gone_in.structures owner_behind
+
+module _ (w : Planet) (c : State) (n : ℕ) (u : Unit) (s : ℕ) (is : get c.units n ≡ Some u) (early : IsEarly w c) (apart : u.structure ≢ s) where
+  pub place_well : (s ≢ 0 → (x : Structure) × (get c.structures s ≡ Some x) × (x.region ≡ u.region)) → (is_land_at w u.region ≡ false → (x : Structure) × (get c.structures s ≡ Some x) × (is_ship w x ≡ true)) → StepsWell IsEarly books_nothing w c (with_place c n u.region s)
+  place_well inside afloat =
+      let steady = early.steady in
+      subst (StepsWell IsEarly books_nothing w c) (sym (place_is w c n u s is steady apart))
+      (unbooked_well w c (behind w c n u s is steady apart) (placed_early w c n u s is steady apart inside afloat early)
+      (record { month = refl; reports = refl; count = refl; factions = λ k there. there }) refl (placed_total w c n u s is steady apart inside afloat))
 
 -- ---- other units stay
 

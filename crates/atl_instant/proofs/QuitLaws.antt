@@ -51,7 +51,7 @@ use Rattle.atl_instant.specs.Staying.{IsNoWorse}
 use Rattle.atl_instant.specs.Steps.{IsDrawn, IsOrderly, IsSpared, StepsWell, is_of_faction, is_own}
 use Rattle.atl_instant.proofs.AmountsLaws.{amount_within}
 use Rattle.atl_instant.proofs.BookingLaws.{booked-near, booked-room, within-neg}
-use Rattle.atl_instant.proofs.MeaningLaws.{near_more, near_same, near_twice, room_less}
+use Rattle.atl_instant.proofs.MeaningLaws.{less_room, near_more, near_same, near_twice, room_less}
 use Rattle.atl_instant.proofs.OutcomeLaws.{none_fits, not_apart}
 use Rattle.atl_instant.proofs.StayingLaws.{no_worse}
 use Rattle.atl_instant.proofs.StepLaws.{no_worse_spares, well_same, well_twice}
@@ -242,12 +242,9 @@ gone_marks things c d t amount grid inside what marks =
 
 pub first_room : (t : Thing) (amount : ℕ) (next : Moving) (c : State) → HaveRoom (both_move (moves_only amount (gone_under t) t) next) c → HasRoom amount (amount_in c.books (gone_under t) t)
 first_room t amount next c room =
-    less amount (moves_only amount (gone_under t) t (gone_under t) t + next (gone_under t) t) (amount_in c.books (gone_under t) t)
+    less_room amount (moves_only amount (gone_under t) t (gone_under t) t + next (gone_under t) t) (amount_in c.books (gone_under t) t)
     (at_least (amount_number (gone_under t) t == amount_number (gone_under t) t) (next (gone_under t) t) (same_number (amount_number (gone_under t) t))) (room (gone_under t) t)
   where
-    less : (j k : ℕ) (a : ℤ) → j ≤ k → HasRoom k a → HasRoom j a
-    less j k a l r = record { above = omega (arith, ints, r.above); below = omega (arith, ints, r.below) }
-
     at_least : (b : Bool) (m : ℕ) → b ≡ true → amount ≤ (if b then amount else 0) + m
     at_least true m t = omega arith
     at_least false m t = cc

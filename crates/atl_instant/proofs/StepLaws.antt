@@ -26,7 +26,7 @@ use Rattle.atl_instant.specs.declared.written.Written.{Written}
 use Rattle.atl_instant.specs.Staying.{IsNoWorse}
 use Rattle.atl_instant.specs.Steps.{AreSpared, Concern, IsDrawn, IsOrderly, IsSpared, IsSparing, Reserve, Sparing, Step, StepsWell, and_told, carried, carried_out, is_own, one_order}
 use Rattle.atl_instant.specs.declared.written.Arrangement.TheVariants.{ByUnit}
-use Rattle.atl_instant.proofs.MeaningLaws.{same_month}
+use Rattle.atl_instant.proofs.MeaningLaws.{less_room, same_month}
 use Rattle.atl_instant.proofs.StayingLaws.{no_worse, no_worse_twice}
 use Rattle.atl_instant.proofs.WrittenLaws.{orders_are_in_mailings}
 
@@ -79,10 +79,7 @@ leaves_well {holds} {reserve} {moving} w a b l h = record {
 
 -- room for all that a phase may move is room for what its orders may still move
 pub room_reserved : (reserve : Reserve) (moving : Moving) (c : State) → ((e : Entry) (t : Thing) → reserve c e t ≤ moving e t) → HaveRoom moving c → HaveRoom (reserve c) c
-room_reserved reserve moving c l room e t = less (reserve c e t) (moving e t) (amount_in c.books e t) (l e t) (room e t)
-  where
-    less : (j k : ℕ) (a : ℤ) → j ≤ k → HasRoom k a → HasRoom j a
-    less j k a l r = record { above = omega (arith, ints, r.above); below = omega (arith, ints, r.below) }
+room_reserved reserve moving c l room e t = less_room (reserve c e t) (moving e t) (amount_in c.books e t) (l e t) (room e t)
 
 -- ---- what stays
 

@@ -5,7 +5,7 @@ use Rattle.std.specs.List.{All, AllByRecursion}
 use Rattle.std.specs.Ordering.{nat_cmp}
 use Rattle.std.specs.FinMap.{FinMap, get, insert, values}
 use Rattle.std.proofs.lemmas.Bool.{cases_eq}
-use Rattle.std.proofs.lemmas.List.Elements.{All-from_recursion, recursion_from_All}
+use Rattle.std.proofs.lemmas.List.Elements.{recursion_from_All}
 use Rattle.std.proofs.lemmas.List.Sums.{sum_by_push}
 use Rattle.atl_tables.specs.Planet.{Planet}
 use Rattle.atl_tables.specs.Sums.{changed}
@@ -24,9 +24,9 @@ use Rattle.atl_state.proofs.RegionLaws.{get-insert_same}
 use Rattle.atl_instant.specs.Course.{Aliases, Course}
 use Rattle.atl_instant.specs.Meaning.{Keeping, Meaning, both_keep, then_also}
 use Rattle.atl_instant.specs.Outcomes.{unless}
-use Rattle.atl_instant.specs.PhaseOrders.{IsInMailing, Task, orders_of}
-use Rattle.atl_instant.specs.Staying.{AreNoWorse, IsNoWorse}
-use Rattle.atl_instant.specs.Steps.{Concern, IsOwnOrder, IsSpared, Sparing, Step, and_told, carried, carried_out, is_of_faction, is_own, one_order, spares_others, told}
+use Rattle.atl_instant.specs.PhaseOrders.{Task, orders_of}
+use Rattle.atl_instant.specs.Staying.{IsNoWorse}
+use Rattle.atl_instant.specs.Steps.{Concern, IsOwnOrder, IsSpared, Sparing, Step, and_told, carried, carried_out, is_own, one_order, spares_others, told}
 use Rattle.atl_instant.specs.Unmailed.{IsLeft, IsLessBy, starved_in, starved_told}
 use Rattle.atl_instant.specs.declared.written.Arrangement.{Arrangement}
 use Rattle.atl_instant.specs.declared.written.Arrangement.TheVariants.{ByUnit}

@@ -14,8 +14,8 @@ pub(crate) fn structure_of(campaign: &Campaign, unit: u32) -> u32
     }
 }
 
-/// The region where a unit stands, or 0.
-pub(crate) fn region_of(campaign: &Campaign, unit: u32) -> u32
+/// The number of the region where a unit stands; 0 where there is no such unit. It takes no memory.
+pub fn region_of(campaign: &Campaign, unit: u32) -> u32
     ensures { result ≡ region_of campaign.now.what unit }
 {
     match campaign.unit(unit) {

@@ -1,6 +1,7 @@
 //! The month that is played out at once: what it carries from phase to phase, and the orders of a phase.
 #![tactic(auto)]
 
+mod booking;
 mod form;
 mod give;
 mod guard;
@@ -19,9 +20,11 @@ mod terrain;
 mod transfer;
 mod written;
 
+pub use booking::book_taken;
 pub use form::FormPhase;
 pub use give::GivePhase;
 pub use guard::GuardPhase;
+pub use inside::region_of;
 pub use items::items_of;
 pub use month::{Month, mailings_have_no_order};
 pub use name::NamePhase;

@@ -12,6 +12,7 @@ ghost use Rattle.atl_instant.specs.Meaning.{HasRoom, HaveRoom, both_move, moves_
 ghost use Rattle.atl_instant.specs.Quit.{gone_under, is_quitting, item_gone, items_move, left_at, quit, quit_concerns, quit_fault, quit_keeps, quit_meaning, quit_moves, quit_reserve, quit_step, with_gone_amount};
 ghost use Rattle.atl_instant.specs.Staying.{IsNoWorse};
 
+use crate::booking::book_taken;
 use crate::items::items_of;
 use crate::month::Month;
 use crate::orders::PhaseVerbs;
@@ -45,7 +46,7 @@ fn book_gone(campaign: &mut Campaign, thing: Thing, amount: u32)
     ensures what { campaign.new.what ≡ with_gone_amount campaign.old.what thing amount }
     ensures marks { campaign.new.marks ≡ mark_amount campaign.old (gone_under thing) thing }
 {
-    campaign.book(gone_under(thing), thing, -i64::from(amount));
+    book_taken(campaign, gone_under(thing), thing, amount);
 }
 
 /// Books that items are gone.

@@ -27,6 +27,8 @@ use Rattle.atl_state.specs.declared.records.Unit.{Unit}
 use Rattle.atl_state.specs.Books.{entry_place}
 use Rattle.atl_state.specs.Deciding.{EachOf}
 use Rattle.atl_state.specs.Good.{IsSteady, is_land_at, size_of}
+use Rattle.atl_state.specs.Levels.{level_in}
+use Rattle.atl_state.proofs.BegunLaws.{IsFresh, built, built_is, nobody_inside, raised, raised_there}
 use Rattle.atl_state.specs.Held.{Held, IsHolding, amount_of}
 use Rattle.atl_state.specs.Limits.{holding_limit, most_structures, most_units}
 use Rattle.atl_state.specs.Owners.{with_place}
@@ -41,10 +43,12 @@ use Rattle.atl_instant.proofs.OutcomeLaws.{none_fits, not_less}
 use Rattle.atl_instant.proofs.PlacingLaws.{place_stays}
 use Rattle.atl_instant.proofs.StepLaws.{no_worse_spares, well_same, well_twice}
 use Rattle.atl_instant.proofs.UnbookedLaws.{other_spared}
-use Rattle.atl_market.specs.Build.{CanBuild, CanUse, begin, begin_by, begin_fault, begin_with, begun, build_moves, build_reserve, build_said, build_step, go_on, go_on_at, go_on_by, go_on_with, gone_on, inside_fault, level_in, new_structure, size_added, with_new}
-use Rattle.atl_market.proofs.BuildBegunLaws.{IsFresh, built, built_is, built_well, nobody_inside, raised, raised_there, raised_well, sort_name_ok}
+use Rattle.atl_market.specs.Build.{CanBuild, begin, begin_by, begin_fault, begin_with, begun, build_moves, build_reserve, build_said, build_step, go_on, go_on_at, go_on_by, go_on_with, gone_on, inside_fault, new_structure, size_added, with_new}
+use Rattle.atl_market.specs.Stock.{CanUse}
+use Rattle.atl_market.proofs.BuildBegunLaws.{built_well, raised_well, sort_name_ok}
 use Rattle.atl_market.proofs.BuildPlaceLaws.{place_well}
-use Rattle.atl_market.proofs.BuildUsedLaws.{others_stay, used, used_is, used_room, used_well, user, user_there}
+use Rattle.atl_market.proofs.BuildUsedLaws.{others_stay, used, used_for_well, used_room, user, user_there}
+use Rattle.atl_market.proofs.StockLaws.{used_is}
 
 true_false : {P : Type 0} → true ≡ false → P
 true_false e = cc
@@ -162,7 +166,7 @@ module _ (w : Planet) (c : State) (n kind : ℕ) (u : Unit) (k : Kind) (is : get
     good = can.kinds kind k kind_is
 
     one_well : StepsWell CanBuild build_reserve w c one
-    one_well = used_well w c n k.material size u is (size_held k u.holding 0) good.material can
+    one_well = used_for_well w c n k.material size u is (size_held k u.holding 0) good.material can
 
     abbrev new : Structure
     new = new_structure c.next_structure kind k u.region size
@@ -179,7 +183,7 @@ module _ (w : Planet) (c : State) (n kind : ℕ) (u : Unit) (k : Kind) (is : get
     }
 
     two : State
-    two = raised w one new fresh fit.room one_well.holds_still
+    two = raised w one new fresh fit.room one_well.holds_still.steady
 
     begun_well : StepsWell CanBuild build_reserve w c (begun c n kind k u.region size)
     unfolding two
@@ -187,9 +191,9 @@ module _ (w : Planet) (c : State) (n kind : ℕ) (u : Unit) (k : Kind) (is : get
         let between = one_well.holds_still in
         let two_well = raised_well w one new fresh fit.room between in
         let there = user_there w c n k.material size u is in
-        let apart = nobody_inside w one new fresh fit.room between n (user w c n k.material size u is) there in
+        let apart = nobody_inside w one new fresh fit.room between.steady n (user w c n k.material size u is) there in
         let three_well =
-        place_well w two n (user w c n k.material size u is) c.next_structure there two_well.holds_still apart (λ some. (new, raised_there w one new fresh fit.room between, refl)) (λ wet. true_false (sym fit.land ∙ wet)) in
+        place_well w two n (user w c n k.material size u is) c.next_structure there two_well.holds_still apart (λ some. (new, raised_there w one new fresh fit.room between.steady, refl)) (λ wet. true_false (sym fit.land ∙ wet)) in
         subst (StepsWell CanBuild build_reserve w c) (sym begun_is) (well_twice w c one (from_used one) one_well (well_twice w one two (from_used one) two_well three_well))
 
 -- ---- more of a structure is done
@@ -212,7 +216,7 @@ module _ (w : Planet) (c : State) (n : ℕ) (u : Unit) (s : Structure) (k : Kind
 
   module _ (there : get c.structures u.structure ≡ Some s) (kind_is : slice_get w.kinds s.kind ≡ Some k) (can : CanBuild w c) (fit : CanGoOn u s k) where
     paid_well : StepsWell CanBuild build_reserve w c paid
-    paid_well = used_well w c n k.material added u is (size_held k u.holding s.done) (can.kinds s.kind k kind_is).material can
+    paid_well = used_for_well w c n k.material added u is (size_held k u.holding s.done) (can.kinds s.kind k kind_is).material can
 
     most : s.done + added ≤ size_of w s.kind
     most = subst (λ x. s.done + added ≤ x) (sym (kind_size w s.kind k kind_is)) (up added s.done k.size (size_missing k u.holding s.done) fit.missing)
@@ -345,16 +349,15 @@ pub leaves_steady : (w : Planet) (c d : State) → LeavesWell CanBuild build_mov
 leaves_steady w c d h = record { leaves_it = h.leaves_it.steady; same_month = h.same_month; balances = h.balances; near = h.near }
 
 -- a unit can use what it holds
-pub can_use : (w : Planet) (c : State) (n item amount : ℕ) (u : Unit) → get c.units n ≡ Some u → amount ≤ amount_of u.holding.items item → item < length w.items → CanBuild w c → HaveRoom (build_reserve c) c → CanUse c n item amount
-can_use w c n item amount u is enough known can room =
-    let grid = can.steady.numbers.books in
-    record {
-      limits = λ m v there. (can.steady.numbers.units m v there).1;
-      grid = record { rows = refl; wide = grid.wide };
-      there = omega (arith, grid.rows, known);
-      enough = λ v there. let one : Some u ≡ Some v = sym is ∙ there in let unit : u ≡ v = cc in subst (λ (x : Unit). amount ≤ amount_of x.holding.items item) unit enough;
-      room = used_room c n item amount u is enough room;
-    }
+pub can_use : (w : Planet) (c : State) (n item amount : ℕ) (u : Unit) → get c.units n ≡ Some u → amount ≤ amount_of u.holding.items item → item < length w.items → CanBuild w c → HaveRoom (build_reserve c) c → CanUse w c n item amount
+can_use w c n item amount u is enough known can room = record {
+  unit = u;
+  there = is;
+  known = known;
+  enough = enough;
+  steady = can.steady;
+  room = used_room c n item amount u is enough room;
+}
 
 -- ---- what the code does is what is said
 

@@ -1,6 +1,5 @@
--- A unit leaves a structure for another of its region in a steady campaign: as in PlacingLaws of atl_instant, which speaks of early ones.
-use Rattle.std.proofs.Common.{◌≡◌, ◌≢◌, ◌==◌, ◌&&◌, ℕ, ◌+◌, ◌≤◌, Bool, true, false, not, Option, Some, None, refl, sym, ap, subst, ◌∙◌, arith}
-use Rattle.std.specs.Prelude.{option_map, if◌then◌else◌}
+-- A unit that builds leaves a structure for another of its region.
+use Rattle.std.proofs.Common.{◌≡◌, ◌≢◌, ℕ, ◌+◌, false, true, Some, refl, sym, subst, arith}
 use Rattle.std.specs.FinMap.{get}
 use Rattle.atl_tables.specs.Planet.{Planet}
 use Rattle.atl_tables.proofs.SumLaws.{sum_over-insert_known}
@@ -8,168 +7,29 @@ use Rattle.atl_state.specs.declared.books.Entry.{Entry}
 use Rattle.atl_state.specs.declared.books.Thing.{Thing}
 use Rattle.atl_state.specs.declared.records.Structure.{Structure}
 use Rattle.atl_state.specs.declared.records.Unit.{Unit}
-use Rattle.atl_state.specs.Good.{Every, IsOwned, is_land_at, is_ship}
-use Rattle.atl_state.specs.Owners.{handed, heir, placed, with_place, with_place_at}
-use Rattle.atl_state.specs.State.{State, numbers_inside}
-use Rattle.atl_state.proofs.EveryLaws.{every-insert, get-insert_other}
-use Rattle.atl_state.proofs.LeavingLaws.{owned_by}
-use Rattle.atl_state.proofs.RegionLaws.{changed-known, get-insert_same}
-use Rattle.atl_state.proofs.RemovedLaws.{IsListed, every-insert_other, first_of, listed_passing, passing_listed}
+use Rattle.atl_state.specs.Good.{is_land_at, is_ship}
+use Rattle.atl_state.specs.Owners.{with_place}
+use Rattle.atl_state.specs.State.{State}
 use Rattle.atl_instant.specs.Steps.{StepsWell}
-use Rattle.atl_instant.proofs.RefitLaws.{IsRefit, IsRelabelled, refitted, steady-refitted, total-refitted}
-use Rattle.atl_instant.proofs.StructureLaws.{equal, get-handed, handed_is, handed_on, is_equal, is_unequal, len-handed, unequal}
+use Rattle.atl_instant.proofs.PlacingLaws.{behind, place_is, placed_steady, placed_total}
 use Rattle.atl_market.specs.Build.{CanBuild, build_reserve, usable}
 use Rattle.atl_market.proofs.BuildBegunLaws.{still_well}
 
-not_true : (b : Bool) → not b ≡ true → b ≡ false
-not_true true h = cc
-not_true false h = refl
-
-not_false : (b : Bool) → not b ≡ false → b ≡ true
-not_false true h = refl
-not_false false h = cc
-
-true_false : {P : Type 0} → true ≡ false → P
-true_false e = cc
-
-mapped_twice : (f g : Structure → Structure) (o : Option Structure) → option_map f (option_map g o) ≡ option_map (λ y. f (g y)) o
-mapped_twice f g None = refl
-mapped_twice f g (Some y) = refl
-
-relabelled_if : (b : Bool) (to : ℕ) (y : Structure) → IsRelabelled y (if b then owned_by to y else y)
-relabelled_if true to y = record { kind = refl; region = refl; done = refl; name = λ old. old }
-relabelled_if false to y = record { kind = refl; region = refl; done = refl; name = λ old. old }
-
-relabelled_twice : (x y z : Structure) → IsRelabelled x y → IsRelabelled y z → IsRelabelled x z
-relabelled_twice x y z one two = record { kind = two.kind ∙ one.kind; region = two.region ∙ one.region; done = two.done ∙ one.done; name = λ old. two.name (one.name old) }
+cancelled : (a b h g : ℕ) → a + h ≡ b + g → g ≡ h → a ≡ b
+cancelled a b h g e f = omega (arith, e, f)
 
 module _ (w : Planet) (c : State) (n : ℕ) (u : Unit) (s : ℕ) (is : get c.units n ≡ Some u) (can : CanBuild w c) (apart : u.structure ≢ s) where
-  abbrev old_place : ℕ
-  old_place = u.structure
+  abbrev then : State
+  then = behind w c n u s is can.steady apart
 
-  abbrev next : ℕ
-  next = heir c old_place n
+  reserve_stays : (e : Entry) (t : Thing) → build_reserve then e t ≡ build_reserve c e t
+  reserve_stays e t =
+      let f = λ (x : Unit). usable e t x.holding in
+      let moved : Unit = record u { structure = s } in
+      cancelled (build_reserve then e t) (build_reserve c e t) (f u) (f moved) (sum_over-insert_known f c.units n u moved is) refl
 
-  abbrev moved : Unit
-  moved = record u { structure = s }
-
-  abbrev begun : State
-  begun = placed c n u.region s
-
-  abbrev gone_out : State
-  gone_out = handed begun old_place n next
-
-  abbrev gone_in : State
-  gone_in = handed gone_out s 0 n
-
-  abbrev behind : State
-  behind = refitted w c n u s is gone_in.structures (λ q y. handed_on s 0 n q (handed_on old_place n next q y))
-
-  placed_is : with_place c n u.region s ≡ gone_in
-  unfolding with_place
-  placed_is = ap (with_place_at c n u.region s) is ∙ ap (λ b. if b then begun else gone_in) (unequal old_place s apart)
-
-  behind_is : gone_in ≡ behind
-  behind_is =
-      handed_is gone_out s 0 n ∙ ap (λ (d : State). record d { structures = gone_in.structures }) (handed_is begun old_place n next)
-      ∙ ap (λ m. record c { units = m; structures = gone_in.structures }) (changed-known (λ (x : Unit). record x { region = u.region; structure = s }) c.units n u is)
-
-  at : (q : ℕ) → get gone_in.structures q ≡ option_map (λ y. handed_on s 0 n q (handed_on old_place n next q y)) (get c.structures q)
-  at q =
-      get-handed gone_out s 0 n q ∙ ap (option_map (handed_on s 0 n q)) (get-handed begun old_place n next q)
-      ∙ mapped_twice (handed_on s 0 n q) (handed_on old_place n next q) (get c.structures q)
-
-  same : (q : ℕ) (y : Structure) → IsRelabelled y (handed_on s 0 n q (handed_on old_place n next q y))
-  same q y =
-      let x = handed_on old_place n next q y in
-      relabelled_twice y x (handed_on s 0 n q x) (relabelled_if (q == old_place && y.owner == n) next y) (relabelled_if (q == s && x.owner == 0) n x)
-
-  -- ---- who owns the structures then
-
-  low : Every (λ k v. 1 ≤ k) c.units
-  low k v there = (can.steady.numbers.units k v there).0
-
-  abbrev within : Unit → Bool
-  within v = v.structure == old_place
-
-  listed_low : (k : ℕ) → IsListed k (numbers_inside old_place c.units) → 1 ≤ k
-  listed_low k h = let (v, there, t) = listed_passing within c.units k h in low k v there
-
-  heir_owns : (y : Structure) → IsOwned behind old_place (owned_by next y)
-  heir_owns y =
-      let first = first_of (λ k. not (k == n)) (numbers_inside old_place c.units) listed_low in
-      record {
-        owned = λ some.
-            let (listed, other) = first.0 some in
-            let (v, there, t) = listed_passing within c.units next listed in
-            (v, get-insert_other c.units n next moved (is_unequal next n (not_true (next == n) other)) ∙ there, is_equal v.structure old_place t);
-        ownerless = λ none. every-insert_other (λ m v. v.structure ≢ old_place) c.units n moved (λ back. apart (sym back))
-            (λ m v other there here. other (is_equal m n (not_false (m == n) (first.1 none m (passing_listed within c.units m v there (equal v.structure old_place here))))));
-      }
-
-  -- a structure that keeps its owner
-  still_owned : (q : ℕ) (y : Structure) → get c.structures q ≡ Some y → y.owner ≢ n → (y.owner ≡ 0 → s ≢ q) → IsOwned behind q y
-  still_owned q y there other free =
-      let o = can.steady.owners q y there in
-      record {
-        owned = λ some. let (v, here, inside) = o.owned some in (v, get-insert_other c.units n y.owner moved other ∙ here, inside);
-        ownerless = λ none. every-insert (λ m v. v.structure ≢ q) c.units n moved (free none) (o.ownerless none);
-      }
-
-  structure_in : Option Unit → Unit → ℕ
-  structure_in (Some x) v = x.structure
-  structure_in None v = v.structure
-
-  -- the unit owns no other structure
-  not_owner : (q : ℕ) (y : Structure) → get c.structures q ≡ Some y → q ≢ old_place → y.owner ≢ n
-  not_owner q y there other own =
-      let least = low n u is in
-      let (v, here, inside) = (can.steady.owners q y there).owned (λ none. absurd (omega (arith, own, none, least))) in
-      let one : Some v ≡ Some u = sym here ∙ ap (get c.units) own ∙ is in
-      let unit : v ≡ u = cc in
-      other (sym inside ∙ ap (λ (x : Unit). x.structure) unit)
-
-  entered_owned : (q : ℕ) (y : Structure) → get c.structures q ≡ Some y → q ≢ old_place → q ≡ s → (z : Bool) → (y.owner == 0) ≡ z → IsOwned behind q (if z then owned_by n y else y)
-  entered_owned q y there other here true t = record {
-    owned = λ some. (moved, get-insert_same c.units n moved, sym here);
-    ownerless = λ none. let least = low n u is in absurd (omega (arith, none, least));
-  }
-  entered_owned q y there other here false t = still_owned q y there (not_owner q y there other) (λ none. true_false (sym (equal y.owner 0 none) ∙ t))
-
-  abbrev given : (a e b : Bool) → Structure → Structure
-  given a e b y = let x = if a && e then owned_by next y else y in if b && x.owner == 0 then owned_by n x else x
-
-  by_tests : (q : ℕ) (y : Structure) → get c.structures q ≡ Some y → (a e b : Bool) → (q == old_place) ≡ a → (y.owner == n) ≡ e → (q == s) ≡ b → IsOwned behind q (given a e b y)
-  by_tests q y there true e true p r t = absurd (apart (sym (is_equal q old_place p) ∙ is_equal q s t))
-  by_tests q y there true true false p r t = subst (λ k. IsOwned behind k (owned_by next y)) (sym (is_equal q old_place p)) (heir_owns y)
-  by_tests q y there true false false p r t = still_owned q y there (is_unequal y.owner n r) (λ none here. is_unequal q s t (sym here))
-  by_tests q y there false e true p r t = entered_owned q y there (is_unequal q old_place p) (is_equal q s t) (y.owner == 0) refl
-  by_tests q y there false e false p r t = still_owned q y there (not_owner q y there (is_unequal q old_place p)) (λ none here. is_unequal q s t (sym here))
-
-  -- ---- the campaign
-
-  module _ (inside : s ≢ 0 → (x : Structure) × (get c.structures s ≡ Some x) × (x.region ≡ u.region)) (afloat : is_land_at w u.region ≡ false → (x : Structure) × (get c.structures s ≡ Some x) × (is_ship w x ≡ true)) where
-    refit : IsRefit w c n u s is gone_in.structures (λ q y. handed_on s 0 n q (handed_on old_place n next q y))
-    refit = record {
-      at = at;
-      count = len-handed gone_out s 0 n ∙ len-handed begun old_place n next;
-      same = λ q y there. same q y;
-      owned = λ q y there. by_tests q y there (q == old_place) (y.owner == n) (q == s) refl refl refl;
-      inside = inside;
-      afloat = afloat;
-    }
-
-    cancelled : (a b h g : ℕ) → a + h ≡ b + g → g ≡ h → a ≡ b
-    cancelled a b h g e f = omega (arith, e, f)
-
-    reserve_stays : (e : Entry) (t : Thing) → build_reserve behind e t ≡ build_reserve c e t
-    reserve_stays e t =
-        let f = λ (x : Unit). usable e t x.holding in
-        cancelled (build_reserve behind e t) (build_reserve c e t) (f u) (f moved) (sum_over-insert_known f c.units n u moved is) refl
-
-    pub place_well : StepsWell CanBuild build_reserve w c (with_place c n u.region s)
-    place_well =
-        subst (StepsWell CanBuild build_reserve w c) (sym (placed_is ∙ behind_is))
-        (still_well w c behind (record { steady = steady-refitted w c n u s is gone_in.structures (λ q y. handed_on s 0 n q (handed_on old_place n next q y)) refit can.steady; kinds = can.kinds })
-        (record { month = refl; reports = refl; count = refl; factions = λ k there. there }) refl
-        (total-refitted w c n u s is gone_in.structures (λ q y. handed_on s 0 n q (handed_on old_place n next q y))) reserve_stays)
+  pub place_well : (s ≢ 0 → (x : Structure) × (get c.structures s ≡ Some x) × (x.region ≡ u.region)) → (is_land_at w u.region ≡ false → (x : Structure) × (get c.structures s ≡ Some x) × (is_ship w x ≡ true)) → StepsWell CanBuild build_reserve w c (with_place c n u.region s)
+  place_well inside afloat =
+      subst (StepsWell CanBuild build_reserve w c) (sym (place_is w c n u s is can.steady apart))
+      (still_well w c then (record { steady = placed_steady w c n u s is can.steady apart inside afloat; kinds = can.kinds })
+      (record { month = refl; reports = refl; count = refl; factions = λ k there. there }) refl (placed_total w c n u s is can.steady apart inside afloat) reserve_stays)

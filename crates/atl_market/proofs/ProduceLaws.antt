@@ -15,22 +15,25 @@ use Rattle.atl_state.specs.declared.books.Thing.{Thing}
 use Rattle.atl_state.specs.declared.books.Thing.TheVariants as things
 use Rattle.atl_state.specs.declared.event.EventFault.{EventFault}
 use Rattle.atl_state.specs.declared.records.Unit.{Unit}
+use Rattle.atl_state.specs.Books.{amount_in}
 use Rattle.atl_state.specs.Deciding.{EachOf}
 use Rattle.atl_state.specs.Good.{Every, IsSteady}
 use Rattle.atl_state.specs.Held.{Held, amount_of, with_amount_of}
+use Rattle.atl_state.specs.Levels.{level_in_any}
 use Rattle.atl_state.specs.Limits.{holding_limit, most_units}
 use Rattle.atl_state.specs.Marks.{amount_number}
 use Rattle.atl_state.specs.State.{State}
 use Rattle.atl_state.proofs.BackLaws.{Rise, entries_rise}
 use Rattle.atl_state.proofs.EveryLaws.{each-from_every, every-empty, none_some}
-use Rattle.atl_instant.specs.Meaning.{HaveRoom, LeavesWell, Moving, both_move, moved_times, most_moved, moves_only}
+use Rattle.atl_instant.specs.Meaning.{HaveRoom, LeavesWell, Moving, both_move, most_moved, moved_times, moves_only}
 use Rattle.atl_instant.specs.declared.written.Written.{Written}
 use Rattle.atl_instant.proofs.AmountsLaws.{amount_within}
-use Rattle.atl_instant.proofs.MeaningLaws.{MovesLess, both_leave_well, room_behind, room_less, well_unchanged, well_within}
-use Rattle.atl_market.specs.Making.{CanMake, CanMakeOf, CanProduce, CanUse, Fits, step_most}
+use Rattle.atl_instant.proofs.MeaningLaws.{MovesLess, both_leave_well, less_room, room_behind, room_less, well_unchanged, well_within}
+use Rattle.atl_market.specs.Making.{CanMakeOf, CanProduce, Fits, step_most}
 use Rattle.atl_market.specs.PotPhase.{CanInTurn, fault_of, given_by, shared_out, want_at, want_by, wants_by}
 use Rattle.atl_market.specs.Pots.{with_each}
-use Rattle.atl_market.specs.Produce.{can_make, can_make_of, level_in, produce_moves, produced, produced_by, produced_of, producing, up_to_raw, with_made, with_raw_used, with_used}
+use Rattle.atl_market.specs.Produce.{can_make, can_make_of, produce_moves, produced, produced_by, produced_of, producing, up_to_raw, with_raw_used}
+use Rattle.atl_market.specs.Stock.{CanMake, CanUse, with_made, with_used}
 use Rattle.atl_market.specs.Unordered.{OthersAreNoWorse}
 use Rattle.atl_market.proofs.GroupLaws.{makes_give}
 use Rattle.atl_market.proofs.OrderedLaws.{others_no_worse}
@@ -81,6 +84,9 @@ made_step i e t = omega (arith, made_less i e t, twice e t)
 
 module _ (asked : FinMap nat_cmp ℕ) (w : Planet) (c : State) (e : ℕ × ℕ) where
   module _ (can : CanProduce asked w c e) (i : ℕ) (x : Item) (told : get asked e.0 ≡ Some i) (there : slice_get w.items i ≡ Some x) where
+    held : (r : ℕ) → amount_of can.unit.holding.items r ≤ holding_limit
+    held r = amount_within can.unit.holding r (can.steady.numbers.units e.0 can.unit can.there).1
+
     -- it can use the raw items
     can_use : (r : ℕ) → x.raw ≡ Some r → CanUse w c e.0 r (e.1 * x.raw_count)
     can_use r raw =
@@ -91,7 +97,7 @@ module _ (asked : FinMap nat_cmp ℕ) (w : Planet) (c : State) (e : ℕ × ℕ) 
           known = fits.raw_known r raw;
           enough = fits.raw r raw;
           steady = can.steady;
-          room = room_less (produce_moves holding_limit) (produce_moves step_most) c one_step can.room booked.Used (things.Item r);
+          room = less_room (e.1 * x.raw_count) holding_limit (amount_in c.books booked.Used (things.Item r)) (omega (arith, fits.raw r raw, held r)) (room_less (produce_moves holding_limit) (produce_moves step_most) c one_step can.room booked.Used (things.Item r));
         }
 
     can_at_once : CanMake w c e.0 i e.1
@@ -103,7 +109,7 @@ module _ (asked : FinMap nat_cmp ℕ) (w : Planet) (c : State) (e : ℕ × ℕ) 
           known = fits.known;
           fits = fits.fits;
           steady = can.steady;
-          room = room_less (produce_moves holding_limit) (produce_moves step_most) c one_step can.room booked.Made (things.Item i);
+          room = less_room e.1 holding_limit (amount_in c.books booked.Made (things.Item i)) (omega (arith, fits.fits)) (room_less (produce_moves holding_limit) (produce_moves step_most) c one_step can.room booked.Made (things.Item i));
         }
 
     can_behind : (r : ℕ) → x.raw ≡ Some r → CanMake w (with_used c e.0 r (e.1 * x.raw_count)) e.0 i e.1
@@ -118,8 +124,9 @@ module _ (asked : FinMap nat_cmp ℕ) (w : Planet) (c : State) (e : ℕ × ℕ) 
           known = fits.known;
           fits = below (amount_of h.items i) (amount_of can.unit.holding.items i) left fits.fits;
           steady = well.leaves_it;
-          room = room_behind (moves_only holding_limit booked.Used (things.Item r)) (produce_moves holding_limit) w c (with_used c e.0 r (e.1 * x.raw_count)) well
-              (room_less (both_move (moves_only holding_limit booked.Used (things.Item r)) (produce_moves holding_limit)) (produce_moves step_most) c (used_and_more r) can.room) booked.Made (things.Item i);
+          room = less_room e.1 holding_limit (amount_in (with_used c e.0 r (e.1 * x.raw_count)).books booked.Made (things.Item i)) (omega (arith, fits.fits))
+              (room_behind (moves_only holding_limit booked.Used (things.Item r)) (produce_moves holding_limit) w c (with_used c e.0 r (e.1 * x.raw_count)) well
+              (room_less (both_move (moves_only holding_limit booked.Used (things.Item r)) (produce_moves holding_limit)) (produce_moves step_most) c (used_and_more r) can.room) booked.Made (things.Item i));
         }
       where
         below : (a b : ℕ) → a ≤ b → b + e.1 ≤ holding_limit → a + e.1 ≤ holding_limit
@@ -136,7 +143,7 @@ module _ (asked : FinMap nat_cmp ℕ) (w : Planet) (c : State) (e : ℕ × ℕ) 
     pub can_make_item : CanMakeOf w c e.0 e.1 i x
     can_make_item = record {
       use_raw = can_use;
-      few_raw = λ r raw. omega (arith, (can.fits i x told there).raw r raw, amount_within can.unit.holding r (can.steady.numbers.units e.0 can.unit can.there).1);
+      few_raw = λ r raw. omega (arith, (can.fits i x told there).raw r raw, held r);
       make = can_make_then;
     }
 
@@ -234,7 +241,7 @@ module _ (asked : FinMap nat_cmp ℕ) (w : Planet) (c : State) (world : IsWorld 
   fits_by : (n made : ℕ) (u : Unit) → get c.units n ≡ Some u → made ≤ can_make w u.holding (get asked n) → (i : ℕ) (x : Item) → get asked n ≡ Some i → slice_get w.items i ≡ Some x → Fits w u made i x
   fits_by n made u there low i x told is =
       let all : made ≤ can_make_of u.holding i (Some x) = subst (λ o. made ≤ can_make_of u.holding i o) is (subst (λ o. made ≤ can_make w u.holding o) told low) in
-      let skilled = u.holding.men * level_in u.holding x.skill in
+      let skilled = u.holding.men * level_in_any u.holding x.skill in
       let most = min skilled (holding_limit - amount_of u.holding.items i) in
       record {
         known = slice_get_within w.items i x is;

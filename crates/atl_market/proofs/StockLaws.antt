@@ -31,8 +31,7 @@ use Rattle.atl_state.proofs.RegionLaws.{get-insert_same, steady-amount, total-am
 use Rattle.atl_instant.specs.Meaning.{LeavesWell, moves_only}
 use Rattle.atl_instant.proofs.AmountsLaws.{alike, amount_within, every_amount, set_amount}
 use Rattle.atl_instant.proofs.BookingLaws.{booked-near, within-neg, within-pos}
-use Rattle.atl_market.specs.Making.{CanMake, CanUse}
-use Rattle.atl_market.specs.Produce.{made_to, used_by, with_item, with_made, with_used}
+use Rattle.atl_market.specs.Stock.{CanMake, CanUse, made_to, used_by, with_item, with_made, with_used}
 
 moved : (x y t k a l : ℕ) (z : ℤ) → x ≡ y → y + k ≡ t + a → k ≡ l → pos a ≡ pos l +ℤ z → pos x ≡ pos t +ℤ z
 moved x y t k a l z e f g h = omega (arith, ints, e, f, g, h)
@@ -85,8 +84,8 @@ module _ (w : Planet) (c : State) (n : ℕ) (u : Unit) (i amount : ℕ) (is : ge
           by_test j (eq_by_cmp nat_cmp j i) refl (total after (Item j)) (total stocked (Item j)) (total c (Item j)) a
           (b ∙ ap (λ k. total c (Item j) + k) (set_amount u.holding.items i amount j))
 
-      pub stocked_well : i < length w.items → amount ≤ holding_limit → IsWithin holding_limit z → IsSteady w c → LeavesWell IsSteady (moves_only holding_limit e (Item i)) w c after
-      stocked_well known most small steady =
+      pub stocked_well : (limit : ℕ) → i < length w.items → amount ≤ holding_limit → IsWithin limit z → IsSteady w c → LeavesWell IsSteady (moves_only limit e (Item i)) w c after
+      stocked_well limit known most small steady =
           let has = may known most (may_have w c n u is steady) in
           let grid = steady.numbers.books in
           record {
@@ -97,7 +96,7 @@ module _ (w : Planet) (c : State) (n : ℕ) (u : Unit) (i amount : ℕ) (is : ge
             balances = λ old t.
                 total_of t (total-amount stocked e (Item i) t z) (total-held w c n u more is t)
                 ∙ ap (λ y. y +ℤ share_of t (Item i) z) (old t) ∙ sym (booked-with_booked (things_of w) c.books e (Item i) z grid (omega (arith, known)) t);
-            near = booked-near (things_of w) c.books e (Item i) z holding_limit grid (omega (arith, known)) small;
+            near = booked-near (things_of w) c.books e (Item i) z limit grid (omega (arith, known)) small;
           }
 
 -- ---- what is used
@@ -118,20 +117,25 @@ module _ (w : Planet) (c : State) (n i k : ℕ) where
   held_within : (u : Unit) → get c.units n ≡ Some u → IsSteady w c → amount_of u.holding.items i ≤ holding_limit
   held_within u is steady = amount_within u.holding i (steady.numbers.units n u is).1
 
+  -- what is used moves the books by so much and no further
+  pub used_up_to : (limit : ℕ) → k ≤ limit → (u : Unit) → get c.units n ≡ Some u → i < length w.items → k ≤ amount_of u.holding.items i → IsSteady w c → LeavesWell IsSteady (moves_only limit entries.Used (Item i)) w c (with_used c n i k)
+  used_up_to limit most u there known enough steady =
+      let a = amount_of u.holding.items i in
+      let within = held_within u there steady in
+      subst (λ d. LeavesWell IsSteady (moves_only limit entries.Used (Item i)) w c d) (sym (used_is u there))
+      (stocked_well w c n u i (a - k) there entries.Used (neg_ℤ (pos k)) (taken_off a k enough) limit known (omega (arith, within)) (within-neg k limit most) steady)
+
   pub used_well : CanUse w c n i k → LeavesWell IsSteady (moves_only holding_limit entries.Used (Item i)) w c (with_used c n i k)
   used_well can =
-      let u = can.unit in
-      let a = amount_of u.holding.items i in
-      let within = held_within u can.there can.steady in
-      subst (λ d. LeavesWell IsSteady (moves_only holding_limit entries.Used (Item i)) w c d) (sym (used_is u can.there))
-      (stocked_well w c n u i (a - k) can.there entries.Used (neg_ℤ (pos k)) (taken_off a k can.enough) can.known (omega (arith, within)) (within-neg k holding_limit (omega (arith, within, can.enough))) can.steady)
+      let within = held_within can.unit can.there can.steady in
+      used_up_to holding_limit (omega (arith, within, can.enough)) can.unit can.there can.known can.enough can.steady
 
   pub made_well : CanMake w c n i k → LeavesWell IsSteady (moves_only holding_limit entries.Made (Item i)) w c (with_made c n i k)
   made_well can =
       let u = can.unit in
       let a = amount_of u.holding.items i in
       subst (λ d. LeavesWell IsSteady (moves_only holding_limit entries.Made (Item i)) w c d) (sym (made_is u can.there))
-      (stocked_well w c n u i (a + k) can.there entries.Made (pos k) (put_to a k) can.known can.fits (within-pos k holding_limit (omega (arith, can.fits))) can.steady)
+      (stocked_well w c n u i (a + k) can.there entries.Made (pos k) (put_to a k) holding_limit can.known can.fits (within-pos k holding_limit (omega (arith, can.fits))) can.steady)
 
   -- the unit behind it
   pub used_unit : (u : Unit) → get c.units n ≡ Some u → get (with_used c n i k).units n ≡ Some (record u { holding = record u.holding { items = with_amount_of u.holding.items i (amount_of u.holding.items i - k) } })

@@ -17,19 +17,26 @@ use Rattle.atl_state.specs.State.{State}
 use Rattle.atl_instant.specs.Course.{Course}
 use Rattle.atl_instant.proofs.UnmailedLaws.{HaveTheirMen, LeavesUnmailed, SparesMen, carried_leaves, items_of_no_worse, men_put, men_same, men_stay, men_twice, men_unless, own_faction, unmailed_spared}
 use Rattle.atl_instant.proofs.UnmailedStepLaws.{place_men}
-use Rattle.atl_market.specs.Build.{begin, begin_by, begin_fault, begin_with, begun, build_keeps, build_meaning, build_said, build_step, go_on, go_on_at, go_on_by, go_on_with, gone_on, inside_fault, is_building, outside_fault, size_added, with_less, with_new, with_used, with_used_by}
+use Rattle.atl_market.specs.Build.{begin, begin_by, begin_fault, begin_with, begun, build_keeps, build_meaning, build_said, build_step, go_on, go_on_at, go_on_by, go_on_with, gone_on, inside_fault, is_building, outside_fault, size_added, with_new}
+use Rattle.atl_market.specs.Stock.{made_to, used_by, with_made, with_used}
 use Rattle.atl_market.specs.PotPhase.{PotMeaning}
 use Rattle.atl_market.specs.Produce as produce
 use Rattle.atl_market.proofs.UnmailedPotLaws.{others_items, paid_men, shared_leave}
 
--- ---- BUILD
+-- ---- what a unit uses
 
-used_men : (c : State) (n item amount : ℕ) → HaveTheirMen c (with_used c n item amount)
-used_men c n item amount = by_unit (get c.units n) refl
+-- a unit that is there has so much of an item
+abbrev stocked : (item amount : ℕ) → Unit → Unit
+stocked i amount u = record u { holding = record u.holding { items = with_amount_of u.holding.items i amount } }
+
+used_men : (c : State) (n i amount : ℕ) → HaveTheirMen c (with_used c n i amount)
+used_men c n i amount = by_unit (get c.units n) refl
   where
-    by_unit : (o : Option Unit) → get c.units n ≡ o → HaveTheirMen c (with_used_by c n item amount o)
+    by_unit : (o : Option Unit) → get c.units n ≡ o → HaveTheirMen c (used_by c n i amount o)
     by_unit None is = men_stay c
-    by_unit (Some u) is = men_put c (with_used_by c n item amount (Some u)) n u (record u { holding = with_less u.holding item amount }) is (record { faction = refl; men = refl }) refl
+    by_unit (Some u) is = men_put c (used_by c n i amount (Some u)) n u (stocked i (amount_of u.holding.items i - amount) u) is (record { faction = refl; men = refl }) refl
+
+-- ---- BUILD
 
 begun_men : (c : State) (n kind : ℕ) (k : Kind) (region size : ℕ) → HaveTheirMen c (begun c n kind k region size)
 begun_men c n kind k region size =
@@ -82,23 +89,12 @@ build_leaves = carried_leaves build_step (λ s. true) is_building build_spares (
 
 -- ---- PRODUCE
 
--- a unit that is there has so much of an item
-abbrev stocked : (item amount : ℕ) → Unit → Unit
-stocked i amount u = record u { holding = record u.holding { items = with_amount_of u.holding.items i amount } }
-
-raw_men : (c : State) (n i amount : ℕ) → HaveTheirMen c (produce.with_used c n i amount)
-raw_men c n i amount = by_unit (get c.units n) refl
-  where
-    by_unit : (o : Option Unit) → get c.units n ≡ o → HaveTheirMen c (produce.used_by c n i amount o)
-    by_unit None is = men_stay c
-    by_unit (Some u) is = men_put c (produce.used_by c n i amount (Some u)) n u (stocked i (amount_of u.holding.items i - amount) u) is (record { faction = refl; men = refl }) refl
-
-made_men : (c : State) (n i amount : ℕ) → HaveTheirMen c (produce.with_made c n i amount)
+made_men : (c : State) (n i amount : ℕ) → HaveTheirMen c (with_made c n i amount)
 made_men c n i amount = by_unit (get c.units n) refl
   where
-    by_unit : (o : Option Unit) → get c.units n ≡ o → HaveTheirMen c (produce.made_to c n i amount o)
+    by_unit : (o : Option Unit) → get c.units n ≡ o → HaveTheirMen c (made_to c n i amount o)
     by_unit None is = men_stay c
-    by_unit (Some u) is = men_put c (produce.made_to c n i amount (Some u)) n u (stocked i (amount_of u.holding.items i + amount) u) is (record { faction = refl; men = refl }) refl
+    by_unit (Some u) is = men_put c (made_to c n i amount (Some u)) n u (stocked i (amount_of u.holding.items i + amount) u) is (record { faction = refl; men = refl }) refl
 
 produced_men : (asked : FinMap nat_cmp ℕ) (w : Planet) (c : State) (e : ℕ × ℕ) → HaveTheirMen c (produce.produced asked w c e)
 unfolding produce.produced
@@ -106,13 +102,13 @@ produced_men asked w c e = by_item (get asked e.0)
   where
     by_raw : (amount : ℕ) (o : Option ℕ) → HaveTheirMen c (produce.with_raw_used c e.0 amount o)
     by_raw amount None = men_stay c
-    by_raw amount (Some raw) = raw_men c e.0 raw amount
+    by_raw amount (Some raw) = used_men c e.0 raw amount
 
     by_kind : (i : ℕ) (o : Option Item) → HaveTheirMen c (produce.produced_of c e i o)
     by_kind i None = men_stay c
     by_kind i (Some x) =
         let used = produce.with_raw_used c e.0 (e.1 * x.raw_count) x.raw in
-        men_twice c used (produce.with_made used e.0 i e.1) (by_raw (e.1 * x.raw_count) x.raw) (made_men used e.0 i e.1)
+        men_twice c used (with_made used e.0 i e.1) (by_raw (e.1 * x.raw_count) x.raw) (made_men used e.0 i e.1)
 
     by_item : (o : Option ℕ) → HaveTheirMen c (produce.produced_by w c e o)
     by_item None = men_stay c

@@ -1,5 +1,5 @@
 -- BUILD: units begin structures, and go on with those that they are inside. See docs/RULES.md, "Building".
-use Rattle.std.specs.Prelude.{◌≡◌, ◌≤◌, ◌<◌, length, ◌++◌, ℕ, pos, neg_ℤ, ◌+◌, ◌-◌, ◌*◌, ◌==◌, min, nat_le, nat_lt, not, Bool, true, false, List, [], ◌∷◌, codes, Option, Some, None, if◌then◌else◌}
+use Rattle.std.specs.Prelude.{◌≡◌, length, ◌++◌, ℕ, ◌+◌, ◌-◌, ◌*◌, ◌==◌, min, nat_le, nat_lt, not, Bool, true, false, List, [], ◌∷◌, codes, Option, Some, None, if◌then◌else◌}
 use Rattle.std.specs.Fmt.{decimal}
 use Rattle.std.specs.List.{slice_get}
 use Rattle.std.specs.FinMap.{get}
@@ -10,7 +10,7 @@ use Rattle.atl_orders.specs.declared.order.Order.TheVariants as orders
 use Rattle.atl_orders.specs.declared.verb.Verb.{Verb}
 use Rattle.atl_orders.specs.declared.verb.Verb.TheVariants as verbs
 use Rattle.atl_orders.specs.Orders.{Said}
-use Rattle.atl_state.specs.Books.{IsGrid, amount_in, entry_place, thing_place}
+use Rattle.atl_state.specs.Books.{entry_place}
 use Rattle.atl_state.specs.declared.books.Entry.{Entry}
 use Rattle.atl_state.specs.declared.books.Entry.TheVariants.{Used}
 use Rattle.atl_state.specs.declared.books.Thing.{Thing}
@@ -21,17 +21,17 @@ use Rattle.atl_state.specs.declared.event.Outcome.{Outcome}
 use Rattle.atl_state.specs.declared.event.Outcome.TheVariants.{Done}
 use Rattle.atl_state.specs.declared.records.Structure.{Structure}
 use Rattle.atl_state.specs.declared.records.Unit.{Unit}
-use Rattle.atl_state.specs.Good.{Every, IsSteady, is_land_at}
-use Rattle.atl_state.specs.Held.{Held, IsHolding, amount_of, with_amount_of}
-use Rattle.atl_state.specs.Lending.{with_held}
-use Rattle.atl_state.specs.Levels.{level_of}
+use Rattle.atl_state.specs.Good.{IsSteady, is_land_at}
+use Rattle.atl_state.specs.Held.{Held, amount_of}
+use Rattle.atl_state.specs.Levels.{level_in}
 use Rattle.atl_state.specs.Limits.{most_structures}
 use Rattle.atl_state.specs.Owners.{with_place}
-use Rattle.atl_state.specs.State.{State, with_amount, with_done, with_structure_begun}
-use Rattle.atl_instant.specs.Meaning.{HasRoom, Keeping, Meaning, Moving, most_moved}
+use Rattle.atl_state.specs.State.{State, with_done, with_structure_begun}
+use Rattle.atl_instant.specs.Meaning.{Keeping, Meaning, Moving, most_moved}
 use Rattle.atl_instant.specs.Outcomes.{first_fault, unless}
 use Rattle.atl_instant.specs.Staying.{IsNoWorse}
 use Rattle.atl_instant.specs.Steps.{IsOwnOrder, Reserve, Step, carried_out, spares_others}
+use Rattle.atl_market.specs.Stock.{with_used}
 
 abbrev pub is_building : Verb → Bool
 is_building verbs.Build = true
@@ -39,26 +39,9 @@ is_building verb = false
 
 -- ---- what a unit adds
 
--- the level of a unit's men in a skill
-abbrev pub level_in : Held → (skill : ℕ) → ℕ
-level_in h skill = level_of (amount_of h.days skill) h.men
-
 -- the least of men times level, the material held, and what is missing of a structure
 abbrev pub size_added : Kind → Held → (done : ℕ) → ℕ
 size_added k h done = min (min (h.men * level_in h k.skill) (amount_of h.items k.material)) (k.size - done)
-
--- ---- what it uses
-
-abbrev pub with_less : Held → (item amount : ℕ) → Held
-with_less h item amount = record h { items = with_amount_of h.items item (amount_of h.items item - amount) }
-
-abbrev pub with_used_by : State → (n item amount : ℕ) → Option Unit → State
-with_used_by c n item amount None = c
-with_used_by c n item amount (Some u) = with_amount (with_held c n (with_less u.holding item amount) (Some u)) Used (Item item) (neg_ℤ (pos amount))
-
--- a unit has so much less of an item, which is booked as used
-abbrev pub with_used : State → (n item amount : ℕ) → State
-with_used c n item amount = with_used_by c n item amount (get c.units n)
 
 -- ---- BUILD kind
 
@@ -173,11 +156,3 @@ build_moves e t = 0
 pub record CanBuild (w : Planet) (c : State) : Type 0 where
   pub steady : IsSteady w c
   pub kinds : (i : ℕ) (k : Kind) → slice_get w.kinds i ≡ Some k → IsKind (length w.items) (length w.skills) k
-
--- for proofs alone: a unit holds so much of an item, and there is room for what is booked of it
-pub record CanUse (c : State) (n item amount : ℕ) : Type 0 where
-  pub limits : Every (λ m u. IsHolding u.holding) c.units
-  pub grid : IsGrid (length c.books) c.books
-  pub there : thing_place (Item item) < length c.books
-  pub enough : (u : Unit) → get c.units n ≡ Some u → amount ≤ amount_of u.holding.items item
-  pub room : HasRoom amount (amount_in c.books Used (Item item))

@@ -5,18 +5,16 @@ use Rattle.std.specs.Ordering.{nat_cmp}
 use Rattle.std.specs.FinMap.{FinMap, get, insert}
 use Rattle.atl_tables.specs.Planet.{Planet}
 use Rattle.atl_tables.specs.declared.world.Item.{Item}
-use Rattle.atl_state.specs.declared.books.Entry.TheVariants.{Made, Used}
-use Rattle.atl_state.specs.declared.books.Thing.TheVariants as things
 use Rattle.atl_state.specs.declared.records.Unit.{Unit}
-use Rattle.atl_state.specs.Books.{amount_in}
 use Rattle.atl_state.specs.FromRows.{group_of}
 use Rattle.atl_state.specs.Good.{IsSteady}
 use Rattle.atl_state.specs.Held.{amount_of}
 use Rattle.atl_state.specs.Limits.{holding_limit}
 use Rattle.atl_state.specs.State.{State}
-use Rattle.atl_instant.specs.Meaning.{HasRoom, HaveRoom}
+use Rattle.atl_instant.specs.Meaning.{HaveRoom}
 use Rattle.atl_market.specs.Pots.{pot_shares}
 use Rattle.atl_market.specs.Produce.{gathered, output_at, produce_moves, with_raw_used}
+use Rattle.atl_market.specs.Stock.{CanMake, CanUse}
 
 abbrev pub Groups : Type 0
 Groups = FinMap nat_cmp (FinMap nat_cmp ℕ)
@@ -49,22 +47,7 @@ amount_of_group shares e (Some i) = amount_among (get shares i) e.0
 abbrev pub made_from : Planet → FinMap nat_cmp ℕ → Groups → ℕ × ℕ → ℕ
 made_from w asked shares e = amount_of_group shares e (gathered w asked e.0)
 
--- ---- a unit, by its number, can use and make so much of an item: it is there, holds enough or has room, and so have the books
-pub record CanUse (w : Planet) (c : State) (n i amount : ℕ) : Type 0 where
-  pub unit : Unit
-  pub there : get c.units n ≡ Some unit
-  pub known : i < length w.items
-  pub enough : amount ≤ amount_of unit.holding.items i
-  pub steady : IsSteady w c
-  pub room : HasRoom holding_limit (amount_in c.books Used (things.Item i))
-
-pub record CanMake (w : Planet) (c : State) (n i amount : ℕ) : Type 0 where
-  pub unit : Unit
-  pub there : get c.units n ≡ Some unit
-  pub known : i < length w.items
-  pub fits : amount_of unit.holding.items i + amount ≤ holding_limit
-  pub steady : IsSteady w c
-  pub room : HasRoom holding_limit (amount_in c.books Made (things.Item i))
+-- ---- what a unit can make
 
 -- it can use the raw items of so many, and make them then
 pub record CanMakeOf (w : Planet) (c : State) (n made i : ℕ) (x : Item) : Type 0 where

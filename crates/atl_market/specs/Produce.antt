@@ -1,5 +1,5 @@
 -- PRODUCE: units make items, of raw items or of what the terrain of their region gives. See docs/RULES.md, "Producing".
-use Rattle.std.specs.Prelude.{◌++◌, ◌+◌, ◌-◌, ◌*◌, ◌/◌, ◌==◌, ℕ, Bool, true, false, List, [], ◌∷◌, map, filter, min, pos, neg_ℤ, nat_lt, Option, Some, None, is_some, unwrap_or, option_and_then, if◌then◌else◌}
+use Rattle.std.specs.Prelude.{◌++◌, ◌-◌, ◌*◌, ◌/◌, ◌==◌, ℕ, Bool, true, false, List, [], ◌∷◌, map, filter, min, nat_lt, Option, Some, None, is_some, unwrap_or, option_and_then, if◌then◌else◌}
 use Rattle.std.specs.List.{flat_map, slice_get}
 use Rattle.std.specs.Ordering.{nat_cmp}
 use Rattle.std.specs.Option.{option_map_or}
@@ -15,12 +15,10 @@ use Rattle.atl_state.specs.declared.books.Entry.TheVariants.{Made, Used}
 use Rattle.atl_state.specs.declared.books.Thing.TheVariants as things
 use Rattle.atl_state.specs.declared.event.EventFault.{EventFault}
 use Rattle.atl_state.specs.declared.event.EventFault.TheVariants.{NoMaterial, NoMen, NoSkill}
-use Rattle.atl_state.specs.declared.records.Unit.{Unit}
-use Rattle.atl_state.specs.Held.{Held, amount_of, with_amount_of}
-use Rattle.atl_state.specs.Lending.{with_held}
-use Rattle.atl_state.specs.Levels.{level_of}
+use Rattle.atl_state.specs.Held.{Held, amount_of}
+use Rattle.atl_state.specs.Levels.{level_in_any}
 use Rattle.atl_state.specs.Limits.{holding_limit}
-use Rattle.atl_state.specs.State.{State, with_amount}
+use Rattle.atl_state.specs.State.{State}
 use Rattle.atl_instant.specs.Course.{Course, order_at}
 use Rattle.atl_instant.specs.Meaning.{Keeping, Meaning, Moving}
 use Rattle.atl_instant.specs.PhaseOrders.{orders_of, written}
@@ -31,6 +29,7 @@ use Rattle.atl_market.specs.Pots.{pot_shares, with_each}
 use Rattle.atl_market.specs.PotPhase.{PotMeaning, events_by, shared_out}
 use Rattle.atl_market.specs.Unordered.{OthersAreNoWorse}
 use Rattle.atl_market.specs.Work.{is_own}
+use Rattle.atl_market.specs.Stock.{with_made, with_used}
 
 abbrev pub is_produce : Verb → Bool
 is_produce verbs.Produce = true
@@ -59,14 +58,9 @@ items_asked readings c os = with_each empty (flat_map (asked_by readings c) os)
 
 -- ---- what a unit can make
 
--- the level of a unit in the skill of an item
-abbrev pub level_in : Held → Option ℕ → ℕ
-level_in h None = 0
-level_in h (Some skill) = level_of (amount_of h.days skill) h.men
-
 -- no skill makes the item, or the unit's level is too low
 abbrev pub is_unskilled : Held → Item → Bool
-is_unskilled h x = if is_some x.skill then nat_lt (level_in h x.skill) x.level else true
+is_unskilled h x = if is_some x.skill then nat_lt (level_in_any h x.skill) x.level else true
 
 -- so many, but no more than the raw items are enough for
 abbrev pub up_to_raw : Held → (count : ℕ) → Option ℕ → ℕ → ℕ
@@ -88,7 +82,7 @@ make_fault h (Some x) =
 
 abbrev pub can_make_of : Held → ℕ → Option Item → ℕ
 can_make_of h i None = 0
-can_make_of h i (Some x) = up_to_raw h x.raw_count x.raw (min (h.men * level_in h x.skill) (holding_limit - amount_of h.items i))
+can_make_of h i (Some x) = up_to_raw h x.raw_count x.raw (min (h.men * level_in_any h x.skill) (holding_limit - amount_of h.items i))
 
 -- How much of an item a unit can make: as much as its men can, as it has room for, and as its raw items are enough for.
 abbrev pub can_make : Planet → Held → Option ℕ → ℕ
@@ -133,25 +127,6 @@ abbrev pub makes : FinMap nat_cmp ℕ → Planet → State → FinMap nat_cmp �
 makes asked w c wants = with_each empty (map (λ e. (e.0, made_by w asked c wants e)) (entries wants))
 
 -- ---- what changes
-
--- a unit that is there holds so much of an item
-abbrev pub with_item : State → ℕ → Unit → (item amount : ℕ) → State
-with_item c n u i amount = with_held c n (record u.holding { items = with_amount_of u.holding.items i amount }) (Some u)
-
-abbrev pub used_by : State → ℕ → (item amount : ℕ) → Option Unit → State
-used_by c n i amount None = c
-used_by c n i amount (Some u) = with_amount (with_item c n u i (amount_of u.holding.items i - amount)) Used (things.Item i) (neg_ℤ (pos amount))
-
-abbrev pub made_to : State → ℕ → (item amount : ℕ) → Option Unit → State
-made_to c n i amount None = c
-made_to c n i amount (Some u) = with_amount (with_item c n u i (amount_of u.holding.items i + amount)) Made (things.Item i) (pos amount)
-
--- a unit, by its number, uses so much of an item, and makes so much of one; both is booked
-abbrev pub with_used : State → ℕ → (item amount : ℕ) → State
-with_used c n i amount = used_by c n i amount (get c.units n)
-
-abbrev pub with_made : State → ℕ → (item amount : ℕ) → State
-with_made c n i amount = made_to c n i amount (get c.units n)
 
 -- so much of the raw item is used, where one is named
 abbrev pub with_raw_used : State → ℕ → (amount : ℕ) → Option ℕ → State

@@ -19,13 +19,14 @@ ghost use Rattle.atl_state.specs.declared.records.Unit.{Unit};
 ghost use Rattle.atl_instant.specs.Meaning.{HasRoom, HaveRoom};
 ghost use Rattle.atl_instant.specs.Staying.{IsNoWorse};
 ghost use Rattle.atl_instant.specs.Steps.{IsOwnOrder};
-ghost use Rattle.atl_market.specs.Build.{CanBuild, CanUse, begin, begin_fault, begun, build_keeps, build_meaning, build_moves, build_reserve, build_step, go_on, gone_on, inside_fault, is_building, level_in, new_structure, outside_fault, size_added, sort_of, with_new, with_used};
+ghost use Rattle.atl_market.specs.Build.{CanBuild, begin, begin_fault, begun, build_keeps, build_meaning, build_moves, build_reserve, build_step, go_on, gone_on, inside_fault, is_building, new_structure, outside_fault, size_added, sort_of, with_new};
+ghost use Rattle.atl_market.specs.Stock.{CanUse};
 
+use crate::stock::use_item;
 use atl_instant::{Month, OrderPhase, Phase, PhaseVerbs, Written, carry_out_orders, failed};
 use atl_orders::{Mailing, Order, Verb};
 use atl_state::{
-    Campaign, Entry, EventFault, Holding, MOST_STRUCTURES, Outcome, Structure, Thing, Unit,
-    is_land_at, level,
+    Campaign, EventFault, Holding, MOST_STRUCTURES, Outcome, Structure, Unit, is_land_at, level_in,
 };
 use atl_tables::{Kind, Text, World};
 use std::alloc::{AllocError, Global};
@@ -33,14 +34,6 @@ use std::alloc::{AllocError, Global};
 /// Units begin structures, and go on with those that they are inside. See docs/RULES.md, "Building".
 #[derive(Drop, Clone, Copy)]
 pub struct BuildPhase;
-
-/// The level of a unit's men in a skill.
-fn level_in(holding: &Holding, skill: u16) -> u32
-    ensures value { result ≡ level_in holding.now skill }
-    ensures small { result ≤ last_level }
-{
-    level(holding.days_of(u32::from(skill)), holding.men())
-}
 
 /// A kind of the world by its number.
 fn kind_of(world: &World, number: u16) -> Option<&Kind>
@@ -105,42 +98,6 @@ fn inside_fault(unit: &Unit, structure: &Structure, kind: &Kind) -> Option<Event
     }
 }
 
-/// Sets how much of an item a unit holds that is there.
-fn set_item(campaign: &mut Campaign, number: u32, item: u32, amount: u32) -> Result<(), AllocError>
-    requires { amount ≤ holding_limit }
-    ensures { OnOk result ((u : Unit) → map.get campaign.old.what.units number ≡ Some u → campaign.new ≡ lent campaign.old number (record u.holding { items = with_amount_of u.holding.items item amount })) }
-{
-    match campaign.unit_mut(number) {
-        Some(holding) => holding.set_amount(item, amount),
-        None => Ok(()),
-    }
-}
-
-/// Books that so much of an item is used.
-fn book_used(campaign: &mut Campaign, item: u16, amount: u32)
-    requires there { thing_place (Item item) < length campaign.old.what.books }
-    requires room { HasRoom amount (amount_in campaign.old.what.books Used (Item item)) }
-    ensures what { campaign.new.what ≡ with_amount campaign.old.what Used (Item item) (neg_ℤ (pos amount)) }
-    ensures marks { campaign.new.marks ≡ mark_amount campaign.old Used (Item item) }
-{
-    campaign.book(Entry::Used, Thing::Item(item), -i64::from(amount));
-}
-
-/// A unit has so much less of an item, which is booked as used.
-fn use_up(campaign: &mut Campaign, number: u32, item: u16, amount: u32) -> Result<(), AllocError>
-    requires { CanUse campaign.old.what number item amount }
-    ensures what { OnOk result (campaign.new.what ≡ with_used campaign.old.what number item amount) }
-    ensures marks { OnOk result (MarksChanges campaign.old campaign.new) }
-{
-    let Some(unit) = campaign.unit(number) else {
-        return Ok(());
-    };
-    let left = unit.holding.amount(u32::from(item)) - amount;
-    set_item(campaign, number, u32::from(item), left)?;
-    book_used(campaign, item, amount);
-    Ok(())
-}
-
 /// The name of a structure that has none of its own yet: `Ship 7` or `Building 7`.
 fn name_of(alloc: Global, kind: &Kind, number: u32) -> Result<Text, AllocError>
     requires { number ≤ last_unit }
@@ -182,6 +139,7 @@ fn raise(
 /// A unit uses so much for a new structure, leaves its old one and enters this.
 fn start(
     alloc: Global,
+    world: &World,
     campaign: &mut Campaign,
     unit: u32,
     number: u16,
@@ -189,13 +147,13 @@ fn start(
     region: u32,
     size: u32,
 ) -> Result<(), AllocError>
-    requires uses { CanUse campaign.old.what unit kind.now.material size }
+    requires uses { CanUse world.now campaign.old.what unit kind.now.material size }
     requires fresh { map.get campaign.old.what.structures campaign.old.what.next_structure ≡ None }
     requires room { campaign.old.what.next_structure ≤ most_structures }
     ensures what { OnOk result (campaign.new.what ≡ begun campaign.old.what unit number kind.now region size) }
     ensures marks { OnOk result (MarksChanges campaign.old campaign.new) }
 {
-    use_up(campaign, unit, kind.material, size)?;
+    use_item(world, campaign, unit, kind.material, size)?;
     let next = raise(alloc, campaign, number, kind, region, size)?;
     campaign.place(unit, region, next)?;
     Ok(())
@@ -226,12 +184,13 @@ fn begin(
     }
     let size = size_added(found, &unit.holding, 0);
     let region = unit.region;
-    start(alloc, campaign, number, kind, found, region, size)?;
+    start(alloc, world, campaign, number, kind, found, region, size)?;
     Ok(Outcome::Done(u64::from(size)))
 }
 
 /// A unit uses so much for a structure, of which so much is done then.
 fn add(
+    world: &World,
     campaign: &mut Campaign,
     unit: u32,
     material: u16,
@@ -239,11 +198,11 @@ fn add(
     structure: u32,
     done: u32,
 ) -> Result<(), AllocError>
-    requires { CanUse campaign.old.what unit material size }
+    requires { CanUse world.now campaign.old.what unit material size }
     ensures what { OnOk result (campaign.new.what ≡ gone_on campaign.old.what unit material size structure done) }
     ensures marks { OnOk result (MarksChanges campaign.old campaign.new) }
 {
-    use_up(campaign, unit, material, size)?;
+    use_item(world, campaign, unit, material, size)?;
     campaign.set_done(structure, done);
     Ok(())
 }
@@ -271,7 +230,7 @@ fn go_on(world: &World, campaign: &mut Campaign, number: u32) -> Result<Outcome,
     }
     let size = size_added(kind, &unit.holding, structure.done);
     let done = structure.done + size;
-    add(campaign, number, kind.material, size, place, done)?;
+    add(world, campaign, number, kind.material, size, place, done)?;
     Ok(Outcome::Done(u64::from(size)))
 }
 

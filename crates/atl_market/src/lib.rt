@@ -1,7 +1,6 @@
 //! Pots, what is shared of them, and the phases in which units share them.
 #![tactic(auto)]
 
-mod booking;
 mod build;
 mod gathering;
 mod making;
@@ -10,6 +9,7 @@ pub mod pots;
 pub mod produce;
 pub mod recruit;
 pub mod shares;
+mod stock;
 pub mod tax;
 pub mod work;
 

@@ -10,11 +10,12 @@ ghost use Rattle.atl_state.specs.Lending.{lent};
 ghost use Rattle.atl_state.specs.Limits.{holding_limit};
 ghost use Rattle.atl_state.specs.declared.records.Unit.{Unit};
 ghost use Rattle.atl_tables.specs.declared.world.Item.{Item};
-ghost use Rattle.atl_market.specs.Making.{CanMake, CanMakeOf, CanUse};
-ghost use Rattle.atl_market.specs.Produce.{can_make, can_make_of, is_unskilled, item_of, lacks_raw, level_in, make_fault, produced_of, up_to_raw, with_made, with_raw_used, with_used};
+ghost use Rattle.atl_market.specs.Making.{CanMakeOf};
+ghost use Rattle.atl_market.specs.Produce.{can_make, can_make_of, is_unskilled, item_of, lacks_raw, make_fault, produced_of, up_to_raw, with_raw_used};
+ghost use Rattle.atl_market.specs.Stock.{CanUse};
 
-use crate::booking::book_taken;
-use atl_state::{Campaign, Entry, EventFault, HOLDING_LIMIT, Holding, Thing, level};
+use crate::stock::{make_item, use_item};
+use atl_state::{Campaign, EventFault, HOLDING_LIMIT, Holding, level_in_any};
 use atl_tables::{Item, World};
 use std::alloc::AllocError;
 
@@ -26,22 +27,11 @@ pub(crate) fn item_of(world: &World, asked: Option<u16>) -> Option<&Item>
     world.items().get(usize::from(asked?))
 }
 
-/// The level of a unit in the skill of an item.
-fn level_in(holding: &Holding, skill: Option<u16>) -> u32
-    ensures value { result ≡ level_in holding.now skill }
-    ensures small { result ≤ last_level }
-{
-    match skill {
-        Some(skill) => level(holding.days_of(u32::from(skill)), holding.men()),
-        None => 0,
-    }
-}
-
 /// Whether a unit hasn't the skill to make an item.
 fn is_unskilled(holding: &Holding, item: &Item) -> bool
     ensures { result ≡ is_unskilled holding.now item.now }
 {
-    item.skill.is_none() || level_in(holding, item.skill) < item.level
+    item.skill.is_none() || level_in_any(holding, item.skill) < item.level
 }
 
 /// Whether the raw items are enough for none.
@@ -92,7 +82,7 @@ fn can_make_of(holding: &Holding, number: u16, item: &Item) -> u32
     ensures value { result ≡ can_make_of holding.now number (Some item.now) }
     ensures bound { result ≤ most_amount }
 {
-    let skilled = holding.men() * level_in(holding, item.skill);
+    let skilled = holding.men() * level_in_any(holding, item.skill);
     let room = HOLDING_LIMIT.saturating_sub(holding.amount(u32::from(number)));
     up_to_raw(holding, item.raw_count, item.raw, skilled.min(room))
 }
@@ -106,63 +96,6 @@ pub(crate) fn can_make(world: &World, holding: &Holding, asked: Option<u16>) -> 
         (Some(number), Some(item)) => can_make_of(holding, number, item),
         _ => 0,
     }
-}
-
-/// How much of an item a unit holds that is there.
-fn held_of(campaign: &Campaign, number: u32, item: u16) -> u32
-    ensures { (u : Unit) → finmap.get campaign.now.what.units number ≡ Some u → result ≡ amount_of u.holding.items item }
-{
-    match campaign.unit(number) {
-        Some(unit) => unit.holding.amount(u32::from(item)),
-        None => 0,
-    }
-}
-
-/// Sets how much of an item a unit holds that is there.
-fn set_item(campaign: &mut Campaign, number: u32, item: u16, amount: u32) -> Result<(), AllocError>
-    requires { amount ≤ holding_limit }
-    ensures { OnOk result ((u : Unit) → finmap.get campaign.old.what.units number ≡ Some u → campaign.new ≡ lent campaign.old number (record u.holding { items = with_amount_of u.holding.items item amount })) }
-{
-    match campaign.unit_mut(number) {
-        Some(holding) => holding.set_amount(u32::from(item), amount),
-        None => Ok(()),
-    }
-}
-
-/// A unit uses so much of an item, which is booked.
-fn use_item(
-    world: &World,
-    campaign: &mut Campaign,
-    number: u32,
-    item: u16,
-    amount: u32,
-) -> Result<(), AllocError>
-    requires can { CanUse world.now campaign.old.what number item amount }
-    ensures what { OnOk result (campaign.new.what ≡ with_used campaign.old.what number item amount) }
-    ensures marks { OnOk result (MarksChanges campaign.old campaign.new) }
-{
-    let left = held_of(campaign, number, item) - amount;
-    set_item(campaign, number, item, left)?;
-    book_taken(campaign, Entry::Used, Thing::Item(item), amount);
-    Ok(())
-}
-
-/// A unit makes so much of an item, which is booked.
-fn make_item(
-    world: &World,
-    campaign: &mut Campaign,
-    number: u32,
-    item: u16,
-    amount: u32,
-) -> Result<(), AllocError>
-    requires can { CanMake world.now campaign.old.what number item amount }
-    ensures what { OnOk result (campaign.new.what ≡ with_made campaign.old.what number item amount) }
-    ensures marks { OnOk result (MarksChanges campaign.old campaign.new) }
-{
-    let more = held_of(campaign, number, item) + amount;
-    set_item(campaign, number, item, more)?;
-    campaign.book(Entry::Made, Thing::Item(item), i64::from(amount));
-    Ok(())
 }
 
 /// A unit uses the raw items of so many, where one is named.

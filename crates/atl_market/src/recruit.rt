@@ -13,10 +13,9 @@ ghost use Rattle.atl_instant.specs.Course.{order_at};
 ghost use Rattle.atl_instant.specs.Meaning.{HaveRoom, most_moved};
 ghost use Rattle.atl_market.specs.Recruit.{CanRecruit, asked_in, is_recruit, recruit_fault, recruit_keeps, recruit_meaning, recruit_moves, recruited, recruiting, recruits_at, recruits_wanted, with_men};
 
-use crate::booking::book_taken;
 use crate::pot_phase::{PotPhase, share_out, tell_all};
 use crate::pots::{Pots, pot_shares};
-use atl_instant::{Arrangement, Month, Phase, PhaseVerbs, Written};
+use atl_instant::{Arrangement, Month, Phase, PhaseVerbs, Written, book_taken};
 use atl_orders::{Order, Verb};
 use atl_state::{Campaign, Entry, EventFault, Holding, MEN_LIMIT, Thing, Unit};
 use atl_tables::{Numbered, World};

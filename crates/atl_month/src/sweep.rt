@@ -19,7 +19,7 @@ ghost use Rattle.atl_month.specs.Receivers.{AreReceivers};
 ghost use Rattle.atl_month.specs.Swept.{IsSwept};
 
 use crate::receivers::{Receivers, receiver_in, receivers_of};
-use atl_instant::{Month, Phase};
+use atl_instant::{Month, Phase, book_taken, items_of};
 use atl_state::{Campaign, Entry, Holding, Thing};
 use atl_tables::World;
 use atl_tables::limits::MOST_AMOUNT;
@@ -44,7 +44,7 @@ fn lose(campaign: &mut Campaign, thing: Thing, amount: u32)
     ensures what { campaign.new.what ≡ with_lost campaign.old.what thing amount }
     ensures marks { campaign.new.marks ≡ mark_amount campaign.old Lost thing }
 {
-    campaign.book(Entry::Lost, thing, -i64::from(amount));
+    book_taken(campaign, Entry::Lost, thing, amount);
 }
 
 /// Money goes to a unit, up to its room, and the rest is lost.
@@ -127,21 +127,6 @@ fn pass_items(
         pass_item(world, campaign, to, *item, *amount)?;
     }
     Ok(())
-}
-
-/// How much a unit holds of each item of the world.
-fn items_of(alloc: Global, world: &World, holding: &Holding) -> Result<Vec<(u16, u32)>, AllocError>
-    requires known { Every (λ i amount. i < length world.now.items) holding.now.items }
-    ensures { IfOk result (λ list. list.items ≡ map.entries holding.now.items) }
-{
-    let count = world.items().len();
-    let mut list = Vec::new(alloc);
-    for (item, amount) in holding.items() {
-        if (item as usize) < count {
-            list.push((item as u16, *amount))?;
-        }
-    }
-    Ok(list)
 }
 
 /// A unit without men passes on what it has, and is removed.

@@ -15,7 +15,7 @@ ghost use Rattle.atl_month.specs.Settling.{IsPurse};
 ghost use Rattle.atl_month.specs.Upkeep.{days_with, purses_of, starved_event, starves, supplied, takes_up_to, upkeep, upkeep_at, upkeep_keeps, upkeep_meaning};
 
 use crate::settling::{Purse, Settled, settle};
-use atl_instant::{Month, Phase};
+use atl_instant::{Month, Phase, book_taken};
 use atl_state::{Campaign, Entry, Event, EventVerb, Holding, Outcome, Thing};
 use atl_tables::{Numbered, World};
 use std::alloc::{AllocError, Global};
@@ -86,17 +86,6 @@ fn supply_unit(alloc: Global, campaign: &mut Campaign, settled: &Settled) -> Res
         Some(holding) => supply(alloc, settled, holding),
         None => Ok(()),
     }
-}
-
-/// Books what is taken away.
-fn book_taken(campaign: &mut Campaign, entry: Entry, thing: Thing, amount: u32)
-    requires there { thing_place thing < length campaign.old.what.books }
-    requires little { amount ≤ most_amount }
-    requires room { HasRoom most_amount (amount_in campaign.old.what.books entry thing) }
-    ensures what { campaign.new.what ≡ with_amount campaign.old.what entry thing (neg_ℤ (pos amount)) }
-    ensures marks { campaign.new.marks ≡ mark_amount campaign.old entry thing }
-{
-    campaign.book(entry, thing, -i64::from(amount));
 }
 
 /// The upkeep of a unit, which is booked.

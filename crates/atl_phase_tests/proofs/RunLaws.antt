@@ -1,18 +1,17 @@
 -- What the phases of the cases need.
-use Rattle.std.proofs.Common.{◌≡◌, ◌==◌, ◌&&◌, not, ℕ, ◌+◌, ◌≤◌, Bool, true, false, List, sym, subst, arith}
-use Rattle.std.specs.Prelude.{ℤ, if◌then◌else◌}
-use Rattle.std.proofs.lemmas.Int.{ints}
+use Rattle.std.proofs.Common.{◌≡◌, ◌==◌, ◌&&◌, not, ◌+◌, ◌≤◌, Bool, true, false, sym, subst, arith}
+use Rattle.std.specs.Prelude.{if◌then◌else◌}
 use Rattle.atl_tables.specs.Planet.{Planet}
 use Rattle.atl_state.specs.declared.books.Entry.{Entry}
 use Rattle.atl_state.specs.declared.books.Entry.TheVariants.{Births, Income, Lost, Starved, Upkeep, Wages}
 use Rattle.atl_state.specs.declared.books.Thing.{Thing}
 use Rattle.atl_state.specs.declared.books.Thing.TheVariants.{Money, People}
 use Rattle.atl_state.specs.Books.{amount_in, entry_place, thing_place}
-use Rattle.atl_state.specs.Good.{IsEarly, IsGood, IsSteady}
+use Rattle.atl_state.specs.Good.{IsGood}
 use Rattle.atl_state.specs.Marks.{amount_number}
 use Rattle.atl_state.specs.State.{State}
 use Rattle.atl_instant.specs.Meaning.{HasRoom, HaveRoom, Moving, both_move, most_moved}
-use Rattle.atl_instant.proofs.MeaningLaws.{room_when_sound}
+use Rattle.atl_instant.proofs.MeaningLaws.{room_less, room_when_sound}
 use Rattle.atl_month.specs.Month.{◌▷◌, PhaseTerms, building, early_orders, guarding, learning, producing, quitting, sailing, walking}
 use Rattle.atl_month.specs.Season.{grows_by}
 use Rattle.atl_month.specs.Sweep.{loses_by}
@@ -27,10 +26,7 @@ roomy_when_good w c d good books e t = subst (λ b. HasRoom much (amount_in b e 
 
 -- there is room for what moves less
 pub room_for : (c : State) (moving : Moving) → ((e : Entry) (t : Thing) → moving e t ≤ much) → IsRoomy c → HaveRoom moving c
-room_for c moving little room e t = less (moving e t) (amount_in c.books e t) (little e t) (room e t)
-  where
-    less : (most : ℕ) (a : ℤ) → most ≤ much → HasRoom much a → HasRoom most a
-    less most a l r = record { above = omega (arith, ints, l, r.above); below = omega (arith, ints, l, r.below) }
+room_for c moving little room = room_less moving (λ e t. much) c little room
 
 -- ---- what moves less
 

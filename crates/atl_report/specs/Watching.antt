@@ -5,8 +5,7 @@ use Rattle.std.specs.FinMap.{get}
 use Rattle.atl_tables.specs.Planet.{Planet}
 use Rattle.atl_state.specs.declared.records.Unit.{Unit}
 use Rattle.atl_state.specs.Good.{guards}
-use Rattle.atl_state.specs.Held.{Held, amount_of}
-use Rattle.atl_state.specs.Levels.{level_of}
+use Rattle.atl_state.specs.Levels.{level_in_any}
 use Rattle.atl_state.specs.State.{State, numbers_in}
 use Rattle.atl_report.specs.declared.watch.Watch.{Watch}
 
@@ -23,15 +22,10 @@ sees_region c faction region = list_any (λ n. is_watching faction (get c.units 
 
 -- ---- units
 
--- a unit's level in the skill that the world names; where it names none, everybody's is 0
-abbrev pub level_in : Option ℕ → Held → ℕ
-level_in None h = 0
-level_in (Some skill) h = level_of (amount_of h.days skill) h.men
-
 -- how well a unit observes, where it is the faction's own
 abbrev pub observation_of : Planet → ℕ → Option Unit → ℕ
 observation_of w faction None = 0
-observation_of w faction (Some u) = if u.faction == faction then level_in w.rules.observation u.holding else 0
+observation_of w faction (Some u) = if u.faction == faction then level_in_any u.holding w.rules.observation else 0
 
 abbrev pub greatest : List ℕ → ℕ
 greatest [] = 0
@@ -46,7 +40,7 @@ watch_over w c faction region = record { faction = faction; region = region; obs
 
 -- a unit that is the faction's own, guards, or has a stealth level at most that observation level
 abbrev pub is_seen : Planet → Watch → Unit → Bool
-is_seen w watch u = u.faction == watch.faction || (guards u || nat_le (level_in w.rules.stealth u.holding) watch.observation)
+is_seen w watch u = u.faction == watch.faction || (guards u || nat_le (level_in_any u.holding w.rules.stealth) watch.observation)
 
 -- a unit that is seen, and stands in the region
 abbrev pub is_seen_there : Planet → Watch → Option Unit → Bool

@@ -2,9 +2,10 @@
 ghost use Rattle.std.specs.Prelude.{◌≡◌, Some, nat_le};
 ghost use Rattle.std.specs.Option.{option_copied};
 ghost use Rattle.atl_state.specs.Good.{guards};
-ghost use Rattle.atl_report.specs.Watching.{is_watching, level_in, observation_of, observation_in, watch_over, is_seen, is_seen_there};
+ghost use Rattle.atl_state.specs.Levels.{level_in_any};
+ghost use Rattle.atl_report.specs.Watching.{is_watching, observation_of, observation_in, watch_over, is_seen, is_seen_there};
 
-use atl_state::{Campaign, Holding, Unit, level};
+use atl_state::{Campaign, Unit, level_in_any};
 use atl_tables::World;
 
 /// A faction that looks about in a region, with the best observation level of its units there.
@@ -29,22 +30,12 @@ pub(crate) fn is_guard(unit: &Unit) -> bool
     unit.holding.guard() && unit.holding.men() > 0
 }
 
-/// A unit's level in a skill that the world may name. Where it names none it is 0.
-fn level_in(skill: Option<u16>, holding: &Holding) -> u32
-    ensures { result ≡ level_in skill holding.now }
-{
-    match skill {
-        Some(skill) => level(holding.days_of(u32::from(skill)), holding.men()),
-        None => 0,
-    }
-}
-
 /// A unit's observation level, where the unit is the faction's, and else 0.
 fn observation_of(world: &World, faction: u32, unit: &Unit) -> u32
     ensures { result ≡ observation_of world.now faction (Some unit.now) }
 {
     if unit.faction == faction {
-        level_in(world.rules().observation, &unit.holding)
+        level_in_any(&unit.holding, world.rules().observation)
     } else {
         0
     }
@@ -76,9 +67,9 @@ pub(crate) fn watch_over(world: &World, campaign: &Campaign, faction: u32, regio
 
 /// Whether a unit's stealth isn't too high for a watch.
 fn is_made_out(world: &World, watch: Watch, unit: &Unit) -> bool
-    ensures { result ≡ nat_le (level_in world.now.rules.stealth unit.now.holding) watch.observation }
+    ensures { result ≡ nat_le (level_in_any unit.now.holding world.now.rules.stealth) watch.observation }
 {
-    level_in(world.rules().stealth, &unit.holding) <= watch.observation
+    level_in_any(&unit.holding, world.rules().stealth) <= watch.observation
 }
 
 /// Whether a unit is seen, where it stands in the region.

@@ -33,7 +33,7 @@ use Rattle.atl_state.specs.Deciding.{EachOf, Differ}
 use Rattle.atl_state.specs.Founding.{things_of}
 use Rattle.atl_state.specs.FromRows.{as_u32, faction_of, region_of, structure_of, unit_of, head_of, state_of}
 use Rattle.atl_state.specs.Good.{AreAmountsWithin, AreKnown, AreNumbered, AreDays, GoneHaveNone, NoneAreGone, AreOwned, AreAfloat, AreOfOneFaction, guards, IsMail, AreReported, amount_bound, size_of, IsGood}
-use Rattle.atl_state.specs.Limits.{last_month, most_units, last_unit, men_limit, holding_limit, most_structures, entry_count}
+use Rattle.atl_state.specs.Limits.{entry_count, holding_limit, last_month, last_unit, men_limit, most_in_joining, most_in_month, most_structures, most_units}
 use Rattle.atl_state.specs.RowRules.{is_from, is_one_head, is_within, head_in_range, faction_in_range, region_in_range, unit_in_range, has_in_range, structure_in_range, books_in_range, books_bound, are_few, AreKeyed, AreRowsInRange, faction_named, AreRowsNamed, is_of_unit, is_booked}
 use Rattle.atl_state.specs.Rows.{flag, rows_by, faction_row, region_row, unit_row, structure_row, mail_row, report_row, has_row, has_rows, books_rows, amount_at, is_zero, AreRowsOf}
 use Rattle.atl_state.specs.State.{State, Marked}
@@ -206,7 +206,7 @@ module _ (w : Planet) (world : IsWorld w) (c : State) (good : IsGood w c) (p : P
 
   bound_said : books_bound p ≡ amount_bound c
   bound_said =
-      ap (λ m. 200000000000000 * (m + 1) + 1000000000 * length p.factions) (row.month_said w world c good p rows) ∙ ap (λ n. 200000000000000 * (c.month + 1) + 1000000000 * n) faction_count
+      ap (λ m. most_in_month * (m + 1) + most_in_joining * length p.factions) (row.month_said w world c good p rows) ∙ ap (λ n. most_in_month * (c.month + 1) + most_in_joining * n) faction_count
 
   amounts_in_range : list_all (books_in_range (amount_bound c)) p.books ≡ true
   amounts_in_range =

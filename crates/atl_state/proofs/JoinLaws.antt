@@ -1,20 +1,15 @@
 -- Joining keeps a campaign sound: each of its rules in turn.
-use Rattle.std.proofs.Common.{◌≡◌, ◌≢◌, ℕ, ◌+◌, ◌-◌, ◌%◌, ◌≤◌, ◌<◌, ◌==◌, ◌||◌, not, true, false, cond, List, [], ◌∷◌, ◌++◌, length, get_or, codes, decimal, Some, None, is_some, take, drop, ◌*◌, ◌^◌, refl, sym, ap, ◌∙◌, arith, nat_le, nat_lt, nat_eq, length-append}
+use Rattle.std.proofs.Common.{◌≡◌, ◌≢◌, ℕ, ◌+◌, ◌%◌, ◌≤◌, ◌<◌, ◌==◌, ◌||◌, true, false, cond, List, [], ◌∷◌, length, Some, None, is_some, take, drop, ◌*◌, refl, sym, ap, ◌∙◌, arith, nat_le, nat_lt, nat_eq, length-append}
 use Rattle.std.specs.Prelude.{unwrap_or, ℤ, pos, ◌+ℤ◌, IsTrue}
-use Rattle.std.specs.List.{list_all}
 use Rattle.std.specs.Option.{option_map_or}
 use Rattle.std.specs.Ordering.{nat_cmp}
 use Rattle.std.specs.Cmp.{nat_cmp_total}
-use Rattle.std.specs.Cmp.Derive.{both_true}
 use Rattle.std.specs.Cmp.Lexicographic.{pointwise}
 use Rattle.std.specs.FinMap.{FinMap, get, insert, len, get-empty, len-insert}
 use Rattle.std.proofs.lemmas.Int.{ints}
 use Rattle.std.proofs.lemmas.Bool.Decides.{nat_tests}
-use Rattle.std.proofs.lemmas.Fmt.{decimal_by_steps, length-decimal-le}
-use Rattle.std.proofs.lemmas.List.Folds.{list_all-append}
 use Rattle.std.proofs.lemmas.Slice.Eq.{bytes_eq-Decides}
-use Rattle.std.proofs.Math.Seq.{get_or-append_seam}
-use Rattle.atl_tables.specs.Names.{name_ok, pass_ok, is_name_byte, is_short, has_open_ends}
+use Rattle.atl_tables.specs.Names.{name_ok, pass_ok}
 use Rattle.atl_tables.specs.Planet.{Planet, IsWorld, land_of, is_land}
 use Rattle.atl_tables.specs.declared.world.RegionPlan.{RegionPlan}
 use Rattle.atl_tables.proofs.SumLaws.{numbers_where-insert_other}

@@ -42,3 +42,4 @@ pub mod LeavingLaws
 pub mod GoneLaws
 pub mod PostLaws
 pub mod HavingLaws
+pub mod BegunLaws

@@ -10,6 +10,7 @@ use Rattle.std.proofs.lemmas.Bool.{and_parts, cases_eq, false≢true}
 use Rattle.std.proofs.lemmas.Int.{ints}
 use Rattle.atl_tables.specs.Names.{name_ok, pass_ok}
 use Rattle.atl_tables.specs.Planet.{Planet}
+use Rattle.atl_state.specs.Limits.{most_in_joining, most_in_month}
 use Rattle.atl_state.specs.declared.parts.Parts.{Parts}
 use Rattle.atl_state.specs.declared.parts.StoredFaction.{StoredFaction}
 use Rattle.atl_state.specs.declared.parts.StoredUnit.{StoredUnit}
@@ -126,7 +127,7 @@ module _ (w : Planet) (p : Parts) (k : RowsKeep w p) where
 
   same_bound : amount_bound (state_of w p) ≡ books_bound p
   unfolding state_of
-  same_bound = ap (λ n. 200000000000000 * (as_u32 (head_of p).month + 1) + 1000000000 * n) (same_count (λ r. as_u32 r.number) faction_of p.factions (factions_apart w p k))
+  same_bound = ap (λ n. most_in_month * (as_u32 (head_of p).month + 1) + most_in_joining * n) (same_count (λ r. as_u32 r.number) faction_of p.factions (factions_apart w p k))
 
   cells : AreCells (books_bound p) (put_amounts p.books (no_amounts (things_of w)))
   cells =

@@ -9,7 +9,7 @@ use Rattle.atl_tables.specs.Names.{name_ok, pass_ok}
 use Rattle.atl_tables.specs.Planet.{Planet, is_land}
 use Rattle.atl_orders.specs.Limits.{last_faction}
 use Rattle.atl_orders.specs.Mailing.{IsMailingOf}
-use Rattle.atl_state.specs.Limits.{last_month, most_units, last_unit, most_structures, most_days}
+use Rattle.atl_state.specs.Limits.{last_month, last_unit, most_days, most_in_joining, most_in_month, most_structures, most_units}
 use Rattle.atl_state.specs.declared.books.Entry.{Entry}
 use Rattle.atl_state.specs.declared.books.Thing.{Thing}
 use Rattle.atl_state.specs.declared.records.Faction.{Faction}
@@ -41,7 +41,7 @@ size_of w kind = option_map_or (λ k. k.size) (slice_get w.kinds kind) most_size
 
 -- no amount of the books is greater in size
 abbrev pub amount_bound : State → ℕ
-amount_bound c = 200000000000000 * (c.month + 1) + 1000000000 * len c.factions
+amount_bound c = most_in_month * (c.month + 1) + most_in_joining * len c.factions
 
 -- men from 0
 pub record AreInRange (w : Planet) (c : State) : Type 0 where

@@ -1,11 +1,12 @@
 -- Levels of skills, and what units weigh and carry.
-use Rattle.std.specs.Prelude.{◌==◌, ◌+◌, ◌*◌, ℕ, zero, suc, Bool, nat_le, sum_by, if◌then◌else◌}
+use Rattle.std.specs.Prelude.{◌==◌, ◌+◌, ◌*◌, ℕ, zero, suc, Bool, Option, Some, None, nat_le, sum_by, if◌then◌else◌}
 use Rattle.std.specs.List.{slice_get}
 use Rattle.std.specs.Option.{option_map_or}
 use Rattle.std.specs.FinMap.{entries}
 use Rattle.atl_tables.specs.Limits.{last_level}
 use Rattle.atl_tables.specs.Planet.{Planet}
-use Rattle.atl_state.specs.Held.{Held}
+use Rattle.atl_state.specs.Held.{Held, amount_of}
+use Rattle.atl_state.specs.Limits.{level_days}
 
 -- ---- levels
 
@@ -16,11 +17,20 @@ greatest passes (suc n) = if passes (suc n) then suc n else greatest passes n
 
 -- the days of study that so many men need for a level: 30 for the first, 60 more for the second, and so on
 abbrev pub days_for : ℕ → ℕ → ℕ
-days_for level men = 15 * level * (level + 1) * men
+days_for level men = level_days * level * (level + 1) * men
 
 -- the greatest level for which the days of so many men are enough
 unfoldable pub level_of : ℕ → ℕ → ℕ
 level_of days men = if men == 0 then 0 else greatest (λ level. nat_le (days_for level men) days) last_level
+
+-- the level of people in a skill, by the days that they have studied it
+abbrev pub level_in : Held → (skill : ℕ) → ℕ
+level_in h skill = level_of (amount_of h.days skill) h.men
+
+-- in a skill that may not be named nobody has a level
+abbrev pub level_in_any : Held → Option ℕ → ℕ
+level_in_any h None = 0
+level_in_any h (Some skill) = level_in h skill
 
 -- ---- loads
 

@@ -34,6 +34,18 @@ most_things = 2 + most_items
 abbrev pub most_structures : ℕ
 most_structures = 10000
 
+-- by so much a month moves an amount of the books at most, in size
+abbrev pub most_in_month : ℕ
+most_in_month = 200000000000000
+
+-- and the joining of a faction by so much
+abbrev pub most_in_joining : ℕ
+most_in_joining = 1000000000
+
+-- a level n takes n * (n + 1) times so many days of each man
+abbrev pub level_days : ℕ
+level_days = 15
+
 -- so many days of a skill for each man
 abbrev pub most_days : ℕ
 most_days = 450

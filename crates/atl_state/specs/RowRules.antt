@@ -8,7 +8,7 @@ use Rattle.atl_tables.specs.Limits.{most_amount, most_regions}
 use Rattle.atl_tables.specs.Names.{name_ok, pass_ok}
 use Rattle.atl_tables.specs.Planet.{Planet}
 use Rattle.atl_orders.specs.Limits.{last_faction}
-use Rattle.atl_state.specs.Limits.{last_month, most_units, last_unit, men_limit, holding_limit, most_structures}
+use Rattle.atl_state.specs.Limits.{holding_limit, last_month, last_unit, men_limit, most_in_joining, most_in_month, most_structures, most_units}
 use Rattle.atl_state.specs.declared.parts.Parts.{Parts}
 use Rattle.atl_state.specs.declared.parts.StoredHead.{StoredHead}
 use Rattle.atl_state.specs.declared.parts.StoredFaction.{StoredFaction}
@@ -66,7 +66,7 @@ structure_in_range w r = is_from 1 most_structures r.number && is_from 1 (size_o
 
 -- no amount of the books is greater in size
 abbrev pub books_bound : Parts → ℕ
-books_bound p = 200000000000000 * (as_u32 (head_of p).month + 1) + 1000000000 * length p.factions
+books_bound p = most_in_month * (as_u32 (head_of p).month + 1) + most_in_joining * length p.factions
 
 abbrev pub books_in_range : ℕ → StoredBooks → Bool
 books_in_range bound r = not (is_zero r.amount) && is_within bound r.amount

@@ -1,9 +1,10 @@
 //! Levels of skills, and what units weigh and carry.
 ghost use Rattle.std.specs.Prelude.{◌≡◌, ◌≤◌, ◌*◌, nat_le};
 ghost use Rattle.atl_tables.specs.Limits.{last_level, most_items, most_weight};
-ghost use Rattle.atl_state.specs.Levels.{days_for, level_of, weight_of, carry_of, goods_of, carried_by_goods, load_of, carried_by};
+ghost use Rattle.atl_state.specs.Levels.{days_for, level_in, level_in_any, level_of, weight_of, carry_of, goods_of, carried_by_goods, load_of, carried_by};
 
 use crate::holding::Holding;
+use crate::limits::LEVEL_DAYS;
 use atl_tables::World;
 use atl_tables::limits::LAST_LEVEL;
 
@@ -12,7 +13,7 @@ fn is_reached(level: u32, days: u32, men: u32) -> bool
     requires { level ≤ last_level }
     ensures { result ≡ nat_le (days_for level men) days }
 {
-    u64::from(15 * level * (level + 1)) * u64::from(men) <= u64::from(days)
+    u64::from(LEVEL_DAYS * level * (level + 1)) * u64::from(men) <= u64::from(days)
 }
 
 /// The level of so many men with so many days of study among them: the greatest number `n` from 0 to 5 with
@@ -31,6 +32,26 @@ pub fn level(days: u32, men: u32) -> u32
         level -= 1;
     }
     level
+}
+
+/// The level of people in a skill, by the days that they have studied it. It takes no memory. See docs/RULES.md, "Levels and
+/// loads".
+pub fn level_in(holding: &Holding, skill: u16) -> u32
+    ensures value { result ≡ level_in holding.now skill }
+    ensures small { result ≤ last_level }
+{
+    level(holding.days_of(u32::from(skill)), holding.men())
+}
+
+/// The level of people in a skill that may not be named: in none nobody has a level. It takes no memory.
+pub fn level_in_any(holding: &Holding, skill: Option<u16>) -> u32
+    ensures value { result ≡ level_in_any holding.now skill }
+    ensures small { result ≤ last_level }
+{
+    match skill {
+        Some(skill) => level_in(holding, skill),
+        None => 0,
+    }
 }
 
 /// What one of an item weighs; an item that the world has not weighs nothing.

@@ -24,7 +24,7 @@ pub use books::{Books, Entry, Thing};
 pub use campaign::{Campaign, founded};
 pub use event::{Event, EventFault, EventVerb, Outcome};
 pub use holding::Holding;
-pub use levels::{carry, goods, level, load};
+pub use levels::{carry, goods, level, level_in, level_in_any, load};
 pub use limits::{
     ENTRY_COUNT, HOLDING_LIMIT, LAST_MONTH, LAST_UNIT, MEN_LIMIT, MOST_DAYS, MOST_STRUCTURES,
     MOST_UNITS,

@@ -21,6 +21,15 @@ pub const MEN_LIMIT: u32 = 999_999;
 /// The most money, or of one item, of a unit.
 pub const HOLDING_LIMIT: u32 = 999_999_999;
 
+/// By how much a month moves an amount of the books at most, in size.
+pub(crate) const MOST_IN_MONTH: u128 = 200_000_000_000_000;
+
+/// By how much the joining of a faction does.
+pub(crate) const MOST_IN_JOINING: u128 = 1_000_000_000;
+
+/// A level `n` takes `n * (n + 1)` times so many days of each man.
+pub(crate) const LEVEL_DAYS: u32 = 15;
+
 /// The most days of a skill for each man.
 pub const MOST_DAYS: u32 = 450;
 

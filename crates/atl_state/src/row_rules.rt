@@ -8,7 +8,10 @@ ghost use Rattle.atl_state.specs.FromRows.{as_u32, as_u16, is_set, head_of};
 ghost use Rattle.atl_state.specs.Good.{size_of};
 ghost use Rattle.atl_state.specs.RowRules.{is_from, is_within, head_in_range, faction_in_range, region_in_range, unit_in_range, has_in_range, structure_in_range, books_bound, books_in_range, faction_named, is_one_head, Key, faction_key, region_key, unit_key, has_key, structure_key, mail_key, report_key, books_key, HaveKeys, AreKeyed, are_few, people_in_range, numbers_in_range, are_named, HaveJoined, AreRowsInRange, AreRowsNamed};
 
-use crate::limits::{HOLDING_LIMIT, LAST_MONTH, LAST_UNIT, MEN_LIMIT, MOST_STRUCTURES, MOST_UNITS};
+use crate::limits::{
+    HOLDING_LIMIT, LAST_MONTH, LAST_UNIT, MEN_LIMIT, MOST_IN_JOINING, MOST_IN_MONTH,
+    MOST_STRUCTURES, MOST_UNITS,
+};
 use crate::parts::{
     Parts, StoredBooks, StoredFaction, StoredHas, StoredHead, StoredMail, StoredRegion,
     StoredReport, StoredStructure, StoredUnit,
@@ -19,11 +22,6 @@ use atl_tables::limits::{MOST_AMOUNT, MOST_REGIONS};
 use atl_tables::{World, name_ok, pass_ok};
 use std::alloc::{AllocError, Global};
 use std::collections::BTreeSet;
-
-/// By how much the bound on an amount of the books grows with each month, and with each faction.
-const BOUND_PER_MONTH: u128 = 200_000_000_000_000;
-
-const BOUND_PER_FACTION: u128 = 1_000_000_000;
 
 /// A number as one of 32 bits; one that doesn't fit is read as the largest.
 pub(crate) fn as_u32(number: i64) -> u32
@@ -336,7 +334,7 @@ fn books_bound(parts: &Parts) -> u128
     ensures { result ≡ books_bound parts.now }
 {
     let months = u128::from(as_u32(head_of(parts).month)) + 1;
-    BOUND_PER_MONTH * months + BOUND_PER_FACTION * parts.factions.len() as u128
+    MOST_IN_MONTH * months + MOST_IN_JOINING * parts.factions.len() as u128
 }
 
 fn numbers_in_range(world: &World, parts: &Parts) -> bool

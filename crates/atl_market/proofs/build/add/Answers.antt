@@ -8,8 +8,8 @@ use Rattle.atl_market.proofs.build.add.Goals as goal
 pub returns-clause-marks : goal.returns-clause-marks
 returns-clause-marks c =
     let old = c.args.campaign.now in
-    let mid = c.use_up.new.campaign in
+    let mid = c.use_item.new.campaign in
     let set = c.set_done in
-    marks-trans old mid set.new.self c.in_ok-use_up.ensures.marks
+    marks-trans old mid set.new.self c.in_ok-use_item.ensures.marks
     (marks_by mid set.new.self (record { what = with_done mid.what c.args.structure c.args.done; marks = mark_structure mid c.args.structure })
     set.ensures.what set.ensures.marks (marks-structure (λ s. record s { done = c.args.done }) mid c.args.structure))

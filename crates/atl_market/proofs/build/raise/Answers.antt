@@ -2,7 +2,7 @@ use Rattle.atl_state.specs.Marking.{mark_structure_begun}
 use Rattle.atl_state.specs.State.{with_structure_begun}
 use Rattle.atl_state.specs.declared.records.Structure.{Structure}
 use Rattle.atl_instant.proofs.MarkLaws.{marks_by, on_ok_both}
-use Rattle.atl_market.proofs.BuildBegunLaws.{marks-raised}
+use Rattle.atl_state.proofs.BegunLaws.{marks-raised}
 use Rattle.atl_market.proofs.build.raise.Goals as goal
 
 pub returns-clause-marks : goal.returns-clause-marks

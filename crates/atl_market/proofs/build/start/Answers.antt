@@ -3,7 +3,8 @@ use Rattle.atl_state.specs.Owners.{with_place}
 use Rattle.atl_state.specs.State.{State}
 use Rattle.atl_state.proofs.CoverLaws.{marks-trans}
 use Rattle.atl_instant.proofs.MarkLaws.{marks-place}
-use Rattle.atl_market.specs.Build.{with_new, with_used}
+use Rattle.atl_market.specs.Build.{with_new}
+use Rattle.atl_market.specs.Stock.{with_used}
 use Rattle.atl_market.proofs.BuildUsedLaws.{same_next, same_structures}
 use Rattle.atl_market.proofs.build.start.Goals as goal
 
@@ -11,12 +12,12 @@ pub raise-requires-clause-fresh : goal.raise-requires-clause-fresh
 raise-requires-clause-fresh c =
     let old = c.args.campaign.now.what in
     let item = c.args.kind.now.material in
-    rw (c.in_ok-use_up.ensures.what, same_structures old c.args.unit item c.args.size, same_next old c.args.unit item c.args.size) c.requires.fresh
+    rw (c.in_ok-use_item.ensures.what, same_structures old c.args.unit item c.args.size, same_next old c.args.unit item c.args.size) c.requires.fresh
 
 pub raise-requires-clause-room : goal.raise-requires-clause-room
 raise-requires-clause-room c =
     let old = c.args.campaign.now.what in
-    rw (c.in_ok-use_up.ensures.what, same_next old c.args.unit c.args.kind.now.material c.args.size) c.requires.room
+    rw (c.in_ok-use_item.ensures.what, same_next old c.args.unit c.args.kind.now.material c.args.size) c.requires.room
 
 pub returns-clause-what : goal.returns-clause-what
 returns-clause-what c =
@@ -26,16 +27,16 @@ returns-clause-what c =
     let used : State = with_used old n k.material c.args.size in
     let new : State = with_new used c.args.number k c.args.region c.args.size in
     let next : ℕ = c.in_ok-next.next in
-    let number : next ≡ old.next_structure = c.in_ok-next.ensures.number ∙ ap (λ (d : State). d.next_structure) c.in_ok-use_up.ensures.what ∙ same_next old n k.material c.args.size in
+    let number : next ≡ old.next_structure = c.in_ok-next.ensures.number ∙ ap (λ (d : State). d.next_structure) c.in_ok-use_item.ensures.what ∙ same_next old n k.material c.args.size in
     c.in_ok-place.ensures.ok
-    ∙ ap (λ (d : State). with_place d n c.args.region next) (c.in_ok-next.ensures.what ∙ ap (λ (d : State). with_new d c.args.number k c.args.region c.args.size) c.in_ok-use_up.ensures.what)
+    ∙ ap (λ (d : State). with_place d n c.args.region next) (c.in_ok-next.ensures.what ∙ ap (λ (d : State). with_new d c.args.number k c.args.region c.args.size) c.in_ok-use_item.ensures.what)
     ∙ ap (with_place new n c.args.region) number
 
 pub returns-clause-marks : goal.returns-clause-marks
 returns-clause-marks c =
     let old = c.args.campaign.now in
-    let mid = c.use_up.new.campaign in
+    let mid = c.use_item.new.campaign in
     let next = c.raise.new.campaign in
     let last = c.place.new.self in
-    marks-trans old mid last c.in_ok-use_up.ensures.marks
+    marks-trans old mid last c.in_ok-use_item.ensures.marks
     (marks-trans mid next last c.in_ok-next.ensures.marks (marks-place next last c.args.unit c.args.region c.in_ok-next.next c.in_ok-place.ensures.ok c.in_ok-place.ensures.marks))

@@ -5,6 +5,9 @@ use Rattle.atl_state.specs.declared.books.Entry.TheVariants.{Recruiting}
 use Rattle.atl_state.specs.declared.books.Thing.TheVariants.{Money}
 use Rattle.atl_market.proofs.RecruitLaws.{leaving_marks}
 use Rattle.atl_market.proofs.recruit.leave_region.Goals as goal
+use Rattle.atl_instant.proofs.MeaningLaws.{less_room}
+use Rattle.atl_state.specs.Limits.{holding_limit}
+use Rattle.atl_state.specs.Books.{amount_in}
 
 pub book_taken-requires-clause-there : goal.book_taken-requires-clause-there
 book_taken-requires-clause-there c =
@@ -12,7 +15,7 @@ book_taken-requires-clause-there c =
     rw (ap (λ (s : State). s.books) c.set_peasants.ensures.what) (omega (arith, grid.rows, two))
 
 pub book_taken-requires-clause-room : goal.book_taken-requires-clause-room
-book_taken-requires-clause-room c = rw (ap (λ (s : State). s.books) c.set_peasants.ensures.what) (c.requires.room Recruiting Money)
+book_taken-requires-clause-room c = rw (ap (λ (s : State). s.books) c.set_peasants.ensures.what) (less_room c.args.cost holding_limit (amount_in c.args.campaign.now.what.books Recruiting Money) c.requires.little (c.requires.room Recruiting Money))
 
 pub returns-clause-marks : goal.returns-clause-marks
 returns-clause-marks c =

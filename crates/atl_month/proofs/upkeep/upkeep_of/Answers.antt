@@ -1,11 +1,13 @@
 use Rattle.std.proofs.Common.{◌≡◌, ◌≤◌, ap, sym, ◌∙◌, min, arith}
 use Rattle.std.specs.Prelude.{neg_ℤ, pos}
 use Rattle.atl_tables.specs.Limits.{most_amount}
+use Rattle.atl_state.specs.Books.{amount_in, with_booked}
 use Rattle.atl_state.specs.declared.books.Entry.TheVariants.{Starved, Upkeep}
 use Rattle.atl_state.specs.declared.books.Thing.TheVariants.{Money, People}
 use Rattle.atl_state.specs.State.{State}
 use Rattle.atl_instant.specs.Meaning.{moves_only}
 use Rattle.atl_instant.proofs.BookingLaws.{booked-room, within-neg}
+use Rattle.atl_instant.proofs.MeaningLaws.{less_room}
 use Rattle.atl_month.specs.Upkeep.{men_starved, money_paid, supplied}
 use Rattle.atl_month.proofs.UpkeepLaws.{held_back_is, two_rows, upkeep_at_is, upkeep_marks}
 use Rattle.atl_month.proofs.upkeep.upkeep_of.Goals as goal
@@ -23,7 +25,8 @@ book_taken-requires-clause-room c =
     let u = c.in-Some.unit.now in
     let there = sym c.in-Some.ensures in
     let what = held_back_is c.args.campaign.now c.supply_unit.new.campaign c.args.settled.now u there (c.in_ok-supply_unit.ensures u there) in
-    rw (ap (λ (s : State). s.books) what) (c.requires.room Upkeep Money)
+    let little : c.min-paid.result ≤ most_amount = omega (arith, c.min-paid.ensures, c.money.ensures.fits, c.money.ensures.value) in
+    rw (ap (λ (s : State). s.books) what) (less_room c.min-paid.result most_amount (amount_in c.args.campaign.now.what.books Upkeep Money) little (c.requires.room Upkeep Money))
 
 pub book_taken-requires-2-clause-there : goal.book_taken-requires-2-clause-there
 book_taken-requires-2-clause-there c =
@@ -41,8 +44,12 @@ book_taken-requires-2-clause-room c =
     let (things, two, grid) = c.requires.grid in
     let paid = c.min-paid.result in
     let little : paid ≤ most_amount = omega (arith, c.min-paid.ensures, c.money.ensures.fits, c.money.ensures.value) in
+    let few : c.min-starved.result ≤ most_amount = omega (arith, c.min-starved.ensures, c.men.ensures.fits, c.men.ensures.value) in
+    let books = c.args.campaign.now.what.books in
+    let behind = with_booked books Upkeep Money (neg_ℤ (pos paid)) in
     rw (ap (λ (s : State). s.books) c.book_taken.ensures.what, ap (λ (s : State). s.books) what)
-    (booked-room things c.args.campaign.now.what.books Upkeep Money (neg_ℤ (pos paid)) most_amount grid (omega (arith, two)) (within-neg paid most_amount little) (moves_only most_amount Starved People) c.requires.room Starved People)
+    (less_room c.min-starved.result most_amount (amount_in behind Starved People) few
+    (booked-room things books Upkeep Money (neg_ℤ (pos paid)) most_amount grid (omega (arith, two)) (within-neg paid most_amount little) (moves_only most_amount Starved People) c.requires.room Starved People))
 
 pub returns-clause-what : goal.returns-clause-what
 returns-clause-what c =

@@ -2,14 +2,13 @@ use Rattle.std.proofs.Common.{◌≡◌, sym, ap, ◌∙◌, ◌+◌, arith, rul
 use Rattle.std.proofs.lemmas.Int.{to_z-of_z}
 use Rattle.atl_state.specs.Books.{amount_in}
 use Rattle.atl_state.specs.Founding.{things_of}
-use Rattle.atl_state.specs.Limits.{holding_limit}
 use Rattle.atl_state.specs.State.{with_amount}
 use Rattle.atl_state.specs.declared.books.Entry.TheVariants.{Made}
 use Rattle.atl_state.specs.declared.books.Thing.TheVariants.{Item}
 use Rattle.atl_instant.proofs.BookingLaws.{booking_fits, within-pos}
-use Rattle.atl_market.specs.Produce.{with_item}
+use Rattle.atl_market.specs.Stock.{with_item}
 use Rattle.atl_market.proofs.StockLaws.{made_is, same_books, stock_marks, stock_what}
-use Rattle.atl_market.proofs.making.make_item.Goals as goal
+use Rattle.atl_market.proofs.stock.make_item.Goals as goal
 
 pub book-requires-clause-there : goal.book-requires-clause-there
 book-requires-clause-there c =
@@ -23,7 +22,7 @@ book-requires-clause-fits c =
     let same : to_z w64 (of_z w64 c.from.result) ≡ c.from.result = search (rules, to_z-of_z) in
     let books = same_books c.args.campaign.now c.set_item.new.campaign c.set_item.new.campaign c.args.number can.unit c.args.item (c.held_of.result + c.args.amount) Made (pos 0) (things_of c.args.world.now) can.there (c.in_ok-set_item.ensures can.unit can.there) in
     rw (same, c.from.ensures, books)
-    (booking_fits (amount_in c.args.campaign.now.what.books Made (Item c.args.item)) (pos c.args.amount) holding_limit (within-pos c.args.amount holding_limit (omega (arith, can.fits))) can.room)
+    (booking_fits (amount_in c.args.campaign.now.what.books Made (Item c.args.item)) (pos c.args.amount) c.args.amount (within-pos c.args.amount c.args.amount (omega arith)) can.room)
 
 pub returns-clause-what : goal.returns-clause-what
 returns-clause-what c =

@@ -4,9 +4,9 @@ use Rattle.atl_state.specs.Founding.{things_of}
 use Rattle.atl_state.specs.State.{with_amount}
 use Rattle.atl_state.specs.declared.books.Entry.TheVariants.{Used}
 use Rattle.atl_state.specs.declared.books.Thing.TheVariants.{Item}
-use Rattle.atl_market.specs.Produce.{with_item}
+use Rattle.atl_market.specs.Stock.{with_item}
 use Rattle.atl_market.proofs.StockLaws.{same_books, stock_marks, stock_what, used_is}
-use Rattle.atl_market.proofs.making.use_item.Goals as goal
+use Rattle.atl_market.proofs.stock.use_item.Goals as goal
 
 pub book_taken-requires-clause-there : goal.book_taken-requires-clause-there
 book_taken-requires-clause-there c =

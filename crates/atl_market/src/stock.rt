@@ -1,0 +1,71 @@
+//! What units use of items, and what they make.
+ghost use Rattle.std.specs.Prelude.{◌≡◌, ◌≤◌, OnOk, Some};
+ghost use Rattle.std.specs.FinMap as map;
+ghost use Rattle.atl_state.specs.Covers.{MarksChanges};
+ghost use Rattle.atl_state.specs.Held.{amount_of, with_amount_of};
+ghost use Rattle.atl_state.specs.Lending.{lent};
+ghost use Rattle.atl_state.specs.Limits.{holding_limit};
+ghost use Rattle.atl_state.specs.declared.records.Unit.{Unit};
+ghost use Rattle.atl_market.specs.Stock.{CanMake, CanUse, with_made, with_used};
+
+use atl_instant::book_taken;
+use atl_state::{Campaign, Entry, Thing};
+use atl_tables::World;
+use std::alloc::AllocError;
+
+/// How much of an item a unit holds that is there.
+fn held_of(campaign: &Campaign, number: u32, item: u16) -> u32
+    ensures { (u : Unit) → map.get campaign.now.what.units number ≡ Some u → result ≡ amount_of u.holding.items item }
+{
+    match campaign.unit(number) {
+        Some(unit) => unit.holding.amount(u32::from(item)),
+        None => 0,
+    }
+}
+
+/// Sets how much of an item a unit holds that is there.
+fn set_item(campaign: &mut Campaign, number: u32, item: u16, amount: u32) -> Result<(), AllocError>
+    requires { amount ≤ holding_limit }
+    ensures { OnOk result ((u : Unit) → map.get campaign.old.what.units number ≡ Some u → campaign.new ≡ lent campaign.old number (record u.holding { items = with_amount_of u.holding.items item amount })) }
+{
+    match campaign.unit_mut(number) {
+        Some(holding) => holding.set_amount(u32::from(item), amount),
+        None => Ok(()),
+    }
+}
+
+/// A unit uses so much of an item, which is booked.
+pub(crate) fn use_item(
+    world: &World,
+    campaign: &mut Campaign,
+    number: u32,
+    item: u16,
+    amount: u32,
+) -> Result<(), AllocError>
+    requires can { CanUse world.now campaign.old.what number item amount }
+    ensures what { OnOk result (campaign.new.what ≡ with_used campaign.old.what number item amount) }
+    ensures marks { OnOk result (MarksChanges campaign.old campaign.new) }
+{
+    let left = held_of(campaign, number, item) - amount;
+    set_item(campaign, number, item, left)?;
+    book_taken(campaign, Entry::Used, Thing::Item(item), amount);
+    Ok(())
+}
+
+/// A unit makes so much of an item, which is booked.
+pub(crate) fn make_item(
+    world: &World,
+    campaign: &mut Campaign,
+    number: u32,
+    item: u16,
+    amount: u32,
+) -> Result<(), AllocError>
+    requires can { CanMake world.now campaign.old.what number item amount }
+    ensures what { OnOk result (campaign.new.what ≡ with_made campaign.old.what number item amount) }
+    ensures marks { OnOk result (MarksChanges campaign.old campaign.new) }
+{
+    let more = held_of(campaign, number, item) + amount;
+    set_item(campaign, number, item, more)?;
+    campaign.book(Entry::Made, Thing::Item(item), i64::from(amount));
+    Ok(())
+}
