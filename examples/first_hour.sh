@@ -1,6 +1,6 @@
 #!/usr/bin/env bash
-# A club's first hour: a campaign is founded on an island, two players join and send their orders, and each reads a report. It prints each
-# command and what the program answers, and works in a temporary folder. Called without arguments; the program is built first where it is not.
+# A club's first hour: a campaign is founded on an island, two players join, one sends orders, the first month is closed, and reports are read. It prints
+# each command and what the program answers, and works in a temporary folder. Called without arguments; the program is built first where it is not.
 set -eu
 here=$(cd "$(dirname "$0")/.." && pwd)
 club=$(mktemp -d)
@@ -63,5 +63,9 @@ tell 'The campaign is one file, which a copy keeps.'
 cp club.db backup.db
 gm report --db backup.db --faction 1 --pass apple
 
-tell 'The moderator looks at the books: what came in, under which heading, and how much there is.'
+tell 'The moderator closes the first month: all orders are carried out, and each faction gets a new report.'
+gm close --db club.db --month 1 --pass moderator --seed 3
+gm report --db club.db --faction 1 --pass apple
+
+tell 'The moderator looks at the books: what came in and went, under which heading, and how much there is.'
 gm books --db club.db
