@@ -34,6 +34,7 @@ impl Aliases {
         })
     }
 
+    /// Whether an alias, from 1 to 9,999, was given by a FORM so far.
     pub fn contains(&self, alias: u32) -> bool
         requires { alias ≤ last_alias }
         ensures { result ≡ given_by self.now alias }
@@ -41,6 +42,7 @@ impl Aliases {
         self.given[alias as usize]
     }
 
+    /// Notes that an alias, from 1 to 9,999, is given. It takes no memory.
     pub fn add(&mut self, alias: u32)
         requires { alias ≤ last_alias }
         ensures { given_by self.new ≡ with_alias (given_by self.old) alias }

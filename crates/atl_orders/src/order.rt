@@ -13,6 +13,7 @@ pub enum UnitRef {
     Alias(u32),
 }
 
+/// A side of a region, to which MOVE and SAIL go.
 #[derive(Drop, Clone, Copy, Debug, PartialEq, Eq)]
 pub enum Direction {
     North,
@@ -107,6 +108,7 @@ impl<N: Drop> Drop for Order<N> {
 impl<N> Order<N> {
     ghost use Rattle.atl_orders.specs.Orders.{verb_of_order};
 
+    /// The word that the order begins with.
     pub fn verb(&self) -> Verb
         ensures { result ≡ verb_of_order self.now }
     {

@@ -131,6 +131,7 @@ impl<S: Alter> Service<S> {
         Some(books_text(self.alloc, &self.world, campaign))
     }
 
+    /// The world of the campaign, as it was founded. It is lent also after a fault.
     pub fn world(&self) -> &World
         ensures value { result.now ≡ self.now.world }
         ensures text { HasCleanDisk (state S.Store self.now.conn) → IsSome self.now.campaign → world_of (text_in S.Store self.now.conn) ≡ Ok self.now.world }

@@ -130,6 +130,7 @@ impl Books {
         }
     }
 
+    /// How many things there are: money, people, and the items of the world.
     pub fn len(&self) -> usize
         ensures value { result ≡ length self.now }
         ensures few { length self.now ≤ 65538 }
@@ -137,6 +138,7 @@ impl Books {
         self.rows.len()
     }
 
+    /// What came in under an entry so far, less what went: money, men or pieces of an item.
     pub fn amount(&self, entry: Entry, thing: Thing) -> i64
         requires { thing_place thing < length self.now }
         ensures { result ≡ amount_in self.now entry thing }

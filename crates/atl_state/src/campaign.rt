@@ -156,6 +156,7 @@ impl Campaign {
         self.next_structure
     }
 
+    /// The faction of this number, where one ever joined under it; also one that is gone.
     pub fn faction(&self, number: u32) -> Option<&Faction>
         ensures { option_copied result ≡ map.get self.now.what.factions number }
     {
@@ -176,6 +177,7 @@ impl Campaign {
         self.factions.len()
     }
 
+    /// The region of this number, where the world has one.
     pub fn region(&self, number: u32) -> Option<&Region>
         ensures { option_copied result ≡ map.get self.now.what.regions number }
     {
@@ -196,6 +198,7 @@ impl Campaign {
         self.regions.len()
     }
 
+    /// The unit of this number, while it stands.
     pub fn unit(&self, number: u32) -> Option<&Unit>
         ensures { option_copied result ≡ map.get self.now.what.units number }
     {
@@ -216,6 +219,7 @@ impl Campaign {
         self.units.len()
     }
 
+    /// The structure of this number, where one was begun.
     pub fn structure(&self, number: u32) -> Option<&Structure>
         ensures { option_copied result ≡ map.get self.now.what.structures number }
     {

@@ -85,12 +85,14 @@ impl Holding {
         }
     }
 
+    /// The unit's name.
     pub fn name(&self) -> &Text
         ensures { result.now ≡ self.now.name }
     {
         &self.name
     }
 
+    /// How many men there are, from 0 to 999,999.
     pub fn men(&self) -> u32
         ensures value { result ≡ self.now.men }
         ensures fits { self.now.men ≤ men_limit }
@@ -98,6 +100,7 @@ impl Holding {
         self.men
     }
 
+    /// How much money there is, from 0 to 999,999,999.
     pub fn money(&self) -> u32
         ensures value { result ≡ self.now.money }
         ensures fits { self.now.money ≤ holding_limit }
@@ -146,6 +149,7 @@ impl Holding {
         }
     }
 
+    /// Sets the name. It takes no memory.
     pub fn set_name(&mut self, name: Text)
         ensures { self.new ≡ record self.old { name = name } }
     {

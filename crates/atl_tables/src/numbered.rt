@@ -28,6 +28,7 @@ impl<V: Drop> Numbered<V> {
     ghost use Rattle.std.specs.Borrow.{sem};
     ghost use Rattle.atl_tables.specs.Lending.{LendsAt};
 
+    /// A map of nothing. It takes no memory.
     pub fn new(alloc: Global) -> Self
         ensures { result ≡ map.empty }
     {
@@ -36,12 +37,14 @@ impl<V: Drop> Numbered<V> {
         }
     }
 
+    /// The value under a number, where there is one.
     pub fn get(&self, number: u32) -> Option<&V>
         ensures { option_copied result ≡ map.get self.now number }
     {
         self.entries.get(&number)
     }
 
+    /// Lends the value under a number, where there is one.
     pub fn get_mut(&mut self, number: u32) -> Option<&mut V>
         ensures* writes_back { sem 𝓛 (LendsAt V.row self.entry number result) }
         ensures value { option_copied_mut result ≡ map.get self.old number }
@@ -58,6 +61,7 @@ impl<V: Drop> Numbered<V> {
         Ok(())
     }
 
+    /// Takes out the value under a number, where there is one. It takes no memory.
     pub fn remove(&mut self, number: u32)
         ensures { self.new ≡ map.remove self.old number }
     {
@@ -71,6 +75,7 @@ impl<V: Drop> Numbered<V> {
         self.entries.clear();
     }
 
+    /// How many values there are.
     pub fn len(&self) -> usize
         ensures { result ≡ map.len self.now }
     {

@@ -45,6 +45,7 @@ impl<V: Drop> Tracked<V> {
     ghost use Rattle.std.specs.Borrow.{sem};
     ghost use Rattle.atl_tables.specs.Tracking.{LendsMarked};
 
+    /// A map of nothing, with nothing marked. It takes no memory.
     pub fn new(alloc: Global) -> Self
         ensures { result ≡ record { values = map.empty; marks = set.empty } }
     {
@@ -54,6 +55,7 @@ impl<V: Drop> Tracked<V> {
         }
     }
 
+    /// The value under a number, where there is one. It marks nothing.
     pub fn get(&self, number: u32) -> Option<&V>
         ensures { option_copied result ≡ map.get self.now.values number }
     {
@@ -153,12 +155,14 @@ impl<V: Drop> Tracked<V> {
         self.places.raise();
     }
 
+    /// The values by their numbers, whether marked or not.
     pub fn values(&self) -> &Numbered<V>
         ensures { result.now ≡ self.now.values }
     {
         &self.values
     }
 
+    /// How many values there are.
     pub fn len(&self) -> usize
         ensures { result ≡ map.len self.now.values }
     {

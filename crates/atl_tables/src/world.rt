@@ -214,6 +214,7 @@ impl World {
         }
     }
 
+    /// The numbers of the campaign that hold everywhere. See docs/FORMATS.md, "The world file".
     pub fn rules(&self) -> &Rules
         ensures value { result.now ≡ self.now.rules }
         ensures world { IsWorld self.now }
@@ -221,6 +222,7 @@ impl World {
         &self.rules
     }
 
+    /// The terrains, each at its number.
     pub fn terrains(&self) -> &[Terrain]
         ensures value { result.now ≡ self.now.terrains }
         ensures world { IsWorld self.now }
@@ -228,6 +230,7 @@ impl World {
         self.terrains.as_slice()
     }
 
+    /// The items, each at its number.
     pub fn items(&self) -> &[Item]
         ensures value { result.now ≡ self.now.items }
         ensures world { IsWorld self.now }
@@ -235,6 +238,7 @@ impl World {
         self.items.as_slice()
     }
 
+    /// The skills, each at its number.
     pub fn skills(&self) -> &[Skill]
         ensures value { result.now ≡ self.now.skills }
         ensures world { IsWorld self.now }
@@ -242,6 +246,7 @@ impl World {
         self.skills.as_slice()
     }
 
+    /// The kinds of structures, each at its number.
     pub fn kinds(&self) -> &[Kind]
         ensures value { result.now ≡ self.now.kinds }
         ensures world { IsWorld self.now }
