@@ -1,7 +1,7 @@
 #!/usr/bin/env bash
-# Kills `join` and `mail`, by turns, at random moments, and finds each time that the campaign in the file is the one before the command or
-# the one after it: by `report`, by the rows of all tables, and by `PRAGMA integrity_check`. Before that the same is found by sqlite3 alone
-# of a copy of what the kill left. Where strace is there, both commands are then killed at each system call that they make, and each of their
+# Kills `join`, `mail` and `close`, by turns, at random moments, and finds each time that the campaign in the file is the one before the command
+# or the one after it: by `report`, by the rows of all tables, and by `PRAGMA integrity_check`. Before that the same is found by sqlite3 alone
+# of a copy of what the kill left. Where strace is there, each command is then killed at each system call that it makes, and each of its
 # calls on files is made to fail, once with a fault of the disk and once with a full disk. Called as
 #   tests/killed.sh [KILLS]
 # with 200 kills where none is said, it takes one to four minutes once the program is built, wants sqlite3, and ends with what was found. A command that
@@ -45,6 +45,12 @@ copied() {
   [ ! -e "$1-wal" ] || cp "$1-wal" "$work/left.db-wal"
 }
 
+# month_of FILE: the month last closed in a database
+month_of() {
+  copied "$1"
+  sqlite3 "$work/left.db" 'SELECT month FROM campaign'
+}
+
 # tell_ends FILE: the rows before and after the command, by way of a copy of the file, which is closed
 tell_ends() {
   cp "$1" "$work/whole.db" && rm -f "$work/whole.db-wal"
@@ -59,7 +65,7 @@ judge() {
   copied "$1"
   one_of_both "$work/left.db" || fail 'sqlite3 finds another campaign'
   "$program" report --db "$1" --faction 1 --pass pw >"$work/report" || fail 'there is no report'
-  head -n 1 "$work/report" | grep -qx 'Atlantis report, month 0, faction 1 "Avalon".' || fail 'there is another report'
+  head -n 1 "$work/report" | grep -qx 'Atlantis report, month [0-9]*, faction 1 "Avalon".' || fail 'there is another report'
   rm -f "$1-wal"
   copied "$1"
   one_of_both "$work/left.db" || fail 'the program leaves another campaign'
@@ -73,12 +79,14 @@ now() {
 # Random moments. The campaign goes on from what each kill left.
 while ((killed < kills)); do
   round=$((round + 1))
-  if ((round % 2)); then
-    command=(join --name "Faction $round" --pass pw --seed "$round")
-  else
-    printf '#ATLANTIS 1\nUNIT 1\nWORK ; round %s\n' "$round" >"$mailing"
-    command=(mail --faction 1 --pass pw --file "$mailing")
-  fi
+  case $((round % 3)) in
+    1) command=(join --name "Faction $round" --pass pw --seed "$round") ;;
+    2)
+      printf '#ATLANTIS 1\nUNIT 1\nWORK ; round %s\n' "$round" >"$mailing"
+      command=(mail --faction 1 --pass pw --file "$mailing")
+      ;;
+    0) command=(close --month $(($(month_of "$db") + 1)) --pass gm --seed "$round") ;;
+  esac
   tell_ends "$db"
   cp "$db" "$work/timed.db" && rm -f "$work/timed.db-wal"
   begin=$(now)
@@ -93,7 +101,7 @@ while ((killed < kills)); do
   judge "$db"
   if [ "$found" = "$rows_after" ]; then
     after=$((after + 1))
-    ((round % 2)) && factions=$((factions + 1))
+    [ "${command[0]}" = join ] && factions=$((factions + 1))
   else
     before=$((before + 1))
   fi
@@ -132,9 +140,15 @@ stop_each() {
 
 if command -v strace >/dev/null; then
   printf '#ATLANTIS 1\nUNIT 1\nTAX\n' >"$mailing"
-  for name in join mail; do
-    command=(join --name Last --pass pw --seed 1)
-    [ "$name" = join ] || command=(mail --faction 1 --pass pw --file "$mailing")
+  for name in join mail close; do
+    case $name in
+      join) command=(join --name Last --pass pw --seed 1) ;;
+      mail) command=(mail --faction 1 --pass pw --file "$mailing") ;;
+      close)
+        "$program" mail --db "$first" --faction 1 --pass pw --file "$mailing" >/dev/null || exit 1
+        command=(close --month 1 --pass gm --seed 1)
+        ;;
+    esac
     tell_ends "$first"
     cp "$first" "$work/traced.db" && rm -f "$work/traced.db-wal"
     strace -f -o "$work/trace" "$program" "${command[@]}" --db "$work/traced.db" >/dev/null
