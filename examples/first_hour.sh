@@ -24,7 +24,7 @@ gm() {
 tell 'The moderator founds the campaign, with a pass text of their own.'
 gm found --world isle.toml --db club.db --pass moderator
 
-tell 'Two players join. The seed is the club'"'"'s: it says where each begins.'
+tell 'Two players join. The seed is the club'"'"'s: it says where each begins, and the closing of a month wants it too.'
 gm join --db club.db --name Avalon --pass apple --seed 3
 gm join --db club.db --name Bree --pass pony --seed 3
 
@@ -41,13 +41,13 @@ Dear moderator, here are my orders.
 #ATLANTIS 1
 UNIT 1
 NAME UNIT "Woodcutters of Far"
-WROK
+GAURD 1
 FORM 1
-  RECRUIT 5
-  STUDY lumberjack
+  RECRUIT 4
+  WORK
 END
 PAY NEW 1 200
-PRODUCE wood
+STUDY lumberjack
 #END
 
 See you next month.
@@ -56,7 +56,7 @@ cat avalon.txt
 gm mail --db club.db --faction 1 --pass apple --file avalon.txt
 
 tell 'Line 6 is no order, so it is mended and all is sent again. The last mailing counts.'
-sed -i 's/^WROK$/GUARD 1/' avalon.txt
+sed -i 's/^GAURD 1$/GUARD 1/' avalon.txt
 gm mail --db club.db --faction 1 --pass apple --file avalon.txt
 
 tell 'The campaign is one file, which a copy keeps.'
@@ -65,6 +65,8 @@ gm report --db backup.db --faction 1 --pass apple
 
 tell 'The moderator closes the first month: all orders are carried out, and each faction gets a new report.'
 gm close --db club.db --month 1 --pass moderator --seed 3
+
+tell 'The first player reads what came of the orders. The new unit is unit 3, whose four recruits earned what they need.'
 gm report --db club.db --faction 1 --pass apple
 
 tell 'The moderator looks at the books: what came in and went, under which heading, and how much there is.'
