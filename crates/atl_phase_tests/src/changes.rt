@@ -1,59 +1,9 @@
 //! What has changed from one campaign to another, a line each.
-ghost use Rattle.std.specs.Prelude.{◌≡◌};
-ghost use Rattle.atl_state.specs.Books.{thing_place};
-
-use atl_state::{Campaign, Entry, Faction, Region, Structure, Thing, Unit};
+use crate::bookings::books;
+use crate::lines::{number, text};
+use atl_state::{Campaign, Faction, Region, Structure, Unit};
 use atl_tables::World;
 use std::alloc::{AllocError, Global};
-
-/// All entries of the books, by their names.
-const ENTRIES: [(&str, Entry); 13] = [
-    ("founding", Entry::Founding),
-    ("joining", Entry::Joining),
-    ("income", Entry::Income),
-    ("wages", Entry::Wages),
-    ("recruiting", Entry::Recruiting),
-    ("study", Entry::Study),
-    ("upkeep", Entry::Upkeep),
-    ("lost", Entry::Lost),
-    ("births", Entry::Births),
-    ("starved", Entry::Starved),
-    ("left", Entry::Left),
-    ("made", Entry::Made),
-    ("used", Entry::Used),
-];
-
-/// Tells a number where it isn't what it was.
-fn number(
-    alloc: Global,
-    of: &str,
-    what: &str,
-    before: i64,
-    after: i64,
-    told: &mut String,
-) -> Result<(), AllocError> {
-    if before == after {
-        return Ok(());
-    }
-    let line = format!(in alloc; "{of} {what} {after}\n")?;
-    told.push_str(line.as_str())
-}
-
-/// Tells a text where it isn't what it was.
-fn text(
-    alloc: Global,
-    of: &str,
-    what: &str,
-    before: &str,
-    after: &str,
-    told: &mut String,
-) -> Result<(), AllocError> {
-    if before == after {
-        return Ok(());
-    }
-    let line = format!(in alloc; "{of} {what} {after}\n")?;
-    told.push_str(line.as_str())
-}
 
 // ---- units
 
@@ -325,74 +275,30 @@ fn factions(
     Ok(())
 }
 
-// ---- books
+// ---- the numbers that come next
 
-/// What is booked of a thing under an entry; 0 where there is no such thing.
-fn booked(campaign: &Campaign, entry: Entry, place: usize, thing: Thing) -> i64
-    requires { thing_place thing ≡ place }
-{
-    if place < campaign.things() {
-        campaign.booked(entry, thing)
-    } else {
-        0
-    }
-}
-
-/// Tells what was booked of a thing.
-fn thing(
+/// Tells which numbers come next, where they aren't those that came next before.
+fn nexts(
     alloc: Global,
-    of: &str,
-    place: usize,
-    thing: Thing,
-    before: &Campaign,
-    after: &Campaign,
-    told: &mut String,
-) -> Result<(), AllocError>
-    requires { thing_place thing ≡ place }
-{
-    for (what, entry) in ENTRIES.iter() {
-        let old = booked(before, *entry, place, thing);
-        let new = booked(after, *entry, place, thing);
-        let more = new.wrapping_sub(old);
-        number(alloc, of, what, 0, more, told)?;
-    }
-    Ok(())
-}
-
-/// Tells what was booked.
-fn books(
-    alloc: Global,
-    world: &World,
     before: &Campaign,
     after: &Campaign,
     told: &mut String,
 ) -> Result<(), AllocError> {
-    thing(alloc, "booked money", 0, Thing::Money, before, after, told)?;
-    thing(
+    let (old, new) = (before.next_unit(), after.next_unit());
+    number(alloc, "next", "unit", i64::from(old), i64::from(new), told)?;
+    let (old, new) = (before.next_structure(), after.next_structure());
+    number(
         alloc,
-        "booked people",
-        1,
-        Thing::People,
-        before,
-        after,
+        "next",
+        "structure",
+        i64::from(old),
+        i64::from(new),
         told,
-    )?;
-    for (place, item) in world.items().iter().enumerate() {
-        let of = format!(in alloc; "booked {}", item.name.as_str())?;
-        thing(
-            alloc,
-            of.as_str(),
-            place + 2,
-            Thing::Item(place as u16),
-            before,
-            after,
-            told,
-        )?;
-    }
-    Ok(())
+    )
 }
 
-/// Tells all that has changed from one campaign of the world to another: names, numbers, goods, days, and what was booked.
+/// Tells all that has changed from one campaign of the world to another: names, numbers, goods, days, which
+/// numbers come next, and what was booked.
 pub(crate) fn tell_changes(
     alloc: Global,
     world: &World,
@@ -405,5 +311,6 @@ pub(crate) fn tell_changes(
     structures(alloc, world, before, after, told)?;
     regions(alloc, before, after, told)?;
     factions(alloc, before, after, told)?;
+    nexts(alloc, before, after, told)?;
     books(alloc, world, before, after, told)
 }

@@ -2,8 +2,10 @@
 //! is played, and each case that comes to something else is told.
 #![tactic(auto)]
 
+mod bookings;
 mod cases;
 mod changes;
+mod lines;
 mod months;
 mod runs;
 mod script;

@@ -83,19 +83,40 @@ impl Setting {
     }
 }
 
-/// The names that the factions joined under, in the order of their numbers.
+/// The names that the factions joined under, in the order of their numbers, and the number that comes next.
 const FACTIONS: [&str; 2] = ["Avalon", "Bree"];
+
+const NEXT_FACTION: i64 = 3;
+
+/// The id of a campaign's own row, and its format.
+const CAMPAIGN_ID: i64 = 1;
+
+const CAMPAIGN_FORMAT: i64 = 1;
+
+/// The moderator's pass text, and that of both factions.
+const MODERATOR_PASS: &[u8; 2] = b"gm";
+
+const FACTION_PASS: &[u8; 2] = b"pw";
+
+/// In rows of the books the number of joining among the entries, and of money, people and the first item among the things.
+const JOINING: i64 = 2;
+
+const MONEY: i64 = 0;
+
+const PEOPLE: i64 = 1;
+
+const FIRST_ITEM: i64 = 2;
 
 fn head(alloc: Global, setting: &Setting) -> Result<Sequence<StoredHead>, AllocError> {
     let mut all = Sequence::new(alloc);
     all.push(StoredHead {
-        id: 1,
-        format: 1,
+        id: CAMPAIGN_ID,
+        format: CAMPAIGN_FORMAT,
         month: 0,
-        next_faction: 3,
+        next_faction: NEXT_FACTION,
         next_unit: setting.next_unit(),
         next_structure: (setting.structures.len() as i64).wrapping_add(1),
-        pass: Sequence::from_slice(alloc, b"gm")?,
+        pass: Sequence::from_slice(alloc, MODERATOR_PASS)?,
     })?;
     Ok(all)
 }
@@ -112,7 +133,7 @@ fn faction(
         number,
         joined_as: Sequence::from_slice(alloc, name.as_bytes())?,
         name: Sequence::from_slice(alloc, name.as_bytes())?,
-        pass: Sequence::from_slice(alloc, b"pw")?,
+        pass: Sequence::from_slice(alloc, FACTION_PASS)?,
         gone: i64::from(!there),
     })
 }
@@ -129,7 +150,7 @@ fn factions(alloc: Global, units: &[Stood]) -> Result<Sequence<StoredFaction>, A
 
 fn reports(alloc: Global) -> Result<Sequence<StoredReport>, AllocError> {
     let mut all = Sequence::new(alloc);
-    for faction in 1..3i64 {
+    for faction in 1..NEXT_FACTION {
         all.push(StoredReport {
             faction,
             text: Text::from_str(alloc, "A report.\n")?,
@@ -202,7 +223,7 @@ fn structures_of(
 fn book(books: &mut Sequence<StoredBooks>, thing: i64, amount: i64) -> Result<(), AllocError> {
     if amount != 0 {
         books.push(StoredBooks {
-            entry: 2,
+            entry: JOINING,
             thing,
             amount,
         })?;
@@ -239,18 +260,19 @@ fn book_all(
     books: &mut Sequence<StoredBooks>,
 ) -> Result<(), AllocError> {
     let (money, men) = money_and_men(&setting.units);
-    book(books, 0, money)?;
-    book(books, 1, men)?;
+    book(books, MONEY, money)?;
+    book(books, PEOPLE, men)?;
     let mut item: i64 = 0;
     for _ in world.items() {
-        book(books, item.wrapping_add(2), all_of(&setting.has, item))?;
+        let thing = item.wrapping_add(FIRST_ITEM);
+        book(books, thing, all_of(&setting.has, item))?;
         item = item.wrapping_add(1);
     }
     Ok(())
 }
 
 fn rows_of(alloc: Global, world: &World, setting: &Setting) -> Result<Parts, AllocError> {
-    let mut parts = founded(alloc, world, b"gm")?.parts()?;
+    let mut parts = founded(alloc, world, MODERATOR_PASS)?.parts()?;
     book_all(world, setting, &mut parts.books)?;
     parts.campaign = head(alloc, setting)?;
     parts.factions = factions(alloc, &setting.units)?;
