@@ -1,7 +1,10 @@
 #!/usr/bin/env python3
 """Prints the cases of crates/atl_phase_tests/data/crowd.txt: 300 units of two factions in 12 regions with orders of all sorts, and beside them what
 tests/plain.py reckons."""
-import os, random
+import os, random, sys
+
+sys.dont_write_bytecode = True
+
 from plain import Case, World, played
 
 WORLD = os.path.join(os.path.dirname(os.path.abspath(__file__)), "..", "crates", "atl_phase_tests", "data", "crowd.toml")
@@ -47,7 +50,7 @@ for unit in dice.sample(units, 90):
     place = dice.choice(structures)
     unit.region, unit.inside = place.region, structures.index(place) + 1
     place.inside.append(unit.number)
-# carpenters have wood; owners of ships are sailors, with some crew
+# carpenters have wood; who is aboard is a sailor, and one in eleven has too much for a barge
 for unit in units:
     unit.study = dice.choice([*world.skills])
     if unit.trade == "carpentry":
@@ -57,7 +60,7 @@ for place in structures:
     for number in place.inside if world.kinds[place.kind]["ship"] else []:
         sailors = units[number - 1]
         sailors.days = {skill: days // sailors.men for skill, days in sailors.days.items()}
-        sailors.men, sailors.days["sailing"], sailors.items = 1 + number % 4, 180 * (1 + number % 4), {"wood": 1 + number % 30}
+        sailors.men, sailors.days["sailing"], sailors.items = 1 + number % 4, 180 * (1 + number % 4), {"wood": 200 if number % 11 == 0 else 1 + number % 30}
 # in each region units of one faction guard
 for region in world.regions:
     faction = dice.choice((1, 2))
@@ -119,9 +122,16 @@ def listed(unit):
     return " ".join(str(dice.choice(fit) if fit and dice.random() < 0.8 else near(unit)) for _ in range(dice.randint(1, 6)))
 
 
+def owns_ship(unit):
+    place = structures[unit.inside - 1] if unit.inside else None
+    return place and place.owner == unit.number and world.kinds[place.kind]["ship"]
+
+
 def month_long(unit):
     """One order that takes the month."""
     way = dice.choice(("NORTH", "SOUTH", "EAST", "WEST"))
+    if owns_ship(unit) and dice.random() < 0.7:
+        return f"SAIL {way}"
     if unit.inside and dice.random() < 0.5:
         return dice.choice((f"SAIL {way}", "BUILD", f"STUDY {unit.study}"))
     return dice.choice(
@@ -142,7 +152,7 @@ def month_long(unit):
 def travelling(unit):
     """Owners of ships sail; of the others some teach what is studied in their region, most study it, and some move or build."""
     skill = [*world.skills][unit.region % len(world.skills)]
-    if unit.inside and structures[unit.inside - 1].owner == unit.number and world.kinds[structures[unit.inside - 1].kind]["ship"]:
+    if owns_ship(unit):
         return f"SAIL {dice.choice(('NORTH', 'SOUTH', 'EAST', 'WEST'))}"
     if unit.inside and dice.random() < 0.4:
         return "BUILD"
@@ -189,6 +199,7 @@ def case(title, run, mailings, words, lines, more=()):
 
 def main():
     lines = [*campaign()]
+    passengers = [f"menless {u.number}" for u in units if u.inside and not owns_ship(u) and u.number % 4 == 0]
     menless = [f"menless {u.number}" for u in dice.sample(units, 70)]
     words = [dice.randrange(2**32) for _ in world.regions]
     mailings = [[*mailing(2)], [*mailing(1)]]
@@ -196,12 +207,12 @@ def main():
     print("\n".join(lines))
     for part in (
         case("Orders of all sorts.", "orders", mailings, [], lines),
-        case("Travel, building and lessons.", "orders", [[*long_mailing(2)], [*long_mailing(1)]], [], lines),
         case("Who has no month-long order works.", "work", mailings, [], lines),
         case("Upkeep of all.", "upkeep", [], [], lines),
         case("A season of all regions.", "season", [], words, lines),
         case("A whole month.", "month", mailings, words, lines),
-        case("Seventy units have lost their men.", "sweep", [], [], lines, menless),
+        case("Travel, building and lessons; some who are inside have lost their men.", "orders", [[*long_mailing(2)], [*long_mailing(1)]], [], lines, passengers),
+        case("Seventy units more have lost their men.", "sweep", [], [], [*lines, *passengers], menless),
     ):
         print("\n".join(part))
 
