@@ -93,11 +93,6 @@ const CAMPAIGN_ID: i64 = 1;
 
 const CAMPAIGN_FORMAT: i64 = 1;
 
-/// The moderator's pass text, and that of both factions.
-const MODERATOR_PASS: &[u8; 2] = b"gm";
-
-const FACTION_PASS: &[u8; 2] = b"pw";
-
 /// In rows of the books the number of joining among the entries, and of money, people and the first item among the things.
 const JOINING: i64 = 2;
 
@@ -116,7 +111,7 @@ fn head(alloc: Global, setting: &Setting) -> Result<Sequence<StoredHead>, AllocE
         next_faction: NEXT_FACTION,
         next_unit: setting.next_unit(),
         next_structure: (setting.structures.len() as i64).wrapping_add(1),
-        pass: Sequence::from_slice(alloc, MODERATOR_PASS)?,
+        pass: Sequence::from_slice(alloc, b"gm")?,
     })?;
     Ok(all)
 }
@@ -133,7 +128,7 @@ fn faction(
         number,
         joined_as: Sequence::from_slice(alloc, name.as_bytes())?,
         name: Sequence::from_slice(alloc, name.as_bytes())?,
-        pass: Sequence::from_slice(alloc, FACTION_PASS)?,
+        pass: Sequence::from_slice(alloc, b"pw")?,
         gone: i64::from(!there),
     })
 }
@@ -272,7 +267,7 @@ fn book_all(
 }
 
 fn rows_of(alloc: Global, world: &World, setting: &Setting) -> Result<Parts, AllocError> {
-    let mut parts = founded(alloc, world, MODERATOR_PASS)?.parts()?;
+    let mut parts = founded(alloc, world, b"gm")?.parts()?;
     book_all(world, setting, &mut parts.books)?;
     parts.campaign = head(alloc, setting)?;
     parts.factions = factions(alloc, &setting.units)?;
