@@ -25,23 +25,24 @@ use Rattle.atl_state.proofs.HoldingLaws.{MayHold, of_one_faction_kept, steady-he
 use Rattle.atl_state.proofs.RegionLaws.{changed-known}
 use Rattle.atl_instant.specs.Course.{Aliases}
 use Rattle.atl_instant.specs.Inside.{inside}
-use Rattle.atl_instant.specs.Name.{name_by, name_step, named, structure_fault, structure_named, with_unit_name}
+use Rattle.atl_instant.specs.Name.{name_by, name_concerns, name_step, named, structure_fault, structure_named, takes_naming, with_unit_name}
 use Rattle.atl_instant.specs.Outcomes.{unless}
 use Rattle.atl_instant.specs.PhaseOrders.{Task}
 use Rattle.atl_instant.specs.Staying.{IsNoWorse}
-use Rattle.atl_instant.specs.Steps.{IsOrderly, IsOwnOrder, StepsWell, is_own}
+use Rattle.atl_instant.specs.Steps.{IsOrderly, IsOwnOrder, IsSpared, StepsWell, is_own}
 use Rattle.atl_instant.specs.Unbooked.{books_nothing, moves_nothing}
 use Rattle.atl_instant.proofs.FactionLaws.{count-faction_name, known-faction_name, steady-faction_name}
 use Rattle.atl_instant.proofs.RefitLaws.{IsRelabelled, early-relabelled}
 use Rattle.atl_instant.proofs.StructureLaws.{at_number, changed_else, get-changed, len-changed}
+use Rattle.atl_instant.proofs.StayingLaws.{no_worse}
 use Rattle.atl_instant.proofs.StepLaws.{no_worse_spares, well_same}
 use Rattle.atl_instant.proofs.UnbookedLaws.{other_spared, own_unit, same_total_of, unbooked_well}
 
 -- an order that is none of the phase changes nothing
-pub name_other : (w : Planet) (c : State) (f n : ℕ) (text : List ℕ) (o : Order Span) → ((what : NameKind) (span : Span) → o ≡ orders.Name what span → ⊥) → ((flag : Bool) → o ≡ orders.Guard flag → ⊥)
+pub name_other : (w : Planet) (c : State) (f n : ℕ) (text : List ℕ) (o : Order Span) → ((what : NameKind) (span : Span) → o ≡ orders.Name what span → ⊥) → (o ≡ orders.Guard false → ⊥)
     → (c, Done 0) ≡ name_by w c f n (said text o)
 name_other w c f n text (orders.Name what span) a b = absurd (a what span refl)
-name_other w c f n text (orders.Guard flag) a b = absurd (b flag refl)
+name_other w c f n text (orders.Guard false) a b = absurd (b refl)
 name_other w c f n text other a b = refl
 
 false_true : {P : Type 0} → false ≡ true → P
@@ -144,7 +145,7 @@ module _ (w : Planet) (c : State) (n : ℕ) (u : Unit) (is : get c.units n ≡ S
 
   order_well : (o : Said) → IsOrderOf w o → Well (name_by w c u.faction n o).0
   order_well (orders.Name what name) fit = named_well what name fit
-  order_well (orders.Guard flag) fit = flag_well
+  order_well (orders.Guard false) fit = flag_well
   order_well other fit = well_same w c early
 
 name_well : (w : Planet) (a : Aliases) (c : State) (t : Task) → IsEarly w c → IsOrderOf w t.said → is_own c t ≡ true → StepsWell IsEarly books_nothing w c (name_step w a c t).0
@@ -174,14 +175,18 @@ module _ (w : Planet) (c : State) (f n k : ℕ) (apart : k ≢ n) where
 
   order_stays : (o : Said) → Stays (name_by w c f n o).0
   order_stays (orders.Name what name) = named_stays what name
-  order_stays (orders.Guard flag) = changed_else (λ (x : Unit). record x { holding = record x.holding { guard = false } }) c.units n k apart (get c.units n)
+  order_stays (orders.Guard false) = changed_else (λ (x : Unit). record x { holding = record x.holding { guard = false } }) c.units n k apart (get c.units n)
   order_stays other = refl
 
-pub name_orderly : IsOrderly name_step IsEarly books_nothing moves_nothing IsOwnOrder IsNoWorse
+pub name_orderly : IsOrderly name_step IsEarly books_nothing moves_nothing name_concerns IsNoWorse
 unfolding name_step
 name_orderly = record {
   well = name_well;
   sparing = no_worse_spares;
-  spared = λ w a c t early own k v there apart. other_spared c (name_by w c t.faction t.unit t.said).0 t (λ j other. order_stays w c t.faction t.unit j other t.said) own k v there apart;
+  spared = λ w a c t early own k v there other. spared w c t own k v there t.said (λ takes mine. other (mine, takes));
   bounded = λ w c early e t. omega arith;
 }
+  where
+    spared : (w : Planet) (c : State) (t : Task) → is_own c t ≡ true → (k : ℕ) (v : Unit) → get c.units k ≡ Some v → (o : Said) → (takes_naming o ≡ true → IsOwnOrder t k v.faction → ⊥) → IsSpared IsNoWorse (name_by w c t.faction t.unit o).0 k v
+    spared w c t own k v there (orders.Guard true) apart = record { unit = v; there = there; spared = no_worse v }
+    spared w c t own k v there o apart = other_spared c (name_by w c t.faction t.unit o).0 t (λ j other. order_stays w c t.faction t.unit j other o) own k v there (apart refl)

@@ -23,7 +23,7 @@ use Rattle.atl_instant.specs.Form.{form_by, form_keeps, form_meaning, form_order
 use Rattle.atl_instant.specs.Give.{give_keeps, give_meaning, give_said, give_step, is_giving, held_of, with_held_of, give}
 use Rattle.atl_instant.specs.Guard.{guard, guard_by, guard_concerns, guard_fault, guard_keeps, guard_meaning, guard_said, guard_step, is_guarding, sets_flag}
 use Rattle.atl_instant.specs.Inside.{inside, region_of}
-use Rattle.atl_instant.specs.Name.{is_naming, name_by, name_keeps, name_meaning, name_step, named, takes_naming}
+use Rattle.atl_instant.specs.Name.{is_naming, name_by, name_concerns, name_keeps, name_meaning, name_step, named, takes_naming}
 use Rattle.atl_instant.specs.Outcomes.{unless}
 use Rattle.atl_instant.specs.Place.{enter_fault, entered_other, is_placing, leave_fault, place_by, place_keeps, place_meaning, place_step, promote_fault, takes_placing}
 use Rattle.atl_instant.specs.PhaseOrders.{Task, orders_of, unit_of}
@@ -76,7 +76,7 @@ named_men w c f n kinds.Ship name = men_unless c (with_structure_name c (inside 
 
 name_men : (w : Planet) (c : State) (f n : ℕ) (o : Said) → HaveTheirMen c (name_by w c f n o).0
 name_men w c f n (orders.Name what name) = named_men w c f n what name
-name_men w c f n (orders.Guard flag) = guard_men c n false
+name_men w c f n (orders.Guard false) = guard_men c n false
 name_men w c f n other = men_stay c
 
 name_spares : SparesMen name_step
@@ -84,7 +84,7 @@ unfolding name_step
 name_spares w a c t own n u there other = name_men w c t.faction t.unit t.said n u there
 
 pub name_leaves : LeavesUnmailed name_meaning name_keeps
-name_leaves = carried_leaves name_step takes_naming is_naming name_spares (unmailed_spared is_naming own_faction items_of_no_worse)
+name_leaves = carried_leaves name_step takes_naming is_naming name_spares (unmailed_spared {concerns = name_concerns} is_naming (λ t n f h. own_faction t n f h.0) items_of_no_worse)
 
 -- ---- LEAVE, ENTER and PROMOTE
 

@@ -1,5 +1,5 @@
 -- NAME and GUARD 0: units give names, and leave their guard. See docs/RULES.md, "Name".
-use Rattle.std.specs.Prelude.{ℕ, ◌==◌, Bool, true, false, not, List, [], ◌∷◌, Option, Some, None, if◌then◌else◌}
+use Rattle.std.specs.Prelude.{◌≡◌, ℕ, ◌==◌, Bool, true, false, not, List, [], ◌∷◌, Option, Some, None, if◌then◌else◌}
 use Rattle.std.specs.FinMap.{get}
 use Rattle.atl_tables.specs.Planet.{Planet}
 use Rattle.atl_orders.specs.declared.order.NameKind.{NameKind}
@@ -19,7 +19,7 @@ use Rattle.atl_instant.specs.Inside.{inside}
 use Rattle.atl_instant.specs.Meaning.{Keeping, Meaning}
 use Rattle.atl_instant.specs.Outcomes.{first_fault, unless}
 use Rattle.atl_instant.specs.Staying.{IsNoWorse}
-use Rattle.atl_instant.specs.Steps.{IsOwnOrder, Step, carried_out, spares_others}
+use Rattle.atl_instant.specs.Steps.{Concern, IsOwnOrder, Step, carried_out, spares_others}
 
 -- ---- which orders are of the phase
 
@@ -61,18 +61,22 @@ named w c f n kinds.Ship name = structure_named w c n (inside c n) true name
 
 abbrev pub name_by : Planet → State → (f n : ℕ) → Said → State × Outcome
 name_by w c f n (orders.Name what name) = named w c f n what name
-name_by w c f n (orders.Guard flag) = (with_guard c n false, Done 0)
+name_by w c f n (orders.Guard false) = (with_guard c n false, Done 0)
 name_by w c f n order = (c, Done 0)
 
 -- what an order of a unit's own faction makes of a campaign
 unfoldable pub name_step : Step
 name_step w a c t = name_by w c t.faction t.unit t.said
 
+-- which units an order concerns: the one that gives a name, or leaves its guard
+abbrev pub name_concerns : Concern
+name_concerns t number faction = IsOwnOrder t number faction × (takes_naming t.said ≡ true)
+
 -- ---- the phase
 
 abbrev pub name_meaning : Meaning
 name_meaning = carried_out name_step takes_naming is_naming
 
--- who gives no order of the phase stays
+-- a unit for which its own faction wrote no such order is no worse off
 abbrev pub name_keeps : Keeping
-name_keeps = spares_others IsOwnOrder IsNoWorse is_naming
+name_keeps = spares_others name_concerns IsNoWorse is_naming

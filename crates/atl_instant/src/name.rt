@@ -6,9 +6,8 @@ ghost use Rattle.atl_orders.specs.Orders.{name_in};
 ghost use Rattle.atl_state.specs.State.{with_faction_name, with_guard};
 ghost use Rattle.atl_state.specs.Covers.{MarksChanges};
 ghost use Rattle.atl_state.specs.Good.{IsEarly};
-ghost use Rattle.atl_instant.specs.Name.{is_naming, is_of_sort, name_keeps, name_meaning, name_step, named, structure_fault, structure_named, takes_naming, with_unit_name};
+ghost use Rattle.atl_instant.specs.Name.{is_naming, is_of_sort, name_concerns, name_keeps, name_meaning, name_step, named, structure_fault, structure_named, takes_naming, with_unit_name};
 ghost use Rattle.atl_instant.specs.Staying.{IsNoWorse};
-ghost use Rattle.atl_instant.specs.Steps.{IsOwnOrder};
 ghost use Rattle.atl_instant.specs.Unbooked.{books_nothing, moves_nothing};
 
 use crate::inside::structure_of;
@@ -161,7 +160,7 @@ impl OrderPhase for NamePhase {
 
     ghost moving = { moves_nothing };
 
-    ghost concerns = { IsOwnOrder };
+    ghost concerns = { name_concerns };
 
     ghost spares = { IsNoWorse };
 
@@ -191,7 +190,7 @@ impl OrderPhase for NamePhase {
                 let given = name_of(alloc, mailing, *span)?;
                 Ok(name(world, campaign, order.faction, order.unit, *kind, given))
             }
-            Order::Guard(_) => {
+            Order::Guard(false) => {
                 leave_guard(campaign, order.unit);
                 Ok(Outcome::Done(0))
             }
