@@ -25,6 +25,7 @@ pub mod PlaceLaws
 pub mod FormingLaws
 pub mod FormLaws
 pub mod QuitLaws
+pub mod QuittingLaws
 pub mod FitLaws
 pub mod UnmailedLaws
 pub mod UnmailedStepLaws

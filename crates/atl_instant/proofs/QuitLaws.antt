@@ -351,7 +351,7 @@ all_left_others w c (n ∷ ns) k steady apart =
 -- ---- one order
 
 -- what is so of the campaign as it is, and of that in which the faction's units left, is so of the campaign behind the order
-quit_cases : (P : State → Type 0) (c : State) (n number : ℕ) → P c → ((u : Unit) → get c.units n ≡ Some u → number ≡ u.faction → P (fold left_at c (numbers_of u.faction c.units))) → P (quit c n number).0
+pub quit_cases : (P : State → Type 0) (c : State) (n number : ℕ) → P c → ((u : Unit) → get c.units n ≡ Some u → number ≡ u.faction → P (fold left_at c (numbers_of u.faction c.units))) → P (quit c n number).0
 unfolding quit
 quit_cases P c n number same leave = by_unit (get c.units n) refl
   where

@@ -27,7 +27,7 @@ use Rattle.atl_instant.specs.Name.{is_naming, name_by, name_concerns, name_keeps
 use Rattle.atl_instant.specs.Outcomes.{unless}
 use Rattle.atl_instant.specs.Place.{enter_fault, entered_other, is_placing, leave_fault, place_by, place_keeps, place_meaning, place_step, promote_fault, takes_placing}
 use Rattle.atl_instant.specs.PhaseOrders.{Task, orders_of, unit_of}
-use Rattle.atl_instant.specs.Quit.{booked_off, is_quitting, item_gone, left_at, left_by, quit, quit_by, quit_concerns, quit_fault, quit_keeps, quit_meaning, quit_said, quit_step}
+use Rattle.atl_instant.specs.Quit.{QuitsFrom, booked_off, is_quitting, item_gone, left_at, left_by, quit, quit_by, quit_fault, quit_keeps, quit_meaning, quit_said, quit_step}
 use Rattle.atl_instant.specs.Steps.{IsSpared, is_own}
 use Rattle.atl_instant.specs.Transfer.{is_transferring, transfer, transfer_keeps, transfer_meaning, transfer_said, transfer_step, with_fewer, with_more}
 use Rattle.atl_instant.specs.Unmailed.{starved_in}
@@ -272,4 +272,4 @@ quit_spares : SparesMen quit_step
 quit_spares w a c t own n u there other = quitted c t own t.said n u there other
 
 pub quit_leaves : LeavesUnmailed quit_meaning quit_keeps
-quit_leaves = carried_leaves quit_step (λ s. true) is_quitting quit_spares (unmailed_spared {concerns = quit_concerns} is_quitting (λ t n f h. h.0) items_of_no_worse)
+quit_leaves = carried_leaves quit_step (λ s. true) is_quitting quit_spares (λ w c d m. unmailed_spared {concerns = QuitsFrom c} is_quitting (λ t n f h. h.faction) items_of_no_worse w c d m)

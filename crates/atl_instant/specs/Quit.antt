@@ -24,7 +24,7 @@ use Rattle.atl_instant.specs.Meaning.{Keeping, Meaning, Moving, most_moved, move
 use Rattle.atl_instant.specs.Outcomes.{first_fault, unless}
 use Rattle.atl_instant.specs.PhaseOrders.{Task}
 use Rattle.atl_instant.specs.Staying.{IsNoWorse}
-use Rattle.atl_instant.specs.Steps.{Concern, Reserve, Step, carried_out, spares_others}
+use Rattle.atl_instant.specs.Steps.{Concern, Reserve, Step, carried_out, is_own, spares_others}
 
 abbrev pub is_quitting : Verb → Bool
 is_quitting verbs.Quit = true
@@ -82,13 +82,19 @@ quit_step w aliases c t = quit_said c t t.said
 abbrev pub quit_meaning : Meaning
 quit_meaning = carried_out quit_step (λ s. true) is_quitting
 
--- which units an order concerns: those of the faction that quits
+-- which units an order of a unit's own faction concerns: those of the faction that quits
 abbrev pub quit_concerns : Concern
 quit_concerns t number faction = (t.faction ≡ faction) × (t.said ≡ orders.Quit faction)
 
+-- an order by which the faction of a unit quits, for a unit that is its own as the phase begins
+pub record QuitsFrom (begun : State) (t : Task) (n f : ℕ) : Type 0 where
+  pub own : is_own begun t ≡ true
+  pub faction : t.faction ≡ f
+  pub said : t.said ≡ orders.Quit f
+
 -- a unit whose faction doesn't quit is no worse off
 abbrev pub quit_keeps : Keeping
-quit_keeps = spares_others quit_concerns IsNoWorse is_quitting
+quit_keeps w m before after = spares_others (QuitsFrom before) IsNoWorse is_quitting w m before after
 
 -- ---- how far it moves the books
 
