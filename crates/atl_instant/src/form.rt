@@ -6,7 +6,6 @@ ghost use Rattle.atl_state.specs.Covers.{MarksChanges};
 ghost use Rattle.atl_state.specs.Good.{IsEarly};
 ghost use Rattle.atl_state.specs.Limits.{last_unit};
 ghost use Rattle.atl_instant.specs.Form.{alias_of, form_by, form_fault, form_keeps, form_meaning, formed, formed_written, is_forming, is_unit_limit, new_unit, noted};
-ghost use Rattle.atl_instant.specs.Steps.{is_of_faction};
 ghost use Rattle.atl_instant.specs.Unbooked.{moves_nothing};
 
 use crate::inside::{region_of, structure_of};
@@ -14,27 +13,16 @@ use crate::month::Month;
 use crate::orders::PhaseVerbs;
 use crate::outcome::failed;
 use crate::phase::Phase;
+use crate::steps::is_of_faction;
 use crate::written::{Arrangement, Written};
 use atl_orders::{Order, Verb};
-use atl_state::{
-    Campaign, Event, EventFault, EventVerb, Holding, LAST_UNIT, MOST_UNITS, Outcome, Unit,
-};
+use atl_state::{Campaign, EventFault, Holding, LAST_UNIT, MOST_UNITS, Outcome, Unit};
 use atl_tables::{Numbered, Text, World};
 use std::alloc::{AllocError, Global};
 
 /// Units form new ones, which have a name and nothing else. See docs/RULES.md, "Form".
 #[derive(Drop, Clone, Copy)]
 pub struct FormPhase;
-
-/// Whether a unit is there, and of a faction.
-fn is_of_faction(campaign: &Campaign, unit: u32, faction: u32) -> bool
-    ensures { result ≡ is_of_faction faction (map.get campaign.now.what.units unit) }
-{
-    match campaign.unit(unit) {
-        Some(found) => found.faction == faction,
-        None => false,
-    }
-}
 
 /// Whether no further unit can come.
 fn is_unit_limit(campaign: &Campaign) -> bool
@@ -145,13 +133,7 @@ fn form_one(
         None => return Ok(()),
     };
     let outcome = form(alloc, campaign, month, order.faction, order.unit, alias)?;
-    month.tell(Event {
-        faction: order.faction,
-        unit: order.unit,
-        line: order.line,
-        verb: EventVerb::Order(verb),
-        outcome,
-    })
+    month.tell(order.event(verb, outcome))
 }
 
 impl PhaseVerbs for FormPhase {

@@ -1,12 +1,13 @@
 //! A phase that carries its orders out one by one.
 ghost use Rattle.std.specs.Prelude.{◌≡◌, Bool, IfOk, List, OnOk, Some, true, ℕ};
+ghost use Rattle.std.specs.FinMap.{get};
 ghost use Rattle.atl_orders.specs.Orders.{Said, said};
 ghost use Rattle.atl_state.specs.Covers.{MarksChanges};
 ghost use Rattle.atl_instant.specs.Course.{order_at, said_of};
 ghost use Rattle.atl_orders.specs.Bounds.{IsOrderOf};
 ghost use Rattle.atl_instant.specs.Fit.{AreFit};
 ghost use Rattle.atl_instant.specs.Meaning.{Condition, HaveRoom, LeavesWell, Moving};
-ghost use Rattle.atl_instant.specs.Steps.{Concern, IsOrderly, Reserve, Sparing, Step, StepsWell, carried, carried_out, is_own, spares_others, told};
+ghost use Rattle.atl_instant.specs.Steps.{Concern, IsOrderly, Reserve, Sparing, Step, StepsWell, carried, carried_out, is_of_faction, is_own, spares_others};
 ghost use Rattle.atl_instant.specs.Carrying.{carried_written, task_of};
 
 use crate::month::Month;
@@ -14,7 +15,7 @@ use crate::orders::PhaseVerbs;
 use crate::outcome::failed;
 use crate::written::{Arrangement, Written};
 use atl_orders::{Mailing, Order};
-use atl_state::{Campaign, Event, EventFault, EventVerb, Outcome};
+use atl_state::{Campaign, EventFault, Outcome};
 use atl_tables::World;
 use std::alloc::{AllocError, Global};
 
@@ -67,12 +68,12 @@ pub trait OrderPhase: PhaseVerbs {
         ensures { IsOrderly (step self.now) holds reserve moving concerns spares };
 }
 
-/// Whether the unit of an order is there, and of the faction that wrote it.
-fn is_own(campaign: &Campaign, order: Written) -> bool
-    ensures { (what : Said) → result ≡ is_own campaign.now.what (task_of order what) }
+/// Whether a unit is there, and of a faction.
+pub(crate) fn is_of_faction(campaign: &Campaign, unit: u32, faction: u32) -> bool
+    ensures { result ≡ is_of_faction faction (get campaign.now.what.units unit) }
 {
-    match campaign.unit(order.unit) {
-        Some(unit) => unit.faction == order.faction,
+    match campaign.unit(unit) {
+        Some(found) => found.faction == faction,
         None => false,
     }
 }
@@ -94,23 +95,10 @@ fn outcome_of<P: OrderPhase>(
     ensures step { IfOk result (λ outcome. (campaign.new.what, outcome) ≡ carried (P.step phase.now) world.now month.now.aliases campaign.old.what (task_of order (said mailing.now.text what.now))) }
     ensures marks { OnOk result (MarksChanges campaign.old campaign.new) }
 {
-    if is_own(campaign, order) {
+    if is_of_faction(campaign, order.unit, order.faction) {
         phase.carry_out(alloc, world, campaign, month, order, mailing, what)
     } else {
         Ok(failed(EventFault::NotYours))
-    }
-}
-
-/// What is told of an order.
-fn event_of(order: Written, what: &Order, outcome: Outcome) -> Event
-    ensures { (text : List ℕ) → result ≡ told (task_of order (said text what.now)) outcome }
-{
-    Event {
-        faction: order.faction,
-        unit: order.unit,
-        line: order.line,
-        verb: EventVerb::Order(what.verb()),
-        outcome,
     }
 }
 
@@ -134,7 +122,7 @@ fn carry_one<P: OrderPhase>(
     let event = match month.order(order.faction, order.place) {
         Some((mailing, what)) if phase.takes(what) => {
             let outcome = outcome_of(alloc, phase, world, campaign, month, order, mailing, what)?;
-            event_of(order, what, outcome)
+            order.event(what.verb(), outcome)
         }
         _ => return Ok(()),
     };

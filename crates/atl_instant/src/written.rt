@@ -3,6 +3,7 @@ ghost use Rattle.std.specs.Prelude.{◌≡◌};
 ghost use Rattle.atl_instant.specs.Collecting.{key_by};
 
 use atl_orders::Verb;
+use atl_state::{Event, EventVerb, Outcome};
 
 /// In which order a phase carries its orders out.
 #[derive(Drop, Clone, Copy, Debug, PartialEq, Eq)]
@@ -28,6 +29,19 @@ pub struct Written {
 }
 
 impl Written {
+    /// What is told of the order.
+    pub fn event(self, verb: Verb, outcome: Outcome) -> Event
+        ensures { result ≡ record { faction = self.faction; unit = self.unit; line = self.line; verb = EventVerb.Order verb; outcome = outcome } }
+    {
+        Event {
+            faction: self.faction,
+            unit: self.unit,
+            line: self.line,
+            verb: EventVerb::Order(verb),
+            outcome,
+        }
+    }
+
     /// What orders are sorted by.
     pub(crate) fn key(&self, arrangement: Arrangement) -> [usize; 4]
         ensures { result ≡ key_by arrangement self.now }
