@@ -14,7 +14,7 @@ use Rattle.atl_state.specs.declared.records.Unit.{Unit}
 use Rattle.atl_state.specs.Good.{IsSteady, guards}
 use Rattle.atl_state.specs.Books.{amount_in, booked}
 use Rattle.atl_state.specs.Held.{amount_of}
-use Rattle.atl_state.specs.State.{State, numbers_of}
+use Rattle.atl_state.specs.State.{State, numbers_inside, numbers_of}
 use Rattle.atl_state.specs.Totals.{held, kept, total}
 use Rattle.atl_state.proofs.RegionLaws.{same_len}
 use Rattle.atl_instant.specs.Meaning.{IsSameMonth}
@@ -94,6 +94,15 @@ module _ (structure to : ℕ) where
   elsewhere_at m n k =
       get-changed flag_off (changed put_there m n) n k ∙ ap (option_map (at_number flag_off (changed put_there m n) n k)) (get-changed put_there m n k)
       ∙ elsewhere_by m n k (k == n) refl (get m k)
+
+  inside_changed : (f : Unit → Unit) (m : FinMap nat_cmp Unit) (n q : ℕ) (v : Unit) → get m n ≡ Some v → (v.structure == q) ≡ ((f v).structure == q) → numbers_inside q (changed f m n) ≡ numbers_inside q m
+  inside_changed f m n q v is same = ap (λ o. numbers_inside q (changed_at f m n o)) is ∙ numbers_where-insert_known (λ (x : Unit). x.structure == q) m n v (f v) is same
+
+  -- who is inside goes along, and everybody is inside what it was inside
+  pub elsewhere_inside : (m : FinMap nat_cmp Unit) (n q : ℕ) (v : Unit) → get m n ≡ Some v → v.structure ≡ structure → numbers_inside q (elsewhere m n) ≡ numbers_inside q m
+  elsewhere_inside m n q v is here =
+      inside_changed flag_off (changed put_there m n) n q (at_number put_there m n n v) (get-changed put_there m n n ∙ ap (option_map (at_number put_there m n n)) is) refl
+      ∙ inside_changed put_there m n q v is (ap (λ s. s == q) here)
 
   pub gone_same : (b : Bool) (x : Unit) → IsSameUnit x (gone_if b x)
   gone_same true x = record { faction = refl; name = refl; men = refl; money = refl; items = refl; days = refl }

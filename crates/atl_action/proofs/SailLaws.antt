@@ -1,46 +1,46 @@
 -- SAIL leaves a campaign well, and takes along at most who is inside a ship.
-use Rattle.std.proofs.Common.{◌≡◌, ◌≢◌, ◌==◌, ◌&&◌, ◌||◌, ℕ, Bool, true, false, not, List, [], ◌∷◌, Option, Some, None, refl, sym, ap, subst, ◌∙◌, inl, inr, arith}
+use Rattle.std.proofs.Common.{◌≡◌, ◌≢◌, ◌==◌, ◌&&◌, ◌||◌, ◌+◌, ℕ, Bool, true, false, not, List, [], ◌∷◌, sum_by, Option, Some, None, refl, sym, ap, subst, ◌∙◌, inl, inr, arith}
 use Rattle.std.specs.Prelude.{fold, nat_lt, option_map, unwrap_or, if◌then◌else◌}
 use Rattle.std.specs.List.{AllByRecursion, list_any}
 use Rattle.std.specs.Option.{option_map_or}
 use Rattle.std.specs.Ordering.{nat_cmp}
 use Rattle.std.specs.FinMap.{FinMap, get, values}
 use Rattle.std.proofs.lemmas.Bool.{and_parts}
+use Rattle.std.proofs.lemmas.List.Elements.{recursion_from_All}
+use Rattle.std.proofs.lemmas.List.Sums.{sum_by-cons}
 use Rattle.atl_tables.specs.Planet.{Planet}
 use Rattle.atl_tables.specs.Sums.{changed}
 use Rattle.atl_tables.specs.declared.world.RegionPlan.{RegionPlan}
 use Rattle.atl_orders.specs.declared.order.Direction.{Direction}
 use Rattle.atl_orders.specs.declared.order.Order.TheVariants as orders
-use Rattle.atl_orders.specs.Bounds.{IsOrderOf}
 use Rattle.atl_orders.specs.Orders.{Said}
 use Rattle.atl_state.specs.declared.event.EventFault.{EventFault}
-use Rattle.atl_state.specs.declared.event.EventFault.TheVariants.{NoCrew, NoMen, NotComplete, NotInside, NotOwner, NoWay, TooHeavy}
-use Rattle.atl_state.specs.declared.event.Outcome.TheVariants.{Done}
+use Rattle.atl_state.specs.declared.event.EventFault.TheVariants.{NoCrew, NoMen, NotComplete, NotInside, NotOwner, NotYours, NoWay, TooHeavy}
+use Rattle.atl_state.specs.declared.event.Outcome.{Outcome}
+use Rattle.atl_state.specs.declared.event.Outcome.TheVariants.{Done, Fault}
 use Rattle.atl_state.specs.declared.records.Structure.{Structure}
 use Rattle.atl_state.specs.declared.records.Unit.{Unit}
+use Rattle.atl_state.specs.Events.{event_fault_number}
 use Rattle.atl_state.specs.Good.{Every, IsOwned, IsSteady, IsThere, is_land_at, is_ship, size_of}
+use Rattle.atl_state.specs.Held.{Held}
 use Rattle.atl_state.specs.Levels.{load_of}
 use Rattle.atl_state.specs.Owners.{handed, heir, is_owned_by, placed, with_place, with_place_at}
 use Rattle.atl_state.specs.State.{State, numbers_inside, with_guard, with_structure_region}
 use Rattle.atl_state.proofs.EveryLaws.{none_some}
 use Rattle.atl_state.proofs.RemovedLaws.{IsListed, listed_passing, passing_listed}
 use Rattle.atl_instant.specs.declared.written.Arrangement.TheVariants.{ByUnit}
-use Rattle.atl_instant.specs.Course.{Aliases, Course}
-use Rattle.atl_instant.specs.Fit.{AreFit}
+use Rattle.atl_instant.specs.Course.{Course}
 use Rattle.atl_instant.specs.Inside.{inside}
-use Rattle.atl_instant.specs.Meaning.{Condition}
-use Rattle.atl_instant.specs.Outcomes.{unless}
+use Rattle.atl_instant.specs.Outcomes.{first_fault, unless}
 use Rattle.atl_instant.specs.PhaseOrders.{Task, orders_of}
-use Rattle.atl_instant.specs.Staying.{IsNoWorse}
-use Rattle.atl_instant.specs.Steps.{IsOrderly, IsOwnOrder, IsSpared, IsSparing, StepsWell, carried_out, is_own, spares_others}
+use Rattle.atl_instant.specs.Steps.{IsOrderly, IsSpared, IsSparing, StepsWell, carried_out, is_of_faction, is_own, one_order, spares_others}
 use Rattle.atl_instant.specs.Unbooked.{books_nothing, moves_nothing}
 use Rattle.atl_instant.proofs.OutcomeLaws.{none_fits}
-use Rattle.atl_instant.proofs.StructureLaws.{at_number, changed_else, equal, get-changed, is_equal, is_unequal, len-changed}
-use Rattle.atl_instant.proofs.StayingLaws.{no_worse}
-use Rattle.atl_instant.proofs.StepLaws.{no_worse_spares, orders_fit, orders_spare, well_same}
-use Rattle.atl_action.specs.Sail.{IsAboardWith, IsCarried, capacity, crew_needed, crew_of, is_complete_ship, is_sailing, is_way, sail, sail_by, sail_fault, sail_meaning, sail_said, sail_step, sailed, sum_inside, taken_along, takes_sailing}
+use Rattle.atl_instant.proofs.StructureLaws.{at_number, changed_else, equal, get-changed, is_equal, is_unequal, len-changed, unequal}
+use Rattle.atl_instant.proofs.StepLaws.{well_same}
+use Rattle.atl_action.specs.Sail.{AreCarried, IsCarried, IsUnchanged, SailsWith, capacity, concerns_nobody, crew_needed, crew_of, is_complete_ship, is_sailing, is_way, of_unit, sail, sail_by, sail_fault, sail_meaning, sail_said, sail_step, sailed, sum_inside, taken_along, takes_sailing}
 use Rattle.atl_action.specs.Ways.{is_region, neighbour}
-use Rattle.atl_action.proofs.PeopleLaws.{AreSamePeople, elsewhere, elsewhere_at, elsewhere_people, gone_if, gone_same, guards_stay, people_same, people_twice, steady_well, total_people}
+use Rattle.atl_action.proofs.PeopleLaws.{AreSamePeople, elsewhere, elsewhere_at, elsewhere_inside, elsewhere_people, gone_if, gone_same, guards_stay, people_same, people_twice, steady_well, total_people}
 use Rattle.atl_action.proofs.TravelLaws.{AreTravelled, IsPut, IsSameStructure, steady-travelled, travelled, under}
 
 not_false : (b : Bool) → not b ≡ false → b ≡ true
@@ -124,6 +124,12 @@ module _ (ship to : ℕ) where
   all_is d (n ∷ ns) all =
       let (v, there, here) = all.0 in
       ap (λ e. fold (taken_along ship to) e ns) (one_is d n v there here) ∙ all_is (record d { units = elsewhere ship to d.units n }) ns (still_all d.units n ns all.1)
+
+  all_inside : (q : ℕ) (m : FinMap nat_cmp Unit) (ns : List ℕ) → AllByRecursion (IsInside m) ns → numbers_inside q (fold (elsewhere ship to) m ns) ≡ numbers_inside q m
+  all_inside q m [] all = refl
+  all_inside q m (n ∷ ns) all =
+      let (v, there, here) = all.0 in
+      all_inside q (elsewhere ship to m n) ns (still_all m n ns all.1) ∙ elsewhere_inside ship to m n q v there here
 
 -- ---- a ship that goes
 
@@ -291,15 +297,19 @@ module _ (w : Planet) (c : State) (ship to : ℕ) (steady : IsSteady w c) (x : S
       by_unit None = refl
       by_unit (Some v) = inside_same k v
 
-  stays_by : (v : Unit) (b : Bool) → (v.structure == ship) ≡ b → v.structure ≢ ship → IsNoWorse v (gone_if ship to b v)
-  stays_by v true t apart = absurd (apart (is_equal v.structure ship t))
-  stays_by v false t apart = no_worse v
-
   -- who isn't inside the ship stays as it is
-  pub sailed_stays : (k : ℕ) (v : Unit) → get c.units k ≡ Some v → v.structure ≢ ship → IsSpared IsNoWorse (sailed c ship to) k v
-  sailed_stays k v there apart =
-      subst (λ d. IsSpared IsNoWorse d k v) (sym sailed_is)
-      (record { unit = f k v; there = units_at k ∙ ap (option_map (f k)) there; spared = stays_by v (v.structure == ship) refl apart })
+  sailed_same : (k : ℕ) → inside c k ≢ ship → get (sailed c ship to).units k ≡ get c.units k
+  sailed_same k apart = ap (λ d. get d.units k) sailed_is ∙ units_at k ∙ by_unit (get c.units k) apart
+    where
+      by_unit : (o : Option Unit) → structure_in o ≢ ship → option_map (f k) o ≡ o
+      by_unit None apart = refl
+      by_unit (Some v) apart = ap (λ b. Some (gone_if ship to b v)) (unequal v.structure ship apart)
+
+  sailed_structure : (q : ℕ) → q ≢ ship → get (sailed c ship to).structures q ≡ get c.structures q
+  sailed_structure q apart = ap (λ d. get d.structures q) sailed_is ∙ at_other q apart
+
+  sailed_list : (q : ℕ) → numbers_inside q (sailed c ship to).units ≡ numbers_inside q c.units
+  sailed_list q = ap (λ d. numbers_inside q d.units) sailed_is ∙ all_inside ship to q c.units ns (all_listed (IsInside ship to c.units) ns is_inside)
 
 -- ---- an order
 
@@ -335,19 +345,19 @@ way_there w from None t = false_true (sym t)
 way_there w from (Some r) t = region_there w r (and_parts (is_region w r) (not (is_land_at w from && is_land_at w r)) (not_false (is_way w from (Some r)) t)).0
 
 -- what is so of the campaign as it is, and of that in which a whole ship has gone, is so of the campaign behind the order
-sail_cases : (P : State → Type 0) (w : Planet) (c : State) (n : ℕ) (direction : Direction) → P c
-    → ((ship to : ℕ) (x : Structure) → get c.structures ship ≡ Some x → is_ship w x ≡ true → x.done ≡ size_of w x.kind → IsThere w.regions to → inside c n ≡ ship → P (sailed c ship to)) → P (sail w c n direction).0
+sail_cases : (P : State × Outcome → Type 0) (w : Planet) (c : State) (n : ℕ) (direction : Direction) → ((outcome : Outcome) → P (c, outcome))
+    → ((ship to : ℕ) (x : Structure) → get c.structures ship ≡ Some x → is_ship w x ≡ true → x.done ≡ size_of w x.kind → IsThere w.regions to → inside c n ≡ ship → P (sailed c ship to, Done 0)) → P (sail w c n direction)
 unfolding sail
 sail_cases P w c n direction same gone_off = by_unit (get c.units n) refl
   where
-    by_ship : (u : Unit) → get c.units n ≡ Some u → (to : Option ℕ) (o : Option Structure) → get c.structures u.structure ≡ o → not (is_complete_ship w o) ≡ false → not (is_way w u.region to) ≡ false → P (sailed c u.structure (unwrap_or to 0))
+    by_ship : (u : Unit) → get c.units n ≡ Some u → (to : Option ℕ) (o : Option Structure) → get c.structures u.structure ≡ o → not (is_complete_ship w o) ≡ false → not (is_way w u.region to) ≡ false → P (sailed c u.structure (unwrap_or to 0), Done 0)
     by_ship u here to None at whole way = false_true (sym whole)
     by_ship u here to (Some x) at whole way =
         let parts = and_parts (is_ship w x) (x.done == size_of w x.kind) (not_false (is_complete_ship w (Some x)) whole) in
         gone_off u.structure (unwrap_or to 0) x at parts.0 (is_equal x.done (size_of w x.kind) parts.1) (way_there w u.region to way) (ap structure_in here)
 
-    by_fault : (u : Unit) → get c.units n ≡ Some u → (to : Option ℕ) (o : Option EventFault) → sail_fault w c n u (get c.structures u.structure) to ≡ o → P (unless c o (sailed c u.structure (unwrap_or to 0), Done 0)).0
-    by_fault u here to (Some fault) e = same
+    by_fault : (u : Unit) → get c.units n ≡ Some u → (to : Option ℕ) (o : Option EventFault) → sail_fault w c n u (get c.structures u.structure) to ≡ o → P (unless c o (sailed c u.structure (unwrap_or to 0), Done 0))
+    by_fault u here to (Some fault) e = same (Fault (event_fault_number fault))
     by_fault u here to None e =
         let ship = get c.structures u.structure in
         let heavy = (nat_lt (capacity w ship) (sum_inside (load_of w) c u.structure), TooHeavy) ∷ [] in
@@ -362,21 +372,21 @@ sail_cases P w c n direction same gone_off = by_unit (get c.units n) refl
         let five = none_fits (not (is_way w u.region to)) NoWay crew four.1 in
         by_ship u here to ship refl four.0 five.0
 
-    by_unit : (o : Option Unit) → get c.units n ≡ o → P (sail_by w c n direction o).0
-    by_unit None there = same
+    by_unit : (o : Option Unit) → get c.units n ≡ o → P (sail_by w c n direction o)
+    by_unit None there = same (Fault (event_fault_number NotYours))
     by_unit (Some u) there = by_fault u there (neighbour w u.region direction) (sail_fault w c n u (get c.structures u.structure) (neighbour w u.region direction)) refl
 
 sail_well : (w : Planet) (c : State) (n : ℕ) (direction : Direction) → IsSteady w c → StepsWell IsSteady books_nothing w c (sail w c n direction).0
 sail_well w c n direction steady =
-    sail_cases (λ d. StepsWell IsSteady books_nothing w c d) w c n direction (well_same w c steady)
+    sail_cases (λ p. StepsWell IsSteady books_nothing w c p.0) w c n direction (λ outcome. well_same w c steady)
     (λ ship to x at floats whole there here. sailed_well w c ship to steady x at floats whole ((steady.known.regions to).1 there))
 
 sail_spares : (w : Planet) (c : State) (n : ℕ) (direction : Direction) → IsSteady w c → (k : ℕ) (v : Unit) → get c.units k ≡ Some v → IsSpared IsCarried (sail w c n direction).0 k v
 sail_spares w c n direction steady k v there =
-    sail_cases (λ d. IsSpared IsCarried d k v) w c n direction (record { unit = v; there = there; spared = carried_same v })
+    sail_cases (λ p. IsSpared IsCarried p.0 k v) w c n direction (λ outcome. record { unit = v; there = there; spared = carried_same v })
     (λ ship to x at floats whole near here. sailed_spares w c ship to steady x at k v there)
 
-pub sail_orderly : IsOrderly sail_step IsSteady books_nothing moves_nothing IsOwnOrder IsCarried
+pub sail_orderly : IsOrderly sail_step IsSteady books_nothing moves_nothing concerns_nobody IsCarried
 sail_orderly = record {
   well = λ w a c t steady fit own. well w c t.unit steady t.said;
   sparing = carried_spares;
@@ -392,42 +402,106 @@ sail_orderly = record {
     spared w c n steady k v there (orders.Sail direction) = sail_spares w c n direction steady k v there
     spared w c n steady k v there other = record { unit = v; there = there; spared = carried_same v }
 
--- ---- who stays: where nobody inside is ordered to sail
+pub all_carried : (w : Planet) (m : Course) (c d : State) → spares_others concerns_nobody IsCarried is_sailing w m c d → AreCarried c d
+all_carried w m c d keeps n u there = keeps n u there (λ k d l nobody. nobody)
 
--- everybody is inside what it was inside as the phase began
-abbrev Stays : State → Condition
-Stays begun w c = IsSteady w c × ((k : ℕ) → inside c k ≡ inside begun k)
+-- ---- who stays: where what it is inside doesn't sail
 
-module _ (begun : State) where
-  order_inside : (w : Planet) (c : State) (n : ℕ) → IsSteady w c → (s : Said) (k : ℕ) → inside (sail_said w c n s).0 k ≡ inside c k
-  order_inside w c n steady (orders.Sail direction) k = sail_cases (λ d. inside d k ≡ inside c k) w c n direction refl (λ ship to x at floats whole there here. sailed_inside w c ship to steady x at k)
-  order_inside w c n steady other k = refl
+sum_same : (g h : ℕ → ℕ) (ns : List ℕ) → ((k : ℕ) → IsListed k ns → g k ≡ h k) → sum_by g ns ≡ sum_by h ns
+sum_same g h [] same = refl
+sum_same g h (n ∷ ns) same =
+    sum_by-cons g n ns ∙ ap (λ a. a + sum_by g ns) (same n (inl refl)) ∙ ap (λ r. h n + r) (sum_same g h ns (λ k l. same k (inr l)))
+    ∙ sym (sum_by-cons h n ns)
 
-  order_well : (w : Planet) (a : Aliases) (c : State) (t : Task) → Stays begun w c → IsOrderOf w t.said → is_own c t ≡ true → StepsWell (Stays begun) books_nothing w c (sail_step w a c t).0
-  order_well w a c t stays fit own =
-      let well = sail_orderly.well w a c t stays.0 fit own in
-      record { holds_still = (well.holds_still, λ k. order_inside w c t.unit stays.0 t.said k ∙ stays.1 k); same_month = well.same_month; balances = well.balances; drawn = well.drawn }
+-- why a unit doesn't sail, by what it is inside and what all inside are worth as a crew and weigh
+abbrev fault_with : Planet → (n : ℕ) → Unit → (to : Option ℕ) → Option Structure → (crew load : ℕ) → Option EventFault
+fault_with w n u to ship crew load = first_fault (
+    (u.holding.men == 0, NoMen)
+    ∷ (u.structure == 0, NotInside)
+    ∷ (not (is_owned_by ship n), NotOwner)
+    ∷ (not (is_complete_ship w ship), NotComplete)
+    ∷ (not (is_way w u.region to), NoWay)
+    ∷ (nat_lt crew (crew_needed w ship), NoCrew)
+    ∷ (nat_lt (capacity w ship) load, TooHeavy)
+    ∷ [])
 
-  order_stays : (w : Planet) (c : State) (t : Task) → Stays begun w c → (k : ℕ) (v : Unit) → get c.units k ≡ Some v → (IsAboardWith begun t k v.faction → ⊥) → (s : Said) → IsSpared IsNoWorse (sail_said w c t.unit s).0 k v
-  order_stays w c t stays k v there apart (orders.Sail direction) =
-      sail_cases (λ d. IsSpared IsNoWorse d k v) w c t.unit direction (record { unit = v; there = there; spared = no_worse v })
-      (λ ship to x at floats whole near here. sailed_stays w c ship to stays.0 x at k v there (λ same.
-      let inside_is : inside c k ≡ v.structure = ap structure_in there in
-      apart (record {
-        aboard = λ none. ship_some w c ship to stays.0 x at (sym same ∙ sym inside_is ∙ stays.1 k ∙ none);
-        together = sym (stays.1 t.unit) ∙ here ∙ sym same ∙ sym inside_is ∙ stays.1 k;
-      })))
-  order_stays w c t stays k v there apart other = record { unit = v; there = there; spared = no_worse v }
+unless_told : (c d x y : State) (o : Option EventFault) → (unless c o (x, Done 0)).1 ≡ (unless d o (y, Done 0)).1
+unless_told c d x y None = refl
+unless_told c d x y (Some fault) = refl
 
-  stays_orderly : IsOrderly sail_step (Stays begun) books_nothing moves_nothing (IsAboardWith begun) IsNoWorse
-  stays_orderly = record {
-    well = order_well;
-    sparing = no_worse_spares;
-    spared = λ w a c t stays own k v there apart. order_stays w c t stays k v there apart t.said;
-    bounded = λ w c stays e t. omega arith;
-  }
+module _ (w : Planet) (begun : State) (number faction : ℕ) where
+  -- what the unit is inside
+  abbrev s : ℕ
+  s = inside begun number
 
-pub sail_spares_others : (w : Planet) (c : State) (m : Course) → IsSteady w c → AreFit w m.readings → spares_others (IsAboardWith c) IsNoWorse is_sailing w m c (sail_meaning w c m).0
+  -- everybody is inside what it was inside as the phase began, and what the unit is inside is as it was, with all that are inside
+  record IsAsBegun (c : State) : Type 0 where
+    pub steady : IsSteady w c
+    pub places : (k : ℕ) → inside c k ≡ inside begun k
+    pub structure : get c.structures s ≡ get begun.structures s
+    pub units : (k : ℕ) → inside begun k ≡ s → get c.units k ≡ get begun.units k
+    pub list : numbers_inside s c.units ≡ numbers_inside s begun.units
+
+  module _ (c : State) (same : IsAsBegun c) where
+    sum_inside_same : (f : Held → ℕ) → sum_inside f c s ≡ sum_inside f begun s
+    sum_inside_same f =
+        ap (sum_by (λ n. of_unit f (get c.units n))) same.list
+        ∙ sum_same (λ n. of_unit f (get c.units n)) (λ n. of_unit f (get begun.units n)) (numbers_inside s begun.units) (λ k listed. ap (of_unit f) (same.units k (is_in k listed)))
+      where
+        is_in : (k : ℕ) → IsListed k (numbers_inside s begun.units) → inside begun k ≡ s
+        is_in k listed = let (v, there, t) = listed_passing (λ (y : Unit). y.structure == s) begun.units k listed in ap structure_in there ∙ is_equal v.structure s t
+
+    fault_same : (n : ℕ) (u : Unit) (to : Option ℕ) → u.structure ≡ s → sail_fault w c n u (get c.structures u.structure) to ≡ sail_fault w begun n u (get begun.structures u.structure) to
+    fault_same n u to here =
+        ap (λ ship. fault_with w n u to ship (sum_inside (crew_of w) c u.structure) (sum_inside (load_of w) c u.structure)) (subst (λ q. get c.structures q ≡ get begun.structures q) (sym here) same.structure)
+        ∙ ap (λ crew. fault_with w n u to (get begun.structures u.structure) crew (sum_inside (load_of w) c u.structure)) (subst (λ q. sum_inside (crew_of w) c q ≡ sum_inside (crew_of w) begun q) (sym here) (sum_inside_same (crew_of w)))
+        ∙ ap (fault_with w n u to (get begun.structures u.structure) (sum_inside (crew_of w) begun u.structure)) (subst (λ q. sum_inside (load_of w) c q ≡ sum_inside (load_of w) begun q) (sym here) (sum_inside_same (load_of w)))
+
+    -- an order for a unit inside comes to what it would have come to as the phase began
+    told_same : (n : ℕ) (direction : Direction) → inside begun n ≡ s → (sail w c n direction).1 ≡ (sail w begun n direction).1
+    unfolding sail
+    told_same n direction here = ap (λ o. (sail_by w c n direction o).1) (same.units n here) ∙ by_unit (get begun.units n) here
+      where
+        by_unit : (o : Option Unit) → structure_in o ≡ s → (sail_by w c n direction o).1 ≡ (sail_by w begun n direction o).1
+        by_unit None here = refl
+        by_unit (Some u) here =
+            let to = neighbour w u.region direction in
+            ap (λ o. (unless c o (sailed c u.structure (unwrap_or to 0), Done 0)).1) (fault_same n u to here)
+            ∙ unless_told c begun (sailed c u.structure (unwrap_or to 0)) (sailed begun u.structure (unwrap_or to 0)) (sail_fault w begun n u (get begun.structures u.structure) to)
+
+    sailed_else : (ship to : ℕ) (x : Structure) → get c.structures ship ≡ Some x → is_ship w x ≡ true → x.done ≡ size_of w x.kind → IsThere w.regions to → s ≢ ship → IsAsBegun (sailed c ship to)
+    sailed_else ship to x at floats whole there apart = record {
+      steady = (sailed_well w c ship to same.steady x at floats whole ((same.steady.known.regions to).1 there)).holds_still;
+      places = λ k. sailed_inside w c ship to same.steady x at k ∙ same.places k;
+      structure = sailed_structure w c ship to same.steady x at s apart ∙ same.structure;
+      units = λ k here. sailed_same w c ship to same.steady x at k (λ is. apart (sym here ∙ sym (same.places k) ∙ is)) ∙ same.units k here;
+      list = sailed_list w c ship to same.steady x at s ∙ same.list;
+    }
+
+    order_stays : (n : ℕ) (o : Said) → (inside begun n ≡ s → (sail_said w begun n o).1 ≡ Done 0 → ⊥) → IsAsBegun (sail_said w c n o).0
+    order_stays n (orders.Sail direction) apart =
+        sail_cases (λ p. (inside begun n ≡ s → p.1 ≡ Done 0 → ⊥) → IsAsBegun p.0) w c n direction (λ outcome apart. same)
+        (λ ship to x at floats whole there here apart. sailed_else ship to x at floats whole there (λ is. apart (sym (same.places n) ∙ here ∙ sym is) refl))
+        (λ in_it done. apart in_it (sym (told_same n direction in_it) ∙ done))
+    order_stays n other apart = same
+
+    task_stays : (m : Course) (t : Task) → (SailsWith w begun t number faction → ⊥) → IsAsBegun (one_order sail_step takes_sailing w (c, m) t).0
+    task_stays m t apart = by_own (is_own c t) refl
+      where
+        by_own : (b : Bool) → is_own c t ≡ b → IsAsBegun (if b then sail_step w m.aliases c t else (c, Fault (event_fault_number NotYours))).0
+        by_own true own = order_stays t.unit t.said (λ in_it done. apart (record { together = in_it; own = ap (is_of_faction t.faction) (sym (same.units t.unit in_it)) ∙ own; done = done }))
+        by_own false other = same
+
+  tasks_stay : (c : State) (m : Course) (ts : List Task) → IsAsBegun c → AllByRecursion (λ t. SailsWith w begun t number faction → ⊥) ts → IsAsBegun (fold (one_order sail_step takes_sailing w) (c, m) ts).0
+  tasks_stay c m [] same others = same
+  tasks_stay c m (t ∷ ts) same others =
+      let next = one_order sail_step takes_sailing w (c, m) t in
+      tasks_stay next.0 next.1 ts (task_stays c same m t others.0) others.1
+
+pub sail_spares_others : (w : Planet) (c : State) (m : Course) → IsSteady w c → spares_others (SailsWith w c) IsUnchanged is_sailing w m c (sail_meaning w c m).0
 unfolding carried_out
-sail_spares_others w c m steady fit =
-    orders_spare sail_step takes_sailing (stays_orderly c) w c m (values (orders_of is_sailing ByUnit m.aliases m.readings)) (steady, λ k. refl) (orders_fit w m.aliases m.readings fit is_sailing)
+sail_spares_others w c m steady n u there others =
+    let ts = values (orders_of is_sailing ByUnit m.aliases m.readings) in
+    let begun : IsAsBegun w c n u.faction c = record { steady = steady; places = λ k. refl; structure = refl; units = λ k here. refl; list = refl } in
+    let stays = tasks_stay w c n u.faction c m ts begun (recursion_from_All (λ t. SailsWith w c t n u.faction → ⊥) ts others) in
+    record { unit = u; there = stays.units n refl ∙ there; spared = refl }

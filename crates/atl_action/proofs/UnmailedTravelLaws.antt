@@ -72,4 +72,6 @@ items_of_carried : (u v : Unit) → IsCarried u v → HasItsItems u v
 items_of_carried u v h = record { name = h.name; items = h.items }
 
 pub sail_leaves : LeavesUnmailed sail_meaning sail_keeps
-sail_leaves = carried_leaves sail_step takes_sailing is_sailing sail_spares (λ w c d m keeps. unmailed_spared is_sailing own_faction items_of_carried w c d m keeps.0)
+sail_leaves =
+    carried_leaves sail_step takes_sailing is_sailing sail_spares
+    (λ w c d m keeps n u there none. let one = keeps.0 n u there in record { unit = one.unit; there = one.there; spared = items_of_carried u one.unit one.spared })

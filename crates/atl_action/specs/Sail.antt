@@ -1,5 +1,5 @@
 -- SAIL: ships go to a neighbouring region with all that are inside. See docs/RULES.md, "Sailing".
-use Rattle.std.specs.Prelude.{◌≡◌, ◌≢◌, ◌≤◌, ℕ, ◌*◌, ◌==◌, ◌&&◌, nat_lt, Bool, true, false, not, [], ◌∷◌, fold, sum_by, unwrap_or, Option, Some, None}
+use Rattle.std.specs.Prelude.{◌≡◌, ◌≤◌, ℕ, ◌*◌, ◌==◌, ◌&&◌, nat_lt, Bool, true, false, not, [], ◌∷◌, fold, sum_by, unwrap_or, Option, Some, None}
 use Rattle.std.specs.List.{slice_get}
 use Rattle.std.specs.Option.{option_map_or}
 use Rattle.std.specs.FinMap.{get}
@@ -15,7 +15,7 @@ use Rattle.atl_state.specs.declared.event.Outcome.{Outcome}
 use Rattle.atl_state.specs.declared.event.Outcome.TheVariants.{Done}
 use Rattle.atl_state.specs.declared.records.Structure.{Structure}
 use Rattle.atl_state.specs.declared.records.Unit.{Unit}
-use Rattle.atl_state.specs.Good.{is_land_at, is_ship, size_of}
+use Rattle.atl_state.specs.Good.{Every, is_land_at, is_ship, size_of}
 use Rattle.atl_state.specs.Held.{Held, amount_of}
 use Rattle.atl_state.specs.Levels.{level_in_any, load_of}
 use Rattle.atl_state.specs.Owners.{is_owned_by, with_place}
@@ -24,8 +24,7 @@ use Rattle.atl_instant.specs.Inside.{inside}
 use Rattle.atl_instant.specs.Meaning.{Keeping, Meaning}
 use Rattle.atl_instant.specs.Outcomes.{first_fault, unless}
 use Rattle.atl_instant.specs.PhaseOrders.{Task}
-use Rattle.atl_instant.specs.Staying.{IsNoWorse}
-use Rattle.atl_instant.specs.Steps.{IsOwnOrder, Step, carried_out, spares_others}
+use Rattle.atl_instant.specs.Steps.{Concern, IsSpared, Step, carried_out, is_own, spares_others}
 use Rattle.atl_action.specs.Ways.{is_region, neighbour}
 
 -- ---- which orders are of the phase
@@ -128,11 +127,24 @@ pub record IsCarried (before after : Unit) : Type 0 where
   pub items : (i : ℕ) → amount_of before.holding.items i ≤ amount_of after.holding.items i
   pub days : (s : ℕ) → amount_of before.holding.days s ≤ amount_of after.holding.days s
 
--- an order for a unit that is inside the same structure, as the phase begins
-pub record IsAboardWith (begun : State) (t : Task) (n f : ℕ) : Type 0 where
-  pub aboard : inside begun n ≢ 0
-  pub together : inside begun t.unit ≡ inside begun n
+-- each unit is still there, and at most went along
+abbrev pub AreCarried : State → State → Type 0
+AreCarried before after = Every (λ n u. IsSpared IsCarried after n u) before.units
 
--- who gives no such order goes at most with what it is inside, and stays where nobody inside is ordered to sail
+-- no order takes anything from anybody
+abbrev pub concerns_nobody : Concern
+concerns_nobody t n f = ⊥
+
+-- a unit that stays as it is
+abbrev pub IsUnchanged : Unit → Unit → Type 0
+IsUnchanged before after = after ≡ before
+
+-- The ship sails that a unit is inside: as the phase begins an order is its faction's own, for a unit inside the same structure, and without a fault.
+pub record SailsWith (w : Planet) (begun : State) (t : Task) (n f : ℕ) : Type 0 where
+  pub together : inside begun t.unit ≡ inside begun n
+  pub own : is_own begun t ≡ true
+  pub done : (sail_said w begun t.unit t.said).1 ≡ Done 0
+
+-- each unit goes at most with what it is inside, and where that is no ship that sails, it stays as it is
 abbrev pub sail_keeps : Keeping
-sail_keeps w m before after = spares_others IsOwnOrder IsCarried is_sailing w m before after × spares_others (IsAboardWith before) IsNoWorse is_sailing w m before after
+sail_keeps w m before after = AreCarried before after × spares_others (SailsWith w before) IsUnchanged is_sailing w m before after

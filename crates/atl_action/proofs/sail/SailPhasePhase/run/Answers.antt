@@ -1,8 +1,7 @@
 use Rattle.std.proofs.Common.{ap, subst, sym}
-use Rattle.atl_instant.specs.Staying.{IsNoWorse}
 use Rattle.atl_instant.specs.Steps.{spares_others}
-use Rattle.atl_action.specs.Sail.{IsAboardWith, is_sailing}
-use Rattle.atl_action.proofs.SailLaws.{sail_spares_others}
+use Rattle.atl_action.specs.Sail.{IsUnchanged, SailsWith, is_sailing}
+use Rattle.atl_action.proofs.SailLaws.{all_carried, sail_spares_others}
 use Rattle.atl_action.proofs.sail.SailPhasePhase.run.Goals as goal
 
 pub returns-clause-keeps : goal.returns-clause-keeps
@@ -10,7 +9,7 @@ returns-clause-keeps c =
     let w = c.args.world.now in
     let before = c.args.campaign.what in
     let m = c.args.month in (
-      c.in_ok-carry_out_orders.ensures.keeps,
-      subst (λ d. spares_others (IsAboardWith before) IsNoWorse is_sailing w m before d) (sym (ap (λ p. p.0) c.in_ok-carry_out_orders.ensures.meaning))
-          (sail_spares_others w before m c.requires.needs c.requires.read),
+      all_carried w m before _ c.in_ok-carry_out_orders.ensures.keeps,
+      subst (λ d. spares_others (SailsWith w before) IsUnchanged is_sailing w m before d) (sym (ap (λ p. p.0) c.in_ok-carry_out_orders.ensures.meaning))
+          (sail_spares_others w before m c.requires.needs),
     )
