@@ -1,10 +1,12 @@
 -- The accounts of upkeep, unit by unit.
-use Rattle.std.proofs.Common.{◌≡◌, ◌≢◌, ◌==◌, ◌&&◌, ◌++◌, ℕ, ◌+◌, ◌-◌, ◌≤◌, min, Bool, true, false, cond, List, [], ◌∷◌, filter, sum_by, Option, Some, None, refl, sym, ap, ◌∙◌, arith}
+use Rattle.std.proofs.Common.{◌≡◌, ◌≢◌, ◌==◌, ◌&&◌, ◌++◌, ℕ, ◌+◌, ◌-◌, ◌*◌, ◌≤◌, min, Bool, true, false, cond, List, [], ◌∷◌, filter, sum_by, Option, Some, None, refl, sym, ap, ◌∙◌, arith}
 use Rattle.std.specs.Ordering.{nat_cmp}
 use Rattle.std.specs.FinMap.{FinMap, empty, get, insert, get-empty}
 use Rattle.std.proofs.lemmas.Bool.Decides.{nat_tests}
 use Rattle.std.proofs.lemmas.List.Elements.{filter-append}
 use Rattle.std.proofs.lemmas.List.Sums.{sum_by-append}
+use Rattle.atl_tables.specs.Limits.{most_per_head}
+use Rattle.atl_state.specs.Limits.{holding_limit, men_limit}
 use Rattle.atl_state.proofs.EveryLaws.{get-insert_other}
 use Rattle.atl_state.proofs.RegionLaws.{get-insert_same}
 use Rattle.atl_month.specs.declared.accounts.Account.{Account}
@@ -135,7 +137,7 @@ module _ (m : ℕ) (before : List Purse) (p : Purse) where
       (is ∙ ap (counted m p) (each p.region p.faction) ∙ account_is _ _ _ _ _ _ _ _ (sym left_own) (sym short_own) (none_given _ _) (none_given _ _))
       (λ s g apart. each s g ∙ account_is _ _ _ _ _ _ _ _ (sym (left_other s g apart)) (sym (short_other s g apart)) (none_given _ _) (none_given _ _))
 
-pub few_more : (m n : ℕ) (accounts : AccountMap) (p : Purse) (a : Account) → left_of m p ≤ 999999999 → short_of m p ≤ 999999000
+pub few_more : (m n : ℕ) (accounts : AccountMap) (p : Purse) (a : Account) → left_of m p ≤ holding_limit → short_of m p ≤ most_per_head * men_limit
     → ((s g : ℕ) → IsFew n (account_at accounts s g)) → a ≡ counted m p (account_at accounts p.region p.faction)
     → (s g : ℕ) → IsFew (n + 1) (account_at (with_account accounts p.region p.faction a) s g)
 few_more m n accounts p a left short each is =

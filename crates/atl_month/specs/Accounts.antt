@@ -2,6 +2,8 @@
 use Rattle.std.specs.Prelude.{ℕ, ◌+◌, ◌-◌, ◌*◌, ◌≤◌, List, min, Option, Some, None}
 use Rattle.std.specs.Ordering.{nat_cmp}
 use Rattle.std.specs.FinMap.{FinMap, empty, get, insert}
+use Rattle.atl_tables.specs.Limits.{most_per_head}
+use Rattle.atl_state.specs.Limits.{holding_limit, men_limit}
 use Rattle.atl_month.specs.declared.accounts.Account.{Account}
 use Rattle.atl_month.specs.declared.settling.Purse.{Purse}
 use Rattle.atl_month.specs.declared.settling.Settled.{Settled}
@@ -72,5 +74,5 @@ account_of maintenance all before region faction = record {
 
 -- an account of so many units at most
 pub record IsFew (n : ℕ) (a : Account) : Type 0 where
-  pub left : a.left ≤ 999999999 * n
-  pub short : a.short ≤ 999999000 * n
+  pub left : a.left ≤ holding_limit * n
+  pub short : a.short ≤ most_per_head * men_limit * n

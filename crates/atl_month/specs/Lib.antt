@@ -1,3 +1,4 @@
+pub mod Limits
 pub mod Season
 pub mod Swept
 pub mod Settling

@@ -10,10 +10,11 @@ use Rattle.atl_state.specs.State.{State, with_amount, with_peasants, with_region
 use Rattle.atl_instant.specs.Course.{Course}
 use Rattle.atl_instant.specs.Meaning.{Keeping, Moving, both_move, moves_only}
 use Rattle.atl_instant.specs.Terrains.{terrain_of}
+use Rattle.atl_month.specs.Limits.{per_hundred}
 
 -- So many of a hundred peasants are born as the word says, from 0 to the growth; at most up to the terrain's limit.
 abbrev pub births : (growth limit word peasants : ℕ) → ℕ
-births growth limit word peasants = min (peasants * (word % (growth + 1)) / 100) (limit - peasants)
+births growth limit word peasants = min (peasants * (word % (growth + 1)) / per_hundred) (limit - peasants)
 
 -- Each peasant brings his income to the region; at most up to the terrain's limit.
 abbrev pub income : (per_peasant limit peasants money : ℕ) → ℕ

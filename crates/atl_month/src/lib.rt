@@ -3,6 +3,7 @@
 
 mod accounts;
 mod close;
+mod limits;
 mod receivers;
 mod season;
 mod settling;

@@ -9,6 +9,7 @@ ghost use Rattle.atl_state.specs.Good.{IsSteady};
 ghost use Rattle.atl_instant.specs.Meaning.{HaveRoom, most_moved};
 ghost use Rattle.atl_month.specs.Season.{births, grows_by, income, season, season_at, season_keeps, season_meaning, with_growth};
 
+use crate::limits::PER_HUNDRED;
 use atl_instant::{Month, Phase, terrain_of};
 use atl_state::{Campaign, Entry, Region, Thing};
 use atl_tables::World;
@@ -25,7 +26,7 @@ fn births(growth: u32, limit: u32, word: u32, peasants: u32) -> u32
     requires peasants { peasants ≤ most_amount }
     ensures { result ≡ births growth limit word peasants }
 {
-    let born = u64::from(peasants) * u64::from(word % (growth + 1)) / 100;
+    let born = u64::from(peasants) * u64::from(word % (growth + 1)) / PER_HUNDRED;
     born.min(u64::from(limit.saturating_sub(peasants))) as u32
 }
 

@@ -20,9 +20,8 @@ ghost use Rattle.atl_month.specs.Swept.{IsSwept};
 
 use crate::receivers::{Receivers, receiver_in, receivers_of};
 use atl_instant::{Month, Phase, book_taken, items_of};
-use atl_state::{Campaign, Entry, Holding, Thing};
+use atl_state::{Campaign, Entry, HOLDING_LIMIT, Holding, Thing};
 use atl_tables::World;
-use atl_tables::limits::MOST_AMOUNT;
 use std::alloc::{AllocError, Global};
 
 /// Units without men go: each leaves its money and its items to a unit of its faction in its region, and what that one has no
@@ -34,7 +33,7 @@ pub struct SweepPhase;
 fn taken_of(amount: u32, have: u32) -> u32
     ensures { result ≡ taken_of amount have }
 {
-    amount.min(MOST_AMOUNT.saturating_sub(have))
+    amount.min(HOLDING_LIMIT.saturating_sub(have))
 }
 
 /// An amount is lost.

@@ -1,5 +1,7 @@
-use Rattle.std.proofs.Common.{rules, ◌≡◌, ◌+◌, ◌≤◌, ◌∷◌, [], ◌++◌, get_or, take}
+use Rattle.std.proofs.Common.{rules, ◌≡◌, ◌+◌, ◌*◌, ◌≤◌, ◌∷◌, [], ◌++◌, get_or, take}
 use Rattle.std.proofs.lemmas.List.{take_more}
+use Rattle.atl_tables.specs.Limits.{most_per_head}
+use Rattle.atl_state.specs.Limits.{holding_limit, men_limit}
 use Rattle.atl_month.specs.declared.accounts.Account.{Account}
 use Rattle.atl_month.specs.declared.settling.Purse.{Purse}
 use Rattle.atl_month.specs.Accounts.{account_at, counted, with_account}
@@ -25,8 +27,8 @@ loop-purse-preserved c =
     let more : take (i + 1) purses ≡ take i purses ++ p ∷ [] = take_more purses i _ c.loop-purse-test.true in
     let put : c.put_account.new.accounts ≡ with_account old p.region p.faction account = search rules in
     let is : account ≡ counted m p (account_at old p.region p.faction) = search rules in
-    let left : left_of m p ≤ 999999999 = search rules in
-    let short : short_of m p ≤ 999999000 = search rules in
+    let left : left_of m p ≤ holding_limit = search rules in
+    let short : short_of m p ≤ most_per_head * men_limit = search rules in
     record {
       each = λ s g. rw (put, more) (opened_more m (take i purses) p old account c.loop-purse.invariant.each is s g);
       few = λ s g. rw put (few_more m i old p account left short c.loop-purse.invariant.few is s g);
