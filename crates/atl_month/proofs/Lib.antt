@@ -5,6 +5,7 @@ pub mod ReceiverLaws
 pub mod SweepRunLaws
 pub mod SeasonLaws
 pub mod MoveLaws
+pub mod CountLaws
 pub mod MonthLaws
 pub mod SettlingLaws
 pub mod UpkeepLaws

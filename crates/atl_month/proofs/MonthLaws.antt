@@ -8,19 +8,20 @@ use Rattle.std.proofs.lemmas.Bool.Decides.{nat_tests}
 use Rattle.atl_tables.specs.Planet.{Planet}
 use Rattle.atl_state.specs.declared.event.Event.{Event}
 use Rattle.atl_state.specs.Books.{IsWithin, amount_in}
-use Rattle.atl_state.specs.Good.{AreAmountsWithin, AreInRange, AreKnown, IsEarly, IsGood, IsSound, IsSteady, amount_bound}
+use Rattle.atl_state.specs.Good.{AreAmountsWithin, AreInRange, AreKnown, IsEarly, IsGood, IsSound, IsSteady, IsThere, amount_bound}
 use Rattle.atl_state.specs.Limits.{last_month}
 use Rattle.atl_state.specs.State.{State}
 use Rattle.atl_state.specs.Totals.{Balances, total}
 use Rattle.atl_orders.specs.Mailing.{Reading}
 use Rattle.atl_state.proofs.EveryLaws.{every-empty}
 use Rattle.atl_instant.specs.Course.{Course}
-use Rattle.atl_instant.specs.Meaning.{HaveRoom, IsNear, IsSameMonth, LeavesWell, Meaning, Moving}
+use Rattle.atl_instant.specs.Meaning.{Condition, HaveRoom, IsNear, IsSameMonth, LeavesWell, Meaning, Moving}
 use Rattle.atl_instant.proofs.CourseLaws.{mailings_have_no_order}
-use Rattle.atl_instant.proofs.MeaningLaws.{MovesLess, room_when_sound}
-use Rattle.atl_month.specs.Month.{MonthHasNoOrder, begun, finished, month_of, month_phases}
+use Rattle.atl_instant.proofs.MeaningLaws.{MovesLess, near_more, room_when_sound}
+use Rattle.atl_month.specs.Month.{BooksAreNear, MonthHasNoOrder, begun, finished, month_moves, month_of, month_phases}
 use Rattle.atl_month.specs.Swept.{IsSwept}
-use Rattle.atl_month.proofs.MoveLaws.{month_moves, phases_little}
+use Rattle.atl_month.proofs.CountLaws.{has_all_back}
+use Rattle.atl_month.proofs.MoveLaws.{month_within, moves_in_month, phases_little}
 
 module _ (w : Planet) (d : State) where
   finished_range : d.month < last_month → AreInRange w d → AreInRange w (finished d)
@@ -65,7 +66,7 @@ module _ (w : Planet) (d : State) where
   unfolding total
   finished_balances old t = old t
 
-module _ (w : Planet) (c d : State) (moving : Moving) (little : MovesLess moving month_moves) (early : c.month < last_month) (well : LeavesWell IsSwept moving w c d) where
+module _ (w : Planet) (c d : State) (moving : Moving) (little : MovesLess moving moves_in_month) (early : c.month < last_month) (well : LeavesWell IsSwept moving w c d) where
   abbrev same : IsSameMonth c d
   same = well.same_month
 
@@ -98,6 +99,15 @@ module _ (w : Planet) (c d : State) (moving : Moving) (little : MovesLess moving
     sound = finished_sound old.sound;
     reported = λ n f is. let there = same.factions n (f, is) in let report = old.reported n there.0 there.1 in (report.0, ap (λ reports. get reports n) same.reports ∙ report.1);
   }
+
+-- ---- what a month leaves of the books and of the factions
+
+module _ {leaves : Condition} (w : Planet) (c d : State) (well : LeavesWell leaves month_phases.moving w c d) where
+  pub books_near : BooksAreNear month_moves c d
+  books_near e t = near_more (month_phases.moving e t) (month_moves e t) (amount_in c.books e t) (amount_in d.books e t) (month_within e t) (well.near e t)
+
+  pub factions_stay : (n : ℕ) → IsThere c.factions n → IsThere d.factions n
+  factions_stay = has_all_back c.factions d.factions well.same_month.count well.same_month.factions
 
 -- a sound campaign has room for the phases of a month
 pub phases_room : (w : Planet) (c : State) → IsSound w c → HaveRoom month_phases.moving c

@@ -1,15 +1,20 @@
 -- A month: its phases, one after the other. See docs/RULES.md, "Closing a month".
-use Rattle.std.specs.Prelude.{◌≡◌, ℕ, ◌+◌, List, [], map}
+use Rattle.std.specs.Prelude.{◌≡◌, ◌≤◌, ℕ, ◌+◌, ◌*◌, List, [], map}
 use Rattle.std.specs.Ordering.{nat_cmp}
 use Rattle.std.specs.List.Sorted.{IsPermutation}
 use Rattle.std.specs.FinMap.{FinMap, empty}
 use Rattle.atl_tables.specs.Planet.{Planet}
 use Rattle.atl_orders.specs.Mailing.{Reading, reading_of}
 use Rattle.atl_orders.specs.declared.mailing.Mailing.{Mailing}
+use Rattle.atl_state.specs.declared.books.Entry.{Entry}
+use Rattle.atl_state.specs.declared.books.Entry.TheVariants as entries
+use Rattle.atl_state.specs.declared.books.Thing.{Thing}
+use Rattle.atl_state.specs.declared.books.Thing.TheVariants.{Item, Money, People}
 use Rattle.atl_state.specs.declared.event.Event.{Event}
+use Rattle.atl_state.specs.Books.{amount_in}
 use Rattle.atl_state.specs.State.{State, with_month, without_mail}
 use Rattle.atl_instant.specs.Course.{Course, HaveOwnFactions, by_faction}
-use Rattle.atl_instant.specs.Meaning.{Keeping, Meaning, Moving, both_keep, both_move, most_moved, then_also}
+use Rattle.atl_instant.specs.Meaning.{IsNear, Keeping, Meaning, Moving, both_keep, both_move, most_moved, then_also}
 use Rattle.atl_instant.specs.Form.{form_keeps, form_meaning}
 use Rattle.atl_instant.specs.Give.{give_keeps, give_meaning}
 use Rattle.atl_instant.specs.Guard.{guard_keeps, guard_meaning}
@@ -120,6 +125,45 @@ month_phases = early_orders ▷ later_orders ▷ upkeep ▷ season ▷ sweeping
 -- the campaign behind the phases of a month, and what came of the orders
 unfoldable pub month_of : Planet → State → FinMap nat_cmp Reading → List ℕ → State × List Event
 month_of w c readings words = let behind = month_phases.meaning w c (begun readings words) in (behind.0, behind.1.events)
+
+-- ---- the books
+
+-- A phase moves each amount of the books by less than 10^14.
+abbrev pub MovesLittle : PhaseTerms → Type 0
+MovesLittle phase = (e : Entry) (t : Thing) → phase.moving e t ≤ most_moved
+
+-- each phase of a month does
+abbrev pub PhasesMoveLittle : Type 0
+PhasesMoveLittle =
+    MovesLittle forming × MovesLittle naming × MovesLittle placing × MovesLittle giving × MovesLittle transferring × MovesLittle taxing × MovesLittle recruiting × MovesLittle guarding × MovesLittle quitting
+    × MovesLittle walking × MovesLittle sailing × MovesLittle building × MovesLittle learning × MovesLittle producing × MovesLittle working × MovesLittle upkeep × MovesLittle season × MovesLittle sweeping
+
+-- How many phases of a month may move an amount of the books: RECRUIT the recruiting, QUIT what is lost and who left, BUILD what is used, STUDY the study, PRODUCE what is made and what is used,
+-- WORK the wages, upkeep the upkeep and the starved, the season the births and the income, and the sweep what is lost.
+abbrev pub moving_phases : Entry → Thing → ℕ
+moving_phases entries.Income Money = 1
+moving_phases entries.Wages Money = 1
+moving_phases entries.Recruiting Money = 1
+moving_phases entries.Study Money = 1
+moving_phases entries.Upkeep Money = 1
+moving_phases entries.Lost Money = 2
+moving_phases entries.Lost (Item i) = 2
+moving_phases entries.Births People = 1
+moving_phases entries.Starved People = 1
+moving_phases entries.Left People = 1
+moving_phases entries.Made (Item i) = 1
+moving_phases entries.Used (Item i) = 2
+moving_phases entry thing = 0
+
+-- by so much a month may move an amount
+abbrev pub month_moves : Moving
+month_moves e t = moving_phases e t * most_moved
+
+-- each amount of the books is moved by so much at most
+abbrev pub BooksAreNear : Moving → (before after : State) → Type 0
+BooksAreNear moving before after = (e : Entry) (t : Thing) → IsNear (moving e t) (amount_in before.books e t) (amount_in after.books e t)
+
+-- ---- the mailings
 
 -- the mailings of a month in another order make the same month
 abbrev pub MonthHasNoOrder : Type 0

@@ -1,14 +1,14 @@
 //! A month is closed.
-ghost use Rattle.std.specs.Prelude.{◌≡◌, ◌<◌, All, IfOk, length, map};
+ghost use Rattle.std.specs.Prelude.{◌≡◌, ◌<◌, ℕ, All, IfOk, length, map};
 ghost use Rattle.std.specs.FinMap.{len};
 ghost use Rattle.atl_orders.specs.Mailing.{IsReadWith, reading_of};
 ghost use Rattle.atl_state.specs.Covers.{MarksChanges};
-ghost use Rattle.atl_state.specs.Good.{IsGood, IsSound};
+ghost use Rattle.atl_state.specs.Good.{IsGood, IsSound, IsThere};
 ghost use Rattle.atl_state.specs.Limits.{last_month};
 ghost use Rattle.atl_instant.specs.Course.{HaveOwnFactions, by_faction};
 ghost use Rattle.atl_instant.specs.Fit.{AreFit};
-ghost use Rattle.atl_instant.specs.Meaning.{LeavesWell};
-ghost use Rattle.atl_month.specs.Month.{MonthHasNoOrder, begun, finished, month_of, month_phases};
+ghost use Rattle.atl_instant.specs.Meaning.{IsSameMonth, LeavesWell};
+ghost use Rattle.atl_month.specs.Month.{BooksAreNear, MonthHasNoOrder, PhasesMoveLittle, begun, finished, month_moves, month_of, month_phases};
 ghost use Rattle.atl_month.specs.Swept.{IsSwept};
 ghost use Rattle.atl_month.specs.Unmailed.{UnmailedAreLeft};
 
@@ -53,8 +53,9 @@ fn run_phases(
 /// Closes a month: runs its phases over a good campaign, with the mailings of its factions and one word of the dice for each
 /// region, and gives the campaign behind them and what came of the orders. The month isn't counted and the mail is still there:
 /// with these done the campaign is good again. A unit whose faction sent no mailing is behind it with its name, no less of any
-/// item, and all its men but for those of whom its Starved event tells; it is gone only where all starved. AllocError without memory; the campaign is then given up. See
-/// docs/RULES.md, "Closing a month".
+/// item, and all its men but for those of whom its Starved event tells; it is gone only where all starved. The factions and the
+/// reports stay. Each amount of the books is moved by what the phases may that move it, at most; founding and joining stay.
+/// AllocError without memory; the campaign is then given up. See docs/RULES.md, "Closing a month".
 pub fn close_month(
     alloc: Global,
     world: &World,
@@ -69,6 +70,9 @@ pub fn close_month(
     requires words { length words.now ≡ len world.now.regions }
     ensures definition { IfOk result (λ r. (r.0.what, r.1.items) ≡ month_of world.now campaign.what (by_faction (map reading_of mailings.items)) words.now) }
     ensures good { IfOk result (λ r. IsGood world.now (finished r.0.what)) }
+    ensures same { IfOk result (λ r. IsSameMonth campaign.what r.0.what) }
+    ensures factions { IfOk result (λ r. (n : ℕ) → IsThere campaign.what.factions n → IsThere r.0.what.factions n) }
+    ensures books { IfOk result (λ r. BooksAreNear month_moves campaign.what r.0.what) }
     ensures keeps { IfOk result (λ r. month_phases.keeps world.now (begun (by_faction (map reading_of mailings.items)) words.now) campaign.what r.0.what) }
     ensures unmailed { IfOk result (λ r. UnmailedAreLeft mailings.items r.1.items campaign.what r.0.what) }
     ensures marks { IfOk result (λ r. MarksChanges campaign r.0) }
@@ -82,4 +86,9 @@ pub fn close_month(
 /// given.
 pub fn months_have_no_order()
     ensures { MonthHasNoOrder }
+{}
+
+/// Each phase of a month moves each amount of the books by less than 10^14.
+pub fn phases_move_little()
+    ensures { PhasesMoveLittle }
 {}

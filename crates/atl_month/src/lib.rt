@@ -10,7 +10,7 @@ mod settling;
 mod sweep;
 mod upkeep;
 
-pub use close::{close_month, months_have_no_order};
+pub use close::{close_month, months_have_no_order, phases_move_little};
 pub use season::SeasonPhase;
 pub use settling::{Purse, Settled, settle};
 pub use sweep::SweepPhase;

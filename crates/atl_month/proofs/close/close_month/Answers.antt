@@ -4,7 +4,7 @@ use Rattle.atl_orders.specs.Mailing.{IsReadWith, reading_of}
 use Rattle.atl_instant.specs.Fit.{AreFit}
 use Rattle.atl_instant.specs.Course.{Course, by_faction}
 use Rattle.atl_month.specs.Month.{begun, month_phases}
-use Rattle.atl_month.proofs.MonthLaws.{finished_good, month_is}
+use Rattle.atl_month.proofs.MonthLaws.{books_near, factions_stay, finished_good, month_is}
 use Rattle.atl_instant.proofs.FitLaws.{read_fit}
 use Rattle.atl_month.proofs.MoveLaws.{phases_little}
 use Rattle.atl_month.proofs.UnmailedMonthLaws.{unmailed_left}
@@ -12,6 +12,15 @@ use Rattle.atl_month.proofs.close.close_month.Goals as goal
 
 pub returns-clause-good : goal.returns-clause-good
 returns-clause-good c = finished_good c.args.world.now c.args.campaign.what c.in_ok-campaign.campaign.what month_phases.moving phases_little c.requires.month c.in_ok-campaign.ensures.leaves c.requires.good
+
+pub returns-clause-same : goal.returns-clause-same
+returns-clause-same c = c.in_ok-campaign.ensures.leaves.same_month
+
+pub returns-clause-factions : goal.returns-clause-factions
+returns-clause-factions c = factions_stay c.args.world.now c.args.campaign.what c.in_ok-campaign.campaign.what c.in_ok-campaign.ensures.leaves
+
+pub returns-clause-books : goal.returns-clause-books
+returns-clause-books c = books_near c.args.world.now c.args.campaign.what c.in_ok-campaign.campaign.what c.in_ok-campaign.ensures.leaves
 
 pub returns-clause-keeps : goal.returns-clause-keeps
 returns-clause-keeps c =

@@ -1,0 +1,69 @@
+-- Two maps with as many values, where one has each number of the other.
+use Rattle.std.proofs.Common.{◌≡◌, ◌≢◌, ℕ, suc, zero, ◌+◌, ◌-◌, ◌≤◌, Bool, true, false, cond, List, [], ◌∷◌, length, Option, Some, None, refl, sym, ap, ◌∙◌, inl, inr, arith}
+use Rattle.std.specs.Prelude.{is_some}
+use Rattle.std.specs.Ordering.{nat_cmp}
+use Rattle.std.specs.Cmp.{nat_cmp_total}
+use Rattle.std.specs.FinMap.{FinMap, contains_key, empty, empty_of_len, entries, find, get, get-empty, get-entries, insert, len, len-entries, len-insert, len-remove, remove}
+use Rattle.std.proofs.lemmas.Bool.{cases_eq}
+use Rattle.atl_state.specs.Good.{IsThere}
+use Rattle.atl_state.proofs.EveryLaws.{first, get-insert_other, none_some}
+use Rattle.atl_state.proofs.RegionLaws.{get-insert_same}
+use Rattle.atl_state.proofs.RemovedLaws.{get-remove_other, still}
+
+module _ {V : Type 0} where
+  -- one map has each number of the other
+  abbrev HasAll : FinMap nat_cmp V → FinMap nat_cmp V → Type 0
+  HasAll a b = (n : ℕ) → IsThere b n → IsThere a n
+
+  len_without : (m : FinMap nat_cmp V) (n : ℕ) (v : V) → get m n ≡ Some v → len (remove m n) ≡ len m - 1
+  len_without m n v is = len-remove nat_cmp_total m n ∙ ap (λ o. cond (is_some o) (len m - 1) (len m)) is
+
+  len_with : (m : FinMap nat_cmp V) (n : ℕ) (v : V) → get m n ≡ None → len (insert m n v) ≡ len m + 1
+  len_with m n v none = len-insert nat_cmp_total m n v ∙ ap (λ o. cond (is_some o) (len m) (len m + 1)) none
+
+  some_values : (m : FinMap nat_cmp V) (n : ℕ) (v : V) → get m n ≡ Some v → 1 ≤ len m
+  some_values m n v is = by_count (len m) refl
+    where
+      by_count : (k : ℕ) → len m ≡ k → 1 ≤ k
+      by_count zero none = none_some v (sym (get-empty nat_cmp n) ∙ ap (λ e. get e n) (sym (empty_of_len m none)) ∙ is)
+      by_count (suc k) some = omega arith
+
+  has_all_without : (a b : FinMap nat_cmp V) (n : ℕ) → HasAll a b → HasAll (remove a n) (remove b n)
+  has_all_without a b n all m (v, there) =
+      let (apart, at) = still b n m v there in
+      let (x, is) = all m (v, at) in
+      (x, get-remove_other a n m apart ∙ is)
+
+  at_least : (k : ℕ) (a b : FinMap nat_cmp V) → len b ≡ k → HasAll a b → k ≤ len a
+  at_least zero a b count all = omega arith
+  at_least (suc k) a b count all = by_entries (λ c d less has. at_least k c d less has) (entries b) refl
+    where
+      fewer : (x y : ℕ) → x ≡ suc k → y ≡ x - 1 → y ≡ k
+      fewer x y count is = omega (arith, count, is)
+
+      more : (x y : ℕ) → k ≤ y → y ≡ x - 1 → 1 ≤ x → suc k ≤ x
+      more x y l is some = omega (arith, l, is, some)
+
+      by_entries : ((c d : FinMap nat_cmp V) → len d ≡ k → HasAll c d → k ≤ len c) → (es : List (ℕ × V)) → entries b ≡ es → suc k ≤ len a
+      by_entries step [] is = absurd (omega (arith, count, len-entries b ∙ ap length is))
+      by_entries step (e ∷ es) is =
+          let here : get b e.0 ≡ Some e.1 = get-entries b e.0 ∙ ap (find nat_cmp e.0) is ∙ first e es in
+          let (x, there) = all e.0 (e.1, here) in
+          more (len a) (len (remove a e.0)) (step (remove a e.0) (remove b e.0) (fewer (len b) (len (remove b e.0)) count (len_without b e.0 e.1 here)) (has_all_without a b e.0 all)) (len_without a e.0 x there) (some_values a e.0 x there)
+
+  has_all_with : (a b : FinMap nat_cmp V) (n : ℕ) (v : V) → HasAll a b → get a n ≡ Some v → HasAll a (insert b n v)
+  has_all_with a b n v all here m (x, there) = elim (cases_eq m n) [
+    | inl same ↦ (v, ap (get a) same ∙ here)
+    | inr apart ↦ all m (x, sym (get-insert_other b n m v apart) ∙ there)
+  ]
+
+  -- then the other has each number of the one
+  pub has_all_back : (a b : FinMap nat_cmp V) → len b ≡ len a → HasAll a b → HasAll b a
+  has_all_back a b count all n (v, here) = by_value (get b n) refl
+    where
+      too_many : (x y z : ℕ) → x ≡ y → z ≡ x + 1 → z ≤ y → IsThere b n
+      too_many x y z count is l = absurd (omega (arith, count, is, l))
+
+      by_value : (o : Option V) → get b n ≡ o → IsThere b n
+      by_value (Some x) is = (x, is)
+      by_value None none = too_many (len b) (len a) (len (insert b n v)) count (len_with b n v none) (at_least (len (insert b n v)) a (insert b n v) refl (has_all_with a b n v all here))
