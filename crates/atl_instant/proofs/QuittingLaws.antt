@@ -15,7 +15,7 @@ use Rattle.atl_instant.specs.Course.{Aliases, Course}
 use Rattle.atl_instant.specs.Fit.{AreFit}
 use Rattle.atl_instant.specs.Meaning.{Condition}
 use Rattle.atl_instant.specs.PhaseOrders.{Task, orders_of}
-use Rattle.atl_instant.specs.Quit.{QuitsFrom, is_quitting, left_at, left_by, quit, quit_keeps, quit_meaning, quit_moves, quit_reserve, quit_said, quit_step}
+use Rattle.atl_instant.specs.Quit.{QuitsFrom, is_quitting, left_at, left_by, quit_keeps, quit_meaning, quit_moves, quit_reserve, quit_said, quit_step}
 use Rattle.atl_instant.specs.Staying.{IsNoWorse}
 use Rattle.atl_instant.specs.Steps.{IsOrderly, StepsWell, carried_out, is_of_faction, is_own}
 use Rattle.atl_instant.specs.declared.written.Arrangement.TheVariants.{ByUnit}

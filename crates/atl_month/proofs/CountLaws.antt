@@ -1,13 +1,12 @@
 -- Two maps with as many values, where one has each number of the other.
-use Rattle.std.proofs.Common.{◌≡◌, ◌≢◌, ℕ, suc, zero, ◌+◌, ◌-◌, ◌≤◌, Bool, true, false, cond, List, [], ◌∷◌, length, Option, Some, None, refl, sym, ap, ◌∙◌, inl, inr, arith}
+use Rattle.std.proofs.Common.{◌≡◌, ℕ, suc, zero, ◌+◌, ◌-◌, ◌≤◌, cond, List, [], ◌∷◌, length, Option, Some, None, refl, sym, ap, ◌∙◌, inl, inr, arith}
 use Rattle.std.specs.Prelude.{is_some}
 use Rattle.std.specs.Ordering.{nat_cmp}
 use Rattle.std.specs.Cmp.{nat_cmp_total}
-use Rattle.std.specs.FinMap.{FinMap, contains_key, empty, empty_of_len, entries, find, get, get-empty, get-entries, insert, len, len-entries, len-insert, len-remove, remove}
+use Rattle.std.specs.FinMap.{FinMap, empty_of_len, entries, find, get, get-empty, get-entries, insert, len, len-entries, len-insert, len-remove, remove}
 use Rattle.std.proofs.lemmas.Bool.{cases_eq}
 use Rattle.atl_state.specs.Good.{IsThere}
 use Rattle.atl_state.proofs.EveryLaws.{first, get-insert_other, none_some}
-use Rattle.atl_state.proofs.RegionLaws.{get-insert_same}
 use Rattle.atl_state.proofs.RemovedLaws.{get-remove_other, still}
 
 module _ {V : Type 0} where
