@@ -7,6 +7,7 @@ mod damage;
 mod files;
 mod founding;
 mod full;
+mod laws;
 mod limits;
 mod mailings;
 mod making;

@@ -64,18 +64,9 @@ const CLOSED_ONCE: [Step; 4] = [
     Step::Books(BOOKS_AFTER_WORK),
 ];
 
-const CLOSED_TWICE: [Step; 5] = [
-    Step::Told(AVALON, "joined"),
-    Step::Closed(MONTH_ONE, 1),
-    Step::Told(MONTH_ONE, "wrong month"),
-    Step::Month(1),
-    Step::Told(Asked::Report(1, "pw"), AFTER_WORK),
-];
-
 #[test]
-fn a_month_is_closed_once(rt: HostRuntime) -> Result<(), Fail> {
-    plays(&rt, rt.alloc(), SMALL, &CLOSED_ONCE, &AFTER_MONTH_ONE)?;
-    plays(&rt, rt.alloc(), SMALL, &CLOSED_TWICE, &AFTER_MONTH_ONE)
+fn a_month_is_closed(rt: HostRuntime) -> Result<(), Fail> {
+    plays(&rt, rt.alloc(), SMALL, &CLOSED_ONCE, &AFTER_MONTH_ONE)
 }
 
 const ONE_FAULTY: [Step; 5] = [

@@ -22,7 +22,7 @@ pub(crate) fn told(cause: &Cause) -> &'static str {
     }
 }
 
-/// Asserts why no campaign is founded in a database.
+/// Asserts why no campaign is founded in a database, which comes back.
 pub(crate) fn is_refused<S: Alter + Drop>(
     rt: &impl Abort,
     alloc: Global,
@@ -30,13 +30,16 @@ pub(crate) fn is_refused<S: Alter + Drop>(
     world: &str,
     pass: &str,
     words: &str,
-) {
+) -> Connection<S> {
     match found(alloc, conn, world, pass.as_bytes()) {
         Ok(service) => {
-            service.end();
             assert!(rt; false);
+            service.end()
         }
-        Err(Refused { why, conn: _ }) => is_text(rt, told(&why), words),
+        Err(Refused { why, conn }) => {
+            is_text(rt, told(&why), words);
+            conn
+        }
     }
 }
 

@@ -9,6 +9,9 @@ use super::script::{Asked, Step, follow};
 use super::tables::holds;
 use super::worlds::SMALL;
 use atl_service::Service;
+use atl_state::Campaign;
+use atl_state::check::check;
+use atl_tables::World;
 use sqlite::{Alter, Connection, FileStore};
 use sqlite_disk::Disk;
 use std::alloc::Global;
@@ -47,11 +50,14 @@ const AFTER_A_MONTH: [Step; 4] = [
     Step::Keeps(None),
 ];
 
-/// All rows of the campaign, written out.
-fn rows_of<S: Alter>(alloc: Global, service: &Service<S>) -> Result<String, Fail> {
-    let campaign = service.campaign().ok_or("closed")?;
+/// All rows of a campaign, written out.
+fn rows_of(alloc: Global, campaign: &Campaign) -> Result<String, Fail> {
     let parts = campaign.parts()?;
     Ok(format!(in alloc; "{parts:?}")?)
+}
+
+fn rows_in<S: Alter>(alloc: Global, service: &Service<S>) -> Result<String, Fail> {
+    rows_of(alloc, service.campaign().ok_or("closed")?)
 }
 
 /// Takes the steps, and gives the rows then.
@@ -62,7 +68,7 @@ fn rows_after<S: Alter>(
     steps: &[Step],
 ) -> Result<String, Fail> {
     follow(rt, alloc, service, steps)?;
-    rows_of(alloc, service)
+    rows_in(alloc, service)
 }
 
 /// Founds a campaign and takes the steps. The database comes back with the rows then.
@@ -84,7 +90,7 @@ fn has_rows<S: Alter>(
     service: &Service<S>,
     rows: &str,
 ) -> Result<(), Fail> {
-    let told = rows_of(alloc, service)?;
+    let told = rows_in(alloc, service)?;
     is_text(rt, told.as_str(), rows);
     Ok(())
 }
@@ -104,23 +110,56 @@ fn goes_on<S: Alter + Drop>(
     Ok((rows?, conn))
 }
 
-/// Takes the steps, opens the campaign on its connection, and takes the others.
-fn comes_back_once<S: Alter + Drop>(
+/// The campaign that the rules of the tables make of another one's rows.
+fn checked(alloc: Global, world: &World, campaign: &Campaign) -> Result<Campaign, Fail> {
+    match check(alloc, world, campaign.parts()?) {
+        Ok(again) => Ok(again),
+        Err(_) => Err(Fail::new("check")),
+    }
+}
+
+/// Asserts that a campaign has these rows, and that they make it again.
+fn is_made_of(
+    rt: &impl Abort,
+    alloc: Global,
+    world: &World,
+    campaign: &Campaign,
+    rows: &str,
+) -> Result<(), Fail> {
+    is_text(rt, rows_of(alloc, campaign)?.as_str(), rows);
+    let again = checked(alloc, world, campaign)?;
+    is_text(rt, rows_of(alloc, &again)?.as_str(), rows);
+    Ok(())
+}
+
+/// Opens the campaign, and asserts that it has these rows and is made of them again.
+fn stands<S: Alter + Drop>(
     rt: &impl Abort,
     alloc: Global,
     conn: Connection<S>,
-    steps: &[Step],
-    others: &[Step],
+    rows: &str,
 ) -> Result<(), Fail> {
-    let (rows, conn) = begins(rt, alloc, conn, steps)?;
-    goes_on(rt, alloc, conn, rows.as_str(), others)?;
-    Ok(())
+    let service = opened(alloc, conn)?;
+    let campaign = service.campaign().ok_or("closed")?;
+    is_made_of(rt, alloc, service.world(), campaign, rows)
+}
+
+/// A month is closed, and neither a second closing nor another founding changes a row of the tables.
+fn a_month_stands<S: Alter + Drop>(
+    rt: &impl Abort,
+    alloc: Global,
+    conn: Connection<S>,
+) -> Result<(), Fail> {
+    let (rows, conn) = begins(rt, alloc, conn, &A_MONTH)?;
+    let (_, conn) = goes_on(rt, alloc, conn, rows.as_str(), &AFTER_A_MONTH)?;
+    let conn = is_refused(rt, alloc, conn, SMALL, "gm", "not empty");
+    stands(rt, alloc, conn, rows.as_str())
 }
 
 #[test]
 fn a_closed_month_is_opened_again(rt: HostRuntime) -> Result<(), Fail> {
     let conn = Connection::open_in_memory(rt.alloc())?;
-    comes_back_once(&rt, rt.alloc(), conn, &A_MONTH, &AFTER_A_MONTH)
+    a_month_stands(&rt, rt.alloc(), conn)
 }
 
 /// Opens a campaign twice on its connection, where no other is founded then.
