@@ -1,6 +1,6 @@
 //! Commands and answers.
 ghost use Rattle.std.specs.Prelude.{◌≡◌, ◌≤◌};
-ghost use Rattle.atl_service.specs.Numbers.{number_of};
+ghost use Rattle.atl_service.specs.Numbers.{number_of, refusal_name, fault_name};
 ghost use Rattle.atl_service.specs.Found.{of_world, of_creation};
 ghost use Rattle.atl_service.specs.Opened.{of_loading};
 ghost use Rattle.atl_service.specs.Answering.{of_writing};
@@ -12,30 +12,41 @@ use atl_tables::{Sequence, Text, WorldFault};
 use sqlite::{Alter, Connection};
 use std::alloc::AllocError;
 
-/// What a club asks of its campaign. Names, pass texts and mailings are any bytes.
+/// What a club asks of its campaign. Names, pass texts and mailings are any bytes. Who is refused, and what is changed, say
+/// docs/RULES.md, "Joining", "Mail", "Closing a month" and "Reports".
 pub enum Command {
-    /// A faction joins under a name, with a pass text of its own and a dice word that picks its region.
+    /// A faction joins. See docs/RULES.md, "Joining".
     Join {
+        /// The name under which it joins.
         name: Sequence<u8>,
+        /// The pass text that it is going to give.
         pass: Sequence<u8>,
+        /// A word of the dice, which picks its region.
         word: u32,
     },
-    /// A faction sends its orders for the month to come.
+    /// A faction sends its orders for the month to come. See docs/RULES.md, "Mail".
     Mail {
+        /// The faction's number.
         faction: u32,
+        /// Its pass text.
         pass: Sequence<u8>,
+        /// The mailing, which is kept byte for byte.
         text: Sequence<u8>,
     },
-    /// The moderator closes a month: its number, the moderator's pass text, and one word of the dice for each region, in the
-    /// order of the regions' numbers.
+    /// The moderator closes a month. See docs/RULES.md, "Closing a month".
     Close {
+        /// The month's number: one more than that of the month last closed.
         month: u32,
+        /// The moderator's pass text.
         pass: Sequence<u8>,
+        /// A word of the dice for each region, in the order of the regions' numbers.
         words: Sequence<u32>,
     },
-    /// A faction asks for its stored report.
+    /// A faction asks for its stored report. See docs/RULES.md, "Reports".
     Report {
+        /// The faction's number.
         faction: u32,
+        /// Its pass text.
         pass: Sequence<u8>,
     },
 }
@@ -66,7 +77,8 @@ impl Drop for Command {
     }
 }
 
-/// Why a command is refused. A refused command changes nothing.
+/// Why a command is refused. A refused command changes nothing. See docs/RULES.md, "Refusals and faults"; which refusal comes
+/// first is said with each command there.
 #[derive(Drop, Clone, Copy, Debug, PartialEq, Eq)]
 pub enum Refusal {
     /// The name breaks the rule of names.
@@ -121,17 +133,53 @@ impl Refusal {
             Refusal::WrongDice => 14,
         }
     }
+
+    /// The name under which the refusal is told. See docs/FORMATS.md, "Refusals".
+    pub fn name(self) -> &'static str
+        ensures { result.now ≡ refusal_name self }
+    {
+        match self {
+            Refusal::BadName => "BadName",
+            Refusal::BadPassText => "BadPassText",
+            Refusal::NameTaken => "NameTaken",
+            Refusal::Full => "Full",
+            Refusal::NoFaction => "NoFaction",
+            Refusal::WrongPass => "WrongPass",
+            Refusal::Gone => "Gone",
+            Refusal::TooLong => "TooLong",
+            Refusal::NoHeader => "NoHeader",
+            Refusal::BadHeader => "BadHeader",
+            Refusal::WrongFaction => "WrongFaction",
+            Refusal::WrongMonth => "WrongMonth",
+            Refusal::MonthLimit => "MonthLimit",
+            Refusal::WrongDice => "WrongDice",
+        }
+    }
 }
 
-/// Why a command could not be carried out.
+/// Why a command could not be carried out. While the connection is open its tables are as before; a crash leaves them as before
+/// or after the command. See docs/RULES.md, "Refusals and faults".
 #[derive(Drop, Clone, Copy, Debug, PartialEq, Eq)]
 pub enum Fault {
     /// There was no memory. The service is closed from then on.
     Memory,
     /// The database refused for another cause. The service is closed from then on.
     Store,
-    /// The service is closed.
+    /// The service was closed by an earlier fault. Nothing changes.
     Closed,
+}
+
+impl Fault {
+    /// The name under which the fault is told. See docs/FORMATS.md, "Refusals".
+    pub fn name(self) -> &'static str
+        ensures { result.now ≡ fault_name self }
+    {
+        match self {
+            Fault::Memory => "Memory",
+            Fault::Store => "Store",
+            Fault::Closed => "Closed",
+        }
+    }
 }
 
 impl From<WriteFault> for Fault {
@@ -145,26 +193,33 @@ impl From<WriteFault> for Fault {
     }
 }
 
-/// The answer to a command.
+/// The answer to a command. Joined, Mailed and MonthDone are given once what the command changed is written. See docs/RULES.md,
+/// "Joining", "Mail", "Closing a month", "Reports" and "Refusals and faults".
 pub enum Answer {
-    /// The numbers of the faction that joined and of its unit.
+    /// A faction joined, and its first report is stored.
     Joined {
+        /// The number of the faction.
         faction: u32,
+        /// The number of its unit.
         unit: u32,
     },
-    /// How many orders the mailing has that was kept, a FORM among them and UNIT and END not; and its faulty lines, each
-    /// with what is wrong.
+    /// A mailing is kept for the month to come, in the place of an older one.
     Mailed {
+        /// How many orders it has, a FORM among them and UNIT and END not.
         orders: usize,
+        /// Its faulty lines, each with what is wrong.
         faults: Sequence<FaultyLine>,
     },
-    /// The number of the month that was closed.
+    /// A month was closed; the mail is taken away, and the reports are stored.
     MonthDone {
+        /// The number of the month.
         month: u32,
     },
-    /// A report.
+    /// The stored report, as it was made; nothing changes. It is empty where none is stored.
     Text(Text),
+    /// The command was refused for this reason, and nothing changes.
     Refused(Refusal),
+    /// The command could not be carried out. The service is closed from then on.
     Fault(Fault),
 }
 
@@ -204,6 +259,7 @@ pub enum Cause {
     /// The database refuses for another cause than memory. To a founding it has other tables; to an opening its tables are not
     /// made as those of a campaign.
     Store,
+    /// There was no memory.
     Memory,
 }
 
@@ -256,6 +312,8 @@ impl From<AllocError> for Cause {
 /// A founding or an opening that was refused hands its connection back, with its tables as they were.
 #[derive(Drop)]
 pub struct Refused<S: Alter> {
+    /// The first cause that applies.
     pub why: Cause,
+    /// The connection that was handed in.
     pub conn: Connection<S>,
 }

@@ -63,7 +63,8 @@ impl<S: Alter> Service<S> {
     ghost use Rattle.atl_service.specs.Runs.{Runs, RunsAll, HeadlineAt};
 
     /// Runs one command. A command that is refused, or answered with a report, changes nothing. After Fault Memory or
-    /// Store the tables are as before, the service is closed, and every command is answered Closed and changes nothing.
+    /// Store the tables are as before, the service is closed, and every command is answered Closed and changes nothing. See
+    /// docs/RULES.md, "Joining", "Mail", "Closing a month", "Reports" and "Refusals and faults".
     pub fn run(&mut self, command: &Command) -> Answer
         ensures runs { Runs S.Store self.old command.now result self.new }
         ensures later { IsLater (state S.Store self.old.conn) (state S.Store self.new.conn) }
@@ -89,8 +90,8 @@ impl<S: Alter> Service<S> {
         }
     }
 
-    /// Runs commands in their order, and gives an answer for each. The room for the answers is taken first: without it
-    /// nothing is run and nothing changes.
+    /// Runs commands in their order, and gives an answer for each; behind a fault it is Closed. The room for the answers is
+    /// taken first: without it nothing is run and nothing changes. See docs/RULES.md, "Refusals and faults".
     pub fn run_all(&mut self, commands: &[Command]) -> Result<Vec<Answer>, AllocError>
         ensures runs { IfOk result (λ answers. RunsAll S.Store self.old commands.now answers.items self.new) }
         ensures headline { IfOk result (λ answers. HeadlineAt S.Store self.old commands.now answers.items self.new self.old.campaign) }
@@ -158,7 +159,8 @@ impl<S: Alter> Service<S> {
 /// Founds a campaign by a world text and the moderator's pass text, in a database without tables. The cause of a refusal
 /// is the first check that fails: the world's fault, the pass text, a campaign that is there, the database; or Memory at
 /// any of them. After the first three nothing is changed; after the others the tables are as they were while the connection
-/// is open, and a crash leaves what it left before or the founded campaign.
+/// is open, and a crash leaves what it left before or the founded campaign. See docs/RULES.md, "Founding", and docs/FORMATS.md,
+/// "Faults of a world file" and "Tables".
 pub fn found<S: Alter>(
     alloc: Global,
     mut conn: Connection<S>,
