@@ -6,3 +6,4 @@ pub mod RunLaws
 pub mod StepLaws
 pub mod CloseLaws
 pub mod PostingLaws
+pub mod SortLaws

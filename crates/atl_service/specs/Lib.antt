@@ -3,6 +3,7 @@ pub mod Closing
 pub mod Step
 pub mod Engine
 pub mod Answering
+pub mod Sorting
 pub mod Months
 pub mod Runs
 pub mod Posting

@@ -8,6 +8,7 @@ mod founding;
 pub mod posting;
 mod reporting;
 pub mod service;
+mod sorting;
 
 pub use command::{Answer, Cause, Command, Fault, Refusal, Refused};
 pub use posting::only_the_last_mail_counts;

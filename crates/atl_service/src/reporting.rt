@@ -6,7 +6,9 @@ ghost use Rattle.atl_state.specs.Marking.{mark_report};
 ghost use Rattle.atl_report.specs.Sites.{AreSites};
 ghost use Rattle.atl_service.specs.Closing.{reported_to, reported_with};
 ghost use Rattle.atl_service.specs.Months.{told_to_all};
+ghost use Rattle.atl_service.specs.Sorting.{AreSorted};
 
+use crate::sorting::{listed, sorted};
 use atl_orders::FaultyLine;
 use atl_report::{Sites, report_text, sites_of, view_over};
 use atl_state::{Campaign, Event};
@@ -67,35 +69,45 @@ pub(crate) fn store_report(
     store_seen(alloc, world, campaign, &sites, faction, &[], &[])
 }
 
-/// Stores a new report for a faction, where there is such a faction, with what is wrong with its mail.
+/// Stores a new report for a faction, with what is wrong with its mail and with its own events of the month.
+fn store_own(
+    alloc: Global,
+    world: &World,
+    campaign: &mut Campaign,
+    sites: &Sites,
+    faction: u32,
+    told: &Told,
+    sorted: &Numbered<Sequence<Event>>,
+) -> Result<(), AllocError>
+    requires sites { AreSites campaign.old.what.structures sites.now }
+    requires sorted { AreSorted told.now.events.items sorted.now }
+    ensures ok { OnOk result (campaign.new.what ≡ reported_with world.now campaign.old.what faction (unwrap_or (map.get told.now.faults faction) []) told.now.events.items) }
+    ensures marks { OnOk result (campaign.new.marks ≡ mark_report campaign.old faction) }
+{
+    let faults = listed(&told.faults, faction);
+    let events = listed(sorted, faction);
+    store_seen(alloc, world, campaign, sites, faction, faults, events)
+}
+
+/// The same, where there is such a faction.
 fn report_to(
     alloc: Global,
     world: &World,
     campaign: &mut Campaign,
     sites: &Sites,
     faction: u32,
-    faults: &Numbered<Sequence<FaultyLine>>,
-    events: &[Event],
+    told: &Told,
+    sorted: &Numbered<Sequence<Event>>,
 ) -> Result<(), AllocError>
-    requires { AreSites campaign.old.what.structures sites.now }
-    ensures what { OnOk result (campaign.new.what ≡ reported_to world.now (λ n. unwrap_or (map.get faults.now n) []) events.now campaign.old.what faction) }
+    requires sites { AreSites campaign.old.what.structures sites.now }
+    requires sorted { AreSorted told.now.events.items sorted.now }
+    ensures what { OnOk result (campaign.new.what ≡ reported_to world.now (λ n. unwrap_or (map.get told.now.faults n) []) told.now.events.items campaign.old.what faction) }
     ensures marks { OnOk result (MarksChanges campaign.old campaign.new) }
 {
     if campaign.faction(faction).is_none() {
         return Ok(());
     }
-    match faults.get(faction) {
-        Some(lines) => store_seen(
-            alloc,
-            world,
-            campaign,
-            sites,
-            faction,
-            lines.as_slice(),
-            events,
-        ),
-        None => store_seen(alloc, world, campaign, sites, faction, &[], events),
-    }
+    store_own(alloc, world, campaign, sites, faction, told, sorted)
 }
 
 /// Stores a new report for each of the factions that are to be told, as far as they are there.
@@ -105,27 +117,21 @@ fn report_to_each(
     campaign: &mut Campaign,
     sites: &Sites,
     told: &Told,
+    sorted: &Numbered<Sequence<Event>>,
 ) -> Result<(), AllocError>
-    requires { AreSites campaign.old.what.structures sites.now }
+    requires sites { AreSites campaign.old.what.structures sites.now }
+    requires sorted { AreSorted told.now.events.items sorted.now }
     ensures what { OnOk result (campaign.new.what ≡ told_to_all world.now campaign.old.what told.now) }
     ensures marks { OnOk result (MarksChanges campaign.old campaign.new) }
 {
     for faction in told.factions.iter() {
-        report_to(
-            alloc,
-            world,
-            campaign,
-            sites,
-            *faction,
-            &told.faults,
-            &told.events,
-        )?;
+        report_to(alloc, world, campaign, sites, *faction, told, sorted)?;
     }
     Ok(())
 }
 
 /// Stores a new report for each of the factions that are to be told, as far as they are there. The structures of each region
-/// are found once for all of them.
+/// and the events of each faction are found once for all of them.
 pub(crate) fn report_to_all(
     alloc: Global,
     world: &World,
@@ -136,5 +142,6 @@ pub(crate) fn report_to_all(
     ensures marks { OnOk result (MarksChanges campaign.old campaign.new) }
 {
     let sites = sites_of(alloc, campaign)?;
-    report_to_each(alloc, world, campaign, &sites, told)
+    let sorted = sorted(alloc, &told.events)?;
+    report_to_each(alloc, world, campaign, &sites, told, &sorted)
 }

@@ -1,9 +1,8 @@
+use Rattle.std.proofs.Common.{unwrap_or, []}
+use Rattle.std.specs.FinMap.{get}
 use Rattle.atl_service.proofs.CloseLaws.{stored_marked}
 use Rattle.atl_service.proofs.reporting.report_to.Goals as goal
 
-pub returns-in-Some-clause-marks : goal.returns-in-Some-clause-marks
-returns-in-Some-clause-marks c = stored_marked c.args.world.now c.args.campaign.now c.store_seen.new.campaign c.args.faction _ c.args.events.now c.store_seen.result c.store_seen.ensures.ok c.store_seen.ensures.marks
-
-pub returns-in-None-clause-marks : goal.returns-in-None-clause-marks
-returns-in-None-clause-marks c =
-    stored_marked c.args.world.now c.args.campaign.now c.store_seen-in-None.new.campaign c.args.faction _ c.args.events.now c.store_seen-in-None.result c.store_seen-in-None.ensures.ok c.store_seen-in-None.ensures.marks
+pub returns-clause-marks : goal.returns-clause-marks
+returns-clause-marks c =
+    stored_marked c.args.world.now c.args.campaign.now c.store_own.new.campaign c.args.faction (unwrap_or (get c.args.told.now.faults c.args.faction) []) c.args.told.now.events.items c.store_own.result c.store_own.ensures.ok c.store_own.ensures.marks

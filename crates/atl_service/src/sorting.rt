@@ -1,0 +1,50 @@
+//! The events of a month, sorted by faction.
+ghost use Rattle.std.specs.Prelude.{◌≡◌, IfOk, OnOk, unwrap_or, []};
+ghost use Rattle.std.specs.FinMap as map;
+ghost use Rattle.atl_service.specs.Sorting.{AreSorted, with_event};
+
+use atl_state::Event;
+use atl_tables::{Numbered, Sequence};
+use std::alloc::{AllocError, Global};
+
+/// Lists an event as the last one of its faction. Without memory the lists are to be given up.
+fn add_event(
+    alloc: Global,
+    sorted: &mut Numbered<Sequence<Event>>,
+    event: Event,
+) -> Result<(), AllocError>
+    ensures { OnOk result (sorted.new ≡ with_event sorted.old event) }
+{
+    match sorted.get_mut(event.faction) {
+        Some(listed) => listed.push(event),
+        None => {
+            let mut listed = Sequence::new(alloc);
+            listed.push(event)?;
+            sorted.insert(event.faction, listed)
+        }
+    }
+}
+
+/// The events of each faction in their order, by the faction's number, from one pass over all of them.
+pub(crate) fn sorted(
+    alloc: Global,
+    events: &[Event],
+) -> Result<Numbered<Sequence<Event>>, AllocError>
+    ensures { IfOk result (AreSorted events.now) }
+{
+    let mut sorted = Numbered::new(alloc);
+    for event in events {
+        add_event(alloc, &mut sorted, *event)?;
+    }
+    Ok(sorted)
+}
+
+/// The list that stands under a number; the empty one where none does.
+pub(crate) fn listed<T: Drop>(lists: &Numbered<Sequence<T>>, number: u32) -> &[T]
+    ensures { result.now ≡ unwrap_or (map.get lists.now number) [] }
+{
+    match lists.get(number) {
+        Some(listed) => listed.as_slice(),
+        None => &[],
+    }
+}
