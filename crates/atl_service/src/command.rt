@@ -12,8 +12,8 @@ use atl_tables::{Sequence, Text, WorldFault};
 use sqlite::{Alter, Connection};
 use std::alloc::AllocError;
 
-/// What a club asks of its campaign. Names, pass texts and mailings are any bytes. Who is refused, and what is changed, say
-/// docs/RULES.md, "Joining", "Mail", "Closing a month" and "Reports".
+/// What a club asks of its campaign. Names, pass texts and mailings are any bytes. Each command has its rules in a section of
+/// docs/RULES.md.
 pub enum Command {
     /// A faction joins. See docs/RULES.md, "Joining".
     Join {
