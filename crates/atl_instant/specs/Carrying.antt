@@ -1,4 +1,4 @@
--- How the code finds what an order says: by its faction and its place. That these are the orders of a phase is proved.
+-- For proofs alone: how the code finds what an order says: by its faction and its place. That these are the orders of a phase is proved.
 use Rattle.std.specs.Prelude.{Bool, Option, Some, None}
 use Rattle.atl_tables.specs.Planet.{Planet}
 use Rattle.atl_orders.specs.Orders.{Said}

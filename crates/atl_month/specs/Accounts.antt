@@ -1,4 +1,4 @@
--- What the code keeps while it settles upkeep.
+-- For proofs alone: what the code keeps while it settles upkeep.
 use Rattle.std.specs.Prelude.{ℕ, ◌+◌, ◌-◌, ◌*◌, ◌≤◌, List, min, Option, Some, None}
 use Rattle.std.specs.Ordering.{nat_cmp}
 use Rattle.std.specs.FinMap.{FinMap, empty, get, insert}

@@ -1,4 +1,4 @@
--- What the code keeps of the units that receive what others leave.
+-- For proofs alone: what the code keeps of the units that receive what others leave.
 use Rattle.std.specs.Prelude.{◌≡◌, ◌==◌, ◌&&◌, ℕ, nat_lt, Option, Some, None, unwrap_or, if◌then◌else◌}
 use Rattle.std.specs.Ordering.{nat_cmp}
 use Rattle.std.specs.FinMap.{FinMap, empty, get, insert}

@@ -1,4 +1,4 @@
--- The events of a month, sorted by faction.
+-- For proofs alone: the events of a month, sorted by faction.
 use Rattle.std.specs.Prelude.{◌≡◌, ◌++◌, ℕ, List, [], ◌∷◌, unwrap_or}
 use Rattle.std.specs.Ordering.{nat_cmp}
 use Rattle.std.specs.FinMap.{FinMap, get, insert}
