@@ -11,7 +11,7 @@ use Rattle.atl_service.specs.declared.command.Fault.TheVariants.{Memory, Store, 
 use Rattle.atl_service.specs.declared.command.Refusal.{Refusal}
 use Rattle.atl_service.specs.declared.command.Refusal.TheVariants.{BadName, BadPassText, NameTaken, Full, NoFaction, WrongPass, Gone, TooLong, NoHeader, BadHeader, WrongFaction, WrongMonth, MonthLimit, WrongDice}
 use Rattle.atl_service.specs.Numbers.{number_of}
-use Rattle.atl_http.specs.Replies.{Reply, json, plain, error_body}
+use Rattle.atl_http.specs.Replies.{Reply, json, plain, no_number, error_body}
 
 -- ---- what was done
 
@@ -89,4 +89,4 @@ answer_reply (Mailed orders faults) = success json (mailed_body orders faults)
 answer_reply (MonthDone month) = success json (month_body month)
 answer_reply (Text report) = success plain report
 answer_reply (Refused why) = failure (refusal_status why) (refusal_name why) (number_of why)
-answer_reply (Fault fault) = failure 500 (fault_name fault) 0
+answer_reply (Fault fault) = failure 500 (fault_name fault) no_number

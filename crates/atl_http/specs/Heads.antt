@@ -1,10 +1,12 @@
 -- What the bytes that have come of a request tell of it.
-use Rattle.std.specs.Prelude.{◌≡◌, ℕ, ◌≤◌, ◌<◌, ◌⊎◌, List, length, take, ◌++◌, ⊤}
+use Rattle.std.specs.Prelude.{◌≡◌, ℕ, ◌≤◌, ◌<◌, ◌⊎◌, List, [], length, take, ◌++◌, ⊤}
 use Rattle.httparse.specs.Grammar.{RequestHead, print_request, ReadsRequest, NeverHasRequest, HasNoRequest, MayBecomeRequest}
 use Rattle.httparse.specs.Spans.{RequestExceeds, RequestOverflows}
 use Rattle.atl_http.specs.declared.problem.Problem.TheVariants.{BadRequest}
 use Rattle.atl_http.specs.declared.request.Verdict.{Verdict}
 use Rattle.atl_http.specs.declared.request.Verdict.TheVariants.{More, Refused, Asks}
+use Rattle.atl_http.specs.declared.request.Outcome.{Outcome}
+use Rattle.atl_http.specs.declared.request.Outcome.TheVariants as outcome
 use Rattle.atl_http.specs.Checks.{verdict_of}
 
 -- the most bytes of a head, its empty line among them
@@ -47,6 +49,19 @@ abbrev pub IsFinal : Verdict → Type 0
 IsFinal More = ⊥
 IsFinal (Refused problem) = ⊤
 IsFinal (Asks asked) = ⊤
+
+-- a verdict behind which no more is read
+abbrev pub final : Outcome → Verdict
+final (outcome.Refused problem) = Refused problem
+final (outcome.Asks asked) = Asks asked
+
+-- the most bytes that one read takes
+abbrev pub most_at_once : ℕ
+most_at_once = 8192
+
+-- Nothing was read behind bytes that came to something: the request wasn't whole before the last read, or nothing was read at all.
+abbrev pub IsReadSoFar : List ℕ → Type 0
+IsReadSoFar seen = (seen ≡ []) ⊎ ((front : List ℕ) × (last : List ℕ) × (seen ≡ front ++ last) × (length last ≤ most_at_once) × Judges front More)
 
 -- It doesn't matter in which pieces a request comes: bytes behind one that was judged change nothing, and it is judged in one way alone.
 abbrev pub PiecesDoNotMatter : Type 0

@@ -1,5 +1,5 @@
 -- What reading a request and writing a reply leave, and what stands between them. `before` and `after` are the known bytes that a reader has left, or that a writer holds.
-use Rattle.std.specs.Prelude.{◌≡◌, ◌≤◌, ◌⊎◌, ℕ, List, [], ◌++◌, length, take, string_bytes, Option, Some, None, Result, Ok, Err, ⊤}
+use Rattle.std.specs.Prelude.{◌≡◌, ◌≤◌, ◌<◌, ◌⊎◌, ℕ, List, [], ◌++◌, length, take, string_bytes, Option, Some, None, Result, Ok, Err, ⊤}
 use Rattle.std.specs.Io.KnownBytes.{Keeps, Appends, Consumes, IsAtEnd}
 use Rattle.std.specs.declared.alloc.AllocError.{AllocError}
 use Rattle.sqlite_trees.specs.declared.store.Store.{Ghosts}
@@ -8,9 +8,11 @@ use Rattle.atl_http.specs.declared.dice.Dice.{Dice}
 use Rattle.atl_http.specs.declared.message.Message.{Message}
 use Rattle.atl_http.specs.declared.moving.HttpFault.{HttpFault}
 use Rattle.atl_http.specs.declared.moving.HttpFault.TheVariants.{Cut, ReadFault, WriteFault, Memory}
-use Rattle.atl_http.specs.declared.request.Verdict.{Verdict}
+use Rattle.atl_http.specs.declared.moving.Written.{Written}
+use Rattle.atl_http.specs.declared.moving.Written.TheVariants.{Taken, Interrupted, Failed}
+use Rattle.atl_http.specs.declared.request.Outcome.{Outcome}
 use Rattle.atl_http.specs.declared.request.Verdict.TheVariants.{More}
-use Rattle.atl_http.specs.Heads.{Judges, IsFinal}
+use Rattle.atl_http.specs.Heads.{Judges, IsReadSoFar, final, most_at_once}
 use Rattle.atl_http.specs.Replies.{Reply, bytes_of}
 use Rattle.atl_http.specs.Serving.{Told}
 
@@ -18,15 +20,20 @@ use Rattle.atl_http.specs.Serving.{Told}
 
 -- one more piece was read behind what had come, or nothing was
 abbrev pub ReadsMore : (before after : Option (List ℕ)) → (old new : List ℕ) → Result (Unit {0}) HttpFault → Type 0
-ReadsMore before after old new (Ok done) = (piece : List ℕ) × Consumes before after piece × (new ≡ old ++ piece)
+ReadsMore before after old new (Ok done) = (piece : List ℕ) × (length piece ≤ most_at_once) × Consumes before after piece × (new ≡ old ++ piece)
 ReadsMore before after old new (Err Cut) = Keeps before after × IsAtEnd after × (new ≡ old)
 ReadsMore before after old new (Err ReadFault) = Keeps before after × (new ≡ old)
 ReadsMore before after old new (Err WriteFault) = ⊥
 ReadsMore before after old new (Err Memory) = ⊤
 
+-- what the bytes come to, or that their request isn't whole
+abbrev pub ComesTo : (seen : List ℕ) → Option Outcome → Type 0
+ComesTo seen None = Judges seen More
+ComesTo seen (Some outcome) = Judges seen (final outcome)
+
 -- a request was read, with all that was seen of it
-abbrev pub Receives : (before after : Option (List ℕ)) → (seen : List ℕ) → Result Verdict HttpFault → Type 0
-Receives before after seen (Ok verdict) = Consumes before after seen × Judges seen verdict × IsFinal verdict
+abbrev pub Receives : (before after : Option (List ℕ)) → (seen : List ℕ) → Result Outcome HttpFault → Type 0
+Receives before after seen (Ok outcome) = Consumes before after seen × IsReadSoFar seen × Judges seen (final outcome)
 Receives before after seen (Err Cut) = Consumes before after seen × Judges seen More × IsAtEnd after
 Receives before after seen (Err ReadFault) = Consumes before after seen × Judges seen More
 Receives before after seen (Err WriteFault) = ⊥
@@ -39,9 +46,10 @@ abbrev pub Says : Reply → Message → Type 0
 Says reply message = (message.status ≡ reply.status) × (string_bytes message.bytes ≡ bytes_of reply)
 
 -- a front of the rest was written, or nothing
-abbrev pub WritesMore : (before after : Option (List ℕ)) → (rest : List ℕ) → Option ℕ → Type 0
-WritesMore before after rest (Some count) = (count ≤ length rest) × Appends before after (take count rest)
-WritesMore before after rest None = Appends before after []
+abbrev pub WritesMore : (before after : Option (List ℕ)) → (rest : List ℕ) → Written → Type 0
+WritesMore before after rest (Taken count) = (0 < count) × (count ≤ length rest) × Appends before after (take count rest)
+WritesMore before after rest Interrupted = Appends before after []
+WritesMore before after rest Failed = Appends before after []
 
 -- all bytes were written, or a front of them
 abbrev pub Sends : (before after : Option (List ℕ)) → (bytes : List ℕ) → Result (Unit {0}) HttpFault → Type 0
@@ -51,7 +59,7 @@ Sends before after bytes (Err ReadFault) = ⊥
 Sends before after bytes (Err WriteFault) = (count : ℕ) × Appends before after (take count bytes)
 Sends before after bytes (Err Memory) = ⊥
 
--- a whole request was told of, unless there was no memory; a command may have been run then
-abbrev pub Tells : {S : Type 0} → Ghosts S → Dice → (old : Engine S) → Verdict → Result Message AllocError → (new : Engine S) → Type 0
-Tells g dice old verdict (Ok message) new = (reply : Reply) × Says reply message × Told g dice old verdict reply new
-Tells g dice old verdict (Err e) new = (new ≡ old) ⊎ ((reply : Reply) × Told g dice old verdict reply new)
+-- a request was told of, unless there was no memory; a command may have been run then
+abbrev pub Tells : {S : Type 0} → Ghosts S → Dice → (old : Engine S) → Outcome → Result Message AllocError → (new : Engine S) → Type 0
+Tells g dice old outcome (Ok message) new = (reply : Reply) × Says reply message × Told g dice old outcome reply new
+Tells g dice old outcome (Err e) new = (new ≡ old) ⊎ ((reply : Reply) × Told g dice old outcome reply new)

@@ -38,6 +38,10 @@ bytes_of r = head_of r.status r.kind r.body ▸ allow_line r.allow ▸ codes "\r
 
 -- ---- what is told of a problem
 
+-- the number of an error that has none
+abbrev pub no_number : ℕ
+no_number = 0
+
 abbrev pub problem_name : Problem → List ℕ
 problem_name BadRequest = codes "BadRequest"
 problem_name NoRoute = codes "NoRoute"
@@ -70,4 +74,4 @@ unfoldable pub error_body : (name : List ℕ) → (number : ℕ) → List ℕ
 error_body name number = codes "{\"error\":\"" ▸ name ▸ codes "\",\"number\":" ▸ decimal number ▸ codes "}"
 
 abbrev pub problem_reply : Problem → Reply
-problem_reply p = record { status = problem_status p; allow = allowed p; kind = json; body = error_body (problem_name p) 0 }
+problem_reply p = record { status = problem_status p; allow = allowed p; kind = json; body = error_body (problem_name p) no_number }

@@ -7,9 +7,13 @@ use Rattle.std.specs.Str.Parse.{digits_value}
 use Rattle.atl_http.specs.declared.route.Route.{Route}
 use Rattle.atl_http.specs.declared.route.Route.TheVariants.{Join, Orders, Close, Report}
 
--- a number of 1 to 9 digits
+-- the most digits of a number
+abbrev pub most_digits : ℕ
+most_digits = 9
+
+-- a number of at least one digit
 unfoldable pub number_of : List ℕ → Option ℕ
-number_of bytes = if nat_lt 0 (length bytes) && (nat_le (length bytes) 9 && list_all is_ascii_digit bytes) then Some (digits_value 10 bytes) else None
+number_of bytes = if nat_lt 0 (length bytes) && (nat_le (length bytes) most_digits && list_all is_ascii_digit bytes) then Some (digits_value 10 bytes) else None
 
 -- what stands behind a text at the front of another
 abbrev pub behind : List ℕ → List ℕ → Option (List ℕ)

@@ -14,10 +14,11 @@ use Rattle.atl_http.specs.declared.moving.HttpFault.{HttpFault}
 use Rattle.atl_http.specs.declared.moving.HttpFault.TheVariants.{Cut, ReadFault, WriteFault, Memory}
 use Rattle.atl_http.specs.declared.request.Request.{Request}
 use Rattle.atl_http.specs.declared.request.Request.TheVariants.{Join, Orders, Close, Report}
-use Rattle.atl_http.specs.declared.request.Verdict.{Verdict}
-use Rattle.atl_http.specs.declared.request.Verdict.TheVariants.{More, Refused, Asks}
+use Rattle.atl_http.specs.declared.request.Outcome.{Outcome}
+use Rattle.atl_http.specs.declared.request.Outcome.TheVariants.{Refused, Asks}
+use Rattle.atl_http.specs.declared.request.Verdict.TheVariants.{More}
 use Rattle.atl_http.specs.Dice.{generator, joining_streams, word_of, first_words}
-use Rattle.atl_http.specs.Heads.{Judges}
+use Rattle.atl_http.specs.Heads.{Judges, IsReadSoFar, final}
 use Rattle.atl_http.specs.Replies.{Reply, bytes_of, problem_reply}
 use Rattle.atl_http.specs.Answered.{answer_reply}
 
@@ -37,19 +38,25 @@ abbrev pub command_in : {S : Type 0} → Dice → Engine S → Request → Comma
 command_in dice old request = command_of dice (next_faction old.campaign) (len old.world.regions) request
 
 -- the reply to what a request comes to, and what is left of it: nothing is changed, or the command was run
-abbrev pub Told : {S : Type 0} → Ghosts S → Dice → (old : Engine S) → Verdict → Reply → (new : Engine S) → Type 0
-Told g dice old More reply new = ⊥
+abbrev pub Told : {S : Type 0} → Ghosts S → Dice → (old : Engine S) → Outcome → Reply → (new : Engine S) → Type 0
 Told g dice old (Refused problem) reply new = (reply ≡ problem_reply problem) × (new ≡ old)
 Told g dice old (Asks request) reply new = (answer : Answer) × Runs g old (command_in dice old request) answer new × (reply ≡ answer_reply answer)
 
--- the reply to the bytes that were seen
+-- the reply to the bytes that were seen, behind which no more were read
 abbrev pub RepliesTo : {S : Type 0} → Ghosts S → Dice → (old : Engine S) → (seen : List ℕ) → Reply → (new : Engine S) → Type 0
-RepliesTo g dice old seen reply new = (verdict : Verdict) × Judges seen verdict × Told g dice old verdict reply new
+RepliesTo g dice old seen reply new = (outcome : Outcome) × IsReadSoFar seen × Judges seen (final outcome) × Told g dice old outcome reply new
 
 -- the bytes that are known: those that a reader has left, and those that a writer holds
 pub record Known : Type 0 where
   pub left : Option (List ℕ)
   pub held : Option (List ℕ)
+
+-- the number of a fault
+abbrev pub fault_number : HttpFault → Option ℕ
+fault_number Cut = Some 1
+fault_number ReadFault = Some 2
+fault_number WriteFault = Some 3
+fault_number Memory = None
 
 -- Of the bytes that were seen the status and all bytes of the reply; or there is no reply, or a part of it.
 abbrev pub Serves : {S : Type 0} → Ghosts S → Dice → (before after : Known) → (old : Engine S) → Result ℕ HttpFault → (new : Engine S) → Type 0

@@ -4,7 +4,7 @@ ghost use Rattle.atl_http.specs.Answered.{joined_body, pair, more_pairs, pairs, 
 ghost use Rattle.atl_http.specs.Replies.{json};
 ghost use Rattle.atl_http.specs.Moving.{Says};
 
-use crate::message::{JSON, Message, PLAIN, error_message, told_by};
+use crate::message::{JSON, Message, NO_NUMBER, PLAIN, error_message, told_by};
 use atl_orders::FaultyLine;
 use atl_service::{Answer, Fault, Refusal};
 use http::StatusCode;
@@ -142,7 +142,7 @@ fn fault_message(alloc: Global, fault: Fault) -> Result<Message, AllocError>
         StatusCode::INTERNAL_SERVER_ERROR,
         None,
         fault_name(fault),
-        0,
+        NO_NUMBER,
     )
 }
 

@@ -20,6 +20,6 @@ pub use judging::judged;
 pub use moving::HttpFault;
 pub use pieces::pieces_do_not_matter;
 pub use problem::Problem;
-pub use request::{Request, Verdict};
+pub use request::{Outcome, Request, Verdict};
 pub use route::Route;
-pub use serving::serve_one;
+pub use serving::{run_request, serve_one};

@@ -9,8 +9,8 @@ use std::io::ErrorKind;
 use std::net::{TcpListener, TcpStream};
 use std::time::Duration;
 
-/// How many seconds a peer is waited for, at each read and at each write.
-const PATIENCE: u64 = 10;
+/// How long a peer is waited for, at each read and at each write.
+const PATIENCE_SECONDS: u64 = 10;
 
 /// Why no more connections are served.
 #[derive(Drop, Clone, Copy, Debug, PartialEq, Eq)]
@@ -21,16 +21,17 @@ pub enum ListenFault {
     Memory,
 }
 
-/// Serves the one request of a connection. A peer that sends nothing, or takes nothing, is left where the system lets a limit
-/// be set. A connection without a whole request or reply counts as served.
+/// Serves the one request of a connection. A peer that sends nothing, or takes nothing, is left. Where the system sets no such limit
+/// the peer is served without one, since it has done nothing wrong. A connection without a whole request or reply counts as served.
 fn serve_stream<S: Alter>(
     alloc: Global,
     stream: &TcpStream,
     service: &mut Service<S>,
     dice: Dice,
 ) -> Result<(), ListenFault> {
-    let _ = stream.set_read_timeout(Some(Duration::from_secs(PATIENCE)));
-    let _ = stream.set_write_timeout(Some(Duration::from_secs(PATIENCE)));
+    let patience = Duration::from_secs(PATIENCE_SECONDS);
+    let _ = stream.set_read_timeout(Some(patience));
+    let _ = stream.set_write_timeout(Some(patience));
     let mut reader = stream;
     let mut writer = stream;
     match serve_one(alloc, &mut reader, &mut writer, service, dice) {
@@ -39,8 +40,9 @@ fn serve_stream<S: Alter>(
     }
 }
 
-/// Serves so many connections of a bound listener, one after another, one request each. Net where no connection can be taken;
-/// Memory where there was none for a request or its reply: the connections before are served, and no more are taken.
+/// Serves so many connections of a bound listener, one after another, one request each. A connection that its peer ends before it is
+/// taken counts among them. Net where no connection can be taken; Memory where there was none for a request or its reply: the
+/// connections before are served, and no more are taken.
 pub fn serve_each<S: Alter>(
     alloc: Global,
     listener: &TcpListener,

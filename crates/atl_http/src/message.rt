@@ -16,6 +16,9 @@ pub const JSON: &str = "application/json";
 /// What a report is.
 pub const PLAIN: &str = "text/plain";
 
+/// The number that is told of an error that has none.
+pub const NO_NUMBER: u8 = 0;
+
 /// A reply: its status, and all its bytes.
 pub struct Message {
     pub status: u16,
@@ -124,5 +127,5 @@ pub fn problem_message(alloc: Global, problem: Problem) -> Result<Message, Alloc
         Problem::BadMethod(route) => Some(route),
         _ => None,
     };
-    error_message(alloc, problem.status(), allow, problem.name(), 0)
+    error_message(alloc, problem.status(), allow, problem.name(), NO_NUMBER)
 }

@@ -1,9 +1,10 @@
 //! Reading a request in pieces, and writing a reply.
-ghost use Rattle.std.specs.Prelude.{◌≡◌, ◌<◌, [], length, IfOk};
-ghost use Rattle.atl_http.specs.Moving.{ReadsMore, Receives, WritesMore, Sends};
+ghost use Rattle.std.specs.Prelude.{◌≡◌, [], length, IfOk};
+ghost use Rattle.atl_http.specs.Heads.{most_at_once};
+ghost use Rattle.atl_http.specs.Moving.{ReadsMore, ComesTo, Receives, WritesMore, Sends};
 
 use crate::judging::{behind, judged};
-use crate::request::Verdict;
+use crate::request::Outcome;
 use std::alloc::{AllocError, Global};
 use std::io::{Error, ErrorKind, Read, Write};
 
@@ -14,7 +15,7 @@ const MOST_READS: u32 = 1_000_000;
 const MOST_INTERRUPTED: u32 = 1_000_000;
 
 /// The most bytes that one read takes.
-const MOST_READ: usize = 8_192;
+const MOST_AT_ONCE: usize = 8_192;
 
 /// Why a connection has ended without a reply, or within one. See docs/FORMATS.md, "HTTP".
 #[derive(Drop, Clone, Copy, Debug, PartialEq, Eq)]
@@ -28,6 +29,22 @@ pub enum HttpFault {
     WriteFault,
     /// There was no memory. Nothing was written, and a command that was run stays.
     Memory,
+}
+
+impl HttpFault {
+    ghost use Rattle.atl_http.specs.Serving.{fault_number};
+
+    /// The number of the fault; Memory has none.
+    pub fn number(self) -> Option<u8>
+        ensures { result ≡ fault_number self }
+    {
+        match self {
+            HttpFault::Cut => Some(1),
+            HttpFault::ReadFault => Some(2),
+            HttpFault::WriteFault => Some(3),
+            HttpFault::Memory => None,
+        }
+    }
 }
 
 impl From<AllocError> for HttpFault {
@@ -47,7 +64,7 @@ fn is_interrupted(error: &Error) -> bool {
 
 /// Reads once, and puts what came behind what has come. A read that is interrupted brings nothing.
 fn read_more<R: Read>(reader: &mut R, room: &mut [u8], seen: &mut Vec<u8>) -> Result<(), HttpFault>
-    requires { 0 < length room.old }
+    requires { length room.old ≡ most_at_once }
     ensures { ReadsMore (R.remaining reader.old) (R.remaining reader.new) seen.old.items seen.new.items result }
 {
     match reader.read(room) {
@@ -61,16 +78,26 @@ fn read_more<R: Read>(reader: &mut R, room: &mut [u8], seen: &mut Vec<u8>) -> Re
     }
 }
 
-/// Writes once, and gives how many bytes were taken: none where the write was interrupted. None where it failed.
+/// What became of one write.
+#[derive(Drop, Clone, Copy)]
+pub enum Written {
+    /// So many bytes were taken, at least one.
+    Taken(usize),
+    Interrupted,
+    /// The write failed, or took no byte.
+    Failed,
+}
+
+/// Writes once.
 #[tactic(auto, using(crate::proofs::MovingLaws::kept_appends))]
-fn write_more<W: Write>(writer: &mut W, rest: &[u8]) -> Option<usize>
+fn write_more<W: Write>(writer: &mut W, rest: &[u8]) -> Written
     ensures { WritesMore (W.contents writer.old) (W.contents writer.new) rest.now result }
 {
     match writer.write(rest) {
-        Ok(0) => None,
-        Ok(count) => Some(count),
-        Err(error) if is_interrupted(&error) => Some(0),
-        Err(_) => None,
+        Ok(0) => Written::Failed,
+        Ok(count) => Written::Taken(count),
+        Err(error) if is_interrupted(&error) => Written::Interrupted,
+        Err(_) => Written::Failed,
     }
 }
 
@@ -82,15 +109,10 @@ pub fn send<W: Write>(writer: &mut W, bytes: &[u8]) -> Result<(), HttpFault>
     let mut sent = 0;
     let mut patience = MOST_INTERRUPTED;
     while sent < bytes.len() {
-        let Some(count) = write_more(writer, behind(bytes, sent)) else {
-            return Err(HttpFault::WriteFault);
-        };
-        sent += count;
-        if count == 0 {
-            patience -= 1;
-        }
-        if patience == 0 {
-            return Err(HttpFault::WriteFault);
+        match write_more(writer, behind(bytes, sent)) {
+            Written::Taken(count) => sent += count,
+            Written::Interrupted if 1 < patience => patience -= 1,
+            Written::Interrupted | Written::Failed => return Err(HttpFault::WriteFault),
         }
     }
     Ok(())
@@ -98,11 +120,18 @@ pub fn send<W: Write>(writer: &mut W, bytes: &[u8]) -> Result<(), HttpFault>
 
 /// The room for one read.
 fn room(alloc: Global) -> Result<Vec<u8>, AllocError>
-    ensures { IfOk result (λ room. 0 < length room.items) }
+    ensures { IfOk result (λ room. length room.items ≡ most_at_once) }
 {
-    let mut room = Vec::with_capacity(alloc, MOST_READ)?;
-    room.resize(MOST_READ, 0u8)?;
+    let mut room = Vec::with_capacity(alloc, MOST_AT_ONCE)?;
+    room.resize(MOST_AT_ONCE, 0u8)?;
     Ok(room)
+}
+
+/// What the bytes that have come come to; None where the request isn't whole.
+fn outcome_of(alloc: Global, seen: &[u8]) -> Result<Option<Outcome>, AllocError>
+    ensures { IfOk result (ComesTo seen.now) }
+{
+    Ok(judged(alloc, seen)?.outcome())
 }
 
 /// Reads until the request is whole or refused, and leaves in `seen` all that was read.
@@ -111,26 +140,24 @@ fn receive_in<R: Read>(
     reader: &mut R,
     room: &mut [u8],
     seen: &mut Vec<u8>,
-) -> Result<Verdict, HttpFault>
-    requires room { 0 < length room.old }
+) -> Result<Outcome, HttpFault>
+    requires room { length room.old ≡ most_at_once }
     requires empty { seen.old.items ≡ [] }
     ensures { Receives (R.remaining reader.old) (R.remaining reader.new) seen.new.items result }
 {
     for _ in 0..MOST_READS {
-        let verdict = judged(alloc, seen)?;
-        if verdict.is_final() {
-            return Ok(verdict);
+        if let Some(outcome) = outcome_of(alloc, seen)? {
+            return Ok(outcome);
         }
         match read_more(reader, room, seen) {
             Ok(()) => {}
             Err(fault) => return Err(fault),
         }
     }
-    let verdict = judged(alloc, seen)?;
-    if verdict.is_final() {
-        return Ok(verdict);
+    match outcome_of(alloc, seen)? {
+        Some(outcome) => Ok(outcome),
+        None => Err(HttpFault::ReadFault),
     }
-    Err(HttpFault::ReadFault)
 }
 
 /// Reads until the request is whole or refused, and leaves in `seen` all that was read. Cut where the input ends before, ReadFault
@@ -139,7 +166,7 @@ pub fn receive<R: Read>(
     alloc: Global,
     reader: &mut R,
     seen: &mut Vec<u8>,
-) -> Result<Verdict, HttpFault>
+) -> Result<Outcome, HttpFault>
     requires { seen.old.items ≡ [] }
     ensures { Receives (R.remaining reader.old) (R.remaining reader.new) seen.new.items result }
 {

@@ -1,5 +1,5 @@
 //! Requests.
-ghost use Rattle.std.specs.Prelude.{◌≡◌, IfOk, MatchBool};
+ghost use Rattle.std.specs.Prelude.{◌≡◌, IfOk, MatchOption};
 
 use crate::dice::Dice;
 use crate::problem::Problem;
@@ -97,21 +97,33 @@ impl Request {
 pub enum Verdict {
     /// The request isn't whole.
     More,
+    /// The request fails a check, whatever follows.
     Refused(Problem),
+    /// The request is whole and passes each check but that of its command.
+    Asks(Request),
+}
+
+/// What a request comes to once no more of it is read.
+#[derive(Drop)]
+pub enum Outcome {
+    /// The request fails a check.
+    Refused(Problem),
+    /// The request is whole and passes each check but that of its command.
     Asks(Request),
 }
 
 impl Verdict {
     ghost use Rattle.atl_http.specs.declared.request.Verdict.TheVariants.{More};
-    ghost use Rattle.atl_http.specs.Heads.{IsFinal};
+    ghost use Rattle.atl_http.specs.Heads.{final};
 
-    /// Whether the request is whole, or refused.
-    pub fn is_final(&self) -> bool
-        ensures { MatchBool result (IsFinal self.now) (self.now ≡ More) }
+    /// What the request comes to; None where it isn't whole.
+    pub fn outcome(self) -> Option<Outcome>
+        ensures { MatchOption result (self ≡ More) (λ outcome. self ≡ final outcome) }
     {
         match self {
-            Verdict::More => false,
-            Verdict::Refused(_) | Verdict::Asks(_) => true,
+            Verdict::More => None,
+            Verdict::Refused(problem) => Some(Outcome::Refused(problem)),
+            Verdict::Asks(request) => Some(Outcome::Asks(request)),
         }
     }
 }

@@ -1,4 +1,4 @@
-//! Tests of the dice.
+//! Tests of atl_http by its public calls alone.
 #![tactic(auto)]
 
 #[cfg(test)]

@@ -1,7 +1,10 @@
-//! Tests of atl_http by its public calls alone.
+//! The tests, and what they share.
+mod broken;
 mod bytes;
 mod compare;
 mod dice;
+mod ends;
+mod interrupted;
 mod listening;
 mod making;
 mod moving;

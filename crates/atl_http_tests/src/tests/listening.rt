@@ -1,7 +1,7 @@
 //! Connections over a socket of this machine, in one process: each peer has sent its request before they are served.
-use super::compare::is_text;
+use super::compare::{is_text, is_true};
 use super::making::begun;
-use super::requests::{JOIN, JOINED, REPORT, REPORTED};
+use super::requests::{JOIN, JOINED, REPORT, REPORTED, TOO_LONG};
 use atl_http::Dice;
 use atl_http::listening::serve_each;
 use atl_service::Service;
@@ -12,7 +12,7 @@ use std::net::{Ipv4Addr, Net, Shutdown, SocketAddr, TcpListener, TcpStream};
 use std::process::Abort;
 use std::test::Fail;
 
-/// A peer that has sent a request and sends no more.
+/// A peer that has sent a request and may send more.
 fn peer<R: Net<Stream = TcpStream>>(
     net: &R,
     to: SocketAddr,
@@ -20,6 +20,16 @@ fn peer<R: Net<Stream = TcpStream>>(
 ) -> io::Result<TcpStream> {
     let mut stream = TcpStream::connect(net, to)?;
     stream.write_all(request.as_bytes())?;
+    Ok(stream)
+}
+
+/// A peer that has sent a request and sends no more.
+fn ended_peer<R: Net<Stream = TcpStream>>(
+    net: &R,
+    to: SocketAddr,
+    request: &str,
+) -> io::Result<TcpStream> {
+    let stream = peer(net, to, request)?;
     stream.shutdown(Shutdown::Write)?;
     Ok(stream)
 }
@@ -31,8 +41,13 @@ fn told_to(alloc: Global, mut stream: TcpStream) -> io::Result<String> {
     Ok(told)
 }
 
-/// One joins, one ends within its request, which counts as served, and one asks for a report.
-fn three_are_served<R: Net<Stream = TcpStream> + Abort, S: Alter>(
+/// A body that is too long, of which nothing has come.
+const LONG_BODY: &str =
+    "POST /orders/1 HTTP/1.1\r\nHost: x\r\nAtlantis-Pass: pw\r\nContent-Length: 65537\r\n\r\n";
+
+/// One joins, one ends within its request, which counts as served, one is told that its body is too long before it comes, and one asks
+/// for a report. All but the second keep their side open.
+fn four_are_served<R: Net<Stream = TcpStream> + Abort, S: Alter>(
     rt: &R,
     alloc: Global,
     listener: &TcpListener,
@@ -40,12 +55,14 @@ fn three_are_served<R: Net<Stream = TcpStream> + Abort, S: Alter>(
 ) -> io::Result<()> {
     let to = listener.local_addr()?;
     let joining = peer(rt, to, JOIN)?;
-    let cut = peer(rt, to, "GET /report/1")?;
+    let cut = ended_peer(rt, to, "GET /report/1")?;
+    let long = peer(rt, to, LONG_BODY)?;
     let reporting = peer(rt, to, REPORT)?;
-    let done = serve_each(alloc, listener, service, 3, Dice { seed: 1 });
-    assert!(rt; done.is_ok());
+    let done = serve_each(alloc, listener, service, 4, Dice { seed: 1 });
+    is_true(rt, done.is_ok());
     is_text(rt, told_to(alloc, joining)?.as_str(), JOINED);
     is_text(rt, told_to(alloc, cut)?.as_str(), "");
+    is_text(rt, told_to(alloc, long)?.as_str(), TOO_LONG);
     is_text(rt, told_to(alloc, reporting)?.as_str(), REPORTED);
     Ok(())
 }
@@ -56,7 +73,7 @@ fn over_a_socket(rt: HostRuntime) -> Result<(), Fail> {
         return Err(Fail::new("bind"));
     };
     let mut service = begun(rt.alloc(), Connection::open_in_memory(rt.alloc())?)?;
-    let done = three_are_served(&rt, rt.alloc(), &listener, &mut service);
+    let done = four_are_served(&rt, rt.alloc(), &listener, &mut service);
     let _conn = service.end();
     match done {
         Ok(()) => Ok(()),

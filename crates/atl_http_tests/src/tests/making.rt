@@ -1,5 +1,5 @@
 //! Services, requests and what is told of them. What works on a service takes any store.
-use super::compare::is_text;
+use super::compare::{is_text, is_true};
 use atl_http::{Dice, HttpFault, serve_one};
 use atl_service::{Service, found};
 use sqlite::{Alter, Connection};
@@ -49,16 +49,52 @@ pub(crate) fn begun<S: Alter + Drop>(
     }
 }
 
-/// What is told of a request: the bytes of its reply; of a fault its name, and the bytes that were written.
+/// The status that a reply tells in its first line.
+fn status_in(reply: &str) -> Option<u16> {
+    let (_, rest) = reply.split_once(' ')?;
+    let (status, _) = rest.split_once(' ')?;
+    status.parse::<u16>().ok()
+}
+
+/// The reply that was written, if it tells the status that was answered.
+fn reply_of(status: u16, written: &[u8]) -> &str {
+    match str::from_utf8(written) {
+        Ok(reply) if status_in(reply) == Some(status) => reply,
+        Ok(_) => "another status",
+        Err(_) => "no text",
+    }
+}
+
+/// What is told of a request: the bytes of its reply; of a fault its name, or that bytes were written.
 pub(crate) fn told(served: Result<u16, HttpFault>, written: &[u8]) -> &str {
     match served {
-        Ok(_) => str::from_utf8(written).unwrap_or("no text"),
+        Ok(status) => reply_of(status, written),
         Err(_) if !written.is_empty() => "a part",
         Err(HttpFault::Cut) => "cut",
         Err(HttpFault::ReadFault) => "read fault",
         Err(HttpFault::WriteFault) => "write fault",
         Err(HttpFault::Memory) => "memory",
     }
+}
+
+/// The number of the faction that comes next; 0 where the service is closed.
+pub(crate) fn next_faction<S: Alter>(service: &Service<S>) -> u32 {
+    match service.campaign() {
+        Some(campaign) => campaign.next_faction(),
+        None => 0,
+    }
+}
+
+pub(crate) fn has_books<S: Alter>(
+    rt: &impl Abort,
+    service: &Service<S>,
+    wanted: &str,
+) -> Result<(), Fail> {
+    match service.books() {
+        Some(text) => is_text(rt, text?.as_str(), wanted),
+        None => is_true(rt, false),
+    }
+    Ok(())
 }
 
 /// Serves what comes from a reader, and asserts what is told of it.

@@ -1,94 +1,28 @@
 //! Requests that come in pieces, or not whole, and replies that can't be written.
-use super::compare::{is_count, is_text};
-use super::making::{begun, tells, told};
-use super::requests::{BAD_REQUEST, JOIN, JOINED, REPORT, REPORTED};
+use super::compare::{is_count, is_number, is_text};
+use super::ends::{Narrow, Pieces};
+use super::making::{begun, has_books, next_faction, tells, told};
+use super::requests::{BAD_REQUEST, JOIN, JOINED, NO_ROUTE, REPORT, REPORTED, TOO_LONG};
 use atl_http::{Dice, serve_one};
 use atl_service::Service;
 use sqlite::{Alter, Connection};
 use std::alloc::Global;
-use std::io::{self, ErrorKind, Read, Write};
 use std::process::Abort;
 use std::test::Fail;
 
-/// Gives a text in pieces of so many bytes, and interrupts each other read if it is to; fails once so many reads were done.
-#[derive(Drop)]
-struct Pieces<'a> {
-    bytes: &'a [u8],
-    piece: usize,
-    interrupts: bool,
-    reads_left: usize,
-    was_interrupted: bool,
-}
+/// What the books tell while nobody has joined.
+const FOUNDED: &str = "money founding 500
+money total 500
+people founding 1000
+people total 1000
+";
 
-impl<'a> Pieces<'a> {
-    fn of(bytes: &'a [u8], piece: usize) -> Pieces<'a> {
-        Pieces {
-            bytes,
-            piece,
-            interrupts: false,
-            reads_left: usize::MAX,
-            was_interrupted: false,
-        }
-    }
-}
-
-impl<'a> Read for Pieces<'a> {
-    fn read(&mut self, buf: &mut [u8]) -> io::Result<usize> {
-        if self.reads_left == 0 {
-            return Err(io::Error::from(ErrorKind::ConnectionReset));
-        }
-        self.reads_left -= 1;
-        self.was_interrupted = self.interrupts && !self.was_interrupted;
-        if self.was_interrupted {
-            return Err(io::Error::from(ErrorKind::Interrupted));
-        }
-        let count = self.piece.min(self.bytes.len()).min(buf.len());
-        let (given, rest) = self.bytes.split_at(count);
-        buf[..count].copy_from_slice(given);
-        self.bytes = rest;
-        Ok(count)
-    }
-}
-
-/// Takes one byte at a time, interrupts each other write if it is to, and once it has taken enough fails or takes none.
-#[derive(Drop)]
-struct Narrow {
-    taken: Vec<u8>,
-    most: usize,
-    fails: bool,
-    interrupts: bool,
-    was_interrupted: bool,
-}
-
-impl Write for Narrow {
-    fn write(&mut self, buf: &[u8]) -> io::Result<usize> {
-        self.was_interrupted = self.interrupts && !self.was_interrupted;
-        if self.was_interrupted {
-            return Err(io::Error::from(ErrorKind::Interrupted));
-        }
-        if self.taken.len() >= self.most {
-            return if self.fails {
-                Err(io::Error::from(ErrorKind::BrokenPipe))
-            } else {
-                Ok(0)
-            };
-        }
-        match buf.first() {
-            None => Ok(0),
-            Some(byte) => match self.taken.push(*byte) {
-                Ok(()) => Ok(1),
-                Err(_) => Err(io::Error::from(ErrorKind::OutOfMemory)),
-            },
-        }
-    }
-
-    fn flush(&mut self) -> io::Result<()> {
-        Ok(())
-    }
-}
-
-fn joins_in_pieces<S: Alter>(rt: &impl Abort, alloc: Global, service: &mut Service<S>) {
-    // the first 10 bytes of the body, and then the end
+/// The first 10 bytes of the body and then the end change nothing; the whole in two pieces is a joining.
+fn cut_and_whole<S: Alter>(
+    rt: &impl Abort,
+    alloc: Global,
+    service: &mut Service<S>,
+) -> Result<(), Fail> {
     tells(
         rt,
         alloc,
@@ -96,6 +30,19 @@ fn joins_in_pieces<S: Alter>(rt: &impl Abort, alloc: Global, service: &mut Servi
         &mut Pieces::of(&JOIN.as_bytes()[..62], 50),
         "cut",
     );
+    has_books(rt, service, FOUNDED)?;
+    is_number(rt, next_faction(service), 1);
+    tells(
+        rt,
+        alloc,
+        service,
+        &mut Pieces::of(JOIN.as_bytes(), 50),
+        JOINED,
+    );
+    Ok(())
+}
+
+fn joins_in_pieces<S: Alter>(rt: &impl Abort, alloc: Global, service: &mut Service<S>) {
     for reads in 0..11 {
         let mut reader = Pieces::of(JOIN.as_bytes(), 8);
         reader.reads_left = reads;
@@ -104,13 +51,7 @@ fn joins_in_pieces<S: Alter>(rt: &impl Abort, alloc: Global, service: &mut Servi
     let mut reader = Pieces::of(JOIN.as_bytes(), 1);
     reader.interrupts = true;
     tells(rt, alloc, service, &mut reader, JOINED);
-    tells(
-        rt,
-        alloc,
-        service,
-        &mut Pieces::of(REPORT.as_bytes(), 1),
-        REPORTED,
-    );
+    writes_in_pieces(rt, alloc, service);
 }
 
 fn no_front_is_enough<S: Alter>(rt: &impl Abort, alloc: Global, service: &mut Service<S>) {
@@ -120,34 +61,39 @@ fn no_front_is_enough<S: Alter>(rt: &impl Abort, alloc: Global, service: &mut Se
     tells(rt, alloc, service, &mut JOIN.as_bytes(), JOINED);
 }
 
-fn joins_over_narrow<S: Alter>(
-    rt: &impl Abort,
-    alloc: Global,
-    service: &mut Service<S>,
-    most: usize,
-    fails: bool,
-    wanted: &str,
-) {
-    let mut writer = Narrow {
-        taken: Vec::new(alloc),
-        most,
-        fails,
-        interrupts: true,
-        was_interrupted: false,
-    };
+fn writes_in_pieces<S: Alter>(rt: &impl Abort, alloc: Global, service: &mut Service<S>) {
+    let mut writer = Narrow::of(alloc, REPORTED.len(), true);
+    writer.interrupts = true;
     let mut reader = REPORT.as_bytes();
     let served = serve_one(alloc, &mut reader, &mut writer, service, Dice { seed: 1 });
-    is_text(rt, told(served, &writer.taken), wanted);
-    is_count(rt, writer.taken.len(), most.min(REPORTED.len()));
+    is_text(rt, told(served, &writer.taken), REPORTED);
 }
 
-fn writes_in_pieces<S: Alter>(rt: &impl Abort, alloc: Global, service: &mut Service<S>) {
-    tells(rt, alloc, service, &mut JOIN.as_bytes(), JOINED);
-    joins_over_narrow(rt, alloc, service, 1_000, true, REPORTED);
-    joins_over_narrow(rt, alloc, service, 0, true, "write fault");
-    joins_over_narrow(rt, alloc, service, 0, false, "write fault");
-    for most in 1..REPORTED.len() {
-        joins_over_narrow(rt, alloc, service, most, most % 2 == 0, "a part");
+/// Requests with bytes behind them, how many of their bytes are read where each read gives one, and the replies.
+const NO_FURTHER: [(&str, usize, &str); 4] = [
+    (
+        "POST /join HTTP/1.1\r\nHost: x\r\nContent-Length: 29\r\n\r\n{\"name\":\"Avalon\",\"pass\":\"pw\"} and more",
+        JOIN.len(),
+        JOINED,
+    ),
+    (
+        "GET /report/1 HTTP/1.1\r\nHost: x\r\nAtlantis-Pass: pw\r\n\r\nContent",
+        REPORT.len(),
+        REPORTED,
+    ),
+    (
+        "POST /join HTTP/1.0\r\nContent-Length: 65537\r\n\r\n{\"name\":",
+        46,
+        TOO_LONG,
+    ),
+    ("GET /joins HTTP/1.0\r\n\r\nGET", 23, NO_ROUTE),
+];
+
+fn reads_no_further<S: Alter>(rt: &impl Abort, alloc: Global, service: &mut Service<S>) {
+    for (request, reads, wanted) in NO_FURTHER.iter() {
+        let mut reader = Pieces::of(request.as_bytes(), 1);
+        tells(rt, alloc, service, &mut reader, wanted);
+        is_count(rt, reader.reads, *reads);
     }
 }
 
@@ -215,9 +161,17 @@ fn fronts(rt: HostRuntime) -> Result<(), Fail> {
 }
 
 #[test]
-fn narrow_writers(rt: HostRuntime) -> Result<(), Fail> {
+fn in_two_pieces(rt: HostRuntime) -> Result<(), Fail> {
     let mut service = begun(rt.alloc(), Connection::open_in_memory(rt.alloc())?)?;
-    writes_in_pieces(&rt, rt.alloc(), &mut service);
+    let done = cut_and_whole(&rt, rt.alloc(), &mut service);
+    let _conn = service.end();
+    done
+}
+
+#[test]
+fn no_further(rt: HostRuntime) -> Result<(), Fail> {
+    let mut service = begun(rt.alloc(), Connection::open_in_memory(rt.alloc())?)?;
+    reads_no_further(&rt, rt.alloc(), &mut service);
     let _conn = service.end();
     Ok(())
 }

@@ -22,7 +22,7 @@ Exits: none.
 pub(crate) const BAD_REQUEST: &str =
     "HTTP/1.1 400 Bad Request\r\nContent-Type: application/json\r\nContent-Length: 33\r\nConnection: close\r\n\r\n{\"error\":\"BadRequest\",\"number\":0}";
 
-const NO_ROUTE: &str =
+pub(crate) const NO_ROUTE: &str =
     "HTTP/1.1 404 Not Found\r\nContent-Type: application/json\r\nContent-Length: 30\r\nConnection: close\r\n\r\n{\"error\":\"NoRoute\",\"number\":0}";
 
 const POST_ONLY: &str =
@@ -34,7 +34,7 @@ const GET_ONLY: &str =
 const NO_LENGTH: &str =
     "HTTP/1.1 411 Length Required\r\nContent-Type: application/json\r\nContent-Length: 31\r\nConnection: close\r\n\r\n{\"error\":\"NoLength\",\"number\":0}";
 
-const TOO_LONG: &str =
+pub(crate) const TOO_LONG: &str =
     "HTTP/1.1 413 Payload Too Large\r\nContent-Type: application/json\r\nContent-Length: 34\r\nConnection: close\r\n\r\n{\"error\":\"BodyTooLong\",\"number\":0}";
 
 const NO_PASS: &str =
@@ -287,4 +287,30 @@ const BODIES: [Case; 9] = [
 #[test]
 fn bodies(rt: HostRuntime) -> Result<(), Fail> {
     plays(&rt, rt.alloc(), &BODIES)
+}
+
+/// Bodies with both texts beside a value that can't be read: nested in 128, past all numbers, half a character. One that is nested in 127
+/// can, and empty lines may stand before a head.
+const VALUES: [Case; 4] = [
+    (
+        "POST /join HTTP/1.0\r\nContent-Length: 291\r\n\r\n{\"name\":\"Avalon\",\"pass\":\"pw\",\"more\":[[[[[[[[[[[[[[[[[[[[[[[[[[[[[[[[[[[[[[[[[[[[[[[[[[[[[[[[[[[[[[[[[[[[[[[[[[[[[[[[[[[[[[[[[[[[[[[[[[[[[[[[[[[[[[[[[[[[[[[[[[[[[[[]]]]]]]]]]]]]]]]]]]]]]]]]]]]]]]]]]]]]]]]]]]]]]]]]]]]]]]]]]]]]]]]]]]]]]]]]]]]]]]]]]]]]]]]]]]]]]]]]]]]]]]]]]]]]]]]]]]]]]]]]]]]]]]}",
+        BAD_JSON,
+    ),
+    (
+        "POST /join HTTP/1.0\r\nContent-Length: 42\r\n\r\n{\"name\":\"Avalon\",\"pass\":\"pw\",\"more\":1e999}",
+        BAD_JSON,
+    ),
+    (
+        "POST /join HTTP/1.0\r\nContent-Length: 45\r\n\r\n{\"name\":\"Avalon\",\"pass\":\"pw\",\"more\":\"\\ud800\"}",
+        BAD_JSON,
+    ),
+    (
+        "\r\n\nPOST /join HTTP/1.0\r\nContent-Length: 289\r\n\r\n{\"name\":\"Avalon\",\"pass\":\"pw\",\"more\":[[[[[[[[[[[[[[[[[[[[[[[[[[[[[[[[[[[[[[[[[[[[[[[[[[[[[[[[[[[[[[[[[[[[[[[[[[[[[[[[[[[[[[[[[[[[[[[[[[[[[[[[[[[[[[[[[[[[[[[[[[[[[[]]]]]]]]]]]]]]]]]]]]]]]]]]]]]]]]]]]]]]]]]]]]]]]]]]]]]]]]]]]]]]]]]]]]]]]]]]]]]]]]]]]]]]]]]]]]]]]]]]]]]]]]]]]]]]]]]]]]]]]]]]]]]]}",
+        JOINED,
+    ),
+];
+
+#[test]
+fn values(rt: HostRuntime) -> Result<(), Fail> {
+    plays(&rt, rt.alloc(), &VALUES)
 }

@@ -1,0 +1,51 @@
+//! Replies that can't be written to their end: the faction has joined all the same.
+use super::compare::{is_count, is_fault, is_number, is_true};
+use super::ends::Narrow;
+use super::making::{begun, next_faction};
+use super::requests::{JOIN, JOINED};
+use atl_http::{Dice, HttpFault, serve_one};
+use atl_service::Service;
+use sqlite::{Alter, Connection};
+use std::alloc::Global;
+use std::process::Abort;
+use std::test::Fail;
+
+fn joins_over<S: Alter>(
+    rt: &impl Abort,
+    alloc: Global,
+    service: &mut Service<S>,
+    most: usize,
+    fails: bool,
+) {
+    let mut writer = Narrow::of(alloc, most, fails);
+    let mut reader = JOIN.as_bytes();
+    let served = serve_one(alloc, &mut reader, &mut writer, service, Dice { seed: 1 });
+    is_fault(rt, served, HttpFault::WriteFault);
+    is_count(rt, writer.taken.len(), most);
+    is_true(rt, JOINED.as_bytes().starts_with(&writer.taken));
+    is_number(rt, next_faction(service), 2);
+}
+
+/// A faction joins a new campaign, and of its reply so many bytes are taken.
+fn is_broken(rt: &impl Abort, alloc: Global, most: usize, fails: bool) -> Result<(), Fail> {
+    let mut service = begun(alloc, Connection::open_in_memory(alloc)?)?;
+    joins_over(rt, alloc, &mut service, most, fails);
+    let _conn = service.end();
+    Ok(())
+}
+
+#[test]
+fn writes_that_fail(rt: HostRuntime) -> Result<(), Fail> {
+    for most in 0..JOINED.len() {
+        is_broken(&rt, rt.alloc(), most, true)?;
+    }
+    Ok(())
+}
+
+#[test]
+fn writes_that_take_nothing(rt: HostRuntime) -> Result<(), Fail> {
+    for most in 0..JOINED.len() {
+        is_broken(&rt, rt.alloc(), most, false)?;
+    }
+    Ok(())
+}
