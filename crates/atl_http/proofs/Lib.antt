@@ -1,6 +1,7 @@
 mod FrontLaws
 pub mod HeadLaws
 pub mod JsonLaws
+pub mod ListeningLaws
 pub mod MovingLaws
 pub mod PieceLaws
 pub mod PlaceLaws

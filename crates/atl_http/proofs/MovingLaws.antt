@@ -1,14 +1,14 @@
 -- Laws of what was read and written so far.
-use Rattle.std.proofs.Common.{◌≡◌, ℕ, ◌+◌, ◌≤◌, List, [], ◌++◌, length, take, drop, Option, Some, None, refl, sym, ap, ◌∙◌, subst, arith}
+use Rattle.std.proofs.Common.{◌≡◌, ℕ, ◌+◌, ◌≤◌, List, [], ◌++◌, length, take, drop, Option, Some, None, refl, sym, ap, ◌∙◌, subst, inr, arith}
 use Rattle.std.specs.Io.KnownBytes.{Keeps, Appends, Consumes, IsAtEnd}
 use Rattle.std.proofs.lemmas.List.{append_assoc, append-nil}
 use Rattle.std.specs.Prelude.{Result, Ok, Err}
 use Rattle.atl_http.specs.declared.moving.HttpFault.{HttpFault}
 use Rattle.atl_http.specs.declared.moving.HttpFault.TheVariants.{Cut, ReadFault, WriteFault, Memory}
-use Rattle.atl_http.specs.declared.request.Verdict.{Verdict}
 use Rattle.atl_http.specs.declared.request.Verdict.TheVariants.{More}
-use Rattle.atl_http.specs.Heads.{Judges}
-use Rattle.atl_http.specs.Moving.{ReadsMore, Receives}
+use Rattle.atl_http.specs.Heads.{Judges, IsReadSoFar}
+use Rattle.atl_http.specs.declared.request.Outcome.{Outcome}
+use Rattle.atl_http.specs.Moving.{ReadsMore, ComesTo, Receives}
 use Rattle.std.proofs.Math.Seq.{take-add, take-length}
 
 -- what was read, and then a piece
@@ -73,12 +73,17 @@ stopped before between after seen new WriteFault h judged none = absurd none
 stopped before between after seen new Memory h judged done = tt
 
 pub went_on : (before between after : Option (List ℕ)) (seen new : List ℕ) (done : Unit {0}) → Consumes before between seen → ReadsMore between after seen new (Ok done) → Consumes before after new
-went_on before between after seen new done h (piece, more, same) = subst (λ l. Consumes before after l) (sym same) (consumes_more before between after seen piece h more)
+went_on before between after seen new done h (piece, few, more, same) = subst (λ l. Consumes before after l) (sym same) (consumes_more before between after seen piece h more)
 
 -- nothing was read
 pub consumes_nothing : (before : Option (List ℕ)) (seen : List ℕ) → seen ≡ [] → Consumes before before seen
 consumes_nothing None seen e = tt
 consumes_nothing (Some xs) seen e = ap (λ l. l ++ xs) (sym e)
 
-pub judged_more : (seen items : List ℕ) (verdict : Verdict) → seen ≡ items → verdict ≡ More → Judges seen verdict → Judges items More
-judged_more seen items verdict e f h = subst (λ l. Judges l More) e (subst (λ v. Judges seen v) f h)
+-- what was seen is read so far, if the bytes before the last piece were no whole request
+pub read_so_far : (between after : Option (List ℕ)) (seen new : List ℕ) (done : Unit {0}) → Judges seen More → ReadsMore between after seen new (Ok done) → IsReadSoFar new
+read_so_far between after seen new done h (piece, few, more, same) = inr (seen, piece, same, few, h)
+
+-- what has come is no whole request
+pub no_outcome : (seen items : List ℕ) (told : Option Outcome) → seen ≡ items → told ≡ None → ComesTo seen told → Judges items More
+no_outcome seen items told e f h = subst (λ l. Judges l More) e (subst (ComesTo seen) f h)

@@ -6,7 +6,7 @@ use Rattle.atl_service.specs.declared.command.Answer.{Answer}
 use Rattle.atl_service.specs.Runs.{Runs}
 use Rattle.atl_http.specs.declared.problem.Problem.{Problem}
 use Rattle.atl_http.specs.declared.request.Request.{Request}
-use Rattle.atl_http.specs.declared.request.Verdict.TheVariants.{More, Refused, Asks}
+use Rattle.atl_http.specs.declared.request.Outcome.TheVariants.{Refused, Asks}
 use Rattle.atl_http.specs.Answered.{answer_reply}
 use Rattle.std.specs.Io.KnownBytes.{Keeps, Appends, Consumes, IsAtEnd}
 use Rattle.sqlite_trees.specs.declared.store.Store.{Ghosts}
@@ -15,18 +15,17 @@ use Rattle.atl_http.specs.declared.dice.Dice.{Dice}
 use Rattle.atl_http.specs.declared.message.Message.{Message}
 use Rattle.atl_http.specs.declared.moving.HttpFault.{HttpFault}
 use Rattle.atl_http.specs.declared.moving.HttpFault.TheVariants.{Cut, ReadFault, WriteFault, Memory}
-use Rattle.atl_http.specs.declared.request.Verdict.{Verdict}
-use Rattle.atl_http.specs.Heads.{Judges, IsFinal}
+use Rattle.atl_http.specs.declared.request.Outcome.{Outcome}
 use Rattle.atl_http.specs.Replies.{Reply, bytes_of, problem_reply}
 use Rattle.atl_http.specs.Serving.{Told, Known, Serves, command_in}
 use Rattle.atl_http.specs.Moving.{Receives, Sends, Says, Tells}
 
 -- what is told of a problem
-pub told_problem : {S : Type 0} (g : Ghosts S) (dice : Dice) (old : Engine S) (verdict : Verdict) (problem : Problem) (r : Result Message AllocError) → verdict ≡ Refused problem → IfOk r (Says (problem_reply problem)) → Tells g dice old verdict r old
-told_problem g dice old verdict problem (Ok message) e says = (problem_reply problem, says, subst (λ v. Told g dice old v (problem_reply problem) old) (sym e) (refl, refl))
-told_problem g dice old verdict problem (Err none) e says = inl refl
+pub told_problem : {S : Type 0} (g : Ghosts S) (dice : Dice) (old : Engine S) (outcome : Outcome) (problem : Problem) (r : Result Message AllocError) → outcome ≡ Refused problem → IfOk r (Says (problem_reply problem)) → Tells g dice old outcome r old
+told_problem g dice old outcome problem (Ok message) e says = (problem_reply problem, says, subst (λ o. Told g dice old o (problem_reply problem) old) (sym e) (refl, refl))
+told_problem g dice old outcome problem (Err none) e says = inl refl
 
 -- what is told of an answer
-pub told_answer : {S : Type 0} (g : Ghosts S) (dice : Dice) (old new : Engine S) (verdict : Verdict) (request : Request) (answer : Answer) (r : Result Message AllocError) → verdict ≡ Asks request → Runs g old (command_in dice old request) answer new → IfOk r (Says (answer_reply answer)) → Tells g dice old verdict r new
-told_answer g dice old new verdict request answer (Ok message) e runs says = (answer_reply answer, says, subst (λ v. Told g dice old v (answer_reply answer) new) (sym e) (answer, runs, refl))
-told_answer g dice old new verdict request answer (Err none) e runs says = inr (answer_reply answer, subst (λ v. Told g dice old v (answer_reply answer) new) (sym e) (answer, runs, refl))
+pub told_answer : {S : Type 0} (g : Ghosts S) (dice : Dice) (old new : Engine S) (outcome : Outcome) (request : Request) (answer : Answer) (r : Result Message AllocError) → outcome ≡ Asks request → Runs g old (command_in dice old request) answer new → IfOk r (Says (answer_reply answer)) → Tells g dice old outcome r new
+told_answer g dice old new outcome request answer (Ok message) e runs says = (answer_reply answer, says, subst (λ o. Told g dice old o (answer_reply answer) new) (sym e) (answer, runs, refl))
+told_answer g dice old new outcome request answer (Err none) e runs says = inr (answer_reply answer, subst (λ o. Told g dice old o (answer_reply answer) new) (sym e) (answer, runs, refl))

@@ -8,4 +8,5 @@ pub mod Replies
 pub mod Answered
 pub mod Serving
 pub mod Moving
+pub mod Listening
 pub mod Finding

@@ -1,4 +1,6 @@
 //! Connections, one after another.
+ghost use Rattle.atl_http.specs.Listening.{Attends, ServesEach};
+
 use crate::dice::Dice;
 use crate::moving::HttpFault;
 use crate::serving::serve_one;
@@ -28,15 +30,18 @@ fn serve_stream<S: Alter>(
     stream: &TcpStream,
     service: &mut Service<S>,
     dice: Dice,
-) -> Result<(), ListenFault> {
+) -> Result<(), ListenFault>
+    ensures { Attends S.Store dice service.old result service.new }
+{
     let patience = Duration::from_secs(PATIENCE_SECONDS);
     let _ = stream.set_read_timeout(Some(patience));
     let _ = stream.set_write_timeout(Some(patience));
     let mut reader = stream;
     let mut writer = stream;
     match serve_one(alloc, &mut reader, &mut writer, service, dice) {
+        Ok(_) => Ok(()),
         Err(HttpFault::Memory) => Err(ListenFault::Memory),
-        Ok(_) | Err(_) => Ok(()),
+        Err(HttpFault::Cut | HttpFault::ReadFault | HttpFault::WriteFault) => Ok(()),
     }
 }
 
@@ -49,10 +54,15 @@ pub fn serve_each<S: Alter>(
     service: &mut Service<S>,
     count: u32,
     dice: Dice,
-) -> Result<(), ListenFault> {
+) -> Result<(), ListenFault>
+    ensures { ServesEach S.Store dice count service.old result service.new }
+{
     for _ in 0..count {
         match listener.accept() {
-            Ok((stream, _)) => serve_stream(alloc, &stream, service, dice)?,
+            Ok((stream, _)) => match serve_stream(alloc, &stream, service, dice) {
+                Ok(()) => {}
+                Err(fault) => return Err(fault),
+            },
             Err(error) if error.kind() == ErrorKind::ConnectionAborted => {}
             Err(_) => return Err(ListenFault::Net),
         }
