@@ -245,6 +245,7 @@ check 'a joining where no file is' 1 '' 'fault: NotACampaign' join --db "$none" 
 check 'mail where no file is' 1 '' 'fault: NotACampaign' mail --db "$none" --faction 1 --pass pw --file "$mailing"
 check 'a report where no file is' 1 '' 'fault: NotACampaign' report --db "$none" --faction 1 --pass pw
 check 'books where no file is' 1 '' 'fault: NotACampaign' books --db "$none"
+check 'a serving where no file is' 1 '' 'fault: NotACampaign' serve --db "$none" --port 0 --count 0 --seed 0
 check 'a report below a file' 1 '' 'fault: NotACampaign' report --db "$db/none" --faction 1 --pass pw
 [ -z "$(find "$work" -name 'none*')" ] || fail 'a path without a file' 'a file was made'
 check 'a founding in no folder' 1 '' 'fault: Store' found --world "$small" --db "$none/x.db" --pass gm
@@ -276,6 +277,26 @@ if [ -n "$has_sqlite" ]; then
   refused 'a report of a file with a view' "$work/unlike.db" 'fault: Store' report --db "$work/unlike.db" --faction 1 --pass pw
 fi
 
+# Ports. One program holds a port until two connections were served; the first shows that it does.
+port=$((20000 + RANDOM % 20000))
+"$here/gm" serve --db "$work/isle.db" --port "$port" --count 2 --seed 0 >"$work/held" 2>&1 &
+holder=$!
+
+# knock: a connection to the port that sends nothing
+knock() {
+  (exec 3<>"/dev/tcp/127.0.0.1/$port") 2>/dev/null
+}
+for _ in $(seq 100); do
+  knock && break
+  sleep 0.1
+done
+refused 'a port that is taken' "$db" 'fault: Net' serve --db "$db" --port "$port" --count 1 --seed 0
+knock
+wait "$holder" || fail 'a port that is held' "status $?"
+[ ! -s "$work/held" ] || fail 'a port that is held' 'it printed something'
+check 'no connections' 0 '' '' serve --db "$db" --port 0 --count 0 --seed 0
+whole "$db"
+
 # Bad command lines.
 check 'no subcommand' 2 '' - </dev/null
 check 'an unknown subcommand' 2 '' - sail
@@ -291,6 +312,7 @@ check 'a number that is no number' 2 '' - report --db "$db" --faction one --pass
 check 'a number below 0' 2 '' - report --db "$db" --faction=-1 --pass pw
 check 'a number past its range on the line' 2 '' - report --db "$db" --faction 4294967296 --pass pw
 check 'the greatest number' 1 '' 'refused: 5 NoFaction' report --db "$db" --faction 4294967295 --pass pw
+check 'a port past its range' 2 '' - serve --db "$db" --port 65536 --count 0 --seed 0
 check 'a seed past its range' 2 '' - join --db "$db" --name Bree --pass pb --seed 18446744073709551616
 check 'a word that is no text' 2 '' - report --db "$db" --faction 1 --pass $'\377'
 check 'help' 2 '' - --help </dev/null

@@ -33,11 +33,11 @@ impl Subcommand for Books {
         "Prints the books: of each thing all entries, and how much there is";
 
     fn options<'a>(alloc: Global) -> Result<Vec<Arg<'a>>, AllocError> {
-        Ok(vec![in alloc; options::file(alloc, "db")]?)
+        Ok(vec![in alloc; options::file(alloc, options::DB)]?)
     }
 
     fn run(rt: &HostRuntime, options: &ArgMatches<'_>) -> Result<(), Failure> {
-        let path = options::text_of(options, "db")?;
+        let path = options::text_of(options, options::DB)?;
         let text = work_on(rt, path, Opening::Kept, &Asking)?;
         printed(rt.print(text.as_str()))
     }

@@ -4,14 +4,14 @@ use crate::failure::Failure;
 use crate::options;
 use crate::subcommand::Subcommand;
 use crate::told::tell;
-use atl_http::Dice;
+use atl_http::{Dice, Request, run_request};
 use atl_service::{Answer, Service};
 use atl_tables::Sequence;
 use clap::{Arg, ArgMatches};
 use sqlite::Alter;
 use std::alloc::{AllocError, Global};
 
-/// A month to close, with the moderator's pass text, and with the words that the dice give for it, one for each region.
+/// A month to close, with the moderator's pass text, and the dice whose words it is closed with.
 #[derive(Clone, Copy)]
 struct Closing<'a> {
     alloc: Global,
@@ -24,14 +24,11 @@ impl<'a> Work for Closing<'a> {
     type Done = Answer;
 
     fn run<S: Alter>(&self, service: &mut Service<S>) -> Result<Answer, Failure> {
-        let count = service.world().regions().len();
-        let words = self.dice.month_words(self.alloc, self.month, count)?;
-        let command = atl_service::Command::Close {
+        let request = Request::Close {
             month: self.month,
             pass: Sequence::from_slice(self.alloc, self.pass.as_bytes())?,
-            words: Sequence::from_vec(words),
         };
-        Ok(service.run(&command))
+        Ok(run_request(self.alloc, service, self.dice, request)?)
     }
 }
 
@@ -46,22 +43,20 @@ impl Subcommand for Close {
 
     fn options<'a>(alloc: Global) -> Result<Vec<Arg<'a>>, AllocError> {
         Ok(vec![in alloc;
-            options::file(alloc, "db"),
-            options::number(alloc, "month"),
-            options::text(alloc, "pass"),
-            options::long_number(alloc, "seed"),
+            options::file(alloc, options::DB),
+            options::number(alloc, options::MONTH),
+            options::text(alloc, options::PASS),
+            options::long_number(alloc, options::SEED),
         ]?)
     }
 
     fn run(rt: &HostRuntime, options: &ArgMatches<'_>) -> Result<(), Failure> {
-        let path = options::text_of(options, "db")?;
+        let path = options::text_of(options, options::DB)?;
         let closing = Closing {
             alloc: rt.alloc(),
-            month: options::number_of(options, "month")?,
-            pass: options::text_of(options, "pass")?,
-            dice: Dice {
-                seed: options::long_number_of(options, "seed")?,
-            },
+            month: options::number_of(options, options::MONTH)?,
+            pass: options::text_of(options, options::PASS)?,
+            dice: options::dice_of(options)?,
         };
         let answer = work_on(rt, path, Opening::Kept, &closing)?;
         tell(rt, &answer)

@@ -31,19 +31,24 @@ impl Subcommand for Found {
 
     fn options<'a>(alloc: Global) -> Result<Vec<Arg<'a>>, AllocError> {
         Ok(vec![in alloc;
-            options::file(alloc, "world"),
-            options::file(alloc, "db"),
-            options::text(alloc, "pass"),
+            options::file(alloc, options::WORLD),
+            options::file(alloc, options::DB),
+            options::text(alloc, options::PASS),
         ]?)
     }
 
     fn run(rt: &HostRuntime, options: &ArgMatches<'_>) -> Result<(), Failure> {
-        let world = text_at(rt, options::text_of(options, "world")?)?;
+        let world = text_at(rt, options::text_of(options, options::WORLD)?)?;
         let opening = Opening::Founded {
             world: world.as_str(),
-            pass: options::text_of(options, "pass")?,
+            pass: options::text_of(options, options::PASS)?,
         };
-        let regions = work_on(rt, options::text_of(options, "db")?, opening, &CountRegions)?;
+        let regions = work_on(
+            rt,
+            options::text_of(options, options::DB)?,
+            opening,
+            &CountRegions,
+        )?;
         printed(println!(rt; "founded, {regions} regions"))
     }
 }

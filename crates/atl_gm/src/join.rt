@@ -4,14 +4,14 @@ use crate::failure::Failure;
 use crate::options;
 use crate::subcommand::Subcommand;
 use crate::told::tell;
-use atl_http::Dice;
-use atl_service::{Answer, Fault, Service};
+use atl_http::{Dice, Request, run_request};
+use atl_service::{Answer, Service};
 use atl_tables::Sequence;
 use clap::{Arg, ArgMatches};
 use sqlite::Alter;
 use std::alloc::{AllocError, Global};
 
-/// A faction to join under the name, with the pass text, and with the word that the dice give for its number.
+/// A faction to join under the name, with the pass text, and the dice that say where.
 #[derive(Clone, Copy)]
 struct Joining<'a> {
     alloc: Global,
@@ -24,16 +24,11 @@ impl<'a> Work for Joining<'a> {
     type Done = Answer;
 
     fn run<S: Alter>(&self, service: &mut Service<S>) -> Result<Answer, Failure> {
-        let Some(campaign) = service.campaign() else {
-            return Ok(Answer::Fault(Fault::Closed));
-        };
-        let word = self.dice.join_word(campaign.next_faction());
-        let command = atl_service::Command::Join {
+        let request = Request::Join {
             name: Sequence::from_slice(self.alloc, self.name.as_bytes())?,
             pass: Sequence::from_slice(self.alloc, self.pass.as_bytes())?,
-            word,
         };
-        Ok(service.run(&command))
+        Ok(run_request(self.alloc, service, self.dice, request)?)
     }
 }
 
@@ -47,22 +42,20 @@ impl Subcommand for Join {
 
     fn options<'a>(alloc: Global) -> Result<Vec<Arg<'a>>, AllocError> {
         Ok(vec![in alloc;
-            options::file(alloc, "db"),
-            options::text(alloc, "name"),
-            options::text(alloc, "pass"),
-            options::long_number(alloc, "seed"),
+            options::file(alloc, options::DB),
+            options::text(alloc, options::NAME),
+            options::text(alloc, options::PASS),
+            options::long_number(alloc, options::SEED),
         ]?)
     }
 
     fn run(rt: &HostRuntime, options: &ArgMatches<'_>) -> Result<(), Failure> {
-        let path = options::text_of(options, "db")?;
+        let path = options::text_of(options, options::DB)?;
         let joining = Joining {
             alloc: rt.alloc(),
-            name: options::text_of(options, "name")?,
-            pass: options::text_of(options, "pass")?,
-            dice: Dice {
-                seed: options::long_number_of(options, "seed")?,
-            },
+            name: options::text_of(options, options::NAME)?,
+            pass: options::text_of(options, options::PASS)?,
+            dice: options::dice_of(options)?,
         };
         let answer = work_on(rt, path, Opening::Kept, &joining)?;
         tell(rt, &answer)

@@ -11,9 +11,9 @@ use std::alloc::{AllocError, Global};
 
 /// The command that hands in the mailing of the file.
 fn mailing(rt: &HostRuntime, options: &ArgMatches<'_>) -> Result<atl_service::Command, Failure> {
-    let faction = options::number_of(options, "faction")?;
-    let pass = options::text_of(options, "pass")?;
-    let text = bytes_at(rt, options::text_of(options, "file")?)?;
+    let faction = options::number_of(options, options::FACTION)?;
+    let pass = options::text_of(options, options::PASS)?;
+    let text = bytes_at(rt, options::text_of(options, options::FILE)?)?;
     Ok(atl_service::Command::Mail {
         faction,
         pass: Sequence::from_slice(rt.alloc(), pass.as_bytes())?,
@@ -31,15 +31,15 @@ impl Subcommand for Mail {
 
     fn options<'a>(alloc: Global) -> Result<Vec<Arg<'a>>, AllocError> {
         Ok(vec![in alloc;
-            options::file(alloc, "db"),
-            options::number(alloc, "faction"),
-            options::text(alloc, "pass"),
-            options::file(alloc, "file"),
+            options::file(alloc, options::DB),
+            options::number(alloc, options::FACTION),
+            options::text(alloc, options::PASS),
+            options::file(alloc, options::FILE),
         ]?)
     }
 
     fn run(rt: &HostRuntime, options: &ArgMatches<'_>) -> Result<(), Failure> {
-        let path = options::text_of(options, "db")?;
+        let path = options::text_of(options, options::DB)?;
         let mail = mailing(rt, options)?;
         let answer = work_on(rt, path, Opening::Kept, &mail)?;
         tell(rt, &answer)

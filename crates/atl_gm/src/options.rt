@@ -1,7 +1,38 @@
 //! The options of a subcommand: each takes a value and has to be given.
 use crate::failure::Failure;
+use atl_http::Dice;
 use clap::{Arg, ArgMatches, value_parser};
 use std::alloc::Global;
+
+/// The file of the campaign.
+pub const DB: &str = "db";
+
+/// The file of a world.
+pub const WORLD: &str = "world";
+
+/// The file of a mailing.
+pub const FILE: &str = "file";
+
+/// A pass text.
+pub const PASS: &str = "pass";
+
+/// The name of a faction that joins.
+pub const NAME: &str = "name";
+
+/// The number of a faction.
+pub const FACTION: &str = "faction";
+
+/// The number of a month.
+pub const MONTH: &str = "month";
+
+/// The port that is served.
+pub const PORT: &str = "port";
+
+/// How many connections are served.
+pub const COUNT: &str = "count";
+
+/// The seed of the dice.
+pub const SEED: &str = "seed";
 
 /// An option whose value is a text.
 pub fn text<'a>(alloc: Global, name: &'a str) -> Arg<'a> {
@@ -53,6 +84,13 @@ pub fn port_of(options: &ArgMatches<'_>, name: &str) -> Result<u16, Failure> {
 }
 
 /// The number that was given, of 64 bits.
-pub fn long_number_of(options: &ArgMatches<'_>, name: &str) -> Result<u64, Failure> {
+fn long_number_of(options: &ArgMatches<'_>, name: &str) -> Result<u64, Failure> {
     options.get_one(name).ok_or(Failure::NoValue)
+}
+
+/// The dice of the seed that was given.
+pub fn dice_of(options: &ArgMatches<'_>) -> Result<Dice, Failure> {
+    Ok(Dice {
+        seed: long_number_of(options, SEED)?,
+    })
 }

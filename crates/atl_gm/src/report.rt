@@ -10,8 +10,8 @@ use std::alloc::{AllocError, Global};
 
 /// The command that asks for the report.
 fn request(rt: &HostRuntime, options: &ArgMatches<'_>) -> Result<atl_service::Command, Failure> {
-    let faction = options::number_of(options, "faction")?;
-    let pass = options::text_of(options, "pass")?;
+    let faction = options::number_of(options, options::FACTION)?;
+    let pass = options::text_of(options, options::PASS)?;
     Ok(atl_service::Command::Report {
         faction,
         pass: Sequence::from_slice(rt.alloc(), pass.as_bytes())?,
@@ -28,14 +28,14 @@ impl Subcommand for Report {
 
     fn options<'a>(alloc: Global) -> Result<Vec<Arg<'a>>, AllocError> {
         Ok(vec![in alloc;
-            options::file(alloc, "db"),
-            options::number(alloc, "faction"),
-            options::text(alloc, "pass"),
+            options::file(alloc, options::DB),
+            options::number(alloc, options::FACTION),
+            options::text(alloc, options::PASS),
         ]?)
     }
 
     fn run(rt: &HostRuntime, options: &ArgMatches<'_>) -> Result<(), Failure> {
-        let path = options::text_of(options, "db")?;
+        let path = options::text_of(options, options::DB)?;
         let request = request(rt, options)?;
         let answer = work_on(rt, path, Opening::Kept, &request)?;
         tell(rt, &answer)

@@ -46,22 +46,20 @@ impl Subcommand for Serve {
 
     fn options<'a>(alloc: Global) -> Result<Vec<Arg<'a>>, AllocError> {
         Ok(vec![in alloc;
-            options::file(alloc, "db"),
-            options::port(alloc, "port"),
-            options::number(alloc, "count"),
-            options::long_number(alloc, "seed"),
+            options::file(alloc, options::DB),
+            options::port(alloc, options::PORT),
+            options::number(alloc, options::COUNT),
+            options::long_number(alloc, options::SEED),
         ]?)
     }
 
     fn run(rt: &HostRuntime, options: &ArgMatches<'_>) -> Result<(), Failure> {
-        let path = options::text_of(options, "db")?;
+        let path = options::text_of(options, options::DB)?;
         let serving = Serving {
             rt,
-            port: options::port_of(options, "port")?,
-            count: options::number_of(options, "count")?,
-            dice: Dice {
-                seed: options::long_number_of(options, "seed")?,
-            },
+            port: options::port_of(options, options::PORT)?,
+            count: options::number_of(options, options::COUNT)?,
+            dice: options::dice_of(options)?,
         };
         work_on(rt, path, Opening::Kept, &serving)
     }

@@ -1,20 +1,19 @@
 -- Laws of heads.
-use Rattle.std.proofs.Common.{◌≡◌, ℕ, ◌≤◌, ◌<◌, ◌+◌, ◌⊎◌, List, [], ◌∷◌, ◌++◌, length, map, take, drop, min, sym, ap, ◌∙◌, subst, inl, inr, refl, arith}
+use Rattle.std.proofs.Common.{◌≡◌, ℕ, ◌≤◌, ◌<◌, ◌+◌, List, ◌++◌, length, map, take, drop, min, sym, ap, ◌∙◌, subst, inl, inr, refl, arith}
 use Rattle.std.specs.Prelude.{Result, Ok, Err, IfOk}
 use Rattle.std.proofs.lemmas.List.{append_assoc, take-append-drop, drop-append-le, length-take, length-map, take_min}
 use Rattle.std.proofs.Math.Seq.{take-length}
-use Rattle.httparse.specs.Grammar.{RequestHead, print_request, ReadsRequest, HasNoRequest, NeverHasRequest, MayBecomeRequest}
+use Rattle.httparse.specs.Grammar.{RequestHead, print_request, ReadsRequest, HasNoRequest, MayBecomeRequest}
 use Rattle.httparse.specs.Spans.{RequestExceeds, RequestOverflows, IsRequestAt, IsRequestOf, IsRequestWithin, span_bytes, header_bytes, name_and_value}
 use Rattle.httparse.specs.declared.spans.HeaderSpan.{HeaderSpan}
 use Rattle.httparse.specs.declared.spans.RequestSpans.{RequestSpans}
-use Rattle.httparse.proofs.GrammarLemmas.{ReadsRequest-append, request_unique}
+use Rattle.httparse.proofs.GrammarLemmas.{ReadsRequest-append}
 use Rattle.atl_http.specs.declared.problem.Problem.TheVariants.{BadRequest}
 use Rattle.atl_http.specs.declared.request.Verdict.{Verdict}
-use Rattle.atl_http.specs.declared.request.Verdict.TheVariants.{More, Refused, Asks}
-use Rattle.atl_http.specs.Fields.{fields_of}
+use Rattle.atl_http.specs.declared.request.Verdict.TheVariants.{More, Refused}
 use Rattle.atl_http.specs.Checks.{head_checks, ended, verdict_of}
 use Rattle.atl_http.specs.Finding.{seen}
-use Rattle.atl_http.specs.Heads.{most_head, most_fields, HasHead, IsRefused, IsTooLong, IsUnfinished, Judges, whole, too_long, refused, unfinished}
+use Rattle.atl_http.specs.Heads.{most_head, most_fields, HasHead, IsRefused, IsUnfinished, Judges, whole, too_long, refused, unfinished}
 
 -- the bytes of a head at most, and then the others
 front_and_rest : (input : List ℕ) → take most_head input ++ drop most_head input ≡ input

@@ -1,19 +1,18 @@
 -- Bytes behind a request that was judged change nothing, and it is judged in one way alone.
-use Rattle.std.proofs.Common.{◌≡◌, ℕ, ◌≤◌, ◌<◌, ◌+◌, ◌-◌, Bool, true, false, cond, List, [], ◌++◌, length, take, drop, nat_lt, refl, sym, ap, ◌∙◌, subst, inl, inr, arith}
+use Rattle.std.proofs.Common.{◌≡◌, ℕ, ◌≤◌, ◌+◌, ◌-◌, Bool, true, false, cond, List, [], ◌++◌, length, take, nat_lt, refl, sym, ap, ◌∙◌, subst, inl, inr, arith}
 use Rattle.std.specs.Prelude.{Result, Ok, Err}
-use Rattle.std.proofs.lemmas.List.{append-nil, append_assoc, take-append-le, length-append, take-append-drop}
+use Rattle.std.proofs.lemmas.List.{append-nil, take-append-le, length-append}
 use Rattle.std.proofs.Math.Seq.{take-append-add}
 use Rattle.std.proofs.lemmas.Bool.Decides.{nat_tests}
 use Rattle.httparse.specs.Grammar.{RequestHead, print_request, ReadsRequest, HasNoRequest}
 use Rattle.httparse.proofs.GrammarLemmas.{ReadsRequest-append, request_unique}
 use Rattle.atl_http.specs.declared.problem.Problem.{Problem}
-use Rattle.atl_http.specs.declared.problem.Problem.TheVariants.{BadRequest}
 use Rattle.atl_http.specs.declared.route.Route.{Route}
 use Rattle.atl_http.specs.declared.request.Verdict.{Verdict}
-use Rattle.atl_http.specs.declared.request.Verdict.TheVariants.{More, Refused, Asks}
+use Rattle.atl_http.specs.declared.request.Verdict.TheVariants.{More}
 use Rattle.atl_http.specs.Checks.{ended, told, request_of, verdict_of, head_checks}
 use Rattle.atl_http.specs.Fields.{fields_of}
-use Rattle.atl_http.specs.Heads.{most_head, HasHead, IsRefused, IsTooLong, IsUnfinished, Judges, whole, too_long, refused, unfinished, IsFinal}
+use Rattle.atl_http.specs.Heads.{most_head, HasHead, IsRefused, IsTooLong, Judges, whole, too_long, refused, unfinished, IsFinal}
 use Rattle.atl_http.proofs.HeadLaws.{refused_stays}
 
 -- ---- more bytes

@@ -1,6 +1,6 @@
 -- Laws of what is told of a request.
-use Rattle.std.proofs.Common.{◌≡◌, ℕ, List, take, Option, Some, None, refl, sym, ap, ◌∙◌, subst, inl, inr}
-use Rattle.std.specs.Prelude.{Result, Ok, Err, IfOk, string_bytes, ◌⊎◌}
+use Rattle.std.proofs.Common.{◌≡◌, refl, sym, subst, inl, inr}
+use Rattle.std.specs.Prelude.{Result, Ok, Err, IfOk}
 use Rattle.std.specs.declared.alloc.AllocError.{AllocError}
 use Rattle.atl_service.specs.declared.command.Answer.{Answer}
 use Rattle.atl_service.specs.Runs.{Runs}
@@ -8,17 +8,14 @@ use Rattle.atl_http.specs.declared.problem.Problem.{Problem}
 use Rattle.atl_http.specs.declared.request.Request.{Request}
 use Rattle.atl_http.specs.declared.request.Outcome.TheVariants.{Refused, Asks}
 use Rattle.atl_http.specs.Answered.{answer_reply}
-use Rattle.std.specs.Io.KnownBytes.{Keeps, Appends, Consumes, IsAtEnd}
 use Rattle.sqlite_trees.specs.declared.store.Store.{Ghosts}
 use Rattle.atl_service.specs.Engine.{Engine}
 use Rattle.atl_http.specs.declared.dice.Dice.{Dice}
 use Rattle.atl_http.specs.declared.message.Message.{Message}
-use Rattle.atl_http.specs.declared.moving.HttpFault.{HttpFault}
-use Rattle.atl_http.specs.declared.moving.HttpFault.TheVariants.{Cut, ReadFault, WriteFault, Memory}
 use Rattle.atl_http.specs.declared.request.Outcome.{Outcome}
-use Rattle.atl_http.specs.Replies.{Reply, bytes_of, problem_reply}
-use Rattle.atl_http.specs.Serving.{Told, Known, Serves, command_in}
-use Rattle.atl_http.specs.Moving.{Receives, Sends, Says, Tells}
+use Rattle.atl_http.specs.Replies.{problem_reply}
+use Rattle.atl_http.specs.Serving.{Told, command_in}
+use Rattle.atl_http.specs.Moving.{Says, Tells}
 
 -- what is told of a problem
 pub told_problem : {S : Type 0} (g : Ghosts S) (dice : Dice) (old : Engine S) (outcome : Outcome) (problem : Problem) (r : Result Message AllocError) → outcome ≡ Refused problem → IfOk r (Says (problem_reply problem)) → Tells g dice old outcome r old

@@ -49,3 +49,22 @@ fn writes_that_take_nothing(rt: HostRuntime) -> Result<(), Fail> {
     }
     Ok(())
 }
+
+/// The number of each fault.
+const NUMBERS: [(HttpFault, Option<u8>); 4] = [
+    (HttpFault::Cut, Some(1)),
+    (HttpFault::ReadFault, Some(2)),
+    (HttpFault::WriteFault, Some(3)),
+    (HttpFault::Memory, None),
+];
+
+fn has_numbers(rt: &impl Abort, faults: &[(HttpFault, Option<u8>)]) {
+    for (fault, number) in faults.iter() {
+        is_true(rt, fault.number() == *number);
+    }
+}
+
+#[test]
+fn numbers(rt: HostRuntime) {
+    has_numbers(&rt, &NUMBERS);
+}

@@ -8,6 +8,6 @@ returns-in-Err-serve_stream g c = laws.ended g.S.Store c.args.dice c.loop.counte
 pub loop-preserved : goal.loop-preserved
 loop-preserved g c =
     elim c.match-accept.branch [
-      in-Ok+in-Ok-serve_stream w ↦ laws.one_more g.S.Store c.args.dice c.loop.counter c.args.service.now c.loop.service w.serve_stream.new.service c.match-accept.service w.service-is c.loop.invariant w.in-Ok-serve_stream.ensures
-    | in-Err w ↦ laws.as_many g.S.Store c.args.dice c.loop.counter c.args.service.now c.loop.service c.match-accept.service w.service-is c.loop.invariant
+      | in-Ok+in-Ok-serve_stream w ↦ laws.one_more g.S.Store c.args.dice c.loop.counter c.args.service.now c.loop.service w.serve_stream.new.service c.match-accept.service w.service-is c.loop.invariant w.in-Ok-serve_stream.ensures
+      | in-Err w ↦ laws.as_many g.S.Store c.args.dice c.loop.counter c.args.service.now c.loop.service c.match-accept.service w.service-is c.loop.invariant
     ]
