@@ -127,7 +127,7 @@ fn room(alloc: Global) -> Result<Vec<u8>, AllocError>
     Ok(room)
 }
 
-/// What the bytes that have come come to; None where the request isn't whole.
+/// What the request comes to by the bytes that have come; None where it isn't whole.
 fn outcome_of(alloc: Global, seen: &[u8]) -> Result<Option<Outcome>, AllocError>
     ensures { IfOk result (ComesTo seen.now) }
 {
