@@ -109,8 +109,8 @@ impl Failure {
             Failure::File => eprintln!(rt; "file: cannot read"),
             Failure::World(fault) => tell_world_fault(rt, fault),
             Failure::Refused(refusal) => {
-                let number = refusal.number();
-                eprintln!(rt; "refused: {number} {refusal:?}")
+                let (number, name) = (refusal.number(), refusal.name());
+                eprintln!(rt; "refused: {number} {name}")
             }
             Failure::NotEmpty => eprintln!(rt; "fault: NotEmpty"),
             Failure::NotACampaign => eprintln!(rt; "fault: NotACampaign"),

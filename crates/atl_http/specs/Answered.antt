@@ -6,11 +6,9 @@ use Rattle.atl_orders.specs.declared.fault.FaultyLine.{FaultyLine}
 use Rattle.atl_orders.specs.Faulting.{fault_number}
 use Rattle.atl_service.specs.declared.command.Answer.{Answer}
 use Rattle.atl_service.specs.declared.command.Answer.TheVariants.{Joined, Mailed, MonthDone, Text, Refused, Fault}
-use Rattle.atl_service.specs.declared.command.Fault.{Fault as Failure}
-use Rattle.atl_service.specs.declared.command.Fault.TheVariants.{Memory, Store, Closed}
 use Rattle.atl_service.specs.declared.command.Refusal.{Refusal}
 use Rattle.atl_service.specs.declared.command.Refusal.TheVariants.{BadName, BadPassText, NameTaken, Full, NoFaction, WrongPass, Gone, TooLong, NoHeader, BadHeader, WrongFaction, WrongMonth, MonthLimit, WrongDice}
-use Rattle.atl_service.specs.Numbers.{number_of}
+use Rattle.atl_service.specs.Numbers.{number_of, refusal_name, fault_name}
 use Rattle.atl_http.specs.Replies.{Reply, json, plain, no_number, error_body}
 
 -- ---- what was done
@@ -41,22 +39,6 @@ success kind body = record { status = 200; allow = None; kind = kind; body = bod
 
 -- ---- refusals and faults
 
-abbrev pub refusal_name : Refusal → List ℕ
-refusal_name BadName = codes "BadName"
-refusal_name BadPassText = codes "BadPassText"
-refusal_name NameTaken = codes "NameTaken"
-refusal_name Full = codes "Full"
-refusal_name NoFaction = codes "NoFaction"
-refusal_name WrongPass = codes "WrongPass"
-refusal_name Gone = codes "Gone"
-refusal_name TooLong = codes "TooLong"
-refusal_name NoHeader = codes "NoHeader"
-refusal_name BadHeader = codes "BadHeader"
-refusal_name WrongFaction = codes "WrongFaction"
-refusal_name WrongMonth = codes "WrongMonth"
-refusal_name MonthLimit = codes "MonthLimit"
-refusal_name WrongDice = codes "WrongDice"
-
 abbrev pub refusal_status : Refusal → ℕ
 refusal_status BadName = 400
 refusal_status BadPassText = 400
@@ -72,11 +54,6 @@ refusal_status WrongFaction = 409
 refusal_status WrongMonth = 409
 refusal_status MonthLimit = 409
 refusal_status WrongDice = 400
-
-abbrev pub fault_name : Failure → List ℕ
-fault_name Memory = codes "Memory"
-fault_name Store = codes "Store"
-fault_name Closed = codes "Closed"
 
 abbrev pub failure : (status : ℕ) → (name : List ℕ) → (number : ℕ) → Reply
 failure status name number = record { status = status; allow = None; kind = json; body = error_body name number }

@@ -1,6 +1,6 @@
 //! What is told of the answer to a command.
 ghost use Rattle.std.specs.Prelude.{◌≡◌, ◌++◌, IfOk, OnOk, string_bytes};
-ghost use Rattle.atl_http.specs.Answered.{joined_body, pair, more_pairs, pairs, mailed_body, month_body, refusal_name, refusal_status, fault_name, success, answer_reply};
+ghost use Rattle.atl_http.specs.Answered.{joined_body, pair, more_pairs, pairs, mailed_body, month_body, refusal_status, success, answer_reply};
 ghost use Rattle.atl_http.specs.Replies.{json};
 ghost use Rattle.atl_http.specs.Moving.{Says};
 
@@ -66,28 +66,6 @@ fn month_body(alloc: Global, month: u32) -> Result<String, AllocError>
     format!(in alloc; "{{\"month\":{month}}}")
 }
 
-/// The name under which a refusal is told.
-fn refusal_name(refusal: Refusal) -> &'static str
-    ensures { result.now ≡ refusal_name refusal }
-{
-    match refusal {
-        Refusal::BadName => "BadName",
-        Refusal::BadPassText => "BadPassText",
-        Refusal::NameTaken => "NameTaken",
-        Refusal::Full => "Full",
-        Refusal::NoFaction => "NoFaction",
-        Refusal::WrongPass => "WrongPass",
-        Refusal::Gone => "Gone",
-        Refusal::TooLong => "TooLong",
-        Refusal::NoHeader => "NoHeader",
-        Refusal::BadHeader => "BadHeader",
-        Refusal::WrongFaction => "WrongFaction",
-        Refusal::WrongMonth => "WrongMonth",
-        Refusal::MonthLimit => "MonthLimit",
-        Refusal::WrongDice => "WrongDice",
-    }
-}
-
 /// The status under which a refusal is told.
 fn refusal_status(refusal: Refusal) -> StatusCode
     ensures { result ≡ refusal_status refusal }
@@ -109,17 +87,6 @@ fn refusal_status(refusal: Refusal) -> StatusCode
     }
 }
 
-/// The name under which a fault is told.
-fn fault_name(fault: Fault) -> &'static str
-    ensures { result.now ≡ fault_name fault }
-{
-    match fault {
-        Fault::Memory => "Memory",
-        Fault::Store => "Store",
-        Fault::Closed => "Closed",
-    }
-}
-
 /// The reply that tells a refusal.
 fn refusal_message(alloc: Global, refusal: Refusal) -> Result<Message, AllocError>
     ensures { IfOk result (Says (answer_reply (Answer.Refused refusal))) }
@@ -128,7 +95,7 @@ fn refusal_message(alloc: Global, refusal: Refusal) -> Result<Message, AllocErro
         alloc,
         refusal_status(refusal),
         None,
-        refusal_name(refusal),
+        refusal.name(),
         refusal.number(),
     )
 }
@@ -141,7 +108,7 @@ fn fault_message(alloc: Global, fault: Fault) -> Result<Message, AllocError>
         alloc,
         StatusCode::INTERNAL_SERVER_ERROR,
         None,
-        fault_name(fault),
+        fault.name(),
         NO_NUMBER,
     )
 }
