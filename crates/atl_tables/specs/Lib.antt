@@ -21,6 +21,7 @@ pub mod FaultTexts
 pub mod Lookup
 pub mod Sums
 pub mod Lending
+pub mod Groups
 pub mod Changing
 pub mod Tracking
 pub mod Drafts

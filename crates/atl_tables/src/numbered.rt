@@ -92,6 +92,42 @@ impl<V: Drop> Numbered<V> {
     }
 }
 
+impl<V: Drop> Numbered<Numbered<V>> {
+    ghost use Rattle.atl_tables.specs.Groups.{group_of};
+
+    /// The value under a number of the group under another, where there is one.
+    pub fn get_under(&self, group: u32, number: u32) -> Option<&V>
+        ensures { option_copied result ≡ map.get (group_of self.now group) number }
+    {
+        match self.get(group) {
+            Some(values) => values.get(number),
+            None => None,
+        }
+    }
+
+    /// Puts a value under a number of the group under another, in the place of the one that stood there. A group that isn't
+    /// there is begun. Without memory the groups are as they were.
+    pub fn insert_under(
+        &mut self,
+        alloc: Global,
+        group: u32,
+        number: u32,
+        value: V,
+    ) -> Result<(), AllocError>
+        ensures ok { OnOk result (self.new ≡ map.insert self.old group (map.insert (group_of self.old group) number value)) }
+        ensures err { OnErr result (self.new ≡ self.old) }
+    {
+        match self.get_mut(group) {
+            Some(values) => values.insert(number, value),
+            None => {
+                let mut values = Numbered::new(alloc);
+                values.insert(number, value)?;
+                self.insert(group, values)
+            }
+        }
+    }
+}
+
 impl Numbered<bool> {
     /// Lowers all flags, and takes away those whose number has no value in another map. It takes no memory.
     pub(crate) fn lower<V: Drop>(&mut self, values: &Numbered<V>)
