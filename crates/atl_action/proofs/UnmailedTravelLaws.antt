@@ -3,7 +3,7 @@ use Rattle.std.proofs.Common.{ℕ, false, Option, Some, None, refl}
 use Rattle.std.specs.Prelude.{fold, unwrap_or}
 use Rattle.std.specs.FinMap.{get}
 use Rattle.atl_tables.specs.Planet.{Planet}
-use Rattle.atl_orders.specs.declared.order.Direction.{Direction}
+use Rattle.atl_tables.specs.declared.direction.Direction.{Direction}
 use Rattle.atl_orders.specs.declared.order.Order.TheVariants as orders
 use Rattle.atl_orders.specs.Orders.{Said}
 use Rattle.atl_state.specs.declared.event.Outcome.TheVariants.{Done}

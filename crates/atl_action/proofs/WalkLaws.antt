@@ -7,7 +7,7 @@ use Rattle.std.specs.FinMap.{FinMap, get, len}
 use Rattle.std.proofs.lemmas.Bool.{cases_eq}
 use Rattle.atl_tables.specs.Planet.{Planet, is_land}
 use Rattle.atl_tables.specs.declared.world.RegionPlan.{RegionPlan}
-use Rattle.atl_orders.specs.declared.order.Direction.{Direction}
+use Rattle.atl_tables.specs.declared.direction.Direction.{Direction}
 use Rattle.atl_orders.specs.declared.order.Order.TheVariants as orders
 use Rattle.atl_orders.specs.Orders.{Said}
 use Rattle.atl_state.specs.declared.event.EventFault.{EventFault}

@@ -4,8 +4,8 @@ use Rattle.std.specs.Option.{option_map_or}
 use Rattle.std.specs.FinMap.{get}
 use Rattle.atl_tables.specs.Planet.{Planet}
 use Rattle.atl_tables.specs.declared.world.RegionPlan.{RegionPlan}
-use Rattle.atl_orders.specs.declared.order.Direction.{Direction}
-use Rattle.atl_orders.specs.declared.order.Direction.TheVariants.{North, South, East, West}
+use Rattle.atl_tables.specs.declared.direction.Direction.{Direction}
+use Rattle.atl_tables.specs.declared.direction.Direction.TheVariants.{North, South, East, West}
 
 -- the region's neighbour in a direction
 abbrev pub beside : Direction → RegionPlan → Option ℕ

@@ -5,8 +5,8 @@ use Rattle.atl_tables.specs.Planet.{Planet}
 use Rattle.atl_tables.specs.Lookup.{item_named, skill_named, kind_named}
 use Rattle.atl_orders.specs.declared.order.UnitRef.{UnitRef}
 use Rattle.atl_orders.specs.declared.order.UnitRef.TheVariants.{Number, Alias}
-use Rattle.atl_orders.specs.declared.order.Direction.{Direction}
-use Rattle.atl_orders.specs.declared.order.Direction.TheVariants.{North, South, East, West}
+use Rattle.atl_tables.specs.declared.direction.Direction.{Direction}
+use Rattle.atl_tables.specs.declared.direction.Direction.TheVariants.{North, South, East, West}
 use Rattle.atl_orders.specs.declared.fault.LineFault.{LineFault}
 use Rattle.atl_orders.specs.declared.fault.LineFault.TheVariants.{BadNumber, UnknownThing, MissingWord, BadAlias, BadDirection}
 use Rattle.atl_orders.specs.Words.{WordText, is_word, number_of}

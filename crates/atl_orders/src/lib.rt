@@ -14,9 +14,10 @@ mod rules;
 mod verb;
 mod words;
 
+pub use atl_tables::Direction;
 pub use fault::{FaultyLine, LineFault, MailFault};
 pub use limits::{LAST_ALIAS, LAST_FACTION, MOST_BYTES, MOST_NUMBER};
 pub use mailing::{Entry, Mailing, is_mailing_of, read_mailing};
-pub use order::{Direction, NameKind, Order, Span, UnitRef};
+pub use order::{NameKind, Order, Span, UnitRef};
 pub use rules::{readings_keep_bounds, rules_are_the_reading};
 pub use verb::Verb;

@@ -9,9 +9,9 @@ ghost use Rattle.atl_orders.specs.Operands.{word_at, count_at, number_at, alias_
 
 use crate::fault::LineFault;
 use crate::limits::{LAST_ALIAS, MOST_NUMBER};
-use crate::order::{Direction, UnitRef};
+use crate::order::UnitRef;
 use crate::words::{Word, is_same, next_word, number};
-use atl_tables::{Sequence, World};
+use atl_tables::{Direction, Sequence, World};
 use std::alloc::{AllocError, Global};
 
 /// The next word, and what follows it.

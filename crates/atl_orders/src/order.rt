@@ -2,7 +2,7 @@
 ghost use Rattle.std.specs.Prelude.{◌≡◌};
 
 use crate::verb::Verb;
-use atl_tables::Sequence;
+use atl_tables::{Direction, Sequence};
 
 /// A unit by its number, or by the alias of one that the mailing forms.
 #[derive(Drop, Clone, Copy, Debug, PartialEq, Eq)]
@@ -11,15 +11,6 @@ pub enum UnitRef {
     Number(u32),
     /// From 1 to 9,999.
     Alias(u32),
-}
-
-/// A side of a region, to which MOVE and SAIL go.
-#[derive(Drop, Clone, Copy, Debug, PartialEq, Eq)]
-pub enum Direction {
-    North,
-    South,
-    East,
-    West,
 }
 
 /// What a NAME order names.

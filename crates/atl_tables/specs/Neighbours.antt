@@ -4,15 +4,15 @@ use Rattle.std.specs.Ordering.{nat_cmp}
 use Rattle.std.specs.FinMap.{FinMap, get}
 use Rattle.atl_tables.specs.Faults.{Conditions}
 use Rattle.atl_tables.specs.Keys.{path, indexed}
+use Rattle.atl_tables.specs.declared.direction.Direction.{Direction}
+use Rattle.atl_tables.specs.declared.direction.Direction.TheVariants.{North, South, East, West}
 use Rattle.atl_tables.specs.declared.fault.WorldFault.{WorldFault}
 use Rattle.atl_tables.specs.declared.fault.WorldFault.TheVariants.{BadNeighbour}
-use Rattle.atl_tables.specs.declared.neighbours.Side.{Side}
-use Rattle.atl_tables.specs.declared.neighbours.Side.TheVariants.{North, South, East, West}
 use Rattle.atl_tables.specs.declared.region_table.RegionDraft.{RegionDraft}
 use Rattle.atl_tables.specs.declared.world.RegionPlan.{RegionPlan}
 
 -- the neighbour on a side
-abbrev pub on_side : Side → RegionPlan → Option ℕ
+abbrev pub on_side : Direction → RegionPlan → Option ℕ
 on_side North p = p.north
 on_side South p = p.south
 on_side East p = p.east
@@ -23,7 +23,7 @@ is_number n None = false
 is_number n (Some m) = m == n
 
 -- a neighbour of the region with this number, which has that region on the side named
-abbrev pub neighbour : List ℕ → FinMap nat_cmp RegionPlan → Side → ℕ → Option ℕ → Option WorldFault
+abbrev pub neighbour : List ℕ → FinMap nat_cmp RegionPlan → Direction → ℕ → Option ℕ → Option WorldFault
 neighbour p regions opposite number None = None
 neighbour p regions opposite number (Some m) = if is_number number (option_and_then (on_side opposite) (get regions m)) then None else Some (BadNeighbour p)
 

@@ -1,6 +1,7 @@
 //! The world of a campaign, and the containers that every crate uses.
 #![tactic(auto)]
 
+mod direction;
 mod elements;
 mod fault;
 mod item_table;
@@ -26,6 +27,7 @@ mod titled;
 mod tracked;
 mod world;
 
+pub use direction::Direction;
 pub use fault::WorldFault;
 pub use marked::MarkedNumbers;
 pub use names::{name_ok, pass_ok, word_ok};

@@ -9,6 +9,7 @@ ghost use Rattle.atl_tables.specs.Keys.{path};
 ghost use Rattle.atl_tables.specs.Neighbours.{on_side, is_number, neighbour, neighbours_at};
 ghost use Rattle.atl_tables.specs.Planet.{LeadsBack, HasNeighbours};
 
+use crate::direction::Direction;
 use crate::fault::WorldFault;
 use crate::keys::{indexed, path};
 use crate::numbered::Numbered;
@@ -16,28 +17,19 @@ use crate::region_table::RegionDraft;
 use crate::world::RegionPlan;
 use std::alloc::Global;
 
-/// A side of a region.
-#[derive(Drop, Clone, Copy, Debug)]
-pub enum Side {
-    North,
-    South,
-    East,
-    West,
-}
-
-fn on_side(side: Side, plan: &RegionPlan) -> Option<u32>
+fn on_side(side: Direction, plan: &RegionPlan) -> Option<u32>
     ensures { result ≡ on_side side plan.now }
 {
     match side {
-        Side::North => plan.north,
-        Side::South => plan.south,
-        Side::East => plan.east,
-        Side::West => plan.west,
+        Direction::North => plan.north,
+        Direction::South => plan.south,
+        Direction::East => plan.east,
+        Direction::West => plan.west,
     }
 }
 
 /// The neighbour of a region on a side, where there is such a region and it has one.
-fn beyond(regions: &Numbered<RegionPlan>, number: u32, side: Side) -> Option<u32>
+fn beyond(regions: &Numbered<RegionPlan>, number: u32, side: Direction) -> Option<u32>
     ensures { result ≡ option_and_then (on_side side) (get regions.now number) }
 {
     match regions.get(number) {
@@ -61,7 +53,7 @@ fn neighbour(
     key: &str,
     at: &str,
     regions: &Numbered<RegionPlan>,
-    opposite: Side,
+    opposite: Direction,
     number: u32,
     other: Option<u32>,
 ) -> Result<(), WorldFault>
@@ -98,7 +90,7 @@ fn neighbours_of(
         "north",
         at,
         regions,
-        Side::South,
+        Direction::South,
         number,
         sides.north,
     )?;
@@ -107,12 +99,28 @@ fn neighbours_of(
         "south",
         at,
         regions,
-        Side::North,
+        Direction::North,
         number,
         sides.south,
     )?;
-    neighbour(alloc, "east", at, regions, Side::West, number, sides.east)?;
-    neighbour(alloc, "west", at, regions, Side::East, number, sides.west)
+    neighbour(
+        alloc,
+        "east",
+        at,
+        regions,
+        Direction::West,
+        number,
+        sides.east,
+    )?;
+    neighbour(
+        alloc,
+        "west",
+        at,
+        regions,
+        Direction::East,
+        number,
+        sides.west,
+    )
 }
 
 /// That the neighbours of all regions are mutual.
