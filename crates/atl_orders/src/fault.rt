@@ -4,30 +4,30 @@ ghost use Rattle.atl_orders.specs.declared.fault.MailFault.TheVariants.{Memory};
 
 use std::alloc::{AllocError, AllocFailed};
 
-/// What is wrong with a line. See docs/FORMATS.md, "Line faults".
+/// What is wrong with a line. The line gives no order then, and the other lines stand. See docs/FORMATS.md, "Line faults".
 #[derive(Drop, Clone, Copy, Debug, PartialEq, Eq)]
 pub enum LineFault {
     /// No unit is named for the order.
     NoUnit,
     /// The first word is no keyword of an order.
     UnknownOrder,
-    /// A number was to stand here, in its range.
+    /// A number was to stand here, from 1 to `MOST_NUMBER`; for GUARD 0 or 1.
     BadNumber,
-    /// Nothing has this name.
+    /// Nothing has this name, or NAME is followed by none of the four words for what it names.
     UnknownThing,
     /// The line ends too early.
     MissingWord,
-    /// A byte that no line may have.
+    /// A byte other than tab and those from 32 to 126.
     BadByte,
-    /// No alias, or one that was given before.
+    /// No number from 1 to `LAST_ALIAS`, or the alias of an earlier FORM without fault.
     BadAlias,
-    /// A FORM inside a block.
+    /// A FORM inside a block, which goes on.
     NestedForm,
     /// An END without a block.
     EndAlone,
     /// None of the four directions.
     BadDirection,
-    /// No name.
+    /// A name that breaks the rule of names.
     BadName,
 }
 
@@ -83,12 +83,13 @@ pub struct FaultyLine {
 /// Why a text is no mailing, or that there was no memory to read it. See docs/FORMATS.md, "Mailings".
 #[derive(Drop, Clone, Copy, Debug, PartialEq, Eq)]
 pub enum MailFault {
-    /// The text has more than 65,536 bytes.
+    /// The text has more than `MOST_BYTES` bytes.
     TooLong,
-    /// No line begins with `#ATLANTIS`.
+    /// No line begins with the word `#ATLANTIS`.
     NoHeader,
-    /// The first line that does names no faction.
+    /// The second word of the first line that does is no number from 1 to `LAST_FACTION`.
     BadHeader,
+    /// It says nothing of the text.
     Memory,
 }
 

@@ -32,19 +32,20 @@ pub struct Entry {
     pub line: u32,
     /// The unit that is to carry it out; for FORM the parent.
     pub target: UnitRef,
+    /// What the unit is to do.
     pub order: Order,
 }
 
-/// What a text says for a month.
+/// What a text says for a month. See docs/RULES.md, "Reading a mailing".
 #[derive(Debug)]
 pub struct Mailing {
-    /// The number of the faction that it is of, from 1 to 9,999.
+    /// The number of the faction that it is of, from 1 to `LAST_FACTION`.
     pub faction: u32,
-    /// The bytes that were read, which the names in orders are parts of.
+    /// The bytes that were read, at most `MOST_BYTES`, which the names in orders are parts of.
     pub text: Sequence<u8>,
-    /// The orders, by line.
+    /// The orders, by rising lines; a line gives one at most.
     pub entries: Sequence<Entry>,
-    /// What is wrong, by line.
+    /// What is wrong, by rising lines; a line has one fault at most, and no order then.
     pub faults: Sequence<FaultyLine>,
 }
 
@@ -107,7 +108,7 @@ fn letters_of(alloc: Global, bytes: &[u8], quoted: bool) -> Result<Vec<u8>, Allo
         .collect(alloc)
 }
 
-/// The faction that a header names.
+/// The faction that a header names, from 1 to `LAST_FACTION`.
 fn faction_of(line: &[u8]) -> Option<u32>
     ensures { result ≡ faction_of (words line.now) }
 {
@@ -119,15 +120,18 @@ fn faction_of(line: &[u8]) -> Option<u32>
     }
 }
 
-/// The faction, and what stands behind a header with the number of its first line.
+/// What a header says.
 #[derive(Drop, Clone, Copy)]
 struct Header<'a> {
+    /// The number of the faction, from 1 to `LAST_FACTION`.
     faction: u32,
+    /// The number of the line behind it.
     next: u32,
+    /// The text from that line on, where there is one.
     rest: Option<&'a [u8]>,
 }
 
-/// The first header of a text.
+/// The first header of a text, else NoHeader or BadHeader.
 #[tactic(auto, using(crate::proofs::WordLaws::ends_further, crate::proofs::WordLaws::ends_with_all), unfolding(crate::specs::Mailing::header_from))]
 fn find_header(text: &[u8]) -> Result<Header<'_>, MailFault>
     requires { length text.now ≤ most_bytes }
@@ -156,8 +160,8 @@ fn find_header(text: &[u8]) -> Result<Header<'_>, MailFault>
     Err(MailFault::NoHeader)
 }
 
-/// Whether a text is a mailing of a faction: it has at most 65,536 bytes, and its header names the faction. It takes no
-/// memory. See docs/RULES.md, "Reading a mailing".
+/// Whether a text is a mailing of a faction: it has at most `MOST_BYTES` bytes, and its header names the faction. It takes
+/// no memory. See docs/RULES.md, "Reading a mailing".
 pub fn is_mailing_of(faction: u32, text: &[u8]) -> bool
     ensures { Decides result (IsMailingOf faction text.now) }
 {
@@ -201,7 +205,7 @@ impl Body {
         }
     }
 
-    /// Notes what a line does.
+    /// Notes what a line does, behind what was noted. Without memory what is noted is to be given up.
     fn note(&mut self, line: u32, outcome: Outcome) -> Result<(), AllocError>
         ensures entries { OnOk result ((text : List ℕ) → body_entries text self.new
             ≡ body_entries text self.old ++ entry_of (line, effect_of text outcome)) }
@@ -258,10 +262,10 @@ fn read_body(alloc: Global, world: &World, text: &[u8], header: Header) -> Resul
     Ok(body)
 }
 
-/// Reads the orders of a mailing. The text may have any bytes; it is kept as it is. TooLong comes for more than 65,536
+/// Reads the orders of a mailing. The text may have any bytes; it is kept as it is. TooLong comes for more than `MOST_BYTES`
 /// bytes, else NoHeader where no line begins with `#ATLANTIS`, else BadHeader where the first that does names no faction
-/// from 1 to 9,999, and Memory at any point. A faulty line gives no order, and the other lines stand. See docs/RULES.md,
-/// "Reading a mailing".
+/// from 1 to `LAST_FACTION`, and Memory at any point. A faulty line gives no order, and the other lines stand. See
+/// docs/RULES.md, "Reading a mailing".
 #[tactic(auto, unfolding(crate::specs::Mailing::reading))]
 pub fn read_mailing(alloc: Global, world: &World, text: &[u8]) -> Result<Mailing, MailFault>
     ensures reading { Reads reading_of result (reading world.now text.now) }

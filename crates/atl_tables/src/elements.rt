@@ -25,6 +25,7 @@ pub(crate) trait Element: Drop {
     // What is true of each that was read.
     ghost is_sound: { Self → Type 0 };
 
+    /// What the table at a path says, or its first fault, key by key. `Memory` may come at any point.
     fn read(alloc: Global, at: &str, table: &Table) -> Result<Self, WorldFault>
         ensures value { Gives (λ x. x) result (first_fault (conditions at.now (table_view table.now))) (record_of at.now (table_view table.now)) }
         ensures sound { IfOk result is_sound };

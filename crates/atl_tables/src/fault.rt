@@ -7,17 +7,27 @@ ghost use Rattle.atl_tables.specs.declared.fault.WorldFault.TheVariants.{Memory}
 use crate::text::Text;
 use std::alloc::{AllocError, AllocFailed};
 
-/// The first fault of a world file, most with the path of the key, or that there was no memory to read it.
+/// The first fault of a world file, most with the path of the key, as `rules.growth`, or that there was no memory to read it.
+/// Nothing is made of the file then. See docs/FORMATS.md, "Faults of a world file".
 #[derive(Drop, Debug)]
 pub enum WorldFault {
+    /// The text is no TOML.
     NotToml,
+    /// A key, a table or an array that is needed isn't there.
     Missing(Text),
+    /// What stands there is of another type.
     WrongType(Text),
+    /// A number or a name breaks its rule, or an array has too few or too many elements.
     OutOfRange(Text),
+    /// The second of two equal names or numbers.
     TwoNames(Text),
+    /// Nothing has the name that stands there.
     UnknownName(Text),
+    /// No region of this number has the region on its opposite side.
     BadNeighbour(Text),
+    /// No region is land.
     NoLand,
+    /// It says nothing of the text.
     Memory,
 }
 

@@ -1,4 +1,4 @@
-//! The tables `[[item]]`.
+//! The tables `[[item]]`. See docs/FORMATS.md, "The world file".
 ghost use Rattle.std.specs.Prelude.{◌≡◌, ◌≢◌, ◌≤◌, ◌<◌, codes, length, IfOk, IfSome, Some, option_and_then};
 ghost use Rattle.atl_tables.specs.Drafts.{IsMaking, IsItemDraft};
 ghost use Rattle.atl_tables.specs.Given.{Gives};
@@ -20,9 +20,13 @@ use toml::Table;
 
 /// What making an item takes, with its skill and its raw item by name.
 pub struct Making {
+    /// The name of the skill that makes it, where there is one.
     pub skill: Option<Text>,
+    /// The level of that skill that it takes, from 1 to `LAST_LEVEL`; 1 where the file has none.
     pub level: u32,
+    /// The name of the item that it is made of, where there is one.
     pub raw: Option<Text>,
+    /// How many raw items go into one, from 1 to `MOST_RAW_COUNT`; 1 where the file has none.
     pub raw_count: u32,
 }
 
@@ -39,8 +43,11 @@ impl Drop for Making {
 
 /// An item, with names for what making it takes.
 pub struct ItemDraft {
+    /// As the file writes it; it keeps the rule of names.
     pub name: Text,
+    /// The weight of one, at most `MOST_WEIGHT`.
     pub weight: u32,
+    /// The weight of goods that one carries, at most `MOST_WEIGHT`.
     pub carry: u32,
     pub making: Making,
 }
@@ -108,7 +115,7 @@ impl Titled for ItemDraft {
     }
 }
 
-/// The number of an item of this name other than the i-th.
+/// The number of the first item of this name, where that is another one than the i-th.
 #[tactic(auto, unfolding(crate::specs::Titles::number_of))]
 fn other_item(items: &[ItemDraft], i: usize, name: &Text) -> Option<u16>
     requires { length items.now ≤ 65536 }
@@ -129,7 +136,8 @@ fn other_item(items: &[ItemDraft], i: usize, name: &Text) -> Option<u16>
     }
 }
 
-/// The number of the item that the i-th is made of.
+/// The number of the item that the i-th is made of, where the file names one. UnknownName where no item has the name, or
+/// the i-th is the first that has it.
 fn raw_item(
     alloc: Global,
     items: &[ItemDraft],

@@ -1,4 +1,4 @@
-//! The tables `[[kind]]`.
+//! The tables `[[kind]]`. See docs/FORMATS.md, "The world file".
 ghost use Rattle.std.specs.Prelude.{length};
 ghost use Rattle.atl_tables.specs.Drafts.{IsBuilding, IsPurpose, IsKindDraft};
 ghost use Rattle.atl_tables.specs.KindTable.{building_keys, building_from, purpose_keys, purpose_from, kind_keys, kind_from, kind_known, kind_of};
@@ -17,9 +17,13 @@ use toml::Table;
 
 /// What building a structure takes, with its material and its skill by name.
 pub struct Building {
+    /// The name of the item that it is built of.
     pub material: Text,
+    /// How much material makes it complete, from 1 to `MOST_SIZE`.
     pub size: u32,
+    /// The name of the skill that builds it.
     pub skill: Text,
+    /// The level of that skill that it takes, from 1 to `LAST_LEVEL`.
     pub level: u32,
 }
 
@@ -37,14 +41,19 @@ impl Drop for Building {
 /// What a structure is good for, with the skill that it helps by name.
 #[derive(Drop)]
 pub struct Purpose {
+    /// The most weight with which a ship sails, at most `MOST_AMOUNT`; 0 where the file has none.
     pub capacity: u32,
+    /// What men times their level of sailing must come to for a ship to sail, at most `MOST_SIZE`; 0 where the file has none.
     pub crew: u32,
+    /// The name of the skill that is studied better inside, where there is one.
     pub helps: Option<Text>,
 }
 
 /// A kind of structure, with its material and skills by name.
 pub struct KindDraft {
+    /// As the file writes it; it keeps the rule of names.
     pub name: Text,
+    /// Whether it is a ship, else it is a building.
     pub ship: bool,
     pub building: Building,
     pub purpose: Purpose,

@@ -20,7 +20,7 @@ use crate::titled::{Titled, is_among, known, same_name};
 use std::alloc::{AllocError, Global};
 use toml::Table;
 
-/// An item by name, and how much of it is found in a month.
+/// An item by name, and how much of it a region gives in a month, at most `MOST_AMOUNT`.
 #[derive(Drop)]
 pub struct Output {
     pub item: Text,

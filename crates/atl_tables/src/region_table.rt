@@ -1,4 +1,4 @@
-//! The tables `[[region]]`.
+//! The tables `[[region]]`. See docs/FORMATS.md, "The world file".
 ghost use Rattle.std.specs.Prelude.{length};
 ghost use Rattle.toml.specs.View.{table_view};
 ghost use Rattle.atl_tables.specs.Drafts.{IsPlace, IsRegionDraft};
@@ -20,10 +20,15 @@ use toml::Table;
 
 /// What a region is, with its terrain by name.
 pub struct Place {
+    /// From 1 to `LAST_REGION`.
     pub number: u32,
+    /// As the file writes it; it keeps the rule of names.
     pub name: Text,
+    /// The name of its terrain.
     pub terrain: Text,
+    /// Peasants at founding, at most `MOST_AMOUNT`.
     pub peasants: u32,
+    /// Money at founding, at most `MOST_AMOUNT`.
     pub money: u32,
 }
 
@@ -39,7 +44,7 @@ impl Drop for Place {
     }
 }
 
-/// The numbers of a region's neighbours.
+/// The numbers of a region's neighbours, each from 1 to `LAST_REGION`, where it has one on that side.
 #[derive(Drop)]
 pub struct Sides {
     pub north: Option<u32>,

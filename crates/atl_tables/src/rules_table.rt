@@ -1,4 +1,4 @@
-//! The table `[rules]`.
+//! The table `[rules]`. See docs/FORMATS.md, "The world file".
 ghost use Rattle.std.specs.Prelude.{IfOk, length};
 ghost use Rattle.toml.specs.View.{table_view};
 ghost use Rattle.atl_tables.specs.Drafts.{ArePrices, ArePeasantRules, AreMenRules, AreRulesDraft, AreTables};
@@ -23,31 +23,43 @@ use toml::Table;
 /// What men cost and bring.
 #[derive(Drop)]
 pub struct Prices {
+    /// Money that each man costs a month, from 1 to `MOST_PER_HEAD`.
     pub maintenance: u32,
+    /// The most money that a man on guard takes as tax in a month, at most `MOST_PER_HEAD`.
     pub tax_per_man: u32,
+    /// Money that a recruit costs, from 1 to `MOST_PRICE`.
     pub recruit_price: u32,
 }
 
 /// What peasants do in a month.
 #[derive(Drop)]
 pub struct PeasantRules {
+    /// One of so many can be recruited, from 1 to `MOST_FRACTION`.
     pub recruit_fraction: u32,
+    /// The most births, in percent of the peasants, at most `MOST_GROWTH`.
     pub growth: u32,
+    /// Money that each earns its region, at most `MOST_PER_HEAD`.
     pub income: u32,
 }
 
 /// What men start with, weigh and carry.
 #[derive(Drop)]
 pub struct MenRules {
+    /// Money of the unit with which a faction joins, at most `MOST_AMOUNT`.
     pub start_money: u32,
+    /// The weight of a man, at most `MOST_WEIGHT`.
     pub man_weight: u32,
+    /// The weight of goods that a man carries, at most `MOST_WEIGHT`.
     pub man_carry: u32,
 }
 
-/// The skills that the rules speak of, by name.
+/// The skills that the rules speak of, by name, where the file names one.
 pub struct SkillNames {
+    /// The skill that finds hidden units.
     pub observation: Option<Text>,
+    /// The skill that hides units.
     pub stealth: Option<Text>,
+    /// The skill that sails ships.
     pub sailing: Option<Text>,
 }
 
@@ -166,7 +178,7 @@ impl Element for RulesDraft {
     }
 }
 
-/// The rules of the document.
+/// The rules of the document, or the first fault of the table. Missing where the document has no such table.
 #[tactic(auto, unfolding(crate::specs::RulesTable::rules_conditions, crate::specs::RulesTable::rules_in))]
 pub(crate) fn rules(alloc: Global, document: &Table) -> Result<RulesDraft, WorldFault>
     ensures value { Gives (λ r. r) result (first_fault (rules_conditions (table_view document.now))) (rules_in (table_view document.now)) }
@@ -176,7 +188,7 @@ pub(crate) fn rules(alloc: Global, document: &Table) -> Result<RulesDraft, World
     RulesDraft::read(alloc, "rules", t)
 }
 
-/// The rules, with skills by number.
+/// The rules, with skills by number. UnknownName at the first key whose skill isn't there.
 #[tactic(auto, unfolding(crate::specs::RulesTable::rules_known, crate::specs::RulesTable::rules_of))]
 pub(crate) fn resolve_rules(alloc: Global, all: &Tables) -> Result<Rules, WorldFault>
     requires { AreTables all.now }

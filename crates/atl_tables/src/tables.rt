@@ -70,6 +70,8 @@ pub(crate) trait Draft: Drop {
 
     ghost is_sound: { Tables → ℕ → Self.Record → Type 0 };
 
+    /// What it stands for as the i-th of its array, with the numbers of what its names name, or UnknownName at the first
+    /// name that names nothing. `Memory` may come at any point.
     fn resolve(&self, alloc: Global, all: &Tables, i: usize) -> Result<Self::Record, WorldFault>
         requires all { AreTables all.now }
         requires draft { is_draft self.now }

@@ -1,4 +1,4 @@
-//! The tables `[[terrain]]`.
+//! The tables `[[terrain]]`. See docs/FORMATS.md, "The world file".
 ghost use Rattle.std.specs.Prelude.{length};
 ghost use Rattle.atl_tables.specs.Drafts.{IsEconomy, IsTerrainDraft};
 ghost use Rattle.atl_tables.specs.Each.{each};
@@ -23,17 +23,24 @@ use toml::Table;
 /// What a region of a terrain pays, and the most that it holds.
 #[derive(Drop)]
 pub struct Economy {
+    /// Money that a month of work pays a man, from 1 to `MOST_PRICE`.
     pub wage: u32,
+    /// How many men find work in a month, at most `MOST_AMOUNT`.
     pub places: u32,
+    /// The most money that income brings a region to, at most `MOST_AMOUNT`.
     pub money_limit: u32,
+    /// The most peasants that births bring a region to, at most `MOST_AMOUNT`.
     pub peasant_limit: u32,
 }
 
 /// A terrain, with its output by names of items.
 pub struct TerrainDraft {
+    /// As the file writes it; it keeps the rule of names.
     pub name: Text,
+    /// Whether it is land, else it is water.
     pub land: bool,
     pub economy: Economy,
+    /// What a region gives in a month, in the byte order of the items' names.
     pub output: Sequence<Output>,
 }
 
@@ -130,7 +137,7 @@ impl Draft for TerrainDraft {
     }
 }
 
-/// That no two keys of the output of a terrain are equal, ignoring ASCII case.
+/// That no two keys of the output of a terrain are equal, ignoring ASCII case, else TwoNames at the second.
 #[tactic(auto, unfolding(crate::specs::TerrainTable::terrain_twins))]
 fn no_twins_in_output(alloc: Global, i: usize, draft: &TerrainDraft) -> Result<(), WorldFault>
     ensures { Gives (λ u. u) result (first_fault (terrain_twins i draft.now)) (tt {0}) }
@@ -140,7 +147,7 @@ fn no_twins_in_output(alloc: Global, i: usize, draft: &TerrainDraft) -> Result<(
     no_twin_keys(alloc, place.as_str(), draft.output.as_slice())
 }
 
-/// Likewise of all terrains.
+/// Likewise of all terrains, in the order of the file.
 pub(crate) fn no_twins_in_outputs(alloc: Global, drafts: &[TerrainDraft]) -> Result<(), WorldFault>
     ensures { Gives (λ u. u) result (first_fault (each terrain_twins 0 drafts.now)) (tt {0}) }
 {

@@ -8,50 +8,51 @@ use crate::sequence::Sequence;
 use crate::text::Text;
 use std::marker::Model;
 
-/// The numbers of the rules, and the skills that the rules speak of.
+/// The numbers of the rules, and the skills that the rules speak of. See docs/FORMATS.md, "The world file".
 #[derive(Drop, Clone, Copy, Debug)]
 pub struct Rules {
-    /// Money that each man costs a month.
+    /// Money that each man costs a month, from 1 to `MOST_PER_HEAD`.
     pub maintenance: u32,
-    /// The most money that a man on guard takes as tax in a month.
+    /// The most money that a man on guard takes as tax in a month, at most `MOST_PER_HEAD`.
     pub tax_per_man: u32,
-    /// Money that a recruit costs.
+    /// Money that a recruit costs, from 1 to `MOST_PRICE`.
     pub recruit_price: u32,
-    /// One of so many peasants can be recruited in a month.
+    /// One of so many peasants can be recruited in a month, from 1 to `MOST_FRACTION`.
     pub recruit_fraction: u32,
-    /// The most births in a month for each hundred peasants.
+    /// The most births in a month, in percent of the peasants, at most `MOST_GROWTH`.
     pub growth: u32,
-    /// Money that each peasant earns its region in a month.
+    /// Money that each peasant earns its region in a month, at most `MOST_PER_HEAD`.
     pub income: u32,
-    /// Money of the unit with which a faction joins.
+    /// Money of the unit with which a faction joins, at most `MOST_AMOUNT`.
     pub start_money: u32,
-    /// The weight of a man.
+    /// The weight of a man, at most `MOST_WEIGHT`.
     pub man_weight: u32,
-    /// The weight of goods that a man carries.
+    /// The weight of goods that a man carries, at most `MOST_WEIGHT`.
     pub man_carry: u32,
-    /// The number of the skill that finds hidden units.
+    /// The number of the skill that finds hidden units. Without one everybody's level in it is 0.
     pub observation: Option<u16>,
-    /// The number of the skill that hides units.
+    /// The number of the skill that hides units. Without one everybody's level in it is 0.
     pub stealth: Option<u16>,
-    /// The number of the skill that sails ships.
+    /// The number of the skill that sails ships. Without one everybody's level in it is 0.
     pub sailing: Option<u16>,
 }
 
 /// A sort of land or water.
 #[derive(Debug)]
 pub struct Terrain {
+    /// As the file writes it; no two terrains' names are equal, ignoring ASCII case.
     pub name: Text,
-    /// Whether it is land.
+    /// Whether it is land, else it is water.
     pub land: bool,
-    /// Money that a month of work pays a man.
+    /// Money that a month of work pays a man, from 1 to `MOST_PRICE`.
     pub wage: u32,
-    /// How many men find work in a month.
+    /// How many men find work in a region in a month, at most `MOST_AMOUNT`.
     pub places: u32,
-    /// The most money that its region holds.
+    /// The most money that income brings a region to, at most `MOST_AMOUNT`.
     pub money_limit: u32,
-    /// The most peasants that are born to its region.
+    /// The most peasants that births bring a region to, at most `MOST_AMOUNT`.
     pub peasant_limit: u32,
-    /// How much of each item, by its number, is found in a month.
+    /// How much of each item of the world, by its number, a region gives in a month, each at most `MOST_AMOUNT`.
     pub output: Sequence<u32>,
 }
 
@@ -72,73 +73,81 @@ impl Drop for Terrain {
 /// A thing that units hold and make.
 #[derive(Drop, Debug)]
 pub struct Item {
+    /// As the file writes it; no two items' names are equal, ignoring ASCII case.
     pub name: Text,
+    /// The weight of one, at most `MOST_WEIGHT`.
     pub weight: u32,
-    /// The weight of goods that one of it carries.
+    /// The weight of goods that one carries, at most `MOST_WEIGHT`.
     pub carry: u32,
-    /// The number of the skill that makes it.
+    /// The number of the skill that makes it. Without one nobody can make it.
     pub skill: Option<u16>,
-    /// The level that making it takes.
+    /// The level of that skill that making it takes, from 1 to `LAST_LEVEL`.
     pub level: u32,
-    /// The number of the item that it is made of.
+    /// The number of the item that it is made of, another one. Without one it comes out of the output of terrains.
     pub raw: Option<u16>,
-    /// How many raw items go into one.
+    /// How many raw items go into one, from 1 to `MOST_RAW_COUNT`.
     pub raw_count: u32,
 }
 
 /// What men study.
 #[derive(Drop, Debug)]
 pub struct Skill {
+    /// As the file writes it; no two skills' names are equal, ignoring ASCII case.
     pub name: Text,
-    /// Money that a month of study costs a man.
+    /// Money that a month of study costs a man, at most `MOST_PRICE`.
     pub fee: u32,
 }
 
 /// A kind of building or ship.
 #[derive(Drop, Debug)]
 pub struct Kind {
+    /// As the file writes it; no two kinds' names are equal, ignoring ASCII case.
     pub name: Text,
-    /// Whether it is a ship.
+    /// Whether it is a ship, else it is a building.
     pub ship: bool,
     /// The number of the item that it is built of.
     pub material: u16,
-    /// How much material makes it complete.
+    /// How much material makes it complete, from 1 to `MOST_SIZE`.
     pub size: u32,
     /// The number of the skill that builds it.
     pub skill: u16,
-    /// The level that building it takes.
+    /// The level of that skill that building it takes, from 1 to `LAST_LEVEL`.
     pub level: u32,
-    /// The weight that a ship carries.
+    /// The most weight of men and goods with which it sails, at most `MOST_AMOUNT`.
     pub capacity: u32,
-    /// The men times levels of sailing that a ship takes.
+    /// What men times their level of sailing, of all inside together, must come to for it to sail, at most `MOST_SIZE`.
     pub crew: u32,
-    /// The number of the skill that is studied better inside.
+    /// The number of the skill that is studied better inside, where there is one.
     pub helps: Option<u16>,
 }
 
-/// A region as the world file has it.
+/// A region as the world file has it. Its neighbours are regions of the world that have it as theirs on the opposite side.
 #[derive(Drop, Debug)]
 pub struct RegionPlan {
+    /// From 1 to `LAST_REGION`; no two regions have one number.
     pub number: u32,
+    /// As the file writes it. Regions may share a name.
     pub name: Text,
     /// The number of its terrain.
     pub terrain: u16,
-    /// Peasants at founding.
+    /// Peasants at founding, at most `MOST_AMOUNT`.
     pub peasants: u32,
-    /// Money at founding.
+    /// Money at founding, at most `MOST_AMOUNT`.
     pub money: u32,
-    /// The number of the region in the north.
+    /// The number of the region in the north, where there is one.
     pub north: Option<u32>,
-    /// The number of the region in the south.
+    /// The number of the region in the south, where there is one.
     pub south: Option<u32>,
-    /// The number of the region in the east.
+    /// The number of the region in the east, where there is one.
     pub east: Option<u32>,
-    /// The number of the region in the west.
+    /// The number of the region in the west, where there is one.
     pub west: Option<u32>,
 }
 
-/// A whole world. Its terrains, items, skills and kinds are numbered from 0 in the order of the file, its regions stand
-/// under their own numbers.
+/// A whole world: what a world file without fault describes. Its terrains, items, skills and kinds are numbered from 0 in
+/// the order of the file, its regions stand under their own numbers. There are at most `MOST_TERRAINS`, `MOST_ITEMS`,
+/// `MOST_SKILLS`, `MOST_KINDS` and `MOST_REGIONS` of them, some region is land, and each number of one in another is of one
+/// that is there. See docs/FORMATS.md, "The world file".
 pub struct World {
     rules: Rules,
     terrains: Sequence<Terrain>,
