@@ -35,22 +35,22 @@ abbrev pub optional : {A : Type 0} → (Data → Result A WorldFault) → Option
 optional read None = Ok None
 optional read (Some d) = some_of (read d)
 
--- a value of its type, a whole number from lo to hi, a name
+-- a value of its type, a whole number from least to most, a name
 abbrev pub typed : {A : Type 0} → List ℕ → Option A → Result A WorldFault
 typed p None = Err (WrongType p)
 typed p (Some x) = Ok x
 
 abbrev pub within : ℕ → ℕ → ℤ → Option ℕ
-within lo hi (pos n) = if nat_le lo n && nat_le n hi then Some n else None
-within lo hi (negsuc n) = None
+within least most (pos n) = if nat_le least n && nat_le n most then Some n else None
+within least most (negsuc n) = None
 
 abbrev pub in_range : {A : Type 0} → List ℕ → Option A → Result A WorldFault
 in_range p None = Err (OutOfRange p)
 in_range p (Some x) = Ok x
 
 abbrev pub ranged : List ℕ → ℕ → ℕ → Option ℤ → Result ℕ WorldFault
-ranged p lo hi None = Err (WrongType p)
-ranged p lo hi (Some z) = in_range p (within lo hi z)
+ranged p least most None = Err (WrongType p)
+ranged p least most (Some z) = in_range p (within least most z)
 
 abbrev pub named : List ℕ → Option (List ℕ) → Result (List ℕ) WorldFault
 named p None = Err (WrongType p)
@@ -58,7 +58,7 @@ named p (Some s) = if name_ok s then Ok s else Err (OutOfRange p)
 
 -- ---- under a key of the table at a path: a number, a name, a text, a truth value
 unfoldable pub number_at : ℕ → ℕ → List ℕ → List ℕ → Members → Result ℕ WorldFault
-number_at lo hi key at t = present (path at key) (λ d. ranged (path at key) lo hi (as_integer d)) (get_member key t)
+number_at least most key at t = present (path at key) (λ d. ranged (path at key) least most (as_integer d)) (get_member key t)
 
 unfoldable pub name_at : List ℕ → List ℕ → Members → Result (List ℕ) WorldFault
 name_at key at t = present (path at key) (λ d. named (path at key) (as_str d)) (get_member key t)
@@ -71,10 +71,10 @@ flag_at key at t = present (path at key) (λ d. typed (path at key) (as_bool d))
 
 -- a number with a default, a number or a text that may be missing, a table that is empty where it is missing
 unfoldable pub number_or_at : ℕ → ℕ → ℕ → List ℕ → List ℕ → Members → Result ℕ WorldFault
-number_or_at default lo hi key at t = or_else default (λ d. ranged (path at key) lo hi (as_integer d)) (get_member key t)
+number_or_at default least most key at t = or_else default (λ d. ranged (path at key) least most (as_integer d)) (get_member key t)
 
 unfoldable pub optional_number_at : ℕ → ℕ → List ℕ → List ℕ → Members → Result (Option ℕ) WorldFault
-optional_number_at lo hi key at t = optional (λ d. ranged (path at key) lo hi (as_integer d)) (get_member key t)
+optional_number_at least most key at t = optional (λ d. ranged (path at key) least most (as_integer d)) (get_member key t)
 
 unfoldable pub optional_text_at : List ℕ → List ℕ → Members → Result (Option (List ℕ)) WorldFault
 optional_text_at key at t = optional (λ d. typed (path at key) (as_str d)) (get_member key t)

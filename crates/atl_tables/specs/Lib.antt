@@ -1,4 +1,5 @@
 pub mod Limits
+pub mod Letters
 pub mod Texts
 pub mod Names
 pub mod Faults

@@ -17,6 +17,14 @@ most_kinds = 100
 abbrev pub most_regions : ℕ
 most_regions = 2500
 
+-- things of one sort are numbered from 0 in 16 bits, so no sort has more
+abbrev pub most_numbered : ℕ
+most_numbered = 65536
+
+-- so many numbers of 32 bits there are, under which values stand
+abbrev pub number_count : ℕ
+number_count = 4294967296
+
 -- the highest number of a region
 abbrev pub last_region : ℕ
 last_region = 9999

@@ -1,11 +1,12 @@
 -- The things of a world that a word names.
 use Rattle.std.specs.Prelude.{ℕ, Bool, List, map, position, Option, ◌==◌, if◌then◌else◌}
 use Rattle.std.specs.Str.{str_eq_ignore_ascii_case}
+use Rattle.atl_tables.specs.Letters.{space, underscore}
 use Rattle.atl_tables.specs.Planet.{Planet}
 
 -- a byte of a name: `_` stands for a space where the word is bare
 abbrev pub letter_of : Bool → ℕ → ℕ
-letter_of quoted b = if quoted then b else if b == 95 then 32 else b
+letter_of quoted b = if quoted then b else if b == underscore then space else b
 
 -- what a word names
 abbrev pub name_of : List ℕ → Bool → List ℕ

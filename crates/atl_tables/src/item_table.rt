@@ -4,6 +4,7 @@ ghost use Rattle.atl_tables.specs.Drafts.{IsMaking, IsItemDraft};
 ghost use Rattle.atl_tables.specs.Given.{Gives};
 ghost use Rattle.atl_tables.specs.ItemTable.{making_keys, making_from, item_keys, item_from, other_than, item_known, item_of};
 ghost use Rattle.atl_tables.specs.Keys.{path};
+ghost use Rattle.atl_tables.specs.Limits.{most_numbered};
 ghost use Rattle.atl_tables.specs.Planet.{IsItem};
 ghost use Rattle.atl_tables.specs.Titles.{number_of, known_or_absent};
 
@@ -71,11 +72,11 @@ impl Element for Making {
     ghost is_sound = { IsMaking };
 
     #[tactic(auto, unfolding(crate::specs::ItemTable::making_keys, crate::specs::ItemTable::making_from))]
-    fn read(alloc: Global, at: &str, t: &Table) -> Result<Making, WorldFault> {
-        let skill = keys::optional_text(alloc, "skill", at, t)?;
-        let level = keys::number_or(alloc, 1, 1, LAST_LEVEL, "level", at, t)?;
-        let raw = keys::optional_text(alloc, "raw", at, t)?;
-        let raw_count = keys::number_or(alloc, 1, 1, MOST_RAW_COUNT, "raw_count", at, t)?;
+    fn read(alloc: Global, at: &str, table: &Table) -> Result<Making, WorldFault> {
+        let skill = keys::optional_text(alloc, "skill", at, table)?;
+        let level = keys::number_or(alloc, 1, 1, LAST_LEVEL, "level", at, table)?;
+        let raw = keys::optional_text(alloc, "raw", at, table)?;
+        let raw_count = keys::number_or(alloc, 1, 1, MOST_RAW_COUNT, "raw_count", at, table)?;
         Ok(Making {
             skill,
             level,
@@ -93,11 +94,11 @@ impl Element for ItemDraft {
     ghost is_sound = { IsItemDraft };
 
     #[tactic(auto, unfolding(crate::specs::ItemTable::item_keys, crate::specs::ItemTable::item_from))]
-    fn read(alloc: Global, at: &str, t: &Table) -> Result<ItemDraft, WorldFault> {
-        let name = keys::name(alloc, "name", at, t)?;
-        let weight = keys::number(alloc, 0, MOST_WEIGHT, "weight", at, t)?;
-        let carry = keys::number(alloc, 0, MOST_WEIGHT, "carry", at, t)?;
-        let making = Making::read(alloc, at, t)?;
+    fn read(alloc: Global, at: &str, table: &Table) -> Result<ItemDraft, WorldFault> {
+        let name = keys::name(alloc, "name", at, table)?;
+        let weight = keys::number(alloc, 0, MOST_WEIGHT, "weight", at, table)?;
+        let carry = keys::number(alloc, 0, MOST_WEIGHT, "carry", at, table)?;
+        let making = Making::read(alloc, at, table)?;
         Ok(ItemDraft {
             name,
             weight,
@@ -118,7 +119,7 @@ impl Titled for ItemDraft {
 /// The number of the first item of this name, where that is another one than the i-th.
 #[tactic(auto, unfolding(crate::specs::Titles::number_of))]
 fn other_item(items: &[ItemDraft], i: usize, name: &Text) -> Option<u16>
-    requires { length items.now ≤ 65536 }
+    requires { length items.now ≤ most_numbered }
     ensures value { result ≡ other_than i (number_of (λ d. d.name) items.now name.now) }
     ensures same { IfSome result (λ n. number_of (λ d. d.name) items.now name.now ≡ Some n) }
     ensures below { IfSome result (λ n. n < length items.now) }
@@ -145,7 +146,7 @@ fn raw_item(
     at: &str,
     name: &Option<Text>,
 ) -> Result<Option<u16>, WorldFault>
-    requires { length items.now ≤ 65536 }
+    requires { length items.now ≤ most_numbered }
     ensures value { Gives (λ n. n) result (known_or_absent (path at.now (codes "raw")) (λ name. other_than i (number_of (λ d. d.name) items.now name)) name.now) (option_and_then (number_of (λ d. d.name) items.now) name.now) }
     ensures below { IfOk result (λ o. IfSome o (λ n. n < length items.now)) }
     ensures other { IfOk result (λ o. IfSome o (λ n. n ≢ i)) }

@@ -34,39 +34,39 @@ pub(crate) fn member<'a>(table: &'a Table, key: &str) -> Option<&'a Value>
     table.get(key)
 }
 
-/// The number, where it is from `lo` to `hi`.
-fn within(lo: u32, hi: u32, number: i64) -> Option<u32>
-    ensures value { result ≡ within lo hi number }
-    ensures least { IfSome result (λ n. lo ≤ n) }
-    ensures most { IfSome result (λ n. n ≤ hi) }
+/// The number, where it is from `least` to `most`.
+fn within(least: u32, most: u32, number: i64) -> Option<u32>
+    ensures value { result ≡ within least most number }
+    ensures least { IfSome result (λ n. least ≤ n) }
+    ensures most { IfSome result (λ n. n ≤ most) }
 {
-    if number < 0 || number > 4_294_967_295 {
+    if number < 0 || number > i64::from(u32::MAX) {
         return None;
     }
     let number = number as u32;
-    if lo <= number && number <= hi {
+    if least <= number && number <= most {
         Some(number)
     } else {
         None
     }
 }
 
-/// The number that a value is, from `lo` to `hi`.
+/// The number that a value is, from `least` to `most`.
 pub(crate) fn ranged(
     alloc: Global,
-    lo: u32,
-    hi: u32,
+    least: u32,
+    most: u32,
     key: &str,
     at: &str,
     value: &Value,
 ) -> Result<u32, WorldFault>
-    ensures value { Reads (λ n. n) result (ranged (path at.now key.now) lo hi (as_integer (view value.now))) }
-    ensures least { IfOk result (λ n. lo ≤ n) }
-    ensures most { IfOk result (λ n. n ≤ hi) }
+    ensures value { Reads (λ n. n) result (ranged (path at.now key.now) least most (as_integer (view value.now))) }
+    ensures least { IfOk result (λ n. least ≤ n) }
+    ensures most { IfOk result (λ n. n ≤ most) }
 {
     match value.as_integer() {
         None => Err(WorldFault::WrongType(path(alloc, at, key)?)),
-        Some(number) => match within(lo, hi, number) {
+        Some(number) => match within(least, most, number) {
             None => Err(WorldFault::OutOfRange(path(alloc, at, key)?)),
             Some(number) => Ok(number),
         },
@@ -77,19 +77,19 @@ pub(crate) fn ranged(
 #[tactic(auto, unfolding(crate::specs::Keys::number_at))]
 pub(crate) fn number(
     alloc: Global,
-    lo: u32,
-    hi: u32,
+    least: u32,
+    most: u32,
     key: &str,
     at: &str,
     table: &Table,
 ) -> Result<u32, WorldFault>
-    ensures value { Reads (λ n. n) result (number_at lo hi key.now at.now (table_view table.now)) }
-    ensures least { IfOk result (λ n. lo ≤ n) }
-    ensures most { IfOk result (λ n. n ≤ hi) }
+    ensures value { Reads (λ n. n) result (number_at least most key.now at.now (table_view table.now)) }
+    ensures least { IfOk result (λ n. least ≤ n) }
+    ensures most { IfOk result (λ n. n ≤ most) }
 {
     match member(table, key) {
         None => Err(WorldFault::Missing(path(alloc, at, key)?)),
-        Some(value) => ranged(alloc, lo, hi, key, at, value),
+        Some(value) => ranged(alloc, least, most, key, at, value),
     }
 }
 
@@ -98,21 +98,21 @@ pub(crate) fn number(
 pub(crate) fn number_or(
     alloc: Global,
     default: u32,
-    lo: u32,
-    hi: u32,
+    least: u32,
+    most: u32,
     key: &str,
     at: &str,
     table: &Table,
 ) -> Result<u32, WorldFault>
-    requires least { lo ≤ default }
-    requires most { default ≤ hi }
-    ensures value { Reads (λ n. n) result (number_or_at default lo hi key.now at.now (table_view table.now)) }
-    ensures least { IfOk result (λ n. lo ≤ n) }
-    ensures most { IfOk result (λ n. n ≤ hi) }
+    requires least { least ≤ default }
+    requires most { default ≤ most }
+    ensures value { Reads (λ n. n) result (number_or_at default least most key.now at.now (table_view table.now)) }
+    ensures least { IfOk result (λ n. least ≤ n) }
+    ensures most { IfOk result (λ n. n ≤ most) }
 {
     match member(table, key) {
         None => Ok(default),
-        Some(value) => ranged(alloc, lo, hi, key, at, value),
+        Some(value) => ranged(alloc, least, most, key, at, value),
     }
 }
 
@@ -120,18 +120,18 @@ pub(crate) fn number_or(
 #[tactic(auto, unfolding(crate::specs::Keys::optional_number_at))]
 pub(crate) fn optional_number(
     alloc: Global,
-    lo: u32,
-    hi: u32,
+    least: u32,
+    most: u32,
     key: &str,
     at: &str,
     table: &Table,
 ) -> Result<Option<u32>, WorldFault>
-    ensures { Reads (λ o. o) result (optional_number_at lo hi key.now at.now (table_view table.now)) }
+    ensures { Reads (λ o. o) result (optional_number_at least most key.now at.now (table_view table.now)) }
 {
     match member(table, key) {
         None => Ok(None),
         Some(value) => {
-            let number = ranged(alloc, lo, hi, key, at, value)?;
+            let number = ranged(alloc, least, most, key, at, value)?;
             Ok(Some(number))
         }
     }

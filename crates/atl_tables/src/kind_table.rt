@@ -78,11 +78,11 @@ impl Element for Building {
     ghost is_sound = { IsBuilding };
 
     #[tactic(auto, unfolding(crate::specs::KindTable::building_keys, crate::specs::KindTable::building_from))]
-    fn read(alloc: Global, at: &str, t: &Table) -> Result<Building, WorldFault> {
-        let material = keys::text(alloc, "material", at, t)?;
-        let size = keys::number(alloc, 1, MOST_SIZE, "size", at, t)?;
-        let skill = keys::text(alloc, "skill", at, t)?;
-        let level = keys::number(alloc, 1, LAST_LEVEL, "level", at, t)?;
+    fn read(alloc: Global, at: &str, table: &Table) -> Result<Building, WorldFault> {
+        let material = keys::text(alloc, "material", at, table)?;
+        let size = keys::number(alloc, 1, MOST_SIZE, "size", at, table)?;
+        let skill = keys::text(alloc, "skill", at, table)?;
+        let level = keys::number(alloc, 1, LAST_LEVEL, "level", at, table)?;
         Ok(Building {
             material,
             size,
@@ -100,10 +100,10 @@ impl Element for Purpose {
     ghost is_sound = { IsPurpose };
 
     #[tactic(auto, unfolding(crate::specs::KindTable::purpose_keys, crate::specs::KindTable::purpose_from))]
-    fn read(alloc: Global, at: &str, t: &Table) -> Result<Purpose, WorldFault> {
-        let capacity = keys::number_or(alloc, 0, 0, MOST_AMOUNT, "capacity", at, t)?;
-        let crew = keys::number_or(alloc, 0, 0, MOST_SIZE, "crew", at, t)?;
-        let helps = keys::optional_text(alloc, "helps", at, t)?;
+    fn read(alloc: Global, at: &str, table: &Table) -> Result<Purpose, WorldFault> {
+        let capacity = keys::number_or(alloc, 0, 0, MOST_AMOUNT, "capacity", at, table)?;
+        let crew = keys::number_or(alloc, 0, 0, MOST_SIZE, "crew", at, table)?;
+        let helps = keys::optional_text(alloc, "helps", at, table)?;
         Ok(Purpose {
             capacity,
             crew,
@@ -120,11 +120,11 @@ impl Element for KindDraft {
     ghost is_sound = { IsKindDraft };
 
     #[tactic(auto, unfolding(crate::specs::KindTable::kind_keys, crate::specs::KindTable::kind_from))]
-    fn read(alloc: Global, at: &str, t: &Table) -> Result<KindDraft, WorldFault> {
-        let name = keys::name(alloc, "name", at, t)?;
-        let ship = keys::flag(alloc, "ship", at, t)?;
-        let building = Building::read(alloc, at, t)?;
-        let purpose = Purpose::read(alloc, at, t)?;
+    fn read(alloc: Global, at: &str, table: &Table) -> Result<KindDraft, WorldFault> {
+        let name = keys::name(alloc, "name", at, table)?;
+        let ship = keys::flag(alloc, "ship", at, table)?;
+        let building = Building::read(alloc, at, table)?;
+        let purpose = Purpose::read(alloc, at, table)?;
         Ok(KindDraft {
             name,
             ship,

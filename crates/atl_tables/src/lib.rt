@@ -7,6 +7,7 @@ mod fault;
 mod item_table;
 mod keys;
 mod kind_table;
+pub mod letters;
 pub mod limits;
 pub mod lookup;
 mod marked;

@@ -46,4 +46,4 @@ pub const LAST_LEVEL: u32 = 5;
 pub(crate) const MOST_RAW_COUNT: u32 = 1_000;
 
 /// The largest size and crew of a structure.
-pub(crate) const MOST_SIZE: u32 = 999_999;
+pub const MOST_SIZE: u32 = 999_999;

@@ -3,6 +3,7 @@ ghost use Rattle.std.specs.Prelude.{◌≡◌, ◌<◌, length, IfSome};
 ghost use Rattle.std.specs.Str.{str_eq_ignore_ascii_case};
 ghost use Rattle.atl_tables.specs.Lookup.{letter_of, name_of, place_named, item_named, skill_named, kind_named};
 
+use crate::letters::{SPACE, UNDERSCORE};
 use crate::text::Text;
 use crate::titled::Titled;
 use crate::world::{Item, Kind, World};
@@ -27,7 +28,11 @@ impl Titled for Kind {
 pub fn letter_of(byte: u8, quoted: bool) -> u8
     ensures { result ≡ letter_of quoted byte }
 {
-    if !quoted && byte == b'_' { b' ' } else { byte }
+    if !quoted && byte == UNDERSCORE {
+        SPACE
+    } else {
+        byte
+    }
 }
 
 /// Whether a word is this name, ignoring ASCII case.

@@ -4,6 +4,7 @@ ghost use Rattle.std.specs.List.{list_all};
 ghost use Rattle.atl_tables.specs.Names.{name_ok, pass_ok, is_short, is_name_byte, is_pass_byte, has_open_ends};
 ghost use Rattle.atl_tables.specs.Lookup.{name_of};
 
+use crate::letters::{QUOTE, SPACE, TILDE};
 use crate::limits::MOST_NAME_BYTES;
 use crate::lookup::letter_of;
 
@@ -16,13 +17,13 @@ fn is_short(text: &[u8]) -> bool
 fn is_name_byte(byte: u8) -> bool
     ensures { result ≡ is_name_byte byte }
 {
-    32 <= byte && byte <= 126 && byte != b'"'
+    SPACE <= byte && byte <= TILDE && byte != QUOTE
 }
 
 fn is_pass_byte(byte: u8) -> bool
     ensures { result ≡ is_pass_byte byte }
 {
-    33 <= byte && byte <= 126
+    SPACE < byte && byte <= TILDE
 }
 
 /// Whether no space is at either end of what a word names.
@@ -34,7 +35,7 @@ fn has_open_ends(word: &[u8], quoted: bool) -> bool
     }
     let first = letter_of(word[0], quoted);
     let last = letter_of(word[word.len() - 1], quoted);
-    first != b' ' && last != b' '
+    first != SPACE && last != SPACE
 }
 
 /// Whether what a word names has only bytes of names.

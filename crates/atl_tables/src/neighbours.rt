@@ -9,7 +9,7 @@ ghost use Rattle.atl_tables.specs.Keys.{path};
 ghost use Rattle.atl_tables.specs.Neighbours.{on_side, is_number, neighbour, neighbours_at};
 ghost use Rattle.atl_tables.specs.Planet.{LeadsBack, HasNeighbours};
 
-use crate::direction::Direction;
+use crate::direction::Direction::{self, East, North, South, West};
 use crate::fault::WorldFault;
 use crate::keys::{indexed, path};
 use crate::numbered::Numbered;
@@ -21,10 +21,10 @@ fn on_side(side: Direction, plan: &RegionPlan) -> Option<u32>
     ensures { result ≡ on_side side plan.now }
 {
     match side {
-        Direction::North => plan.north,
-        Direction::South => plan.south,
-        Direction::East => plan.east,
-        Direction::West => plan.west,
+        North => plan.north,
+        South => plan.south,
+        East => plan.east,
+        West => plan.west,
     }
 }
 
@@ -85,42 +85,10 @@ fn neighbours_of(
     let at = place.as_str();
     let number = draft.place.number;
     let sides = &draft.sides;
-    neighbour(
-        alloc,
-        "north",
-        at,
-        regions,
-        Direction::South,
-        number,
-        sides.north,
-    )?;
-    neighbour(
-        alloc,
-        "south",
-        at,
-        regions,
-        Direction::North,
-        number,
-        sides.south,
-    )?;
-    neighbour(
-        alloc,
-        "east",
-        at,
-        regions,
-        Direction::West,
-        number,
-        sides.east,
-    )?;
-    neighbour(
-        alloc,
-        "west",
-        at,
-        regions,
-        Direction::East,
-        number,
-        sides.west,
-    )
+    neighbour(alloc, "north", at, regions, South, number, sides.north)?;
+    neighbour(alloc, "south", at, regions, North, number, sides.south)?;
+    neighbour(alloc, "east", at, regions, West, number, sides.east)?;
+    neighbour(alloc, "west", at, regions, East, number, sides.west)
 }
 
 /// That the neighbours of all regions are mutual.

@@ -52,11 +52,15 @@ fn amounts(alloc: Global, at: &str, table: &Table) -> Result<Sequence<Output>, W
 
 /// The output of a terrain, or none.
 #[tactic(auto, unfolding(crate::specs::OutputTable::output_keys, crate::specs::OutputTable::output_from, crate::specs::OutputTable::in_byte_order, crate::specs::Keys::optional_table_at))]
-pub(crate) fn outputs(alloc: Global, at: &str, t: &Table) -> Result<Sequence<Output>, WorldFault>
-    ensures value { Gives (λ v. v) result (first_fault (output_keys at.now (table_view t.now))) (output_from at.now (table_view t.now)) }
+pub(crate) fn outputs(
+    alloc: Global,
+    at: &str,
+    table: &Table,
+) -> Result<Sequence<Output>, WorldFault>
+    ensures value { Gives (λ v. v) result (first_fault (output_keys at.now (table_view table.now))) (output_from at.now (table_view table.now)) }
     ensures sound { IfOk result (λ v. All IsOutput v) }
 {
-    match member(t, "output") {
+    match member(table, "output") {
         None => Ok(Sequence::new(alloc)),
         Some(value) => {
             let place = path(alloc, at, "output")?;

@@ -68,12 +68,12 @@ impl Element for Place {
     ghost is_sound = { IsPlace };
 
     #[tactic(auto, unfolding(crate::specs::RegionTable::place_keys, crate::specs::RegionTable::place_from))]
-    fn read(alloc: Global, at: &str, t: &Table) -> Result<Place, WorldFault> {
-        let number = keys::number(alloc, 1, LAST_REGION, "number", at, t)?;
-        let name = keys::name(alloc, "name", at, t)?;
-        let terrain = keys::text(alloc, "terrain", at, t)?;
-        let peasants = keys::number(alloc, 0, MOST_AMOUNT, "peasants", at, t)?;
-        let money = keys::number(alloc, 0, MOST_AMOUNT, "money", at, t)?;
+    fn read(alloc: Global, at: &str, table: &Table) -> Result<Place, WorldFault> {
+        let number = keys::number(alloc, 1, LAST_REGION, "number", at, table)?;
+        let name = keys::name(alloc, "name", at, table)?;
+        let terrain = keys::text(alloc, "terrain", at, table)?;
+        let peasants = keys::number(alloc, 0, MOST_AMOUNT, "peasants", at, table)?;
+        let money = keys::number(alloc, 0, MOST_AMOUNT, "money", at, table)?;
         Ok(Place {
             number,
             name,
@@ -85,13 +85,13 @@ impl Element for Place {
 }
 
 #[tactic(auto, unfolding(crate::specs::RegionTable::side_keys, crate::specs::RegionTable::sides_from))]
-fn read_sides(alloc: Global, at: &str, t: &Table) -> Result<Sides, WorldFault>
-    ensures { Gives (λ s. s) result (first_fault (side_keys at.now (table_view t.now))) (sides_from at.now (table_view t.now)) }
+fn read_sides(alloc: Global, at: &str, table: &Table) -> Result<Sides, WorldFault>
+    ensures { Gives (λ s. s) result (first_fault (side_keys at.now (table_view table.now))) (sides_from at.now (table_view table.now)) }
 {
-    let north = keys::optional_number(alloc, 1, LAST_REGION, "north", at, t)?;
-    let south = keys::optional_number(alloc, 1, LAST_REGION, "south", at, t)?;
-    let east = keys::optional_number(alloc, 1, LAST_REGION, "east", at, t)?;
-    let west = keys::optional_number(alloc, 1, LAST_REGION, "west", at, t)?;
+    let north = keys::optional_number(alloc, 1, LAST_REGION, "north", at, table)?;
+    let south = keys::optional_number(alloc, 1, LAST_REGION, "south", at, table)?;
+    let east = keys::optional_number(alloc, 1, LAST_REGION, "east", at, table)?;
+    let west = keys::optional_number(alloc, 1, LAST_REGION, "west", at, table)?;
     Ok(Sides {
         north,
         south,
@@ -108,9 +108,9 @@ impl Element for RegionDraft {
     ghost is_sound = { IsRegionDraft };
 
     #[tactic(auto, unfolding(crate::specs::RegionTable::region_keys, crate::specs::RegionTable::region_from))]
-    fn read(alloc: Global, at: &str, t: &Table) -> Result<RegionDraft, WorldFault> {
-        let place = Place::read(alloc, at, t)?;
-        let sides = read_sides(alloc, at, t)?;
+    fn read(alloc: Global, at: &str, table: &Table) -> Result<RegionDraft, WorldFault> {
+        let place = Place::read(alloc, at, table)?;
+        let sides = read_sides(alloc, at, table)?;
         Ok(RegionDraft { place, sides })
     }
 }

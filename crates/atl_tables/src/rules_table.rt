@@ -90,10 +90,10 @@ impl Element for Prices {
     ghost is_sound = { ArePrices };
 
     #[tactic(auto, unfolding(crate::specs::RulesTable::price_keys, crate::specs::RulesTable::prices_from))]
-    fn read(alloc: Global, at: &str, t: &Table) -> Result<Prices, WorldFault> {
-        let maintenance = keys::number(alloc, 1, MOST_PER_HEAD, "maintenance", at, t)?;
-        let tax_per_man = keys::number(alloc, 0, MOST_PER_HEAD, "tax_per_man", at, t)?;
-        let recruit_price = keys::number(alloc, 1, MOST_PRICE, "recruit_price", at, t)?;
+    fn read(alloc: Global, at: &str, table: &Table) -> Result<Prices, WorldFault> {
+        let maintenance = keys::number(alloc, 1, MOST_PER_HEAD, "maintenance", at, table)?;
+        let tax_per_man = keys::number(alloc, 0, MOST_PER_HEAD, "tax_per_man", at, table)?;
+        let recruit_price = keys::number(alloc, 1, MOST_PRICE, "recruit_price", at, table)?;
         Ok(Prices {
             maintenance,
             tax_per_man,
@@ -110,10 +110,17 @@ impl Element for PeasantRules {
     ghost is_sound = { ArePeasantRules };
 
     #[tactic(auto, unfolding(crate::specs::RulesTable::peasant_keys, crate::specs::RulesTable::peasants_from))]
-    fn read(alloc: Global, at: &str, t: &Table) -> Result<PeasantRules, WorldFault> {
-        let recruit_fraction = keys::number(alloc, 1, MOST_FRACTION, "recruit_fraction", at, t)?;
-        let growth = keys::number(alloc, 0, MOST_GROWTH, "growth", at, t)?;
-        let income = keys::number(alloc, 0, MOST_PER_HEAD, "income", at, t)?;
+    fn read(alloc: Global, at: &str, table: &Table) -> Result<PeasantRules, WorldFault> {
+        let recruit_fraction = keys::number(
+            alloc,
+            1,
+            MOST_FRACTION,
+            "recruit_fraction",
+            at,
+            table,
+        )?;
+        let growth = keys::number(alloc, 0, MOST_GROWTH, "growth", at, table)?;
+        let income = keys::number(alloc, 0, MOST_PER_HEAD, "income", at, table)?;
         Ok(PeasantRules {
             recruit_fraction,
             growth,
@@ -130,10 +137,10 @@ impl Element for MenRules {
     ghost is_sound = { AreMenRules };
 
     #[tactic(auto, unfolding(crate::specs::RulesTable::men_keys, crate::specs::RulesTable::men_from))]
-    fn read(alloc: Global, at: &str, t: &Table) -> Result<MenRules, WorldFault> {
-        let start_money = keys::number(alloc, 0, MOST_AMOUNT, "start_money", at, t)?;
-        let man_weight = keys::number(alloc, 0, MOST_WEIGHT, "man_weight", at, t)?;
-        let man_carry = keys::number(alloc, 0, MOST_WEIGHT, "man_carry", at, t)?;
+    fn read(alloc: Global, at: &str, table: &Table) -> Result<MenRules, WorldFault> {
+        let start_money = keys::number(alloc, 0, MOST_AMOUNT, "start_money", at, table)?;
+        let man_weight = keys::number(alloc, 0, MOST_WEIGHT, "man_weight", at, table)?;
+        let man_carry = keys::number(alloc, 0, MOST_WEIGHT, "man_carry", at, table)?;
         Ok(MenRules {
             start_money,
             man_weight,
@@ -143,12 +150,12 @@ impl Element for MenRules {
 }
 
 #[tactic(auto, unfolding(crate::specs::RulesTable::skill_name_keys, crate::specs::RulesTable::skill_names_from))]
-fn skill_names(alloc: Global, at: &str, t: &Table) -> Result<SkillNames, WorldFault>
-    ensures { Gives (λ s. s) result (first_fault (skill_name_keys at.now (table_view t.now))) (skill_names_from at.now (table_view t.now)) }
+fn skill_names(alloc: Global, at: &str, table: &Table) -> Result<SkillNames, WorldFault>
+    ensures { Gives (λ s. s) result (first_fault (skill_name_keys at.now (table_view table.now))) (skill_names_from at.now (table_view table.now)) }
 {
-    let observation = keys::optional_text(alloc, "observation", at, t)?;
-    let stealth = keys::optional_text(alloc, "stealth", at, t)?;
-    let sailing = keys::optional_text(alloc, "sailing", at, t)?;
+    let observation = keys::optional_text(alloc, "observation", at, table)?;
+    let stealth = keys::optional_text(alloc, "stealth", at, table)?;
+    let sailing = keys::optional_text(alloc, "sailing", at, table)?;
     Ok(SkillNames {
         observation,
         stealth,
@@ -164,11 +171,11 @@ impl Element for RulesDraft {
     ghost is_sound = { AreRulesDraft };
 
     #[tactic(auto, unfolding(crate::specs::RulesTable::rules_keys, crate::specs::RulesTable::rules_from))]
-    fn read(alloc: Global, at: &str, t: &Table) -> Result<RulesDraft, WorldFault> {
-        let prices = Prices::read(alloc, at, t)?;
-        let peasants = PeasantRules::read(alloc, at, t)?;
-        let men = MenRules::read(alloc, at, t)?;
-        let skills = skill_names(alloc, at, t)?;
+    fn read(alloc: Global, at: &str, table: &Table) -> Result<RulesDraft, WorldFault> {
+        let prices = Prices::read(alloc, at, table)?;
+        let peasants = PeasantRules::read(alloc, at, table)?;
+        let men = MenRules::read(alloc, at, table)?;
+        let skills = skill_names(alloc, at, table)?;
         Ok(RulesDraft {
             prices,
             peasants,
@@ -184,8 +191,8 @@ pub(crate) fn rules(alloc: Global, document: &Table) -> Result<RulesDraft, World
     ensures value { Gives (λ r. r) result (first_fault (rules_conditions (table_view document.now))) (rules_in (table_view document.now)) }
     ensures sound { IfOk result AreRulesDraft }
 {
-    let t = keys::table(alloc, "rules", document)?;
-    RulesDraft::read(alloc, "rules", t)
+    let table = keys::table(alloc, "rules", document)?;
+    RulesDraft::read(alloc, "rules", table)
 }
 
 /// The rules, with skills by number. UnknownName at the first key whose skill isn't there.

@@ -20,9 +20,9 @@ impl Element for Skill {
     ghost is_sound = { IsSkill };
 
     #[tactic(auto, unfolding(crate::specs::SkillTable::skill_keys, crate::specs::SkillTable::skill_from))]
-    fn read(alloc: Global, at: &str, t: &Table) -> Result<Skill, WorldFault> {
-        let name = keys::name(alloc, "name", at, t)?;
-        let fee = keys::number(alloc, 0, MOST_PRICE, "fee", at, t)?;
+    fn read(alloc: Global, at: &str, table: &Table) -> Result<Skill, WorldFault> {
+        let name = keys::name(alloc, "name", at, table)?;
+        let fee = keys::number(alloc, 0, MOST_PRICE, "fee", at, table)?;
         Ok(Skill { name, fee })
     }
 }

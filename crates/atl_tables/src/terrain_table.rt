@@ -63,11 +63,11 @@ impl Element for Economy {
     ghost is_sound = { IsEconomy };
 
     #[tactic(auto, unfolding(crate::specs::TerrainTable::economy_keys, crate::specs::TerrainTable::economy_from))]
-    fn read(alloc: Global, at: &str, t: &Table) -> Result<Economy, WorldFault> {
-        let wage = keys::number(alloc, 1, MOST_PRICE, "wage", at, t)?;
-        let places = keys::number(alloc, 0, MOST_AMOUNT, "places", at, t)?;
-        let money_limit = keys::number(alloc, 0, MOST_AMOUNT, "money_limit", at, t)?;
-        let peasant_limit = keys::number(alloc, 0, MOST_AMOUNT, "peasant_limit", at, t)?;
+    fn read(alloc: Global, at: &str, table: &Table) -> Result<Economy, WorldFault> {
+        let wage = keys::number(alloc, 1, MOST_PRICE, "wage", at, table)?;
+        let places = keys::number(alloc, 0, MOST_AMOUNT, "places", at, table)?;
+        let money_limit = keys::number(alloc, 0, MOST_AMOUNT, "money_limit", at, table)?;
+        let peasant_limit = keys::number(alloc, 0, MOST_AMOUNT, "peasant_limit", at, table)?;
         Ok(Economy {
             wage,
             places,
@@ -85,11 +85,11 @@ impl Element for TerrainDraft {
     ghost is_sound = { IsTerrainDraft };
 
     #[tactic(auto, unfolding(crate::specs::TerrainTable::terrain_keys, crate::specs::TerrainTable::terrain_from))]
-    fn read(alloc: Global, at: &str, t: &Table) -> Result<TerrainDraft, WorldFault> {
-        let name = keys::name(alloc, "name", at, t)?;
-        let land = keys::flag(alloc, "land", at, t)?;
-        let economy = Economy::read(alloc, at, t)?;
-        let output = outputs(alloc, at, t)?;
+    fn read(alloc: Global, at: &str, table: &Table) -> Result<TerrainDraft, WorldFault> {
+        let name = keys::name(alloc, "name", at, table)?;
+        let land = keys::flag(alloc, "land", at, table)?;
+        let economy = Economy::read(alloc, at, table)?;
+        let output = outputs(alloc, at, table)?;
         Ok(TerrainDraft {
             name,
             land,

@@ -4,6 +4,7 @@ ghost use Rattle.std.specs.List.{list_any};
 ghost use Rattle.atl_tables.specs.Faults.{first_fault};
 ghost use Rattle.atl_tables.specs.Given.{Gives};
 ghost use Rattle.atl_tables.specs.Keys.{path};
+ghost use Rattle.atl_tables.specs.Limits.{most_numbered};
 ghost use Rattle.atl_tables.specs.Titles.{twins, number_of, known, known_or_absent};
 ghost use Rattle.atl_tables.specs.Names.{same_name};
 
@@ -21,10 +22,10 @@ pub(crate) trait Titled {
 }
 
 /// Whether two names are equal, ignoring ASCII case.
-pub(crate) fn same_name(a: &Text, b: &Text) -> bool
-    ensures { result ≡ same_name a.now b.now }
+pub(crate) fn same_name(name: &Text, other: &Text) -> bool
+    ensures { result ≡ same_name name.now other.now }
 {
-    a.as_bytes().eq_ignore_ascii_case(b.as_bytes())
+    name.as_bytes().eq_ignore_ascii_case(other.as_bytes())
 }
 
 pub(crate) fn is_among<T: Titled>(items: &[T], name: &Text) -> bool
@@ -49,7 +50,7 @@ pub(crate) fn no_twins<T: Titled>(alloc: Global, key: &str, items: &[T]) -> Resu
 /// The number of the first with this name.
 #[tactic(auto, unfolding(crate::specs::Titles::number_of))]
 pub(crate) fn number_of<T: Titled>(items: &[T], name: &Text) -> Option<u16>
-    requires { length items.now ≤ 65536 }
+    requires { length items.now ≤ most_numbered }
     ensures value { result ≡ number_of T.title_of items.now name.now }
     ensures below { IfSome result (λ n. n < length items.now) }
 {
@@ -69,7 +70,7 @@ pub(crate) fn known<T: Titled>(
     at: &str,
     name: &Text,
 ) -> Result<u16, WorldFault>
-    requires { length items.now ≤ 65536 }
+    requires { length items.now ≤ most_numbered }
     ensures value { Gives (λ n. n) result (known (path at.now key.now) (number_of T.title_of items.now name.now)) (unwrap_or (number_of T.title_of items.now name.now) 0) }
     ensures number { IfOk result (λ n. number_of T.title_of items.now name.now ≡ Some n) }
     ensures below { IfOk result (λ n. n < length items.now) }
@@ -88,7 +89,7 @@ pub(crate) fn known_or_absent<T: Titled>(
     at: &str,
     name: &Option<Text>,
 ) -> Result<Option<u16>, WorldFault>
-    requires { length items.now ≤ 65536 }
+    requires { length items.now ≤ most_numbered }
     ensures value { Gives (λ n. n) result (known_or_absent (path at.now key.now) (number_of T.title_of items.now) name.now) (option_and_then (number_of T.title_of items.now) name.now) }
     ensures below { IfOk result (λ o. IfSome o (λ n. n < length items.now)) }
 {

@@ -2,6 +2,7 @@
 ghost use Rattle.std.specs.Prelude.{◌≡◌, ◌≤◌, ◌+◌, false, IfOk, OnOk, OnErr, option_copied, None};
 ghost use Rattle.std.specs.FinMap as map;
 ghost use Rattle.std.specs.FinSet as set;
+ghost use Rattle.atl_tables.specs.Limits.{number_count};
 ghost use Rattle.atl_tables.specs.MarkPlaces.{marked_in, put_mark, ArePlaces};
 ghost use Rattle.atl_tables.specs.Tracking.{marked_with, with_value, without_value, without_values, taken_out, Lists};
 ghost use Rattle.atl_tables.specs.Sums.{mapped};
@@ -83,9 +84,9 @@ impl<V: Drop> Tracked<V> {
         self.values.insert(number, value)?;
         match self.places.insert(number, true) {
             Ok(()) => Ok(()),
-            Err(e) => {
+            Err(error) => {
                 self.values.remove(number);
-                Err(e)
+                Err(error)
             }
         }
     }
@@ -195,7 +196,7 @@ impl<V: Drop> Tracked<V> {
     /// How many numbers are marked.
     pub fn marked(&self) -> usize
         ensures value { result ≡ set.len self.now.marks }
-        ensures small { result ≤ 4294967296 }
+        ensures small { result ≤ number_count }
     {
         count_marked(&self.places)
     }
@@ -225,7 +226,7 @@ fn is_set(places: &Numbered<bool>, number: u32) -> bool
 /// How many are marked.
 fn count_marked(places: &Numbered<bool>) -> usize
     ensures value { result ≡ set.len (marked_in places.now) }
-    ensures small { result ≤ 4294967296 }
+    ensures small { result ≤ number_count }
 {
     let most = places.len();
     let mut count = 0;
@@ -241,7 +242,7 @@ fn count_marked(places: &Numbered<bool>) -> usize
 fn counted(below: usize, number: u32) -> usize
     requires { below ≤ number }
     ensures value { result ≡ below + 1 }
-    ensures small { result ≤ 4294967296 }
+    ensures small { result ≤ number_count }
 {
     below + 1
 }
