@@ -5,6 +5,7 @@ use Rattle.std.specs.List.{position_or_len}
 use Rattle.std.proofs.lemmas.List.{append-nil, take-append-drop, append_assoc, length-append}
 use Rattle.atl_orders.specs.Standing.{EndsWith, EndsAt, StartsWith}
 use Rattle.std.proofs.lemmas.Bool.{eq-eqb, ne_eqb}
+use Rattle.atl_orders.specs.Letters.{carriage_return}
 use Rattle.atl_orders.specs.Lines.{is_feed, with_front, pieces, without_return, lines}
 
 -- a byte more: where the feed is, the first piece and the others
@@ -38,19 +39,19 @@ pub lines-last : (text : List ℕ) → length text ≤ position_or_len is_feed t
 lines-last text h = ap (map without_return) (pieces-last text h)
 
 -- a carriage return at the end, and none
-pub return_cut : (line : List ℕ) (n : ℕ) → length line ≡ n + 1 → get_or line n 0 ≡ 13 → without_return line ≡ take n line
+pub return_cut : (line : List ℕ) (n : ℕ) → length line ≡ n + 1 → get_or line n 0 ≡ carriage_return → without_return line ≡ take n line
 return_cut [] n e h = absurd (omega arith)
-return_cut (b ∷ []) zero e h = ap (λ t. cond t [] (b ∷ [])) (eq-eqb b 13 h)
+return_cut (b ∷ []) zero e h = ap (λ t. cond t [] (b ∷ [])) (eq-eqb b carriage_return h)
 return_cut (b ∷ []) (suc n) e h = absurd (omega arith)
 return_cut (b ∷ c ∷ bs) zero e h = absurd (omega arith)
 return_cut (b ∷ c ∷ bs) (suc n) e h = ap (λ l. b ∷ l) (return_cut (c ∷ bs) n (omega arith) h)
 
-kept : (line : List ℕ) → ((n : ℕ) → length line ≡ n + 1 → get_or line n 0 ≢ 13) → without_return line ≡ line
+kept : (line : List ℕ) → ((n : ℕ) → length line ≡ n + 1 → get_or line n 0 ≢ carriage_return) → without_return line ≡ line
 kept [] h = refl
-kept (b ∷ []) h = ap (λ t. cond t [] (b ∷ [])) (ne_eqb b 13 (h 0 (omega arith)))
+kept (b ∷ []) h = ap (λ t. cond t [] (b ∷ [])) (ne_eqb b carriage_return (h 0 (omega arith)))
 kept (b ∷ c ∷ bs) h = ap (λ l. b ∷ l) (kept (c ∷ bs) (λ n e. h (suc n) (omega arith)))
 
-pub return_kept : (line : List ℕ) → (0 < length line → get_or line (length line - 1) 0 ≢ 13) → without_return line ≡ line
+pub return_kept : (line : List ℕ) → (0 < length line → get_or line (length line - 1) 0 ≢ carriage_return) → without_return line ≡ line
 return_kept line h = kept line (λ n e g. h (omega arith) (ap (λ k. get_or line k 0) (omega arith) ∙ g))
 
 -- ---- where lines stand

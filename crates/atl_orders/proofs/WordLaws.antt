@@ -8,6 +8,8 @@ use Rattle.std.proofs.lemmas.Bool.Decides.{nat_tests}
 use Rattle.std.proofs.lemmas.Bool.{cond-true, cond-false, or_parts, true≢false}
 use Rattle.std.proofs.lemmas.List.{length-append, drop_at, take_at, drop-drop, take-append-drop, append_assoc, drop_min, take_rest, at_drop_more, at_drop_all}
 use Rattle.std.proofs.Math.Nat.{min_comm}
+use Rattle.atl_tables.specs.Letters.{quote}
+use Rattle.atl_orders.specs.Letters.{semicolon}
 use Rattle.atl_orders.specs.Words.{is_blank, is_quote, ends_word, words_after, words}
 use Rattle.atl_orders.specs.Standing.{StandsIn, EndsWith, EndsAt}
 
@@ -39,11 +41,11 @@ pub words-blank : (b : ℕ) (bs : List ℕ) → is_blank b ≡ true → words (b
 unfolding words_after
 words-blank b bs h = cond-true (is_blank b) _ _ h
 
-pub words-comment : (bs : List ℕ) → words (59 ∷ bs) ≡ []
+pub words-comment : (bs : List ℕ) → words (semicolon ∷ bs) ≡ []
 unfolding words_after
 words-comment bs = refl
 
-pub words-quoted : (bs : List ℕ) → words (34 ∷ bs) ≡ record { bytes = before_first is_quote bs; quoted = true } ∷ words (drop 1 (drop (position_or_len is_quote bs) bs))
+pub words-quoted : (bs : List ℕ) → words (quote ∷ bs) ≡ record { bytes = before_first is_quote bs; quoted = true } ∷ words (drop 1 (drop (position_or_len is_quote bs) bs))
 unfolding words_after
 words-quoted bs = ap (λ ws. record { bytes = before_first is_quote bs; quoted = true } ∷ ws) (words_after-drop (position_or_len is_quote bs + 1) bs ∙ ap words (sym (drop-drop 1 (position_or_len is_quote bs) bs)))
 
@@ -58,9 +60,9 @@ drop-bare false n b bs h =
 pub words-bare : (b : ℕ) (bs : List ℕ) → ends_word b ≡ false → words (b ∷ bs) ≡ record { bytes = before_first ends_word (b ∷ bs); quoted = false } ∷ words (drop (position_or_len ends_word (b ∷ bs)) (b ∷ bs))
 unfolding words_after
 words-bare b bs h =
-    let one = or_parts (is_blank b || eqb b 34) (eqb b 59) h in
-    let two = or_parts (is_blank b) (eqb b 34) one.0 in
-    cond-false (is_blank b) _ _ two.0 ∙ cond-false (eqb b 59) _ _ one.1 ∙ cond-false (eqb b 34) _ _ two.1
+    let one = or_parts (is_blank b || is_quote b) (eqb b semicolon) h in
+    let two = or_parts (is_blank b) (is_quote b) one.0 in
+    cond-false (is_blank b) _ _ two.0 ∙ cond-false (eqb b semicolon) _ _ one.1 ∙ cond-false (is_quote b) _ _ two.1
     ∙ ap (λ ws. record { bytes = before_first ends_word (b ∷ bs); quoted = false } ∷ ws) (words_after-drop (position_or_len ends_word (b ∷ bs) - 1) bs ∙ ap words (drop-bare (ends_word b) _ b bs h))
 
 pub words-bare_line : (line : List ℕ) → 0 < length line → ends_word (get_or line 0 0) ≡ false → words line ≡ record { bytes = before_first ends_word line; quoted = false } ∷ words (drop (position_or_len ends_word line) line)
@@ -75,7 +77,7 @@ pub digit_value_of : (b : ℕ) → is_ascii_digit b ≡ true → digit_value b �
 digit_value_of b h = grind (arith, nat_tests)
 
 -- one step of a loop over a line
-pub comment_at : (line : List ℕ) (i : ℕ) → i < length line → get_or line i 0 ≡ 59 → words (drop i line) ≡ []
+pub comment_at : (line : List ℕ) (i : ℕ) → i < length line → get_or line i 0 ≡ semicolon → words (drop i line) ≡ []
 comment_at line i h e = at_drop_more words line i 0 h ∙ ap (λ b. words (b ∷ drop (i + 1) line)) e ∙ words-comment (drop (i + 1) line)
 
 pub blank_at : (line : List ℕ) (i : ℕ) → i < length line → is_blank (get_or line i 0) ≡ true → words (drop (i + 1) line) ≡ words (drop i line)

@@ -1,3 +1,4 @@
+pub mod Letters
 pub mod Limits
 pub mod Aliasing
 pub mod Faulting

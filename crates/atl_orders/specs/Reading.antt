@@ -2,7 +2,9 @@
 use Rattle.std.specs.Prelude.{ℕ, Bool, ◌&&◌, ◌||◌, List, [], ◌∷◌, codes, Option, Some, None, Result, Ok, Err, nat_le, ◌==◌, if◌then◌else◌}
 use Rattle.std.specs.List.{list_all}
 use Rattle.std.specs.Option.{option_map}
+use Rattle.atl_tables.specs.Letters.{space, tilde}
 use Rattle.atl_tables.specs.Planet.{Planet}
+use Rattle.atl_orders.specs.Letters.{tab}
 use Rattle.atl_orders.specs.declared.order.UnitRef.{UnitRef}
 use Rattle.atl_orders.specs.declared.order.UnitRef.TheVariants.{Number, Alias}
 use Rattle.atl_orders.specs.declared.fault.LineFault.{LineFault}
@@ -20,7 +22,7 @@ use Rattle.atl_orders.specs.Orders.{Said, said, said_by}
 
 -- Tab, and the bytes from space to `~`.
 abbrev pub is_plain : ℕ → Bool
-is_plain b = b == 9 || (nat_le 32 b && nat_le b 126)
+is_plain b = b == tab || (nat_le space b && nat_le b tilde)
 
 abbrev pub keyword_of : WordText → Option Keyword
 keyword_of w =

@@ -4,6 +4,8 @@ use Rattle.std.specs.List.{position_or_len, before_first, list_all}
 use Rattle.std.specs.Char.{is_ascii_digit}
 use Rattle.std.specs.Str.{str_eq_ignore_ascii_case}
 use Rattle.std.specs.Str.Parse.{digits_value}
+use Rattle.atl_tables.specs.Letters.{space, quote}
+use Rattle.atl_orders.specs.Letters.{tab, semicolon}
 
 -- a word: its bytes, and whether it stood in quotes
 pub record WordText : Type 0 where
@@ -12,14 +14,14 @@ pub record WordText : Type 0 where
 
 -- space and tab
 abbrev pub is_blank : ℕ → Bool
-is_blank b = b == 32 || b == 9
+is_blank b = b == space || b == tab
 
 abbrev pub is_quote : ℕ → Bool
-is_quote b = b == 34
+is_quote b = b == quote
 
 -- what ends a bare word: a blank, a quote, or the semicolon of a comment
 abbrev pub ends_word : ℕ → Bool
-ends_word b = is_blank b || b == 34 || b == 59
+ends_word b = is_blank b || is_quote b || b == semicolon
 
 -- The words of the rest of a line, of which the first bytes still belong to the word before.
 unfoldable pub words_after : ℕ → List ℕ → List WordText
@@ -27,8 +29,8 @@ words_after skip [] = []
 words_after (suc skip) (b ∷ bs) = words_after skip bs
 words_after zero (b ∷ bs) =
     if is_blank b then words_after zero bs
-    else if b == 59 then []
-    else if b == 34 then record { bytes = before_first is_quote bs; quoted = true } ∷ words_after (position_or_len is_quote bs + 1) bs
+    else if b == semicolon then []
+    else if is_quote b then record { bytes = before_first is_quote bs; quoted = true } ∷ words_after (position_or_len is_quote bs + 1) bs
     else record { bytes = before_first ends_word (b ∷ bs); quoted = false } ∷ words_after (position_or_len ends_word (b ∷ bs) - 1) bs
 
 abbrev pub words : List ℕ → List WordText

@@ -73,10 +73,12 @@ impl LineFault {
     }
 }
 
-/// A line, by its number from 1 on over the whole text, and what is wrong with it.
+/// A line, and what is wrong with it.
 #[derive(Drop, Clone, Copy, Debug, PartialEq, Eq)]
 pub struct FaultyLine {
+    /// The line's number, from 1 on over the whole text.
     pub line: u32,
+    /// The one fault that counts.
     pub fault: LineFault,
 }
 

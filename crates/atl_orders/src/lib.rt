@@ -3,6 +3,7 @@
 
 mod aliases;
 mod fault;
+mod letters;
 mod limits;
 mod lines;
 mod mailing;

@@ -7,11 +7,13 @@ ghost use Rattle.atl_orders.specs.Lines.{is_feed, without_return, lines};
 ghost use Rattle.atl_orders.specs.Views.{lines_of_rest, left_size};
 ghost use Rattle.atl_orders.specs.Standing.{StartsWith, EndsWith};
 
+use crate::letters::{CARRIAGE_RETURN, LINE_FEED};
+
 /// Where the first line feed is.
 fn first_feed(bytes: &[u8]) -> Option<usize>
     ensures { result ≡ position is_feed bytes.now }
 {
-    bytes.iter().position(|byte| *byte == b'\n')
+    bytes.iter().position(|byte| *byte == LINE_FEED)
 }
 
 /// Where the line feed is, or the length.
@@ -30,7 +32,7 @@ fn without_return(line: &[u8]) -> &[u8]
     ensures front { StartsWith line.now result.now }
 {
     let len = line.len();
-    if len > 0 && line[len - 1] == b'\r' {
+    if len > 0 && line[len - 1] == CARRIAGE_RETURN {
         return &line[..len - 1];
     }
     line

@@ -115,7 +115,7 @@ fn faction_of(line: &[u8]) -> Option<u32>
     let (_, rest) = next_word(line)?;
     let (word, _) = next_word(rest)?;
     match number(word.bytes, LAST_FACTION) {
-        Some(n) if n != 0 => Some(n),
+        Some(faction) if faction != 0 => Some(faction),
         _ => None,
     }
 }

@@ -32,7 +32,7 @@ fn count_at(line: &[u8], most: u32, fault: LineFault) -> Result<(u32, &[u8]), Li
 {
     let (word, rest) = word_at(line)?;
     match number(word.bytes, most) {
-        Some(n) if n != 0 => Ok((n, rest)),
+        Some(count) if count != 0 => Ok((count, rest)),
         _ => Err(fault),
     }
 }

@@ -1,4 +1,4 @@
-//! What each order says by the words behind its verb.
+//! What each order says by the words behind its verb, or the first fault of these words from left to right.
 ghost use Rattle.std.specs.Prelude.{List, ℕ, ◌≡◌, IfOk};
 ghost use Rattle.atl_orders.specs.Words.{words};
 ghost use Rattle.atl_orders.specs.Views.{word_text, Gives};
@@ -15,7 +15,7 @@ use crate::words::{Cursor, Word, is_same, next_word, number};
 use atl_tables::{World, word_ok};
 use std::alloc::{AllocError, Global};
 
-/// FORM and its alias.
+/// FORM and its alias, else MissingWord or BadAlias.
 #[tactic(auto, unfolding(crate::specs::Orders::form_at))]
 fn form_at(line: &[u8]) -> Result<Order, LineFault>
     ensures { (text : List ℕ) → Gives (said text) result (form_at (words line.now)) }
@@ -41,7 +41,7 @@ fn kind_of_name(word: Word) -> Option<NameKind>
     }
 }
 
-/// NAME, what is named, and its name.
+/// NAME, what is named, and its name, else MissingWord, UnknownThing or BadName.
 #[tactic(auto, using(crate::proofs::WordLaws::place_fits, crate::proofs::WordLaws::place_behind, crate::proofs::WordLaws::stands_shorter, crate::proofs::WordLaws::ends_shorter), unfolding(crate::specs::Orders::name_at))]
 fn name_at(cursor: Cursor) -> Result<Order, LineFault>
     requires { IsCursor cursor }
@@ -62,7 +62,7 @@ fn name_at(cursor: Cursor) -> Result<Order, LineFault>
     Ok(Order::Name { what, name })
 }
 
-/// GUARD and 0 or 1.
+/// GUARD and 0 or 1, else MissingWord or BadNumber.
 #[tactic(auto, unfolding(crate::specs::Orders::guard_at))]
 fn guard_at(line: &[u8]) -> Result<Order, LineFault>
     ensures { (text : List ℕ) → Gives (said text) result (guard_at (words line.now)) }
@@ -72,7 +72,7 @@ fn guard_at(line: &[u8]) -> Result<Order, LineFault>
     Ok(Order::Guard(flag == 1))
 }
 
-/// ENTER and a structure.
+/// ENTER and the number of a structure, else MissingWord or BadNumber.
 #[tactic(auto, unfolding(crate::specs::Orders::enter_at))]
 fn enter_at(line: &[u8]) -> Result<Order, LineFault>
     ensures { (text : List ℕ) → Gives (said text) result (enter_at (words line.now)) }
@@ -81,7 +81,7 @@ fn enter_at(line: &[u8]) -> Result<Order, LineFault>
     Ok(Order::Enter(structure))
 }
 
-/// PROMOTE and a unit.
+/// PROMOTE and a unit, else MissingWord, BadNumber or BadAlias.
 #[tactic(auto, unfolding(crate::specs::Orders::promote_at))]
 fn promote_at(line: &[u8]) -> Result<Order, LineFault>
     ensures { (text : List ℕ) → Gives (said text) result (promote_at (words line.now)) }
@@ -90,7 +90,7 @@ fn promote_at(line: &[u8]) -> Result<Order, LineFault>
     Ok(Order::Promote(unit))
 }
 
-/// GIVE, a unit, an amount and an item.
+/// GIVE, a unit, an amount and an item, else MissingWord, BadNumber, BadAlias or UnknownThing.
 #[tactic(auto, unfolding(crate::specs::Orders::give_at))]
 fn give_at(world: &World, line: &[u8]) -> Result<Order, LineFault>
     ensures { (text : List ℕ) → Gives (said text) result (give_at world.now (words line.now)) }
@@ -101,7 +101,7 @@ fn give_at(world: &World, line: &[u8]) -> Result<Order, LineFault>
     Ok(Order::Give { to, amount, item })
 }
 
-/// PAY, a unit and an amount.
+/// PAY, a unit and an amount of money, else MissingWord, BadNumber or BadAlias.
 #[tactic(auto, unfolding(crate::specs::Orders::pay_at))]
 fn pay_at(line: &[u8]) -> Result<Order, LineFault>
     ensures { (text : List ℕ) → Gives (said text) result (pay_at (words line.now)) }
@@ -111,7 +111,7 @@ fn pay_at(line: &[u8]) -> Result<Order, LineFault>
     Ok(Order::Pay { to, amount })
 }
 
-/// TRANSFER, a unit and a number of men.
+/// TRANSFER, a unit and a number of men, else MissingWord, BadNumber or BadAlias.
 #[tactic(auto, unfolding(crate::specs::Orders::transfer_at))]
 fn transfer_at(line: &[u8]) -> Result<Order, LineFault>
     ensures { (text : List ℕ) → Gives (said text) result (transfer_at (words line.now)) }
@@ -121,7 +121,7 @@ fn transfer_at(line: &[u8]) -> Result<Order, LineFault>
     Ok(Order::Transfer { to, men })
 }
 
-/// RECRUIT and a number of men.
+/// RECRUIT and a number of men, else MissingWord or BadNumber.
 #[tactic(auto, unfolding(crate::specs::Orders::recruit_at))]
 fn recruit_at(line: &[u8]) -> Result<Order, LineFault>
     ensures { (text : List ℕ) → Gives (said text) result (recruit_at (words line.now)) }
@@ -130,7 +130,7 @@ fn recruit_at(line: &[u8]) -> Result<Order, LineFault>
     Ok(Order::Recruit(men))
 }
 
-/// QUIT and the faction.
+/// QUIT and the number of a faction, else MissingWord or BadNumber.
 #[tactic(auto, unfolding(crate::specs::Orders::quit_at))]
 fn quit_at(line: &[u8]) -> Result<Order, LineFault>
     ensures { (text : List ℕ) → Gives (said text) result (quit_at (words line.now)) }
@@ -139,7 +139,7 @@ fn quit_at(line: &[u8]) -> Result<Order, LineFault>
     Ok(Order::Quit(faction))
 }
 
-/// MOVE and a direction.
+/// MOVE and a direction, else MissingWord or BadDirection.
 #[tactic(auto, unfolding(crate::specs::Orders::move_at))]
 fn move_at(line: &[u8]) -> Result<Order, LineFault>
     ensures { (text : List ℕ) → Gives (said text) result (move_at (words line.now)) }
@@ -148,7 +148,7 @@ fn move_at(line: &[u8]) -> Result<Order, LineFault>
     Ok(Order::Move(direction))
 }
 
-/// SAIL and a direction.
+/// SAIL and a direction, else MissingWord or BadDirection.
 #[tactic(auto, unfolding(crate::specs::Orders::sail_at))]
 fn sail_at(line: &[u8]) -> Result<Order, LineFault>
     ensures { (text : List ℕ) → Gives (said text) result (sail_at (words line.now)) }
@@ -157,7 +157,7 @@ fn sail_at(line: &[u8]) -> Result<Order, LineFault>
     Ok(Order::Sail(direction))
 }
 
-/// BUILD, with or without a kind.
+/// BUILD, with or without a kind, else UnknownThing.
 #[tactic(auto, unfolding(crate::specs::Orders::build_at))]
 fn build_at(world: &World, line: &[u8]) -> Result<Order, LineFault>
     ensures { (text : List ℕ) → Gives (said text) result (build_at world.now (words line.now)) }
@@ -169,7 +169,7 @@ fn build_at(world: &World, line: &[u8]) -> Result<Order, LineFault>
     Ok(Order::Build(Some(kind)))
 }
 
-/// TEACH and units up to the line's end.
+/// TEACH and one unit or more up to the line's end, else MissingWord, BadNumber or BadAlias.
 #[tactic(auto, unfolding(crate::specs::Orders::teach_at, crate::specs::Operands::some_units_at))]
 fn teach_at(alloc: Global, line: &[u8]) -> Result<Result<Order, LineFault>, AllocError>
     ensures { IfOk result (λ read. (text : List ℕ) → Gives (said text) read (teach_at (words line.now))) }
@@ -183,7 +183,7 @@ fn teach_at(alloc: Global, line: &[u8]) -> Result<Result<Order, LineFault>, Allo
     }
 }
 
-/// STUDY and a skill.
+/// STUDY and a skill, else MissingWord or UnknownThing.
 #[tactic(auto, unfolding(crate::specs::Orders::study_at))]
 fn study_at(world: &World, line: &[u8]) -> Result<Order, LineFault>
     ensures { (text : List ℕ) → Gives (said text) result (study_at world.now (words line.now)) }
@@ -192,7 +192,7 @@ fn study_at(world: &World, line: &[u8]) -> Result<Order, LineFault>
     Ok(Order::Study(skill))
 }
 
-/// PRODUCE and an item.
+/// PRODUCE and an item, else MissingWord or UnknownThing.
 #[tactic(auto, unfolding(crate::specs::Orders::produce_at))]
 fn produce_at(world: &World, line: &[u8]) -> Result<Order, LineFault>
     ensures { (text : List ℕ) → Gives (said text) result (produce_at world.now (words line.now)) }
@@ -201,7 +201,8 @@ fn produce_at(world: &World, line: &[u8]) -> Result<Order, LineFault>
     Ok(Order::Produce(item))
 }
 
-/// What an order says by the words behind its verb, or the first fault among them.
+/// What an order says by the words behind its verb, or the first fault among them. Only TEACH takes memory; without it
+/// nothing is said of the words.
 pub fn said_by(
     alloc: Global,
     world: &World,

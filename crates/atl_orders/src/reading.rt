@@ -10,12 +10,14 @@ ghost use Rattle.atl_orders.specs.Reading.{is_plain, keyword_of, unit_step, end_
 
 use crate::aliases::Aliases;
 use crate::fault::LineFault;
+use crate::letters::TAB;
 use crate::operands::{alias_at, number_at};
 use crate::order::{Order, UnitRef};
 use crate::orders::said_by;
 use crate::verb::Verb;
 use crate::words::{Cursor, Word, is_same, next_word};
 use atl_tables::World;
+use atl_tables::letters::{SPACE, TILDE};
 use std::alloc::{AllocError, Global};
 
 /// What a line begins with.
@@ -32,7 +34,7 @@ pub enum Keyword {
 pub enum Place {
     /// No unit is named.
     Nowhere,
-    /// This unit's.
+    /// The unit's of this number.
     At(u32),
     /// A new unit's, in the block of a FORM without fault.
     Forming { parent: u32, alias: u32 },
@@ -53,7 +55,7 @@ fn is_plain(line: &[u8]) -> bool
     ensures { result ≡ list_all is_plain line.now }
 {
     line.iter()
-        .all(|byte| *byte == b'\t' || (32 <= *byte && *byte <= 126))
+        .all(|byte| *byte == TAB || (SPACE <= *byte && *byte <= TILDE))
 }
 
 /// The keyword that a word is.

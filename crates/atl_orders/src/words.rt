@@ -3,15 +3,21 @@
 ghost use Rattle.std.specs.Prelude.{◌≡◌, ◌≤◌, ◌<◌, ◌∷◌, [], MatchOption, IfSome, length, slice_index, false};
 ghost use Rattle.std.specs.List.{position, position_or_len};
 ghost use Rattle.std.specs.Str.{str_eq_ignore_ascii_case};
+ghost use Rattle.atl_tables.specs.Letters.{quote};
 ghost use Rattle.atl_orders.specs.Limits.{most_number};
 ghost use Rattle.atl_orders.specs.Words.{is_quote, is_blank, ends_word, words, begins, number_of};
 ghost use Rattle.atl_orders.specs.Views.{word_text};
 ghost use Rattle.atl_orders.specs.Standing.{StandsIn, EndsWith};
 
+use crate::letters::{SEMICOLON, TAB};
+use atl_tables::letters::{QUOTE, SPACE};
+
 /// A word of a line.
 #[derive(Drop, Clone, Copy, Debug)]
 pub struct Word<'a> {
+    /// Its bytes, without quotes around them.
     pub bytes: &'a [u8],
+    /// Whether it stands in quotes.
     pub quoted: bool,
     /// How many bytes the line has from the first of these on.
     pub behind: usize,
@@ -20,7 +26,9 @@ pub struct Word<'a> {
 /// The rest of a line in a text.
 #[derive(Drop, Clone, Copy, Debug)]
 pub struct Cursor<'a> {
+    /// The whole text.
     pub text: &'a [u8],
+    /// What is left of the line.
     pub rest: &'a [u8],
     /// Where in the text the line ends.
     pub end: usize,
@@ -36,7 +44,7 @@ pub fn is_same(word: &[u8], name: &[u8]) -> bool
 fn is_quote(byte: u8) -> bool
     ensures { result ≡ is_quote byte }
 {
-    byte == b'"'
+    byte == QUOTE
 }
 
 /// Where the first quote is.
@@ -59,14 +67,14 @@ fn quote_at(bytes: &[u8]) -> usize
 pub fn is_blank(byte: u8) -> bool
     ensures { result ≡ is_blank byte }
 {
-    byte == b' ' || byte == b'\t'
+    byte == SPACE || byte == TAB
 }
 
 /// Whether a bare word ends at a byte.
 fn ends_word(byte: u8) -> bool
     ensures { result ≡ ends_word byte }
 {
-    byte == b' ' || byte == b'\t' || byte == b'"' || byte == b';'
+    is_blank(byte) || is_quote(byte) || byte == SEMICOLON
 }
 
 /// Where the first byte that ends a word is.
@@ -87,7 +95,7 @@ fn end_at(bytes: &[u8]) -> usize
 
 /// A word after its opening quote, and what follows its closing one.
 fn quoted_word(after: &[u8]) -> (Word<'_>, &[u8])
-    ensures words { words (34 ∷ after.now) ≡ word_text result.0 ∷ words result.1.now }
+    ensures words { words (quote ∷ after.now) ≡ word_text result.0 ∷ words result.1.now }
     ensures stands { StandsIn after.now result.0.bytes.now result.0.behind }
     ensures rest { EndsWith after.now result.1.now }
 {
@@ -127,10 +135,10 @@ pub fn next_word(line: &[u8]) -> Option<(Word<'_>, &[u8])>
     ensures rest { IfSome result (λ found. EndsWith line.now found.1.now) }
 {
     for (i, byte) in line.iter().enumerate() {
-        if *byte == b';' {
+        if *byte == SEMICOLON {
             return None;
         }
-        if *byte == b'"' {
+        if *byte == QUOTE {
             return Some(quoted_word(&line[i + 1..]));
         }
         if !is_blank(*byte) {

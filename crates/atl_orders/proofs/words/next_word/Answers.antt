@@ -2,11 +2,11 @@ use Rattle.std.proofs.Common.{◌+◌}
 use Rattle.atl_orders.proofs.WordLaws.{stands_further, ends_further, ends_at}
 use Rattle.atl_orders.proofs.words.next_word.Goals as goal
 
-pub returns-then-byte-eq34-clause-stands : goal.returns-then-byte-eq34-clause-stands
-returns-then-byte-eq34-clause-stands c = stands_further c.args.line.now _ _ _ (ends_at c.args.line.now (c.loop-i.i + 1)) c.quoted_word.ensures.stands
+pub returns-then-byte-eq-QUOTE-clause-stands : goal.returns-then-byte-eq-QUOTE-clause-stands
+returns-then-byte-eq-QUOTE-clause-stands c = stands_further c.args.line.now _ _ _ (ends_at c.args.line.now (c.loop-i.i + 1)) c.quoted_word.ensures.stands
 
-pub returns-then-byte-eq34-clause-rest : goal.returns-then-byte-eq34-clause-rest
-returns-then-byte-eq34-clause-rest c = ends_further c.args.line.now _ _ (ends_at c.args.line.now (c.loop-i.i + 1)) c.quoted_word.ensures.rest
+pub returns-then-byte-eq-QUOTE-clause-rest : goal.returns-then-byte-eq-QUOTE-clause-rest
+returns-then-byte-eq-QUOTE-clause-rest c = ends_further c.args.line.now _ _ (ends_at c.args.line.now (c.loop-i.i + 1)) c.quoted_word.ensures.rest
 
 pub returns-then-not-is_blank-clause-stands : goal.returns-then-not-is_blank-clause-stands
 returns-then-not-is_blank-clause-stands c = stands_further c.args.line.now _ _ _ (ends_at c.args.line.now c.loop-i.i) c.bare_word.ensures.stands
