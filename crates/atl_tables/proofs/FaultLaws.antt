@@ -1,5 +1,7 @@
 -- The first broken condition, as a reader meets it.
 use Rattle.std.proofs.Common.{◌≡◌, [], ◌∷◌, ◌++◌, Option, Some, None, Result, Ok, Err, refl, sym, subst, ◌∙◌}
+use Rattle.std.specs.Result.{IsErrAnd}
+use Rattle.std.proofs.lemmas.Result.{err_from_is_err_and}
 use Rattle.atl_tables.specs.declared.fault.WorldFault.{WorldFault}
 use Rattle.atl_tables.specs.declared.fault.WorldFault.TheVariants.{Memory}
 use Rattle.atl_tables.specs.Faults.{Conditions, fault_of, first_fault, unless, Reads}
@@ -50,3 +52,7 @@ stops_here e fault fs h = rw h refl
 pub gives_last : {X Y : Type 0} (view : X → Y) (r : Result X WorldFault) (fault : Option WorldFault) (v : Y) → Gives view r fault v → Gives view r (first_fault (fault ∷ [])) v
 gives_last view r None v h = h
 gives_last view r (Some f) v h = h
+
+-- the exit of a `?` gives the fault of the call, where that stops there
+pub exits : {X Y : Type 0} (view : X → Y) (r : Result X WorldFault) (e : WorldFault) (fault : Option WorldFault) (v : Y) → IsErrAnd r (λ f. f ≡ e) → Stops e fault → Gives view r fault v
+exits view r e fault v h s = let p = err_from_is_err_and r h in rw (p.1, p.2) s

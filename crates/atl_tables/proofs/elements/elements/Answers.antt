@@ -1,16 +1,15 @@
 use Rattle.std.proofs.Common.{◌+◌, ◌∷◌, [], drop, arith, length-append}
-use Rattle.std.proofs.lemmas.Result.{err_from_is_err_and}
 use Rattle.std.proofs.lemmas.List.Elements.{All-push}
 use Rattle.toml.specs.View.{view, items_view}
+use Rattle.atl_tables.proofs.FaultLaws.{exits}
 use Rattle.atl_tables.proofs.ElementLaws.{from_here, goes_on, ends, one_more}
 use Rattle.atl_tables.proofs.elements.elements.Goals as goal
 
 pub returns-in_err-one-clause-value : goal.returns-in_err-one-clause-value
 returns-in_err-one-clause-value g c =
     let vs = c.args.values.now.items in
-    let p = err_from_is_err_and c.from_residual.result c.from_residual.ensures.1 in
     let here = from_here vs c.loop-i.i c.index.result.now (omega (arith, c.args.values.now.ok.0)) c.index.ensures in
-    rw (p.1, p.2) (ends g.E.Element.conditions c.args.key.now c.loop-i.i (view c.index.result.now) (items_view (drop (c.loop-i.i + 1) vs)) _ c.in_err-one.field-0.0 (rw here at c.loop-i.invariant.faults) c.in_err-one.ensures.value)
+    exits _ _ _ _ _ c.from_residual.ensures.1 (ends g.E.Element.conditions c.args.key.now c.loop-i.i (view c.index.result.now) (items_view (drop (c.loop-i.i + 1) vs)) _ c.in_err-one.field-0.0 (rw here at c.loop-i.invariant.faults) c.in_err-one.ensures.value)
 
 pub loop-i-preserved : goal.loop-i-preserved
 loop-i-preserved g c =

@@ -2,17 +2,16 @@ use Rattle.std.proofs.Common.{◌≡◌, ◌+◌, ◌++◌, ◌∷◌, [], take,
 use Rattle.std.specs.List.{All}
 use Rattle.std.proofs.lemmas.List.{take_more, take_all}
 use Rattle.std.proofs.lemmas.List.Elements.{All-push}
-use Rattle.std.proofs.lemmas.Result.{err_from_is_err_and}
 use Rattle.atl_tables.specs.Neighbours.{neighbours_at}
 use Rattle.atl_tables.specs.Planet.{HasNeighbours}
 use Rattle.atl_tables.specs.declared.region_table.RegionDraft.{RegionDraft}
+use Rattle.atl_tables.proofs.FaultLaws.{exits}
 use Rattle.atl_tables.proofs.EachLaws.{goes_on_at, ends_at}
 use Rattle.atl_tables.proofs.neighbours.mutual_neighbours.Goals as goal
 
 pub returns-in_err-neighbours_of-clause-value : goal.returns-in_err-neighbours_of-clause-value
 returns-in_err-neighbours_of-clause-value c =
-    let p = err_from_is_err_and c.from_residual.result c.from_residual.ensures.1 in
-    rw (p.1, p.2) (ends_at (neighbours_at c.args.regions.now) c.args.drafts.now c.loop-i.i c.index-drafts-i.result _ c.loop-i-test.true c.index-drafts-i.is c.loop-i.invariant.faults c.in_err-neighbours_of.field-0.0 c.in_err-neighbours_of.ensures.value)
+    exits _ _ _ _ _ c.from_residual.ensures.1 (ends_at (neighbours_at c.args.regions.now) c.args.drafts.now c.loop-i.i c.index-drafts-i.result _ c.loop-i-test.true c.index-drafts-i.is c.loop-i.invariant.faults c.in_err-neighbours_of.field-0.0 c.in_err-neighbours_of.ensures.value)
 
 pub loop-i-preserved : goal.loop-i-preserved
 loop-i-preserved c =

@@ -1,28 +1,24 @@
-use Rattle.std.proofs.lemmas.Result.{err_from_is_err_and}
 use Rattle.atl_tables.specs.Neighbours.{neighbours_at}
-use Rattle.atl_tables.proofs.FaultLaws.{stops_here, gives_last}
+use Rattle.atl_tables.proofs.FaultLaws.{exits, stops_here, gives_last}
 use Rattle.atl_tables.proofs.neighbours.neighbours_of.Goals as goal
 
 pub returns-in_err-neighbour-clause-value : goal.returns-in_err-neighbour-clause-value
 unfolding neighbours_at
 returns-in_err-neighbour-clause-value c =
-    let p = err_from_is_err_and c.from_residual-in_err-neighbour.result c.from_residual-in_err-neighbour.ensures.1 in
-    rw (p.1, p.2) (stops_here c.in_err-neighbour.field-0.0 _ _ (rw (c.as_str-at.ensures, c.in_ok-place.ensures) at c.in_err-neighbour.ensures.value))
+    exits _ _ _ _ _ c.from_residual-in_err-neighbour.ensures.1 (stops_here c.in_err-neighbour.field-0.0 _ _ (rw (c.as_str-at.ensures, c.in_ok-place.ensures) at c.in_err-neighbour.ensures.value))
 
 pub returns-in_err-neighbour-2-clause-value : goal.returns-in_err-neighbour-2-clause-value
 unfolding neighbours_at
 returns-in_err-neighbour-2-clause-value c =
-    let p = err_from_is_err_and c.from_residual-in_err-neighbour-2.result c.from_residual-in_err-neighbour-2.ensures.1 in
     let side1 = rw (c.as_str-at.ensures, c.in_ok-place.ensures) at c.in_ok-neighbour.ensures.value.0 in
-    rw (p.1, p.2, side1) (stops_here c.in_err-neighbour-2.field-0.0 _ _ (rw (c.as_str-at.ensures, c.in_ok-place.ensures) at c.in_err-neighbour-2.ensures.value))
+    rw side1 (exits _ _ _ _ _ c.from_residual-in_err-neighbour-2.ensures.1 (stops_here c.in_err-neighbour-2.field-0.0 _ _ (rw (c.as_str-at.ensures, c.in_ok-place.ensures) at c.in_err-neighbour-2.ensures.value)))
 
 pub returns-in_err-neighbour-3-clause-value : goal.returns-in_err-neighbour-3-clause-value
 unfolding neighbours_at
 returns-in_err-neighbour-3-clause-value c =
-    let p = err_from_is_err_and c.from_residual-in_err-neighbour-3.result c.from_residual-in_err-neighbour-3.ensures.1 in
     let side1 = rw (c.as_str-at.ensures, c.in_ok-place.ensures) at c.in_ok-neighbour.ensures.value.0 in
     let side2 = rw (c.as_str-at.ensures, c.in_ok-place.ensures) at c.in_ok-neighbour-2.ensures.value.0 in
-    rw (p.1, p.2, side1, side2) (stops_here c.in_err-neighbour-3.field-0.0 _ _ (rw (c.as_str-at.ensures, c.in_ok-place.ensures) at c.in_err-neighbour-3.ensures.value))
+    rw (side1, side2) (exits _ _ _ _ _ c.from_residual-in_err-neighbour-3.ensures.1 (stops_here c.in_err-neighbour-3.field-0.0 _ _ (rw (c.as_str-at.ensures, c.in_ok-place.ensures) at c.in_err-neighbour-3.ensures.value)))
 
 pub returns-clause-value : goal.returns-clause-value
 unfolding neighbours_at

@@ -1,5 +1,4 @@
 use Rattle.std.proofs.Common.{◌≡◌, ℕ, List, [], None, refl}
-use Rattle.std.proofs.lemmas.Result.{err_from_is_err_and}
 use Rattle.atl_tables.specs.Faults.{first_fault}
 use Rattle.atl_tables.specs.Given.{Stops}
 use Rattle.atl_tables.specs.Keys.{path}
@@ -8,7 +7,7 @@ use Rattle.atl_tables.specs.Titles.{known, item_number}
 use Rattle.atl_tables.specs.declared.fault.WorldFault.{WorldFault}
 use Rattle.atl_tables.specs.declared.output_table.Output.{Output}
 use Rattle.atl_tables.specs.declared.tables.Tables.{Tables}
-use Rattle.atl_tables.proofs.FaultLaws.{stops_here}
+use Rattle.atl_tables.proofs.FaultLaws.{exits, stops_here}
 use Rattle.atl_tables.proofs.EachLaws.{goes_on_at, ends_at}
 use Rattle.atl_tables.proofs.output_table.known_keys.Goals as goal
 
@@ -22,13 +21,12 @@ known_here all at i o h = rw h refl
 
 pub returns-in_err-known : goal.returns-in_err-known
 returns-in_err-known c =
-    let p = err_from_is_err_and c.from_residual.result c.from_residual.ensures.1 in
     let o = c.index-outputs-i.result in
     let outputs = c.args.outputs.now in
     let at = c.args.at.now in
     let all = c.args.all.now in
     let e = c.in_err-known.field-0.0 in
-    rw (p.1, p.2) (ends_at (known_key_at all at) outputs c.loop-i.i o _ c.loop-i-test.true c.index-outputs-i.is c.loop-i.invariant e (unknown_here e all at c.loop-i.i o (rw (c.as_slice.ensures, c.as_str.ensures, ← c.index-outputs-i.is) at c.in_err-known.ensures.value)))
+    exits _ _ _ _ _ c.from_residual.ensures.1 (ends_at (known_key_at all at) outputs c.loop-i.i o _ c.loop-i-test.true c.index-outputs-i.is c.loop-i.invariant e (unknown_here e all at c.loop-i.i o (rw (c.as_slice.ensures, c.as_str.ensures, ← c.index-outputs-i.is) at c.in_err-known.ensures.value)))
 
 pub loop-i-preserved : goal.loop-i-preserved
 loop-i-preserved c =

@@ -1,15 +1,13 @@
-use Rattle.std.proofs.lemmas.Result.{err_from_is_err_and}
 use Rattle.toml.specs.View.{table_view}
 use Rattle.atl_tables.specs.World.{conditions, keys_are_good, table_conditions, tables_of, planet_of}
-use Rattle.atl_tables.proofs.FaultLaws.{stops_on, gives_after}
+use Rattle.atl_tables.proofs.FaultLaws.{exits, stops_on, gives_after}
 use Rattle.atl_tables.proofs.reading.from_document.Goals as goal
 
 pub returns-in_err-all : goal.returns-in_err-all
 unfolding conditions
 returns-in_err-all c =
-    let p = err_from_is_err_and c.from_residual.result c.from_residual.ensures.1 in
     let doc = table_view c.args.document.now in
-    rw (p.1, p.2) (stops_on c.in_err-all.field-0.0 (keys_are_good doc) (table_conditions (tables_of doc)) c.in_err-all.ensures.value)
+    exits _ _ _ _ _ c.from_residual.ensures.1 (stops_on c.in_err-all.field-0.0 (keys_are_good doc) (table_conditions (tables_of doc)) c.in_err-all.ensures.value)
 
 pub returns : goal.returns
 unfolding conditions

@@ -1,10 +1,9 @@
 use Rattle.std.proofs.Common.{◌++◌}
-use Rattle.std.proofs.lemmas.Result.{err_from_is_err_and}
 use Rattle.atl_tables.specs.Faults.{Conditions}
 use Rattle.atl_tables.specs.Planet.{land_of}
 use Rattle.atl_tables.specs.World.{names_differ, names_are_known, neighbours_are_mutual, is_some_land, planet_of}
 use Rattle.atl_tables.specs.declared.tables.Tables.{Tables}
-use Rattle.atl_tables.proofs.FaultLaws.{stops_on, stops_after, gives_after}
+use Rattle.atl_tables.proofs.FaultLaws.{exits, stops_on, stops_after, gives_after}
 use Rattle.atl_tables.proofs.TwinLaws.{have_names}
 use Rattle.atl_tables.proofs.reading.from_tables.Goals as goal
 
@@ -13,16 +12,14 @@ last all = neighbours_are_mutual all ++ is_some_land (land_of (planet_of all))
 
 pub returns-in_err-names_differ : goal.returns-in_err-names_differ
 returns-in_err-names_differ c =
-    let p = err_from_is_err_and c.from_residual.result c.from_residual.ensures.1 in
     let all = c.args.all in
-    rw (p.1, p.2) (stops_on c.in_err-names_differ.field-0.0 (names_differ all) (names_are_known all ++ last all) c.in_err-names_differ.ensures)
+    exits _ _ _ _ _ c.from_residual.ensures.1 (stops_on c.in_err-names_differ.field-0.0 (names_differ all) (names_are_known all ++ last all) c.in_err-names_differ.ensures)
 
 pub returns-in_err-parts : goal.returns-in_err-parts
 returns-in_err-parts c =
-    let p = err_from_is_err_and c.from_residual-in_err-parts.result c.from_residual-in_err-parts.ensures.1 in
     let all = c.args.all in
     let e = c.in_err-parts.field-0.0 in
-    rw (p.1, p.2) (stops_after e (names_differ all) (names_are_known all ++ last all) c.in_ok-names_differ.ensures.0 (stops_on e (names_are_known all) (last all) c.in_err-parts.ensures.value))
+    exits _ _ _ _ _ c.from_residual-in_err-parts.ensures.1 (stops_after e (names_differ all) (names_are_known all ++ last all) c.in_ok-names_differ.ensures.0 (stops_on e (names_are_known all) (last all) c.in_err-parts.ensures.value))
 
 pub returns : goal.returns
 returns c =

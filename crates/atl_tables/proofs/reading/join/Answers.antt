@@ -1,5 +1,4 @@
 use Rattle.std.proofs.Common.{◌≡◌, ◌<◌, List, length, subst, sym, ap, ◌∙◌}
-use Rattle.std.proofs.lemmas.Result.{err_from_is_err_and}
 use Rattle.std.specs.FinMap.{FinMap}
 use Rattle.std.specs.Ordering.{nat_cmp}
 use Rattle.atl_tables.specs.Faults.{Conditions, first_fault}
@@ -11,7 +10,7 @@ use Rattle.atl_tables.specs.World.{neighbours_are_mutual, is_some_land, planet_o
 use Rattle.atl_tables.specs.declared.reading.Parts.{Parts}
 use Rattle.atl_tables.specs.declared.tables.Tables.{Tables}
 use Rattle.atl_tables.specs.declared.world.RegionPlan.{RegionPlan}
-use Rattle.atl_tables.proofs.FaultLaws.{stops_on, gives_after}
+use Rattle.atl_tables.proofs.FaultLaws.{exits, stops_on, gives_after}
 use Rattle.atl_tables.proofs.WorldLaws.{is_world}
 use Rattle.atl_tables.proofs.reading.join.Goals as goal
 
@@ -32,10 +31,9 @@ planet_is all p regions e q = ap (made_of all p) q ∙ ap (λ (x : Parts). made_
 pub returns-in_err-mutual_neighbours : goal.returns-in_err-mutual_neighbours
 unfolding neighbours_are_mutual
 returns-in_err-mutual_neighbours c =
-    let p = err_from_is_err_and c.from_residual-in_err-mutual_neighbours.result c.from_residual-in_err-mutual_neighbours.ensures.1 in
     let all = c.args.all in
     let made = c.in_ok-regions.ensures.value ∙ regions_are all c.args.parts c.into_vec.result.items c.requires.parts c.into_vec.ensures in
-    rw (p.1, p.2) (stops_on c.in_err-mutual_neighbours.field-0.0 (neighbours_are_mutual all) (land all) (rw (c.as_slice.ensures, made) at c.in_err-mutual_neighbours.ensures.value))
+    exits _ _ _ _ _ c.from_residual-in_err-mutual_neighbours.ensures.1 (stops_on c.in_err-mutual_neighbours.field-0.0 (neighbours_are_mutual all) (land all) (rw (c.as_slice.ensures, made) at c.in_err-mutual_neighbours.ensures.value))
 
 pub with_land-requires : goal.with_land-requires
 with_land-requires c =

@@ -1,5 +1,4 @@
 use Rattle.std.proofs.Common.{◌++◌, codes}
-use Rattle.std.proofs.lemmas.Result.{err_from_is_err_and}
 use Rattle.atl_tables.specs.Each.{each}
 use Rattle.atl_tables.specs.Faults.{Conditions}
 use Rattle.atl_tables.specs.Regions.{twin_numbers}
@@ -7,7 +6,7 @@ use Rattle.atl_tables.specs.TerrainTable.{terrain_twins}
 use Rattle.atl_tables.specs.Titles.{twins}
 use Rattle.atl_tables.specs.World.{names_differ}
 use Rattle.atl_tables.specs.declared.tables.Tables.{Tables}
-use Rattle.atl_tables.proofs.FaultLaws.{stops_on, stops_after, gives_after}
+use Rattle.atl_tables.proofs.FaultLaws.{exits, stops_on, stops_after, gives_after}
 use Rattle.atl_tables.proofs.reading.names_differ.Goals as goal
 
 abbrev terrains : Tables → Conditions
@@ -31,42 +30,37 @@ outputs all = each terrain_twins 0 all.terrains
 pub returns-in_err-no_twins : goal.returns-in_err-no_twins
 unfolding names_differ
 returns-in_err-no_twins c =
-    let p = err_from_is_err_and c.from_residual.result c.from_residual.ensures.1 in
     let t = c.args.all.now in
     let e = c.in_err-no_twins.field-0.0 in
-    rw (p.1, p.2) (stops_on e (terrains t) (items t ++ (skills t ++ (kinds t ++ (numbers t ++ outputs t)))) (rw c.as_slice.ensures at c.in_err-no_twins.ensures))
+    exits _ _ _ _ _ c.from_residual.ensures.1 (stops_on e (terrains t) (items t ++ (skills t ++ (kinds t ++ (numbers t ++ outputs t)))) (rw c.as_slice.ensures at c.in_err-no_twins.ensures))
 
 pub returns-in_err-no_twins-2 : goal.returns-in_err-no_twins-2
 unfolding names_differ
 returns-in_err-no_twins-2 c =
-    let p = err_from_is_err_and c.from_residual-in_err-no_twins-2.result c.from_residual-in_err-no_twins-2.ensures.1 in
     let t = c.args.all.now in
     let e = c.in_err-no_twins-2.field-0.0 in
-    rw (p.1, p.2) (stops_after e (terrains t) (items t ++ (skills t ++ (kinds t ++ (numbers t ++ outputs t)))) (rw c.as_slice.ensures at c.in_ok-no_twins.ensures.0) (stops_on e (items t) (skills t ++ (kinds t ++ (numbers t ++ outputs t))) (rw c.as_slice-2.ensures at c.in_err-no_twins-2.ensures)))
+    exits _ _ _ _ _ c.from_residual-in_err-no_twins-2.ensures.1 (stops_after e (terrains t) (items t ++ (skills t ++ (kinds t ++ (numbers t ++ outputs t)))) (rw c.as_slice.ensures at c.in_ok-no_twins.ensures.0) (stops_on e (items t) (skills t ++ (kinds t ++ (numbers t ++ outputs t))) (rw c.as_slice-2.ensures at c.in_err-no_twins-2.ensures)))
 
 pub returns-in_err-no_twins-3 : goal.returns-in_err-no_twins-3
 unfolding names_differ
 returns-in_err-no_twins-3 c =
-    let p = err_from_is_err_and c.from_residual-in_err-no_twins-3.result c.from_residual-in_err-no_twins-3.ensures.1 in
     let t = c.args.all.now in
     let e = c.in_err-no_twins-3.field-0.0 in
-    rw (p.1, p.2) (stops_after e (terrains t) (items t ++ (skills t ++ (kinds t ++ (numbers t ++ outputs t)))) (rw c.as_slice.ensures at c.in_ok-no_twins.ensures.0) (stops_after e (items t) (skills t ++ (kinds t ++ (numbers t ++ outputs t))) (rw c.as_slice-2.ensures at c.in_ok-no_twins-2.ensures.0) (stops_on e (skills t) (kinds t ++ (numbers t ++ outputs t)) (rw c.as_slice-3.ensures at c.in_err-no_twins-3.ensures))))
+    exits _ _ _ _ _ c.from_residual-in_err-no_twins-3.ensures.1 (stops_after e (terrains t) (items t ++ (skills t ++ (kinds t ++ (numbers t ++ outputs t)))) (rw c.as_slice.ensures at c.in_ok-no_twins.ensures.0) (stops_after e (items t) (skills t ++ (kinds t ++ (numbers t ++ outputs t))) (rw c.as_slice-2.ensures at c.in_ok-no_twins-2.ensures.0) (stops_on e (skills t) (kinds t ++ (numbers t ++ outputs t)) (rw c.as_slice-3.ensures at c.in_err-no_twins-3.ensures))))
 
 pub returns-in_err-no_twins-4 : goal.returns-in_err-no_twins-4
 unfolding names_differ
 returns-in_err-no_twins-4 c =
-    let p = err_from_is_err_and c.from_residual-in_err-no_twins-4.result c.from_residual-in_err-no_twins-4.ensures.1 in
     let t = c.args.all.now in
     let e = c.in_err-no_twins-4.field-0.0 in
-    rw (p.1, p.2) (stops_after e (terrains t) (items t ++ (skills t ++ (kinds t ++ (numbers t ++ outputs t)))) (rw c.as_slice.ensures at c.in_ok-no_twins.ensures.0) (stops_after e (items t) (skills t ++ (kinds t ++ (numbers t ++ outputs t))) (rw c.as_slice-2.ensures at c.in_ok-no_twins-2.ensures.0) (stops_after e (skills t) (kinds t ++ (numbers t ++ outputs t)) (rw c.as_slice-3.ensures at c.in_ok-no_twins-3.ensures.0) (stops_on e (kinds t) (numbers t ++ outputs t) (rw c.as_slice-4.ensures at c.in_err-no_twins-4.ensures)))))
+    exits _ _ _ _ _ c.from_residual-in_err-no_twins-4.ensures.1 (stops_after e (terrains t) (items t ++ (skills t ++ (kinds t ++ (numbers t ++ outputs t)))) (rw c.as_slice.ensures at c.in_ok-no_twins.ensures.0) (stops_after e (items t) (skills t ++ (kinds t ++ (numbers t ++ outputs t))) (rw c.as_slice-2.ensures at c.in_ok-no_twins-2.ensures.0) (stops_after e (skills t) (kinds t ++ (numbers t ++ outputs t)) (rw c.as_slice-3.ensures at c.in_ok-no_twins-3.ensures.0) (stops_on e (kinds t) (numbers t ++ outputs t) (rw c.as_slice-4.ensures at c.in_err-no_twins-4.ensures)))))
 
 pub returns-in_err-no_twin_numbers : goal.returns-in_err-no_twin_numbers
 unfolding names_differ
 returns-in_err-no_twin_numbers c =
-    let p = err_from_is_err_and c.from_residual-in_err-no_twin_numbers.result c.from_residual-in_err-no_twin_numbers.ensures.1 in
     let t = c.args.all.now in
     let e = c.in_err-no_twin_numbers.field-0.0 in
-    rw (p.1, p.2) (stops_after e (terrains t) (items t ++ (skills t ++ (kinds t ++ (numbers t ++ outputs t)))) (rw c.as_slice.ensures at c.in_ok-no_twins.ensures.0) (stops_after e (items t) (skills t ++ (kinds t ++ (numbers t ++ outputs t))) (rw c.as_slice-2.ensures at c.in_ok-no_twins-2.ensures.0) (stops_after e (skills t) (kinds t ++ (numbers t ++ outputs t)) (rw c.as_slice-3.ensures at c.in_ok-no_twins-3.ensures.0) (stops_after e (kinds t) (numbers t ++ outputs t) (rw c.as_slice-4.ensures at c.in_ok-no_twins-4.ensures.0) (stops_on e (numbers t) (outputs t) (rw c.as_slice-5.ensures at c.in_err-no_twin_numbers.ensures))))))
+    exits _ _ _ _ _ c.from_residual-in_err-no_twin_numbers.ensures.1 (stops_after e (terrains t) (items t ++ (skills t ++ (kinds t ++ (numbers t ++ outputs t)))) (rw c.as_slice.ensures at c.in_ok-no_twins.ensures.0) (stops_after e (items t) (skills t ++ (kinds t ++ (numbers t ++ outputs t))) (rw c.as_slice-2.ensures at c.in_ok-no_twins-2.ensures.0) (stops_after e (skills t) (kinds t ++ (numbers t ++ outputs t)) (rw c.as_slice-3.ensures at c.in_ok-no_twins-3.ensures.0) (stops_after e (kinds t) (numbers t ++ outputs t) (rw c.as_slice-4.ensures at c.in_ok-no_twins-4.ensures.0) (stops_on e (numbers t) (outputs t) (rw c.as_slice-5.ensures at c.in_err-no_twin_numbers.ensures))))))
 
 pub returns : goal.returns
 unfolding names_differ

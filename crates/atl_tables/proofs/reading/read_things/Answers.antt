@@ -1,5 +1,4 @@
 use Rattle.std.proofs.Common.{◌++◌, codes, refl}
-use Rattle.std.proofs.lemmas.Result.{err_from_is_err_and}
 use Rattle.toml.specs.Data.{Members}
 use Rattle.toml.specs.View.{table_view}
 use Rattle.atl_tables.specs.Arrays.{list_conditions}
@@ -10,7 +9,7 @@ use Rattle.atl_tables.specs.KindTable.{kind_keys}
 use Rattle.atl_tables.specs.Limits.{most_items, most_skills, most_kinds}
 use Rattle.atl_tables.specs.SkillTable.{skill_keys}
 use Rattle.atl_tables.specs.World.{things_are_good, things_of}
-use Rattle.atl_tables.proofs.FaultLaws.{stops_on, stops_after, passes_both}
+use Rattle.atl_tables.proofs.FaultLaws.{exits, stops_on, stops_after, passes_both}
 use Rattle.atl_tables.proofs.reading.read_things.Goals as goal
 
 abbrev items : Members → Conditions
@@ -25,26 +24,23 @@ kinds doc = list_conditions kind_keys (codes "kind") (optional_array_at most_kin
 pub returns-in_err-items-clause-value : goal.returns-in_err-items-clause-value
 unfolding things_are_good
 returns-in_err-items-clause-value c =
-    let p = err_from_is_err_and c.from_residual.result c.from_residual.ensures.1 in
     let t = table_view c.args.document.now in
     let e = c.in_err-items.field-0.0 in
-    rw (p.1, p.2) (stops_on e (items t) (skills t ++ kinds t) c.in_err-items.ensures.value)
+    exits _ _ _ _ _ c.from_residual.ensures.1 (stops_on e (items t) (skills t ++ kinds t) c.in_err-items.ensures.value)
 
 pub returns-in_err-skills-clause-value : goal.returns-in_err-skills-clause-value
 unfolding things_are_good
 returns-in_err-skills-clause-value c =
-    let p = err_from_is_err_and c.from_residual-in_err-skills.result c.from_residual-in_err-skills.ensures.1 in
     let t = table_view c.args.document.now in
     let e = c.in_err-skills.field-0.0 in
-    rw (p.1, p.2) (stops_after e (items t) (skills t ++ kinds t) c.in_ok-items.ensures.value.0 (stops_on e (skills t) (kinds t) c.in_err-skills.ensures.value))
+    exits _ _ _ _ _ c.from_residual-in_err-skills.ensures.1 (stops_after e (items t) (skills t ++ kinds t) c.in_ok-items.ensures.value.0 (stops_on e (skills t) (kinds t) c.in_err-skills.ensures.value))
 
 pub returns-in_err-kinds-clause-value : goal.returns-in_err-kinds-clause-value
 unfolding things_are_good
 returns-in_err-kinds-clause-value c =
-    let p = err_from_is_err_and c.from_residual-in_err-kinds.result c.from_residual-in_err-kinds.ensures.1 in
     let t = table_view c.args.document.now in
     let e = c.in_err-kinds.field-0.0 in
-    rw (p.1, p.2) (stops_after e (items t) (skills t ++ kinds t) c.in_ok-items.ensures.value.0 (stops_after e (skills t) (kinds t) c.in_ok-skills.ensures.value.0 c.in_err-kinds.ensures.value))
+    exits _ _ _ _ _ c.from_residual-in_err-kinds.ensures.1 (stops_after e (items t) (skills t ++ kinds t) c.in_ok-items.ensures.value.0 (stops_after e (skills t) (kinds t) c.in_ok-skills.ensures.value.0 c.in_err-kinds.ensures.value))
 
 pub returns-clause-value : goal.returns-clause-value
 unfolding things_are_good things_of

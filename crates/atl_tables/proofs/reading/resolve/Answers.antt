@@ -1,5 +1,4 @@
 use Rattle.std.proofs.Common.{◌++◌, refl}
-use Rattle.std.proofs.lemmas.Result.{err_from_is_err_and}
 use Rattle.atl_tables.specs.Each.{each}
 use Rattle.atl_tables.specs.Faults.{Conditions}
 use Rattle.atl_tables.specs.ItemTable.{item_known}
@@ -9,7 +8,7 @@ use Rattle.atl_tables.specs.RulesTable.{rules_known}
 use Rattle.atl_tables.specs.TerrainTable.{terrain_known}
 use Rattle.atl_tables.specs.World.{names_are_known}
 use Rattle.atl_tables.specs.declared.tables.Tables.{Tables}
-use Rattle.atl_tables.proofs.FaultLaws.{stops_on, stops_after, passes_both}
+use Rattle.atl_tables.proofs.FaultLaws.{exits, stops_on, stops_after, passes_both}
 use Rattle.atl_tables.proofs.reading.resolve.Goals as goal
 
 abbrev rules : Tables → Conditions
@@ -30,42 +29,37 @@ regions all = each (region_known all) 0 all.regions
 pub returns-in_err-rules-clause-value : goal.returns-in_err-rules-clause-value
 unfolding names_are_known
 returns-in_err-rules-clause-value c =
-    let p = err_from_is_err_and c.from_residual.result c.from_residual.ensures.1 in
     let t = c.args.all.now in
     let e = c.in_err-rules.field-0.0 in
-    rw (p.1, p.2) (stops_on e (rules t) (terrains t ++ (items t ++ (kinds t ++ regions t))) c.in_err-rules.ensures.value)
+    exits _ _ _ _ _ c.from_residual.ensures.1 (stops_on e (rules t) (terrains t ++ (items t ++ (kinds t ++ regions t))) c.in_err-rules.ensures.value)
 
 pub returns-in_err-terrains-clause-value : goal.returns-in_err-terrains-clause-value
 unfolding names_are_known
 returns-in_err-terrains-clause-value c =
-    let p = err_from_is_err_and c.from_residual-in_err-terrains.result c.from_residual-in_err-terrains.ensures.1 in
     let t = c.args.all.now in
     let e = c.in_err-terrains.field-0.0 in
-    rw (p.1, p.2) (stops_after e (rules t) (terrains t ++ (items t ++ (kinds t ++ regions t))) c.in_ok-rules.ensures.value.0 (stops_on e (terrains t) (items t ++ (kinds t ++ regions t)) (rw c.as_slice.ensures at c.in_err-terrains.ensures.value)))
+    exits _ _ _ _ _ c.from_residual-in_err-terrains.ensures.1 (stops_after e (rules t) (terrains t ++ (items t ++ (kinds t ++ regions t))) c.in_ok-rules.ensures.value.0 (stops_on e (terrains t) (items t ++ (kinds t ++ regions t)) (rw c.as_slice.ensures at c.in_err-terrains.ensures.value)))
 
 pub returns-in_err-items-clause-value : goal.returns-in_err-items-clause-value
 unfolding names_are_known
 returns-in_err-items-clause-value c =
-    let p = err_from_is_err_and c.from_residual-in_err-items.result c.from_residual-in_err-items.ensures.1 in
     let t = c.args.all.now in
     let e = c.in_err-items.field-0.0 in
-    rw (p.1, p.2) (stops_after e (rules t) (terrains t ++ (items t ++ (kinds t ++ regions t))) c.in_ok-rules.ensures.value.0 (stops_after e (terrains t) (items t ++ (kinds t ++ regions t)) (rw c.as_slice.ensures at c.in_ok-terrains.ensures.value.0) (stops_on e (items t) (kinds t ++ regions t) (rw c.as_slice-2.ensures at c.in_err-items.ensures.value))))
+    exits _ _ _ _ _ c.from_residual-in_err-items.ensures.1 (stops_after e (rules t) (terrains t ++ (items t ++ (kinds t ++ regions t))) c.in_ok-rules.ensures.value.0 (stops_after e (terrains t) (items t ++ (kinds t ++ regions t)) (rw c.as_slice.ensures at c.in_ok-terrains.ensures.value.0) (stops_on e (items t) (kinds t ++ regions t) (rw c.as_slice-2.ensures at c.in_err-items.ensures.value))))
 
 pub returns-in_err-kinds-clause-value : goal.returns-in_err-kinds-clause-value
 unfolding names_are_known
 returns-in_err-kinds-clause-value c =
-    let p = err_from_is_err_and c.from_residual-in_err-kinds.result c.from_residual-in_err-kinds.ensures.1 in
     let t = c.args.all.now in
     let e = c.in_err-kinds.field-0.0 in
-    rw (p.1, p.2) (stops_after e (rules t) (terrains t ++ (items t ++ (kinds t ++ regions t))) c.in_ok-rules.ensures.value.0 (stops_after e (terrains t) (items t ++ (kinds t ++ regions t)) (rw c.as_slice.ensures at c.in_ok-terrains.ensures.value.0) (stops_after e (items t) (kinds t ++ regions t) (rw c.as_slice-2.ensures at c.in_ok-items.ensures.value.0) (stops_on e (kinds t) (regions t) (rw c.as_slice-3.ensures at c.in_err-kinds.ensures.value)))))
+    exits _ _ _ _ _ c.from_residual-in_err-kinds.ensures.1 (stops_after e (rules t) (terrains t ++ (items t ++ (kinds t ++ regions t))) c.in_ok-rules.ensures.value.0 (stops_after e (terrains t) (items t ++ (kinds t ++ regions t)) (rw c.as_slice.ensures at c.in_ok-terrains.ensures.value.0) (stops_after e (items t) (kinds t ++ regions t) (rw c.as_slice-2.ensures at c.in_ok-items.ensures.value.0) (stops_on e (kinds t) (regions t) (rw c.as_slice-3.ensures at c.in_err-kinds.ensures.value)))))
 
 pub returns-in_err-regions-clause-value : goal.returns-in_err-regions-clause-value
 unfolding names_are_known
 returns-in_err-regions-clause-value c =
-    let p = err_from_is_err_and c.from_residual-in_err-regions.result c.from_residual-in_err-regions.ensures.1 in
     let t = c.args.all.now in
     let e = c.in_err-regions.field-0.0 in
-    rw (p.1, p.2) (stops_after e (rules t) (terrains t ++ (items t ++ (kinds t ++ regions t))) c.in_ok-rules.ensures.value.0 (stops_after e (terrains t) (items t ++ (kinds t ++ regions t)) (rw c.as_slice.ensures at c.in_ok-terrains.ensures.value.0) (stops_after e (items t) (kinds t ++ regions t) (rw c.as_slice-2.ensures at c.in_ok-items.ensures.value.0) (stops_after e (kinds t) (regions t) (rw c.as_slice-3.ensures at c.in_ok-kinds.ensures.value.0) (rw c.as_slice-4.ensures at c.in_err-regions.ensures.value)))))
+    exits _ _ _ _ _ c.from_residual-in_err-regions.ensures.1 (stops_after e (rules t) (terrains t ++ (items t ++ (kinds t ++ regions t))) c.in_ok-rules.ensures.value.0 (stops_after e (terrains t) (items t ++ (kinds t ++ regions t)) (rw c.as_slice.ensures at c.in_ok-terrains.ensures.value.0) (stops_after e (items t) (kinds t ++ regions t) (rw c.as_slice-2.ensures at c.in_ok-items.ensures.value.0) (stops_after e (kinds t) (regions t) (rw c.as_slice-3.ensures at c.in_ok-kinds.ensures.value.0) (rw c.as_slice-4.ensures at c.in_err-regions.ensures.value)))))
 
 pub returns-clause-value : goal.returns-clause-value
 unfolding names_are_known

@@ -1,5 +1,4 @@
 use Rattle.std.proofs.Common.{◌++◌, codes, refl}
-use Rattle.std.proofs.lemmas.Result.{err_from_is_err_and}
 use Rattle.toml.specs.Data.{Members}
 use Rattle.toml.specs.View.{table_view}
 use Rattle.atl_tables.specs.Arrays.{list_conditions}
@@ -10,7 +9,7 @@ use Rattle.atl_tables.specs.RegionTable.{region_keys}
 use Rattle.atl_tables.specs.RulesTable.{rules_conditions}
 use Rattle.atl_tables.specs.TerrainTable.{terrain_keys}
 use Rattle.atl_tables.specs.World.{things_are_good, keys_are_good, tables_of}
-use Rattle.atl_tables.proofs.FaultLaws.{stops_on, stops_after, passes_both}
+use Rattle.atl_tables.proofs.FaultLaws.{exits, stops_on, stops_after, passes_both}
 use Rattle.atl_tables.proofs.reading.tables.Goals as goal
 
 abbrev rules : Members → Conditions
@@ -28,34 +27,30 @@ regions doc = list_conditions region_keys (codes "region") (array_at most_region
 pub returns-in_err-rules-clause-value : goal.returns-in_err-rules-clause-value
 unfolding keys_are_good
 returns-in_err-rules-clause-value c =
-    let p = err_from_is_err_and c.from_residual.result c.from_residual.ensures.1 in
     let t = table_view c.args.document.now in
     let e = c.in_err-rules.field-0.0 in
-    rw (p.1, p.2) (stops_on e (rules t) (terrains t ++ (things t ++ regions t)) c.in_err-rules.ensures.value)
+    exits _ _ _ _ _ c.from_residual.ensures.1 (stops_on e (rules t) (terrains t ++ (things t ++ regions t)) c.in_err-rules.ensures.value)
 
 pub returns-in_err-terrains-clause-value : goal.returns-in_err-terrains-clause-value
 unfolding keys_are_good
 returns-in_err-terrains-clause-value c =
-    let p = err_from_is_err_and c.from_residual-in_err-terrains.result c.from_residual-in_err-terrains.ensures.1 in
     let t = table_view c.args.document.now in
     let e = c.in_err-terrains.field-0.0 in
-    rw (p.1, p.2) (stops_after e (rules t) (terrains t ++ (things t ++ regions t)) c.in_ok-rules.ensures.value.0 (stops_on e (terrains t) (things t ++ regions t) c.in_err-terrains.ensures.value))
+    exits _ _ _ _ _ c.from_residual-in_err-terrains.ensures.1 (stops_after e (rules t) (terrains t ++ (things t ++ regions t)) c.in_ok-rules.ensures.value.0 (stops_on e (terrains t) (things t ++ regions t) c.in_err-terrains.ensures.value))
 
 pub returns-in_err-things-clause-value : goal.returns-in_err-things-clause-value
 unfolding keys_are_good
 returns-in_err-things-clause-value c =
-    let p = err_from_is_err_and c.from_residual-in_err-things.result c.from_residual-in_err-things.ensures.1 in
     let t = table_view c.args.document.now in
     let e = c.in_err-things.field-0.0 in
-    rw (p.1, p.2) (stops_after e (rules t) (terrains t ++ (things t ++ regions t)) c.in_ok-rules.ensures.value.0 (stops_after e (terrains t) (things t ++ regions t) c.in_ok-terrains.ensures.value.0 (stops_on e (things t) (regions t) c.in_err-things.ensures.value)))
+    exits _ _ _ _ _ c.from_residual-in_err-things.ensures.1 (stops_after e (rules t) (terrains t ++ (things t ++ regions t)) c.in_ok-rules.ensures.value.0 (stops_after e (terrains t) (things t ++ regions t) c.in_ok-terrains.ensures.value.0 (stops_on e (things t) (regions t) c.in_err-things.ensures.value)))
 
 pub returns-in_err-regions-clause-value : goal.returns-in_err-regions-clause-value
 unfolding keys_are_good
 returns-in_err-regions-clause-value c =
-    let p = err_from_is_err_and c.from_residual-in_err-regions.result c.from_residual-in_err-regions.ensures.1 in
     let t = table_view c.args.document.now in
     let e = c.in_err-regions.field-0.0 in
-    rw (p.1, p.2) (stops_after e (rules t) (terrains t ++ (things t ++ regions t)) c.in_ok-rules.ensures.value.0 (stops_after e (terrains t) (things t ++ regions t) c.in_ok-terrains.ensures.value.0 (stops_after e (things t) (regions t) c.in_ok-things.ensures.value.0 c.in_err-regions.ensures.value)))
+    exits _ _ _ _ _ c.from_residual-in_err-regions.ensures.1 (stops_after e (rules t) (terrains t ++ (things t ++ regions t)) c.in_ok-rules.ensures.value.0 (stops_after e (terrains t) (things t ++ regions t) c.in_ok-terrains.ensures.value.0 (stops_after e (things t) (regions t) c.in_ok-things.ensures.value.0 c.in_err-regions.ensures.value)))
 
 pub returns-clause-value : goal.returns-clause-value
 unfolding keys_are_good tables_of

@@ -1,32 +1,26 @@
 use Rattle.std.proofs.Common.{refl}
-use Rattle.std.proofs.lemmas.Result.{err_from_is_err_and}
 use Rattle.atl_tables.specs.RegionTable.{side_keys, sides_from}
-use Rattle.atl_tables.proofs.FaultLaws.{stops_first}
+use Rattle.atl_tables.proofs.FaultLaws.{exits, stops_first}
 use Rattle.atl_tables.proofs.region_table.read_sides.Goals as goal
 
 pub returns-in_err-north : goal.returns-in_err-north
 unfolding side_keys sides_from
-returns-in_err-north c =
-    let p = err_from_is_err_and c.from_residual.result c.from_residual.ensures.1 in
-    rw (p.1, p.2) (stops_first (λ x. x) c.in_err-north.field-0.0 _ _ c.in_err-north.ensures)
+returns-in_err-north c = exits _ _ _ _ _ c.from_residual.ensures.1 (stops_first (λ x. x) c.in_err-north.field-0.0 _ _ c.in_err-north.ensures)
 
 pub returns-in_err-south : goal.returns-in_err-south
 unfolding side_keys sides_from
 returns-in_err-south c =
-    let p = err_from_is_err_and c.from_residual-in_err-south.result c.from_residual-in_err-south.ensures.1 in
-    rw (p.1, p.2, c.in_ok-north.ensures) (stops_first (λ x. x) c.in_err-south.field-0.0 _ _ c.in_err-south.ensures)
+    rw c.in_ok-north.ensures (exits _ _ _ _ _ c.from_residual-in_err-south.ensures.1 (stops_first (λ x. x) c.in_err-south.field-0.0 _ _ c.in_err-south.ensures))
 
 pub returns-in_err-east : goal.returns-in_err-east
 unfolding side_keys sides_from
 returns-in_err-east c =
-    let p = err_from_is_err_and c.from_residual-in_err-east.result c.from_residual-in_err-east.ensures.1 in
-    rw (p.1, p.2, c.in_ok-north.ensures, c.in_ok-south.ensures) (stops_first (λ x. x) c.in_err-east.field-0.0 _ _ c.in_err-east.ensures)
+    rw (c.in_ok-north.ensures, c.in_ok-south.ensures) (exits _ _ _ _ _ c.from_residual-in_err-east.ensures.1 (stops_first (λ x. x) c.in_err-east.field-0.0 _ _ c.in_err-east.ensures))
 
 pub returns-in_err-west : goal.returns-in_err-west
 unfolding side_keys sides_from
 returns-in_err-west c =
-    let p = err_from_is_err_and c.from_residual-in_err-west.result c.from_residual-in_err-west.ensures.1 in
-    rw (p.1, p.2, c.in_ok-north.ensures, c.in_ok-south.ensures, c.in_ok-east.ensures) (stops_first (λ x. x) c.in_err-west.field-0.0 _ _ c.in_err-west.ensures)
+    rw (c.in_ok-north.ensures, c.in_ok-south.ensures, c.in_ok-east.ensures) (exits _ _ _ _ _ c.from_residual-in_err-west.ensures.1 (stops_first (λ x. x) c.in_err-west.field-0.0 _ _ c.in_err-west.ensures))
 
 pub returns : goal.returns
 unfolding side_keys sides_from

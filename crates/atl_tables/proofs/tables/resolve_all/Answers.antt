@@ -1,13 +1,12 @@
 use Rattle.std.proofs.Common.{◌+◌, ◌∷◌, [], drop, sym, ap, ◌∙◌, arith, length-append}
 use Rattle.std.proofs.lemmas.List.{drop_more}
-use Rattle.std.proofs.lemmas.Result.{err_from_is_err_and}
+use Rattle.atl_tables.proofs.FaultLaws.{exits}
 use Rattle.atl_tables.proofs.EachLaws.{goes_on_at, ends_at, mapped_on, place_push}
 use Rattle.atl_tables.proofs.tables.resolve_all.Goals as goal
 
 pub returns-in_err-record-clause-value : goal.returns-in_err-record-clause-value
 returns-in_err-record-clause-value g c =
-    let p = err_from_is_err_and c.from_residual.result c.from_residual.ensures.1 in
-    rw (p.1, p.2) (ends_at (g.D.Draft.unknown c.args.all.now) c.args.drafts.now c.loop-i.i c.index-drafts-i.result _ c.loop-i-test.true c.index-drafts-i.is c.loop-i.invariant.faults c.in_err-record.field-0.0 c.in_err-record.ensures.value)
+    exits _ _ _ _ _ c.from_residual.ensures.1 (ends_at (g.D.Draft.unknown c.args.all.now) c.args.drafts.now c.loop-i.i c.index-drafts-i.result _ c.loop-i-test.true c.index-drafts-i.is c.loop-i.invariant.faults c.in_err-record.field-0.0 c.in_err-record.ensures.value)
 
 pub loop-i-preserved : goal.loop-i-preserved
 loop-i-preserved g c =

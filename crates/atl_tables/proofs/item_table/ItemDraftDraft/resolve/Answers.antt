@@ -1,21 +1,18 @@
 use Rattle.std.proofs.Common.{refl}
-use Rattle.std.proofs.lemmas.Result.{err_from_is_err_and}
 use Rattle.atl_tables.specs.ItemTable.{item_known, item_of}
-use Rattle.atl_tables.proofs.FaultLaws.{stops_here}
+use Rattle.atl_tables.proofs.FaultLaws.{exits, stops_here}
 use Rattle.atl_tables.proofs.item_table.ItemDraftDraft.resolve.Goals as goal
 
 pub returns-in_err-skill-clause-value : goal.returns-in_err-skill-clause-value
 unfolding item_known item_of
 returns-in_err-skill-clause-value c =
-    let p = err_from_is_err_and c.from_residual-in_err-skill.result c.from_residual-in_err-skill.ensures.1 in
-    rw (p.1, p.2) (stops_here c.in_err-skill.field-0.0 _ _ (rw (c.as_str-at.ensures, c.in_ok-place.ensures, c.as_slice.ensures) at c.in_err-skill.ensures.value))
+    exits _ _ _ _ _ c.from_residual-in_err-skill.ensures.1 (stops_here c.in_err-skill.field-0.0 _ _ (rw (c.as_str-at.ensures, c.in_ok-place.ensures, c.as_slice.ensures) at c.in_err-skill.ensures.value))
 
 pub returns-in_err-raw-clause-value : goal.returns-in_err-raw-clause-value
 unfolding item_known item_of
 returns-in_err-raw-clause-value c =
-    let p = err_from_is_err_and c.from_residual-in_err-raw.result c.from_residual-in_err-raw.ensures.1 in
     let skill = rw (c.as_str-at.ensures, c.in_ok-place.ensures, c.as_slice.ensures) at c.in_ok-skill.ensures.value.0 in
-    rw (p.1, p.2, skill) (stops_here c.in_err-raw.field-0.0 _ _ (rw (c.as_str-at.ensures, c.in_ok-place.ensures, c.as_slice-2.ensures) at c.in_err-raw.ensures.value))
+    rw skill (exits _ _ _ _ _ c.from_residual-in_err-raw.ensures.1 (stops_here c.in_err-raw.field-0.0 _ _ (rw (c.as_str-at.ensures, c.in_ok-place.ensures, c.as_slice-2.ensures) at c.in_err-raw.ensures.value)))
 
 pub returns-clause-value : goal.returns-clause-value
 unfolding item_known item_of

@@ -1,29 +1,25 @@
 use Rattle.std.proofs.Common.{refl}
-use Rattle.std.proofs.lemmas.Result.{err_from_is_err_and}
 use Rattle.atl_tables.specs.KindTable.{kind_known, kind_of}
-use Rattle.atl_tables.proofs.FaultLaws.{stops_here}
+use Rattle.atl_tables.proofs.FaultLaws.{exits, stops_here}
 use Rattle.atl_tables.proofs.kind_table.KindDraftDraft.resolve.Goals as goal
 
 pub returns-in_err-material-clause-value : goal.returns-in_err-material-clause-value
 unfolding kind_known kind_of
 returns-in_err-material-clause-value c =
-    let p = err_from_is_err_and c.from_residual-in_err-material.result c.from_residual-in_err-material.ensures.1 in
-    rw (p.1, p.2) (stops_here c.in_err-material.field-0.0 _ _ (rw (c.as_str-at.ensures, c.in_ok-place.ensures, c.as_slice.ensures) at c.in_err-material.ensures.value))
+    exits _ _ _ _ _ c.from_residual-in_err-material.ensures.1 (stops_here c.in_err-material.field-0.0 _ _ (rw (c.as_str-at.ensures, c.in_ok-place.ensures, c.as_slice.ensures) at c.in_err-material.ensures.value))
 
 pub returns-in_err-skill-clause-value : goal.returns-in_err-skill-clause-value
 unfolding kind_known kind_of
 returns-in_err-skill-clause-value c =
-    let p = err_from_is_err_and c.from_residual-in_err-skill.result c.from_residual-in_err-skill.ensures.1 in
     let material = rw (c.as_str-at.ensures, c.in_ok-place.ensures, c.as_slice.ensures) at c.in_ok-material.ensures.value.0 in
-    rw (p.1, p.2, material) (stops_here c.in_err-skill.field-0.0 _ _ (rw (c.as_str-at.ensures, c.in_ok-place.ensures, c.as_slice-skills.ensures) at c.in_err-skill.ensures.value))
+    rw material (exits _ _ _ _ _ c.from_residual-in_err-skill.ensures.1 (stops_here c.in_err-skill.field-0.0 _ _ (rw (c.as_str-at.ensures, c.in_ok-place.ensures, c.as_slice-skills.ensures) at c.in_err-skill.ensures.value)))
 
 pub returns-in_err-helps-clause-value : goal.returns-in_err-helps-clause-value
 unfolding kind_known kind_of
 returns-in_err-helps-clause-value c =
-    let p = err_from_is_err_and c.from_residual-in_err-helps.result c.from_residual-in_err-helps.ensures.1 in
     let material = rw (c.as_str-at.ensures, c.in_ok-place.ensures, c.as_slice.ensures) at c.in_ok-material.ensures.value.0 in
     let skill = rw (c.as_str-at.ensures, c.in_ok-place.ensures, c.as_slice-skills.ensures) at c.in_ok-skill.ensures.value.0 in
-    rw (p.1, p.2, material, skill) (stops_here c.in_err-helps.field-0.0 _ _ (rw (c.as_str-at.ensures, c.in_ok-place.ensures, c.as_slice-skills.ensures) at c.in_err-helps.ensures.value))
+    rw (material, skill) (exits _ _ _ _ _ c.from_residual-in_err-helps.ensures.1 (stops_here c.in_err-helps.field-0.0 _ _ (rw (c.as_str-at.ensures, c.in_ok-place.ensures, c.as_slice-skills.ensures) at c.in_err-helps.ensures.value)))
 
 pub returns-clause-value : goal.returns-clause-value
 unfolding kind_known kind_of

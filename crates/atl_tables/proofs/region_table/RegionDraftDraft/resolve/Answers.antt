@@ -1,14 +1,12 @@
 use Rattle.std.proofs.Common.{refl}
-use Rattle.std.proofs.lemmas.Result.{err_from_is_err_and}
 use Rattle.atl_tables.specs.RegionTable.{region_known, region_of}
-use Rattle.atl_tables.proofs.FaultLaws.{stops_here}
+use Rattle.atl_tables.proofs.FaultLaws.{exits, stops_here}
 use Rattle.atl_tables.proofs.region_table.RegionDraftDraft.resolve.Goals as goal
 
 pub returns-in_err-terrain-clause-value : goal.returns-in_err-terrain-clause-value
 unfolding region_known region_of
 returns-in_err-terrain-clause-value c =
-    let p = err_from_is_err_and c.from_residual-in_err-terrain.result c.from_residual-in_err-terrain.ensures.1 in
-    rw (p.1, p.2) (stops_here c.in_err-terrain.field-0.0 _ _ (rw (c.as_str.ensures, c.in_ok-place.ensures, c.as_slice.ensures) at c.in_err-terrain.ensures.value))
+    exits _ _ _ _ _ c.from_residual-in_err-terrain.ensures.1 (stops_here c.in_err-terrain.field-0.0 _ _ (rw (c.as_str.ensures, c.in_ok-place.ensures, c.as_slice.ensures) at c.in_err-terrain.ensures.value))
 
 pub returns-clause-value : goal.returns-clause-value
 unfolding region_known region_of

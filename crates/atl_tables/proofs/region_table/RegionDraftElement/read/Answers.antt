@@ -1,20 +1,15 @@
 use Rattle.std.proofs.Common.{refl}
-use Rattle.std.proofs.lemmas.Result.{err_from_is_err_and}
 use Rattle.atl_tables.specs.RegionTable.{region_keys, region_from}
-use Rattle.atl_tables.proofs.FaultLaws.{stops_here}
+use Rattle.atl_tables.proofs.FaultLaws.{exits, stops_here}
 use Rattle.atl_tables.proofs.region_table.RegionDraftElement.read.Goals as goal
 
 pub returns-in_err-place-clause-value : goal.returns-in_err-place-clause-value
 unfolding region_keys region_from
-returns-in_err-place-clause-value c =
-    let p = err_from_is_err_and c.from_residual.result c.from_residual.ensures.1 in
-    rw (p.1, p.2) (stops_here c.in_err-place.field-0.0 _ _ c.in_err-place.ensures.value)
+returns-in_err-place-clause-value c = exits _ _ _ _ _ c.from_residual.ensures.1 (stops_here c.in_err-place.field-0.0 _ _ c.in_err-place.ensures.value)
 
 pub returns-in_err-sides-clause-value : goal.returns-in_err-sides-clause-value
 unfolding region_keys region_from
-returns-in_err-sides-clause-value c =
-    let p = err_from_is_err_and c.from_residual-in_err-sides.result c.from_residual-in_err-sides.ensures.1 in
-    rw (p.1, p.2, c.in_ok-place.ensures.value.0) c.in_err-sides.ensures
+returns-in_err-sides-clause-value c = rw c.in_ok-place.ensures.value.0 (exits _ _ _ _ _ c.from_residual-in_err-sides.ensures.1 c.in_err-sides.ensures)
 
 pub returns-clause-value : goal.returns-clause-value
 unfolding region_keys region_from

@@ -1,26 +1,22 @@
 use Rattle.std.proofs.Common.{refl}
-use Rattle.std.proofs.lemmas.Result.{err_from_is_err_and}
 use Rattle.atl_tables.specs.RulesTable.{peasant_keys, peasants_from}
-use Rattle.atl_tables.proofs.FaultLaws.{stops_first}
+use Rattle.atl_tables.proofs.FaultLaws.{exits, stops_first}
 use Rattle.atl_tables.proofs.rules_table.PeasantRulesElement.read.Goals as goal
 
 pub returns-in_err-recruit_fraction-clause-value : goal.returns-in_err-recruit_fraction-clause-value
 unfolding peasant_keys peasants_from
 returns-in_err-recruit_fraction-clause-value c =
-    let p = err_from_is_err_and c.from_residual.result c.from_residual.ensures.1 in
-    rw (p.1, p.2) (stops_first (λ x. x) c.in_err-recruit_fraction.field-0.0 _ _ c.in_err-recruit_fraction.ensures.value)
+    exits _ _ _ _ _ c.from_residual.ensures.1 (stops_first (λ x. x) c.in_err-recruit_fraction.field-0.0 _ _ c.in_err-recruit_fraction.ensures.value)
 
 pub returns-in_err-growth-clause-value : goal.returns-in_err-growth-clause-value
 unfolding peasant_keys peasants_from
 returns-in_err-growth-clause-value c =
-    let p = err_from_is_err_and c.from_residual-in_err-growth.result c.from_residual-in_err-growth.ensures.1 in
-    rw (p.1, p.2, c.in_ok-recruit_fraction.ensures.value) (stops_first (λ x. x) c.in_err-growth.field-0.0 _ _ c.in_err-growth.ensures.value)
+    rw c.in_ok-recruit_fraction.ensures.value (exits _ _ _ _ _ c.from_residual-in_err-growth.ensures.1 (stops_first (λ x. x) c.in_err-growth.field-0.0 _ _ c.in_err-growth.ensures.value))
 
 pub returns-in_err-income-clause-value : goal.returns-in_err-income-clause-value
 unfolding peasant_keys peasants_from
 returns-in_err-income-clause-value c =
-    let p = err_from_is_err_and c.from_residual-in_err-income.result c.from_residual-in_err-income.ensures.1 in
-    rw (p.1, p.2, c.in_ok-recruit_fraction.ensures.value, c.in_ok-growth.ensures.value) (stops_first (λ x. x) c.in_err-income.field-0.0 _ _ c.in_err-income.ensures.value)
+    rw (c.in_ok-recruit_fraction.ensures.value, c.in_ok-growth.ensures.value) (exits _ _ _ _ _ c.from_residual-in_err-income.ensures.1 (stops_first (λ x. x) c.in_err-income.field-0.0 _ _ c.in_err-income.ensures.value))
 
 pub returns-clause-value : goal.returns-clause-value
 unfolding peasant_keys peasants_from
