@@ -10,13 +10,7 @@ use Rattle.atl_tables.specs.declared.fault.WorldFault.{WorldFault}
 use Rattle.atl_tables.specs.declared.fault.WorldFault.TheVariants.{BadNeighbour}
 use Rattle.atl_tables.specs.declared.region_table.RegionDraft.{RegionDraft}
 use Rattle.atl_tables.specs.declared.world.RegionPlan.{RegionPlan}
-
--- the neighbour on a side
-abbrev pub on_side : Direction → RegionPlan → Option ℕ
-on_side North p = p.north
-on_side South p = p.south
-on_side East p = p.east
-on_side West p = p.west
+use Rattle.atl_tables.specs.Planet.{beside}
 
 abbrev pub is_number : ℕ → Option ℕ → Bool
 is_number n None = false
@@ -25,7 +19,7 @@ is_number n (Some m) = m == n
 -- a neighbour of the region with this number, which has that region on the side named
 abbrev pub neighbour : List ℕ → FinMap nat_cmp RegionPlan → Direction → ℕ → Option ℕ → Option WorldFault
 neighbour p regions opposite number None = None
-neighbour p regions opposite number (Some m) = if is_number number (option_and_then (on_side opposite) (get regions m)) then None else Some (BadNeighbour p)
+neighbour p regions opposite number (Some m) = if is_number number (option_and_then (beside opposite) (get regions m)) then None else Some (BadNeighbour p)
 
 unfoldable pub neighbours_at : FinMap nat_cmp RegionPlan → ℕ → RegionDraft → Conditions
 neighbours_at regions i d =

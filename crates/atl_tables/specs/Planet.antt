@@ -5,6 +5,8 @@ use Rattle.std.specs.Option.{option_map_or}
 use Rattle.std.specs.Ordering.{nat_cmp}
 use Rattle.std.specs.Coded.{Coded, code_by, coded×, coded_ℕ, coded_list}
 use Rattle.std.specs.FinMap.{FinMap, code, get, len}
+use Rattle.atl_tables.specs.declared.direction.Direction.{Direction}
+use Rattle.atl_tables.specs.declared.direction.Direction.TheVariants.{North, South, East, West}
 use Rattle.atl_tables.specs.declared.world.Rules.{Rules}
 use Rattle.atl_tables.specs.declared.world.Terrain.{Terrain}
 use Rattle.atl_tables.specs.declared.world.Item.{Item}
@@ -44,6 +46,13 @@ is_land terrains plan = option_map_or (λ t. t.land) (slice_get terrains plan.te
 -- the regions with land, by number
 abbrev pub land_of : Planet → List ℕ
 land_of w = numbers_where (is_land w.terrains) w.regions
+
+-- the neighbour of a region in a direction
+abbrev pub beside : Direction → RegionPlan → Option ℕ
+beside North p = p.north
+beside South p = p.south
+beside East p = p.east
+beside West p = p.west
 
 -- ---- what is true of every world: each number in its range, and each number of another thing below their count
 pub record AreRules (skills : ℕ) (r : Rules) : Type 0 where

@@ -87,7 +87,7 @@ impl WorldFault {
 impl From<AllocError> for WorldFault {
     ghost from_gives = { λ _ e. e ≡ Memory };
 
-    fn from(_e: AllocError) -> WorldFault {
+    fn from(_error: AllocError) -> WorldFault {
         WorldFault::Memory
     }
 }
@@ -95,7 +95,7 @@ impl From<AllocError> for WorldFault {
 impl<T: Drop> From<AllocFailed<T>> for WorldFault {
     ghost from_gives = { λ _ e. e ≡ Memory };
 
-    fn from(_e: AllocFailed<T>) -> WorldFault {
+    fn from(_error: AllocFailed<T>) -> WorldFault {
         WorldFault::Memory
     }
 }

@@ -6,8 +6,8 @@ ghost use Rattle.atl_tables.specs.Each.{each};
 ghost use Rattle.atl_tables.specs.Faults.{first_fault};
 ghost use Rattle.atl_tables.specs.Given.{Gives};
 ghost use Rattle.atl_tables.specs.Keys.{path};
-ghost use Rattle.atl_tables.specs.Neighbours.{on_side, is_number, neighbour, neighbours_at};
-ghost use Rattle.atl_tables.specs.Planet.{LeadsBack, HasNeighbours};
+ghost use Rattle.atl_tables.specs.Neighbours.{is_number, neighbour, neighbours_at};
+ghost use Rattle.atl_tables.specs.Planet.{beside, LeadsBack, HasNeighbours};
 
 use crate::direction::Direction::{self, East, North, South, West};
 use crate::fault::WorldFault;
@@ -17,24 +17,13 @@ use crate::region_table::RegionDraft;
 use crate::world::RegionPlan;
 use std::alloc::Global;
 
-fn on_side(side: Direction, plan: &RegionPlan) -> Option<u32>
-    ensures { result ≡ on_side side plan.now }
-{
-    match side {
-        North => plan.north,
-        South => plan.south,
-        East => plan.east,
-        West => plan.west,
-    }
-}
-
 /// The neighbour of a region on a side, where there is such a region and it has one.
 fn beyond(regions: &Numbered<RegionPlan>, number: u32, side: Direction) -> Option<u32>
-    ensures { result ≡ option_and_then (on_side side) (get regions.now number) }
+    ensures { result ≡ option_and_then (beside side) (get regions.now number) }
 {
     match regions.get(number) {
         None => None,
-        Some(plan) => on_side(side, plan),
+        Some(plan) => plan.beside(side),
     }
 }
 
@@ -58,7 +47,7 @@ fn neighbour(
     other: Option<u32>,
 ) -> Result<(), WorldFault>
     ensures value { Gives (λ u. u) result (neighbour (path at.now key.now) regions.now opposite number other) (tt {0}) }
-    ensures back { OnOk result (LeadsBack regions.now (on_side opposite) number other) }
+    ensures back { OnOk result (LeadsBack regions.now (beside opposite) number other) }
 {
     match other {
         None => Ok(()),

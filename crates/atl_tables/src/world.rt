@@ -3,6 +3,7 @@ ghost use Rattle.std.specs.Prelude.{◌≡◌, ◌≤◌, ◌<◌, length};
 ghost use Rattle.std.specs.Option.{option_copied};
 ghost use Rattle.std.specs.FinMap as map;
 
+use crate::direction::Direction;
 use crate::numbered::Numbered;
 use crate::sequence::Sequence;
 use crate::text::Text;
@@ -142,6 +143,22 @@ pub struct RegionPlan {
     pub east: Option<u32>,
     /// The number of the region in the west, where there is one.
     pub west: Option<u32>,
+}
+
+impl RegionPlan {
+    ghost use Rattle.atl_tables.specs.Planet.{beside};
+
+    /// The number of the region on a side, where there is one.
+    pub fn beside(&self, direction: Direction) -> Option<u32>
+        ensures { result ≡ beside direction self.now }
+    {
+        match direction {
+            Direction::North => self.north,
+            Direction::South => self.south,
+            Direction::East => self.east,
+            Direction::West => self.west,
+        }
+    }
 }
 
 /// A whole world: what a world file without fault describes. Its terrains, items, skills and kinds are numbered from 0 in
