@@ -114,7 +114,7 @@ impl MailFault {
 impl From<AllocError> for MailFault {
     ghost from_gives = { λ _ e. e ≡ Memory };
 
-    fn from(_e: AllocError) -> MailFault {
+    fn from(_error: AllocError) -> MailFault {
         MailFault::Memory
     }
 }
@@ -122,7 +122,7 @@ impl From<AllocError> for MailFault {
 impl<T: Drop> From<AllocFailed<T>> for MailFault {
     ghost from_gives = { λ _ e. e ≡ Memory };
 
-    fn from(_e: AllocFailed<T>) -> MailFault {
+    fn from(_error: AllocFailed<T>) -> MailFault {
         MailFault::Memory
     }
 }

@@ -230,10 +230,7 @@ pub fn said_by(
         Verb::Move => Ok(move_at(line)),
         Verb::Sail => Ok(sail_at(line)),
         Verb::Build => Ok(build_at(world, line)),
-        Verb::Teach => {
-            let read = teach_at(alloc, line)?;
-            Ok(read)
-        }
+        Verb::Teach => teach_at(alloc, line),
         Verb::Study => Ok(study_at(world, line)),
         Verb::Produce => Ok(produce_at(world, line)),
         Verb::Work => Ok(Ok(Order::Work)),

@@ -1,3 +1,8 @@
+use Rattle.std.proofs.Common.{ℕ, List}
+use Rattle.std.proofs.lemmas.Result.{IfOk-weaker}
+use Rattle.atl_orders.specs.Words.{words}
+use Rattle.atl_orders.specs.Views.{Gives}
+use Rattle.atl_orders.specs.Orders.{said, teach_at}
 use Rattle.atl_orders.proofs.orders.said_by.Goals as goal
 
 pub returns-in-Form : goal.returns-in-Form
@@ -42,5 +47,6 @@ returns-in-Study c = rw c.in-Study.is (c.study_at.ensures c.args.cursor.text.now
 pub returns-in-Produce : goal.returns-in-Produce
 returns-in-Produce c = rw c.in-Produce.is (c.produce_at.ensures c.args.cursor.text.now)
 
-pub returns-in_ok-read-in-Teach : goal.returns-in_ok-read-in-Teach
-returns-in_ok-read-in-Teach c = rw c.in-Teach.is (c.in_ok-read-in-Teach.ensures c.args.cursor.text.now)
+pub returns-in-Teach : goal.returns-in-Teach
+returns-in-Teach c =
+    rw c.in-Teach.is (IfOk-weaker c.teach_at.result (λ read. (text : List ℕ) → Gives (said text) read (teach_at (words c.args.cursor.rest.now))) _ (λ _ says. says c.args.cursor.text.now) c.teach_at.ensures)
