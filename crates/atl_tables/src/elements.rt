@@ -61,7 +61,8 @@ fn elements<E: Element>(alloc: Global, key: &str, values: &Array) -> Result<Vec<
     Ok(read)
 }
 
-/// The elements of the array under a key of the document, at least one and at most so many.
+/// The elements of the array under a key of the document, at least one and at most so many, else Missing, WrongType or
+/// OutOfRange of the array, or the first fault of an element.
 #[tactic(auto, unfolding(crate::specs::Arrays::list_conditions, crate::specs::Arrays::list_of, crate::specs::Keys::array_at))]
 pub(crate) fn list<E: Element>(
     alloc: Global,
@@ -82,7 +83,8 @@ pub(crate) fn list<E: Element>(
     }
 }
 
-/// The elements of the array under a key of the document, at most so many, or none where there is no such array.
+/// The elements of the array under a key of the document, at most so many, or none where there is no such array; else
+/// WrongType or OutOfRange of the array, or the first fault of an element.
 #[tactic(auto, unfolding(crate::specs::Arrays::list_conditions, crate::specs::Arrays::list_of, crate::specs::Keys::optional_array_at))]
 pub(crate) fn optional_list<E: Element>(
     alloc: Global,

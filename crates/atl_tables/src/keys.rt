@@ -1,4 +1,4 @@
-//! What stands under a key of a table.
+//! What stands under a key of a table. Each fault has the path of the key, and `Memory` may come in place of each.
 ghost use Rattle.std.specs.Prelude.{◌≡◌, ◌≤◌, ℤ, List, option_map, IfOk, IfSome, true, length, string_bytes};
 ghost use Rattle.toml.specs.Data.{get_member, as_integer, as_str, as_array};
 ghost use Rattle.toml.specs.View.{view, table_view, array_view};
@@ -13,21 +13,21 @@ use std::alloc::{AllocError, Global};
 use toml::value::Array;
 use toml::{Table, Value};
 
-/// The path of a key.
+/// The path of a key in a table, as `rules.growth`.
 pub(crate) fn path(alloc: Global, at: &str, key: &str) -> Result<Text, AllocError>
     ensures { IfOk result (λ text. text ≡ path at.now key.now) }
 {
     Ok(Text::from_string(format!(in alloc; "{at}.{key}")?))
 }
 
-/// The path of an element.
+/// The path of an element of an array, as `region[0]`.
 pub(crate) fn indexed(alloc: Global, key: &str, i: usize) -> Result<Text, AllocError>
     ensures { IfOk result (λ text. text ≡ indexed key.now i) }
 {
     Ok(Text::from_string(format!(in alloc; "{key}[{i}]")?))
 }
 
-/// The value under a key.
+/// The value under a key, where there is one.
 pub(crate) fn member<'a>(table: &'a Table, key: &str) -> Option<&'a Value>
     ensures { option_map (λ v. view v.now) result ≡ get_member key.now (table_view table.now) }
 {
@@ -51,7 +51,7 @@ fn within(least: u32, most: u32, number: i64) -> Option<u32>
     }
 }
 
-/// The number that a value is, from `least` to `most`.
+/// The number that a value is, from `least` to `most`, else WrongType or OutOfRange.
 pub(crate) fn ranged(
     alloc: Global,
     least: u32,
@@ -73,7 +73,7 @@ pub(crate) fn ranged(
     }
 }
 
-/// A number under a key.
+/// A number under a key, from `least` to `most`, else Missing, WrongType or OutOfRange.
 #[tactic(auto, unfolding(crate::specs::Keys::number_at))]
 pub(crate) fn number(
     alloc: Global,
@@ -93,7 +93,7 @@ pub(crate) fn number(
     }
 }
 
-/// A number under a key, or `default` where there is none.
+/// A number under a key, from `least` to `most`, or `default` where there is none; else WrongType or OutOfRange.
 #[tactic(auto, unfolding(crate::specs::Keys::number_or_at))]
 pub(crate) fn number_or(
     alloc: Global,
@@ -116,7 +116,7 @@ pub(crate) fn number_or(
     }
 }
 
-/// A number under a key, where there is one.
+/// A number under a key, from `least` to `most`, where there is one; else WrongType or OutOfRange.
 #[tactic(auto, unfolding(crate::specs::Keys::optional_number_at))]
 pub(crate) fn optional_number(
     alloc: Global,
@@ -137,7 +137,7 @@ pub(crate) fn optional_number(
     }
 }
 
-/// A name under a key.
+/// A name under a key, else Missing, WrongType, or OutOfRange where it breaks the rule of names.
 #[tactic(auto, unfolding(crate::specs::Keys::name_at))]
 pub(crate) fn name(alloc: Global, key: &str, at: &str, table: &Table) -> Result<Text, WorldFault>
     ensures value { Reads (λ t. t) result (name_at key.now at.now (table_view table.now)) }
@@ -157,7 +157,7 @@ pub(crate) fn name(alloc: Global, key: &str, at: &str, table: &Table) -> Result<
     }
 }
 
-/// The text that a value is.
+/// The text that a value is, else WrongType.
 fn typed_text(alloc: Global, key: &str, at: &str, value: &Value) -> Result<Text, WorldFault>
     ensures { Reads (λ t. t) result (typed (path at.now key.now) (as_str (view value.now))) }
 {
@@ -167,7 +167,7 @@ fn typed_text(alloc: Global, key: &str, at: &str, value: &Value) -> Result<Text,
     }
 }
 
-/// A text under a key.
+/// A text under a key, else Missing or WrongType.
 #[tactic(auto, unfolding(crate::specs::Keys::text_at))]
 pub(crate) fn text(alloc: Global, key: &str, at: &str, table: &Table) -> Result<Text, WorldFault>
     ensures { Reads (λ t. t) result (text_at key.now at.now (table_view table.now)) }
@@ -178,7 +178,7 @@ pub(crate) fn text(alloc: Global, key: &str, at: &str, table: &Table) -> Result<
     }
 }
 
-/// A text under a key, where there is one.
+/// A text under a key, where there is one; else WrongType.
 #[tactic(auto, unfolding(crate::specs::Keys::optional_text_at))]
 pub(crate) fn optional_text(
     alloc: Global,
@@ -197,7 +197,7 @@ pub(crate) fn optional_text(
     }
 }
 
-/// A truth value under a key.
+/// A truth value under a key, else Missing or WrongType.
 #[tactic(auto, unfolding(crate::specs::Keys::flag_at))]
 pub(crate) fn flag(alloc: Global, key: &str, at: &str, table: &Table) -> Result<bool, WorldFault>
     ensures { Reads (λ b. b) result (flag_at key.now at.now (table_view table.now)) }
@@ -211,7 +211,7 @@ pub(crate) fn flag(alloc: Global, key: &str, at: &str, table: &Table) -> Result<
     }
 }
 
-/// A table of the document.
+/// A table of the document, else Missing or WrongType.
 #[tactic(auto, unfolding(crate::specs::Keys::table_at))]
 pub(crate) fn table<'a>(
     alloc: Global,
@@ -237,7 +237,7 @@ fn count(array: &Array) -> usize
     array.len()
 }
 
-/// The array that a value is, with at least `least` elements and at most `most`.
+/// The array that a value is, with at least `least` elements and at most `most`, else WrongType or OutOfRange.
 pub(crate) fn sized<'a>(
     alloc: Global,
     least: usize,

@@ -15,7 +15,7 @@ pub const MOST_KINDS: usize = 100;
 /// The most regions of a world.
 pub const MOST_REGIONS: usize = 2_500;
 
-/// The highest number of a region.
+/// The highest number of a region; the lowest is 1.
 pub const LAST_REGION: u32 = 9_999;
 
 /// The largest amount of money, of one item or of peasants.
@@ -24,26 +24,26 @@ pub const MOST_AMOUNT: u32 = 999_999_999;
 /// The most bytes of a name or of a pass text.
 pub const MOST_NAME_BYTES: usize = 40;
 
-/// The most money of a man or a peasant a month: maintenance, tax and income.
+/// The most money a month of one man or peasant: maintenance and tax of a man, income of a peasant.
 pub(crate) const MOST_PER_HEAD: u32 = 1_000;
 
-/// The highest price of a recruit, wage and fee.
+/// The most money that a recruit costs, a month of work pays, and a month of study costs a man.
 pub(crate) const MOST_PRICE: u32 = 1_000_000;
 
-/// The most peasants of whom one can be recruited.
+/// The most peasants of whom one can be recruited in a month.
 pub(crate) const MOST_FRACTION: u32 = 1_000;
 
-/// The most births in a hundred.
+/// The most births in a month, in percent of the peasants.
 pub(crate) const MOST_GROWTH: u32 = 100;
 
-/// The most that a man or an item weighs or carries.
+/// The most weight of a man or an item, and of what it carries.
 pub(crate) const MOST_WEIGHT: u32 = 10_000;
 
-/// The highest level of a skill.
+/// The highest level of a skill; the lowest that is learned is 1.
 pub const LAST_LEVEL: u32 = 5;
 
 /// The most raw items that one item is made of.
 pub(crate) const MOST_RAW_COUNT: u32 = 1_000;
 
-/// The largest size and crew of a structure.
+/// The largest size of a structure, in material, and the largest crew, in men times levels.
 pub const MOST_SIZE: u32 = 999_999;

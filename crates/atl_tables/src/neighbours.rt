@@ -36,7 +36,7 @@ fn is_number(number: u32, other: Option<u32>) -> bool
     }
 }
 
-/// That a region's neighbour under a key has the region on the opposite side.
+/// That a region's neighbour under a key, where it has one, has the region on the opposite side, else BadNeighbour.
 fn neighbour(
     alloc: Global,
     key: &str,
@@ -80,7 +80,7 @@ fn neighbours_of(
     neighbour(alloc, "west", at, regions, East, number, sides.west)
 }
 
-/// That the neighbours of all regions are mutual.
+/// That the neighbours of all regions are mutual, else BadNeighbour at the first that isn't, in the order of the file.
 pub(crate) fn mutual_neighbours(
     alloc: Global,
     regions: &Numbered<RegionPlan>,

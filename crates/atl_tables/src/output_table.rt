@@ -1,4 +1,4 @@
-//! The table `output` of a terrain.
+//! The table `output` of a terrain. See docs/FORMATS.md, "The world file".
 ghost use Rattle.std.specs.Prelude.{◌≡◌, ◌≤◌, IfOk, map};
 ghost use Rattle.std.specs.List.{All};
 ghost use Rattle.toml.specs.View.{table_view};
@@ -35,7 +35,7 @@ impl Titled for Output {
     }
 }
 
-/// Each key with its amount, in byte order.
+/// Each key with its amount, in byte order, else WrongType or OutOfRange at the first key without one.
 fn amounts(alloc: Global, at: &str, table: &Table) -> Result<Sequence<Output>, WorldFault>
     ensures value { Gives (λ v. v) result (first_fault (amounts_keys at.now (in_byte_order (table_view table.now)))) (amounts_from at.now (in_byte_order (table_view table.now))) }
     ensures sound { IfOk result (λ v. All IsOutput v) }
@@ -50,7 +50,7 @@ fn amounts(alloc: Global, at: &str, table: &Table) -> Result<Sequence<Output>, W
     Ok(outputs)
 }
 
-/// The output of a terrain, or none.
+/// The output of a terrain, in byte order, or none where the file has none; else the first fault of the table.
 #[tactic(auto, unfolding(crate::specs::OutputTable::output_keys, crate::specs::OutputTable::output_from, crate::specs::OutputTable::in_byte_order, crate::specs::Keys::optional_table_at))]
 pub(crate) fn outputs(
     alloc: Global,
@@ -72,7 +72,7 @@ pub(crate) fn outputs(
     }
 }
 
-/// That no two keys are equal, ignoring ASCII case.
+/// That no two keys are equal, ignoring ASCII case, else TwoNames at the second.
 pub(crate) fn no_twin_keys(alloc: Global, at: &str, outputs: &[Output]) -> Result<(), WorldFault>
     ensures { Gives (λ u. u) result (first_fault (each (twin_key_at at.now outputs.now) 0 outputs.now)) (tt {0}) }
 {
@@ -85,7 +85,7 @@ pub(crate) fn no_twin_keys(alloc: Global, at: &str, outputs: &[Output]) -> Resul
     Ok(())
 }
 
-/// That each key stands for an item.
+/// That each key stands for an item, else UnknownName at the first that doesn't.
 pub(crate) fn known_keys(
     alloc: Global,
     all: &Tables,

@@ -60,7 +60,7 @@ fn read_things(alloc: Global, document: &Table) -> Result<Things, WorldFault>
     })
 }
 
-/// What the tables say.
+/// What the tables say, else the first fault of a key.
 #[tactic(auto, unfolding(crate::specs::World::keys_are_good, crate::specs::World::tables_of))]
 fn tables(alloc: Global, document: &Table) -> Result<Tables, WorldFault>
     ensures value { Gives (λ t. t) result (first_fault (keys_are_good (table_view document.now))) (tables_of (table_view document.now)) }
@@ -85,7 +85,7 @@ fn tables(alloc: Global, document: &Table) -> Result<Tables, WorldFault>
     })
 }
 
-/// That no name and no number stands twice.
+/// That no name and no number stands twice, else TwoNames.
 #[tactic(auto, unfolding(crate::specs::World::names_differ))]
 fn names_differ(alloc: Global, all: &Tables) -> Result<(), WorldFault>
     ensures { Gives (λ u. u) result (first_fault (names_differ all.now)) (tt {0}) }
@@ -98,7 +98,7 @@ fn names_differ(alloc: Global, all: &Tables) -> Result<(), WorldFault>
     no_twins_in_outputs(alloc, all.terrains.as_slice())
 }
 
-/// What the tables stand for.
+/// What the tables stand for, else UnknownName.
 #[tactic(auto, unfolding(crate::specs::World::names_are_known))]
 fn resolve(alloc: Global, all: &Tables) -> Result<Parts, WorldFault>
     requires { AreTables all.now }
@@ -145,7 +145,7 @@ fn land(
     Ok(numbers)
 }
 
-/// The world of its records, if it has land.
+/// The world of its records, if it has land, else NoLand.
 fn with_land(
     alloc: Global,
     rules: Rules,
@@ -165,7 +165,7 @@ fn with_land(
     Ok(World::from_parts(rules, terrains, items, skills, kinds, regions, land))
 }
 
-/// The world of what tables stand for, where neighbours are mutual.
+/// The world of what tables stand for, where neighbours are mutual, else BadNeighbour; or NoLand.
 #[tactic(auto, unfolding(crate::specs::World::neighbours_are_mutual))]
 fn join(alloc: Global, all: Tables, parts: Parts) -> Result<World, WorldFault>
     requires all { AreTables all }
@@ -187,7 +187,7 @@ fn join(alloc: Global, all: Tables, parts: Parts) -> Result<World, WorldFault>
     with_land(alloc, rules, terrains, items, skills, kinds, regions)
 }
 
-/// The world that tables describe, where names and numbers keep their rules.
+/// The world that tables describe, or the first fault of their names, numbers and neighbours, or NoLand.
 fn from_tables(alloc: Global, all: Tables) -> Result<World, WorldFault>
     requires { AreTables all }
     ensures { Gives (λ w. w) result (first_fault (table_conditions all)) (planet_of all) }

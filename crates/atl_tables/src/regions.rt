@@ -12,7 +12,7 @@ use crate::region_table::RegionDraft;
 use crate::world::RegionPlan;
 use std::alloc::{AllocError, Global};
 
-/// That no two regions have one number.
+/// That no two regions have one number, else TwoNames at the second.
 pub(crate) fn no_twin_numbers(alloc: Global, drafts: &[RegionDraft]) -> Result<(), WorldFault>
     ensures { Gives (λ u. u) result (first_fault (twin_numbers drafts.now)) (tt {0}) }
 {

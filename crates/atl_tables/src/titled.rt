@@ -34,7 +34,7 @@ pub(crate) fn is_among<T: Titled>(items: &[T], name: &Text) -> bool
     items.iter().any(|item| same_name(item.title(), name))
 }
 
-/// That no name stands twice.
+/// That no two names are equal, ignoring ASCII case, else TwoNames at the second.
 pub(crate) fn no_twins<T: Titled>(alloc: Global, key: &str, items: &[T]) -> Result<(), WorldFault>
     ensures { Gives (λ u. u) result (first_fault (twins T.title_of key.now items.now)) (tt {0}) }
 {
@@ -47,7 +47,7 @@ pub(crate) fn no_twins<T: Titled>(alloc: Global, key: &str, items: &[T]) -> Resu
     Ok(())
 }
 
-/// The number of the first with this name.
+/// The number of the first with this name, counted from 0, where there is one.
 #[tactic(auto, unfolding(crate::specs::Titles::number_of))]
 pub(crate) fn number_of<T: Titled>(items: &[T], name: &Text) -> Option<u16>
     requires { length items.now ≤ most_numbered }
@@ -62,7 +62,7 @@ pub(crate) fn number_of<T: Titled>(items: &[T], name: &Text) -> Option<u16>
     None
 }
 
-/// The number of the first with a name that a text under a key refers to.
+/// The number of the first with a name that a text under a key refers to, else UnknownName at the key's path.
 pub(crate) fn known<T: Titled>(
     alloc: Global,
     items: &[T],
