@@ -121,7 +121,7 @@ impl Campaign {
     ghost use Rattle.std.specs.Option.{option_copied_mut};
     ghost use Rattle.std.specs.Prelude.{option_map};
 
-    /// The month last closed.
+    /// The month last closed, from 0 to LAST_MONTH.
     pub fn month(&self) -> u32
         ensures { result ≡ self.now.what.month }
     {
@@ -135,28 +135,28 @@ impl Campaign {
         &self.pass
     }
 
-    /// The number of the faction that joins next.
+    /// The number of the faction that joins next, from 1; one more than atl_orders' LAST_FACTION where no more can join.
     pub fn next_faction(&self) -> u32
         ensures { result ≡ self.now.what.next_faction }
     {
         self.next_faction
     }
 
-    /// The number of the unit that comes next.
+    /// The number of the unit that comes next, from 1 to one more than LAST_UNIT.
     pub fn next_unit(&self) -> u32
         ensures { result ≡ self.now.what.next_unit }
     {
         self.next_unit
     }
 
-    /// The number of the structure that is begun next.
+    /// The number of the structure that is begun next, from 1 to one more than MOST_STRUCTURES.
     pub fn next_structure(&self) -> u32
         ensures { result ≡ self.now.what.next_structure }
     {
         self.next_structure
     }
 
-    /// The faction of this number, where one ever joined under it; also one that is gone.
+    /// The faction of this number, also one that is gone; None where none joined under it.
     pub fn faction(&self, number: u32) -> Option<&Faction>
         ensures { option_copied result ≡ map.get self.now.what.factions number }
     {
@@ -177,7 +177,7 @@ impl Campaign {
         self.factions.len()
     }
 
-    /// The region of this number, where the world has one.
+    /// The region of this number; None where the world has none.
     pub fn region(&self, number: u32) -> Option<&Region>
         ensures { option_copied result ≡ map.get self.now.what.regions number }
     {
@@ -198,7 +198,7 @@ impl Campaign {
         self.regions.len()
     }
 
-    /// The unit of this number, while it stands.
+    /// The unit of this number; None where none has it yet, or it was removed.
     pub fn unit(&self, number: u32) -> Option<&Unit>
         ensures { option_copied result ≡ map.get self.now.what.units number }
     {
@@ -212,14 +212,14 @@ impl Campaign {
         self.units.iter()
     }
 
-    /// How many units there are.
+    /// How many units there are, at most MOST_UNITS.
     pub fn unit_count(&self) -> usize
         ensures { result ≡ map.len self.now.what.units }
     {
         self.units.len()
     }
 
-    /// The structure of this number, where one was begun.
+    /// The structure of this number; None where none was begun under it.
     pub fn structure(&self, number: u32) -> Option<&Structure>
         ensures { option_copied result ≡ map.get self.now.what.structures number }
     {
@@ -233,14 +233,14 @@ impl Campaign {
         self.structures.iter()
     }
 
-    /// How many structures there are.
+    /// How many structures were ever begun, at most MOST_STRUCTURES.
     pub fn structure_count(&self) -> usize
         ensures { result ≡ map.len self.now.what.structures }
     {
         self.structures.len()
     }
 
-    /// A faction's mail for the month to come.
+    /// A faction's mail for the month to come, byte for byte as it was sent; None where it sent none.
     pub fn mail_of(&self, faction: u32) -> Option<&Sequence<u8>>
         ensures { option_copied result ≡ map.get self.now.what.mail faction }
     {
@@ -254,7 +254,7 @@ impl Campaign {
         self.mail.iter()
     }
 
-    /// The stored report of a faction.
+    /// The stored report of a faction; None where none is stored.
     pub fn report(&self, faction: u32) -> Option<&Text>
         ensures { option_copied result ≡ map.get self.now.what.reports faction }
     {
@@ -283,7 +283,7 @@ impl Campaign {
         &self.books
     }
 
-    /// What is booked of a thing under an entry.
+    /// What came in of a thing under an entry so far, less what went: money, men and peasants, or pieces of an item.
     pub fn booked(&self, entry: Entry, thing: Thing) -> i64
         requires { thing_place thing < length self.now.what.books }
         ensures { result ≡ amount_in self.now.what.books entry thing }
@@ -295,14 +295,14 @@ impl Campaign {
         self.alloc
     }
 
-    /// The numbers of the units of a region, in rising order.
+    /// The numbers of the units that stand in a region, in rising order; none where there is no such region.
     pub fn in_region(&self, region: u32) -> &[u32]
         ensures { result.now ≡ numbers_in region self.now.what.units }
     {
         listed(&self.lists.by_region, region)
     }
 
-    /// The numbers of the units of a faction, in rising order.
+    /// The numbers of the units of a faction, in rising order; none where there is no such faction, or it is gone.
     pub fn of_faction(&self, faction: u32) -> &[u32]
         ensures { result.now ≡ numbers_of faction self.now.what.units }
     {
@@ -316,7 +316,8 @@ impl Campaign {
         listed(&self.lists.by_structure, structure)
     }
 
-    /// Lends a unit's holding, and marks the unit and its goods. Nothing else changes. It takes no memory.
+    /// Lends a unit's holding, and marks the unit and its goods; None, and no mark, where no unit has the number. Nothing else
+    /// changes. It takes no memory.
     pub fn unit_mut(&mut self, number: u32) -> Option<&mut Holding>
         ensures* writes_back { sem 𝓛 (LendsHolding self.entry number result) }
         ensures value { option_copied_mut result ≡ option_map (λ u. u.holding) (map.get self.old.what.units number) }
@@ -327,8 +328,8 @@ impl Campaign {
         }
     }
 
-    /// Stores a faction's mail for the month to come in the place of an older one. Without memory for it the campaign stays
-    /// as it is.
+    /// Stores a faction's mail for the month to come in the place of an older one, and marks it. AllocError without memory,
+    /// and then the campaign and its marks stay as they are.
     pub fn set_mail(&mut self, faction: u32, text: Sequence<u8>) -> Result<(), AllocError>
         ensures ok { OnOk result (self.new.what ≡ with_mail self.old.what faction text) }
         ensures err { OnErr result (self.new ≡ self.old) }
@@ -338,7 +339,8 @@ impl Campaign {
         Ok(())
     }
 
-    /// Stores a faction's report in the place of an older one. Without memory for it the campaign stays as it is.
+    /// Stores a faction's report in the place of an older one, and marks it. AllocError without memory, and then the campaign
+    /// and its marks stay as they are.
     pub fn set_report(&mut self, faction: u32, report: Text) -> Result<(), AllocError>
         ensures ok { OnOk result (self.new.what ≡ with_report self.old.what faction report) }
         ensures err { OnErr result (self.new ≡ self.old) }
@@ -348,7 +350,7 @@ impl Campaign {
         Ok(())
     }
 
-    /// The money, the people (peasants and men) or the amount of an item of all units and regions. It takes no memory.
+    /// The money, the people (peasants and men) or the pieces of an item of all units and regions. It takes no memory.
     #[tactic(auto, unfolding(crate::specs::Totals::total))]
     pub fn total(&self, thing: Thing) -> u64
         requires { IsCountable self.now.what }

@@ -1,9 +1,9 @@
-//! What becomes of the orders of a month.
+//! What becomes of the orders of a month. See docs/RULES.md, "Events".
 ghost use Rattle.std.specs.Prelude.{◌≡◌};
 
 use atl_orders::Verb;
 
-/// What an event is of.
+/// What an event tells of.
 #[derive(Drop, Clone, Copy, Debug, PartialEq, Eq)]
 pub enum EventVerb {
     /// An order of a mailing, or the work of a unit without one.
@@ -26,7 +26,7 @@ impl EventVerb {
     }
 }
 
-/// Why an order isn't carried out. See docs/RULES.md, "Events".
+/// Why an order isn't carried out. Nothing of the campaign changes by it then. See docs/RULES.md, "Events".
 #[derive(Drop, Clone, Copy, Debug, PartialEq, Eq)]
 pub enum EventFault {
     /// The unit isn't there, or is another faction's.
@@ -181,12 +181,13 @@ impl EventFault {
     }
 }
 
-/// What an order, or the upkeep, came to.
+/// What an order, or a unit's upkeep, came to.
 #[derive(Drop, Clone, Copy, Debug, PartialEq, Eq)]
 pub enum Outcome {
-    /// It was carried out; the number is what the order's rule names, or 0.
+    /// It was carried out. The number is the one that the order's rule names (a unit that was formed, or how many men, days,
+    /// pieces or how much money), or 0 where it names none.
     Done(u64),
-    /// It was not, for the fault with this number.
+    /// It was not, for the fault with this number (`EventFault::number`).
     Fault(u8),
     /// So many men starved.
     Starved(u64),
@@ -195,12 +196,14 @@ pub enum Outcome {
 /// What came of one order, or of a unit's upkeep.
 #[derive(Drop, Clone, Copy, Debug, PartialEq, Eq)]
 pub struct Event {
-    /// The faction whose report tells of it.
+    /// The number of the faction whose report tells of it: the one that wrote the order, or whose unit it is.
     pub faction: u32,
-    /// The unit that the order is for; 0 for an alias without a unit.
+    /// The number of the unit that the order is for, or 0 for an alias without a unit.
     pub unit: u32,
-    /// The line of the mailing, from 1 on, or 0 where no line orders it.
+    /// The line of the mailing, counted from 1, or 0 where no line orders it.
     pub line: u32,
+    /// The order's verb, or upkeep.
     pub verb: EventVerb,
+    /// What came of it.
     pub outcome: Outcome,
 }

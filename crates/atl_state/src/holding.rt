@@ -8,14 +8,15 @@ use atl_tables::{Entries, Numbered, Text};
 use std::alloc::AllocError;
 use std::marker::Model;
 
-/// A unit's name, men, money, guard flag, items and days of study. It holds at most 999,999 men, 999,999,999 of money
-/// and 999,999,999 of each item. See docs/RULES.md, "Limits".
+/// A unit's name, men, money, guard flag, items and days of study. It has at most MEN_LIMIT men, and at most HOLDING_LIMIT
+/// of money and pieces of each item. Days of study are kept over all men. See docs/RULES.md, "Limits" and "Levels and
+/// loads".
 pub struct Holding {
     name: Text,
     men: u32,
     money: u32,
     guard: bool,
-    // How much of each item is held, where it is not 0.
+    // How many pieces of each item are held, where they are not 0.
     items: Numbered<u32>,
     // The days of each skill over all men, where they are not 0.
     days: Numbered<u32>,
@@ -62,7 +63,8 @@ fn put_amount(amounts: &mut Numbered<u32>, number: u32, amount: u32) -> Result<(
 }
 
 impl Holding {
-    /// People with money and nothing else.
+    /// A holding without the guard flag, of at most MEN_LIMIT men and HOLDING_LIMIT of money, with the pieces of each item and
+    /// the days of each skill over all men, where they are not 0. It takes no memory.
     pub fn new(
         name: Text,
         men: u32,
@@ -85,14 +87,14 @@ impl Holding {
         }
     }
 
-    /// The unit's name.
+    /// The name of the unit that is shown.
     pub fn name(&self) -> &Text
         ensures { result.now ≡ self.now.name }
     {
         &self.name
     }
 
-    /// How many men there are, from 0 to 999,999.
+    /// How many men there are, from 0 to MEN_LIMIT.
     pub fn men(&self) -> u32
         ensures value { result ≡ self.now.men }
         ensures fits { self.now.men ≤ men_limit }
@@ -100,7 +102,7 @@ impl Holding {
         self.men
     }
 
-    /// How much money there is, from 0 to 999,999,999.
+    /// How much money there is, from 0 to HOLDING_LIMIT.
     pub fn money(&self) -> u32
         ensures value { result ≡ self.now.money }
         ensures fits { self.now.money ≤ holding_limit }
@@ -108,14 +110,14 @@ impl Holding {
         self.money
     }
 
-    /// Whether the guard flag is set.
+    /// Whether the guard flag is set. Only a unit with men guards by it.
     pub fn guard(&self) -> bool
         ensures { result ≡ self.now.guard }
     {
         self.guard
     }
 
-    /// How much of an item is held.
+    /// How many pieces of an item are held, from 0 to HOLDING_LIMIT.
     pub fn amount(&self, item: u32) -> u32
         ensures { result ≡ amount_of self.now.items item }
     {
@@ -125,21 +127,21 @@ impl Holding {
         }
     }
 
-    /// How much is held of each item, with the items' numbers in rising order.
+    /// How many pieces are held of each item, where they are not 0, with the items' numbers in rising order.
     pub fn items(&self) -> Entries<'_, u32>
         ensures { result ≡ map.entries self.now.items }
     {
         self.items.iter()
     }
 
-    /// The days of study over all men, with the skills' numbers in rising order.
+    /// The days of study over all men, where they are not 0, with the skills' numbers in rising order.
     pub fn days(&self) -> Entries<'_, u32>
         ensures { result ≡ map.entries self.now.days }
     {
         self.days.iter()
     }
 
-    /// The days of study of a skill over all men.
+    /// The days of study of a skill over all men, 0 where it was never studied.
     pub fn days_of(&self, skill: u32) -> u32
         ensures { result ≡ amount_of self.now.days skill }
     {
@@ -156,7 +158,7 @@ impl Holding {
         self.name = name;
     }
 
-    /// Sets the number of men, at most 999,999.
+    /// Sets the number of men, at most MEN_LIMIT. The days of study stay. It takes no memory.
     pub fn set_men(&mut self, men: u32)
         requires { men ≤ men_limit }
         ensures { self.new ≡ record self.old { men = men } }
@@ -164,8 +166,8 @@ impl Holding {
         self.men = men;
     }
 
-    /// Sets how much of an item is held, at most 999,999,999. Where it is 0 the item is listed no more, which takes no
-    /// memory. Without memory nothing changes.
+    /// Sets how many pieces of an item are held, at most HOLDING_LIMIT. Where they are 0 the item is listed no more, which
+    /// takes no memory. AllocError without memory, and then nothing changes.
     pub fn set_amount(&mut self, item: u32, amount: u32) -> Result<(), AllocError>
         requires { amount ≤ holding_limit }
         ensures ok { OnOk result (self.new ≡ record self.old { items = with_amount_of self.old.items item amount }) }
@@ -175,8 +177,8 @@ impl Holding {
         put_amount(&mut self.items, item, amount)
     }
 
-    /// Sets the days of study of a skill over all men. Where they are 0 the skill is listed no more, which takes no
-    /// memory. Without memory nothing changes.
+    /// Sets the days of study of a skill over all men. Where they are 0 the skill is listed no more, which takes no memory.
+    /// AllocError without memory, and then nothing changes.
     pub fn set_days(&mut self, skill: u32, days: u32) -> Result<(), AllocError>
         ensures ok { OnOk result (self.new ≡ record self.old { days = with_amount_of self.old.days skill days }) }
         ensures err { OnErr result (self.new ≡ self.old) }
@@ -185,7 +187,7 @@ impl Holding {
         put_amount(&mut self.days, skill, days)
     }
 
-    /// Sets the money, at most 999,999,999.
+    /// Sets the money, at most HOLDING_LIMIT. It takes no memory.
     pub fn set_money(&mut self, money: u32)
         requires { money ≤ holding_limit }
         ensures { self.new ≡ record self.old { money = money } }
@@ -193,7 +195,7 @@ impl Holding {
         self.money = money;
     }
 
-    /// Sets or clears the guard flag.
+    /// Sets or clears the guard flag. It takes no memory.
     pub fn set_guard(&mut self, guard: bool)
         ensures { self.new ≡ record self.old { guard = guard } }
     {

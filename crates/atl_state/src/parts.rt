@@ -1,21 +1,29 @@
-//! The parts of a campaign as tables hold them, whoever wrote them: rows of 64-bit numbers, texts and bytes.
+//! The parts of a campaign as tables hold them, whoever wrote them: rows of 64-bit numbers, texts and bytes. Nothing here
+//! is sure to keep a range or a rule; what each number has to be is said for rows that keep them. See docs/FORMATS.md,
+//! "Rules of the tables".
 
 use atl_tables::{Sequence, Text};
 
-/// The rows of a campaign's tables, whoever wrote them. See docs/FORMATS.md, "Tables".
+/// The rows of a campaign's tables, in any order. See docs/FORMATS.md, "Tables".
 #[derive(Debug)]
 pub struct Parts {
-    /// The campaign's own row. A table in order has one.
+    /// The campaign's own row, of which there is one.
     pub campaign: Sequence<StoredHead>,
+    /// A row for each faction that ever joined.
     pub factions: Sequence<StoredFaction>,
+    /// A row for each region of the world.
     pub regions: Sequence<StoredRegion>,
+    /// A row for each unit.
     pub units: Sequence<StoredUnit>,
-    /// What units have of items and skills.
+    /// A row for each item that a unit holds, and for each skill of which it has days.
     pub has: Sequence<StoredHas>,
+    /// A row for each structure.
     pub structures: Sequence<StoredStructure>,
+    /// A row for each faction that sent mail for the month to come.
     pub mail: Sequence<StoredMail>,
+    /// A row for each faction's report.
     pub reports: Sequence<StoredReport>,
-    /// The amounts of the books.
+    /// A row for each amount of the books that is not 0.
     pub books: Sequence<StoredBooks>,
 }
 
@@ -35,15 +43,22 @@ impl Drop for Parts {
     }
 }
 
-/// The campaign's own row as it stands in its table but for the world text, whoever wrote it.
+/// The campaign's own row as it stands in its table, but for the world text.
 #[derive(Debug)]
 pub struct StoredHead {
+    /// Always 1.
     pub id: i64,
+    /// The format of the tables, 1.
     pub format: i64,
+    /// The month last closed, from 0 to LAST_MONTH.
     pub month: i64,
+    /// The number of the faction that joins next, from 1; one more than the last where no more can join.
     pub next_faction: i64,
+    /// The number of the unit that comes next, from 1 to one more than LAST_UNIT.
     pub next_unit: i64,
+    /// The number of the structure that is begun next, from 1 to one more than MOST_STRUCTURES.
     pub next_structure: i64,
+    /// The moderator's pass text.
     pub pass: Sequence<u8>,
 }
 
@@ -61,13 +76,18 @@ impl Drop for StoredHead {
     }
 }
 
-/// A faction as it stands in its table, whoever wrote it.
+/// A faction as it stands in its table.
 #[derive(Debug)]
 pub struct StoredFaction {
+    /// From 1 to atl_orders' LAST_FACTION.
     pub number: i64,
+    /// The name that it joined under, which no other faction has.
     pub joined_as: Sequence<u8>,
+    /// The name that is shown.
     pub name: Sequence<u8>,
+    /// The faction's pass text.
     pub pass: Sequence<u8>,
+    /// 1 where it has no unit left, else 0.
     pub gone: i64,
 }
 
@@ -83,24 +103,35 @@ impl Drop for StoredFaction {
     }
 }
 
-/// A region as it stands in its table, whoever wrote it.
+/// A region as it stands in its table.
 #[derive(Debug, Drop)]
 pub struct StoredRegion {
+    /// The number that the world gives it.
     pub number: i64,
+    /// From 0 to atl_tables' MOST_AMOUNT.
     pub peasants: i64,
+    /// From 0 to atl_tables' MOST_AMOUNT.
     pub money: i64,
 }
 
-/// A unit as it stands in its table, whoever wrote it.
+/// A unit as it stands in its table, but for its items and days of study, which are rows of their own.
 #[derive(Debug)]
 pub struct StoredUnit {
+    /// From 1 to LAST_UNIT.
     pub number: i64,
+    /// The number of its faction.
     pub faction: i64,
+    /// The name that is shown.
     pub name: Sequence<u8>,
+    /// The number of the region where it stands.
     pub region: i64,
+    /// The number of the structure that it is inside, or 0 where it is inside none.
     pub structure: i64,
+    /// From 1 to MEN_LIMIT.
     pub men: i64,
+    /// From 0 to HOLDING_LIMIT.
     pub money: i64,
+    /// 1 where the guard flag is set, else 0.
     pub guard: i64,
 }
 
@@ -119,14 +150,20 @@ impl Drop for StoredUnit {
     }
 }
 
-/// A structure as it stands in its table, whoever wrote it.
+/// A structure as it stands in its table.
 #[derive(Debug)]
 pub struct StoredStructure {
+    /// From 1 to MOST_STRUCTURES.
     pub number: i64,
+    /// The place of its kind in the list of the world's kinds.
     pub kind: i64,
+    /// The name that is shown.
     pub name: Sequence<u8>,
+    /// The number of the region where it stands.
     pub region: i64,
+    /// How much of it is built, from 1 to the size of its kind.
     pub done: i64,
+    /// The number of the unit inside that owns it, or 0 where no unit is inside.
     pub owner: i64,
 }
 
@@ -143,10 +180,12 @@ impl Drop for StoredStructure {
     }
 }
 
-/// Mail as it stands in its table, whoever wrote it.
+/// A faction's mail for the month to come as it stands in its table.
 #[derive(Debug)]
 pub struct StoredMail {
+    /// The number of the faction that sent it.
     pub faction: i64,
+    /// The mailing byte for byte as it was sent. See docs/FORMATS.md, "Mailings".
     pub text: Sequence<u8>,
 }
 
@@ -159,10 +198,12 @@ impl Drop for StoredMail {
     }
 }
 
-/// A report as it stands in its table, whoever wrote it.
+/// A faction's last report as it stands in its table.
 #[derive(Debug)]
 pub struct StoredReport {
+    /// The number of the faction whose report it is.
     pub faction: i64,
+    /// The report as the faction reads it. See docs/FORMATS.md, "Reports".
     pub text: Text,
 }
 
@@ -175,19 +216,27 @@ impl Drop for StoredReport {
     }
 }
 
-/// What a unit has of a thing as it stands in its table, whoever wrote it.
+/// What a unit has of an item or a skill as it stands in its table.
 #[derive(Debug, Drop)]
 pub struct StoredHas {
+    /// The unit's number.
     pub unit: i64,
+    /// 0 of an item, 1 of a skill.
     pub sort: i64,
+    /// The place of the item, or of the skill, in the world's list of them.
     pub thing: i64,
+    /// How many pieces of the item, from 1 to HOLDING_LIMIT; or the days of the skill over all men, from 1 to MOST_DAYS for
+    /// each man.
     pub amount: i64,
 }
 
-/// What is booked of a thing as it stands in its table, whoever wrote it.
+/// What is booked of a thing under an entry as it stands in its table.
 #[derive(Debug, Drop)]
 pub struct StoredBooks {
+    /// The entry's number, from 1 to ENTRY_COUNT. See docs/RULES.md, "Books".
     pub entry: i64,
+    /// The thing's number: 0 of money, 1 of people, FIRST_ITEM and more of the items.
     pub thing: i64,
+    /// What came in less what went, not 0: money, men and peasants, or pieces of the item.
     pub amount: i64,
 }

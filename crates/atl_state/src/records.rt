@@ -2,15 +2,17 @@
 use crate::holding::Holding;
 use atl_tables::Text;
 
-/// A player's faction.
+/// A player's faction. Names and pass texts keep their rules (docs/RULES.md, "Names and pass texts").
 pub struct Faction {
+    /// From 1 to atl_orders' LAST_FACTION, in the order of joining.
     pub number: u32,
     /// The name that it joined under, which no other faction ever takes.
     pub joined_as: Text,
     /// The name that is shown.
     pub name: Text,
+    /// The pass text that its player sends with each command.
     pub pass: Text,
-    /// Whether it has left the campaign.
+    /// Whether it has no unit left. It never comes back.
     pub gone: bool,
 }
 
@@ -26,14 +28,15 @@ impl Drop for Faction {
     }
 }
 
-/// People of one faction in one place.
+/// People of one faction in one place, who share what they hold.
 pub struct Unit {
     /// The number of its faction.
     pub faction: u32,
     /// The number of the region where it stands.
     pub region: u32,
-    /// The number of the structure that it is inside, or 0.
+    /// The number of the structure that it is inside, or 0 where it is inside none.
     pub structure: u32,
+    /// Its name, men, money, items and days of study.
     pub holding: Holding,
 }
 
@@ -48,33 +51,37 @@ impl Drop for Unit {
     }
 }
 
-/// What a region holds.
+/// What a region holds besides its units.
 #[derive(Drop, Clone, Copy, Debug)]
 pub struct Region {
+    /// The people that are of no faction, from 0 to atl_tables' MOST_AMOUNT.
     pub peasants: u32,
+    /// The money that no unit has, from 0 to atl_tables' MOST_AMOUNT.
     pub money: u32,
 }
 
-/// A building or a ship.
+/// A building or a ship. See docs/RULES.md, "Owners".
 #[derive(Drop)]
 pub struct Structure {
-    /// The number of its kind in the world.
+    /// The place of its kind in the list of the world's kinds.
     pub kind: u16,
+    /// The name that is shown.
     pub name: Text,
     /// The number of the region where it stands.
     pub region: u32,
-    /// How much of its kind's size is done.
+    /// How much of it is built, from 1 to the size of its kind, with which it is complete.
     pub done: u32,
-    /// The number of the unit inside that owns it, or 0.
+    /// The number of the unit inside that owns it, or 0 where no unit is inside.
     pub owner: u32,
 }
 
-/// Why a faction does not join.
+/// Why a faction does not join. The campaign is then as it was, and nothing is marked. See docs/RULES.md, "Joining".
 #[derive(Drop, Clone, Copy, Debug, PartialEq, Eq)]
 pub enum JoinFault {
     /// Some faction joined under this name.
     NameTaken,
-    /// No faction, or no unit, more can come.
+    /// The last faction has joined, MOST_UNITS units stand, or the last unit's number is given.
     Full,
+    /// There is no memory for the faction or its unit.
     Memory,
 }
