@@ -10,7 +10,8 @@ use Rattle.atl_state.specs.Limits.{entry_count}
 use Rattle.atl_state.specs.declared.books.Entry.{Entry}
 use Rattle.atl_state.specs.declared.books.Entry.TheVariants.{Founding, Joining, Income, Wages, Recruiting, Study, Upkeep, Lost, Births, Starved, Left, Made, Used}
 use Rattle.atl_state.specs.declared.books.Thing.{Thing}
-use Rattle.atl_state.specs.Books.{entry_place, thing_place, row_of, amount_in, with_booked, added_up, booked, no_amounts, IsGrid, IsWithin, IsSmall}
+use Rattle.atl_state.specs.declared.books.Thing.TheVariants.{Money, People, Item}
+use Rattle.atl_state.specs.Books.{entry_place, thing_place, thing_at, row_of, amount_in, with_booked, added_up, booked, no_amounts, IsGrid, IsWithin, IsSmall}
 
 pub entry_small : (e : Entry) → entry_place e < entry_count
 entry_small Founding = omega arith
@@ -26,6 +27,19 @@ entry_small Starved = omega arith
 entry_small Left = omega arith
 entry_small Made = omega arith
 entry_small Used = omega arith
+
+pub place_at : (i : ℕ) → thing_place (thing_at i) ≡ i
+place_at zero = refl
+place_at (suc zero) = refl
+place_at (suc (suc i)) = omega arith
+
+pub at_place : (t : Thing) → thing_at (thing_place t) ≡ t
+at_place Money = refl
+at_place People = refl
+at_place (Item i) = item_at (2 + i) i (omega arith)
+  where
+    item_at : (n i : ℕ) → n ≡ suc (suc i) → thing_at n ≡ Item i
+    item_at n i is = ap thing_at is
 
 regroup : (x y n : ℤ) → x +ℤ (y +ℤ n) ≡ (x +ℤ y) +ℤ n
 regroup x y n = omega (arith, ints)

@@ -25,9 +25,7 @@ use Rattle.atl_state.specs.declared.parts.StoredFaction.{StoredFaction}
 use Rattle.atl_state.specs.declared.records.Faction.{Faction}
 use Rattle.atl_state.specs.declared.books.Entry.{Entry}
 use Rattle.atl_state.specs.declared.books.Entry.TheVariants.{Founding, Joining, Income, Wages, Recruiting, Study, Upkeep, Lost, Births, Starved, Left, Made, Used}
-use Rattle.atl_state.specs.declared.books.Thing.{Thing}
-use Rattle.atl_state.specs.declared.books.Thing.TheVariants.{Money, People, Item}
-use Rattle.atl_state.specs.Books.{entry_place, thing_place, IsWithin}
+use Rattle.atl_state.specs.Books.{entry_place, thing_at, IsWithin}
 use Rattle.atl_state.specs.Checking.{Keeps, Checks, GivesBack}
 use Rattle.atl_state.specs.Deciding.{EachOf, Differ}
 use Rattle.atl_state.specs.Founding.{things_of}
@@ -38,6 +36,7 @@ use Rattle.atl_state.specs.RowRules.{is_from, is_one_head, is_within, head_in_ra
 use Rattle.atl_state.specs.Rows.{flag, rows_by, faction_row, region_row, unit_row, structure_row, mail_row, report_row, has_row, has_rows, books_rows, amount_at, is_zero, AreRowsOf}
 use Rattle.atl_state.specs.State.{State, Marked}
 use Rattle.atl_state.specs.Totals.{Balances}
+use Rattle.atl_state.proofs.BookLaws.{place_at}
 use Rattle.atl_state.proofs.BackLaws.{each_permuted, all_pass, read_whole, rows_pass, count_rows}
 use Rattle.atl_state.proofs.BackBooksLaws.{lines_each, books_keys, all_booked}
 use Rattle.atl_state.proofs.BackHasLaws.{has_each, has_keys, goods_of}
@@ -71,7 +70,7 @@ within_true : (bound : ℕ) (z : ℤ) → IsWithin bound z → is_within bound z
 within_true bound (pos n) h = let most : n ≤ bound = omega (arith, ints, h.most) in le_true n bound most
 within_true bound (negsuc n) h = let most : suc n ≤ bound = omega (arith, ints, h.least) in le_true (suc n) bound most
 
--- ---- entries and things by their places
+-- ---- entries by their places
 
 entry_at : (n : ℕ) → n < entry_count → (e : Entry) × (entry_place e ≡ n)
 entry_at zero l = (Founding, refl)
@@ -89,16 +88,10 @@ entry_at (suc (suc (suc (suc (suc (suc (suc (suc (suc (suc (suc zero))))))))))) 
 entry_at (suc (suc (suc (suc (suc (suc (suc (suc (suc (suc (suc (suc zero)))))))))))) l = (Used, refl)
 entry_at (suc (suc (suc (suc (suc (suc (suc (suc (suc (suc (suc (suc (suc n))))))))))))) l = absurd (omega (arith, l))
 
-thing_at : (n : ℕ) → (t : Thing) × (thing_place t ≡ n)
-thing_at zero = (Money, refl)
-thing_at (suc zero) = (People, refl)
-thing_at (suc (suc n)) = (Item n, omega arith)
-
 amounts_within : (c : State) → AreAmountsWithin c → (e t : ℕ) → e < entry_count → IsWithin (amount_bound c) (amount_at c.books e t)
 amounts_within c within e t l =
     let entry = entry_at e l in
-    let thing = thing_at t in
-    subst (λ k. IsWithin (amount_bound c) (amount_at c.books k t)) entry.1 (subst (λ k. IsWithin (amount_bound c) (amount_at c.books (entry_place entry.0) k)) thing.1 (within entry.0 thing.0))
+    subst (λ k. IsWithin (amount_bound c) (amount_at c.books k t)) entry.1 (subst (λ k. IsWithin (amount_bound c) (amount_at c.books (entry_place entry.0) k)) (place_at t) (within entry.0 (thing_at t)))
 
 -- ---- names that differ
 

@@ -1,5 +1,5 @@
 -- The books, as rows of signed amounts: a row for each thing, with a place for each entry.
-use Rattle.std.specs.Prelude.{◌≡◌, length, All, ℕ, ℤ, pos, negsuc, ◌+ℤ◌, ◌≤ℤ◌, ◌+◌, ◌^◌, List, [], ◌∷◌, slice_index_or, slice_set, replicate}
+use Rattle.std.specs.Prelude.{◌≡◌, length, All, ℕ, zero, suc, ℤ, pos, negsuc, ◌+ℤ◌, ◌≤ℤ◌, ◌+◌, ◌^◌, List, [], ◌∷◌, slice_index_or, slice_set, replicate}
 use Rattle.atl_state.specs.Limits.{entry_count}
 use Rattle.atl_state.specs.declared.books.Entry.{Entry}
 use Rattle.atl_state.specs.declared.books.Entry.TheVariants.{Founding, Joining, Income, Wages, Recruiting, Study, Upkeep, Lost, Births, Starved, Left, Made, Used}
@@ -21,10 +21,20 @@ entry_place Left = 10
 entry_place Made = 11
 entry_place Used = 12
 
+-- in the order of their places
+abbrev pub all_entries : List Entry
+all_entries = Founding ∷ Joining ∷ Income ∷ Wages ∷ Recruiting ∷ Study ∷ Upkeep ∷ Lost ∷ Births ∷ Starved ∷ Left ∷ Made ∷ Used ∷ []
+
 abbrev pub thing_place : Thing → ℕ
 thing_place Money = 0
 thing_place People = 1
 thing_place (Item i) = 2 + i
+
+-- the thing whose row stands at this place
+abbrev pub thing_at : ℕ → Thing
+thing_at zero = Money
+thing_at (suc zero) = People
+thing_at (suc (suc i)) = Item i
 
 -- what is booked of a thing, by entry
 abbrev pub row_of : List (List ℤ) → Thing → List ℤ

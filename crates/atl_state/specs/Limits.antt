@@ -30,6 +30,18 @@ entry_count = 13
 abbrev pub most_things : ℕ
 most_things = 2 + most_items
 
+-- money, people and an item of each number of 16 bits: as many things can be told apart
+abbrev pub possible_things : ℕ
+possible_things = 2 + 65536
+
+-- a map by numbers of 32 bits has so many entries at most
+abbrev pub most_numbered : ℕ
+most_numbered = 4294967296
+
+-- as many amounts as memory can hold have marks at most
+abbrev pub most_marks : ℕ
+most_marks = 9223372036854775808
+
 -- so many structures ever, numbered from 1
 abbrev pub most_structures : ℕ
 most_structures = 10000

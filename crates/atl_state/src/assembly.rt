@@ -6,6 +6,7 @@ ghost use Rattle.std.specs.List.{list_all};
 ghost use Rattle.atl_tables.specs.Names.{name_ok, pass_ok};
 ghost use Rattle.atl_state.specs.Assembling.{unmarked, tables_of};
 ghost use Rattle.atl_state.specs.Kept.{AreUnitLists};
+ghost use Rattle.atl_state.specs.Limits.{possible_things};
 ghost use Rattle.atl_state.specs.FromRows.{as_u32, as_u16, is_set, faction_of, region_of, structure_of, by_number, things_had, unit_with, unit_of, group_of, with_row, put_amounts, state_of};
 ghost use Rattle.atl_state.specs.Books.{no_amounts};
 ghost use Rattle.atl_state.specs.Held.{AreAmounts};
@@ -298,7 +299,7 @@ pub(crate) fn books_of(
     things: usize,
     rows: &[StoredBooks],
 ) -> Result<Books, AllocError>
-    requires { things ≤ 65538 }
+    requires { things ≤ possible_things }
     ensures { IfOk result (λ books. books ≡ put_amounts rows.now (no_amounts things)) }
 {
     let mut books = Books::new(alloc, things)?;

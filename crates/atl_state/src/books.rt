@@ -1,76 +1,141 @@
 //! What the books say: signed amounts by entry and thing.
-ghost use Rattle.std.specs.Prelude.{◌≡◌, ◌<◌, ◌≤◌, ◌*◌, ◌+ℤ◌, [], All, IfOk, length, replicate, slice_set, false, true};
+ghost use Rattle.std.specs.Prelude.{◌≡◌, ◌<◌, ◌≤◌, ◌*◌, ◌+◌, ◌+ℤ◌, [], All, IfOk, length, replicate, slice_set, false, true};
 ghost use Rattle.std.specs.Int.{w64};
 ghost use Rattle.std.specs.Int.RustNames.{FitsSigned};
 ghost use Rattle.std.specs.FinSet as set;
 ghost use Rattle.atl_state.specs.Kept.{set_from};
-ghost use Rattle.atl_state.specs.Limits.{entry_count};
-ghost use Rattle.atl_state.specs.Books.{entry_place, thing_place, added_up, amount_in, booked, with_booked, no_amounts};
+ghost use Rattle.atl_state.specs.Limits.{entry_count, most_marks, most_things, possible_things};
+ghost use Rattle.atl_state.specs.Books.{entry_place, thing_place, thing_at, added_up, amount_in, booked, with_booked, no_amounts};
 ghost use Rattle.atl_state.specs.Marks.{amount_number};
 ghost use Rattle.atl_state.specs.FromRows.{with_amount};
 ghost use Rattle.atl_state.specs.Rows.{amount_at};
 
-use crate::limits::ENTRY_COUNT;
+use crate::limits::{ENTRY_COUNT, FIRST_ITEM};
 use std::alloc::{AllocError, Global};
 use std::marker::Model;
 
-/// Why an amount changed.
+/// Why an amount of a thing came in or went. A move between holders is no entry. See docs/RULES.md, "Books".
 #[derive(Drop, Clone, Copy, Debug, PartialEq, Eq)]
 pub enum Entry {
+    /// The money and the peasants that the regions begin with.
     Founding,
+    /// The money and the man that a faction begins with.
     Joining,
+    /// The money that comes to the regions in each season.
     Income,
+    /// The money that units earn by work.
     Wages,
+    /// The money that goes for recruits.
     Recruiting,
+    /// The money that goes for study.
     Study,
+    /// The money that goes for the upkeep of men.
     Upkeep,
+    /// The money and the items of units that are removed, where nobody receives them.
     Lost,
+    /// The peasants that are born.
     Births,
+    /// The men that starve.
     Starved,
+    /// The men of a faction that quits.
     Left,
+    /// The items that are produced.
     Made,
+    /// The items that are used for building and producing.
     Used,
 }
 
-/// What is booked.
+/// Of what amounts are booked.
 #[derive(Drop, Clone, Copy, Debug, PartialEq, Eq)]
 pub enum Thing {
+    /// The money of regions and units.
     Money,
+    /// Peasants and men.
     People,
+    /// The pieces of an item, by its place in the list of the world's items.
     Item(u16),
 }
 
-/// The place of an entry in a row.
-pub(crate) fn entry_place(entry: Entry) -> usize
-    ensures place { result ≡ entry_place entry }
-    ensures small { result < entry_count }
-{
-    match entry {
-        Entry::Founding => 0,
-        Entry::Joining => 1,
-        Entry::Income => 2,
-        Entry::Wages => 3,
-        Entry::Recruiting => 4,
-        Entry::Study => 5,
-        Entry::Upkeep => 6,
-        Entry::Lost => 7,
-        Entry::Births => 8,
-        Entry::Starved => 9,
-        Entry::Left => 10,
-        Entry::Made => 11,
-        Entry::Used => 12,
+impl Entry {
+    /// All entries, in the order of their numbers.
+    pub const ALL: [Entry; ENTRY_COUNT] = [
+        Entry::Founding,
+        Entry::Joining,
+        Entry::Income,
+        Entry::Wages,
+        Entry::Recruiting,
+        Entry::Study,
+        Entry::Upkeep,
+        Entry::Lost,
+        Entry::Births,
+        Entry::Starved,
+        Entry::Left,
+        Entry::Made,
+        Entry::Used,
+    ];
+
+    /// The entry's number, from 1.
+    pub fn number(self) -> u32
+        ensures place { result ≡ entry_place self + 1 }
+        ensures small { result ≤ entry_count }
+    {
+        match self {
+            Entry::Founding => 1,
+            Entry::Joining => 2,
+            Entry::Income => 3,
+            Entry::Wages => 4,
+            Entry::Recruiting => 5,
+            Entry::Study => 6,
+            Entry::Upkeep => 7,
+            Entry::Lost => 8,
+            Entry::Births => 9,
+            Entry::Starved => 10,
+            Entry::Left => 11,
+            Entry::Made => 12,
+            Entry::Used => 13,
+        }
+    }
+
+    /// The place of the entry in a row.
+    fn place(self) -> usize
+        ensures place { result ≡ entry_place self }
+        ensures small { result < entry_count }
+    {
+        self.number() as usize - 1
     }
 }
 
-/// The place of a thing's row.
-pub(crate) fn thing_place(thing: Thing) -> usize
-    ensures place { result ≡ thing_place thing }
-    ensures small { result < 65538 }
-{
-    match thing {
-        Thing::Money => 0,
-        Thing::People => 1,
-        Thing::Item(item) => 2 + usize::from(item),
+impl Thing {
+    /// The thing's number: 0 of money, 1 of people, and then the items'.
+    pub fn number(self) -> u32
+        ensures place { result ≡ thing_place self }
+        ensures small { result < possible_things }
+    {
+        match self {
+            Thing::Money => 0,
+            Thing::People => 1,
+            Thing::Item(item) => FIRST_ITEM as u32 + u32::from(item),
+        }
+    }
+
+    /// The thing of a number.
+    pub fn of_number(number: usize) -> Thing
+        requires { number < most_things }
+        ensures { result ≡ thing_at number }
+    {
+        match number {
+            0 => Thing::Money,
+            1 => Thing::People,
+            _ => Thing::Item((number - FIRST_ITEM) as u16),
+        }
+    }
+
+    /// The place of the thing's row.
+    fn place(self) -> usize
+        ensures place { result ≡ thing_place self }
+        ensures small { result < possible_things }
+    {
+        self.number() as usize
     }
 }
 
@@ -78,7 +143,7 @@ pub(crate) fn thing_place(thing: Thing) -> usize
 fn amount_number(entry: Entry, thing: Thing) -> usize
     ensures { result ≡ amount_number entry thing }
 {
-    ENTRY_COUNT * thing_place(thing) + entry_place(entry)
+    ENTRY_COUNT * thing.place() + entry.place()
 }
 
 /// The sum of a row of amounts.
@@ -92,7 +157,8 @@ fn added_up(row: &[i64; ENTRY_COUNT]) -> i128
     sum
 }
 
-/// A row of amounts for each thing.
+/// What is booked of each thing under each entry: what came in so far less what went, so that the sum of a thing's entries
+/// is what all units and regions hold. See docs/RULES.md, "Books".
 #[derive(Drop)]
 pub struct Books {
     rows: Vec<[i64; ENTRY_COUNT]>,
@@ -100,18 +166,20 @@ pub struct Books {
 
 impl Model for Books {
     ghost use Rattle.std.specs.Prelude.{◌≤◌, List, ℤ, length};
+    ghost use Rattle.atl_state.specs.Limits.{possible_things};
 
     ghost Value = { List (List ℤ) };
 
     ghost view = { λ a. a.rows.items };
 
-    ghost invariant = { λ a. length a.rows.items ≤ 65538 };
+    ghost invariant = { λ a. length a.rows.items ≤ possible_things };
 }
 
 impl Books {
-    /// Books of so many things, all 0. There are at most two things and one for each number that an item can have.
+    /// Books of so many things, all 0: money, people, and at most one item for each number of 16 bits. AllocError without
+    /// memory.
     pub fn new(alloc: Global, things: usize) -> Result<Books, AllocError>
-        requires { things ≤ 65538 }
+        requires { things ≤ possible_things }
         ensures { IfOk result (λ made. made ≡ no_amounts things) }
     {
         let mut rows = Vec::new(alloc);
@@ -133,17 +201,17 @@ impl Books {
     /// How many things there are: money, people, and the items of the world.
     pub fn len(&self) -> usize
         ensures value { result ≡ length self.now }
-        ensures few { length self.now ≤ 65538 }
+        ensures few { length self.now ≤ possible_things }
     {
         self.rows.len()
     }
 
-    /// What came in under an entry so far, less what went: money, men or pieces of an item.
+    /// What came in of a thing under an entry so far, less what went: money, men and peasants, or pieces of an item.
     pub fn amount(&self, entry: Entry, thing: Thing) -> i64
         requires { thing_place thing < length self.now }
         ensures { result ≡ amount_in self.now entry thing }
     {
-        self.rows[thing_place(thing)][entry_place(entry)]
+        self.rows[thing.place()][entry.place()]
     }
 
     /// The amount at the places of an entry and a thing.
@@ -169,17 +237,17 @@ impl Books {
         requires { thing_place thing < length self.now }
         ensures { result ≡ booked self.now thing }
     {
-        added_up(&self.rows[thing_place(thing)])
+        added_up(&self.rows[thing.place()])
     }
 
-    /// Adds an amount under an entry. It takes no memory.
+    /// Adds an amount of a thing, of either sign, under an entry. It takes no memory.
     pub fn book(&mut self, entry: Entry, thing: Thing, amount: i64)
         requires there { thing_place thing < length self.old }
         requires fits { FitsSigned w64 (amount_in self.old entry thing +ℤ amount) }
         ensures { self.new ≡ with_booked self.old entry thing amount }
     {
-        let row = thing_place(thing);
-        let place = entry_place(entry);
+        let row = thing.place();
+        let place = entry.place();
         self.rows[row][place] += amount;
     }
 }
@@ -187,7 +255,7 @@ impl Books {
 /// How many flags are set.
 fn count_set(flags: &[bool]) -> usize
     ensures value { result ≡ set.len (set_from 0 flags.now) }
-    ensures small { result ≤ 9223372036854775808 }
+    ensures small { result ≤ most_marks }
 {
     let most = flags.len();
     let mut count = 0;
@@ -246,7 +314,7 @@ impl AmountMarks {
     /// How many amounts are marked.
     pub(crate) fn marked(&self) -> usize
         ensures value { result ≡ set.len (set_from 0 self.now) }
-        ensures small { result ≤ 9223372036854775808 }
+        ensures small { result ≤ most_marks }
     {
         count_set(&self.flags)
     }

@@ -9,7 +9,7 @@ ghost use Rattle.atl_state.specs.FromRows.{state_of};
 ghost use Rattle.atl_state.specs.RowRules.{is_of_unit, is_booked};
 
 use crate::campaign::{Campaign, assembled};
-use crate::limits::ENTRY_COUNT;
+use crate::limits::{ENTRY_COUNT, FIRST_ITEM};
 use crate::parts::{Parts, StoredBooks};
 use crate::row_rules::{as_u32, is_one_head, rows_in_range, rows_named};
 use crate::rules::{
@@ -113,7 +113,7 @@ fn is_booked(world: &World, row: &StoredBooks) -> bool
     ensures { result ≡ is_booked world.now row.now }
 {
     let entry = as_u32(row.entry) as usize;
-    let things = 2 + world.items().len();
+    let things = FIRST_ITEM + world.items().len();
     1 <= entry && entry <= ENTRY_COUNT && (as_u32(row.thing) as usize) < things
 }
 

@@ -26,8 +26,8 @@ pub use event::{Event, EventFault, EventVerb, Outcome};
 pub use holding::Holding;
 pub use levels::{carry, goods, level, level_in, level_in_any, load};
 pub use limits::{
-    ENTRY_COUNT, HOLDING_LIMIT, LAST_MONTH, LAST_UNIT, MEN_LIMIT, MOST_DAYS, MOST_STRUCTURES,
-    MOST_UNITS,
+    ENTRY_COUNT, FIRST_ITEM, HOLDING_LIMIT, LAST_MONTH, LAST_UNIT, MEN_LIMIT, MOST_DAYS,
+    MOST_STRUCTURES, MOST_UNITS,
 };
 pub use records::{Faction, JoinFault, Region, Structure, Unit};
 pub use row_rules::are_distinct;

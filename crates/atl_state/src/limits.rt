@@ -12,6 +12,9 @@ pub const MOST_STRUCTURES: u32 = 10_000;
 /// How many entries the books have.
 pub const ENTRY_COUNT: usize = 13;
 
+/// The number of the first item among the things of the books: money has 0, and people have 1.
+pub const FIRST_ITEM: usize = 2;
+
 /// The month last closed is at most this one.
 pub const LAST_MONTH: u32 = 9_999;
 

@@ -1,7 +1,7 @@
 //! The rows of a campaign.
 ghost use Rattle.std.specs.Prelude.{◌≡◌, ◌≤◌, ◌<◌, ◌++◌, ◌∷◌, [], IfOk, OnOk, length};
 ghost use Rattle.std.specs.FinMap as map;
-ghost use Rattle.atl_state.specs.Limits.{entry_count};
+ghost use Rattle.atl_state.specs.Limits.{entry_count, possible_things};
 ghost use Rattle.atl_state.specs.Rows.{flag, rows_by, head_row, faction_row, region_row, unit_row, structure_row, mail_row, report_row, has_row, books_row, sort_rows, held_rows, has_rows, amount_at, entry_rows, books_rows, rows_of};
 
 use crate::books::Books;
@@ -234,7 +234,7 @@ fn has_rows(alloc: Global, campaign: &Campaign) -> Result<Sequence<StoredHas>, A
 
 fn books_row(entry: usize, thing: usize, amount: i64) -> StoredBooks
     requires entry { entry < entry_count }
-    requires thing { thing < 65538 }
+    requires thing { thing < possible_things }
     ensures { result ≡ books_row entry thing amount }
 {
     StoredBooks {

@@ -4,7 +4,7 @@ ghost use Rattle.std.specs.FinMap as map;
 ghost use Rattle.std.specs.FinSet as set;
 ghost use Rattle.atl_tables.specs.Sums.{mapped};
 ghost use Rattle.atl_tables.specs.Tracking.{Lists};
-ghost use Rattle.atl_state.specs.Limits.{holding_limit};
+ghost use Rattle.atl_state.specs.Limits.{holding_limit, most_numbered};
 ghost use Rattle.atl_state.specs.Roster.{no_units, with_unit_at, with_row, without_unit_at};
 
 use crate::records::Unit;
@@ -84,7 +84,7 @@ impl Units {
     /// How many units are marked.
     pub(crate) fn marked(&self) -> usize
         ensures value { result ≡ set.len self.now.marks }
-        ensures small { result ≤ 4294967296 }
+        ensures small { result ≤ most_numbered }
         ensures goods { (n : ℕ) → IsTrue (set.contains self.now.goods n) → IsTrue (set.contains self.now.marks n) }
     {
         self.rows.marked()

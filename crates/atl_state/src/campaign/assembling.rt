@@ -8,6 +8,7 @@ ghost use Rattle.atl_state.specs.RowRules.{is_one_head, are_named, people_in_ran
 use super::Campaign;
 use crate::assembly::{Tables, books_of, lists_of, pass_of, roster_of, tables_of};
 use crate::books::AmountMarks;
+use crate::limits::FIRST_ITEM;
 use crate::parts::Parts;
 use crate::row_rules::{as_u32, head_of};
 use atl_tables::World;
@@ -24,7 +25,7 @@ pub(crate) fn assembled(alloc: Global, world: &World, parts: &Parts) -> Result<C
     ensures world { IsWorld world.now }
 {
     let head = head_of(parts);
-    let things = 2 + world.items().len();
+    let things = FIRST_ITEM + world.items().len();
     let pass = pass_of(alloc, &head.pass)?;
     let units = roster_of(alloc, parts)?;
     let lists = lists_of(alloc, &units)?;

@@ -7,7 +7,7 @@ ghost use Rattle.atl_tables.specs.Names.{pass_ok};
 ghost use Rattle.atl_tables.specs.Sums.{sum_over, mapped};
 ghost use Rattle.atl_state.specs.declared.books.Entry.TheVariants.{Founding};
 ghost use Rattle.atl_state.specs.declared.books.Thing.TheVariants.{Money, People};
-ghost use Rattle.atl_state.specs.Limits.{most_things};
+ghost use Rattle.atl_state.specs.Limits.{most_things, possible_things};
 ghost use Rattle.atl_state.specs.Books.{no_amounts, with_booked};
 ghost use Rattle.atl_state.specs.Totals.{kept};
 ghost use Rattle.atl_state.specs.Marks.{no_marks};
@@ -16,6 +16,7 @@ ghost use Rattle.atl_state.specs.Good.{IsGood};
 
 use super::Campaign;
 use crate::books::{AmountMarks, Books, Entry, Thing};
+use crate::limits::FIRST_ITEM;
 use crate::lists::UnitLists;
 use crate::records::Region;
 use crate::totals::regions_total;
@@ -46,7 +47,7 @@ fn founding_books(
 ) -> Result<Books, AllocError>
     requires few { length (map.entries regions.now.values) ≤ most_regions }
     requires some { 2 ≤ things }
-    requires possible { things ≤ 65538 }
+    requires possible { things ≤ possible_things }
     ensures money { IfOk result (λ _. sum_over (λ r. kept Money r) regions.now.values ≤ 100000000000000) }
     ensures people { IfOk result (λ _. sum_over (λ r. kept People r) regions.now.values ≤ 100000000000000) }
     ensures value { IfOk result (λ books. books ≡ with_booked (with_booked (no_amounts things) Founding Money (pos (sum_over (λ r. kept Money r) regions.now.values))) Founding People (pos (sum_over (λ r. kept People r) regions.now.values))) }
@@ -70,7 +71,7 @@ pub fn founded(alloc: Global, world: &World, pass: &[u8]) -> Result<Campaign, Al
 {
     let pass = Text::from_utf8(alloc, pass)?;
     let regions = regions_made(alloc, world.regions())?;
-    let things = 2 + world.items().len();
+    let things = FIRST_ITEM + world.items().len();
     let books = founding_books(alloc, things, &regions)?;
     let amounts_marked = AmountMarks::new(alloc, things)?;
     Ok(Campaign {
