@@ -1,5 +1,5 @@
 -- How a campaign changes as a structure is begun, and as more of one is done.
-use Rattle.std.proofs.Common.{◌≡◌, ◌≢◌, ℕ, ◌+◌, ◌≤◌, ◌<◌, true, false, cond, length, Some, None, refl, sym, ap, subst, ◌∙◌, inl, inr, arith}
+use Rattle.std.proofs.Common.{◌≡◌, ◌≢◌, ℕ, ◌+◌, ◌≤◌, ◌<◌, true, false, cond, length, Some, None, refl, sym, ap, subst, ◌∙◌, inl, inr, arith, true≢false}
 use Rattle.std.specs.Prelude.{IsTrue, is_some}
 use Rattle.std.proofs.lemmas.Bool.{cases_eq}
 use Rattle.std.specs.Cmp.{nat_cmp_total}
@@ -18,9 +18,6 @@ use Rattle.atl_state.specs.Totals.{total}
 use Rattle.atl_state.proofs.CoverLaws.{apart_by, put_stays}
 use Rattle.atl_state.proofs.EveryLaws.{every-insert, get-insert_other, none_some}
 use Rattle.atl_state.proofs.RegionLaws.{changed-known, get-insert_same, same_len}
-
-true_false : {P : Type 0} → true ≡ false → P
-true_false e = cc
 
 -- ---- a structure more
 
@@ -111,7 +108,7 @@ module _ (w : Planet) (c : State) (s : Structure) (fresh : IsFresh w c s) (room 
   water_kept : AreAfloat w raised
   water_kept = record {
     units = λ k x there wet. let (y, at, ship) = old.water.units k x there wet in (y, stays x.structure y at, ship);
-    structures = every-insert (λ k x. is_land_at w x.region ≡ false → (is_ship w x ≡ true) × (x.done ≡ size_of w x.kind)) c.structures next s (λ wet. true_false (sym fresh.land ∙ wet)) old.water.structures;
+    structures = every-insert (λ k x. is_land_at w x.region ≡ false → (is_ship w x ≡ true) × (x.done ≡ size_of w x.kind)) c.structures next s (λ wet. absurd (true≢false (sym fresh.land ∙ wet))) old.water.structures;
   }
 
   pub steady_raised : IsSteady w raised
@@ -153,7 +150,7 @@ marks-raised c s = let n = c.what.next_structure in record {
     units = λ k free. refl;
     goods = λ k free. refl;
     books = λ e t free. refl;
-    row = λ free. true_false free;
+    row = λ free. absurd (true≢false free);
   };
 }
 

@@ -1,5 +1,5 @@
 -- Changes one after the other, each of which is marked.
-use Rattle.std.proofs.Common.{◌≡◌, ◌≢◌, ◌==◌, ◌||◌, ℕ, ◌<◌, Bool, true, false, Option, Some, None, refl, sym, ap, ◌∙◌, arith}
+use Rattle.std.proofs.Common.{◌≡◌, ◌≢◌, ◌==◌, ◌||◌, ℕ, ◌<◌, Bool, true, false, Option, Some, None, refl, sym, ap, ◌∙◌, arith, true≢false}
 use Rattle.std.specs.Prelude.{ℤ}
 use Rattle.std.proofs.lemmas.Bool.Decides.{nat_tests}
 use Rattle.std.specs.Cmp.{nat_cmp_total, unsigned_ties}
@@ -19,11 +19,8 @@ use Rattle.atl_state.specs.State.{State, Marked, region_changed, with_amount}
 use Rattle.atl_state.proofs.EveryLaws.{get-insert_other}
 use Rattle.atl_state.proofs.RegionLaws.{amount-other}
 
-true_false : {P : Type 0} → true ≡ false → P
-true_false e = cc
-
 unmarked : (a b : Bool) → (a ≡ true → b ≡ true) → b ≡ false → a ≡ false
-unmarked true b stays free = true_false (sym (stays refl) ∙ free)
+unmarked true b stays free = absurd (true≢false (sym (stays refl) ∙ free))
 unmarked false b stays free = refl
 
 -- what is not marked now was not marked before
@@ -83,7 +80,7 @@ put_there marks n k e = contains-insert nat_cmp_total marks n k ∙ ap (λ b. b 
 
 -- what is not marked is another one than what was just put
 pub apart_by : (marks : FinSet nat_cmp) (n k : ℕ) → contains (insert marks n) k ≡ false → k ≢ n
-apart_by marks n k free same = true_false (sym (put_there marks n k same) ∙ free)
+apart_by marks n k free same = absurd (true≢false (sym (put_there marks n k same) ∙ free))
 
 -- a region that is changed and marked
 pub marks-region : (f : Region → Region) (c : Marked) (n : ℕ) → MarksChanges c (record { what = region_changed f c.what n; marks = mark_region c n })

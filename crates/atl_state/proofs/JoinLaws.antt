@@ -1,5 +1,6 @@
 -- Joining keeps a campaign sound: each of its rules in turn.
-use Rattle.std.proofs.Common.{◌≡◌, ◌≢◌, ℕ, ◌+◌, ◌%◌, ◌≤◌, ◌<◌, ◌==◌, ◌||◌, true, false, cond, List, [], ◌∷◌, length, Some, None, is_some, take, drop, ◌*◌, refl, sym, ap, ◌∙◌, arith, nat_le, nat_lt, nat_eq, length-append}
+use Rattle.std.proofs.Common.{◌≡◌, ◌≢◌, ℕ, ◌+◌, ◌%◌, ◌≤◌, ◌<◌, ◌==◌, ◌||◌, true, false, cond, List, [], ◌∷◌, length, Some, None, is_some, take, drop, ◌*◌, refl, sym, ap, ◌∙◌, arith, nat_le, nat_lt, nat_eq, length-append, true≢false}
+use Rattle.std.proofs.lemmas.Bool.{false≢true}
 use Rattle.std.specs.Prelude.{unwrap_or, ℤ, pos, ◌+ℤ◌, IsTrue}
 use Rattle.std.specs.Option.{option_map_or}
 use Rattle.std.specs.Ordering.{nat_cmp}
@@ -98,12 +99,6 @@ other_key m k n v free is = let apart : k ≢ n = λ same. none_some v (sym free
 
 -- ---- each rule
 
-false_true : {P : Type 0} → false ≡ true → P
-false_true e = cc
-
-true_false : {P : Type 0} → true ≡ false → P
-true_false e = cc
-
 some_put : {P : Type 0} (n : ℕ) (xs : List ℕ) → put_number n xs ≡ [] → P
 unfolding put_number
 some_put n xs e = absurd (omega (arith, ap length e, length-append (take (first_above n xs) xs) (n ∷ drop (first_above n xs) xs)))
@@ -112,7 +107,7 @@ untaken : (c : State) (name : List ℕ) → name_taken c name ≡ false → Ever
 untaken c name h n f is same =
     let differs = every-from_none (λ (g : Faction). pointwise nat_eq g.joined_as name) c.factions h n f is in
     let equal = (bytes_eq-Decides f.joined_as name).1 same in
-    true_false (sym equal ∙ differs)
+    absurd (true≢false (sym equal ∙ differs))
 
 module _ (w : Planet) (name pass : List ℕ) (word : ℕ) (c : State) where
   abbrev member : Faction
@@ -213,7 +208,7 @@ module _ (w : Planet) (name pass : List ℕ) (word : ℕ) (c : State) where
 
     joined-gone : GoneHaveNone c → GoneHaveNone (joined w name pass word c)
     unfolding joined
-    joined-gone old = every-insert (λ n f. f.gone ≡ true → numbers_of n units ≡ []) c.factions c.next_faction member (λ e. false_true e) (λ n f is gone. same_units n f is ∙ old n f is gone)
+    joined-gone old = every-insert (λ n f. f.gone ≡ true → numbers_of n units ≡ []) c.factions c.next_faction member (λ e. absurd (false≢true e)) (λ n f is gone. same_units n f is ∙ old n f is gone)
 
     own_unit : numbers_of c.next_faction units ≡ [] → false ≡ true
     own_unit none =
@@ -241,14 +236,14 @@ module _ (w : Planet) (name pass : List ℕ) (word : ℕ) (c : State) where
       let home = home_there world in
       let dry : is_land_at w (home_of w word) ≡ true = ap (λ p. option_map_or (is_land w.terrains) p false) home.1 ∙ home.2 in
       record {
-        units = every-insert (λ n u. is_land_at w u.region ≡ false → IsAboard w (joined w name pass word c) u) c.units c.next_unit unit (λ wet. true_false (sym dry ∙ wet)) old.units;
+        units = every-insert (λ n u. is_land_at w u.region ≡ false → IsAboard w (joined w name pass word c) u) c.units c.next_unit unit (λ wet. absurd (true≢false (sym dry ∙ wet))) old.units;
         structures = old.structures;
       }
 
   joined-guarded : AreOfOneFaction guards c → AreOfOneFaction guards (joined w name pass word c)
   unfolding joined
-  joined-guarded old = every-insert (λ n u. Every (λ m v. guards u ≡ true → guards v ≡ true → u.region ≡ v.region → u.faction ≡ v.faction) units) c.units c.next_unit unit (λ m v is e. true_false (sym e))
-      (λ n u is. every-insert (λ m v. guards u ≡ true → guards v ≡ true → u.region ≡ v.region → u.faction ≡ v.faction) c.units c.next_unit unit (λ _ e. true_false (sym e)) (old n u is))
+  joined-guarded old = every-insert (λ n u. Every (λ m v. guards u ≡ true → guards v ≡ true → u.region ≡ v.region → u.faction ≡ v.faction) units) c.units c.next_unit unit (λ m v is e. absurd (true≢false (sym e)))
+      (λ n u is. every-insert (λ m v. guards u ≡ true → guards v ≡ true → u.region ≡ v.region → u.faction ≡ v.faction) c.units c.next_unit unit (λ _ e. absurd (true≢false (sym e))) (old n u is))
 
   joined-men : HaveMen c → HaveMen (joined w name pass word c)
   unfolding joined

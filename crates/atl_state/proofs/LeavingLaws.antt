@@ -1,5 +1,5 @@
 -- How a campaign changes as a unit leaves it.
-use Rattle.std.proofs.Common.{◌≡◌, ◌≢◌, ◌==◌, ℕ, ◌+◌, ◌≤◌, ◌<◌, Bool, true, false, length, not, List, Option, Some, None, refl, sym, ap, subst, ◌∙◌, arith}
+use Rattle.std.proofs.Common.{◌≡◌, ◌≢◌, ◌==◌, ℕ, ◌+◌, ◌≤◌, ◌<◌, Bool, true, false, length, not, List, Option, Some, None, refl, sym, ap, subst, ◌∙◌, arith, true≢false}
 use Rattle.std.specs.Prelude.{option_map, if◌then◌else◌}
 use Rattle.std.proofs.lemmas.Bool.Decides.{nat_tests}
 use Rattle.std.specs.declared.cmp.Ordering.TheVariants.{Less, Equal, Greater}
@@ -180,14 +180,11 @@ module _ (w : Planet) (c : State) (n : ℕ) (u : Unit) (is : get c.units n ≡ S
         owner_test (Some y) x e own f =
             let same : y.owner ≡ x.owner = ap (λ (p : Option Structure). owner_in p x) e in
             let t : (y.owner == n) ≡ true = (let eq : y.owner ≡ n = same ∙ own in grind (arith, nat_tests)) in
-            absurd (true_false (sym t ∙ f))
+            absurd (true≢false (sym t ∙ f))
           where
             owner_in : Option Structure → Structure → ℕ
             owner_in (Some z) d = z.owner
             owner_in None d = d.owner
-
-            true_false : true ≡ false → ⊥
-            true_false e = cc
 
         not_owner : (k : ℕ) (x : Structure) → get c.structures k ≡ Some x → x.owner ≡ n → ⊥
         not_owner k x there own = owner_test (get c.structures u.structure) x (ap (get c.structures) (owns_own k x there own) ∙ there) own free

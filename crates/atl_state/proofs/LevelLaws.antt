@@ -1,5 +1,5 @@
 -- The greatest number that passes a test, and sums that go through the items held.
-use Rattle.std.proofs.Common.{◌≡◌, ℕ, zero, suc, ◌+◌, ◌*◌, ◌≤◌, Bool, true, false, nat_le, List, ◌∷◌, refl, sym, ap, ◌∙◌, arith, inl, inr}
+use Rattle.std.proofs.Common.{◌≡◌, ℕ, zero, suc, ◌+◌, ◌*◌, ◌≤◌, Bool, true, false, nat_le, List, ◌∷◌, refl, sym, ap, ◌∙◌, arith, inl, inr, true≢false}
 use Rattle.std.specs.Prelude.{if◌then◌else◌}
 use Rattle.std.specs.Ordering.{nat_cmp}
 use Rattle.std.specs.FinMap.{is_sorted}
@@ -21,10 +21,7 @@ greatest_below passes (suc n) m e h = let same : n ≡ m = omega arith in ap (λ
 
 -- level 0 needs no days
 pub some_level : (level men days : ℕ) → nat_le (days_for level men) days ≡ false → 1 ≤ level
-some_level zero men days h = let none : nat_le (days_for 0 men) days ≡ true = grind (arith, nat_tests) in absurd (true_false (sym none ∙ h))
-  where
-    true_false : {P : Type 0} → true ≡ false → P
-    true_false e = cc
+some_level zero men days h = let none : nat_le (days_for 0 men) days ≡ true = grind (arith, nat_tests) in absurd (true≢false (sym none ∙ h))
 some_level (suc n) men days h = omega arith
 
 -- ---- sums

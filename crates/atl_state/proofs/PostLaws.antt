@@ -1,5 +1,5 @@
 -- The month that is counted, the mail that is taken away, and a report that is stored: each is marked.
-use Rattle.std.proofs.Common.{◌≡◌, ◌||◌, ℕ, List, Bool, true, false, Option, Some, None, is_some, refl, sym, ap, ◌∙◌}
+use Rattle.std.proofs.Common.{◌≡◌, ◌||◌, ℕ, List, Bool, true, false, Option, Some, None, is_some, refl, sym, ap, ◌∙◌, true≢false}
 use Rattle.std.specs.Ordering.{nat_cmp}
 use Rattle.std.specs.Cmp.{nat_cmp_total}
 use Rattle.std.specs.FinMap.{FinMap, get, get-empty, keys, empty, contains_key, contains_key-keys}
@@ -9,9 +9,6 @@ use Rattle.atl_state.specs.Marking.{mark_all_mail, mark_report, mark_row}
 use Rattle.atl_state.specs.State.{Marked, with_month, with_report, without_mail}
 use Rattle.atl_state.proofs.CoverLaws.{apart_by, put_stays}
 use Rattle.atl_state.proofs.EveryLaws.{get-insert_other}
-
-true_false : {P : Type 0} → true ≡ false → P
-true_false e = cc
 
 -- the month that is counted
 pub marks-month : (c : Marked) (n : ℕ) → MarksChanges c (record { what = with_month c.what n; marks = mark_row c })
@@ -26,7 +23,7 @@ marks-month c n = record {
     units = λ k free. refl;
     goods = λ k free. refl;
     books = λ e t free. refl;
-    row = λ free. true_false free;
+    row = λ free. absurd (true≢false free);
   };
 }
 
@@ -57,9 +54,9 @@ module _ (marks : FinSet nat_cmp) (mail : FinMap nat_cmp (List ℕ)) where
   all_stay k h = either k ∙ ap (λ b. b || contains_key mail k) h
 
   none_there : (a b : Bool) (o : Option (List ℕ)) → b ≡ is_some o → (a || b) ≡ false → None ≡ o
-  none_there true b o is free = true_false free
+  none_there true b o is free = absurd (true≢false free)
   none_there false b None is free = refl
-  none_there false b (Some text) is free = true_false (sym is ∙ free)
+  none_there false b (Some text) is free = absurd (true≢false (sym is ∙ free))
 
   all_gone : SameBut (union marks (from_list (keys mail))) mail empty
   all_gone k free = get-empty nat_cmp k ∙ none_there (contains marks k) (contains_key mail k) (get mail k) refl (sym (either k) ∙ free)

@@ -1,14 +1,11 @@
 -- Whether something is so of every value of a map, decided entry by entry.
 use Rattle.std.proofs.Common.{◌≡◌, ℕ, zero, suc, ◌+◌, ◌<◌, ◌≤◌, inl, inr, arith, Bool, true, false, List, [], ◌∷◌, Option, Some, None, Bor, is_some, option_copied, Decides, refl, sym, ap, ◌∙◌, subst}
-use Rattle.std.proofs.lemmas.Bool.{cases_lt}
+use Rattle.std.proofs.lemmas.Bool.{cases_lt, false≢true}
 use Rattle.std.specs.Ordering.{nat_cmp}
 use Rattle.std.specs.FinMap.{FinMap, get, entries, len}
 use Rattle.atl_state.specs.Good.{Every, IsThere, IsNumbered}
 use Rattle.atl_state.proofs.EveryLaws.{none_some, every-from_each, each-from_every}
 use Rattle.atl_state.specs.Deciding.{EachOf, LeftToSee}
-
-false_true : {P : Type 0} → false ≡ true → P
-false_true e = cc
 
 -- there is nothing under a number
 pub nothing_there : {V : Type 0} (m : FinMap nat_cmp V) (n : ℕ) → get m n ≡ None → ¬ (IsThere m n)
@@ -19,7 +16,7 @@ pub Decides-there : {V : Type 0} (m : FinMap nat_cmp V) (n : ℕ) (b : Bool) →
 Decides-there {V} m n b is = (λ e. found (get m n) (sym is ∙ e), λ there. is ∙ ap is_some there.1)
   where
     found : (o : Option V) → is_some o ≡ true → (v : V) × (o ≡ Some v)
-    found None e = false_true e
+    found None e = absurd (false≢true e)
     found (Some v) e = (v, refl)
 
 pub copied_some : {V : Type 0} (o : Option (Bor V)) → is_some (option_copied o) ≡ is_some o
@@ -39,7 +36,7 @@ module _ {V : Type 0} (P : ℕ → V → Type 0) where
   pub decided_false : (es rest : List (ℕ × V)) (n : ℕ) (v : V) (m : FinMap nat_cmp V) → es ≡ (n, v) ∷ rest → ¬ (P n v) → LeftToSee P es (entries m) → Decides false (Every P m)
   decided_false es rest n v m is never left =
       let both = subst (λ (xs : List (ℕ × V)). LeftToSee P xs (entries m)) is left in
-      (λ e. false_true e, λ every. absurd (never (both.1 (each-from_every P m every)).0))
+      (λ e. absurd (false≢true e), λ every. absurd (never (both.1 (each-from_every P m every)).0))
 
   -- none is left
   pub decided_true : (es : List (ℕ × V)) (m : FinMap nat_cmp V) → es ≡ [] → LeftToSee P es (entries m) → Decides true (Every P m)
