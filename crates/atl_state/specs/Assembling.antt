@@ -3,7 +3,7 @@ use Rattle.std.specs.Ordering.{nat_cmp}
 use Rattle.std.specs.FinMap.{FinMap}
 use Rattle.std.specs.FinSet as set
 use Rattle.atl_tables.specs.Changing.{Changing}
-use Rattle.atl_state.specs.declared.assembly.Tables.{Tables}
+use Rattle.atl_state.specs.declared.assembly.maps.Tables.{Tables}
 use Rattle.atl_state.specs.declared.parts.Parts.{Parts}
 use Rattle.atl_state.specs.FromRows.{as_u32, by_number, faction_of, region_of, structure_of}
 

@@ -1,0 +1,5 @@
+use Rattle.std.proofs.Common.{◌≡◌, map, take}
+use Rattle.atl_state.proofs.row_rules.keys.keys_of.Given as goal
+
+abbrev pub invariant-loop-row : goal.invariant-loop-row
+invariant-loop-row g l = l.keys.items ≡ map g.R.Keyed.key_of (take l.row-index l.rows)

@@ -1,0 +1,38 @@
+//! The books.
+ghost use Rattle.std.specs.Prelude.{◌≡◌, ◌≤◌, IfOk};
+ghost use Rattle.atl_state.specs.Limits.{possible_things};
+ghost use Rattle.atl_state.specs.FromRows.{with_row, put_amounts};
+ghost use Rattle.atl_state.specs.Books.{no_amounts};
+
+use crate::books::Books;
+use crate::limits::ENTRY_COUNT;
+use crate::parts::StoredBooks;
+use crate::row_rules::as_u32;
+use std::alloc::{AllocError, Global};
+
+/// Puts the amount of a row at its places, where there is such an entry and such a thing.
+fn put_row(books: &mut Books, row: &StoredBooks)
+    ensures { books.new ≡ with_row books.old row.now }
+{
+    let entry = as_u32(row.entry) as usize;
+    let thing = as_u32(row.thing) as usize;
+    if 1 <= entry && entry <= ENTRY_COUNT && thing < books.len() {
+        books.put_at(entry - 1, thing, row.amount);
+    }
+}
+
+/// The books of rows, for so many things.
+pub(crate) fn books_of(
+    alloc: Global,
+    things: usize,
+    rows: &[StoredBooks],
+) -> Result<Books, AllocError>
+    requires { things ≤ possible_things }
+    ensures { IfOk result (λ books. books ≡ put_amounts rows.now (no_amounts things)) }
+{
+    let mut books = Books::new(alloc, things)?;
+    for row in rows {
+        put_row(&mut books, row);
+    }
+    Ok(books)
+}

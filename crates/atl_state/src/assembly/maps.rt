@@ -1,0 +1,156 @@
+//! The maps of a campaign but for its units.
+ghost use Rattle.std.specs.Prelude.{◌≡◌, IfOk, true};
+ghost use Rattle.std.specs.List.{list_all};
+ghost use Rattle.atl_tables.specs.Names.{name_ok};
+ghost use Rattle.atl_state.specs.Assembling.{unmarked, tables_of};
+ghost use Rattle.atl_state.specs.FromRows.{as_u32, faction_of, region_of, structure_of, by_number};
+ghost use Rattle.atl_state.specs.RowRules.{faction_named};
+
+use super::records::{faction_of, region_of, structure_of};
+use crate::parts::{Parts, StoredFaction, StoredMail, StoredRegion, StoredReport, StoredStructure};
+use crate::records::{Faction, Region, Structure};
+use crate::row_rules::as_u32;
+use atl_tables::{Numbered, Sequence, Text, Tracked};
+use std::alloc::{AllocError, Global};
+
+/// The factions of rows with good names.
+pub(crate) fn factions_of(
+    alloc: Global,
+    rows: &[StoredFaction],
+) -> Result<Numbered<Faction>, AllocError>
+    requires { list_all faction_named rows.now ≡ true }
+    ensures { IfOk result (λ factions. factions ≡ by_number (λ r. as_u32 r.number) faction_of rows.now) }
+{
+    let mut factions = Numbered::new(alloc);
+    for row in rows {
+        let faction = faction_of(alloc, row)?;
+        factions.insert(as_u32(row.number), faction)?;
+    }
+    Ok(factions)
+}
+
+/// The regions of rows.
+pub(crate) fn regions_of(
+    alloc: Global,
+    rows: &[StoredRegion],
+) -> Result<Numbered<Region>, AllocError>
+    ensures { IfOk result (λ regions. regions ≡ by_number (λ r. as_u32 r.number) region_of rows.now) }
+{
+    let mut regions = Numbered::new(alloc);
+    for row in rows {
+        regions.insert(as_u32(row.number), region_of(row))?;
+    }
+    Ok(regions)
+}
+
+/// The structures of rows with good names.
+pub(crate) fn structures_of(
+    alloc: Global,
+    rows: &[StoredStructure],
+) -> Result<Numbered<Structure>, AllocError>
+    requires { list_all (λ r. name_ok r.name) rows.now ≡ true }
+    ensures { IfOk result (λ structures. structures ≡ by_number (λ r. as_u32 r.number) structure_of rows.now) }
+{
+    let mut structures = Numbered::new(alloc);
+    for row in rows {
+        let structure = structure_of(alloc, row)?;
+        structures.insert(as_u32(row.number), structure)?;
+    }
+    Ok(structures)
+}
+
+/// The mail of rows.
+pub(crate) fn mail_of(
+    alloc: Global,
+    rows: &[StoredMail],
+) -> Result<Numbered<Sequence<u8>>, AllocError>
+    ensures { IfOk result (λ mail. mail ≡ by_number (λ r. as_u32 r.faction) (λ r. r.text) rows.now) }
+{
+    let mut mail = Numbered::new(alloc);
+    for row in rows {
+        let text = Sequence::from_slice(alloc, row.text.as_slice())?;
+        mail.insert(as_u32(row.faction), text)?;
+    }
+    Ok(mail)
+}
+
+/// The reports of rows.
+pub(crate) fn reports_of(alloc: Global, rows: &[StoredReport]) -> Result<Numbered<Text>, AllocError>
+    ensures { IfOk result (λ reports. reports ≡ by_number (λ r. as_u32 r.faction) (λ r. r.text) rows.now) }
+{
+    let mut reports = Numbered::new(alloc);
+    for row in rows {
+        let text = row.text.copy(alloc)?;
+        reports.insert(as_u32(row.faction), text)?;
+    }
+    Ok(reports)
+}
+
+/// The maps of a campaign but for its units, with nothing marked.
+pub(crate) struct Tables {
+    pub(crate) factions: Tracked<Faction>,
+    pub(crate) regions: Tracked<Region>,
+    pub(crate) structures: Tracked<Structure>,
+    pub(crate) mail: Tracked<Sequence<u8>>,
+    pub(crate) reports: Tracked<Text>,
+}
+
+fn tracked_factions(alloc: Global, rows: &[StoredFaction]) -> Result<Tracked<Faction>, AllocError>
+    requires { list_all faction_named rows.now ≡ true }
+    ensures { IfOk result (λ t. t ≡ unmarked (by_number (λ r. as_u32 r.number) faction_of rows.now)) }
+{
+    let factions = factions_of(alloc, rows)?;
+    Tracked::of(alloc, factions)
+}
+
+fn tracked_regions(alloc: Global, rows: &[StoredRegion]) -> Result<Tracked<Region>, AllocError>
+    ensures { IfOk result (λ t. t ≡ unmarked (by_number (λ r. as_u32 r.number) region_of rows.now)) }
+{
+    let regions = regions_of(alloc, rows)?;
+    Tracked::of(alloc, regions)
+}
+
+fn tracked_structures(
+    alloc: Global,
+    rows: &[StoredStructure],
+) -> Result<Tracked<Structure>, AllocError>
+    requires { list_all (λ r. name_ok r.name) rows.now ≡ true }
+    ensures { IfOk result (λ t. t ≡ unmarked (by_number (λ r. as_u32 r.number) structure_of rows.now)) }
+{
+    let structures = structures_of(alloc, rows)?;
+    Tracked::of(alloc, structures)
+}
+
+fn tracked_mail(alloc: Global, rows: &[StoredMail]) -> Result<Tracked<Sequence<u8>>, AllocError>
+    ensures { IfOk result (λ t. t ≡ unmarked (by_number (λ r. as_u32 r.faction) (λ r. r.text) rows.now)) }
+{
+    let mail = mail_of(alloc, rows)?;
+    Tracked::of(alloc, mail)
+}
+
+fn tracked_reports(alloc: Global, rows: &[StoredReport]) -> Result<Tracked<Text>, AllocError>
+    ensures { IfOk result (λ t. t ≡ unmarked (by_number (λ r. as_u32 r.faction) (λ r. r.text) rows.now)) }
+{
+    let reports = reports_of(alloc, rows)?;
+    Tracked::of(alloc, reports)
+}
+
+/// The maps but for the units, of rows with good names.
+pub(crate) fn tables_of(alloc: Global, parts: &Parts) -> Result<Tables, AllocError>
+    requires factions { list_all faction_named parts.now.factions ≡ true }
+    requires structures { list_all (λ r. name_ok r.name) parts.now.structures ≡ true }
+    ensures { IfOk result (λ tables. tables ≡ tables_of parts.now) }
+{
+    let factions = tracked_factions(alloc, parts.factions.as_slice())?;
+    let regions = tracked_regions(alloc, parts.regions.as_slice())?;
+    let structures = tracked_structures(alloc, parts.structures.as_slice())?;
+    let mail = tracked_mail(alloc, parts.mail.as_slice())?;
+    let reports = tracked_reports(alloc, parts.reports.as_slice())?;
+    Ok(Tables {
+        factions,
+        regions,
+        structures,
+        mail,
+        reports,
+    })
+}

@@ -1,0 +1,65 @@
+//! The factions, regions and structures of single rows.
+ghost use Rattle.std.specs.Prelude.{◌≡◌, IfOk, true};
+ghost use Rattle.atl_tables.specs.Names.{name_ok, pass_ok};
+ghost use Rattle.atl_state.specs.FromRows.{faction_of, region_of, structure_of};
+ghost use Rattle.atl_state.specs.RowRules.{faction_named};
+
+use crate::parts::{StoredFaction, StoredRegion, StoredStructure};
+use crate::records::{Faction, Region, Structure};
+use crate::row_rules::{as_u16, as_u32, is_set};
+use atl_tables::{Sequence, Text};
+use std::alloc::{AllocError, Global};
+
+pub(super) fn name_of(alloc: Global, bytes: &Sequence<u8>) -> Result<Text, AllocError>
+    requires { name_ok bytes.now ≡ true }
+    ensures { IfOk result (λ name. name ≡ bytes.now) }
+{
+    Text::from_utf8(alloc, bytes.as_slice())
+}
+
+/// A pass text.
+pub(crate) fn pass_of(alloc: Global, bytes: &Sequence<u8>) -> Result<Text, AllocError>
+    requires { pass_ok bytes.now ≡ true }
+    ensures { IfOk result (λ pass. pass ≡ bytes.now) }
+{
+    Text::from_utf8(alloc, bytes.as_slice())
+}
+
+pub(super) fn faction_of(alloc: Global, row: &StoredFaction) -> Result<Faction, AllocError>
+    requires { faction_named row.now ≡ true }
+    ensures { IfOk result (λ faction. faction ≡ faction_of row.now) }
+{
+    let joined_as = name_of(alloc, &row.joined_as)?;
+    let name = name_of(alloc, &row.name)?;
+    let pass = pass_of(alloc, &row.pass)?;
+    Ok(Faction {
+        number: as_u32(row.number),
+        joined_as,
+        name,
+        pass,
+        gone: is_set(row.gone),
+    })
+}
+
+pub(super) fn region_of(row: &StoredRegion) -> Region
+    ensures { result ≡ region_of row.now }
+{
+    Region {
+        peasants: as_u32(row.peasants),
+        money: as_u32(row.money),
+    }
+}
+
+pub(super) fn structure_of(alloc: Global, row: &StoredStructure) -> Result<Structure, AllocError>
+    requires { name_ok row.now.name ≡ true }
+    ensures { IfOk result (λ structure. structure ≡ structure_of row.now) }
+{
+    let name = name_of(alloc, &row.name)?;
+    Ok(Structure {
+        kind: as_u16(row.kind),
+        name,
+        region: as_u32(row.region),
+        done: as_u32(row.done),
+        owner: as_u32(row.owner),
+    })
+}

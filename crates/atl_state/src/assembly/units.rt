@@ -1,0 +1,103 @@
+//! The units, with what they have, and the lists of them.
+ghost use Rattle.std.specs.Prelude.{◌≡◌, IfOk, ℕ, true};
+ghost use Rattle.std.specs.FinSet as set;
+ghost use Rattle.std.specs.List.{list_all};
+ghost use Rattle.atl_tables.specs.Names.{name_ok};
+ghost use Rattle.atl_state.specs.Kept.{AreUnitLists};
+ghost use Rattle.atl_state.specs.FromRows.{as_u32, by_number, unit_with, unit_of, group_of};
+ghost use Rattle.atl_state.specs.Held.{AreAmounts};
+ghost use Rattle.atl_state.specs.RowRules.{unit_in_range, has_in_range};
+
+use super::goods::{groups_of, things_of};
+use super::records::name_of;
+use crate::holding::Holding;
+use crate::lists::{UnitLists, listing_of};
+use crate::parts::{Parts, StoredHas, StoredUnit};
+use crate::records::Unit;
+use crate::row_rules::{as_u32, is_set};
+use crate::rows::{ITEM_SORT, SKILL_SORT};
+use crate::units::Units;
+use atl_tables::Numbered;
+use std::alloc::{AllocError, Global};
+
+fn unit_of(
+    alloc: Global,
+    row: &StoredUnit,
+    items: &Numbered<Numbered<u32>>,
+    days: &Numbered<Numbered<u32>>,
+) -> Result<Unit, AllocError>
+    requires named { name_ok row.now.name ≡ true }
+    requires range { unit_in_range row.now ≡ true }
+    requires amounts { (n : ℕ) → AreAmounts (group_of items.now n) }
+    ensures { IfOk result (λ unit. unit ≡ unit_with row.now (group_of items.now (as_u32 row.now.number)) (group_of days.now (as_u32 row.now.number))) }
+{
+    let number = as_u32(row.number);
+    let name = name_of(alloc, &row.name)?;
+    let items = things_of(alloc, items, number)?;
+    let days = things_of(alloc, days, number)?;
+    let mut holding = Holding::new(name, as_u32(row.men), as_u32(row.money), items, days);
+    holding.set_guard(is_set(row.guard));
+    Ok(Unit {
+        faction: as_u32(row.faction),
+        region: as_u32(row.region),
+        structure: as_u32(row.structure),
+        holding,
+    })
+}
+
+fn units_with(
+    alloc: Global,
+    rows: &[StoredUnit],
+    items: &Numbered<Numbered<u32>>,
+    days: &Numbered<Numbered<u32>>,
+) -> Result<Numbered<Unit>, AllocError>
+    requires named { list_all (λ r. name_ok r.name) rows.now ≡ true }
+    requires range { list_all unit_in_range rows.now ≡ true }
+    requires amounts { (n : ℕ) → AreAmounts (group_of items.now n) }
+    ensures { IfOk result (λ units. units ≡ by_number (λ r. as_u32 r.number) (λ r. unit_with r (group_of items.now (as_u32 r.number)) (group_of days.now (as_u32 r.number))) rows.now) }
+{
+    let mut units = Numbered::new(alloc);
+    for row in rows {
+        let unit = unit_of(alloc, row, items, days)?;
+        units.insert(as_u32(row.number), unit)?;
+    }
+    Ok(units)
+}
+
+/// The units of rows with good names and numbers in their ranges, with what they have.
+pub(crate) fn units_of(
+    alloc: Global,
+    rows: &[StoredUnit],
+    has: &[StoredHas],
+) -> Result<Numbered<Unit>, AllocError>
+    requires named { list_all (λ r. name_ok r.name) rows.now ≡ true }
+    requires range { list_all unit_in_range rows.now ≡ true }
+    requires amounts { list_all has_in_range has.now ≡ true }
+    ensures { IfOk result (λ units. units ≡ by_number (λ r. as_u32 r.number) (unit_of has.now) rows.now) }
+{
+    let items = groups_of(alloc, ITEM_SORT, has)?;
+    let days = groups_of(alloc, SKILL_SORT, has)?;
+    units_with(alloc, rows, &items, &days)
+}
+
+/// The units of rows with good names and numbers in their ranges, with nothing marked.
+pub(crate) fn roster_of(alloc: Global, parts: &Parts) -> Result<Units, AllocError>
+    requires named { list_all (λ r. name_ok r.name) parts.now.units ≡ true }
+    requires range { list_all unit_in_range parts.now.units ≡ true }
+    requires amounts { list_all has_in_range parts.now.has ≡ true }
+    ensures { IfOk result (λ units. units ≡ record { values = by_number (λ r. as_u32 r.number) (unit_of parts.now.has) parts.now.units; marks = set.empty; goods = set.empty }) }
+{
+    let units = units_of(alloc, parts.units.as_slice(), parts.has.as_slice())?;
+    Units::of(alloc, units)
+}
+
+/// The lists of units.
+pub(crate) fn lists_of(alloc: Global, units: &Units) -> Result<UnitLists, AllocError>
+    ensures { IfOk result (λ lists. AreUnitLists units.now.values lists) }
+{
+    let mut lists = UnitLists::new(alloc);
+    for (number, unit) in units.iter() {
+        lists.add(alloc, number, listing_of(unit))?;
+    }
+    Ok(lists)
+}

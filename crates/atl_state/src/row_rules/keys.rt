@@ -1,0 +1,132 @@
+//! Whether no two rows of a table have one key.
+ghost use Rattle.std.specs.Prelude.{◌≡◌, IfOk, map};
+ghost use Rattle.std.specs.Bool.{Decides};
+ghost use Rattle.std.specs.List.{IsDistinct};
+ghost use Rattle.std.specs.Ordering.{eq_by_cmp};
+ghost use Rattle.atl_state.specs.RowRules.{Key, faction_key, region_key, unit_key, has_key, structure_key, mail_key, report_key, books_key, HaveKeys, AreKeyed};
+
+use crate::parts::{
+    Parts, StoredBooks, StoredFaction, StoredHas, StoredMail, StoredRegion, StoredReport,
+    StoredStructure, StoredUnit,
+};
+use std::alloc::{AllocError, Global};
+use std::collections::BTreeSet;
+
+/// A row with a key.
+trait Keyed {
+    ghost key_of: { Self → Key };
+
+    fn key(&self) -> (i64, i64, i64)
+        ensures { result ≡ key_of self.now };
+}
+
+impl Keyed for StoredFaction {
+    ghost key_of = { faction_key };
+
+    fn key(&self) -> (i64, i64, i64) {
+        (self.number, 0, 0)
+    }
+}
+
+impl Keyed for StoredRegion {
+    ghost key_of = { region_key };
+
+    fn key(&self) -> (i64, i64, i64) {
+        (self.number, 0, 0)
+    }
+}
+
+impl Keyed for StoredUnit {
+    ghost key_of = { unit_key };
+
+    fn key(&self) -> (i64, i64, i64) {
+        (self.number, 0, 0)
+    }
+}
+
+impl Keyed for StoredHas {
+    ghost key_of = { has_key };
+
+    fn key(&self) -> (i64, i64, i64) {
+        (self.unit, self.sort, self.thing)
+    }
+}
+
+impl Keyed for StoredStructure {
+    ghost key_of = { structure_key };
+
+    fn key(&self) -> (i64, i64, i64) {
+        (self.number, 0, 0)
+    }
+}
+
+impl Keyed for StoredMail {
+    ghost key_of = { mail_key };
+
+    fn key(&self) -> (i64, i64, i64) {
+        (self.faction, 0, 0)
+    }
+}
+
+impl Keyed for StoredReport {
+    ghost key_of = { report_key };
+
+    fn key(&self) -> (i64, i64, i64) {
+        (self.faction, 0, 0)
+    }
+}
+
+impl Keyed for StoredBooks {
+    ghost key_of = { books_key };
+
+    fn key(&self) -> (i64, i64, i64) {
+        (self.entry, self.thing, 0)
+    }
+}
+
+fn keys_of<R: Keyed>(alloc: Global, rows: &[R]) -> Result<Vec<(i64, i64, i64)>, AllocError>
+    ensures { IfOk result (λ keys. keys.items ≡ map R.key_of rows.now) }
+{
+    let mut keys = Vec::new(alloc);
+    for row in rows {
+        keys.push(row.key())?;
+    }
+    Ok(keys)
+}
+
+/// Whether no two of the values are equal. It takes memory for each, and n log n steps.
+pub fn are_distinct<K: Ord + Copy + Drop>(alloc: Global, keys: &[K]) -> Result<bool, AllocError>
+    ensures { IfOk result (λ yes. Decides yes (IsDistinct (eq_by_cmp K.cmp) keys.now)) }
+{
+    let mut seen = BTreeSet::new(alloc);
+    for key in keys {
+        if !seen.insert(*key)? {
+            return Ok(false);
+        }
+    }
+    Ok(true)
+}
+
+/// Whether no two rows have one key.
+fn have_keys<R: Keyed>(alloc: Global, rows: &[R]) -> Result<bool, AllocError>
+    ensures { IfOk result (λ yes. Decides yes (HaveKeys R.key_of rows.now)) }
+{
+    let keys = keys_of(alloc, rows)?;
+    are_distinct(alloc, &keys)
+}
+
+/// Whether in no table two rows have one key.
+pub(super) fn are_keyed(alloc: Global, parts: &Parts) -> Result<bool, AllocError>
+    ensures { IfOk result (λ yes. Decides yes (AreKeyed parts.now)) }
+{
+    let factions = have_keys(alloc, parts.factions.as_slice())?;
+    let regions = have_keys(alloc, parts.regions.as_slice())?;
+    let units = have_keys(alloc, parts.units.as_slice())?;
+    let has = have_keys(alloc, parts.has.as_slice())?;
+    let structures = have_keys(alloc, parts.structures.as_slice())?;
+    let mail = have_keys(alloc, parts.mail.as_slice())?;
+    let reports = have_keys(alloc, parts.reports.as_slice())?;
+    let books = have_keys(alloc, parts.books.as_slice())?;
+    let people = factions && regions && units && has;
+    Ok(people && structures && mail && reports && books)
+}

@@ -1,0 +1,75 @@
+//! Whether names and pass texts keep their rules.
+ghost use Rattle.std.specs.Prelude.{◌≡◌, IfOk, true, map};
+ghost use Rattle.std.specs.Bool.{Decides};
+ghost use Rattle.std.specs.List.{list_all};
+ghost use Rattle.atl_tables.specs.Names.{name_ok};
+ghost use Rattle.atl_state.specs.RowRules.{faction_named, is_one_head, are_named, HaveJoined, AreRowsNamed};
+
+use super::head::head_of;
+use super::keys::are_distinct;
+use crate::parts::{Parts, StoredFaction, StoredStructure, StoredUnit};
+use atl_tables::{name_ok, pass_ok};
+use std::alloc::{AllocError, Global};
+
+fn faction_named(row: &StoredFaction) -> bool
+    ensures { result ≡ faction_named row.now }
+{
+    name_ok(row.joined_as.as_slice())
+        && name_ok(row.name.as_slice())
+        && pass_ok(row.pass.as_slice())
+}
+
+fn factions_named(rows: &[StoredFaction]) -> bool
+    ensures { result ≡ list_all faction_named rows.now }
+{
+    rows.iter().all(|row| faction_named(row))
+}
+
+fn units_named(rows: &[StoredUnit]) -> bool
+    ensures { result ≡ list_all (λ r. name_ok r.name) rows.now }
+{
+    rows.iter().all(|row| name_ok(row.name.as_slice()))
+}
+
+fn structures_named(rows: &[StoredStructure]) -> bool
+    ensures { result ≡ list_all (λ r. name_ok r.name) rows.now }
+{
+    rows.iter().all(|row| name_ok(row.name.as_slice()))
+}
+
+fn are_named(parts: &Parts) -> bool
+    requires { is_one_head parts.now.campaign ≡ true }
+    ensures { result ≡ are_named parts.now }
+{
+    pass_ok(head_of(parts).pass.as_slice())
+        && factions_named(parts.factions.as_slice())
+        && units_named(parts.units.as_slice())
+        && structures_named(parts.structures.as_slice())
+}
+
+fn joined_names(alloc: Global, rows: &[StoredFaction]) -> Result<Vec<&[u8]>, AllocError>
+    ensures { IfOk result (λ names. map (λ name. name.now) names.items ≡ map (λ r. r.joined_as) rows.now) }
+{
+    let mut names = Vec::new(alloc);
+    for row in rows {
+        names.push(row.joined_as.as_slice())?;
+    }
+    Ok(names)
+}
+
+/// Whether no two factions joined under one name.
+fn have_joined(alloc: Global, rows: &[StoredFaction]) -> Result<bool, AllocError>
+    ensures { IfOk result (λ yes. Decides yes (HaveJoined rows.now)) }
+{
+    let names = joined_names(alloc, rows)?;
+    are_distinct(alloc, &names)
+}
+
+/// Whether names, joined names and pass texts keep their rules, and no two factions joined under one name.
+pub(crate) fn rows_named(alloc: Global, parts: &Parts) -> Result<bool, AllocError>
+    requires { is_one_head parts.now.campaign ≡ true }
+    ensures { IfOk result (λ yes. Decides yes (AreRowsNamed parts.now)) }
+{
+    let joined = have_joined(alloc, parts.factions.as_slice())?;
+    Ok(joined && are_named(parts))
+}

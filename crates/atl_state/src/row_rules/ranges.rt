@@ -1,0 +1,153 @@
+//! Whether rows have keys that differ, numbers in their ranges, and are not too many.
+ghost use Rattle.std.specs.Prelude.{◌≡◌, IfOk, true};
+ghost use Rattle.std.specs.Bool.{Decides};
+ghost use Rattle.std.specs.List.{list_all};
+ghost use Rattle.atl_state.specs.RowRules.{head_in_range, faction_in_range, region_in_range, unit_in_range, has_in_range, structure_in_range, books_bound, books_in_range, is_one_head, are_few, people_in_range, numbers_in_range, AreRowsInRange};
+
+use super::head::head_of;
+use super::keys::are_keyed;
+use super::numbers::{as_u16, as_u32, is_from, is_set, is_within};
+use crate::limits::{
+    HOLDING_LIMIT, LAST_MONTH, LAST_UNIT, MEN_LIMIT, MOST_IN_JOINING, MOST_IN_MONTH,
+    MOST_STRUCTURES, MOST_UNITS,
+};
+use crate::parts::{
+    Parts, StoredBooks, StoredFaction, StoredHas, StoredHead, StoredRegion, StoredStructure,
+    StoredUnit,
+};
+use crate::terrains::size_of;
+use atl_orders::LAST_FACTION;
+use atl_tables::World;
+use atl_tables::limits::{MOST_AMOUNT, MOST_REGIONS};
+use std::alloc::{AllocError, Global};
+
+fn head_in_range(head: &StoredHead) -> bool
+    ensures { result ≡ head_in_range head.now }
+{
+    is_from(0, LAST_MONTH, head.month)
+        && is_from(1, LAST_FACTION + 1, head.next_faction)
+        && is_from(1, LAST_UNIT + 1, head.next_unit)
+        && is_from(1, MOST_STRUCTURES + 1, head.next_structure)
+}
+
+fn faction_in_range(row: &StoredFaction) -> bool
+    ensures { result ≡ faction_in_range row.now }
+{
+    is_from(1, LAST_FACTION, row.number) && is_from(0, 1, row.gone)
+}
+
+fn region_in_range(row: &StoredRegion) -> bool
+    ensures { result ≡ region_in_range row.now }
+{
+    is_from(0, MOST_AMOUNT, row.peasants) && is_from(0, MOST_AMOUNT, row.money)
+}
+
+fn unit_in_range(row: &StoredUnit) -> bool
+    ensures { result ≡ unit_in_range row.now }
+{
+    is_from(1, LAST_UNIT, row.number)
+        && is_from(1, MEN_LIMIT, row.men)
+        && is_from(0, HOLDING_LIMIT, row.money)
+        && is_from(0, 1, row.guard)
+}
+
+fn has_in_range(row: &StoredHas) -> bool
+    ensures { result ≡ has_in_range row.now }
+{
+    is_from(1, 1, row.sort) || is_from(0, 0, row.sort) && is_from(1, HOLDING_LIMIT, row.amount)
+}
+
+fn structure_in_range(world: &World, row: &StoredStructure) -> bool
+    ensures { result ≡ structure_in_range world.now row.now }
+{
+    let size = size_of(world, as_u16(row.kind));
+    is_from(1, MOST_STRUCTURES, row.number) && is_from(1, size, row.done)
+}
+
+fn books_in_range(bound: u128, row: &StoredBooks) -> bool
+    ensures { result ≡ books_in_range bound row.now }
+{
+    is_set(row.amount) && is_within(bound, row.amount)
+}
+
+fn factions_in_range(rows: &[StoredFaction]) -> bool
+    ensures { result ≡ list_all faction_in_range rows.now }
+{
+    rows.iter().all(|row| faction_in_range(row))
+}
+
+fn regions_in_range(rows: &[StoredRegion]) -> bool
+    ensures { result ≡ list_all region_in_range rows.now }
+{
+    rows.iter().all(|row| region_in_range(row))
+}
+
+fn units_in_range(rows: &[StoredUnit]) -> bool
+    ensures { result ≡ list_all unit_in_range rows.now }
+{
+    rows.iter().all(|row| unit_in_range(row))
+}
+
+fn all_has_in_range(rows: &[StoredHas]) -> bool
+    ensures { result ≡ list_all has_in_range rows.now }
+{
+    rows.iter().all(|row| has_in_range(row))
+}
+
+fn structures_in_range(world: &World, rows: &[StoredStructure]) -> bool
+    ensures { result ≡ list_all (structure_in_range world.now) rows.now }
+{
+    rows.iter().all(|row| structure_in_range(world, row))
+}
+
+fn all_books_in_range(bound: u128, rows: &[StoredBooks]) -> bool
+    ensures { result ≡ list_all (books_in_range bound) rows.now }
+{
+    rows.iter().all(|row| books_in_range(bound, row))
+}
+
+fn are_few(parts: &Parts) -> bool
+    ensures { result ≡ are_few parts.now }
+{
+    parts.factions.len() <= LAST_FACTION as usize
+        && parts.regions.len() <= MOST_REGIONS
+        && parts.units.len() <= MOST_UNITS
+        && parts.structures.len() <= MOST_STRUCTURES as usize
+}
+
+fn people_in_range(parts: &Parts) -> bool
+    ensures { result ≡ people_in_range parts.now }
+{
+    factions_in_range(parts.factions.as_slice())
+        && regions_in_range(parts.regions.as_slice())
+        && units_in_range(parts.units.as_slice())
+        && all_has_in_range(parts.has.as_slice())
+}
+
+/// The size that no amount of the books is above.
+fn books_bound(parts: &Parts) -> u128
+    requires { is_one_head parts.now.campaign ≡ true }
+    ensures { result ≡ books_bound parts.now }
+{
+    let months = u128::from(as_u32(head_of(parts).month)) + 1;
+    MOST_IN_MONTH * months + MOST_IN_JOINING * parts.factions.len() as u128
+}
+
+fn numbers_in_range(world: &World, parts: &Parts) -> bool
+    requires { is_one_head parts.now.campaign ≡ true }
+    ensures { result ≡ numbers_in_range world.now parts.now }
+{
+    head_in_range(head_of(parts))
+        && people_in_range(parts)
+        && structures_in_range(world, parts.structures.as_slice())
+        && all_books_in_range(books_bound(parts), parts.books.as_slice())
+}
+
+/// Whether no two rows of a table have one key, each number is in its range and there are not too many rows.
+pub(crate) fn rows_in_range(alloc: Global, world: &World, parts: &Parts) -> Result<bool, AllocError>
+    requires { is_one_head parts.now.campaign ≡ true }
+    ensures { IfOk result (λ yes. Decides yes (AreRowsInRange world.now parts.now)) }
+{
+    let keyed = are_keyed(alloc, parts)?;
+    Ok(keyed && are_few(parts) && numbers_in_range(world, parts))
+}
