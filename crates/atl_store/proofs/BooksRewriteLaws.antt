@@ -11,7 +11,7 @@ use Rattle.sqlite.specs.State.{State}
 use Rattle.sqlite_rules.specs.Lists.{Has}
 use Rattle.sqlite_value.specs.declared.value.Value.TheVariants.{Null, Int, Real, Text, Blob}
 use Rattle.atl_state.specs.Limits.{entry_count}
-use Rattle.atl_state.specs.Books.{amount_in, entry_place, thing_place}
+use Rattle.atl_state.specs.Books.{all_entries, amount_in, entry_place, thing_place}
 use Rattle.atl_state.specs.Marks.{amount_number, AreOfThings}
 use Rattle.atl_state.specs.State.{Marked}
 use Rattle.atl_state.specs.declared.books.Entry.{Entry}
@@ -20,7 +20,7 @@ use Rattle.atl_store.specs.Sets.{rows_in}
 use Rattle.atl_store.specs.Tables.{books_table}
 use Rattle.atl_store.specs.Shown.{int, books_key, books_row}
 use Rattle.atl_store.specs.Rows.{BooksRowsOf}
-use Rattle.atl_store.specs.Lines.{all_entries, amount_lines}
+use Rattle.atl_store.specs.Lines.{amount_lines}
 use Rattle.atl_store.specs.Arriving.{Settles}
 use Rattle.atl_store.specs.Inside.{Inside, HasTables}
 use Rattle.atl_store.specs.Changing.{accounts, amount_marked, is_marked_amount, Chosen}

@@ -10,32 +10,19 @@ use Rattle.sqlite.specs.Order.{Row}
 use Rattle.sqlite_rules.specs.Lists.{Has}
 use Rattle.sqlite_rules.proofs.ListLemmas.{test_has}
 use Rattle.atl_state.specs.State.{State}
-use Rattle.atl_state.specs.Books.{amount_in, entry_place, thing_place}
+use Rattle.atl_state.specs.Books.{all_entries, amount_in, entry_place, thing_at, thing_place}
 use Rattle.atl_state.specs.declared.books.Entry.{Entry}
 use Rattle.atl_state.specs.declared.books.Entry.TheVariants.{Founding, Joining, Income, Wages, Recruiting, Study, Upkeep, Lost, Births, Starved, Left, Made, Used}
 use Rattle.atl_state.specs.declared.books.Thing.{Thing}
-use Rattle.atl_state.specs.declared.books.Thing.TheVariants.{Money, People, Item as Good}
+use Rattle.atl_state.proofs.BookLaws.{place_at, at_place}
 use Rattle.atl_store.specs.Sets.{Is, puts}
 use Rattle.atl_store.specs.Shown.{books_key, books_row}
 use Rattle.atl_store.specs.Rows.{BooksRowsOf}
-use Rattle.atl_store.specs.Lines.{all_entries, thing_at, amount_lines, entries_lines, things_lines}
+use Rattle.atl_store.specs.Lines.{amount_lines, entries_lines, things_lines}
 use Rattle.atl_store.proofs.EntryLaws.{AreApart, apart_append, filled}
 use Rattle.atl_store.proofs.GoodsLaws.{flat_has, has_flat, optional_has, has_optional, optional_apart}
 
--- ---- things and entries by their places
-
-pub place_at : (i : ℕ) → thing_place (thing_at i) ≡ i
-place_at zero = refl
-place_at (suc zero) = refl
-place_at (suc (suc i)) = omega arith
-
-pub at_place : (t : Thing) → thing_at (thing_place t) ≡ t
-at_place Money = refl
-at_place People = refl
-at_place (Good i) = item_at (2 + i) i (omega arith)
-  where
-    item_at : (n i : ℕ) → n ≡ suc (suc i) → thing_at n ≡ Good i
-    item_at n i is = ap thing_at is
+-- ---- entries by their places
 
 pub every_entry : (e : Entry) → Has all_entries e
 every_entry Founding = inl refl

@@ -10,7 +10,7 @@ use Rattle.sqlite.specs.Order.{Row}
 use Rattle.sqlite_trees.specs.Tree.{Trees}
 use Rattle.sqlite_rules.specs.Lists.{Has}
 use Rattle.sqlite_rules.proofs.ListLemmas.{has_either, has_left, has_right, has_filtered, has_kept}
-use Rattle.atl_state.specs.Books.{entry_place, thing_place}
+use Rattle.atl_state.specs.Books.{all_entries, entry_place, thing_at, thing_place}
 use Rattle.atl_state.specs.Held.{Held}
 use Rattle.atl_state.specs.Limits.{entry_count}
 use Rattle.atl_state.specs.Rows.{rows_by, rows_of, is_zero, amount_at, AreRowsOf}
@@ -24,9 +24,9 @@ use Rattle.atl_state.specs.declared.parts.StoredHas.{StoredHas}
 use Rattle.atl_state.specs.declared.parts.StoredHead.{StoredHead}
 use Rattle.atl_state.specs.declared.records.Faction.{Faction}
 use Rattle.atl_state.specs.declared.records.Unit.{Unit}
+use Rattle.atl_state.proofs.BookLaws.{place_at}
 use Rattle.atl_store.specs.declared.rows.has.Sort.{Sort}
 use Rattle.atl_store.specs.declared.rows.has.Sort.TheVariants.{Item, Skill}
-use Rattle.atl_store.specs.Lines.{all_entries, thing_at}
 use Rattle.atl_store.specs.Loading.{HaveRows, own_stored, has_values, books_values}
 use Rattle.atl_store.specs.Rows.{RowsOf, HasRowsOf, BooksRowsOf, Holds, campaign_line, faction_line, region_line, unit_line, structure_line, things_of}
 use Rattle.atl_store.specs.Sets.{Is, rows_in}
@@ -37,7 +37,7 @@ use Rattle.atl_store.specs.Written.{sort_number}
 use Rattle.atl_store.proofs.EditLaws.{has_permuted}
 use Rattle.atl_store.proofs.EntryLaws.{got_entry, entry_got}
 use Rattle.atl_store.proofs.GoodsLaws.{flat_has, has_flat, is_not_zero}
-use Rattle.atl_store.proofs.LedgerLaws.{every_entry, place_at, has_range, within}
+use Rattle.atl_store.proofs.LedgerLaws.{every_entry, has_range, within}
 use Rattle.atl_store.proofs.ListLaws.{has_map, map_has}
 
 -- ---- rows of a table, rows that were read of it, and rows that are made of a campaign

@@ -1,16 +1,14 @@
 -- The rows of goods and of books as lists, in the order in which they are put into empty tables.
-use Rattle.std.specs.Prelude.{◌==◌, ◌+◌, ◌++◌, ℕ, zero, suc, pos, List, [], ◌∷◌, if◌then◌else◌}
+use Rattle.std.specs.Prelude.{◌==◌, ◌+◌, ◌++◌, ℕ, pos, List, [], ◌∷◌, if◌then◌else◌}
 use Rattle.std.specs.List.{flat_map}
 use Rattle.std.specs.Ordering.{int_eq}
 use Rattle.std.specs.FinMap.{entries}
 use Rattle.sqlite.specs.Order.{Row}
 use Rattle.atl_state.specs.State.{State}
 use Rattle.atl_state.specs.Held.{Held}
-use Rattle.atl_state.specs.Books.{amount_in, entry_place, thing_place}
+use Rattle.atl_state.specs.Books.{all_entries, amount_in, entry_place, thing_at, thing_place}
 use Rattle.atl_state.specs.declared.books.Entry.{Entry}
-use Rattle.atl_state.specs.declared.books.Entry.TheVariants.{Founding, Joining, Income, Wages, Recruiting, Study, Upkeep, Lost, Births, Starved, Left, Made, Used}
 use Rattle.atl_state.specs.declared.books.Thing.{Thing}
-use Rattle.atl_state.specs.declared.books.Thing.TheVariants.{Money, People, Item as Good}
 use Rattle.atl_state.specs.declared.records.Unit.{Unit}
 use Rattle.atl_store.specs.declared.rows.has.Sort.{Sort}
 use Rattle.atl_store.specs.declared.rows.has.Sort.TheVariants.{Item, Skill}
@@ -33,15 +31,6 @@ abbrev pub all_goods_lines : List (ℕ × Unit) → List Row
 all_goods_lines units = flat_map (λ e. goods_lines e.0 e.1.holding) units
 
 -- ---- the books
-
-abbrev pub all_entries : List Entry
-all_entries = Founding ∷ Joining ∷ Income ∷ Wages ∷ Recruiting ∷ Study ∷ Upkeep ∷ Lost ∷ Births ∷ Starved ∷ Left ∷ Made ∷ Used ∷ []
-
--- the thing whose row of amounts stands at this place
-abbrev pub thing_at : ℕ → Thing
-thing_at zero = Money
-thing_at (suc zero) = People
-thing_at (suc (suc item)) = Good item
 
 -- a row where the amount is not 0
 abbrev pub amount_lines : State → Entry → Thing → List Row

@@ -1,82 +1,18 @@
 //! The books, written row by row.
-ghost use Rattle.std.specs.Prelude.{◌≡◌, ◌+◌, ◌<◌, ◌≤◌, length, map};
+ghost use Rattle.std.specs.Prelude.{◌<◌, ◌≤◌, length, map};
 ghost use Rattle.std.specs.List.{range_with_len};
 ghost use Rattle.atl_state.specs.Limits.{most_things};
 ghost use Rattle.atl_state.specs.Books.{entry_place, thing_place};
 ghost use Rattle.atl_store.specs.Tables.{books_table};
-ghost use Rattle.atl_store.specs.Lines.{thing_at, amount_lines, entries_lines, things_lines};
+ghost use Rattle.atl_store.specs.Lines.{amount_lines, entries_lines, things_lines};
 ghost use Rattle.atl_store.specs.Writes.{Writes};
 ghost use Rattle.atl_store.specs.Inside.{Inside, HasTables, PutsRows};
 ghost use Rattle.atl_store.specs.Arriving.{Settles};
 ghost use Rattle.atl_store.specs.Rewriting.{RewritesAmounts, RewritesBooks, is_number, is_among};
 
 use crate::rows::books::{BooksRow, drop_books, put_books};
-use atl_state::{Campaign, ENTRY_COUNT, Entry, Thing};
+use atl_state::{Campaign, Entry, Thing};
 use sqlite::{Alter, Error, Transaction};
-
-/// The number of the first item. Money has 0, and people have 1.
-const FIRST_ITEM: usize = 2;
-
-/// All entries, in the order of their numbers.
-const ENTRIES: [Entry; ENTRY_COUNT] = [
-    Entry::Founding,
-    Entry::Joining,
-    Entry::Income,
-    Entry::Wages,
-    Entry::Recruiting,
-    Entry::Study,
-    Entry::Upkeep,
-    Entry::Lost,
-    Entry::Births,
-    Entry::Starved,
-    Entry::Left,
-    Entry::Made,
-    Entry::Used,
-];
-
-/// The number of an entry, from 1.
-fn entry_number(entry: Entry) -> u32
-    ensures { result ≡ entry_place entry + 1 }
-{
-    match entry {
-        Entry::Founding => 1,
-        Entry::Joining => 2,
-        Entry::Income => 3,
-        Entry::Wages => 4,
-        Entry::Recruiting => 5,
-        Entry::Study => 6,
-        Entry::Upkeep => 7,
-        Entry::Lost => 8,
-        Entry::Births => 9,
-        Entry::Starved => 10,
-        Entry::Left => 11,
-        Entry::Made => 12,
-        Entry::Used => 13,
-    }
-}
-
-/// The number of a thing: money, people, then the items.
-fn thing_number(thing: Thing) -> u32
-    ensures { result ≡ thing_place thing }
-{
-    match thing {
-        Thing::Money => 0,
-        Thing::People => 1,
-        Thing::Item(item) => FIRST_ITEM as u32 + u32::from(item),
-    }
-}
-
-/// The thing of a number.
-fn thing_of(number: usize) -> Thing
-    requires { number < most_things }
-    ensures { result ≡ thing_at number }
-{
-    match number {
-        0 => Thing::Money,
-        1 => Thing::People,
-        _ => Thing::Item((number - FIRST_ITEM) as u16),
-    }
-}
 
 /// Puts the row of an amount that is not 0.
 fn put_amount<S: Alter>(
@@ -93,8 +29,8 @@ fn put_amount<S: Alter>(
         return Ok(());
     }
     let row = BooksRow {
-        entry: entry_number(entry),
-        thing: thing_number(thing),
+        entry: entry.number(),
+        thing: thing.number(),
         amount,
     };
     put_books(tx, &row)
@@ -112,11 +48,11 @@ pub(crate) fn settle_amount<S: Alter>(
 {
     let amount = campaign.booked(entry, thing);
     if amount == 0 {
-        return drop_books(tx, entry_number(entry), thing_number(thing));
+        return drop_books(tx, entry.number(), thing.number());
     }
     let row = BooksRow {
-        entry: entry_number(entry),
-        thing: thing_number(thing),
+        entry: entry.number(),
+        thing: thing.number(),
         amount,
     };
     put_books(tx, &row)
@@ -147,7 +83,7 @@ pub(crate) fn put_all_books<S: Alter>(
     ensures { Writes S.Store (Inside HasTables (PutsRows books_table 2 (things_lines campaign.now.what (range_with_len 0 (length campaign.now.what.books))))) result tx.old.conn tx.new.conn }
 {
     for number in 0..campaign.things() {
-        put_entries(tx, campaign, thing_of(number), &ENTRIES)?;
+        put_entries(tx, campaign, Thing::of_number(number), &Entry::ALL)?;
     }
     Ok(())
 }
@@ -193,7 +129,7 @@ pub(crate) fn rewrite_books<S: Alter>(
     ensures { Writes S.Store (Inside HasTables (RewritesBooks campaign.now)) result tx.old.conn tx.new.conn }
 {
     for number in 0..campaign.things() {
-        rewrite_entries(tx, campaign, thing_of(number), &ENTRIES)?;
+        rewrite_entries(tx, campaign, Thing::of_number(number), &Entry::ALL)?;
     }
     Ok(())
 }

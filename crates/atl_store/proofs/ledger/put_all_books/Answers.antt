@@ -1,7 +1,8 @@
 use Rattle.std.proofs.Common.{◌≡◌, ◌+◌, ◌-◌, suc, length, ap, subst, arith}
 use Rattle.std.specs.List.{range_with_len}
+use Rattle.atl_state.specs.Books.{all_entries, thing_at}
 use Rattle.atl_store.specs.Tables.{books_table}
-use Rattle.atl_store.specs.Lines.{all_entries, thing_at, entries_lines, things_lines}
+use Rattle.atl_store.specs.Lines.{entries_lines, things_lines}
 use Rattle.atl_store.specs.Inside.{Inside, HasTables, PutsRows}
 use Rattle.atl_store.proofs.PutsLaws.{Towards, inside_rows, none_yet, all_put}
 use Rattle.atl_store.proofs.WriteLaws.{begins, goes_on, stops_second, weaker}
@@ -21,7 +22,7 @@ loop-number-preserved g c =
     let all = things_lines campaign (range_with_len 0 count) in
     goes_on g.S.Store (λ old mid new so_far more. inside_rows books_table 2 (entries_lines campaign (thing_at i) all_entries) (things_lines campaign (range_with_len (i + 1) (count - (i + 1)))) all old mid new
     (subst (λ places. Inside HasTables (Towards books_table 2 (things_lines campaign places) all) old mid) (ap (range_with_len i) left) so_far)
-    (subst (λ thing. Inside HasTables (PutsRows books_table 2 (entries_lines campaign thing all_entries)) mid new) c.thing_of.ensures more))
+    (subst (λ thing. Inside HasTables (PutsRows books_table 2 (entries_lines campaign thing all_entries)) mid new) c.of_number.ensures more))
     c.loop-number.invariant c.in_ok-put_entries.ensures
 
 pub returns : goal.returns

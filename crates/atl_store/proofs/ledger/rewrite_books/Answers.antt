@@ -1,13 +1,12 @@
 use Rattle.std.proofs.Common.{◌≡◌, ◌+◌, ◌-◌, suc, map, length, ap, subst, ◌∙◌, arith}
 use Rattle.std.specs.List.{range_with_len}
-use Rattle.atl_state.specs.Books.{entry_place, thing_place}
+use Rattle.atl_state.specs.Books.{all_entries, entry_place, thing_place}
 use Rattle.atl_state.specs.Marks.{AreOfThings}
+use Rattle.atl_state.proofs.BookLaws.{place_at}
 use Rattle.atl_store.specs.Tables.{books_table}
-use Rattle.atl_store.specs.Lines.{all_entries}
 use Rattle.atl_store.specs.Inside.{Inside, HasTables}
 use Rattle.atl_store.specs.Rewriting.{RewritesAmounts, is_number, is_among, of_amounts}
 use Rattle.atl_store.proofs.BooksRewriteLaws.{thing_nearer, things_rewritten}
-use Rattle.atl_store.proofs.LedgerLaws.{place_at}
 use Rattle.atl_store.proofs.RewriteLaws.{none_nearer}
 use Rattle.atl_store.proofs.WriteLaws.{begins, goes_on, stops_second, weaker}
 use Rattle.atl_store.proofs.ledger.rewrite_books.Goals as goal
@@ -24,7 +23,7 @@ loop-number-preserved g c =
     let i = c.loop-number.number in
     let count = length campaign.what.books in
     let left : count - i ≡ suc (count - (i + 1)) = omega (arith, c.loop-number-test.true, c.things-number-end.ensures.count) in
-    let place : thing_place c.thing_of.result ≡ i = ap thing_place c.thing_of.ensures ∙ place_at i in
+    let place : thing_place c.of_number.result ≡ i = ap thing_place c.of_number.ensures ∙ place_at i in
     goes_on g.S.Store (λ old mid new so_far more. thing_nearer campaign i (range_with_len i (count - i)) (range_with_len (i + 1) (count - (i + 1))) (range_with_len 0 count) (ap (range_with_len i) left) old mid new so_far
     (subst (λ t. Inside HasTables (RewritesAmounts campaign (is_among (map entry_place all_entries)) (is_number t)) mid new) place more))
     c.loop-number.invariant c.in_ok-rewrite_entries.ensures

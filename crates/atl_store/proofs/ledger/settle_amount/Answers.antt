@@ -13,17 +13,17 @@ use Rattle.atl_store.proofs.ledger.settle_amount.Goals as goal
 pub returns-then-amount-eq0 : goal.returns-then-amount-eq0
 returns-then-amount-eq0 g c =
     let campaign = c.args.campaign.now.what in
-    let n = c.entry_number.result in
-    let k = c.thing_number.result in
+    let n = c.number.result in
+    let k = c.number-then-amount-eq0.result in
     let cast = to_z-of_z w64 c.booked-amount.result (search rules) in
     let zero : c.booked-amount.result ≡ pos 0 = rw c.if-amount-eq0.true at (sym cast) in
-    weaker g.S.Store (λ old new. inside_weaker HasTables (Drops books_table 2 (books_key n k)) (Settles campaign c.args.entry c.args.thing) old new (λ has did. settles_by_drop campaign c.args.entry c.args.thing n k c.entry_number.ensures c.thing_number.ensures old.now new.now (sym c.booked-amount.ensures ∙ zero) did)) c.drop_books.ensures
+    weaker g.S.Store (λ old new. inside_weaker HasTables (Drops books_table 2 (books_key n k)) (Settles campaign c.args.entry c.args.thing) old new (λ has did. settles_by_drop campaign c.args.entry c.args.thing n k c.number.ensures.place c.number-then-amount-eq0.ensures.place old.now new.now (sym c.booked-amount.ensures ∙ zero) did)) c.drop_books.ensures
 
 pub returns : goal.returns
 returns g c =
     let campaign = c.args.campaign.now.what in
-    let n = c.entry_number-2.result in
-    let k = c.thing_number-2.result in
+    let n = c.number-2.result in
+    let k = c.number-3.result in
     let cast = to_z-of_z w64 c.booked-amount.result (search rules) in
-    weaker g.S.Store (λ old new. inside_weaker HasTables (Puts books_table 2 (books_row n k _)) (Settles campaign c.args.entry c.args.thing) old new (λ has did. settles_by_put campaign c.args.entry c.args.thing n k c.entry_number-2.ensures c.thing_number-2.ensures old.now new.now _ (cast ∙ c.booked-amount.ensures)
+    weaker g.S.Store (λ old new. inside_weaker HasTables (Puts books_table 2 (books_row n k _)) (Settles campaign c.args.entry c.args.thing) old new (λ has did. settles_by_put campaign c.args.entry c.args.thing n k c.number-2.ensures.place c.number-3.ensures.place old.now new.now _ (cast ∙ c.booked-amount.ensures)
     (λ zero. let none : c.booked-amount.result ≡ pos 0 = sym cast ∙ zero in c.if-amount-eq0.false (rw none refl)) did)) c.put_books.ensures
