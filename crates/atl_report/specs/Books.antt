@@ -10,13 +10,9 @@ use Rattle.atl_state.specs.declared.books.Entry.{Entry}
 use Rattle.atl_state.specs.declared.books.Entry.TheVariants.{Founding, Joining, Income, Wages, Recruiting, Study, Upkeep, Lost, Births, Starved, Left, Made, Used}
 use Rattle.atl_state.specs.declared.books.Thing.{Thing}
 use Rattle.atl_state.specs.declared.books.Thing.TheVariants.{Money, People, Item}
-use Rattle.atl_state.specs.Books.{amount_in, thing_place}
+use Rattle.atl_state.specs.Books.{all_entries, amount_in, thing_place}
 use Rattle.atl_state.specs.State.{State}
 use Rattle.atl_state.specs.Totals.{total}
-
--- in the order of their numbers
-abbrev pub all_entries : List Entry
-all_entries = Founding ∷ Joining ∷ Income ∷ Wages ∷ Recruiting ∷ Study ∷ Upkeep ∷ Lost ∷ Births ∷ Starved ∷ Left ∷ Made ∷ Used ∷ []
 
 abbrev pub entry_name : Entry → List ℕ
 entry_name Founding = codes "founding"

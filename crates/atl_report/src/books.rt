@@ -10,23 +10,6 @@ use atl_tables::World;
 use std::alloc::{AllocError, Global};
 use std::fmt::Write;
 
-/// The entries in the order of their numbers.
-const ENTRIES: [Entry; 13] = [
-    Entry::Founding,
-    Entry::Joining,
-    Entry::Income,
-    Entry::Wages,
-    Entry::Recruiting,
-    Entry::Study,
-    Entry::Upkeep,
-    Entry::Lost,
-    Entry::Births,
-    Entry::Starved,
-    Entry::Left,
-    Entry::Made,
-    Entry::Used,
-];
-
 fn entry_name(entry: Entry) -> &'static str
     ensures { result.now ≡ entry_name entry }
 {
@@ -144,7 +127,7 @@ fn write_part(
     requires thing { IsThing campaign.now.what thing }
     ensures { OnOk result (string_bytes out.new ≡ string_bytes out.old ++ thing_part world.now campaign.now.what thing) }
 {
-    write_entries(out, world, campaign, thing, &ENTRIES)?;
+    write_entries(out, world, campaign, thing, &Entry::ALL)?;
     write_total(out, world, campaign, thing)?;
     Ok(())
 }
