@@ -1,15 +1,21 @@
--- Whether something is so of every value of a map, decided entry by entry.
-use Rattle.std.proofs.Common.{◌≡◌, ℕ, zero, suc, ◌+◌, ◌<◌, ◌≤◌, inl, inr, arith, Bool, true, false, List, [], ◌∷◌, Option, Some, None, Bor, is_some, option_copied, Decides, refl, sym, ap, ◌∙◌, subst}
+-- Whether something is so of every value of a map, decided by a look at each entry.
+use Rattle.std.proofs.Common.{◌≡◌, ℕ, zero, suc, ◌+◌, ◌<◌, ◌≤◌, inl, inr, arith, Bool, true, false, List, [], ◌∷◌, Option, Some, None, Bor, is_some, option_copied, Decides, length, get_or, refl, sym, ap, ◌∙◌, subst}
 use Rattle.std.proofs.lemmas.Bool.{cases_lt, false≢true}
+use Rattle.std.proofs.lemmas.Bool.Decides.{Decides-like}
+use Rattle.std.proofs.lemmas.Iterator.{cases_from_all}
+use Rattle.std.proofs.lemmas.Iterator.Consumers.{YieldsList-from_first}
+use Rattle.std.proofs.lemmas.List.Folds.{none_from_all_within}
+use Rattle.std.specs.Bool.{MatchBool}
+use Rattle.std.specs.Fn.{Called}
+use Rattle.std.specs.Iterator.{YieldsThen, YieldsFirstBy}
+use Rattle.std.specs.List.{AllWithin, HoldsAt, FoldsTo}
+use Rattle.std.specs.Option.{MatchOption}
+use denote.Param.Members.{Mut}
 use Rattle.std.specs.Ordering.{nat_cmp}
 use Rattle.std.specs.FinMap.{FinMap, get, entries, len}
 use Rattle.atl_state.specs.Good.{Every, IsThere, IsNumbered}
 use Rattle.atl_state.proofs.EveryLaws.{none_some, every-from_each, each-from_every}
-use Rattle.atl_state.specs.Deciding.{EachOf, LeftToSee}
-
--- there is nothing under a number
-pub nothing_there : {V : Type 0} (m : FinMap nat_cmp V) (n : ℕ) → get m n ≡ None → ¬ (IsThere m n)
-nothing_there m n none (v, is) = none_some v (sym none ∙ is)
+use Rattle.atl_state.specs.Deciding.{EachOf}
 
 -- whether something is there, by a look-up
 pub Decides-there : {V : Type 0} (m : FinMap nat_cmp V) (n : ℕ) (b : Bool) → b ≡ is_some (get m n) → Decides b (IsThere m n)
@@ -23,26 +29,35 @@ pub copied_some : {V : Type 0} (o : Option (Bor V)) → is_some (option_copied o
 copied_some None = refl
 copied_some (Some v) = refl
 
+-- ---- whether all entries are so, by `all` over them
+
 module _ {V : Type 0} (P : ℕ → V → Type 0) where
-  pub nothing_seen : (es : List (ℕ × V)) → LeftToSee P es es
-  nothing_seen es = (λ h. h, λ h. h)
+  each_at : (es : List (ℕ × V)) (k : ℕ) (d : ℕ × V) → EachOf P es → k < length es → P (get_or es k d).0 (get_or es k d).1
+  each_at [] k d each inside = absurd (omega (arith, inside))
+  each_at (e ∷ es) zero d each inside = each.0
+  each_at (e ∷ es) (suc k) d each inside = each_at es k d each.1 (omega (arith, inside))
 
-  pub one_seen : (es rest : List (ℕ × V)) (n : ℕ) (v : V) (all : List (ℕ × V)) → es ≡ (n, v) ∷ rest → P n v → LeftToSee P es all → LeftToSee P rest all
-  one_seen es rest n v all is here left =
-      let both = subst (λ (xs : List (ℕ × V)). LeftToSee P xs all) is left in
-      (λ h. both.0 (here, h), λ h. (both.1 h).1)
+  at_each : (es : List (ℕ × V)) → AllWithin (λ e. P e.0 e.1) es 0 (length es) → EachOf P es
+  at_each [] within = tt
+  at_each (e ∷ es) within = (within 0 e (omega arith) (omega arith), at_each es (λ k d least inside. within (suc k) d (omega arith) (omega (arith, inside))))
 
-  -- one that is not so
-  pub decided_false : (es rest : List (ℕ × V)) (n : ℕ) (v : V) (m : FinMap nat_cmp V) → es ≡ (n, v) ∷ rest → ¬ (P n v) → LeftToSee P es (entries m) → Decides false (Every P m)
-  decided_false es rest n v m is never left =
-      let both = subst (λ (xs : List (ℕ × V)). LeftToSee P xs (entries m)) is left in
-      (λ e. absurd (false≢true e), λ every. absurd (never (both.1 (each-from_every P m every)).0))
+  answered : (es : List (ℕ × V)) (r : Bool) → MatchBool r (AllWithin (λ e. P e.0 e.1) es 0 (length es)) ((k : ℕ) × (k < length es) × HoldsAt (λ e. ¬ (P e.0 e.1)) es k) → Decides r (EachOf P es)
+  answered es true within = (λ _. at_each es within, λ _. refl)
+  answered es false found = (
+    λ e. absurd (false≢true e),
+    λ each. absurd (none_from_all_within (λ e. ¬ (P e.0 e.1)) es (λ k d least inside never. never (each_at es k d each inside)) found),
+  )
 
-  -- none is left
-  pub decided_true : (es : List (ℕ × V)) (m : FinMap nat_cmp V) → es ≡ [] → LeftToSee P es (entries m) → Decides true (Every P m)
-  decided_true es m is left =
-      let both = subst (λ (xs : List (ℕ × V)). LeftToSee P xs (entries m)) is left in
-      (λ _. every-from_each P m (both.0 tt), λ _. refl)
+  abbrev shown : ℕ × Bor V → ℕ × V
+  shown e = (e.0, e.1.now)
+
+  module _ {F : Type 0} {g : Mut F ((ℕ × Bor V) × Unit {0}) Bool} {s : List (ℕ × V)} (u : List (ℕ × V)) (f : F) (r : Bool)
+      (ran : (xs : List (ℕ × Bor V)) × (o : Option (ℕ × Bor V)) × (j : F) × YieldsThen (YieldsFirstBy shown (λ t. t)) s xs o u × FoldsTo (λ p x q. Called g p (x, tt) true q) f xs j × MatchOption o (r ≡ true) (λ x. (r ≡ false) × ((h : F) × Called g j (x, tt) false h))) where
+    pub each_by_all : (es : List (ℕ × V)) → s ≡ es → ((x : ℕ × Bor V) (q : F) → Called g f (x, tt) true q → (q ≡ f) × P x.0 x.1.now) → ((x : ℕ × Bor V) (q : F) → Called g f (x, tt) false q → ¬ (P x.0 x.1.now)) → Decides r (EachOf P es)
+    each_by_all es is holds fails = answered es r (cases_from_all u f r (λ e. P e.0 e.1) (λ e. ¬ (P e.0 e.1)) ran (YieldsList-from_first shown (λ t. t) es is) holds fails)
+
+    pub every_by_all : (m : FinMap nat_cmp V) → s ≡ entries m → ((x : ℕ × Bor V) (q : F) → Called g f (x, tt) true q → (q ≡ f) × P x.0 x.1.now) → ((x : ℕ × Bor V) (q : F) → Called g f (x, tt) false q → ¬ (P x.0 x.1.now)) → Decides r (Every P m)
+    every_by_all m is holds fails = Decides-like r (every-from_each P m) (each-from_every P m) (each_by_all (entries m) is holds fails)
 
 -- ---- the numbers that come next
 

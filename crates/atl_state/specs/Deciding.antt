@@ -1,8 +1,10 @@
--- For proofs alone: what is so of each entry of a list, how far a walk over the entries has come, and who holds a region.
-use Rattle.std.specs.Prelude.{◌≢◌, ◌↔◌, ◌==◌, ◌&&◌, ℕ, Bool, true, List, [], ◌∷◌, ⊤, Option, Some, None, option_and_then, if◌then◌else◌}
+-- For proofs alone: what is so of each entry of a list, who owns a structure, and who holds a region.
+use Rattle.std.specs.Prelude.{◌≡◌, ◌≢◌, ◌==◌, ◌&&◌, ℕ, Bool, true, List, [], ◌∷◌, ⊤, Option, Some, None, option_and_then, if◌then◌else◌}
 use Rattle.std.specs.Option.{option_or}
 use Rattle.std.specs.FinMap.{get}
 use Rattle.atl_state.specs.declared.records.Faction.{Faction}
+use Rattle.atl_state.specs.declared.records.Structure.{Structure}
+use Rattle.atl_state.specs.declared.records.Unit.{Unit}
 use Rattle.atl_state.specs.State.{State}
 use Rattle.atl_state.specs.Good.{guards}
 
@@ -10,9 +12,9 @@ abbrev pub EachOf : {V : Type 0} → (ℕ → V → Type 0) → List (ℕ × V) 
 EachOf P [] = ⊤
 EachOf P (e ∷ es) = P e.0 e.1 × EachOf P es
 
--- all of it is so where what is left is so
-abbrev pub LeftToSee : {V : Type 0} → (ℕ → V → Type 0) → List (ℕ × V) → List (ℕ × V) → Type 0
-LeftToSee P rest all = EachOf P rest ↔ EachOf P all
+-- a structure that a unit inside owns, or nobody
+pub record HasOwnerInside (c : State) (n : ℕ) (s : Structure) : Type 0 where
+  pub owned : s.owner ≢ 0 → (u : Unit) × (get c.units s.owner ≡ Some u) × (u.structure ≡ n)
 
 -- the faction of a unit that is there and guards
 abbrev pub guard_of : State → ℕ → Option ℕ

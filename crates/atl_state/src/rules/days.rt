@@ -13,22 +13,12 @@ fn has_days(holding: &Holding) -> bool
     ensures { Decides result (Every (λ s days. (1 ≤ days) × (days ≤ most_days * holding.now.men)) holding.now.days) }
 {
     let most = MOST_DAYS * holding.men();
-    for (_, days) in holding.days() {
-        if *days < 1 || *days > most {
-            return false;
-        }
-    }
-    true
+    holding.days().all(|(_, days)| 1 <= *days && *days <= most)
 }
 
 /// Whether each unit has 1 to 450 days for each man in each skill that it studied. It takes no memory.
 pub(crate) fn are_days(campaign: &Campaign) -> bool
     ensures { Decides result (AreDays campaign.now.what) }
 {
-    for (_, unit) in campaign.units() {
-        if !has_days(&unit.holding) {
-            return false;
-        }
-    }
-    true
+    campaign.units().all(|(_, unit)| has_days(&unit.holding))
 }

@@ -47,10 +47,7 @@ pub(crate) fn are_guarded(campaign: &Campaign) -> bool
     requires { Every (λ n u. IsThere campaign.now.what.regions u.region) campaign.now.what.units }
     ensures { Decides result (AreOfOneFaction guards campaign.now.what) }
 {
-    for (region, _) in campaign.regions() {
-        if !has_one_holder(campaign, region) {
-            return false;
-        }
-    }
-    true
+    campaign
+        .regions()
+        .all(|(region, _)| has_one_holder(campaign, region))
 }

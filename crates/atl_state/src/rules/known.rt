@@ -29,28 +29,29 @@ fn is_unit(campaign: &Campaign, number: u32) -> bool
     campaign.unit(number).is_some()
 }
 
+fn is_of_world(world: &World, number: u32) -> bool
+    ensures { Decides result (IsThere world.now.regions number) }
+{
+    world.region(number).is_some()
+}
+
 /// Whether each region is one of the world's.
 fn are_of_world(world: &World, campaign: &Campaign) -> bool
     ensures { Decides result (Every (λ n r. IsThere world.now.regions n) campaign.now.what.regions) }
 {
-    for (number, _) in campaign.regions() {
-        if world.region(number).is_none() {
-            return false;
-        }
-    }
-    true
+    campaign
+        .regions()
+        .all(|(number, _)| is_of_world(world, number))
 }
 
 /// Whether each of the world's regions is there.
 fn are_all_there(world: &World, campaign: &Campaign) -> bool
     ensures { Decides result (Every (λ n p. IsThere campaign.now.what.regions n) world.now.regions) }
 {
-    for (number, _) in world.regions().iter() {
-        if !is_region(campaign, number) {
-            return false;
-        }
-    }
-    true
+    world
+        .regions()
+        .iter()
+        .all(|(number, _)| is_region(campaign, number))
 }
 
 /// Whether the regions are exactly the world's.
@@ -61,15 +62,10 @@ fn are_regions_known(world: &World, campaign: &Campaign) -> bool
 }
 
 /// Whether all numbers are below a count.
-fn are_below(entries: Entries<'_, u32>, count: usize) -> bool
+fn are_below(mut entries: Entries<'_, u32>, count: usize) -> bool
     ensures { Decides result (EachOf (λ n amount. n < count) entries.entry) }
 {
-    for (number, _) in entries {
-        if number as usize >= count {
-            return false;
-        }
-    }
-    true
+    entries.all(|(number, _)| (number as usize) < count)
 }
 
 /// Whether the items held and the skills studied are the world's.
@@ -119,12 +115,9 @@ fn is_placed(world: &World, campaign: &Campaign, unit: &Unit) -> bool
 fn are_placed(world: &World, campaign: &Campaign) -> bool
     ensures { Decides result (Every (λ n u. IsPlaced world.now campaign.now.what u) campaign.now.what.units) }
 {
-    for (_, unit) in campaign.units() {
-        if !is_placed(world, campaign, unit) {
-            return false;
-        }
-    }
-    true
+    campaign
+        .units()
+        .all(|(_, unit)| is_placed(world, campaign, unit))
 }
 
 /// Whether a structure's kind and region are there.
@@ -152,36 +145,27 @@ fn is_built(world: &World, campaign: &Campaign, structure: &Structure) -> bool
 fn are_built(world: &World, campaign: &Campaign) -> bool
     ensures { Decides result (Every (λ n s. IsBuilt world.now campaign.now.what s) campaign.now.what.structures) }
 {
-    for (_, structure) in campaign.structures() {
-        if !is_built(world, campaign, structure) {
-            return false;
-        }
-    }
-    true
+    campaign
+        .structures()
+        .all(|(_, structure)| is_built(world, campaign, structure))
 }
 
 /// Whether all mail is of factions that are there.
 fn are_mail_known(campaign: &Campaign) -> bool
     ensures { Decides result (Every (λ n text. IsThere campaign.now.what.factions n) campaign.now.what.mail) }
 {
-    for (number, _) in campaign.mail() {
-        if !is_faction(campaign, number) {
-            return false;
-        }
-    }
-    true
+    campaign
+        .mail()
+        .all(|(number, _)| is_faction(campaign, number))
 }
 
 /// Whether all reports are of factions that are there.
 fn are_reports_known(campaign: &Campaign) -> bool
     ensures { Decides result (Every (λ n text. IsThere campaign.now.what.factions n) campaign.now.what.reports) }
 {
-    for (number, _) in campaign.reports() {
-        if !is_faction(campaign, number) {
-            return false;
-        }
-    }
-    true
+    campaign
+        .reports()
+        .all(|(number, _)| is_faction(campaign, number))
 }
 
 /// Whether the regions, and all that units and structures name, are there.

@@ -5,6 +5,7 @@ ghost use Rattle.atl_state.specs.Good.{IsActive, IsMail};
 
 use crate::campaign::Campaign;
 use atl_orders::is_mailing_of;
+use atl_tables::Sequence;
 
 /// Whether a faction is there, and not gone.
 fn is_active(campaign: &Campaign, number: u32) -> bool
@@ -17,21 +18,18 @@ fn is_active(campaign: &Campaign, number: u32) -> bool
 }
 
 /// Whether a text is a mailing of a faction that is not gone.
-fn is_kept(campaign: &Campaign, number: u32, text: &[u8]) -> bool
+fn is_kept(campaign: &Campaign, number: u32, text: &Sequence<u8>) -> bool
     ensures { Decides result (IsMailingOf number text.now × IsActive campaign.now.what number) }
 {
-    is_mailing_of(number, text) && is_active(campaign, number)
+    is_mailing_of(number, text.as_slice()) && is_active(campaign, number)
 }
 
-/// Whether each mail is of a faction that is not gone, has at most 65,536 bytes and a header that names the faction. It
+/// Whether each mail is of a faction that is not gone, is not too long and has a header that names the faction. It
 /// takes no memory.
 pub(crate) fn are_mailings(campaign: &Campaign) -> bool
     ensures { Decides result (IsMail campaign.now.what) }
 {
-    for (number, text) in campaign.mail() {
-        if !is_kept(campaign, number, text.as_slice()) {
-            return false;
-        }
-    }
-    true
+    campaign
+        .mail()
+        .all(|(number, text)| is_kept(campaign, number, text))
 }

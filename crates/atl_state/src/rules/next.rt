@@ -9,15 +9,10 @@ use crate::campaign::Campaign;
 use atl_tables::Entries;
 
 /// Whether all numbers are from the least one on and before the next.
-fn are_between<V>(entries: Entries<'_, V>, least: u32, next: u32) -> bool
+fn are_between<V>(mut entries: Entries<'_, V>, least: u32, next: u32) -> bool
     ensures { Decides result (EachOf (λ n v. (least ≤ n) × (n < next)) entries.entry) }
 {
-    for (number, _) in entries {
-        if number < least || next <= number {
-            return false;
-        }
-    }
-    true
+    entries.all(|(number, _)| least <= number && number < next)
 }
 
 /// Whether a number is the next one behind so many, numbered from 1.

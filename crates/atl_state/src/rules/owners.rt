@@ -2,8 +2,8 @@
 ghost use Rattle.std.specs.Prelude.{◌≡◌, ◌≢◌, Some};
 ghost use Rattle.std.specs.Bool.{Decides};
 ghost use Rattle.std.specs.FinMap as map;
-ghost use Rattle.atl_state.specs.declared.records.Unit as records;
 ghost use Rattle.atl_state.specs.declared.records.Structure as builds;
+ghost use Rattle.atl_state.specs.Deciding.{HasOwnerInside};
 ghost use Rattle.atl_state.specs.Good.{Every, AreOwned};
 
 use crate::campaign::Campaign;
@@ -11,7 +11,7 @@ use crate::records::{Structure, Unit};
 
 /// Whether nobody owns a structure, or a unit inside.
 fn is_owner_inside(campaign: &Campaign, number: u32, structure: &Structure) -> bool
-    ensures { Decides result (structure.now.owner ≢ 0 → (u : records.Unit) × (map.get campaign.now.what.units structure.now.owner ≡ Some u) × (u.structure ≡ number)) }
+    ensures { Decides result (HasOwnerInside campaign.now.what number structure.now) }
 {
     if structure.owner == 0 {
         return true;
@@ -24,14 +24,9 @@ fn is_owner_inside(campaign: &Campaign, number: u32, structure: &Structure) -> b
 
 /// Whether each structure that has an owner has one inside.
 fn are_owners_inside(campaign: &Campaign) -> bool
-    ensures { Decides result (Every (λ n s. s.owner ≢ 0 → (u : records.Unit) × (map.get campaign.now.what.units s.owner ≡ Some u) × (u.structure ≡ n)) campaign.now.what.structures) }
+    ensures { Decides result (Every (HasOwnerInside campaign.now.what) campaign.now.what.structures) }
 {
-    for (number, structure) in campaign.structures() {
-        if !is_owner_inside(campaign, number, structure) {
-            return false;
-        }
-    }
-    true
+    campaign.structures().all(|(number, structure)| is_owner_inside(campaign, number, structure))
 }
 
 /// Whether the structure that a unit is inside, where it is there, has an owner.
@@ -48,12 +43,9 @@ fn is_with_owner(campaign: &Campaign, unit: &Unit) -> bool
 fn are_with_owners(campaign: &Campaign) -> bool
     ensures { Decides result (Every (λ m u. (s : builds.Structure) → map.get campaign.now.what.structures u.structure ≡ Some s → s.owner ≢ 0) campaign.now.what.units) }
 {
-    for (_, unit) in campaign.units() {
-        if !is_with_owner(campaign, unit) {
-            return false;
-        }
-    }
-    true
+    campaign
+        .units()
+        .all(|(_, unit)| is_with_owner(campaign, unit))
 }
 
 /// Whether each structure is owned by a unit inside, or by nobody where none is inside. It takes no memory.

@@ -1,17 +1,20 @@
 //! Reports.
 ghost use Rattle.std.specs.Bool.{Decides};
-ghost use Rattle.atl_state.specs.Good.{AreReported};
+ghost use Rattle.atl_state.specs.Good.{AreReported, IsThere};
 
 use crate::campaign::Campaign;
+
+fn has_report(campaign: &Campaign, number: u32) -> bool
+    ensures { Decides result (IsThere campaign.now.what.reports number) }
+{
+    campaign.report(number).is_some()
+}
 
 /// Whether each faction has a report. It takes no memory.
 pub(crate) fn are_reported(campaign: &Campaign) -> bool
     ensures { Decides result (AreReported campaign.now.what) }
 {
-    for (number, _) in campaign.factions() {
-        if campaign.report(number).is_none() {
-            return false;
-        }
-    }
-    true
+    campaign
+        .factions()
+        .all(|(number, _)| has_report(campaign, number))
 }

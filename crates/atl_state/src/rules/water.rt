@@ -22,12 +22,8 @@ fn is_aboard(world: &World, campaign: &Campaign, unit: &Unit) -> bool
 fn are_units_afloat(world: &World, campaign: &Campaign) -> bool
     ensures { Decides result (Every (λ n u. is_land_at world.now u.region ≡ false → IsAboard world.now campaign.now.what u) campaign.now.what.units) }
 {
-    for (_, unit) in campaign.units() {
-        if !is_land_at(world, unit.region) && !is_aboard(world, campaign, unit) {
-            return false;
-        }
-    }
-    true
+    campaign.units().all(|(_, unit)| is_land_at(world, unit.region)
+        || is_aboard(world, campaign, unit))
 }
 
 /// Whether a structure is a complete ship.
@@ -41,12 +37,8 @@ fn is_complete_ship(world: &World, structure: &Structure) -> bool
 fn are_ships_afloat(world: &World, campaign: &Campaign) -> bool
     ensures { Decides result (Every (λ n s. is_land_at world.now s.region ≡ false → (is_ship world.now s ≡ true) × (s.done ≡ size_of world.now s.kind)) campaign.now.what.structures) }
 {
-    for (_, structure) in campaign.structures() {
-        if !is_land_at(world, structure.region) && !is_complete_ship(world, structure) {
-            return false;
-        }
-    }
-    true
+    campaign.structures().all(|(_, structure)| is_land_at(world, structure.region)
+        || is_complete_ship(world, structure))
 }
 
 /// Whether each unit on water is inside a ship, and each structure there is a complete ship. It takes no memory.

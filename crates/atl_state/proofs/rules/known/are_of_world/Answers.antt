@@ -1,12 +1,8 @@
 use Rattle.std.proofs.Common.{rules}
-use Rattle.atl_state.proofs.RuleLaws.{decided_false, decided_true, nothing_there}
+use borrow.Author.Tests.{tests}
 use Rattle.atl_state.specs.Good.{IsThere}
+use Rattle.atl_state.proofs.RuleLaws.{every_by_all}
 use Rattle.atl_state.proofs.rules.known.are_of_world.Goals as goal
 
-pub returns-then-is_none : goal.returns-then-is_none
-returns-then-is_none c =
-    decided_false (λ n r. IsThere c.args.world.now.regions n) c.loop-number.number-iterator c.next.new.self c.in-Some.number c.in-Some.field-0-1.now c.args.campaign.now.what.regions c.in-Some.ensures.steps
-    (nothing_there c.args.world.now.regions c.in-Some.number (search rules)) c.loop-number.invariant
-
 pub returns : goal.returns
-returns c = decided_true (λ n r. IsThere c.args.world.now.regions n) c.loop-number.number-iterator c.args.campaign.now.what.regions (search rules) c.loop-number.invariant
+returns c = every_by_all (λ n r. IsThere c.args.world.now.regions n) _ _ _ c.all.ensures.ran c.args.campaign.now.what.regions (search rules) (λ x q k. search (rules, tests)) (λ x q k. search (rules, tests))

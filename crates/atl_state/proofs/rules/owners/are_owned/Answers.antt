@@ -4,23 +4,24 @@ use Rattle.std.specs.FinMap.{get}
 use Rattle.atl_state.specs.declared.records.Structure.{Structure}
 use Rattle.atl_state.specs.declared.records.Unit.{Unit}
 use Rattle.atl_state.specs.State.{State}
+use Rattle.atl_state.specs.Deciding.{HasOwnerInside}
 use Rattle.atl_state.specs.Good.{Every, AreOwned}
 use Rattle.atl_state.proofs.rules.owners.are_owned.Goals as goal
 
 abbrev HaveOwners : State → Type 0
-HaveOwners c = Every (λ n s. s.owner ≢ 0 → (u : Unit) × (get c.units s.owner ≡ Some u) × (u.structure ≡ n)) c.structures
+HaveOwners c = Every (HasOwnerInside c) c.structures
 
 abbrev AreWithOwners : State → Type 0
 AreWithOwners c = Every (λ m u. (s : Structure) → get c.structures u.structure ≡ Some s → s.owner ≢ 0) c.units
 
 together : (c : State) → HaveOwners c → AreWithOwners c → AreOwned c
 together c owned with n s is = record {
-  owned = owned n s is;
+  owned = (owned n s is).owned;
   ownerless = λ none m u there same. with m u there s (ap (get c.structures) same ∙ is) none;
 }
 
 have_owners : (c : State) → AreOwned c → HaveOwners c
-have_owners c all n s is = (all n s is).owned
+have_owners c all n s is = record { owned = (all n s is).owned }
 
 are_with_owners : (c : State) → AreOwned c → AreWithOwners c
 are_with_owners c all m u there s is none = (all u.structure s is).ownerless none m u there (λ i. u.structure)

@@ -1,7 +1,0 @@
-use Rattle.std.specs.FinMap.{entries}
-use Rattle.atl_state.specs.Deciding.{LeftToSee}
-use Rattle.atl_state.specs.Good.{IsThere}
-use Rattle.atl_state.proofs.rules.known.are_of_world.Given as goal
-
-abbrev pub invariant-loop-number : goal.invariant-loop-number
-invariant-loop-number l = LeftToSee (λ n r. IsThere l.world.regions n) l.number-iterator (entries l.campaign.what.regions)
