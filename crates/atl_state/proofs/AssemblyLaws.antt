@@ -9,7 +9,8 @@ use Rattle.std.specs.FinMap.{FinMap, get, insert, empty, get-insert, get-empty, 
 use Rattle.std.proofs.lemmas.Bool.{cases_eq, and_parts, false≢true}
 use Rattle.std.proofs.lemmas.Bool.Decides.{nat_tests}
 use Rattle.atl_state.specs.declared.parts.StoredHas.{StoredHas}
-use Rattle.atl_state.specs.FromRows.{as_u32, is_of, put_rows, things_had, group_of}
+use Rattle.atl_tables.specs.Groups.{group_of}
+use Rattle.atl_state.specs.FromRows.{as_u32, is_of, put_rows, things_had}
 use Rattle.atl_state.specs.Held.{AreAmounts}
 use Rattle.atl_state.specs.Limits.{holding_limit}
 use Rattle.atl_state.specs.RowRules.{is_from, has_in_range}

@@ -1,7 +1,7 @@
 -- The campaign that rows say, whatever they are.
-use Rattle.std.specs.Prelude.{◌-◌, ℕ, ℤ, pos, negsuc, Bool, not, ◌==◌, ◌&&◌, nat_le, min, List, [], ◌∷◌, filter, slice_index_or, slice_set, unwrap_or, if◌then◌else◌}
+use Rattle.std.specs.Prelude.{◌-◌, ℕ, ℤ, pos, negsuc, Bool, not, ◌==◌, ◌&&◌, nat_le, min, List, [], ◌∷◌, filter, slice_index_or, slice_set, if◌then◌else◌}
 use Rattle.std.specs.Ordering.{nat_cmp}
-use Rattle.std.specs.FinMap.{FinMap, empty, insert, get}
+use Rattle.std.specs.FinMap.{FinMap, empty, insert}
 use Rattle.atl_tables.specs.Planet.{Planet}
 use Rattle.atl_state.specs.Limits.{entry_count}
 use Rattle.atl_state.specs.declared.parts.Parts.{Parts}
@@ -77,10 +77,6 @@ unit_with r items days = record {
 
 abbrev pub unit_of : List StoredHas → StoredUnit → Unit
 unit_of has r = unit_with r (things_had (as_u32 r.number) 0 has) (things_had (as_u32 r.number) 1 has)
-
--- For proofs alone: what stands for a unit; where nothing does, it has nothing.
-abbrev pub group_of : FinMap nat_cmp (FinMap nat_cmp ℕ) → ℕ → FinMap nat_cmp ℕ
-group_of groups n = unwrap_or (get groups n) empty
 
 -- entries are counted from 1
 abbrev pub is_entry : ℕ → Bool

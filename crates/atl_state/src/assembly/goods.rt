@@ -1,7 +1,8 @@
 //! What units have, by unit and thing.
 ghost use Rattle.std.specs.Prelude.{◌≡◌, ◌==◌, IfOk, OnOk, ℕ};
 ghost use Rattle.std.specs.FinMap as map;
-ghost use Rattle.atl_state.specs.FromRows.{as_u32, things_had, group_of};
+ghost use Rattle.atl_tables.specs.Groups.{group_of};
+ghost use Rattle.atl_state.specs.FromRows.{as_u32, things_had};
 
 use crate::parts::StoredHas;
 use crate::row_rules::as_u32;
@@ -18,15 +19,7 @@ fn put_thing(
 {
     let unit = as_u32(row.unit);
     let thing = as_u32(row.thing);
-    let amount = as_u32(row.amount);
-    match groups.get_mut(unit) {
-        Some(things) => things.insert(thing, amount),
-        None => {
-            let mut things = Numbered::new(alloc);
-            things.insert(thing, amount)?;
-            groups.insert(unit, things)
-        }
-    }
+    groups.insert_under(alloc, unit, thing, as_u32(row.amount))
 }
 
 fn is_of_sort(row: &StoredHas, sort: u32) -> bool

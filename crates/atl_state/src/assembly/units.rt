@@ -2,9 +2,10 @@
 ghost use Rattle.std.specs.Prelude.{◌≡◌, IfOk, ℕ, true};
 ghost use Rattle.std.specs.FinSet as set;
 ghost use Rattle.std.specs.List.{list_all};
+ghost use Rattle.atl_tables.specs.Groups.{group_of};
 ghost use Rattle.atl_tables.specs.Names.{name_ok};
 ghost use Rattle.atl_state.specs.Kept.{AreUnitLists};
-ghost use Rattle.atl_state.specs.FromRows.{as_u32, by_number, unit_with, unit_of, group_of};
+ghost use Rattle.atl_state.specs.FromRows.{as_u32, by_number, unit_with, unit_of};
 ghost use Rattle.atl_state.specs.Held.{AreAmounts};
 ghost use Rattle.atl_state.specs.RowRules.{unit_in_range, has_in_range};
 

@@ -1,5 +1,6 @@
 use Rattle.std.proofs.Common.{◌≡◌, drop}
-use Rattle.atl_state.specs.FromRows.{as_u32, by_number, put_rows, unit_with, group_of}
+use Rattle.atl_tables.specs.Groups.{group_of}
+use Rattle.atl_state.specs.FromRows.{as_u32, by_number, put_rows, unit_with}
 use Rattle.atl_state.proofs.assembly.units.units_with.Given as goal
 
 abbrev pub invariant-loop-row : goal.invariant-loop-row
