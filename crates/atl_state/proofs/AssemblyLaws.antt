@@ -12,7 +12,7 @@ use Rattle.atl_state.specs.declared.parts.StoredHas.{StoredHas}
 use Rattle.atl_tables.specs.Groups.{group_of}
 use Rattle.atl_state.specs.FromRows.{as_u32, is_of, put_rows, things_had}
 use Rattle.atl_state.specs.Held.{AreAmounts}
-use Rattle.atl_state.specs.Limits.{holding_limit}
+use Rattle.atl_state.specs.Limits.{holding_limit, most_u32}
 use Rattle.atl_state.specs.RowRules.{is_from, has_in_range}
 
 -- ---- what stands under a number after an insertion
@@ -83,12 +83,12 @@ pub min_small : (n most : ℕ) → n ≤ most → min n most ≡ n
 min_small n most h = grind arith
 
 -- a number in its range is read as it is
-pub from_range : (low high : ℕ) (z : ℤ) → high ≤ 4294967295 → is_from low high z ≡ true → (z ≡ pos (as_u32 z)) × (low ≤ as_u32 z) × (as_u32 z ≤ high)
+pub from_range : (low high : ℕ) (z : ℤ) → high ≤ most_u32 → is_from low high z ≡ true → (z ≡ pos (as_u32 z)) × (low ≤ as_u32 z) × (as_u32 z ≤ high)
 from_range low high (pos n) h e =
     let parts = and_parts (nat_le low n) (nat_le n high) e in
     let least : low ≤ n = grind (arith, nat_tests, parts.0) in
     let most : n ≤ high = grind (arith, nat_tests, parts.1) in
-    let same = min_small n 4294967295 (omega arith) in
+    let same = min_small n most_u32 (omega arith) in
     (ap pos (sym same), rw same least, rw same most)
 from_range low high (negsuc n) h e = absurd (false≢true e)
 

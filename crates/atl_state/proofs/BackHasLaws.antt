@@ -7,6 +7,7 @@ use Rattle.std.specs.Ordering.{nat_cmp}
 use Rattle.std.specs.FinMap.{FinMap, get, entries}
 use Rattle.std.proofs.lemmas.Bool.{and_parts}
 use Rattle.std.proofs.lemmas.Bool.Decides.{nat_tests}
+use Rattle.atl_state.specs.Limits.{most_u32}
 use Rattle.atl_state.specs.declared.parts.StoredHas.{StoredHas}
 use Rattle.atl_state.specs.declared.records.Unit.{Unit}
 use Rattle.atl_state.specs.Deciding.{EachOf}
@@ -111,8 +112,8 @@ module _ (units : FinMap nat_cmp Unit) where
 
   -- what units have is written and read as it is
   pub record AreHad : Type 0 where
-    pub numbers : Every (λ n u. n ≤ 4294967295) units
-    pub goods : Every (λ n u. (s : ℕ) → s < 2 → Every (λ i a. (i ≤ 4294967295) × (1 ≤ a) × (a ≤ 4294967295)) (goods_of s u)) units
+    pub numbers : Every (λ n u. n ≤ most_u32) units
+    pub goods : Every (λ n u. (s : ℕ) → s < 2 → Every (λ i a. (i ≤ most_u32) × (1 ≤ a) × (a ≤ most_u32)) (goods_of s u)) units
 
   module _ (had : AreHad) (rows : List StoredHas) (h : IsPermutation (has_rows (entries units)) rows) where
     pub has_keys : HaveKeys has_key rows
@@ -139,12 +140,12 @@ module _ (units : FinMap nat_cmp Unit) where
       unit : k ≡ n
       kind : s ≡ sort
 
-    of_row : (n sort k s i a : ℕ) → k ≤ 4294967295 → s < 2 → is_of n sort (has_row k s i a) ≡ true → Of n sort k s
+    of_row : (n sort k s i a : ℕ) → k ≤ most_u32 → s < 2 → is_of n sort (has_row k s i a) ≡ true → Of n sort k s
     of_row n sort k s i a few l e =
         let both = and_parts (as_u32 (pos k) == n) (as_u32 (pos s) == sort) e in
         record { unit = sym (read_whole k few) ∙ equal (as_u32 (pos k)) n both.0; kind = sym (read_whole s (omega arith)) ∙ equal (as_u32 (pos s)) sort both.1 }
 
-    of_itself : (n s i a : ℕ) → n ≤ 4294967295 → s < 2 → is_of n s (has_row n s i a) ≡ true
+    of_itself : (n s i a : ℕ) → n ≤ most_u32 → s < 2 → is_of n s (has_row n s i a) ≡ true
     of_itself n s i a few l =
         let unit : (as_u32 (pos n) == n) ≡ true = let e = read_whole n few in grind (arith, nat_tests) in
         let kind : (as_u32 (pos s) == s) ≡ true = let e = read_whole s (omega arith) in grind (arith, nat_tests) in

@@ -14,6 +14,7 @@ use Rattle.std.proofs.lemmas.List.Elements.{All-from_recursion, recursion_from_A
 use Rattle.std.proofs.lemmas.List.Sorted.{All-permutation, IsPermutation-sym, length_permutation}
 use Rattle.std.proofs.lemmas.Map.Keys.{IsDistinct-IsPermutation}
 use Rattle.std.proofs.lemmas.Cmp.{eq_by_cmp_equiv, int_cmp_total, on_total, then_total}
+use Rattle.atl_state.specs.Limits.{most_u32}
 use Rattle.atl_state.specs.Deciding.{EachOf}
 use Rattle.atl_state.specs.FromRows.{as_u32, put_rows, by_number}
 use Rattle.atl_state.specs.Good.{Every}
@@ -40,10 +41,10 @@ all_pass p P good (r ∷ rows) h = ap (λ b. b && list_all p rows) (good r h.0) 
 
 -- ---- numbers that are written and read
 
-pub read_whole : (n : ℕ) → n ≤ 4294967295 → as_u32 (pos n) ≡ n
-read_whole n h = min_small n 4294967295 h
+pub read_whole : (n : ℕ) → n ≤ most_u32 → as_u32 (pos n) ≡ n
+read_whole n h = min_small n most_u32 h
 
-pub written_whole : (n : ℕ) → n ≤ 4294967295 → IsWhole (pos n)
+pub written_whole : (n : ℕ) → n ≤ most_u32 → IsWhole (pos n)
 written_whole n h = ap pos (sym (read_whole n h))
 
 -- ---- maps

@@ -24,7 +24,7 @@ use Rattle.atl_state.specs.Founding.{things_of}
 use Rattle.atl_state.specs.FromRows.{clamped, as_u32, as_u16, is_entry, put_rows, by_number, faction_of, region_of, structure_of, unit_of, with_amount, with_row, put_amounts, head_of, state_of}
 use Rattle.atl_state.specs.Good.{Every, size_of, AreInRange, HaveMen}
 use Rattle.atl_state.specs.Held.{IsHolding}
-use Rattle.atl_state.specs.Limits.{last_month, most_units, last_unit, men_limit, holding_limit, most_structures, entry_count}
+use Rattle.atl_state.specs.Limits.{last_month, most_units, last_unit, men_limit, holding_limit, most_structures, entry_count, most_u32}
 use Rattle.atl_state.specs.RowRules.{is_from, head_in_range, faction_in_range, region_in_range, unit_in_range, has_in_range, structure_in_range, books_in_range, books_bound, are_few, people_in_range, numbers_in_range, AreRowsInRange}
 use Rattle.atl_state.proofs.AssemblyLaws.{AreAmounts-had}
 use Rattle.atl_state.proofs.BookLaws.{IsGrid-no_amounts}
@@ -111,12 +111,12 @@ put-grid things (r ∷ rows) books g =
 region_good : (r : StoredRegion) → region_in_range r ≡ true → ((region_of r).peasants ≤ most_amount) × ((region_of r).money ≤ most_amount)
 region_good r h =
     let parts = and_parts (is_from 0 most_amount r.peasants) (is_from 0 most_amount r.money) h in
-    ((in_range 0 most_amount 4294967295 r.peasants (omega arith) parts.0).1, (in_range 0 most_amount 4294967295 r.money (omega arith) parts.1).1)
+    ((in_range 0 most_amount most_u32 r.peasants (omega arith) parts.0).1, (in_range 0 most_amount most_u32 r.money (omega arith) parts.1).1)
 
 structure_good : (w : Planet) (r : StoredStructure) → structure_in_range w r ≡ true → (1 ≤ (structure_of r).done) × ((structure_of r).done ≤ size_of w (structure_of r).kind)
 structure_good w r h =
     let size = size_of w (as_u16 r.kind) in
-    in_range 1 size 4294967295 r.done (omega arith) (and_parts (is_from 1 most_structures r.number) (is_from 1 size r.done) h).1
+    in_range 1 size most_u32 r.done (omega arith) (and_parts (is_from 1 most_structures r.number) (is_from 1 size r.done) h).1
 
 pub record UnitRanges (r : StoredUnit) : Type 0 where
   pub number : is_from 1 last_unit r.number ≡ true
@@ -137,10 +137,10 @@ unit_ranges r h =
 unit_good : (has : List StoredHas) (r : StoredUnit) → list_all has_in_range has ≡ true → unit_in_range r ≡ true → (1 ≤ as_u32 r.number) × IsHolding (unit_of has r).holding
 unit_good has r all h =
     let ranges = unit_ranges r h in (
-      (in_range 1 last_unit 4294967295 r.number (omega arith) ranges.number).0,
+      (in_range 1 last_unit most_u32 r.number (omega arith) ranges.number).0,
       record {
-        men = (in_range 1 men_limit 4294967295 r.men (omega arith) ranges.men).1;
-        money = (in_range 0 holding_limit 4294967295 r.money (omega arith) ranges.money).1;
+        men = (in_range 1 men_limit most_u32 r.men (omega arith) ranges.men).1;
+        money = (in_range 0 holding_limit most_u32 r.money (omega arith) ranges.money).1;
         items = AreAmounts-had (as_u32 r.number) has all;
       },
     )
@@ -211,7 +211,7 @@ module _ (w : Planet) (p : Parts) (h : AreRowsInRange w p) where
   unfolding state_of
   HaveMen-said =
       let ranges = number_ranges w p h.numbers in
-      by_number-every (λ r. as_u32 r.number) (unit_of p.has) (λ n u. 1 ≤ u.holding.men) unit_in_range (λ r good. (in_range 1 men_limit 4294967295 r.men (omega arith) (unit_ranges r good).men).0) p.units ranges.units
+      by_number-every (λ r. as_u32 r.number) (unit_of p.has) (λ n u. 1 ≤ u.holding.men) unit_in_range (λ r good. (in_range 1 men_limit most_u32 r.men (omega arith) (unit_ranges r good).men).0) p.units ranges.units
 
   pub AreInRange-said : AreInRange w (state_of w p)
   unfolding state_of
@@ -219,9 +219,9 @@ module _ (w : Planet) (p : Parts) (h : AreRowsInRange w p) where
       let ranges = number_ranges w p h.numbers in
       let head = head_ranges (head_of p) ranges.head in
       let few = counts p h.few in
-      let unit = in_range 1 (last_unit + 1) 4294967295 (head_of p).next_unit (omega arith) head.next_unit in
+      let unit = in_range 1 (last_unit + 1) most_u32 (head_of p).next_unit (omega arith) head.next_unit in
       record {
-        month = (in_range 0 last_month 4294967295 (head_of p).month (omega arith) head.month).1;
+        month = (in_range 0 last_month most_u32 (head_of p).month (omega arith) head.month).1;
         few_factions = omega (arith, by_number-len (λ (r : StoredFaction). as_u32 r.number) faction_of p.factions, few.factions);
         few_regions = omega (arith, by_number-len (λ (r : StoredRegion). as_u32 r.number) region_of p.regions, few.regions);
         few_units = omega (arith, by_number-len (λ (r : StoredUnit). as_u32 r.number) (unit_of p.has) p.units, few.units);

@@ -21,7 +21,7 @@ use Rattle.atl_state.specs.Founding.{things_of}
 use Rattle.atl_state.specs.FromRows.{as_u32, as_u16, is_set, faction_of, region_of, structure_of, unit_of, by_number, put_amounts, things_had, no_head, head_of, state_of}
 use Rattle.atl_state.specs.Good.{Every, IsThere, IsNumbered, size_of, IsGood}
 use Rattle.atl_state.specs.Held.{AreAmounts}
-use Rattle.atl_state.specs.Limits.{last_month, last_unit, men_limit, holding_limit, most_structures, most_days}
+use Rattle.atl_state.specs.Limits.{last_month, last_unit, men_limit, holding_limit, most_structures, most_days, most_u16, most_u32}
 use Rattle.atl_state.specs.RowRules.{one_key, HaveKeys}
 use Rattle.atl_state.specs.Rows.{flag, rows_by, head_row, faction_row, region_row, unit_row, structure_row, mail_row, report_row, has_rows, books_rows, rows_of, AreRowsOf}
 use Rattle.atl_state.specs.State.{State}
@@ -43,7 +43,7 @@ few_numbered m next most is few n v there = let range = every-from_each (λ n v.
 few_before : {V : Type 0} (m : FinMap nat_cmp V) (next most : ℕ) → ((n : ℕ) → next ≤ n → get m n ≡ None) → next ≤ most + 1 → Every (λ n v. n ≤ most) m
 few_before m next most free few n v there = let range = every-from_each (λ n v. (0 ≤ n) × (n < next)) m (each_before m next free) n v there in omega (arith, range.1, few)
 
-small_enough : {V : Type 0} (m : FinMap nat_cmp V) (most : ℕ) → most ≤ 4294967295 → Every (λ n v. n ≤ most) m → Every (λ n v. n ≤ 4294967295) m
+small_enough : {V : Type 0} (m : FinMap nat_cmp V) (most : ℕ) → most ≤ most_u32 → Every (λ n v. n ≤ most) m → Every (λ n v. n ≤ most_u32) m
 small_enough m most few every n v there = let here = every n v there in omega (arith, few, here)
 
 -- ---- one row
@@ -52,26 +52,26 @@ flag_back : (b : Bool) → is_set (flag b) ≡ b
 flag_back true = refl
 flag_back false = refl
 
-pub read16 : (n : ℕ) → n ≤ 65535 → as_u16 (pos n) ≡ n
-read16 n h = min_small n 65535 h
+pub read16 : (n : ℕ) → n ≤ most_u16 → as_u16 (pos n) ≡ n
+read16 n h = min_small n most_u16 h
 
-faction_back : (n : ℕ) (f : Faction) → n ≤ 4294967295 → f.number ≡ n → faction_of (faction_row n f) ≡ f
+faction_back : (n : ℕ) (f : Faction) → n ≤ most_u32 → f.number ≡ n → faction_of (faction_row n f) ≡ f
 faction_back n f few is =
     let number = read_whole n few ∙ sym is in
     let gone = flag_back f.gone in
     λ i. record { number = number i; joined_as = f.joined_as; name = f.name; pass = f.pass; gone = gone i }
 
-region_back : (n : ℕ) (r : Region) → r.peasants ≤ 4294967295 → r.money ≤ 4294967295 → region_of (region_row n r) ≡ r
+region_back : (n : ℕ) (r : Region) → r.peasants ≤ most_u32 → r.money ≤ most_u32 → region_of (region_row n r) ≡ r
 region_back n r p m =
     let peasants = read_whole r.peasants p in
     let money = read_whole r.money m in
     λ i. record { peasants = peasants i; money = money i }
 
 pub record StructureFits (s : Structure) : Type 0 where
-  pub kind : s.kind ≤ 65535
-  pub region : s.region ≤ 4294967295
-  pub done : s.done ≤ 4294967295
-  pub owner : s.owner ≤ 4294967295
+  pub kind : s.kind ≤ most_u16
+  pub region : s.region ≤ most_u32
+  pub done : s.done ≤ most_u32
+  pub owner : s.owner ≤ most_u32
 
 structure_back : (n : ℕ) (s : Structure) → StructureFits s → structure_of (structure_row n s) ≡ s
 structure_back n s h =
@@ -82,13 +82,13 @@ structure_back n s h =
     λ i. record { kind = kind i; name = s.name; region = region i; done = done i; owner = owner i }
 
 pub record UnitFits (u : Unit) : Type 0 where
-  pub faction : u.faction ≤ 4294967295
-  pub region : u.region ≤ 4294967295
-  pub structure : u.structure ≤ 4294967295
-  pub men : u.holding.men ≤ 4294967295
-  pub money : u.holding.money ≤ 4294967295
+  pub faction : u.faction ≤ most_u32
+  pub region : u.region ≤ most_u32
+  pub structure : u.structure ≤ most_u32
+  pub men : u.holding.men ≤ most_u32
+  pub money : u.holding.money ≤ most_u32
 
-unit_back : (has : List StoredHas) (n : ℕ) (u : Unit) → n ≤ 4294967295 → UnitFits u → things_had n 0 has ≡ u.holding.items → things_had n 1 has ≡ u.holding.days → unit_of has (unit_row n u) ≡ u
+unit_back : (has : List StoredHas) (n : ℕ) (u : Unit) → n ≤ most_u32 → UnitFits u → things_had n 0 has ≡ u.holding.items → things_had n 1 has ≡ u.holding.days → unit_of has (unit_row n u) ≡ u
 unit_back has n u few h items days =
     let faction = read_whole u.faction h.faction in
     let region = read_whole u.region h.region in
@@ -102,7 +102,7 @@ unit_back has n u few h items days =
 
 -- ---- a table with a key of one number
 
-module _ {V R : Type 0} (row : ℕ → V → R) (key : R → ℤ) (value : R → V) (keyed : (n : ℕ) (v : V) → key (row n v) ≡ pos n) (m : FinMap nat_cmp V) (few : Every (λ n v. n ≤ 4294967295) m) (rows : List R) (h : IsPermutation (rows_by row (entries m)) rows) where
+module _ {V R : Type 0} (row : ℕ → V → R) (key : R → ℤ) (value : R → V) (keyed : (n : ℕ) (v : V) → key (row n v) ≡ pos n) (m : FinMap nat_cmp V) (few : Every (λ n v. n ≤ most_u32) m) (rows : List R) (h : IsPermutation (rows_by row (entries m)) rows) where
   apart : (n k : ℕ) (v u : V) → n < k → same (one_key (key (row n v))) (one_key (key (row k u))) ≡ false
   apart n k v u l = ap (λ z. same (one_key z) (one_key (key (row k u)))) (keyed n v) ∙ ap (λ z. same (one_key (pos n)) (one_key z)) (keyed k u) ∙ apart_numbers n k l
 
@@ -140,7 +140,7 @@ structure_small_enough w world s k r d o =
     record { kind = omega (arith, k, kinds); region = omega (arith, r); done = omega (arith, d, size); owner = omega (arith, o) }
 
 few_goods : (w : Planet) → IsWorld w → (u : Unit) → Every (λ i a. i < length w.items) u.holding.items → Every (λ i a. i < length w.skills) u.holding.days → AreAmounts u.holding.items → u.holding.men ≤ men_limit
-    → Every (λ i a. (1 ≤ a) × (a ≤ most_days * u.holding.men)) u.holding.days → (s : ℕ) → s < 2 → Every (λ i a. (i ≤ 4294967295) × (1 ≤ a) × (a ≤ 4294967295)) (goods_of s u)
+    → Every (λ i a. (1 ≤ a) × (a ≤ most_days * u.holding.men)) u.holding.days → (s : ℕ) → s < 2 → Every (λ i a. (i ≤ most_u32) × (1 ≤ a) × (a ≤ most_u32)) (goods_of s u)
 few_goods w world u items skills amounts men days zero l i a is =
     let few = world.few_items in
     let at = items i a is in
@@ -191,7 +191,7 @@ module _ (w : Planet) (world : IsWorld w) (c : State) (good : IsGood w c) where
       let done = (good.sound.steady.numbers.structures n s is).1 in
       structure_small_enough w world s built.kind (region_small s.region built.region) done (none_or_below c.units s.owner last_unit few_units built.owner)
 
-  goods_few : Every (λ n u. (s : ℕ) → s < 2 → Every (λ i a. (i ≤ 4294967295) × (1 ≤ a) × (a ≤ 4294967295)) (goods_of s u)) c.units
+  goods_few : Every (λ n u. (s : ℕ) → s < 2 → Every (λ i a. (i ≤ most_u32) × (1 ≤ a) × (a ≤ most_u32)) (goods_of s u)) c.units
   goods_few n u is =
       let placed = good.sound.steady.known.units n u is in
       let holding = (good.sound.steady.numbers.units n u is).1 in
@@ -243,25 +243,25 @@ module _ (w : Planet) (world : IsWorld w) (c : State) (good : IsGood w c) where
     pub head_said : head_of p ≡ head_row c
     head_said = ap (λ hs. slice_index_or hs 0 no_head) its_head
 
-    pub factions_whole : Every (λ n f. n ≤ 4294967295) c.factions
+    pub factions_whole : Every (λ n f. n ≤ most_u32) c.factions
     factions_whole n f is = let most : n ≤ last_faction = (few_factions n f is).1 in omega (arith, most)
 
-    pub regions_whole : Every (λ n r. n ≤ 4294967295) c.regions
+    pub regions_whole : Every (λ n r. n ≤ most_u32) c.regions
     regions_whole n r is = let most : n ≤ last_region = region_small n (r, is) in omega (arith, most)
 
-    pub structures_whole : Every (λ n s. n ≤ 4294967295) c.structures
+    pub structures_whole : Every (λ n s. n ≤ most_u32) c.structures
     structures_whole n s is = let most : n ≤ most_structures = (few_structures n s is).1 in omega (arith, most)
 
-    pub mail_whole : Every (λ n text. n ≤ 4294967295) c.mail
+    pub mail_whole : Every (λ n text. n ≤ most_u32) c.mail
     mail_whole n text is = let most : n ≤ last_faction = faction_small n (good.sound.steady.known.mail n text is) in omega (arith, most)
 
-    pub reports_whole : Every (λ n text. n ≤ 4294967295) c.reports
+    pub reports_whole : Every (λ n text. n ≤ most_u32) c.reports
     reports_whole n text is = let most : n ≤ last_faction = faction_small n (good.sound.steady.known.reports n text is) in omega (arith, most)
 
     factions_said : by_number (λ r. as_u32 r.number) faction_of p.factions ≡ c.factions
     factions_said = table_back faction_row (λ r. r.number) faction_of (λ n f. refl) c.factions factions_whole p.factions factions_listed (λ n f is. faction_back n f (factions_whole n f is) (good.sound.steady.numbers.factions n f is))
 
-    amount_small : (n : ℕ) → n ≤ most_amount → n ≤ 4294967295
+    amount_small : (n : ℕ) → n ≤ most_amount → n ≤ most_u32
     amount_small n h = omega (arith, h)
 
     regions_said : by_number (λ r. as_u32 r.number) region_of p.regions ≡ c.regions

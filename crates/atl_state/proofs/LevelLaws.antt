@@ -5,8 +5,9 @@ use Rattle.std.specs.Ordering.{nat_cmp}
 use Rattle.std.specs.FinMap.{is_sorted}
 use Rattle.std.proofs.lemmas.Bool.{cases_lt}
 use Rattle.std.proofs.lemmas.Bool.Decides.{nat_tests}
-use Rattle.atl_tables.specs.Limits.{most_items}
+use Rattle.atl_tables.specs.Limits.{most_items, most_weight}
 use Rattle.atl_tables.proofs.CountLaws.{BeginsFrom, begins_later, begins_same}
+use Rattle.atl_state.specs.Limits.{most_u32}
 use Rattle.atl_state.specs.Levels.{greatest, days_for}
 
 -- a number that passes is the greatest up to itself
@@ -30,8 +31,8 @@ pub added : (sum x rest whole all : ℕ) → whole ≡ x + rest → sum + whole 
 added sum x rest whole all h e = omega (arith, h, e)
 
 -- one item more, whose number is greater than those before. One that the world has not adds nothing
-pub fits_next : (low sum x : ℕ) (e : ℕ × ℕ) (es : List (ℕ × ℕ)) → is_sorted nat_cmp (e ∷ es) ≡ true → low ≤ most_items → sum ≤ 42949672950000 * low → low ≤ e.0 → x ≤ 42949672950000 → (most_items ≤ e.0 → x ≡ 0)
-    → (next : ℕ) × (next ≤ most_items) × (sum + x ≤ 42949672950000 * next) × BeginsFrom next es
+pub fits_next : (low sum x : ℕ) (e : ℕ × ℕ) (es : List (ℕ × ℕ)) → is_sorted nat_cmp (e ∷ es) ≡ true → low ≤ most_items → sum ≤ (most_u32 * most_weight) * low → low ≤ e.0 → x ≤ (most_u32 * most_weight) → (most_items ≤ e.0 → x ≡ 0)
+    → (next : ℕ) × (next ≤ most_items) × (sum + x ≤ (most_u32 * most_weight) * next) × BeginsFrom next es
 fits_next low sum x e es sorted few fits from small far =
     elim (cases_lt e.0 most_items) [
       | inl h ↦ (low + 1, omega (arith, h, from), omega (arith, fits, small), begins_later low e es sorted from)

@@ -26,7 +26,7 @@ use Rattle.atl_state.specs.Books.{no_amounts}
 use Rattle.atl_state.specs.Founding.{things_of}
 use Rattle.atl_state.specs.FromRows.{as_u32, as_u16, is_set, is_of, is_entry, faction_of, region_of, structure_of, unit_of, things_had, by_number, put_amounts, no_head, head_of, state_of}
 use Rattle.atl_state.specs.Good.{Every, IsThere, IsPlaced, IsBuilt, AreKnown, AreDays, size_of}
-use Rattle.atl_state.specs.Limits.{last_month, last_unit, men_limit, holding_limit, most_structures, entry_count}
+use Rattle.atl_state.specs.Limits.{last_month, last_unit, men_limit, holding_limit, most_structures, entry_count, most_u16, most_u32}
 use Rattle.atl_state.specs.RowRules.{one_key, is_from, is_one_head, head_in_range, faction_in_range, region_in_range, unit_in_range, has_in_range, structure_in_range, books_in_range, books_bound, is_within, faction_key, region_key, unit_key, structure_key, mail_key, report_key, AreRowsInRange, is_of_unit, is_booked}
 use Rattle.atl_state.specs.Rows.{flag, is_zero, rows_by, faction_row, region_row, unit_row, structure_row, mail_row, report_row, has_rows, books_rows, AreRowsOf, rows_of}
 use Rattle.atl_state.proofs.AssemblyLaws.{from_range}
@@ -40,12 +40,12 @@ use Rattle.atl_state.proofs.OrderLaws.{Apart, Apart-keys, rows_order, rows_there
 min_less : (n m : ℕ) → min n m < m → min n m ≡ n
 min_less n m h = grind arith
 
-pub whole_below : (z : ℤ) → as_u32 z < 4294967295 → IsWhole z
-whole_below (pos n) h = ap pos (sym (min_less n 4294967295 h))
+pub whole_below : (z : ℤ) → as_u32 z < most_u32 → IsWhole z
+whole_below (pos n) h = ap pos (sym (min_less n most_u32 h))
 whole_below (negsuc n) h = absurd (omega arith)
 
-whole16 : (z : ℤ) → as_u16 z < 65535 → z ≡ pos (as_u16 z)
-whole16 (pos n) h = ap pos (sym (min_less n 65535 h))
+whole16 : (z : ℤ) → as_u16 z < most_u16 → z ≡ pos (as_u16 z)
+whole16 (pos n) h = ap pos (sym (min_less n most_u16 h))
 whole16 (negsuc n) h = absurd (omega arith)
 
 flag_whole : (z : ℤ) → is_from 0 1 z ≡ true → flag (is_set z) ≡ z
@@ -312,7 +312,7 @@ module _ (w : Planet) (p : Parts) (k : RowsKeep w p) where
   their_days = by_number-every (λ r. as_u32 r.number) (unit_of p.has) (λ n u. u.holding.days ≡ things_had n 1 p.has) unit_in_range (λ r h. refl) p.units ranges.units
 
   their_men : Every (λ n u. u.holding.men ≤ men_limit) units
-  their_men = by_number-every (λ r. as_u32 r.number) (unit_of p.has) (λ n u. u.holding.men ≤ men_limit) unit_in_range (λ r h. (in_range 1 men_limit 4294967295 r.men (omega arith) (unit_ranges r h).men).1) p.units ranges.units
+  their_men = by_number-every (λ r. as_u32 r.number) (unit_of p.has) (λ n u. u.holding.men ≤ men_limit) unit_in_range (λ r h. (in_range 1 men_limit most_u32 r.men (omega arith) (unit_ranges r h).men).1) p.units ranges.units
 
   abbrev ThingThere : ℕ → ℕ → StoredHas → Type 0
   ThingThere n sort h = IsThere (things_had n sort p.has) (as_u32 h.thing)
@@ -325,7 +325,7 @@ module _ (w : Planet) (p : Parts) (k : RowsKeep w p) where
   unfolding state_of
   held_units = each_passes (is_of_unit (state_of w p)) (λ h. IsThere units (as_u32 h.unit)) (λ h e. some_there (get units (as_u32 h.unit)) e) p.has k.held
 
-  few_things : (n sort thing : ℕ) → IsThere units n → (sort ≡ 1) ⊎ (sort ≡ 0) → IsThere (things_had n sort p.has) thing → thing < 4294967295
+  few_things : (n sort thing : ℕ) → IsThere units n → (sort ≡ 1) ⊎ (sort ≡ 0) → IsThere (things_had n sort p.has) thing → thing < most_u32
   unfolding state_of
   few_things n sort thing there (inl skill) (v, is) =
       let placed = k.known.units n there.0 there.1 in

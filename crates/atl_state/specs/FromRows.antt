@@ -3,7 +3,7 @@ use Rattle.std.specs.Prelude.{◌-◌, ℕ, ℤ, pos, negsuc, Bool, not, ◌==�
 use Rattle.std.specs.Ordering.{nat_cmp}
 use Rattle.std.specs.FinMap.{FinMap, empty, insert}
 use Rattle.atl_tables.specs.Planet.{Planet}
-use Rattle.atl_state.specs.Limits.{entry_count}
+use Rattle.atl_state.specs.Limits.{entry_count, most_u16, most_u32}
 use Rattle.atl_state.specs.declared.parts.Parts.{Parts}
 use Rattle.atl_state.specs.declared.parts.StoredHead.{StoredHead}
 use Rattle.atl_state.specs.declared.parts.StoredFaction.{StoredFaction}
@@ -30,10 +30,10 @@ clamped most (negsuc n) = most
 
 -- of 32 bits: what doesn't fit is greater than all limits, and so stands for nothing
 abbrev pub as_u32 : ℤ → ℕ
-as_u32 z = clamped 4294967295 z
+as_u32 z = clamped most_u32 z
 
 abbrev pub as_u16 : ℤ → ℕ
-as_u16 z = clamped 65535 z
+as_u16 z = clamped most_u16 z
 
 abbrev pub is_set : ℤ → Bool
 is_set z = not (is_zero z)

@@ -30,17 +30,28 @@ entry_count = 13
 abbrev pub most_things : ℕ
 most_things = 2 + most_items
 
+-- the largest number of 16 bits, and that of 32
+abbrev pub most_u16 : ℕ
+most_u16 = 65535
+
+abbrev pub most_u32 : ℕ
+most_u32 = 4294967295
+
 -- money, people and an item of each number of 16 bits: as many things can be told apart
 abbrev pub possible_things : ℕ
-possible_things = 2 + 65536
+possible_things = 2 + (most_u16 + 1)
 
 -- a map by numbers of 32 bits has so many entries at most
 abbrev pub most_numbered : ℕ
-most_numbered = 4294967296
+most_numbered = most_u32 + 1
 
--- as many amounts as memory can hold have marks at most
+-- memory can hold so many marks at most
 abbrev pub most_marks : ℕ
 most_marks = 9223372036854775808
+
+-- more money, or people, than all regions hold at founding
+abbrev pub most_founded : ℕ
+most_founded = 100000000000000
 
 -- so many structures ever, numbered from 1
 abbrev pub most_structures : ℕ

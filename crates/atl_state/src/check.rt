@@ -33,7 +33,7 @@ pub enum Rule {
     Known,
     /// The numbers that come next are those after the last.
     Next,
-    /// Days of study are from 1 to 450 for each man.
+    /// Days of study are from 1 to MOST_DAYS for each man.
     Days,
     /// The factions that are gone are those without units.
     Gone,

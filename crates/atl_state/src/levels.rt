@@ -1,6 +1,7 @@
 //! Levels of skills, and what units weigh and carry.
 ghost use Rattle.std.specs.Prelude.{◌≡◌, ◌≤◌, ◌*◌, nat_le};
 ghost use Rattle.atl_tables.specs.Limits.{last_level, most_items, most_weight};
+ghost use Rattle.atl_state.specs.Limits.{most_u32};
 ghost use Rattle.atl_state.specs.Levels.{days_for, level_in, level_in_any, level_of, weight_of, carry_of, goods_of, carried_by_goods, load_of, carried_by};
 
 use crate::holding::Holding;
@@ -82,7 +83,7 @@ fn carriage(world: &World, item: u32) -> u32
 fn times(amount: u32, each: u32) -> u64
     requires { each ≤ most_weight }
     ensures value { result ≡ amount * each }
-    ensures small { result ≤ 4294967295 * most_weight }
+    ensures small { result ≤ most_u32 * most_weight }
 {
     u64::from(amount) * u64::from(each)
 }
@@ -91,7 +92,7 @@ fn times(amount: u32, each: u32) -> u64
 /// takes no memory. See docs/RULES.md, "Levels and loads".
 pub fn goods(world: &World, holding: &Holding) -> u64
     ensures value { result ≡ goods_of world.now holding.now }
-    ensures small { result ≤ 4294967295 * most_weight * most_items }
+    ensures small { result ≤ most_u32 * most_weight * most_items }
 {
     let mut sum = 0;
     for (item, amount) in holding.items() {
@@ -103,7 +104,7 @@ pub fn goods(world: &World, holding: &Holding) -> u64
 /// What a unit's goods carry: the sum of amount times carry over the items that it holds.
 fn carried_by_goods(world: &World, holding: &Holding) -> u64
     ensures value { result ≡ carried_by_goods world.now holding.now }
-    ensures small { result ≤ 4294967295 * most_weight * most_items }
+    ensures small { result ≤ most_u32 * most_weight * most_items }
 {
     let mut sum = 0;
     for (item, amount) in holding.items() {

@@ -2,6 +2,7 @@
 ghost use Rattle.std.specs.Prelude.{◌≡◌, ◌≤◌, ◌*◌, length};
 ghost use Rattle.std.specs.FinMap as map;
 ghost use Rattle.atl_tables.specs.Sums.{sum_over};
+ghost use Rattle.atl_state.specs.Limits.{most_u32};
 ghost use Rattle.atl_state.specs.Totals.{held, kept};
 
 use crate::books::Thing;
@@ -34,7 +35,7 @@ fn kept(thing: Thing, region: &Region) -> u32
 pub(crate) fn units_total(units: &Units, thing: Thing) -> u64
     requires { length (map.entries units.now.values) ≤ 1000000 }
     ensures value { result ≡ sum_over (λ u. held thing u.holding) units.now.values }
-    ensures fits { result ≤ length (map.entries units.now.values) * 4294967295 }
+    ensures fits { result ≤ length (map.entries units.now.values) * most_u32 }
 {
     let mut sum = 0u64;
     for (_, unit) in units.iter() {
@@ -48,7 +49,7 @@ pub(crate) fn units_total(units: &Units, thing: Thing) -> u64
 pub(crate) fn regions_total(regions: &Tracked<Region>, thing: Thing) -> u64
     requires { length (map.entries regions.now.values) ≤ 1000000 }
     ensures value { result ≡ sum_over (λ r. kept thing r) regions.now.values }
-    ensures fits { result ≤ length (map.entries regions.now.values) * 4294967295 }
+    ensures fits { result ≤ length (map.entries regions.now.values) * most_u32 }
 {
     let mut sum = 0u64;
     for (_, region) in regions.iter() {

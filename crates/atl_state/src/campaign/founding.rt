@@ -7,7 +7,7 @@ ghost use Rattle.atl_tables.specs.Names.{pass_ok};
 ghost use Rattle.atl_tables.specs.Sums.{sum_over, mapped};
 ghost use Rattle.atl_state.specs.declared.books.Entry.TheVariants.{Founding};
 ghost use Rattle.atl_state.specs.declared.books.Thing.TheVariants.{Money, People};
-ghost use Rattle.atl_state.specs.Limits.{most_things, possible_things};
+ghost use Rattle.atl_state.specs.Limits.{most_things, possible_things, most_founded};
 ghost use Rattle.atl_state.specs.Books.{no_amounts, with_booked};
 ghost use Rattle.atl_state.specs.Totals.{kept};
 ghost use Rattle.atl_state.specs.Marks.{no_marks};
@@ -48,8 +48,8 @@ fn founding_books(
     requires few { length (map.entries regions.now.values) ≤ most_regions }
     requires some { 2 ≤ things }
     requires possible { things ≤ possible_things }
-    ensures money { IfOk result (λ _. sum_over (λ r. kept Money r) regions.now.values ≤ 100000000000000) }
-    ensures people { IfOk result (λ _. sum_over (λ r. kept People r) regions.now.values ≤ 100000000000000) }
+    ensures money { IfOk result (λ _. sum_over (λ r. kept Money r) regions.now.values ≤ most_founded) }
+    ensures people { IfOk result (λ _. sum_over (λ r. kept People r) regions.now.values ≤ most_founded) }
     ensures value { IfOk result (λ books. books ≡ with_booked (with_booked (no_amounts things) Founding Money (pos (sum_over (λ r. kept Money r) regions.now.values))) Founding People (pos (sum_over (λ r. kept People r) regions.now.values))) }
 {
     let mut books = Books::new(alloc, things)?;

@@ -8,7 +8,7 @@ use crate::campaign::Campaign;
 use crate::holding::Holding;
 use crate::limits::MOST_DAYS;
 
-/// Whether the days of each skill that is studied are from 1 to 450 for each man.
+/// Whether the days of each skill that is studied are from 1 to MOST_DAYS for each man.
 fn has_days(holding: &Holding) -> bool
     ensures { Decides result (Every (λ s days. (1 ≤ days) × (days ≤ most_days * holding.now.men)) holding.now.days) }
 {
@@ -16,7 +16,7 @@ fn has_days(holding: &Holding) -> bool
     holding.days().all(|(_, days)| 1 <= *days && *days <= most)
 }
 
-/// Whether each unit has 1 to 450 days for each man in each skill that it studied. It takes no memory.
+/// Whether each unit has 1 to MOST_DAYS days for each man in each skill that it studied. It takes no memory.
 pub(crate) fn are_days(campaign: &Campaign) -> bool
     ensures { Decides result (AreDays campaign.now.what) }
 {
