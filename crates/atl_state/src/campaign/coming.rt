@@ -28,8 +28,8 @@ impl Campaign {
         }
     }
 
-    /// A unit comes. It gets the number that comes next for units, which is at most 999,999,999, and rises by one. The
-    /// answer is its number. The unit, its goods and the campaign's row are marked. Without memory for it nothing
+    /// A unit comes. It gets the number that comes next for units, which is at most LAST_UNIT, and rises by one. The answer
+    /// is its number. The unit, its goods and the campaign's row are marked. AllocError without memory, and then nothing
     /// changes. See docs/RULES.md, "Limits".
     pub fn begin_unit(&mut self, unit: Unit) -> Result<u32, AllocError>
         requires fresh { map.get self.old.what.units self.old.what.next_unit ≡ None }
@@ -46,8 +46,9 @@ impl Campaign {
         Ok(number)
     }
 
-    /// A structure is begun. It gets the number that comes next for structures, which is at most 10,000, and rises by one.
-    /// The answer is its number. The structure and the campaign's row are marked. Without memory for it nothing changes.
+    /// A structure is begun. It gets the number that comes next for structures, which is at most MOST_STRUCTURES, and rises
+    /// by one. The answer is its number. The structure and the campaign's row are marked. AllocError without memory, and
+    /// then nothing changes.
     /// See docs/RULES.md, "Limits".
     pub fn begin_structure(&mut self, structure: Structure) -> Result<u32, AllocError>
         requires fresh { map.get self.old.what.structures self.old.what.next_structure ≡ None }

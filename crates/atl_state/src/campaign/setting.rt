@@ -13,7 +13,7 @@ use crate::books::{Entry, Thing};
 use atl_tables::Text;
 
 impl Campaign {
-    /// Sets the month last closed, and marks the campaign's row.
+    /// Sets the month last closed, from 0 to LAST_MONTH, and marks the campaign's row.
     pub fn set_month(&mut self, month: u32)
         ensures what { self.new.what ≡ with_month self.old.what month }
         ensures marks { self.new.marks ≡ mark_row self.old }
@@ -42,7 +42,7 @@ impl Campaign {
         }
     }
 
-    /// Sets how many peasants a region has, and marks the region.
+    /// Sets how many peasants a region has, from 0 to atl_tables' MOST_AMOUNT in a good campaign, and marks the region.
     pub fn set_peasants(&mut self, region: u32, peasants: u32)
         ensures what { self.new.what ≡ with_peasants self.old.what region peasants }
         ensures marks { self.new.marks ≡ mark_region self.old region }
@@ -52,7 +52,7 @@ impl Campaign {
         }
     }
 
-    /// Sets how much money a region has, and marks the region.
+    /// Sets how much money a region has, from 0 to atl_tables' MOST_AMOUNT in a good campaign, and marks the region.
     pub fn set_region_money(&mut self, region: u32, money: u32)
         ensures what { self.new.what ≡ with_region_money self.old.what region money }
         ensures marks { self.new.marks ≡ mark_region self.old region }
@@ -62,7 +62,7 @@ impl Campaign {
         }
     }
 
-    /// Sets a unit's money, at most 999,999,999, and marks its row; its goods stay unmarked.
+    /// Sets a unit's money, at most HOLDING_LIMIT, and marks its row; its goods stay unmarked.
     pub fn set_money(&mut self, unit: u32, money: u32)
         requires { money ≤ holding_limit }
         ensures what { self.new.what ≡ with_money self.old.what unit money }
@@ -79,7 +79,7 @@ impl Campaign {
         self.units.set_guard(unit, guard);
     }
 
-    /// Sets how much of a structure is done, and marks the structure.
+    /// Sets how much of a structure is built, from 1 to the size of its kind in a good campaign, and marks the structure.
     pub fn set_done(&mut self, structure: u32, done: u32)
         ensures what { self.new.what ≡ with_done self.old.what structure done }
         ensures marks { self.new.marks ≡ mark_structure self.old structure }
@@ -109,7 +109,7 @@ impl Campaign {
         }
     }
 
-    /// Sets a structure's owner, a unit's number or 0, and marks the structure.
+    /// Sets a structure's owner, a unit's number or 0 for nobody, and marks the structure.
     pub fn set_owner(&mut self, structure: u32, owner: u32)
         ensures what { self.new.what ≡ with_owner self.old.what structure owner }
         ensures marks { self.new.marks ≡ mark_structure self.old structure }
@@ -119,7 +119,8 @@ impl Campaign {
         }
     }
 
-    /// Books so much more of a thing under an entry, and marks that amount. See docs/RULES.md, "Books".
+    /// Books so much more of a thing under an entry (money, men and peasants, or pieces of an item), or less where it is
+    /// negative, and marks that amount. See docs/RULES.md, "Books".
     pub fn book(&mut self, entry: Entry, thing: Thing, amount: i64)
         requires there { thing_place thing < length self.old.what.books }
         requires fits { FitsSigned w64 (amount_in self.old.what.books entry thing +ℤ amount) }
