@@ -5,10 +5,10 @@ ghost use Rattle.atl_state.specs.Good.{IsSteady};
 ghost use Rattle.atl_instant.specs.Staying.{IsNoWorse};
 ghost use Rattle.atl_instant.specs.Steps.{IsOwnOrder};
 ghost use Rattle.atl_instant.specs.Unbooked.{books_nothing, moves_nothing};
-ghost use Rattle.atl_action.specs.Walk.{is_land_there, is_walking, takes_walking, walk, walk_fault, walk_keeps, walk_meaning, walk_step, walked};
+ghost use Rattle.atl_action.specs.Walk.{is_land_there, is_walking, takes_walking, walk, walk_fault, walk_step, walked};
 
 use crate::ways::neighbour;
-use atl_instant::{Month, OrderPhase, Phase, PhaseVerbs, Written, carry_out_orders, failed};
+use atl_instant::{Month, OrderPhase, PhaseVerbs, PlainPhase, Written, failed};
 use atl_orders::{Direction, Mailing, Order, Verb};
 use atl_state::{Campaign, EventFault, Outcome, Unit, carry, goods, is_land_at};
 use atl_tables::World;
@@ -123,25 +123,8 @@ impl OrderPhase for MovePhase {
     fn is_orderly(&self) {}
 }
 
-impl Phase for MovePhase {
-    ghost meaning = { walk_meaning };
+impl PlainPhase for MovePhase {
+    ghost makes = { walk_step };
 
-    ghost needs = { IsSteady };
-
-    ghost leaves = { IsSteady };
-
-    ghost moving = { moves_nothing };
-
-    ghost keeps = { walk_keeps };
-
-    fn run(
-        &self,
-        alloc: Global,
-        world: &World,
-        mut campaign: Campaign,
-        mut month: Month,
-    ) -> Result<(Campaign, Month), AllocError> {
-        carry_out_orders(alloc, self, world, &mut campaign, &mut month)?;
-        Ok((campaign, month))
-    }
+    fn is_plain(&self) {}
 }

@@ -8,15 +8,15 @@ ghost use Rattle.atl_state.specs.Held.{IsHolding, with_amount_of};
 ghost use Rattle.atl_state.specs.Lending.{lent, with_held};
 ghost use Rattle.atl_state.specs.declared.records.Unit.{Unit};
 ghost use Rattle.atl_state.specs.Limits.{holding_limit};
-ghost use Rattle.atl_instant.specs.Give.{give, give_fault, give_keeps, give_meaning, give_step, given, held_of, is_giving, with_held_of};
+ghost use Rattle.atl_instant.specs.Give.{give, give_fault, give_step, given, held_of, is_giving, with_held_of};
 ghost use Rattle.atl_instant.specs.Staying.{IsNoWorse};
 ghost use Rattle.atl_instant.specs.Steps.{IsOwnOrder};
+ghost use Rattle.atl_instant.specs.Unbooked.{books_nothing, moves_nothing};
 
 use crate::month::Month;
 use crate::orders::PhaseVerbs;
 use crate::outcome::failed;
-use crate::phase::Phase;
-use crate::steps::{OrderPhase, carry_out_orders};
+use crate::steps::{OrderPhase, PlainPhase};
 use crate::written::Written;
 use atl_orders::{Mailing, Order, Verb};
 use atl_state::{Campaign, EventFault, HOLDING_LIMIT, Holding, Outcome, Unit};
@@ -171,9 +171,9 @@ impl OrderPhase for GivePhase {
 
     ghost holds = { IsEarly };
 
-    ghost reserve = { λ c e t. 0 };
+    ghost reserve = { books_nothing };
 
-    ghost moving = { λ e t. 0 };
+    ghost moving = { moves_nothing };
 
     ghost concerns = { IsOwnOrder };
 
@@ -209,25 +209,8 @@ impl OrderPhase for GivePhase {
     fn is_orderly(&self) {}
 }
 
-impl Phase for GivePhase {
-    ghost meaning = { give_meaning };
+impl PlainPhase for GivePhase {
+    ghost makes = { give_step };
 
-    ghost needs = { IsEarly };
-
-    ghost leaves = { IsEarly };
-
-    ghost moving = { λ e t. 0 };
-
-    ghost keeps = { give_keeps };
-
-    fn run(
-        &self,
-        alloc: Global,
-        world: &World,
-        mut campaign: Campaign,
-        mut month: Month,
-    ) -> Result<(Campaign, Month), AllocError> {
-        carry_out_orders(alloc, self, world, &mut campaign, &mut month)?;
-        Ok((campaign, month))
-    }
+    fn is_plain(&self) {}
 }

@@ -3,14 +3,14 @@ ghost use Rattle.std.specs.Prelude.{◌≡◌};
 ghost use Rattle.std.specs.FinMap.{get};
 ghost use Rattle.atl_state.specs.Covers.{MarksChanges};
 ghost use Rattle.atl_state.specs.Good.{IsSteady};
-ghost use Rattle.atl_instant.specs.Guard.{guard, guard_concerns, guard_fault, guard_keeps, guard_meaning, guard_step, guards_against, is_guarded_against, is_guarding, sets_flag};
+ghost use Rattle.atl_instant.specs.Guard.{guard, guard_concerns, guard_fault, guard_step, guards_against, is_guarded_against, is_guarding, sets_flag};
 ghost use Rattle.atl_instant.specs.Staying.{IsNoWorse};
+ghost use Rattle.atl_instant.specs.Unbooked.{books_nothing, moves_nothing};
 
 use crate::month::Month;
 use crate::orders::PhaseVerbs;
 use crate::outcome::failed;
-use crate::phase::Phase;
-use crate::steps::{OrderPhase, carry_out_orders};
+use crate::steps::{OrderPhase, PlainPhase};
 use crate::written::Written;
 use atl_orders::{Mailing, Order, Verb};
 use atl_state::{Campaign, EventFault, Outcome, Unit};
@@ -87,9 +87,9 @@ impl OrderPhase for GuardPhase {
 
     ghost holds = { IsSteady };
 
-    ghost reserve = { λ c e t. 0 };
+    ghost reserve = { books_nothing };
 
-    ghost moving = { λ e t. 0 };
+    ghost moving = { moves_nothing };
 
     ghost concerns = { guard_concerns };
 
@@ -118,25 +118,8 @@ impl OrderPhase for GuardPhase {
     fn is_orderly(&self) {}
 }
 
-impl Phase for GuardPhase {
-    ghost meaning = { guard_meaning };
+impl PlainPhase for GuardPhase {
+    ghost makes = { guard_step };
 
-    ghost needs = { IsSteady };
-
-    ghost leaves = { IsSteady };
-
-    ghost moving = { λ e t. 0 };
-
-    ghost keeps = { guard_keeps };
-
-    fn run(
-        &self,
-        alloc: Global,
-        world: &World,
-        mut campaign: Campaign,
-        mut month: Month,
-    ) -> Result<(Campaign, Month), AllocError> {
-        carry_out_orders(alloc, self, world, &mut campaign, &mut month)?;
-        Ok((campaign, month))
-    }
+    fn is_plain(&self) {}
 }

@@ -6,7 +6,7 @@ ghost use Rattle.atl_orders.specs.Orders.{name_in};
 ghost use Rattle.atl_state.specs.State.{with_faction_name, with_guard};
 ghost use Rattle.atl_state.specs.Covers.{MarksChanges};
 ghost use Rattle.atl_state.specs.Good.{IsEarly};
-ghost use Rattle.atl_instant.specs.Name.{is_naming, is_of_sort, name_concerns, name_keeps, name_meaning, name_step, named, structure_fault, structure_named, takes_naming, with_unit_name};
+ghost use Rattle.atl_instant.specs.Name.{is_naming, is_of_sort, name_concerns, name_step, named, structure_fault, structure_named, takes_naming, with_unit_name};
 ghost use Rattle.atl_instant.specs.Staying.{IsNoWorse};
 ghost use Rattle.atl_instant.specs.Unbooked.{books_nothing, moves_nothing};
 
@@ -14,8 +14,7 @@ use crate::inside::structure_of;
 use crate::month::Month;
 use crate::orders::PhaseVerbs;
 use crate::outcome::failed;
-use crate::phase::Phase;
-use crate::steps::{OrderPhase, carry_out_orders};
+use crate::steps::{OrderPhase, PlainPhase};
 use crate::written::Written;
 use atl_orders::{Mailing, NameKind, Order, Span, Verb};
 use atl_state::{Campaign, EventFault, Outcome, Structure};
@@ -201,25 +200,8 @@ impl OrderPhase for NamePhase {
     fn is_orderly(&self) {}
 }
 
-impl Phase for NamePhase {
-    ghost meaning = { name_meaning };
+impl PlainPhase for NamePhase {
+    ghost makes = { name_step };
 
-    ghost needs = { IsEarly };
-
-    ghost leaves = { IsEarly };
-
-    ghost moving = { moves_nothing };
-
-    ghost keeps = { name_keeps };
-
-    fn run(
-        &self,
-        alloc: Global,
-        world: &World,
-        mut campaign: Campaign,
-        mut month: Month,
-    ) -> Result<(Campaign, Month), AllocError> {
-        carry_out_orders(alloc, self, world, &mut campaign, &mut month)?;
-        Ok((campaign, month))
-    }
+    fn is_plain(&self) {}
 }

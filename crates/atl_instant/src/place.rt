@@ -6,7 +6,7 @@ ghost use Rattle.atl_state.specs.Good.{IsEarly};
 ghost use Rattle.atl_state.specs.Owners.{is_owned_by, with_place};
 ghost use Rattle.atl_state.specs.State.{with_owner};
 ghost use Rattle.atl_instant.specs.Inside.{region_of};
-ghost use Rattle.atl_instant.specs.Place.{entered, entered_other, is_in, is_placing, leave_fault, left, place_keeps, place_meaning, place_step, promote_fault, promoted, takes_placing};
+ghost use Rattle.atl_instant.specs.Place.{entered, entered_other, is_in, is_placing, leave_fault, left, place_step, promote_fault, promoted, takes_placing};
 ghost use Rattle.atl_instant.specs.Staying.{IsNoWorse};
 ghost use Rattle.atl_instant.specs.Steps.{IsOwnOrder};
 ghost use Rattle.atl_instant.specs.Unbooked.{books_nothing, moves_nothing};
@@ -15,8 +15,7 @@ use crate::inside::{region_of, structure_of};
 use crate::month::Month;
 use crate::orders::PhaseVerbs;
 use crate::outcome::failed;
-use crate::phase::Phase;
-use crate::steps::{OrderPhase, carry_out_orders};
+use crate::steps::{OrderPhase, PlainPhase};
 use crate::written::Written;
 use atl_orders::{Mailing, Order, Verb};
 use atl_state::{Campaign, EventFault, Outcome, is_land_at};
@@ -199,25 +198,8 @@ impl OrderPhase for PlacePhase {
     fn is_orderly(&self) {}
 }
 
-impl Phase for PlacePhase {
-    ghost meaning = { place_meaning };
+impl PlainPhase for PlacePhase {
+    ghost makes = { place_step };
 
-    ghost needs = { IsEarly };
-
-    ghost leaves = { IsEarly };
-
-    ghost moving = { moves_nothing };
-
-    ghost keeps = { place_keeps };
-
-    fn run(
-        &self,
-        alloc: Global,
-        world: &World,
-        mut campaign: Campaign,
-        mut month: Month,
-    ) -> Result<(Campaign, Month), AllocError> {
-        carry_out_orders(alloc, self, world, &mut campaign, &mut month)?;
-        Ok((campaign, month))
-    }
+    fn is_plain(&self) {}
 }

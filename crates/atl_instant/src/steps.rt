@@ -13,6 +13,7 @@ ghost use Rattle.atl_instant.specs.Carrying.{carried_written, task_of};
 use crate::month::Month;
 use crate::orders::PhaseVerbs;
 use crate::outcome::failed;
+use crate::phase::Phase;
 use crate::written::{Arrangement, Written};
 use atl_orders::{Mailing, Order};
 use atl_state::{Campaign, EventFault, Outcome};
@@ -153,4 +154,38 @@ pub fn carry_out_orders<P: OrderPhase>(
         carry_one(alloc, phase, world, campaign, month, *order)?;
     }
     Ok(())
+}
+
+/// A phase that is nothing but its orders, each of which it carries out alike whatever its own value.
+pub trait PlainPhase: OrderPhase {
+    // What an order of a unit's own faction makes of a campaign, and what came of it.
+    ghost makes: { Step };
+
+    /// That the step of each value is this one.
+    fn is_plain(&self)
+        ensures { Self.step self.now ≡ makes };
+}
+
+impl<P: PlainPhase> Phase for P {
+    ghost meaning = { carried_out P.makes P.is_taken P.is_of };
+
+    ghost needs = { P.holds };
+
+    ghost leaves = { P.holds };
+
+    ghost moving = { P.moving };
+
+    ghost keeps = { spares_others P.concerns P.spares P.is_of };
+
+    fn run(
+        &self,
+        alloc: Global,
+        world: &World,
+        mut campaign: Campaign,
+        mut month: Month,
+    ) -> Result<(Campaign, Month), AllocError> {
+        self.is_plain();
+        carry_out_orders(alloc, self, world, &mut campaign, &mut month)?;
+        Ok((campaign, month))
+    }
 }

@@ -8,15 +8,15 @@ ghost use Rattle.atl_state.specs.Held.{Held, with_amount_of};
 ghost use Rattle.atl_state.specs.Lending.{lent};
 ghost use Rattle.atl_state.specs.Limits.{men_limit, most_days};
 ghost use Rattle.atl_state.specs.declared.records.Unit.{Unit};
-ghost use Rattle.atl_instant.specs.Transfer.{days_going, days_left, days_raised, is_transferring, sent, transfer, transfer_fault, transfer_keeps, transfer_meaning, transfer_step, with_days};
+ghost use Rattle.atl_instant.specs.Transfer.{days_going, days_left, days_raised, is_transferring, sent, transfer, transfer_fault, transfer_step, with_days};
 ghost use Rattle.atl_instant.specs.Staying.{IsNoWorse};
 ghost use Rattle.atl_instant.specs.Steps.{IsOwnOrder};
+ghost use Rattle.atl_instant.specs.Unbooked.{books_nothing, moves_nothing};
 
 use crate::month::Month;
 use crate::orders::PhaseVerbs;
 use crate::outcome::failed;
-use crate::phase::Phase;
-use crate::steps::{OrderPhase, carry_out_orders};
+use crate::steps::{OrderPhase, PlainPhase};
 use crate::written::Written;
 use atl_orders::{Mailing, Order, Verb};
 use atl_state::{Campaign, EventFault, Holding, MEN_LIMIT, Outcome, Unit};
@@ -220,9 +220,9 @@ impl OrderPhase for TransferPhase {
 
     ghost holds = { IsEarly };
 
-    ghost reserve = { λ c e t. 0 };
+    ghost reserve = { books_nothing };
 
-    ghost moving = { λ e t. 0 };
+    ghost moving = { moves_nothing };
 
     ghost concerns = { IsOwnOrder };
 
@@ -254,25 +254,8 @@ impl OrderPhase for TransferPhase {
     fn is_orderly(&self) {}
 }
 
-impl Phase for TransferPhase {
-    ghost meaning = { transfer_meaning };
+impl PlainPhase for TransferPhase {
+    ghost makes = { transfer_step };
 
-    ghost needs = { IsEarly };
-
-    ghost leaves = { IsEarly };
-
-    ghost moving = { λ e t. 0 };
-
-    ghost keeps = { transfer_keeps };
-
-    fn run(
-        &self,
-        alloc: Global,
-        world: &World,
-        mut campaign: Campaign,
-        mut month: Month,
-    ) -> Result<(Campaign, Month), AllocError> {
-        carry_out_orders(alloc, self, world, &mut campaign, &mut month)?;
-        Ok((campaign, month))
-    }
+    fn is_plain(&self) {}
 }
