@@ -10,7 +10,7 @@ ghost use Rattle.atl_action.specs.Teach.{NobodyIsTaughtTwice, below_of, first_me
 use crate::limits::PLACES_EACH;
 use atl_instant::{Arrangement, Month, PhaseVerbs, Written, failed, region_of};
 use atl_orders::{Order, UnitRef, Verb};
-use atl_state::{Campaign, Event, EventFault, EventVerb, Outcome, Unit, level};
+use atl_state::{Campaign, EventFault, Outcome, Unit, level};
 use atl_tables::Numbered;
 use std::alloc::{AllocError, Global};
 
@@ -252,12 +252,10 @@ fn teach(
 ) -> Result<Outcome, AllocError>
     ensures { IfOk result (λ outcome. (taught.new, outcome) ≡ teach campaign.now.what month.now.aliases learning.now taught.old order.faction order.unit refs.now) }
 {
-    let Some(unit) = campaign.unit(order.unit) else {
-        return Ok(failed(EventFault::NotYours));
+    let unit = match campaign.unit(order.unit) {
+        Some(unit) if unit.faction == order.faction => unit,
+        _ => return Ok(failed(EventFault::NotYours)),
     };
-    if unit.faction != order.faction {
-        return Ok(failed(EventFault::NotYours));
-    }
     let pupils = pupils_of(
         alloc,
         campaign,
@@ -296,13 +294,7 @@ fn teach_one(
         ),
         None => return Ok(()),
     };
-    month.tell(Event {
-        faction: order.faction,
-        unit: order.unit,
-        line: order.line,
-        verb: EventVerb::Order(verb),
-        outcome,
-    })
+    month.tell(order.event(verb, outcome))
 }
 
 /// Carries out all orders of TEACH, and tells of each. The answer is how many men of each unit were taught.

@@ -9,7 +9,7 @@ ghost use Rattle.atl_market.specs.PotPhase.{CanInTurn, PotMeaning, event_of, eve
 ghost use Rattle.atl_market.specs.Pots.{AreWants, with_each};
 
 use atl_instant::{Month, Written};
-use atl_state::{Campaign, Event, EventFault, EventVerb, Outcome, Unit};
+use atl_state::{Campaign, Event, EventFault, Outcome, Unit};
 use atl_tables::{Numbered, World};
 use std::alloc::{AllocError, Global};
 
@@ -71,14 +71,8 @@ fn fault_of<P: PotPhase>(
     ensures { result ≡ fault_of (P.meaning phase.now) world.now campaign.now.what order }
 {
     match campaign.unit(order.unit) {
-        Some(unit) => {
-            if unit.faction == order.faction {
-                phase.fault(world, unit, order)
-            } else {
-                Some(EventFault::NotYours)
-            }
-        }
-        None => Some(EventFault::NotYours),
+        Some(unit) if unit.faction == order.faction => phase.fault(world, unit, order),
+        _ => Some(EventFault::NotYours),
     }
 }
 
@@ -157,13 +151,7 @@ fn event_of<P: PotPhase>(
         }
         (None, None) => Outcome::Done(0),
     };
-    Event {
-        faction: order.faction,
-        unit: order.unit,
-        line: order.line,
-        verb: EventVerb::Order(order.verb),
-        outcome,
-    }
+    order.event(order.verb, outcome)
 }
 
 /// What came of each order, where so much was given.
