@@ -15,9 +15,10 @@ use Rattle.atl_state.proofs.RegionLaws.{get-insert_same}
 use Rattle.atl_instant.specs.Course.{Aliases, Course}
 use Rattle.atl_instant.specs.PhaseOrders.{Task, orders_of}
 use Rattle.atl_instant.specs.declared.written.Arrangement.TheVariants.{ByUnit}
+use Rattle.atl_instant.specs.Dealing.{dealt}
 use Rattle.atl_action.specs.Learners.{Learning}
 use Rattle.atl_action.specs.Limits.{places_each}
-use Rattle.atl_action.specs.Teach.{AreTaughtOnce, NobodyIsTaughtTwice, Taught, below_of, dealt, first_mentions, is_teaching, lesson, lesson_behind, listed, men_at, pupils_of, taught_out, teach, teach_by, teach_fault, teach_order, teach_pupils, unless_taught, untaught, with_taught}
+use Rattle.atl_action.specs.Teach.{AreTaughtOnce, NobodyIsTaughtTwice, Taught, below_of, first_mentions, is_teaching, lesson, lesson_behind, listed, men_at, pupils_of, taught_out, teach, teach_by, teach_fault, teach_order, teach_pupils, unless_taught, untaught, with_taught}
 
 dealt_most : (places before want : ℕ) → dealt places before want ≤ want
 dealt_most places before want = omega arith

@@ -33,12 +33,13 @@ use Rattle.atl_instant.specs.Course.{Course}
 use Rattle.atl_instant.specs.Inside.{inside}
 use Rattle.atl_instant.specs.Outcomes.{first_fault, unless}
 use Rattle.atl_instant.specs.PhaseOrders.{Task, orders_of}
-use Rattle.atl_instant.specs.Steps.{IsOrderly, IsSpared, IsSparing, StepsWell, carried_out, is_of_faction, is_own, one_order, spares_others}
+use Rattle.atl_instant.specs.Steps.{IsOrderly, IsSpared, IsSparing, StepsWell, carried_out, is_of_faction, is_own, one_order, spares_others, takes_all}
 use Rattle.atl_instant.specs.Unbooked.{books_nothing, moves_nothing}
 use Rattle.atl_instant.proofs.OutcomeLaws.{none_fits}
 use Rattle.atl_instant.proofs.StructureLaws.{at_number, changed_else, equal, get-changed, is_equal, is_unequal, len-changed, unequal}
 use Rattle.atl_instant.proofs.StepLaws.{well_same}
-use Rattle.atl_action.specs.Sail.{AreCarried, IsCarried, IsUnchanged, SailsWith, capacity, concerns_nobody, crew_needed, crew_of, is_complete_ship, is_sailing, is_way, of_unit, sail, sail_by, sail_fault, sail_meaning, sail_said, sail_step, sailed, sum_inside, taken_along, takes_sailing}
+use Rattle.atl_instant.specs.Staying.{IsUnchanged}
+use Rattle.atl_action.specs.Sail.{AreCarried, IsCarried, SailsWith, capacity, concerns_nobody, crew_needed, crew_of, is_complete_ship, is_sailing, is_way, of_unit, sail, sail_by, sail_fault, sail_meaning, sail_said, sail_step, sailed, sum_inside, taken_along}
 use Rattle.atl_action.specs.Ways.{is_region, neighbour}
 use Rattle.atl_action.proofs.PeopleLaws.{AreSamePeople, elsewhere, elsewhere_at, elsewhere_inside, elsewhere_people, gone_if, gone_same, guards_stay, people_same, people_twice, steady_well, total_people}
 use Rattle.atl_action.proofs.TravelLaws.{AreTravelled, IsPut, IsSameStructure, steady-travelled, travelled, under}
@@ -485,17 +486,17 @@ module _ (w : Planet) (begun : State) (number faction : ℕ) where
         (λ in_it done. apart in_it (sym (told_same n direction in_it) ∙ done))
     order_stays n other apart = same
 
-    task_stays : (m : Course) (t : Task) → (SailsWith w begun t number faction → ⊥) → IsAsBegun (one_order sail_step takes_sailing w (c, m) t).0
+    task_stays : (m : Course) (t : Task) → (SailsWith w begun t number faction → ⊥) → IsAsBegun (one_order sail_step takes_all w (c, m) t).0
     task_stays m t apart = by_own (is_own c t) refl
       where
         by_own : (b : Bool) → is_own c t ≡ b → IsAsBegun (if b then sail_step w m.aliases c t else (c, Fault (event_fault_number NotYours))).0
         by_own true own = order_stays t.unit t.said (λ in_it done. apart (record { together = in_it; own = ap (is_of_faction t.faction) (sym (same.units t.unit in_it)) ∙ own; done = done }))
         by_own false other = same
 
-  tasks_stay : (c : State) (m : Course) (ts : List Task) → IsAsBegun c → AllByRecursion (λ t. SailsWith w begun t number faction → ⊥) ts → IsAsBegun (fold (one_order sail_step takes_sailing w) (c, m) ts).0
+  tasks_stay : (c : State) (m : Course) (ts : List Task) → IsAsBegun c → AllByRecursion (λ t. SailsWith w begun t number faction → ⊥) ts → IsAsBegun (fold (one_order sail_step takes_all w) (c, m) ts).0
   tasks_stay c m [] same others = same
   tasks_stay c m (t ∷ ts) same others =
-      let next = one_order sail_step takes_sailing w (c, m) t in
+      let next = one_order sail_step takes_all w (c, m) t in
       tasks_stay next.0 next.1 ts (task_stays c same m t others.0) others.1
 
 pub sail_spares_others : (w : Planet) (c : State) (m : Course) → IsSteady w c → spares_others (SailsWith w c) IsUnchanged is_sailing w m c (sail_meaning w c m).0

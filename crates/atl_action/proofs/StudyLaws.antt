@@ -46,8 +46,9 @@ use Rattle.atl_instant.proofs.OutcomeLaws.{none_fits, not_less}
 use Rattle.atl_instant.proofs.QuitLaws.{quit_orderly}
 use Rattle.atl_instant.proofs.StepLaws.{well_same}
 use Rattle.atl_instant.proofs.UnbookedLaws.{other_unit}
+use Rattle.atl_instant.specs.Staying.{IsUnchanged}
 use Rattle.atl_action.specs.Learners.{fee_of}
-use Rattle.atl_action.specs.Study.{IsUnchanged, days_after, is_helpful, studied, study, study_by, study_fault, study_moves, study_reserve, study_said, study_step, with_study}
+use Rattle.atl_action.specs.Study.{days_after, is_helpful, studied, study, study_by, study_fault, study_moves, study_reserve, study_said, study_step, with_study}
 use Rattle.atl_action.specs.Teach.{Taught}
 
 drawn_near : (x reserve left : ℕ) (a b : ℤ) → left + x ≡ reserve → IsNear x a b → IsDrawn reserve left a b

@@ -11,8 +11,9 @@ use Rattle.atl_instant.specs.Course.{Course, order_at}
 use Rattle.atl_instant.specs.PhaseOrders.{orders_of, written}
 use Rattle.atl_instant.specs.declared.written.Arrangement.TheVariants.{ByUnit}
 use Rattle.atl_instant.specs.declared.written.Written.{Written}
+use Rattle.atl_instant.specs.Dealing.{dealt}
 use Rattle.atl_action.specs.Learners.{Learning, found_said, found_written}
-use Rattle.atl_action.specs.Teach.{Taught, dealt, is_teaching, lesson_behind, taught_out, teach_order, untaught}
+use Rattle.atl_action.specs.Teach.{Taught, is_teaching, lesson_behind, taught_out, teach_order, untaught}
 use Rattle.atl_action.proofs.FoundLaws.{found_all}
 
 -- ---- places that are counted down

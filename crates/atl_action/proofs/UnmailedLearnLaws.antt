@@ -11,12 +11,13 @@ use Rattle.atl_state.specs.Held.{amount_of}
 use Rattle.atl_state.specs.State.{State}
 use Rattle.atl_instant.specs.Course.{Course}
 use Rattle.atl_instant.specs.PhaseOrders.{Task, orders_of}
-use Rattle.atl_instant.specs.Steps.{carried_out}
+use Rattle.atl_instant.specs.Steps.{carried_out, takes_all}
 use Rattle.atl_instant.specs.Unmailed.{IsLessBy, starved_in}
 use Rattle.atl_instant.specs.declared.written.Arrangement.TheVariants.{ByUnit}
 use Rattle.atl_instant.proofs.UnmailedLaws.{HasItsItems, HaveTheirMen, LeavesUnmailed, SparesMen, carried_leaves, men_put, men_stay, men_unless, own_faction, told_of_order, unmailed_spared}
+use Rattle.atl_instant.specs.Staying.{IsUnchanged}
 use Rattle.atl_action.specs.Learners.{Learning, fee_of, is_studying, learners}
-use Rattle.atl_action.specs.Study.{IsUnchanged, days_after, is_helpful, learn_keeps, learn_meaning, studied, study, study_by, study_fault, study_said, study_step, takes_study, with_study}
+use Rattle.atl_action.specs.Study.{days_after, is_helpful, learn_keeps, learn_meaning, studied, study, study_by, study_fault, study_said, study_step, with_study}
 use Rattle.atl_action.specs.Teach.{Taught, is_teaching, listed, taught_out, teach, teach_order}
 
 -- ---- TEACH tells its events and changes nothing else of the month
@@ -70,8 +71,8 @@ study_spares taught w a c t own n u there other = studied_men w taught c t.unit 
 items_of_unchanged : (u v : Unit) → IsUnchanged u v → HasItsItems u v
 items_of_unchanged u v same = record { name = ap (λ (x : Unit). x.holding.name) same; items = λ i. omega (arith, ap (λ (x : Unit). amount_of x.holding.items i) same) }
 
-all_study : (taught : Taught) → LeavesUnmailed (carried_out (study_step taught) takes_study is_studying) learn_keeps
-all_study taught = carried_leaves (study_step taught) takes_study is_studying (study_spares taught) (unmailed_spared is_studying own_faction items_of_unchanged)
+all_study : (taught : Taught) → LeavesUnmailed (carried_out (study_step taught) takes_all is_studying) learn_keeps
+all_study taught = carried_leaves (study_step taught) takes_all is_studying (study_spares taught) (unmailed_spared is_studying own_faction items_of_unchanged)
 
 -- ---- both
 

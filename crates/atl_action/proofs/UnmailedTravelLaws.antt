@@ -10,11 +10,12 @@ use Rattle.atl_state.specs.declared.event.Outcome.TheVariants.{Done}
 use Rattle.atl_state.specs.declared.records.Unit.{Unit}
 use Rattle.atl_state.specs.Owners.{with_place}
 use Rattle.atl_state.specs.State.{State, numbers_inside, with_guard, with_structure_region}
-use Rattle.atl_action.specs.Sail.{IsCarried, is_sailing, sail, sail_by, sail_fault, sail_keeps, sail_meaning, sail_said, sail_step, sailed, takes_sailing, taken_along}
-use Rattle.atl_action.specs.Walk.{is_walking, takes_walking, walk, walk_by, walk_fault, walk_keeps, walk_meaning, walk_said, walk_step, walked}
+use Rattle.atl_action.specs.Sail.{IsCarried, is_sailing, sail, sail_by, sail_fault, sail_keeps, sail_meaning, sail_said, sail_step, sailed, taken_along}
+use Rattle.atl_action.specs.Walk.{is_walking, walk, walk_by, walk_fault, walk_keeps, walk_meaning, walk_said, walk_step, walked}
 use Rattle.atl_action.specs.Ways.{neighbour}
 use Rattle.atl_instant.proofs.UnmailedLaws.{HasItsItems, HaveTheirMen, LeavesUnmailed, SparesMen, carried_leaves, items_of_no_worse, men_in_turn, men_same, men_stay, men_twice, men_unless, own_faction, unmailed_spared}
 use Rattle.atl_instant.proofs.UnmailedStepLaws.{guard_men, place_men}
+use Rattle.atl_instant.specs.Steps.{takes_all}
 
 -- a unit that is put elsewhere, with its flag cleared
 gone_men : (c : State) (n r s : ℕ) → HaveTheirMen c (with_guard (with_place c n r s) n false)
@@ -40,7 +41,7 @@ walk_spares : SparesMen walk_step
 walk_spares w a c t own n u there other = walked_men w c t.unit t.said n u there
 
 pub walk_leaves : LeavesUnmailed walk_meaning walk_keeps
-walk_leaves = carried_leaves walk_step takes_walking is_walking walk_spares (unmailed_spared is_walking own_faction items_of_no_worse)
+walk_leaves = carried_leaves walk_step takes_all is_walking walk_spares (unmailed_spared is_walking own_faction items_of_no_worse)
 
 -- ---- SAIL
 
@@ -73,5 +74,5 @@ items_of_carried u v h = record { name = h.name; items = h.items }
 
 pub sail_leaves : LeavesUnmailed sail_meaning sail_keeps
 sail_leaves =
-    carried_leaves sail_step takes_sailing is_sailing sail_spares
+    carried_leaves sail_step takes_all is_sailing sail_spares
     (λ w c d m keeps n u there none. let one = keeps.0 n u there in record { unit = one.unit; there = one.there; spared = items_of_carried u one.unit one.spared })

@@ -24,7 +24,8 @@ use Rattle.atl_instant.specs.Inside.{inside}
 use Rattle.atl_instant.specs.Meaning.{Keeping, Meaning}
 use Rattle.atl_instant.specs.Outcomes.{first_fault, unless}
 use Rattle.atl_instant.specs.PhaseOrders.{Task}
-use Rattle.atl_instant.specs.Steps.{Concern, IsSpared, Step, carried_out, is_own, spares_others}
+use Rattle.atl_instant.specs.Steps.{Concern, IsSpared, Step, carried_out, is_own, spares_others, takes_all}
+use Rattle.atl_instant.specs.Staying.{IsUnchanged}
 use Rattle.atl_action.specs.Ways.{is_region, neighbour}
 
 -- ---- which orders are of the phase
@@ -32,9 +33,6 @@ use Rattle.atl_action.specs.Ways.{is_region, neighbour}
 abbrev pub is_sailing : Verb → Bool
 is_sailing verbs.Sail = true
 is_sailing verb = false
-
-abbrev pub takes_sailing : Said → Bool
-takes_sailing order = true
 
 -- ---- the ship and who is inside
 
@@ -112,7 +110,7 @@ sail_step w aliases c t = sail_said w c t.unit t.said
 -- ---- the phase
 
 abbrev pub sail_meaning : Meaning
-sail_meaning = carried_out sail_step takes_sailing is_sailing
+sail_meaning = carried_out sail_step takes_all is_sailing
 
 -- a unit that keeps its name and no less of anything, and stays inside what it was inside; where that is nothing, it stays in its region and keeps its flag
 pub record IsCarried (before after : Unit) : Type 0 where
@@ -134,10 +132,6 @@ AreCarried before after = Every (λ n u. IsSpared IsCarried after n u) before.un
 -- no order takes anything from anybody
 abbrev pub concerns_nobody : Concern
 concerns_nobody t n f = ⊥
-
--- a unit that stays as it is
-abbrev pub IsUnchanged : Unit → Unit → Type 0
-IsUnchanged before after = after ≡ before
 
 -- The ship sails that a unit is inside: as the phase begins an order is its faction's own, for a unit inside the same structure, and without a fault.
 pub record SailsWith (w : Planet) (begun : State) (t : Task) (n f : ℕ) : Type 0 where

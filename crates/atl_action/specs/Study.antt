@@ -1,5 +1,5 @@
 -- STUDY, behind TEACH. See docs/RULES.md, "Learning".
-use Rattle.std.specs.Prelude.{◌≡◌, ◌+◌, ◌-◌, ◌*◌, ◌==◌, ◌&&◌, ℕ, pos, neg_ℤ, min, nat_lt, Bool, true, false, [], ◌∷◌, Option, Some, None, if◌then◌else◌}
+use Rattle.std.specs.Prelude.{◌+◌, ◌-◌, ◌*◌, ◌==◌, ◌&&◌, ℕ, pos, neg_ℤ, min, nat_lt, Bool, false, [], ◌∷◌, Option, Some, None, if◌then◌else◌}
 use Rattle.std.specs.List.{slice_get}
 use Rattle.std.specs.Option.{option_map_or}
 use Rattle.std.specs.FinMap.{get}
@@ -22,13 +22,11 @@ use Rattle.atl_state.specs.Limits.{most_days}
 use Rattle.atl_state.specs.State.{State, with_amount}
 use Rattle.atl_instant.specs.Meaning.{Keeping, Meaning, Moving, most_moved, moves_only}
 use Rattle.atl_instant.specs.Outcomes.{first_fault, unless}
-use Rattle.atl_instant.specs.Steps.{IsOwnOrder, Reserve, Sparing, Step, carried_out, spares_others}
+use Rattle.atl_instant.specs.Steps.{IsOwnOrder, Reserve, Step, carried_out, spares_others, takes_all}
+use Rattle.atl_instant.specs.Staying.{IsUnchanged}
 use Rattle.atl_action.specs.Learners.{fee_of, is_studying, learners}
 use Rattle.atl_action.specs.Limits.{helped_days, month_days, taught_days}
 use Rattle.atl_action.specs.Teach.{Taught, taught_out}
-
-abbrev pub takes_study : Said → Bool
-takes_study order = true
 
 -- ---- days
 
@@ -89,13 +87,9 @@ study_step taught w aliases c t = study_said w taught c t.unit t.said
 abbrev pub learn_meaning : Meaning
 learn_meaning w c m =
     let lessons = taught_out c (learners w c m) m in
-    carried_out (study_step lessons.0) takes_study is_studying w c lessons.1
+    carried_out (study_step lessons.0) takes_all is_studying w c lessons.1
 
--- it stays as it is
-abbrev pub IsUnchanged : Sparing
-IsUnchanged before after = after ≡ before
-
--- a unit for which its own faction wrote no order of STUDY
+-- a unit for which its own faction wrote no order of STUDY stays as it is
 abbrev pub learn_keeps : Keeping
 learn_keeps = spares_others IsOwnOrder IsUnchanged is_studying
 

@@ -23,6 +23,7 @@ use Rattle.atl_instant.specs.Outcomes.{first_fault}
 use Rattle.atl_instant.specs.PhaseOrders.{Task, orders_of, unit_of}
 use Rattle.atl_instant.specs.Steps.{told}
 use Rattle.atl_instant.specs.declared.written.Arrangement.TheVariants.{ByUnit}
+use Rattle.atl_instant.specs.Dealing.{dealt}
 use Rattle.atl_action.specs.Learners.{Learning}
 use Rattle.atl_action.specs.Limits.{places_each}
 
@@ -74,10 +75,6 @@ men_at c n = option_map_or (λ u. u.holding.men) (get c.units n) 0
 
 abbrev pub untaught : State → Taught → (n : ℕ) → ℕ
 untaught c taught n = men_at c n - amount_of taught n
-
--- what one gets of so many places, behind others who want so many together
-abbrev pub dealt : (places before want : ℕ) → ℕ
-dealt places before want = min (before + want) places - min before places
 
 -- the men of each that are taught then, one unit behind the other: before it so many were untaught
 abbrev pub lesson_behind : State → Taught → (places before : ℕ) → List ℕ → List (ℕ × ℕ)

@@ -20,7 +20,7 @@ use Rattle.atl_state.specs.State.{State, with_guard}
 use Rattle.atl_instant.specs.Meaning.{Keeping, Meaning}
 use Rattle.atl_instant.specs.Outcomes.{first_fault, unless}
 use Rattle.atl_instant.specs.Staying.{IsNoWorse}
-use Rattle.atl_instant.specs.Steps.{IsOwnOrder, Step, carried_out, spares_others}
+use Rattle.atl_instant.specs.Steps.{IsOwnOrder, Step, carried_out, spares_others, takes_all}
 use Rattle.atl_action.specs.Ways.{neighbour}
 
 -- ---- which orders are of the phase
@@ -28,9 +28,6 @@ use Rattle.atl_action.specs.Ways.{neighbour}
 abbrev pub is_walking : Verb → Bool
 is_walking verbs.Move = true
 is_walking verb = false
-
-abbrev pub takes_walking : Said → Bool
-takes_walking order = true
 
 -- ---- MOVE
 
@@ -73,7 +70,7 @@ walk_step w aliases c t = walk_said w c t.unit t.said
 -- ---- the phase
 
 abbrev pub walk_meaning : Meaning
-walk_meaning = carried_out walk_step takes_walking is_walking
+walk_meaning = carried_out walk_step takes_all is_walking
 
 -- who gives no such order stays
 abbrev pub walk_keeps : Keeping

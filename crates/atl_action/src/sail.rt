@@ -8,7 +8,8 @@ ghost use Rattle.atl_state.specs.Levels.{load_of};
 ghost use Rattle.atl_state.specs.Owners.{is_owned_by};
 ghost use Rattle.atl_state.specs.State.{numbers_inside, with_structure_region};
 ghost use Rattle.atl_instant.specs.Unbooked.{books_nothing, moves_nothing};
-ghost use Rattle.atl_action.specs.Sail.{IsCarried, capacity, concerns_nobody, crew_needed, crew_of, is_complete_ship, is_sailing, is_way, of_unit, sail, sail_fault, sail_keeps, sail_meaning, sail_step, sailed, sum_inside, taken_along, takes_sailing};
+ghost use Rattle.atl_instant.specs.Steps.{takes_all};
+ghost use Rattle.atl_action.specs.Sail.{IsCarried, capacity, concerns_nobody, crew_needed, crew_of, is_complete_ship, is_sailing, is_way, of_unit, sail, sail_fault, sail_keeps, sail_meaning, sail_step, sailed, sum_inside, taken_along};
 
 use crate::ways::{is_region, neighbour};
 use atl_instant::{Month, OrderPhase, Phase, PhaseVerbs, Written, carry_out_orders, failed};
@@ -245,7 +246,7 @@ impl PhaseVerbs for SailPhase {
 impl OrderPhase for SailPhase {
     ghost step = { λ _. sail_step };
 
-    ghost is_taken = { takes_sailing };
+    ghost is_taken = { takes_all };
 
     ghost holds = { IsSteady };
 

@@ -15,9 +15,10 @@ ghost use Rattle.atl_state.specs.Marking.{mark_amount};
 ghost use Rattle.atl_state.specs.Limits.{holding_limit, men_limit, most_days};
 ghost use Rattle.atl_state.specs.State.{with_amount};
 ghost use Rattle.atl_instant.specs.Meaning.{HasRoom, HaveRoom};
-ghost use Rattle.atl_instant.specs.Steps.{IsOwnOrder};
+ghost use Rattle.atl_instant.specs.Steps.{IsOwnOrder, takes_all};
+ghost use Rattle.atl_instant.specs.Staying.{IsUnchanged};
 ghost use Rattle.atl_action.specs.Learners.{fee_of, is_studying};
-ghost use Rattle.atl_action.specs.Study.{IsUnchanged, days_after, is_helpful, studied, study, study_fault, study_moves, study_reserve, study_step, takes_study, with_study};
+ghost use Rattle.atl_action.specs.Study.{days_after, is_helpful, studied, study, study_fault, study_moves, study_reserve, study_step, with_study};
 
 use crate::learners::cost_of;
 use crate::limits::{HELPED_DAYS, MONTH_DAYS, TAUGHT_DAYS};
@@ -166,7 +167,7 @@ impl PhaseVerbs for Studying {
 impl OrderPhase for Studying {
     ghost step = { λ s. study_step s.taught };
 
-    ghost is_taken = { takes_study };
+    ghost is_taken = { takes_all };
 
     ghost holds = { IsSteady };
 

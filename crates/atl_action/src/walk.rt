@@ -3,9 +3,9 @@ ghost use Rattle.std.specs.Prelude.{◌≡◌, IfOk, OnOk};
 ghost use Rattle.atl_state.specs.Covers.{MarksChanges};
 ghost use Rattle.atl_state.specs.Good.{IsSteady};
 ghost use Rattle.atl_instant.specs.Staying.{IsNoWorse};
-ghost use Rattle.atl_instant.specs.Steps.{IsOwnOrder};
+ghost use Rattle.atl_instant.specs.Steps.{IsOwnOrder, takes_all};
 ghost use Rattle.atl_instant.specs.Unbooked.{books_nothing, moves_nothing};
-ghost use Rattle.atl_action.specs.Walk.{is_land_there, is_walking, takes_walking, walk, walk_fault, walk_step, walked};
+ghost use Rattle.atl_action.specs.Walk.{is_land_there, is_walking, walk, walk_fault, walk_step, walked};
 
 use crate::ways::neighbour;
 use atl_instant::{Month, OrderPhase, PhaseVerbs, PlainPhase, Written, failed};
@@ -88,7 +88,7 @@ impl PhaseVerbs for MovePhase {
 impl OrderPhase for MovePhase {
     ghost step = { λ _. walk_step };
 
-    ghost is_taken = { takes_walking };
+    ghost is_taken = { takes_all };
 
     ghost holds = { IsSteady };
 

@@ -46,7 +46,7 @@ use Rattle.atl_instant.specs.Meaning.{HasRoom, HaveRoom, IsNear, Moving, both_mo
 use Rattle.atl_instant.specs.Outcomes.{unless}
 use Rattle.atl_instant.specs.Course.{Aliases}
 use Rattle.atl_instant.specs.PhaseOrders.{Task}
-use Rattle.atl_instant.specs.Quit.{booked_off, gone_under, item_gone, items_move, leaves, left_at, left_by, quit, quit_by, quit_concerns, quit_fault, quit_moves, quit_reserve, quit_said, quit_step, with_gone_amount}
+use Rattle.atl_instant.specs.Quit.{booked_off, gone_under, item_gone, leaves, left_at, left_by, quit, quit_by, quit_concerns, quit_fault, quit_moves, quit_reserve, quit_said, quit_step, with_gone_amount}
 use Rattle.atl_instant.specs.Staying.{IsNoWorse}
 use Rattle.atl_instant.specs.Steps.{IsDrawn, IsOrderly, IsSpared, StepsWell, is_of_faction, is_own}
 use Rattle.atl_instant.proofs.AmountsLaws.{amount_within}
@@ -55,6 +55,7 @@ use Rattle.atl_instant.proofs.MeaningLaws.{less_room, near_more, near_same, near
 use Rattle.atl_instant.proofs.OutcomeLaws.{none_fits, not_apart}
 use Rattle.atl_instant.proofs.StayingLaws.{no_worse}
 use Rattle.atl_instant.proofs.StepLaws.{no_worse_spares, well_same, well_twice}
+use Rattle.atl_instant.specs.LostItems.{moving_items}
 
 -- ---- things and entries
 
@@ -109,9 +110,9 @@ abbrev owing_items : List (ℕ × ℕ) → Thing → ℕ
 owing_items [] s = 0
 owing_items (e ∷ es) s = part_of s (Item e.0) e.1 + owing_items es s
 
-items_within : (es : List (ℕ × ℕ)) (e : Entry) (s : Thing) → items_move es e s ≤ under e s (owing_items es s)
+items_within : (es : List (ℕ × ℕ)) (e : Entry) (s : Thing) → moving_items es e s ≤ under e s (owing_items es s)
 items_within [] e s = omega arith
-items_within (x ∷ xs) e s = under_sum e s (moves_only x.1 Lost (Item x.0) e s) (items_move xs e s) (part_of s (Item x.0) x.1) (owing_items xs s) (one_moves x.1 (Item x.0) e s) (items_within xs e s)
+items_within (x ∷ xs) e s = under_sum e s (moves_only x.1 Lost (Item x.0) e s) (moving_items xs e s) (part_of s (Item x.0) x.1) (owing_items xs s) (one_moves x.1 (Item x.0) e s) (items_within xs e s)
 
 nothing_more : (b : Bool) (x y : ℕ) → b ≡ false → cond b x 0 + y ≡ y
 nothing_more true x y e = cc
@@ -148,7 +149,7 @@ abbrev owing : Held → Thing → ℕ
 owing h s = part_of s People h.men + (part_of s Money h.money + owing_items (entries h.items) s)
 
 abbrev pub held_moves : Held → Moving
-held_moves h = both_move (moves_only h.men Left People) (both_move (moves_only h.money Lost Money) (items_move (entries h.items)))
+held_moves h = both_move (moves_only h.men Left People) (both_move (moves_only h.money Lost Money) (moving_items (entries h.items)))
 
 all_owed : (h : Held) (s : Thing) → owing h s ≡ held s h
 all_owed h Money = sum h.money (owing_items (entries h.items) Money) (no_money (entries h.items))
@@ -171,8 +172,8 @@ all_owed h (Item j) =
 pub moves_what_leaves : (h : Held) (e : Entry) (s : Thing) → held_moves h e s ≤ leaves e s h
 moves_what_leaves h e s =
     subst (λ n. held_moves h e s ≤ under e s n) (all_owed h s)
-    (under_sum e s (moves_only h.men Left People e s) (moves_only h.money Lost Money e s + items_move (entries h.items) e s) (part_of s People h.men) (part_of s Money h.money + owing_items (entries h.items) s) (one_moves h.men People e s)
-    (under_sum e s (moves_only h.money Lost Money e s) (items_move (entries h.items) e s) (part_of s Money h.money) (owing_items (entries h.items) s) (one_moves h.money Money e s) (items_within (entries h.items) e s)))
+    (under_sum e s (moves_only h.men Left People e s) (moves_only h.money Lost Money e s + moving_items (entries h.items) e s) (part_of s People h.men) (part_of s Money h.money + owing_items (entries h.items) s) (one_moves h.men People e s)
+    (under_sum e s (moves_only h.money Lost Money e s) (moving_items (entries h.items) e s) (part_of s Money h.money) (owing_items (entries h.items) s) (one_moves h.money Money e s) (items_within (entries h.items) e s)))
 
 -- ---- a campaign in which so much is booked as gone
 
@@ -207,7 +208,7 @@ off_one w c t amount inside steady = record {
     less z true a = omega (arith, ints)
     less z false a = omega (arith, ints)
 
-off_items : (w : Planet) (c : State) (es : List (ℕ × ℕ)) → EachOf (λ i a. i < length w.items) es → IsSteady w c → BooksOff w (owing_items es) (items_move es) c (fold item_gone c es)
+off_items : (w : Planet) (c : State) (es : List (ℕ × ℕ)) → EachOf (λ i a. i < length w.items) es → IsSteady w c → BooksOff w (owing_items es) (moving_items es) c (fold item_gone c es)
 off_items w c [] known steady = record {
   steady = steady;
   owed = λ s. plain (booked c.books s);

@@ -17,7 +17,7 @@ use Rattle.atl_instant.specs.Meaning.{Condition}
 use Rattle.atl_instant.specs.PhaseOrders.{Task, orders_of}
 use Rattle.atl_instant.specs.Quit.{QuitsFrom, is_quitting, left_at, left_by, quit_keeps, quit_meaning, quit_moves, quit_reserve, quit_said, quit_step}
 use Rattle.atl_instant.specs.Staying.{IsNoWorse}
-use Rattle.atl_instant.specs.Steps.{IsOrderly, StepsWell, carried_out, is_of_faction, is_own}
+use Rattle.atl_instant.specs.Steps.{IsOrderly, StepsWell, carried_out, is_of_faction, is_own, takes_all}
 use Rattle.atl_instant.specs.declared.written.Arrangement.TheVariants.{ByUnit}
 use Rattle.atl_instant.proofs.QuitLaws.{left_well, quit_cases, quit_orderly, units_behind}
 use Rattle.atl_instant.proofs.StepLaws.{no_worse_spares, orders_fit, orders_spare}
@@ -81,4 +81,4 @@ module _ (begun : State) where
 pub quit_spares_others : (w : Planet) (c : State) (m : Course) → IsSteady w c → AreFit w m.readings → quit_keeps w m c (quit_meaning w c m).0
 unfolding carried_out
 quit_spares_others w c m steady fit =
-    orders_spare quit_step (λ s. true) (since_orderly c) w c m (values (orders_of is_quitting ByUnit m.aliases m.readings)) (steady, λ t own. own) (orders_fit w m.aliases m.readings fit is_quitting)
+    orders_spare quit_step takes_all (since_orderly c) w c m (values (orders_of is_quitting ByUnit m.aliases m.readings)) (steady, λ t own. own) (orders_fit w m.aliases m.readings fit is_quitting)

@@ -25,10 +25,10 @@ use Rattle.atl_instant.specs.Guard.{guard, guard_by, guard_concerns, guard_fault
 use Rattle.atl_instant.specs.Inside.{inside, region_of}
 use Rattle.atl_instant.specs.Name.{is_naming, name_by, name_concerns, name_keeps, name_meaning, name_step, named, takes_naming}
 use Rattle.atl_instant.specs.Outcomes.{unless}
-use Rattle.atl_instant.specs.Place.{enter_fault, entered_other, is_placing, leave_fault, place_by, place_keeps, place_meaning, place_step, promote_fault, takes_placing}
+use Rattle.atl_instant.specs.Place.{enter_fault, entered_other, is_placing, leave_fault, place_by, place_keeps, place_meaning, place_step, promote_fault}
 use Rattle.atl_instant.specs.PhaseOrders.{Task, orders_of, unit_of}
 use Rattle.atl_instant.specs.Quit.{QuitsFrom, booked_off, is_quitting, item_gone, left_at, left_by, quit, quit_by, quit_fault, quit_keeps, quit_meaning, quit_said, quit_step}
-use Rattle.atl_instant.specs.Steps.{IsSpared, is_own}
+use Rattle.atl_instant.specs.Steps.{IsSpared, is_own, takes_all}
 use Rattle.atl_instant.specs.Transfer.{is_transferring, transfer, transfer_keeps, transfer_meaning, transfer_said, transfer_step, with_fewer, with_more}
 use Rattle.atl_instant.specs.Unmailed.{starved_in}
 use Rattle.atl_instant.specs.declared.give.Gift.{Gift}
@@ -127,7 +127,7 @@ unfolding place_step
 place_spares w a c t own n u there other = places_men w a c t.faction t.unit t.said n u there
 
 pub place_leaves : LeavesUnmailed place_meaning place_keeps
-place_leaves = carried_leaves place_step takes_placing is_placing place_spares (unmailed_spared is_placing own_faction items_of_no_worse)
+place_leaves = carried_leaves place_step takes_all is_placing place_spares (unmailed_spared is_placing own_faction items_of_no_worse)
 
 -- ---- GIVE and PAY
 
@@ -159,7 +159,7 @@ give_spares : SparesMen give_step
 give_spares w a c t own n u there other = given_men a c t t.said n u there
 
 pub give_leaves : LeavesUnmailed give_meaning give_keeps
-give_leaves = carried_leaves give_step (λ s. true) is_giving give_spares (unmailed_spared is_giving own_faction items_of_no_worse)
+give_leaves = carried_leaves give_step takes_all is_giving give_spares (unmailed_spared is_giving own_faction items_of_no_worse)
 
 -- ---- TRANSFER
 
@@ -195,7 +195,7 @@ transfer_spares : SparesMen transfer_step
 transfer_spares w a c t own n u there other = transferred a c t own t.said n u there other
 
 pub transfer_leaves : LeavesUnmailed transfer_meaning transfer_keeps
-transfer_leaves = carried_leaves transfer_step (λ s. true) is_transferring transfer_spares (unmailed_spared is_transferring own_faction items_of_no_worse)
+transfer_leaves = carried_leaves transfer_step takes_all is_transferring transfer_spares (unmailed_spared is_transferring own_faction items_of_no_worse)
 
 -- ---- GUARD 1
 
@@ -272,4 +272,4 @@ quit_spares : SparesMen quit_step
 quit_spares w a c t own n u there other = quitted c t own t.said n u there other
 
 pub quit_leaves : LeavesUnmailed quit_meaning quit_keeps
-quit_leaves = carried_leaves quit_step (λ s. true) is_quitting quit_spares (λ w c d m. unmailed_spared {concerns = QuitsFrom c} is_quitting (λ t n f h. h.faction) items_of_no_worse w c d m)
+quit_leaves = carried_leaves quit_step takes_all is_quitting quit_spares (λ w c d m. unmailed_spared {concerns = QuitsFrom c} is_quitting (λ t n f h. h.faction) items_of_no_worse w c d m)

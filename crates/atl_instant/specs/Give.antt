@@ -19,7 +19,7 @@ use Rattle.atl_instant.specs.Meaning.{Keeping, Meaning}
 use Rattle.atl_instant.specs.Outcomes.{first_fault, unless}
 use Rattle.atl_instant.specs.PhaseOrders.{Task, unit_of}
 use Rattle.atl_instant.specs.Staying.{IsNoWorse}
-use Rattle.atl_instant.specs.Steps.{IsOwnOrder, Step, carried_out, spares_others}
+use Rattle.atl_instant.specs.Steps.{IsOwnOrder, Step, carried_out, spares_others, takes_all}
 use Rattle.atl_instant.specs.declared.give.Gift.{Gift}
 use Rattle.atl_instant.specs.declared.give.Gift.TheVariants.{Item, Money}
 
@@ -80,7 +80,7 @@ give_step w aliases c t = give_said aliases c t t.said
 -- ---- the phase
 
 abbrev pub give_meaning : Meaning
-give_meaning = carried_out give_step (λ s. true) is_giving
+give_meaning = carried_out give_step takes_all is_giving
 
 -- a unit for which its own faction wrote no such order is no worse off
 abbrev pub give_keeps : Keeping

@@ -8,6 +8,7 @@ pub mod Fit
 pub mod Steps
 pub mod Carrying
 pub mod Outcomes
+pub mod Dealing
 pub mod Give
 pub mod Transfer
 pub mod Guard
@@ -17,4 +18,5 @@ pub mod Name
 pub mod Place
 pub mod Form
 pub mod Quit
+pub mod LostItems
 pub mod Unmailed

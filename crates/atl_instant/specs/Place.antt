@@ -20,7 +20,7 @@ use Rattle.atl_instant.specs.Meaning.{Keeping, Meaning}
 use Rattle.atl_instant.specs.Outcomes.{first_fault, unless}
 use Rattle.atl_instant.specs.PhaseOrders.{unit_of}
 use Rattle.atl_instant.specs.Staying.{IsNoWorse}
-use Rattle.atl_instant.specs.Steps.{IsOwnOrder, Step, carried_out, spares_others}
+use Rattle.atl_instant.specs.Steps.{IsOwnOrder, Step, carried_out, spares_others, takes_all}
 
 -- ---- which orders are of the phase
 
@@ -29,9 +29,6 @@ is_placing verbs.Leave = true
 is_placing verbs.Enter = true
 is_placing verbs.Promote = true
 is_placing verb = false
-
-abbrev pub takes_placing : Said → Bool
-takes_placing order = true
 
 -- ---- LEAVE
 
@@ -87,7 +84,7 @@ place_step w a c t = place_by w a c t.faction t.unit t.said
 -- ---- the phase
 
 abbrev pub place_meaning : Meaning
-place_meaning = carried_out place_step takes_placing is_placing
+place_meaning = carried_out place_step takes_all is_placing
 
 -- who gives no order of the phase stays
 abbrev pub place_keeps : Keeping

@@ -1,5 +1,5 @@
 -- QUIT. See docs/RULES.md, "Quitting".
-use Rattle.std.specs.Prelude.{◌≡◌, ℕ, pos, neg_ℤ, ◌+◌, ◌==◌, not, Bool, true, false, List, [], ◌∷◌, fold, Option, Some, None, if◌then◌else◌}
+use Rattle.std.specs.Prelude.{◌≡◌, ℕ, pos, neg_ℤ, ◌==◌, not, Bool, true, false, [], ◌∷◌, fold, Option, Some, None, if◌then◌else◌}
 use Rattle.std.specs.FinMap.{entries, get}
 use Rattle.atl_orders.specs.declared.order.Order.TheVariants as orders
 use Rattle.atl_orders.specs.declared.verb.Verb.{Verb}
@@ -20,11 +20,11 @@ use Rattle.atl_state.specs.Held.{Held}
 use Rattle.atl_state.specs.Owners.{without_unit}
 use Rattle.atl_state.specs.State.{State, numbers_of, with_amount}
 use Rattle.atl_state.specs.Totals.{held}
-use Rattle.atl_instant.specs.Meaning.{Keeping, Meaning, Moving, most_moved, moves_only}
+use Rattle.atl_instant.specs.Meaning.{Keeping, Meaning, Moving, most_moved}
 use Rattle.atl_instant.specs.Outcomes.{first_fault, unless}
 use Rattle.atl_instant.specs.PhaseOrders.{Task}
 use Rattle.atl_instant.specs.Staying.{IsNoWorse}
-use Rattle.atl_instant.specs.Steps.{Concern, Reserve, Step, carried_out, is_own, spares_others}
+use Rattle.atl_instant.specs.Steps.{Concern, Reserve, Step, carried_out, is_own, spares_others, takes_all}
 
 abbrev pub is_quitting : Verb → Bool
 is_quitting verbs.Quit = true
@@ -80,7 +80,7 @@ quit_step w aliases c t = quit_said c t t.said
 -- ---- the phase
 
 abbrev pub quit_meaning : Meaning
-quit_meaning = carried_out quit_step (λ s. true) is_quitting
+quit_meaning = carried_out quit_step takes_all is_quitting
 
 -- which units an order of a unit's own faction concerns: those of the faction that quits
 abbrev pub quit_concerns : Concern
@@ -108,8 +108,3 @@ quit_reserve c e t = sum_over (λ u. leaves e t u.holding) c.units
 
 abbrev pub quit_moves : Moving
 quit_moves e t = if entry_place e == entry_place (gone_under t) then most_moved else 0
-
--- for proofs alone: what so much of some items that are gone may move
-abbrev pub items_move : List (ℕ × ℕ) → Moving
-items_move [] e t = 0
-items_move (x ∷ xs) e t = moves_only x.1 Lost (Item x.0) e t + items_move xs e t

@@ -6,6 +6,10 @@ use Rattle.atl_state.specs.Good.{Every}
 use Rattle.atl_state.specs.Held.{amount_of}
 use Rattle.atl_state.specs.State.{State}
 
+-- a unit that stays as it is
+abbrev pub IsUnchanged : Unit → Unit → Type 0
+IsUnchanged before after = after ≡ before
+
 -- a unit in its place, with its name and its flag, and with no less of anything
 pub record IsNoWorse (before after : Unit) : Type 0 where
   pub faction : after.faction ≡ before.faction

@@ -52,6 +52,10 @@ and_told m t (c, outcome) = (c, record m { events = m.events ++ told t outcome �
 abbrev pub one_order : Step → (Said → Bool) → Planet → State × Course → Task → State × Course
 one_order step is_taken w (c, m) t = if is_taken t.said then and_told m t (carried step w m.aliases c t) else (c, m)
 
+-- a phase that takes each order of its verbs
+abbrev pub takes_all : Said → Bool
+takes_all said = true
+
 -- all of them
 unfoldable pub carried_out : Step → (Said → Bool) → (Verb → Bool) → Meaning
 carried_out step is_taken is_of w c m = fold (one_order step is_taken w) (c, m) (values (orders_of is_of ByUnit m.aliases m.readings))

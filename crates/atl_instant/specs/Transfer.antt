@@ -20,7 +20,7 @@ use Rattle.atl_instant.specs.Meaning.{Keeping, Meaning}
 use Rattle.atl_instant.specs.Outcomes.{first_fault, unless}
 use Rattle.atl_instant.specs.PhaseOrders.{Task, unit_of}
 use Rattle.atl_instant.specs.Staying.{IsNoWorse}
-use Rattle.atl_instant.specs.Steps.{IsOwnOrder, Step, carried_out, spares_others}
+use Rattle.atl_instant.specs.Steps.{IsOwnOrder, Step, carried_out, spares_others, takes_all}
 
 abbrev pub is_transferring : Verb → Bool
 is_transferring verbs.Transfer = true
@@ -90,7 +90,7 @@ transfer_step w aliases c t = transfer_said aliases c t t.said
 -- ---- the phase
 
 abbrev pub transfer_meaning : Meaning
-transfer_meaning = carried_out transfer_step (λ s. true) is_transferring
+transfer_meaning = carried_out transfer_step takes_all is_transferring
 
 -- a unit for which its own faction wrote no such order is no worse off
 abbrev pub transfer_keeps : Keeping

@@ -10,7 +10,7 @@ ghost use Rattle.atl_state.specs.declared.records.Unit.{Unit};
 ghost use Rattle.atl_state.specs.Limits.{holding_limit};
 ghost use Rattle.atl_instant.specs.Give.{give, give_fault, give_step, given, held_of, is_giving, with_held_of};
 ghost use Rattle.atl_instant.specs.Staying.{IsNoWorse};
-ghost use Rattle.atl_instant.specs.Steps.{IsOwnOrder};
+ghost use Rattle.atl_instant.specs.Steps.{IsOwnOrder, takes_all};
 ghost use Rattle.atl_instant.specs.Unbooked.{books_nothing, moves_nothing};
 
 use crate::month::Month;
@@ -167,7 +167,7 @@ impl PhaseVerbs for GivePhase {
 impl OrderPhase for GivePhase {
     ghost step = { λ _. give_step };
 
-    ghost is_taken = { λ s. true };
+    ghost is_taken = { takes_all };
 
     ghost holds = { IsEarly };
 

@@ -33,7 +33,7 @@ pub use outcome::failed;
 pub use phase::Phase;
 pub use place::PlacePhase;
 pub use quit::QuitPhase;
-pub use steps::{OrderPhase, PlainPhase, carry_out_orders};
+pub use steps::{OrderPhase, PlainPhase, carry_out_orders, is_of_faction};
 pub use terrain::terrain_of;
 pub use transfer::TransferPhase;
 pub use written::{Arrangement, Written};

@@ -6,9 +6,9 @@ ghost use Rattle.atl_state.specs.Good.{IsEarly};
 ghost use Rattle.atl_state.specs.Owners.{is_owned_by, with_place};
 ghost use Rattle.atl_state.specs.State.{with_owner};
 ghost use Rattle.atl_instant.specs.Inside.{region_of};
-ghost use Rattle.atl_instant.specs.Place.{entered, entered_other, is_in, is_placing, leave_fault, left, place_step, promote_fault, promoted, takes_placing};
+ghost use Rattle.atl_instant.specs.Place.{entered, entered_other, is_in, is_placing, leave_fault, left, place_step, promote_fault, promoted};
 ghost use Rattle.atl_instant.specs.Staying.{IsNoWorse};
-ghost use Rattle.atl_instant.specs.Steps.{IsOwnOrder};
+ghost use Rattle.atl_instant.specs.Steps.{IsOwnOrder, takes_all};
 ghost use Rattle.atl_instant.specs.Unbooked.{books_nothing, moves_nothing};
 
 use crate::inside::{region_of, structure_of};
@@ -157,7 +157,7 @@ impl PhaseVerbs for PlacePhase {
 impl OrderPhase for PlacePhase {
     ghost step = { λ _. place_step };
 
-    ghost is_taken = { takes_placing };
+    ghost is_taken = { takes_all };
 
     ghost holds = { IsEarly };
 

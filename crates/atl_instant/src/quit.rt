@@ -9,8 +9,10 @@ ghost use Rattle.atl_state.specs.Marking.{mark_amount};
 ghost use Rattle.atl_state.specs.declared.books.Entry.TheVariants.{Left, Lost};
 ghost use Rattle.atl_state.specs.declared.books.Thing.TheVariants.{Money, People};
 ghost use Rattle.atl_instant.specs.Meaning.{HasRoom, HaveRoom, both_move, moves_only};
-ghost use Rattle.atl_instant.specs.Quit.{gone_under, is_quitting, item_gone, items_move, left_at, quit, quit_concerns, quit_fault, quit_keeps, quit_meaning, quit_moves, quit_reserve, quit_step, with_gone_amount};
+ghost use Rattle.atl_instant.specs.Quit.{gone_under, is_quitting, item_gone, left_at, quit, quit_concerns, quit_fault, quit_keeps, quit_meaning, quit_moves, quit_reserve, quit_step, with_gone_amount};
 ghost use Rattle.atl_instant.specs.Staying.{IsNoWorse};
+ghost use Rattle.atl_instant.specs.LostItems.{moving_items};
+ghost use Rattle.atl_instant.specs.Steps.{takes_all};
 
 use crate::booking::book_taken;
 use crate::items::items_of;
@@ -53,7 +55,7 @@ fn book_gone(campaign: &mut Campaign, thing: Thing, amount: u32)
 fn book_items(world: &World, campaign: &mut Campaign, items: &[(u16, u32)])
     requires grid { IsGrid (things_of world.now) campaign.old.what.books }
     requires known { EachOf (λ i amount. i < length world.now.items) items.now }
-    requires room { HaveRoom (items_move items.now) campaign.old.what }
+    requires room { HaveRoom (moving_items items.now) campaign.old.what }
     ensures what { campaign.new.what ≡ fold item_gone campaign.old.what items.now }
     ensures marks { MarksChanges campaign.old campaign.new }
 {
@@ -66,7 +68,7 @@ fn book_items(world: &World, campaign: &mut Campaign, items: &[(u16, u32)])
 fn book_off(world: &World, campaign: &mut Campaign, men: u32, money: u32, items: &[(u16, u32)])
     requires grid { IsGrid (things_of world.now) campaign.old.what.books }
     requires known { EachOf (λ i amount. i < length world.now.items) items.now }
-    requires room { HaveRoom (both_move (moves_only men Left People) (both_move (moves_only money Lost Money) (items_move items.now))) campaign.old.what }
+    requires room { HaveRoom (both_move (moves_only men Left People) (both_move (moves_only money Lost Money) (moving_items items.now))) campaign.old.what }
     ensures what { campaign.new.what ≡ fold item_gone (with_gone_amount (with_gone_amount campaign.old.what People men) Money money) items.now }
     ensures marks { MarksChanges campaign.old campaign.new }
 {
@@ -163,7 +165,7 @@ impl PhaseVerbs for QuitPhase {
 impl OrderPhase for QuitPhase {
     ghost step = { λ _. quit_step };
 
-    ghost is_taken = { λ s. true };
+    ghost is_taken = { takes_all };
 
     ghost holds = { IsSteady };
 

@@ -70,7 +70,7 @@ pub trait OrderPhase: PhaseVerbs {
 }
 
 /// Whether a unit is there, and of a faction.
-pub(crate) fn is_of_faction(campaign: &Campaign, unit: u32, faction: u32) -> bool
+pub fn is_of_faction(campaign: &Campaign, unit: u32, faction: u32) -> bool
     ensures { result ≡ is_of_faction faction (get campaign.now.what.units unit) }
 {
     match campaign.unit(unit) {

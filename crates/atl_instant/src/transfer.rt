@@ -10,7 +10,7 @@ ghost use Rattle.atl_state.specs.Limits.{men_limit, most_days};
 ghost use Rattle.atl_state.specs.declared.records.Unit.{Unit};
 ghost use Rattle.atl_instant.specs.Transfer.{days_going, days_left, days_raised, is_transferring, sent, transfer, transfer_fault, transfer_step, with_days};
 ghost use Rattle.atl_instant.specs.Staying.{IsNoWorse};
-ghost use Rattle.atl_instant.specs.Steps.{IsOwnOrder};
+ghost use Rattle.atl_instant.specs.Steps.{IsOwnOrder, takes_all};
 ghost use Rattle.atl_instant.specs.Unbooked.{books_nothing, moves_nothing};
 
 use crate::month::Month;
@@ -216,7 +216,7 @@ impl PhaseVerbs for TransferPhase {
 impl OrderPhase for TransferPhase {
     ghost step = { λ _. transfer_step };
 
-    ghost is_taken = { λ s. true };
+    ghost is_taken = { takes_all };
 
     ghost holds = { IsEarly };
 

@@ -43,7 +43,7 @@ use Rattle.atl_instant.proofs.OutcomeLaws.{none_fits, not_less}
 use Rattle.atl_instant.proofs.PlacingLaws.{place_stays}
 use Rattle.atl_instant.proofs.StepLaws.{no_worse_spares, well_same, well_twice}
 use Rattle.atl_instant.proofs.UnbookedLaws.{other_spared}
-use Rattle.atl_market.specs.Build.{CanBuild, begin, begin_by, begin_fault, begin_with, begun, build_moves, build_reserve, build_said, build_step, go_on, go_on_at, go_on_by, go_on_with, gone_on, inside_fault, new_structure, size_added, with_new}
+use Rattle.atl_market.specs.Build.{CanBuild, begin, begin_by, begin_fault, begin_with, build_moves, build_reserve, build_said, build_step, go_on, go_on_at, go_on_by, go_on_with, gone_on, inside_fault, new_structure, size_added, started, with_new}
 use Rattle.atl_market.specs.Stock.{CanUse}
 use Rattle.atl_market.proofs.BuildBegunLaws.{built_well, raised_well, sort_name_ok}
 use Rattle.atl_market.proofs.BuildPlaceLaws.{place_well}
@@ -153,10 +153,10 @@ module _ (w : Planet) (c : State) (n kind : ℕ) (u : Unit) (k : Kind) (is : get
   abbrev from_used : State → State
   from_used d = with_place (with_new d kind k u.region size) n u.region c.next_structure
 
-  begun_is : begun c n kind k u.region size ≡ from_used one
+  begun_is : started c n kind k u.region size ≡ from_used one
   begun_is = ap from_used (used_is w c n k.material size u is)
 
-  begun_stays : (j : ℕ) → j ≢ n → get (begun c n kind k u.region size).units j ≡ get c.units j
+  begun_stays : (j : ℕ) → j ≢ n → get (started c n kind k u.region size).units j ≡ get c.units j
   begun_stays j apart =
       ap (λ (d : State). get d.units j) begun_is ∙ place_stays (with_new one kind k u.region size) n u.region c.next_structure j apart
       ∙ others_stay w c n k.material size u is j apart
@@ -185,7 +185,7 @@ module _ (w : Planet) (c : State) (n kind : ℕ) (u : Unit) (k : Kind) (is : get
     two : State
     two = raised w one new fresh fit.room one_well.holds_still.steady
 
-    begun_well : StepsWell CanBuild build_reserve w c (begun c n kind k u.region size)
+    begun_well : StepsWell CanBuild build_reserve w c (started c n kind k u.region size)
     unfolding two
     begun_well =
         let between = one_well.holds_still in
@@ -234,11 +234,11 @@ module _ (w : Planet) (c : State) (n : ℕ) (u : Unit) (s : Structure) (k : Kind
 
 -- what is so of the campaign as it is, and of that in which the structure is begun, is so of the campaign behind the order
 begin_cases : (P : State → Type 0) (w : Planet) (c : State) (n kind : ℕ) → P c
-    → ((u : Unit) (k : Kind) → get c.units n ≡ Some u → slice_get w.kinds kind ≡ Some k → CanBegin w c u k → P (begun c n kind k u.region (size_added k u.holding 0))) → P (begin w c n kind).0
+    → ((u : Unit) (k : Kind) → get c.units n ≡ Some u → slice_get w.kinds kind ≡ Some k → CanBegin w c u k → P (started c n kind k u.region (size_added k u.holding 0))) → P (begin w c n kind).0
 unfolding begin
 begin_cases P w c n kind same go = by_unit (get c.units n) refl
   where
-    by_fault : (u : Unit) (k : Kind) → get c.units n ≡ Some u → slice_get w.kinds kind ≡ Some k → (o : Option EventFault) → begin_fault w c u k ≡ o → P (unless c o (begun c n kind k u.region (size_added k u.holding 0), Done (size_added k u.holding 0))).0
+    by_fault : (u : Unit) (k : Kind) → get c.units n ≡ Some u → slice_get w.kinds kind ≡ Some k → (o : Option EventFault) → begin_fault w c u k ≡ o → P (unless c o (started c n kind k u.region (size_added k u.holding 0), Done (size_added k u.holding 0))).0
     by_fault u k is kind_is (Some fault) e = same
     by_fault u k is kind_is None e = go u k is kind_is (can_begin w c u k e)
 
@@ -362,13 +362,13 @@ can_use w c n item amount u is enough known can room = record {
 -- ---- what the code does is what is said
 
 abbrev begun_told : State → (n kind : ℕ) → Kind → (region size : ℕ) → State × Outcome
-begun_told c n kind k region size = (begun c n kind k region size, Done size)
+begun_told c n kind k region size = (started c n kind k region size, Done size)
 
 abbrev on_told : State → (n material size place done : ℕ) → State × Outcome
 on_told c n material size place done = (gone_on c n material size place done, Done size)
 
 pub begin_done : (w : Planet) (c d : State) (n kind : ℕ) (u : Unit) (k : Kind) (size told : ℕ) → get c.units n ≡ Some u → slice_get w.kinds kind ≡ Some k → begin_fault w c u k ≡ None
-    → d ≡ begun c n kind k u.region size → told ≡ size → size ≡ size_added k u.holding 0 → (d, Done told) ≡ begin w c n kind
+    → d ≡ started c n kind k u.region size → told ≡ size → size ≡ size_added k u.holding 0 → (d, Done told) ≡ begin w c n kind
 unfolding begin
 begin_done w c d n kind u k size told is kind_is none first told_is size_is =
     let whole = begun_told c n kind k u.region (size_added k u.holding 0) in

@@ -15,11 +15,10 @@ use Rattle.atl_state.specs.State.{State}
 use Rattle.atl_state.proofs.EveryLaws.{each-from_every, every-empty, first, get-insert_other, none_some, not_below, sorted}
 use Rattle.atl_state.proofs.RegionLaws.{get-insert_same}
 use Rattle.atl_market.specs.Making.{Groups, amount_among, amount_of_group, grouped, made_from, want_put, with_shares, with_want}
-use Rattle.atl_market.specs.PotPhase.{GivesToWants}
 use Rattle.atl_market.specs.Pots.{AreWants, pot_shares, with_each}
-use Rattle.atl_market.specs.Produce.{gathered, is_for, made_by, made_of, makes, output_at, producing, wants_for}
+use Rattle.atl_market.specs.Produce.{gathered, is_for, made_by, made_of, makes, output_at, produce_pots, wants_for}
 use Rattle.atl_market.proofs.PotLaws.{pots_give}
-use Rattle.atl_market.proofs.WantLaws.{every-with_each}
+use Rattle.atl_market.proofs.WantLaws.{GivesToWants, every-with_each}
 
 found_other : {V : Type 0} (e : ℕ × V) (es : List (ℕ × V)) (n : ℕ) → n ≢ e.0 → find nat_cmp n (e ∷ es) ≡ find nat_cmp n es
 found_other e es n apart =
@@ -195,7 +194,7 @@ module _ (w : Planet) (asked wants : FinMap nat_cmp ℕ) where
     makes_wanted : Every IsWanted (makes asked w c wants)
     makes_wanted = every-with_each IsWanted empty (map by_rule all_wants) (all_wanted all_wants each_want) (every-empty IsWanted)
 
-pub makes_give : (asked : FinMap nat_cmp ℕ) (w : Planet) (c : State) → GivesToWants (producing asked) w c
+pub makes_give : (asked : FinMap nat_cmp ℕ) (w : Planet) (c : State) → GivesToWants (produce_pots asked) w c
 makes_give asked w c wants n share is = makes_wanted w asked wants c n share is
 
 -- ---- wants that are kept by item are small

@@ -14,11 +14,11 @@ use Rattle.atl_state.specs.State.{State}
 use Rattle.atl_state.proofs.EveryLaws.{each-from_every, get-insert_other, none_some}
 use Rattle.atl_instant.specs.declared.written.Written.{Written}
 use Rattle.atl_instant.proofs.StayingLaws.{no_worse}
-use Rattle.atl_market.specs.PotPhase.{GivesToWants, PotMeaning, fault_at, fault_of, given_by, shared_out, want_at, want_by, wants_by}
+use Rattle.atl_market.specs.PotPhase.{PotMeaning, fault_at, fault_of, given_by, shared_out, want_at, want_by, wants_by}
 use Rattle.atl_market.specs.Pots.{with_each}
 use Rattle.atl_market.specs.Unordered.{OthersAreNoWorse, is_ordered}
 use Rattle.atl_market.proofs.DrawLaws.{all_pairs}
-use Rattle.atl_market.proofs.WantLaws.{appended_entries}
+use Rattle.atl_market.proofs.WantLaws.{GivesToWants, appended_entries}
 
 neither : (a b : Bool) → (a || b) ≡ false → (a ≡ false) × (b ≡ false)
 neither true b h = absurd (false≢true (sym h))

@@ -32,7 +32,7 @@ use Rattle.atl_instant.proofs.MeaningLaws.{MovesLess, both_leave_well, less_room
 use Rattle.atl_market.specs.Making.{CanMakeOf, CanProduce, Fits, step_most}
 use Rattle.atl_market.specs.PotPhase.{CanInTurn, fault_of, given_by, shared_out, want_at, want_by, wants_by}
 use Rattle.atl_market.specs.Pots.{with_each}
-use Rattle.atl_market.specs.Produce.{can_make, can_make_of, produce_moves, produced, produced_by, produced_of, producing, up_to_raw, with_raw_used}
+use Rattle.atl_market.specs.Produce.{can_make, can_make_of, produce_moves, produce_pots, produced, produced_by, produced_of, up_to_raw, with_raw_used}
 use Rattle.atl_market.specs.Stock.{CanMake, CanUse, with_made, with_used}
 use Rattle.atl_market.specs.Unordered.{OthersAreNoWorse}
 use Rattle.atl_market.proofs.GroupLaws.{makes_give}
@@ -188,8 +188,8 @@ module _ (asked : FinMap nat_cmp ℕ) (w : Planet) (c : State) (e : ℕ × ℕ) 
       by_item None = refl
       by_item (Some i) = by_world i (slice_get w.items i)
 
-pub produce_keeps_others : (asked : FinMap nat_cmp ℕ) (w : Planet) (c : State) (os : List Written) → OthersAreNoWorse os c (shared_out (producing asked) w c os)
-produce_keeps_others asked w c os = others_no_worse (producing asked) w (produced_others asked w) c (makes_give asked w c) os
+pub produce_keeps_others : (asked : FinMap nat_cmp ℕ) (w : Planet) (c : State) (os : List Written) → OthersAreNoWorse os c (shared_out (produce_pots asked) w c os)
+produce_keeps_others asked w c os = others_no_worse (produce_pots asked) w (produced_others asked w) c (makes_give asked w c) os
 
 -- ---- what a unit makes it can make
 
@@ -198,25 +198,25 @@ module _ (asked : FinMap nat_cmp ℕ) (w : Planet) (c : State) where
   abbrev IsWanted : ℕ → ℕ → Type 0
   IsWanted n want = (u : Unit) × (get c.units n ≡ Some u) × (want ≡ can_make w u.holding (get asked n))
 
-  wanted_at : (o : Written) (f : Option EventFault) (u : Option Unit) → get c.units o.unit ≡ u → AllByRecursion (λ e. IsWanted e.0 e.1) (want_at (producing asked) w c o f u)
+  wanted_at : (o : Written) (f : Option EventFault) (u : Option Unit) → get c.units o.unit ≡ u → AllByRecursion (λ e. IsWanted e.0 e.1) (want_at (produce_pots asked) w c o f u)
   wanted_at o (Some f) u is = tt
   wanted_at o None (Some u) is = ((u, is, refl), tt)
   wanted_at o None None is = tt
 
-  all_wanted : (m : FinMap nat_cmp ℕ) (os : List Written) → Every IsWanted m → Every IsWanted (with_each m (flat_map (want_by (producing asked) w c) os))
+  all_wanted : (m : FinMap nat_cmp ℕ) (os : List Written) → Every IsWanted m → Every IsWanted (with_each m (flat_map (want_by (produce_pots asked) w c) os))
   all_wanted m [] old = old
   all_wanted m (o ∷ os) old =
-      subst (Every IsWanted) (sym (appended_entries m (want_by (producing asked) w c o) (flat_map (want_by (producing asked) w c) os)))
-      (all_wanted (with_each m (want_by (producing asked) w c o)) os
-      (every-with_each IsWanted m (want_by (producing asked) w c o) (wanted_at o (fault_of (producing asked) w c o) (get c.units o.unit) refl) old))
+      subst (Every IsWanted) (sym (appended_entries m (want_by (produce_pots asked) w c o) (flat_map (want_by (produce_pots asked) w c) os)))
+      (all_wanted (with_each m (want_by (produce_pots asked) w c o)) os
+      (every-with_each IsWanted m (want_by (produce_pots asked) w c o) (wanted_at o (fault_of (produce_pots asked) w c o) (get c.units o.unit) refl) old))
 
   -- and makes that much at most
   abbrev Makes : ℕ × ℕ → Type 0
   Makes e = (u : Unit) × (get c.units e.0 ≡ Some u) × (e.1 ≤ can_make w u.holding (get asked e.0))
 
-  given_can : (os : List Written) → Every (λ n made. Makes (n, made)) (given_by (producing asked) w c os)
+  given_can : (os : List Written) → Every (λ n made. Makes (n, made)) (given_by (produce_pots asked) w c os)
   given_can os n made is =
-      let (want, wanted, low) = makes_give asked w c (wants_by (producing asked) w c os) n made is in
+      let (want, wanted, low) = makes_give asked w c (wants_by (produce_pots asked) w c os) n made is in
       let (u, there, same) = all_wanted empty os (every-empty IsWanted) n want wanted in
       (u, there, subst (λ k. made ≤ k) same low)
 
@@ -276,29 +276,29 @@ module _ (asked : FinMap nat_cmp ℕ) (w : Planet) where
 
   module _ (c : State) (world : IsWorld w) (steady : IsSteady w c) (os : List Written) where
     abbrev shares : List (ℕ × ℕ)
-    shares = entries (given_by (producing asked) w c os)
+    shares = entries (given_by (produce_pots asked) w c os)
 
-    each_fits : Every (λ n made. HasRoomFor asked w c (n, made)) (given_by (producing asked) w c os)
+    each_fits : Every (λ n made. HasRoomFor asked w c (n, made)) (given_by (produce_pots asked) w c os)
     each_fits n made is =
         let (u, there, low) = given_can asked w c os n made is in
         (u, there, fits_by asked w c world steady n made u there low)
 
     few : length shares ≤ most_units
-    few = omega (arith, few_given (producing asked) w c (makes_give asked w c) os, steady.numbers.few_units)
+    few = omega (arith, few_given (produce_pots asked) w c (makes_give asked w c) os, steady.numbers.few_units)
 
     little : MovesLess (moved_times (length shares) step_moves) (produce_moves most_moved)
     little e t = scaled (length shares) step_most most_moved (omega (arith, few)) e t
 
     pub can_share_out : HaveRoom (produce_moves most_moved) c → CanInTurn (CanProduce asked w) (produced asked w) c shares
     can_share_out room =
-        produce_in_turn c shares (entries_rise (given_by (producing asked) w c os)) steady (room_less (moved_times (length shares) step_moves) (produce_moves most_moved) c little room)
-        (all_fit shares (each-from_every (λ n made. HasRoomFor asked w c (n, made)) (given_by (producing asked) w c os) each_fits))
+        produce_in_turn c shares (entries_rise (given_by (produce_pots asked) w c os)) steady (room_less (moved_times (length shares) step_moves) (produce_moves most_moved) c little room)
+        (all_fit shares (each-from_every (λ n made. HasRoomFor asked w c (n, made)) (given_by (produce_pots asked) w c os) each_fits))
       where
         all_fit : (es : List (ℕ × ℕ)) → EachOf (λ n made. HasRoomFor asked w c (n, made)) es → AllByRecursion (HasRoomFor asked w c) es
         all_fit [] h = tt
         all_fit (e ∷ es) h = (h.0, all_fit es h.1)
 
-    pub produce_leaves_well : HaveRoom (produce_moves most_moved) c → LeavesWell IsSteady (produce_moves most_moved) w c (shared_out (producing asked) w c os)
+    pub produce_leaves_well : HaveRoom (produce_moves most_moved) c → LeavesWell IsSteady (produce_moves most_moved) w c (shared_out (produce_pots asked) w c os)
     unfolding shared_out
     produce_leaves_well room =
         well_within (moved_times (length shares) step_moves) (produce_moves most_moved) w c (fold (produced asked w) c shares) little

@@ -4,7 +4,7 @@ use Rattle.std.proofs.Math.Nat.{mul-div-le, mul-add, add-mul-div_left, div-add-m
 use Rattle.std.proofs.lemmas.List.Sums.{sum_by-cons, sum_by-append}
 use Rattle.std.proofs.lemmas.Bool.Decides.{nat_tests}
 use Rattle.std.proofs.lemmas.Bool.{cases_lt}
-use Rattle.atl_market.specs.Share.{share_upto, shares_behind, shares, SplittingKeepsOthers, IsNear}
+use Rattle.atl_market.specs.Share.{IsNearPart, SplittingKeepsOthers, share_upto, shares, shares_behind}
 
 -- the quotient and what is left of it
 quotient : (pot total x : ℕ) → 0 < total → (total * share_upto pot total x ≤ pot * x) × (pot * x < total * share_upto pot total x + total)
@@ -95,9 +95,9 @@ all_is_given pot wants =
       | inr h ↦ ap sum (shares-enough pot wants h) ∙ omega arith
     ]
 
-pub share_is_near : (pot : ℕ) (wants : List ℕ) (i : ℕ) → pot < sum wants → IsNear pot (sum wants) (get_or wants i 0) (get_or (shares pot wants) i 0)
+pub share_is_near : (pot : ℕ) (wants : List ℕ) (i : ℕ) → pot < sum wants → IsNearPart pot (sum wants) (get_or wants i 0) (get_or (shares pot wants) i 0)
 share_is_near pot wants i h =
-    rw (shares-short pot wants h) (each_behind (IsNear pot (sum wants)) pot (sum wants)
+    rw (shares-short pot wants h) (each_behind (IsNearPart pot (sum wants)) pot (sum wants)
     (λ b w. let n = share_near pot (sum wants) b w (omega arith) in record { above = n.0; below = n.1 })
     (record { above = omega arith; below = omega arith }) 0 wants i)
 

@@ -28,7 +28,7 @@ use Rattle.atl_instant.specs.declared.written.Written.{Written}
 use Rattle.atl_instant.proofs.MeaningLaws.{near_same, well_within}
 use Rattle.atl_instant.proofs.StayingLaws.{are_no_worse, are_no_worse_twice}
 use Rattle.atl_market.specs.PotPhase.{CanInTurn, given_by, shared_out}
-use Rattle.atl_market.specs.Tax.{CanTax, money_at, tax_moves, taxed, taxed_by, taxed_from, taxing, with_tax}
+use Rattle.atl_market.specs.Tax.{CanTax, money_at, tax_moves, tax_pots, taxed, taxed_by, taxed_from, with_tax}
 use Rattle.atl_market.proofs.DrawLaws.{all_pairs, HaveEnough, HaveLess, changed_regions, drawn, first_draws, others_draw, pot_is_enough, still, untouched}
 use Rattle.atl_market.proofs.PurseLaws.{others_stay, paid, richer, richer_is, richer_no_worse}
 use Rattle.atl_market.proofs.TurnLaws.{turns_leave_well}
@@ -130,9 +130,9 @@ each_no_worse : (w : Planet) (c : State) (es : List (ℕ × ℕ)) → AreNoWorse
 each_no_worse w c [] = are_no_worse c
 each_no_worse w c (e ∷ es) = are_no_worse_twice c (taxed c e) (fold taxed (taxed c e) es) (taxed_no_worse w c e) (each_no_worse w (taxed c e) es)
 
-pub tax_keeps_units : (w : Planet) (c : State) (os : List Written) → AreNoWorse c (shared_out taxing w c os)
+pub tax_keeps_units : (w : Planet) (c : State) (os : List Written) → AreNoWorse c (shared_out tax_pots w c os)
 unfolding shared_out
-tax_keeps_units w c os = each_no_worse w c (entries (given_by taxing w c os))
+tax_keeps_units w c os = each_no_worse w c (entries (given_by tax_pots w c os))
 
 -- ---- all steps can be taken
 
@@ -174,14 +174,14 @@ module _ (w : Planet) (c : State) where
 
   module _ (early : IsEarly w c) (os : List Written) where
     abbrev shares : List (ℕ × ℕ)
-    shares = entries (given_by taxing w c os)
+    shares = entries (given_by tax_pots w c os)
 
     wanted_fits : (money men share : ℕ) → money ≤ holding_limit → share ≤ min men (holding_limit - money) → money + share ≤ holding_limit
     wanted_fits money men share fits low = omega (arith, fits, low)
 
-    each_fits : Every (λ n share. HasRoomFor (n, share)) (given_by taxing w c os)
+    each_fits : Every (λ n share. HasRoomFor (n, share)) (given_by tax_pots w c os)
     each_fits n share is =
-        let (u, o, there, low) = given_is_wanted taxing w c (pots_give (money_at c) c) os n share is in
+        let (u, o, there, low) = given_is_wanted tax_pots w c (pots_give (money_at c) c) os n share is in
         (u, there, wanted_fits u.holding.money _ share (early.steady.numbers.units n u there).1.money low)
 
     all_enough : HaveEnough c.units money_of c shares
@@ -190,13 +190,13 @@ module _ (w : Planet) (c : State) where
     pub can_share_out : CanInTurn (CanTax w) taxed c shares
     can_share_out = all_can c shares (record {
       early = early;
-      rise = entries_rise (given_by taxing w c os);
+      rise = entries_rise (given_by tax_pots w c os);
       same = untouched c shares;
-      fits = all_pairs HasRoomFor shares (each-from_every (λ n share. HasRoomFor (n, share)) (given_by taxing w c os) each_fits);
+      fits = all_pairs HasRoomFor shares (each-from_every (λ n share. HasRoomFor (n, share)) (given_by tax_pots w c os) each_fits);
       enough = all_enough;
     })
 
-    pub all_taxes_leave_well : LeavesWell IsEarly tax_moves w c (shared_out taxing w c os)
+    pub all_taxes_leave_well : LeavesWell IsEarly tax_moves w c (shared_out tax_pots w c os)
     unfolding shared_out
     all_taxes_leave_well =
         well_within (moved_times (length shares) tax_moves) tax_moves w c (fold taxed c shares) (λ e t. omega arith)

@@ -1,5 +1,5 @@
 -- What BUILD and PRODUCE leave to the units of a faction that sent no mailing.
-use Rattle.std.proofs.Common.{◌≡◌, ◌+◌, ◌-◌, ◌*◌, ℕ, true, Option, Some, None, refl}
+use Rattle.std.proofs.Common.{◌≡◌, ◌+◌, ◌-◌, ◌*◌, ℕ, Option, Some, None, refl}
 use Rattle.std.specs.List.{slice_get}
 use Rattle.std.specs.Ordering.{nat_cmp}
 use Rattle.std.specs.FinMap.{FinMap, get}
@@ -17,7 +17,8 @@ use Rattle.atl_state.specs.State.{State}
 use Rattle.atl_instant.specs.Course.{Course}
 use Rattle.atl_instant.proofs.UnmailedLaws.{HaveTheirMen, LeavesUnmailed, SparesMen, carried_leaves, items_of_no_worse, men_put, men_same, men_stay, men_twice, men_unless, own_faction, unmailed_spared}
 use Rattle.atl_instant.proofs.UnmailedStepLaws.{place_men}
-use Rattle.atl_market.specs.Build.{begin, begin_by, begin_fault, begin_with, begun, build_keeps, build_meaning, build_said, build_step, go_on, go_on_at, go_on_by, go_on_with, gone_on, inside_fault, is_building, outside_fault, size_added, with_new}
+use Rattle.atl_instant.specs.Steps.{takes_all}
+use Rattle.atl_market.specs.Build.{begin, begin_by, begin_fault, begin_with, build_keeps, build_meaning, build_said, build_step, go_on, go_on_at, go_on_by, go_on_with, gone_on, inside_fault, is_building, outside_fault, size_added, started, with_new}
 use Rattle.atl_market.specs.Stock.{made_to, used_by, with_made, with_used}
 use Rattle.atl_market.specs.PotPhase.{PotMeaning}
 use Rattle.atl_market.specs.Produce as produce
@@ -38,7 +39,7 @@ used_men c n i amount = by_unit (get c.units n) refl
 
 -- ---- BUILD
 
-begun_men : (c : State) (n kind : ℕ) (k : Kind) (region size : ℕ) → HaveTheirMen c (begun c n kind k region size)
+begun_men : (c : State) (n kind : ℕ) (k : Kind) (region size : ℕ) → HaveTheirMen c (started c n kind k region size)
 begun_men c n kind k region size =
     let used = with_used c n k.material size in
     let new = with_new used kind k region size in
@@ -51,7 +52,7 @@ begin_men w c n kind = by_unit (get c.units n)
   where
     by_kind : (u : Unit) (o : Option Kind) → HaveTheirMen c (begin_with w c n kind u o).0
     by_kind u None = men_stay c
-    by_kind u (Some k) = let size = size_added k u.holding 0 in men_unless c (begun c n kind k u.region size) (Done size) (begin_fault w c u k) (begun_men c n kind k u.region size)
+    by_kind u (Some k) = let size = size_added k u.holding 0 in men_unless c (started c n kind k u.region size) (Done size) (begin_fault w c u k) (begun_men c n kind k u.region size)
 
     by_unit : (o : Option Unit) → HaveTheirMen c (begin_by w c n kind o).0
     by_unit None = men_stay c
@@ -85,7 +86,7 @@ build_spares : SparesMen build_step
 build_spares w a c t own n u there other = built_men w c t.unit t.said n u there
 
 pub build_leaves : LeavesUnmailed build_meaning build_keeps
-build_leaves = carried_leaves build_step (λ s. true) is_building build_spares (unmailed_spared is_building own_faction items_of_no_worse)
+build_leaves = carried_leaves build_step takes_all is_building build_spares (unmailed_spared is_building own_faction items_of_no_worse)
 
 -- ---- PRODUCE
 
@@ -115,7 +116,7 @@ produced_men asked w c e = by_item (get asked e.0)
     by_item (Some i) = by_kind i (slice_get w.items i)
 
 abbrev as_asked : State → Course → PotMeaning
-as_asked c m = produce.producing (produce.items_asked m.readings c (produce.produce_orders m))
+as_asked c m = produce.produce_pots (produce.items_asked m.readings c (produce.produce_orders m))
 
 pub produce_leaves : LeavesUnmailed produce.produce_meaning produce.produce_keeps
 produce_leaves =

@@ -22,10 +22,10 @@ use Rattle.atl_instant.specs.declared.written.Written.{Written}
 use Rattle.atl_instant.proofs.StructureLaws.{unequal}
 use Rattle.atl_instant.proofs.UnmailedLaws.{HasItsItems, HasItsMen, HaveTheirMen, LeavesUnmailed, UnmailedAre, items_of_no_worse, men_changed, men_in_turn, men_stay, none_ordered, whole_leaves}
 use Rattle.atl_market.specs.PotPhase.{PotMeaning, event_of, events_by, given_by, shared_out}
-use Rattle.atl_market.specs.Recruit.{is_recruit, recruit_keeps, recruit_meaning, recruit_orders, recruiting, recruits_at}
-use Rattle.atl_market.specs.Tax.{tax_keeps, tax_meaning, tax_orders, taxed, taxed_by, taxed_from, taxing}
+use Rattle.atl_market.specs.Recruit.{is_recruit, recruit_keeps, recruit_meaning, recruit_orders, recruit_pots, recruits_at}
+use Rattle.atl_market.specs.Tax.{tax_keeps, tax_meaning, tax_orders, tax_pots, taxed, taxed_by, taxed_from}
 use Rattle.atl_market.specs.Unordered.{OthersAreNoWorse, is_ordered}
-use Rattle.atl_market.specs.Work.{earned, work_keeps, work_meaning, work_orders, worked, worked_by, working}
+use Rattle.atl_market.specs.Work.{earned, work_keeps, work_meaning, work_orders, work_pots, worked, worked_by}
 use Rattle.atl_market.proofs.OrderedLaws.{unordered_stays}
 use Rattle.atl_market.proofs.PotLaws.{pots_give}
 use Rattle.atl_market.proofs.RecruitLaws.{recruited_others}
@@ -86,7 +86,7 @@ tax_men w c e = by_unit (get c.units e.0)
     by_unit (Some u) = by_region u (get c.regions u.region)
 
 pub tax_leaves : LeavesUnmailed tax_meaning tax_keeps
-tax_leaves = shared_leave (λ c m. taxing) tax_orders (paid_men (λ c m. taxing) tax_orders (λ w c m. tax_men w)) none_worse
+tax_leaves = shared_leave (λ c m. tax_pots) tax_orders (paid_men (λ c m. tax_pots) tax_orders (λ w c m. tax_men w)) none_worse
 
 -- ---- WORK
 
@@ -99,7 +99,7 @@ work_men w c e = by_unit (get c.units e.0)
     by_unit (Some u) = men_changed (λ v. record v { holding = record v.holding { money = u.holding.money + earned w u.region e.1 } }) (λ v. record { faction = refl; men = refl }) c (worked_by w c e (Some u)) e.0 refl
 
 pub work_leaves : LeavesUnmailed work_meaning work_keeps
-work_leaves = shared_leave (λ c m. working) work_orders (paid_men (λ c m. working) work_orders (λ w c m. work_men w)) none_worse
+work_leaves = shared_leave (λ c m. work_pots) work_orders (paid_men (λ c m. work_pots) work_orders (λ w c m. work_men w)) none_worse
 
 -- ---- RECRUIT
 
@@ -127,11 +127,11 @@ module _ (is_of : Verb → Bool) (m : Course) where
 
 pub recruit_leaves : LeavesUnmailed recruit_meaning recruit_keeps
 recruit_leaves =
-    shared_leave (λ c m. recruiting m.readings) (λ c m. recruit_orders m)
+    shared_leave (λ c m. recruit_pots m.readings) (λ c m. recruit_orders m)
     (λ w c m n u there none.
     record {
       unit = u;
-      there = unordered_stays (recruiting m.readings) w (recruited_others w) c (pots_give (recruits_at w c) c) (recruit_orders m) n u there (unordered is_recruit m n u none) ∙ there;
+      there = unordered_stays (recruit_pots m.readings) w (recruited_others w) c (pots_give (recruits_at w c) c) (recruit_orders m) n u there (unordered is_recruit m n u none) ∙ there;
       spared = record { faction = refl; men = refl };
     })
     (λ w c d m. others_items is_recruit m c d)

@@ -20,8 +20,14 @@ use Rattle.atl_state.proofs.BackLaws.{Rise, entries_rise}
 use Rattle.atl_state.proofs.EveryLaws.{every-empty, every-insert}
 use Rattle.atl_instant.specs.declared.written.Written.{Written}
 use Rattle.atl_instant.proofs.ListedLaws.{find_is}
-use Rattle.atl_market.specs.PotPhase.{GivesToWants, PotMeaning, fault_of, given_by, want_at, want_by, wants_by}
+use Rattle.atl_market.specs.PotPhase.{PotMeaning, fault_of, given_by, want_at, want_by, wants_by}
 use Rattle.atl_market.specs.Pots.{AreWants, with_each}
+
+-- who gets something wants that much at least
+abbrev pub GivesToWants : PotMeaning → Planet → State → Type 0
+GivesToWants p w c =
+    (wants : FinMap nat_cmp ℕ) (n share : ℕ) → get (p.given w c wants) n ≡ Some share
+    → (want : ℕ) × (get wants n ≡ Some want) × (share ≤ want)
 
 -- entries put one list behind the other
 pub appended_entries : (m : FinMap nat_cmp ℕ) (es fs : List (ℕ × ℕ)) → with_each m (es ++ fs) ≡ with_each (with_each m es) fs

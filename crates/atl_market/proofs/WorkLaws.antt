@@ -40,7 +40,7 @@ use Rattle.atl_instant.proofs.BookingLaws.{booked-near, within-pos}
 use Rattle.atl_instant.proofs.MeaningLaws.{room_less, well_within}
 use Rattle.atl_instant.proofs.StayingLaws.{are_no_worse, are_no_worse_twice, no_worse}
 use Rattle.atl_market.specs.PotPhase.{CanInTurn, given_by, shared_out}
-use Rattle.atl_market.specs.Work.{CanWork, earned, places_at, places_wanted, with_wages, work_moves, worked, worked_by, working}
+use Rattle.atl_market.specs.Work.{CanWork, earned, places_at, places_wanted, with_wages, work_moves, work_pots, worked, worked_by}
 use Rattle.atl_market.proofs.TurnLaws.{first_room, later_room, turns_leave_well}
 use Rattle.atl_market.proofs.PotLaws.{pots_give}
 use Rattle.atl_market.proofs.WantLaws.{few_given, given_is_wanted}
@@ -152,9 +152,9 @@ each_no_worse : (w : Planet) (c : State) (es : List (ℕ × ℕ)) → AreNoWorse
 each_no_worse w c [] = are_no_worse c
 each_no_worse w c (e ∷ es) = are_no_worse_twice c (worked w c e) (fold (worked w) (worked w c e) es) (worked_no_worse w c e) (each_no_worse w (worked w c e) es)
 
-pub work_keeps_units : (w : Planet) (c : State) (os : List Written) → AreNoWorse c (shared_out working w c os)
+pub work_keeps_units : (w : Planet) (c : State) (os : List Written) → AreNoWorse c (shared_out work_pots w c os)
 unfolding shared_out
-work_keeps_units w c os = each_no_worse w c (entries (given_by working w c os))
+work_keeps_units w c os = each_no_worse w c (entries (given_by work_pots w c os))
 
 -- ---- all steps can be taken
 
@@ -189,15 +189,15 @@ module _ (w : Planet) where
 
   module _ (c : State) (steady : IsSteady w c) (os : List Written) where
     abbrev shares : List (ℕ × ℕ)
-    shares = entries (given_by working w c os)
+    shares = entries (given_by work_pots w c os)
 
-    each_fits : Every (λ n places. HasRoomFor w c (n, places)) (given_by working w c os)
+    each_fits : Every (λ n places. HasRoomFor w c (n, places)) (given_by work_pots w c os)
     each_fits n places is =
-        let (u, o, there, low) = given_is_wanted working w c (pots_give (places_at w) c) os n places is in
+        let (u, o, there, low) = given_is_wanted work_pots w c (pots_give (places_at w) c) os n places is in
         (u, there, wanted_fits u (terrain_of w u.region) places (steady.numbers.units n u there).1.money low)
 
     few : length shares ≤ most_units
-    few = omega (arith, few_given working w c (pots_give (places_at w) c) os, steady.numbers.few_units)
+    few = omega (arith, few_given work_pots w c (pots_give (places_at w) c) os, steady.numbers.few_units)
 
     little : (e : Entry) (t : Thing) → moved_times (length shares) step_moves e t ≤ work_moves most_moved e t
     little e t = scaled (length shares) few (amount_number e t == amount_number Wages Money)
@@ -207,13 +207,13 @@ module _ (w : Planet) where
         scaled k few false = omega (arith, few)
 
     pub can_share_out : HaveRoom (work_moves most_moved) c → CanInTurn (CanWork w) (worked w) c shares
-    can_share_out room = work_in_turn c shares (entries_rise (given_by working w c os)) steady (room_less (moved_times (length shares) step_moves) (work_moves most_moved) c little room) (all_fit shares (each-from_every (λ n places. HasRoomFor w c (n, places)) (given_by working w c os) each_fits))
+    can_share_out room = work_in_turn c shares (entries_rise (given_by work_pots w c os)) steady (room_less (moved_times (length shares) step_moves) (work_moves most_moved) c little room) (all_fit shares (each-from_every (λ n places. HasRoomFor w c (n, places)) (given_by work_pots w c os) each_fits))
       where
         all_fit : (es : List (ℕ × ℕ)) → EachOf (λ n places. HasRoomFor w c (n, places)) es → AllByRecursion (HasRoomFor w c) es
         all_fit [] h = tt
         all_fit (e ∷ es) h = (h.0, all_fit es h.1)
 
-    pub work_leaves_well : HaveRoom (work_moves most_moved) c → LeavesWell IsSteady (work_moves most_moved) w c (shared_out working w c os)
+    pub work_leaves_well : HaveRoom (work_moves most_moved) c → LeavesWell IsSteady (work_moves most_moved) w c (shared_out work_pots w c os)
     unfolding shared_out
     work_leaves_well room =
         well_within (moved_times (length shares) step_moves) (work_moves most_moved) w c (fold (worked w) c shares) little

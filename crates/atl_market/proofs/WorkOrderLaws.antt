@@ -28,8 +28,9 @@ use Rattle.atl_instant.specs.declared.written.Arrangement.TheVariants.{ByUnit}
 use Rattle.atl_instant.specs.declared.written.Written.{Written}
 use Rattle.atl_instant.proofs.ListedLaws.{entries-sorted, keyed_order}
 use Rattle.atl_instant.proofs.MappedLaws.{no_entries}
+use Rattle.atl_instant.specs.Steps.{is_of_faction}
 use Rattle.atl_market.specs.Pots.{with_each}
-use Rattle.atl_market.specs.Work.{all_work, idle_at, idle_work, is_own, is_work, long_orders, own_line, own_lines, work_key, work_orders}
+use Rattle.atl_market.specs.Work.{all_work, idle_at, idle_work, is_work, long_orders, own_line, own_lines, work_key, work_orders}
 use Rattle.atl_market.proofs.PotLaws.{some_new, still_some}
 use Rattle.atl_market.proofs.WantLaws.{appended_entries}
 
@@ -100,7 +101,7 @@ long_apart m =
 
 module _ (c : State) where
   abbrev IsListed : FinMap nat_cmp ℕ → Written → Type 0
-  IsListed lines o = is_own o (get c.units o.unit) ≡ true → is_some (get lines o.unit) ≡ true
+  IsListed lines o = is_of_faction o.faction (get c.units o.unit) ≡ true → is_some (get lines o.unit) ≡ true
 
   own_is_listed : (m : FinMap nat_cmp ℕ) (os : List Written) → AllByRecursion (IsListed (with_each m (flat_map (own_line c) os))) os
   own_is_listed m [] = tt
@@ -162,7 +163,7 @@ module _ (c : State) where
     written_idle o i listed idle =
         apart_by o i (λ unit faction.
         let there : get c.units o.unit ≡ Some idle.unit = ap (get c.units) unit ∙ idle.there in
-        let own : is_own o (get c.units o.unit) ≡ true = ap (is_own o) there ∙ same_faction idle.unit.faction o.faction (sym idle.own ∙ sym faction) in
+        let own : is_of_faction o.faction (get c.units o.unit) ≡ true = ap (is_of_faction o.faction) there ∙ same_faction idle.unit.faction o.faction (sym idle.own ∙ sym faction) in
         false≢true (sym (ap (λ n. is_some (get lines n)) unit ∙ idle.unordered) ∙ listed own))
 
     work_apart : IsDistinct same_work os → IsDistinct same_work (all_work c os)

@@ -30,7 +30,7 @@ use Rattle.atl_state.specs.State.{State, with_done, with_structure_begun}
 use Rattle.atl_instant.specs.Meaning.{Keeping, Meaning, Moving, most_moved}
 use Rattle.atl_instant.specs.Outcomes.{first_fault, unless}
 use Rattle.atl_instant.specs.Staying.{IsNoWorse}
-use Rattle.atl_instant.specs.Steps.{IsOwnOrder, Reserve, Step, carried_out, spares_others}
+use Rattle.atl_instant.specs.Steps.{IsOwnOrder, Reserve, Step, carried_out, spares_others, takes_all}
 use Rattle.atl_market.specs.Stock.{with_used}
 
 abbrev pub is_building : Verb → Bool
@@ -67,12 +67,12 @@ abbrev pub with_new : State → (kind : ℕ) → Kind → (region size : ℕ) �
 with_new c kind k region size = with_structure_begun c (new_structure c.next_structure kind k region size)
 
 -- a unit uses so much for a new structure, leaves its old one and enters this, which it owns
-abbrev pub begun : State → (n kind : ℕ) → Kind → (region size : ℕ) → State
-begun c n kind k region size = with_place (with_new (with_used c n k.material size) kind k region size) n region c.next_structure
+abbrev pub started : State → (n kind : ℕ) → Kind → (region size : ℕ) → State
+started c n kind k region size = with_place (with_new (with_used c n k.material size) kind k region size) n region c.next_structure
 
 abbrev pub begin_with : Planet → State → (n kind : ℕ) → Unit → Option Kind → State × Outcome
 begin_with w c n kind u None = (c, Done 0)
-begin_with w c n kind u (Some k) = let size = size_added k u.holding 0 in unless c (begin_fault w c u k) (begun c n kind k u.region size, Done size)
+begin_with w c n kind u (Some k) = let size = size_added k u.holding 0 in unless c (begin_fault w c u k) (started c n kind k u.region size, Done size)
 
 -- a unit that isn't there begins nothing
 abbrev pub begin_by : Planet → State → (n kind : ℕ) → Option Unit → State × Outcome
@@ -131,7 +131,7 @@ build_step w aliases c t = build_said w c t.unit t.said
 -- ---- the phase
 
 abbrev pub build_meaning : Meaning
-build_meaning = carried_out build_step (λ s. true) is_building
+build_meaning = carried_out build_step takes_all is_building
 
 -- a unit for which its own faction wrote no such order is no worse off
 abbrev pub build_keeps : Keeping

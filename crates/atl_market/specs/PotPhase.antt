@@ -1,5 +1,5 @@
 -- A phase in which the units of each region share a pot. Who takes part and what there is to share is read from the campaign as the phase began, and all pots and all units change at once. See docs/RULES.md, "Pots".
-use Rattle.std.specs.Prelude.{⊤, ℕ, ◌≡◌, ◌≤◌, ◌==◌, ◌++◌, List, [], ◌∷◌, map, Option, Some, None, unwrap_or, if◌then◌else◌}
+use Rattle.std.specs.Prelude.{⊤, ℕ, ◌==◌, ◌++◌, List, [], ◌∷◌, map, Option, Some, None, unwrap_or, if◌then◌else◌}
 use Rattle.std.specs.List.{flat_map, fold}
 use Rattle.std.specs.Ordering.{nat_cmp}
 use Rattle.std.specs.FinMap.{FinMap, empty, entries, get}
@@ -79,14 +79,6 @@ module _ (p : PotMeaning) (w : Planet) (c : State) where
 -- what a phase makes of a campaign and of what the month carries, with the orders that it finds
 abbrev pub pots_meaning : PotMeaning → (State → Course → List Written) → Planet → State → Course → State × Course
 pots_meaning p orders w c m = (shared_out p w c (orders c m), record m { events = m.events ++ events_by p w c (orders c m) })
-
--- ---- what is so of each
-
--- who gets something wants that much at least
-abbrev pub GivesToWants : PotMeaning → Planet → State → Type 0
-GivesToWants p w c =
-    (wants : FinMap nat_cmp ℕ) (n share : ℕ) → get (p.given w c wants) n ≡ Some share
-    → (want : ℕ) × (get wants n ≡ Some want) × (share ≤ want)
 
 -- ---- steps in turn, each of which can be taken when its turn comes
 abbrev pub CanInTurn : {X : Type 0} → (State → X → Type 0) → (State → X → State) → State → List X → Type 0

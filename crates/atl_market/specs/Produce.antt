@@ -25,10 +25,10 @@ use Rattle.atl_instant.specs.PhaseOrders.{orders_of, written}
 use Rattle.atl_instant.specs.Terrains.{terrain_of}
 use Rattle.atl_instant.specs.declared.written.Arrangement.TheVariants.{ByUnit}
 use Rattle.atl_instant.specs.declared.written.Written.{Written}
+use Rattle.atl_instant.specs.Steps.{is_of_faction}
 use Rattle.atl_market.specs.Pots.{pot_shares, with_each}
 use Rattle.atl_market.specs.PotPhase.{PotMeaning, events_by, shared_out}
 use Rattle.atl_market.specs.Unordered.{OthersAreNoWorse}
-use Rattle.atl_market.specs.Work.{is_own}
 use Rattle.atl_market.specs.Stock.{with_made, with_used}
 
 abbrev pub is_produce : Verb → Bool
@@ -50,7 +50,7 @@ item_entry n None = []
 item_entry n (Some i) = (n, i) ∷ []
 
 abbrev pub asked_by : FinMap nat_cmp Reading → State → Written → List (ℕ × ℕ)
-asked_by readings c o = if is_own o (get c.units o.unit) then item_entry o.unit (item_in (order_at readings o.faction o.place)) else []
+asked_by readings c o = if is_of_faction o.faction (get c.units o.unit) then item_entry o.unit (item_in (order_at readings o.faction o.place)) else []
 
 -- by unit, the item that its own faction tells it to make
 abbrev pub items_asked : FinMap nat_cmp Reading → State → List Written → FinMap nat_cmp ℕ
@@ -146,8 +146,8 @@ unfoldable pub produced : FinMap nat_cmp ℕ → Planet → State → ℕ × ℕ
 produced asked w c e = produced_by w c e (get asked e.0)
 
 -- By the item that each unit is told to make. A unit is told how much it made.
-abbrev pub producing : FinMap nat_cmp ℕ → PotMeaning
-producing asked = record {
+abbrev pub produce_pots : FinMap nat_cmp ℕ → PotMeaning
+produce_pots asked = record {
   fault = λ w u o. make_fault u.holding (item_of w (get asked o.unit));
   want = λ w u o. can_make w u.holding (get asked o.unit);
   given = makes asked;
@@ -157,7 +157,7 @@ producing asked = record {
 
 abbrev pub produce_meaning : Meaning
 produce_meaning w c m =
-    let p = producing (items_asked m.readings c (produce_orders m)) in
+    let p = produce_pots (items_asked m.readings c (produce_orders m)) in
     (shared_out p w c (produce_orders m), record m { events = m.events ++ events_by p w c (produce_orders m) })
 
 -- what is made and what is used is of items

@@ -79,8 +79,8 @@ unfoldable pub recruited : Planet → State → ℕ × ℕ → State
 recruited w c e = recruited_by w c e (get c.units e.0)
 
 -- By what the mailings say. A unit is told how many recruits it got.
-abbrev pub recruiting : FinMap nat_cmp Reading → PotMeaning
-recruiting readings = record {
+abbrev pub recruit_pots : FinMap nat_cmp Reading → PotMeaning
+recruit_pots readings = record {
   fault = λ w u o. recruit_fault w u;
   want = λ w u o. recruits_wanted w u (asked_in (order_at readings o.faction o.place));
   given = λ w c wants. pot_shares (recruits_at w c) wants c;
@@ -90,7 +90,7 @@ recruiting readings = record {
 
 abbrev pub recruit_meaning : Meaning
 recruit_meaning w c m =
-    let p = recruiting m.readings in
+    let p = recruit_pots m.readings in
     (shared_out p w c (recruit_orders m), record m { events = m.events ++ events_by p w c (recruit_orders m) })
 
 -- what is paid for recruits is of money

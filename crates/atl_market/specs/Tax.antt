@@ -58,8 +58,8 @@ unfoldable pub taxed : State → ℕ × ℕ → State
 taxed c e = taxed_by c e (get c.units e.0)
 
 -- A unit is told how much it took.
-abbrev pub taxing : PotMeaning
-taxing = record {
+abbrev pub tax_pots : PotMeaning
+tax_pots = record {
   fault = λ w u o. tax_fault u;
   want = λ w u o. tax_wanted w u;
   given = λ w c wants. pot_shares (money_at c) wants c;
@@ -68,7 +68,7 @@ taxing = record {
 }
 
 abbrev pub tax_meaning : Meaning
-tax_meaning = pots_meaning taxing tax_orders
+tax_meaning = pots_meaning tax_pots tax_orders
 
 -- what a region's people pay was theirs: no entry of the books changes
 abbrev pub tax_moves : Moving

@@ -24,6 +24,7 @@ use Rattle.atl_instant.specs.Staying.{AreNoWorse}
 use Rattle.atl_instant.specs.Terrains.{terrain_of}
 use Rattle.atl_instant.specs.declared.written.Arrangement.TheVariants.{ByUnit}
 use Rattle.atl_instant.specs.declared.written.Written.{Written}
+use Rattle.atl_instant.specs.Steps.{is_of_faction}
 use Rattle.atl_market.specs.PotPhase.{PotMeaning, given_by, pots_meaning, shared_out}
 use Rattle.atl_market.specs.Pots.{pot_shares, with_each}
 
@@ -33,13 +34,9 @@ use Rattle.atl_market.specs.Pots.{pot_shares, with_each}
 abbrev pub long_orders : Course → List Written
 long_orders m = map written (values (orders_of is_month_long ByUnit m.aliases m.readings))
 
--- whether a unit's own faction wrote an order for it
-abbrev pub is_own : Written → Option Unit → Bool
-is_own o None = false
-is_own o (Some u) = u.faction == o.faction
-
+-- the line of an order, where the unit's own faction wrote it
 abbrev pub own_line : State → Written → List (ℕ × ℕ)
-own_line c o = if is_own o (get c.units o.unit) then (o.unit, o.line) ∷ [] else []
+own_line c o = if is_of_faction o.faction (get c.units o.unit) then (o.unit, o.line) ∷ [] else []
 
 -- by unit, the line of the order that its own faction wrote
 abbrev pub own_lines : State → List Written → FinMap nat_cmp ℕ
@@ -101,8 +98,8 @@ abbrev pub work_fault : Unit → Option EventFault
 work_fault u = if u.holding.men == 0 then Some NoMen else None
 
 -- A unit wants a place for each of its men, as far as it has room for the wages, and is told what it earned.
-abbrev pub working : PotMeaning
-working = record {
+abbrev pub work_pots : PotMeaning
+work_pots = record {
   fault = λ w u o. work_fault u;
   want = λ w u o. places_wanted u (terrain_of w u.region);
   given = λ w c wants. pot_shares (places_at w) wants c;
@@ -111,7 +108,7 @@ working = record {
 }
 
 abbrev pub work_meaning : Meaning
-work_meaning = pots_meaning working work_orders
+work_meaning = pots_meaning work_pots work_orders
 
 -- wages are of money
 abbrev pub work_moves : ℕ → Moving
@@ -132,15 +129,15 @@ pub record CanWork (w : Planet) (c : State) (e : ℕ × ℕ) : Type 0 where
 -- ---- a law
 
 -- a unit with more money
-abbrev pub with_more : Unit → ℕ → Unit
-with_more u money = record u { holding = record u.holding { money = u.holding.money + money } }
+abbrev pub with_more_money : Unit → ℕ → Unit
+with_more_money u money = record u { holding = record u.holding { money = u.holding.money + money } }
 
 -- how many places a unit gets
 abbrev pub places_of : Planet → State → List Written → ℕ → ℕ
-places_of w c os n = unwrap_or (get (given_by working w c os) n) 0
+places_of w c os n = unwrap_or (get (given_by work_pots w c os) n) 0
 
 -- All units are paid at once: each has what it had as the phase began and its wages, and nothing else of it changes.
 abbrev pub PaysAllAtOnce : Type 0
 PaysAllAtOnce =
     (w : Planet) (c : State) (os : List Written) (n : ℕ) (u : Unit) → get c.units n ≡ Some u →
-    get (shared_out working w c os).units n ≡ Some (with_more u (earned w u.region (places_of w c os n)))
+    get (shared_out work_pots w c os).units n ≡ Some (with_more_money u (earned w u.region (places_of w c os n)))

@@ -18,8 +18,8 @@ ghost use Rattle.atl_state.specs.declared.books.Thing.TheVariants.{Item};
 ghost use Rattle.atl_state.specs.declared.records.Unit.{Unit};
 ghost use Rattle.atl_instant.specs.Meaning.{HasRoom, HaveRoom};
 ghost use Rattle.atl_instant.specs.Staying.{IsNoWorse};
-ghost use Rattle.atl_instant.specs.Steps.{IsOwnOrder};
-ghost use Rattle.atl_market.specs.Build.{CanBuild, begin, begin_fault, begun, build_keeps, build_meaning, build_moves, build_reserve, build_step, go_on, gone_on, inside_fault, is_building, new_structure, outside_fault, size_added, sort_of, with_new};
+ghost use Rattle.atl_instant.specs.Steps.{IsOwnOrder, takes_all};
+ghost use Rattle.atl_market.specs.Build.{CanBuild, begin, begin_fault, build_keeps, build_meaning, build_moves, build_reserve, build_step, go_on, gone_on, inside_fault, is_building, new_structure, outside_fault, size_added, sort_of, started, with_new};
 ghost use Rattle.atl_market.specs.Stock.{CanUse};
 
 use crate::stock::use_item;
@@ -150,7 +150,7 @@ fn start(
     requires uses { CanUse world.now campaign.old.what unit kind.now.material size }
     requires fresh { map.get campaign.old.what.structures campaign.old.what.next_structure ≡ None }
     requires room { campaign.old.what.next_structure ≤ most_structures }
-    ensures what { OnOk result (campaign.new.what ≡ begun campaign.old.what unit number kind.now region size) }
+    ensures what { OnOk result (campaign.new.what ≡ started campaign.old.what unit number kind.now region size) }
     ensures marks { OnOk result (MarksChanges campaign.old campaign.new) }
 {
     use_item(world, campaign, unit, kind.material, size)?;
@@ -245,7 +245,7 @@ impl PhaseVerbs for BuildPhase {
 impl OrderPhase for BuildPhase {
     ghost step = { λ _. build_step };
 
-    ghost is_taken = { λ s. true };
+    ghost is_taken = { takes_all };
 
     ghost holds = { CanBuild };
 

@@ -6,13 +6,12 @@ ghost use Rattle.atl_instant.specs.Course.{order_at};
 ghost use Rattle.atl_instant.specs.Meaning.{most_moved};
 ghost use Rattle.atl_market.specs.Making.{CanProduce};
 ghost use Rattle.atl_market.specs.Pots.{with_each};
-ghost use Rattle.atl_market.specs.Produce.{asked_by, is_produce, item_in, items_asked, produce_keeps, produce_meaning, produce_moves, produced, producing};
+ghost use Rattle.atl_market.specs.Produce.{asked_by, is_produce, item_in, items_asked, produce_keeps, produce_meaning, produce_moves, produce_pots, produced};
 
 use crate::gathering::{made_by_unit, shares_by_item, wants_by_item};
 use crate::making::{can_make, make, make_fault};
 use crate::pot_phase::{PotPhase, share_out, tell_all};
-use crate::work::is_own;
-use atl_instant::{Arrangement, Month, Phase, PhaseVerbs, Written};
+use atl_instant::{Arrangement, Month, Phase, PhaseVerbs, Written, is_of_faction};
 use atl_orders::{Order, Verb};
 use atl_state::{Campaign, EventFault, Unit};
 use atl_tables::{Numbered, World};
@@ -49,10 +48,10 @@ fn note_item(
 ) -> Result<(), AllocError>
     ensures { OnOk result (asked.new ≡ with_each asked.old (asked_by month.now.readings campaign.now.what order)) }
 {
-    if is_own(campaign, order) {
-        if let Some(item) = item_named(month, order) {
-            asked.insert(order.unit, item)?;
-        }
+    if is_of_faction(campaign, order.unit, order.faction)
+        && let Some(item) = item_named(month, order)
+    {
+        asked.insert(order.unit, item)?;
     }
     Ok(())
 }
@@ -81,7 +80,7 @@ struct MailedProducing<'a> {
 }
 
 impl<'a> PotPhase for MailedProducing<'a> {
-    ghost meaning = { λ p. producing p.asked.now };
+    ghost meaning = { λ p. produce_pots p.asked.now };
 
     ghost needs = { λ _. IsSteady };
 

@@ -1,7 +1,7 @@
 //! Shares of a pot.
 ghost use Rattle.std.specs.Prelude.{◌≡◌, ◌≤◌, ◌<◌, ◌*◌, ℕ, length, sum, min, slice_index, All, IfOk};
 ghost use Rattle.atl_tables.specs.Limits.{most_amount};
-ghost use Rattle.atl_market.specs.Share.{shares, IsNear, SplittingKeepsOthers};
+ghost use Rattle.atl_market.specs.Share.{IsNearPart, SplittingKeepsOthers, shares};
 
 use std::alloc::{AllocError, Global};
 
@@ -50,7 +50,7 @@ pub fn share(alloc: Global, pot: u64, wants: &[u64]) -> Result<Vec<u64>, AllocEr
     ensures definition { IfOk result (λ given. given.items ≡ shares pot wants.now) }
     ensures at_most { IfOk result (λ given. (i : ℕ) → slice_index given.items i ≤ slice_index wants.now i) }
     ensures all_given { IfOk result (λ given. sum given.items ≡ min pot (sum wants.now)) }
-    ensures near { IfOk result (λ given. pot < sum wants.now → (i : ℕ) → IsNear pot (sum wants.now) (slice_index wants.now i) (slice_index given.items i)) }
+    ensures near { IfOk result (λ given. pot < sum wants.now → (i : ℕ) → IsNearPart pot (sum wants.now) (slice_index wants.now i) (slice_index given.items i)) }
 {
     shared(alloc, pot, wants)
 }

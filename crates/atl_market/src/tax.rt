@@ -5,7 +5,7 @@ ghost use Rattle.atl_state.specs.Covers.{MarksChanges};
 ghost use Rattle.atl_state.specs.Good.{IsEarly};
 ghost use Rattle.atl_state.specs.Limits.{holding_limit};
 ghost use Rattle.atl_state.specs.State.{with_money, with_region_money};
-ghost use Rattle.atl_market.specs.Tax.{CanTax, is_tax, money_at, tax_fault, tax_keeps, tax_meaning, tax_moves, tax_wanted, taxed, taxing};
+ghost use Rattle.atl_market.specs.Tax.{CanTax, is_tax, money_at, tax_fault, tax_keeps, tax_meaning, tax_moves, tax_pots, tax_wanted, taxed};
 
 use crate::pot_phase::{PotPhase, share_out, tell_all};
 use crate::pots::{Pots, pot_shares};
@@ -57,7 +57,7 @@ fn hand_over(campaign: &mut Campaign, unit: u32, money: u32, region: u32, left: 
 }
 
 impl PotPhase for TaxPhase {
-    ghost meaning = { λ _. taxing };
+    ghost meaning = { λ _. tax_pots };
 
     ghost needs = { λ _. IsEarly };
 

@@ -4,7 +4,6 @@ ghost use Rattle.std.specs.List.{flat_map};
 ghost use Rattle.std.specs.List.Sorted.{IsPermutation, IsSortedByKey};
 ghost use Rattle.std.specs.Cmp.Lexicographic.{slice_cmp};
 ghost use Rattle.std.specs.Ordering.{nat_cmp};
-ghost use Rattle.std.specs.FinMap as finmap;
 ghost use Rattle.atl_state.specs.Books.{IsGrid};
 ghost use Rattle.atl_state.specs.Covers.{MarksChanges};
 ghost use Rattle.atl_state.specs.Good.{IsSteady};
@@ -12,11 +11,11 @@ ghost use Rattle.atl_state.specs.Limits.{holding_limit};
 ghost use Rattle.atl_instant.specs.Meaning.{HaveRoom, most_moved};
 ghost use Rattle.atl_instant.specs.Terrains.{terrain_of};
 ghost use Rattle.atl_market.specs.PotPhase.{events_by, shared_out};
-ghost use Rattle.atl_market.specs.Work.{CanWork, PaysAllAtOnce, all_work, earned, idle_work, is_own, is_work, long_orders, own_lines, places_at, places_wanted, wage_at, with_wages, work_fault, work_keeps, work_key, work_meaning, work_moves, work_orders, working};
+ghost use Rattle.atl_market.specs.Work.{CanWork, PaysAllAtOnce, all_work, earned, idle_work, is_work, long_orders, own_lines, places_at, places_wanted, wage_at, with_wages, work_fault, work_keeps, work_key, work_meaning, work_moves, work_orders, work_pots};
 
 use crate::pot_phase::{PotPhase, share_out, tell_all};
 use crate::pots::{Pots, pot_shares};
-use atl_instant::{Arrangement, Month, MonthLongVerbs, Phase, Written, terrain_of};
+use atl_instant::{Arrangement, Month, MonthLongVerbs, Phase, Written, is_of_faction, terrain_of};
 use atl_orders::Verb;
 use atl_state::{Campaign, Entry, EventFault, HOLDING_LIMIT, Thing, Unit};
 use atl_tables::{Numbered, World};
@@ -25,16 +24,6 @@ use std::alloc::{AllocError, Global};
 /// Work for wages: by orders, and of the units with men that have no month-long order. See docs/RULES.md, "Work".
 #[derive(Drop, Clone, Copy)]
 pub struct WorkPhase;
-
-/// Whether a unit's own faction wrote an order for it.
-pub(crate) fn is_own(campaign: &Campaign, order: Written) -> bool
-    ensures { result ≡ is_own order (finmap.get campaign.now.what.units order.unit) }
-{
-    match campaign.unit(order.unit) {
-        Some(unit) => unit.faction == order.faction,
-        None => false,
-    }
-}
 
 /// By unit, the line of the order that its own faction wrote.
 fn own_lines(
@@ -46,7 +35,7 @@ fn own_lines(
 {
     let mut lines = Numbered::new(alloc);
     for order in orders {
-        if is_own(campaign, *order) {
+        if is_of_faction(campaign, order.unit, order.faction) {
             lines.insert(order.unit, order.line)?;
         }
     }
@@ -179,7 +168,7 @@ fn pay_wages(campaign: &mut Campaign, number: u32, held: u32, money: u32)
 }
 
 impl PotPhase for WorkPhase {
-    ghost meaning = { λ _. working };
+    ghost meaning = { λ _. work_pots };
 
     ghost needs = { λ _. IsSteady };
 

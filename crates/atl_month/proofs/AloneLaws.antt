@@ -19,9 +19,10 @@ use Rattle.atl_state.proofs.EveryLaws.{each-from_every, every-from_each, get-ins
 use Rattle.atl_state.proofs.RegionLaws.{get-insert_same}
 use Rattle.atl_month.specs.declared.settling.Purse.{Purse}
 use Rattle.atl_month.specs.declared.settling.Settled.{Settled}
-use Rattle.atl_month.specs.Settling.{dealt, is_of, left_of, paid_by, settled_behind, settled_one, short_of, starved_of}
+use Rattle.atl_month.specs.Settling.{is_purse_of, left_of, paid_by, settled_behind, settled_one, short_of, starved_of}
 use Rattle.atl_month.specs.Upkeep.{purse_of, purses_of, settled_alone, settlements, supplied, upkeep, upkeep_at, upkeep_in}
 use Rattle.atl_month.proofs.UpkeepLaws.{upkeep_at_is}
+use Rattle.atl_instant.specs.Dealing.{dealt}
 
 -- ---- one settlement
 
@@ -155,7 +156,7 @@ module _ (m : ℕ) (p : Purse) where
   same_sums a b c d e f g h x y z u = rw (x, y, z, u) refl
 
   abbrev test : Purse → Bool
-  test = is_of p.region p.faction
+  test = is_purse_of p.region p.faction
 
   pub among_peers : (all : List Purse) (before : List Purse) (q : Purse → Bool) → before ≡ filter q all → settled_one m all before p ≡ settled_one m (filter test all) (filter q (filter test all)) p
   among_peers all before q is =

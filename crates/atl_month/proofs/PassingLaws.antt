@@ -29,7 +29,8 @@ use Rattle.atl_state.proofs.RegionLaws.{changed-known, get-insert_same, steady-a
 use Rattle.atl_instant.specs.Meaning.{IsNear, IsSameMonth, Moving, both_move, moves_only}
 use Rattle.atl_instant.proofs.MeaningLaws.{near_twice}
 use Rattle.atl_instant.proofs.BookingLaws.{booked-near}
-use Rattle.atl_month.specs.Sweep.{IsKept, item_to, money_to, moving_items, passed_item, passed_money, taken_of, with_lost}
+use Rattle.atl_instant.specs.LostItems.{moving_items}
+use Rattle.atl_month.specs.Sweep.{IsKept, item_to, money_to, passed_item, passed_money, taken_of, with_lost}
 use Rattle.atl_state.proofs.RemovedLaws.{every-remove}
 
 -- ---- more than is booked

@@ -18,7 +18,7 @@ use Rattle.atl_state.proofs.ListLaws.{other_number, same_number}
 use Rattle.atl_state.proofs.OrderedLaws.{below}
 use Rattle.atl_state.proofs.RegionLaws.{get-insert_same}
 use Rattle.atl_state.proofs.RemovedLaws.{IsListed, listed_passing, passing_listed}
-use Rattle.atl_month.specs.Receivers.{AreReceivers, ReceiverMap, noted, or_else, receiver_in, receiver_under, receivers_under, with_receiver}
+use Rattle.atl_month.specs.Receivers.{AreReceivers, ReceiverMap, or_if_zero, receiver_in, receiver_noted, receiver_under, receivers_under, with_receiver}
 use Rattle.atl_month.specs.Sweep.{IsKept, receiver, receives, swept_at}
 use Rattle.atl_month.proofs.SweepLaws.{first_listed}
 use Rattle.atl_month.proofs.SweepAllLaws.{swept_at_keeps, swept_at_leaves_well, swept_at_were}
@@ -134,7 +134,7 @@ module _ (m : ReceiverMap) (n : ℕ) (u : Unit) (es : List (ℕ × Unit)) (low :
   behind r f = first_or_zero (numbers_among (receives r f) es)
 
   abbrev GoesOn : (region faction : ℕ) → Type 0
-  GoesOn r f = or_else (receiver_in (noted m n u) r f) (behind r f) ≡ or_else (receiver_in m r f) (first_or_zero (numbers_among (receives r f) ((n, u) ∷ es)))
+  GoesOn r f = or_if_zero (receiver_in (receiver_noted m n u) r f) (behind r f) ≡ or_if_zero (receiver_in m r f) (first_or_zero (numbers_among (receives r f) ((n, u) ∷ es)))
 
   first_of_cond : (b : Bool) (x : ℕ) (ns : List ℕ) → first_or_zero (cond b (x ∷ ns) ns) ≡ cond b x (first_or_zero ns)
   first_of_cond true x ns = refl
@@ -147,7 +147,7 @@ module _ (m : ReceiverMap) (n : ℕ) (u : Unit) (es : List (ℕ × Unit)) (low :
   own : GoesOn u.region u.faction
   own =
       by_tests (nat_lt 0 u.holding.men) (receiver_in m u.region u.faction == 0) refl refl
-      ∙ ap (λ b. or_else x (cond b n F)) (sym passes) ∙ ap (or_else x) (sym (opened u.region u.faction))
+      ∙ ap (λ b. or_if_zero x (cond b n F)) (sym passes) ∙ ap (or_if_zero x) (sym (opened u.region u.faction))
     where
       x : ℕ
       x = receiver_in m u.region u.faction
@@ -158,7 +158,7 @@ module _ (m : ReceiverMap) (n : ℕ) (u : Unit) (es : List (ℕ × Unit)) (low :
       passes : receives u.region u.faction u ≡ nat_lt 0 u.holding.men
       passes = ap (λ a. a && ((u.faction == u.faction) && nat_lt 0 u.holding.men)) (same_number u.region) ∙ ap (λ a. a && nat_lt 0 u.holding.men) (same_number u.faction)
 
-      some_else : (a b : ℕ) → 1 ≤ a → or_else a b ≡ a
+      some_else : (a b : ℕ) → 1 ≤ a → or_if_zero a b ≡ a
       some_else a b l = by_test (a == 0) refl
         where
           by_test : (t : Bool) → (a == 0) ≡ t → (if t then b else a) ≡ a
@@ -166,26 +166,26 @@ module _ (m : ReceiverMap) (n : ℕ) (u : Unit) (es : List (ℕ × Unit)) (low :
           by_test false e = refl
 
       by_tests : (k z : Bool) → nat_lt 0 u.holding.men ≡ k → (receiver_in m u.region u.faction == 0) ≡ z
-          → or_else (receiver_in (noted m n u) u.region u.faction) F ≡ or_else x (cond (nat_lt 0 u.holding.men) n F)
+          → or_if_zero (receiver_in (receiver_noted m n u) u.region u.faction) F ≡ or_if_zero x (cond (nat_lt 0 u.holding.men) n F)
       by_tests true true k z =
-          ap (λ a. or_else (receiver_in (if a && (x == 0) then with_receiver m u.region u.faction n else m) u.region u.faction) F) k
-          ∙ ap (λ a. or_else (receiver_in (if a then with_receiver m u.region u.faction n else m) u.region u.faction) F) z
-          ∙ ap (λ a. or_else a F) (noted_here m u.region u.faction n) ∙ some_else n F low
-          ∙ ap (λ a. if a then n else x) (sym z) ∙ ap (λ a. or_else x (cond a n F)) (sym k)
+          ap (λ a. or_if_zero (receiver_in (if a && (x == 0) then with_receiver m u.region u.faction n else m) u.region u.faction) F) k
+          ∙ ap (λ a. or_if_zero (receiver_in (if a then with_receiver m u.region u.faction n else m) u.region u.faction) F) z
+          ∙ ap (λ a. or_if_zero a F) (noted_here m u.region u.faction n) ∙ some_else n F low
+          ∙ ap (λ a. if a then n else x) (sym z) ∙ ap (λ a. or_if_zero x (cond a n F)) (sym k)
       by_tests true false k z =
-          ap (λ a. or_else (receiver_in (if a && (x == 0) then with_receiver m u.region u.faction n else m) u.region u.faction) F) k
-          ∙ ap (λ a. or_else (receiver_in (if a then with_receiver m u.region u.faction n else m) u.region u.faction) F) z
+          ap (λ a. or_if_zero (receiver_in (if a && (x == 0) then with_receiver m u.region u.faction n else m) u.region u.faction) F) k
+          ∙ ap (λ a. or_if_zero (receiver_in (if a then with_receiver m u.region u.faction n else m) u.region u.faction) F) z
           ∙ ap (λ a. if a then F else x) z
-          ∙ ap (λ a. if a then n else x) (sym z) ∙ ap (λ a. or_else x (cond a n F)) (sym k)
+          ∙ ap (λ a. if a then n else x) (sym z) ∙ ap (λ a. or_if_zero x (cond a n F)) (sym k)
       by_tests false z k e =
-          ap (λ a. or_else (receiver_in (if a && (x == 0) then with_receiver m u.region u.faction n else m) u.region u.faction) F) k
-          ∙ ap (λ a. or_else x (cond a n F)) (sym k)
+          ap (λ a. or_if_zero (receiver_in (if a && (x == 0) then with_receiver m u.region u.faction n else m) u.region u.faction) F) k
+          ∙ ap (λ a. or_if_zero x (cond a n F)) (sym k)
 
   -- and for others
   others : (r f : ℕ) → (r ≢ u.region) ⊎ (f ≢ u.faction) → GoesOn r f
   others r f apart =
-      ap (λ a. or_else a (behind r f)) (by_test (nat_lt 0 u.holding.men && (receiver_in m u.region u.faction == 0)))
-      ∙ ap (λ b. or_else (receiver_in m r f) (cond b n (behind r f))) (sym (fails apart)) ∙ ap (or_else (receiver_in m r f)) (sym (opened r f))
+      ap (λ a. or_if_zero a (behind r f)) (by_test (nat_lt 0 u.holding.men && (receiver_in m u.region u.faction == 0)))
+      ∙ ap (λ b. or_if_zero (receiver_in m r f) (cond b n (behind r f))) (sym (fails apart)) ∙ ap (or_if_zero (receiver_in m r f)) (sym (opened r f))
     where
       by_test : (b : Bool) → receiver_in (if b then with_receiver m u.region u.faction n else m) r f ≡ receiver_in m r f
       by_test true = noted_apart m u.region u.faction n r f apart
@@ -210,15 +210,15 @@ module _ (m : ReceiverMap) (n : ℕ) (u : Unit) (es : List (ℕ × Unit)) (low :
         | inr apart ↦ others r f (inl apart)
       ]
 
-pub nothing_noted : (c : State) (m : ReceiverMap) → m ≡ empty → (r f : ℕ) → or_else (receiver_in m r f) (first_or_zero (numbers_among (receives r f) (entries c.units))) ≡ receiver c r f
+pub nothing_noted : (c : State) (m : ReceiverMap) → m ≡ empty → (r f : ℕ) → or_if_zero (receiver_in m r f) (first_or_zero (numbers_among (receives r f) (entries c.units))) ≡ receiver c r f
 nothing_noted c m none r f =
-    ap (λ k. or_else (receiver_under f (get k r)) (first_or_zero (numbers_among (receives r f) (entries c.units)))) none
-    ∙ ap (λ o. or_else (receiver_under f o) (first_or_zero (numbers_among (receives r f) (entries c.units)))) (get-empty nat_cmp r)
+    ap (λ k. or_if_zero (receiver_under f (get k r)) (first_or_zero (numbers_among (receives r f) (entries c.units)))) none
+    ∙ ap (λ o. or_if_zero (receiver_under f o) (first_or_zero (numbers_among (receives r f) (entries c.units)))) (get-empty nat_cmp r)
 
-pub all_noted : (c : State) (m : ReceiverMap) → ((r f : ℕ) → or_else (receiver_in m r f) (first_or_zero (numbers_among (receives r f) [])) ≡ receiver c r f) → AreReceivers c m
+pub all_noted : (c : State) (m : ReceiverMap) → ((r f : ℕ) → or_if_zero (receiver_in m r f) (first_or_zero (numbers_among (receives r f) [])) ≡ receiver c r f) → AreReceivers c m
 all_noted c m h r f = plain (receiver_in m r f) ∙ h r f
   where
-    plain : (x : ℕ) → x ≡ or_else x 0
+    plain : (x : ℕ) → x ≡ or_if_zero x 0
     plain x = by_test (x == 0) refl
       where
         by_test : (b : Bool) → (x == 0) ≡ b → x ≡ (if b then 0 else x)

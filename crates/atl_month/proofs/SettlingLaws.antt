@@ -12,8 +12,8 @@ use Rattle.atl_state.proofs.RegionLaws.{get-insert_same}
 use Rattle.atl_month.specs.declared.accounts.Account.{Account}
 use Rattle.atl_month.specs.declared.settling.Purse.{Purse}
 use Rattle.atl_month.specs.declared.settling.Settled.{Settled}
-use Rattle.atl_month.specs.Accounts.{AccountMap, IsFew, IsOpen, account_at, account_behind, account_in, account_of, account_or, accounts_under, counted, settled_by, with_account}
-use Rattle.atl_month.specs.Settling.{given_among, is_of, left_among, left_of, paid_by, settled_one, short_among, short_of, starved_of}
+use Rattle.atl_month.specs.Accounts.{AccountMap, IsOpen, account_at, account_behind, account_in, account_of, account_or, accounts_under, counted, settled_by, with_account}
+use Rattle.atl_month.specs.Settling.{given_among, is_purse_of, left_among, left_of, paid_by, settled_one, short_among, short_of, starved_of}
 
 -- ---- an account that is put
 
@@ -65,18 +65,18 @@ account_is a b c d e f g h x y z u = rw (x, y, z, u) refl
 
 -- The account of each unit is so behind a unit's, if that unit's is so, and those of others stay so.
 pub each_account : (P : ℕ → ℕ → Account → Type 0) (m : AccountMap) (p : Purse) (a : Account)
-    → P p.region p.faction a → ((s g : ℕ) → is_of s g p ≡ false → P s g (account_at m s g)) → (s g : ℕ) → P s g (account_at (with_account m p.region p.faction a) s g)
-each_account P m p a here others s g = by_test (is_of s g p) refl
+    → P p.region p.faction a → ((s g : ℕ) → is_purse_of s g p ≡ false → P s g (account_at m s g)) → (s g : ℕ) → P s g (account_at (with_account m p.region p.faction a) s g)
+each_account P m p a here others s g = by_test (is_purse_of s g p) refl
   where
     both : (b c : Bool) → (b && c) ≡ true → (b ≡ true) × (c ≡ true)
     both true true h = (refl, refl)
     both true false h = cc
     both false c h = cc
 
-    at : (test : Bool) → is_of s g p ≡ test → account_at (with_account m p.region p.faction a) s g ≡ cond test a (account_at m s g)
+    at : (test : Bool) → is_purse_of s g p ≡ test → account_at (with_account m p.region p.faction a) s g ≡ cond test a (account_at m s g)
     at test is = account_put m p.region p.faction a s g ∙ ap (λ b. cond b a (account_at m s g)) is
 
-    by_test : (test : Bool) → is_of s g p ≡ test → P s g (account_at (with_account m p.region p.faction a) s g)
+    by_test : (test : Bool) → is_purse_of s g p ≡ test → P s g (account_at (with_account m p.region p.faction a) s g)
     by_test true is =
         let (first, second) = both (p.region == s) (p.faction == g) is in
         let region : p.region ≡ s = grind (arith, nat_tests) in
@@ -87,7 +87,7 @@ each_account P m p a here others s g = by_test (is_of s g p) refl
 true_same : (n : ℕ) → (n == n) ≡ true
 true_same n = grind (arith, nat_tests)
 
-own : (p : Purse) → is_of p.region p.faction p ≡ true
+own : (p : Purse) → is_purse_of p.region p.faction p ≡ true
 own p = rw (true_same p.region, true_same p.faction) refl
 
 -- ---- the units are counted
@@ -96,6 +96,11 @@ own p = rw (true_same p.region, true_same p.faction) refl
 pub no_accounts : (m s g : ℕ) → account_at empty s g ≡ account_of m [] [] s g
 no_accounts m s g = ap (account_in g) (get-empty nat_cmp s)
 
+-- an account of so many units at most
+pub record IsFew (n : ℕ) (a : Account) : Type 0 where
+  pub left : a.left ≤ holding_limit * n
+  pub short : a.short ≤ most_per_head * men_limit * n
+
 pub none_few : (s g : ℕ) → IsFew 0 (account_at empty s g)
 none_few s g = rw (ap (account_in g) (get-empty nat_cmp s)) (record { left = omega arith; short = omega arith })
 
@@ -103,11 +108,11 @@ module _ (m : ℕ) (before : List Purse) (p : Purse) where
   abbrev more : List Purse
   more = before ++ p ∷ []
 
-  left_more : (s g : ℕ) → left_among m s g more ≡ left_among m s g before + cond (is_of s g p) (left_of m p) 0
-  left_more s g = among_more (left_of m) (is_of s g) before p
+  left_more : (s g : ℕ) → left_among m s g more ≡ left_among m s g before + cond (is_purse_of s g p) (left_of m p) 0
+  left_more s g = among_more (left_of m) (is_purse_of s g) before p
 
-  short_more : (s g : ℕ) → short_among m s g more ≡ short_among m s g before + cond (is_of s g p) (short_of m p) 0
-  short_more s g = among_more (short_of m) (is_of s g) before p
+  short_more : (s g : ℕ) → short_among m s g more ≡ short_among m s g before + cond (is_purse_of s g p) (short_of m p) 0
+  short_more s g = among_more (short_of m) (is_purse_of s g) before p
 
   left_own : left_among m p.region p.faction more ≡ left_among m p.region p.faction before + left_of m p
   left_own = left_more p.region p.faction ∙ ap (λ b. left_among m p.region p.faction before + cond b (left_of m p) 0) (own p)
@@ -115,13 +120,13 @@ module _ (m : ℕ) (before : List Purse) (p : Purse) where
   short_own : short_among m p.region p.faction more ≡ short_among m p.region p.faction before + short_of m p
   short_own = short_more p.region p.faction ∙ ap (λ b. short_among m p.region p.faction before + cond b (short_of m p) 0) (own p)
 
-  left_other : (s g : ℕ) → is_of s g p ≡ false → left_among m s g more ≡ left_among m s g before
+  left_other : (s g : ℕ) → is_purse_of s g p ≡ false → left_among m s g more ≡ left_among m s g before
   left_other s g is = left_more s g ∙ ap (λ b. left_among m s g before + cond b (left_of m p) 0) is ∙ nothing (left_among m s g before)
     where
       nothing : (n : ℕ) → n + 0 ≡ n
       nothing n = omega arith
 
-  short_other : (s g : ℕ) → is_of s g p ≡ false → short_among m s g more ≡ short_among m s g before
+  short_other : (s g : ℕ) → is_purse_of s g p ≡ false → short_among m s g more ≡ short_among m s g before
   short_other s g is = short_more s g ∙ ap (λ b. short_among m s g before + cond b (short_of m p) 0) is ∙ nothing (short_among m s g before)
     where
       nothing : (n : ℕ) → n + 0 ≡ n

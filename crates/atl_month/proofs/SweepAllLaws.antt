@@ -21,7 +21,7 @@ use Rattle.atl_state.specs.State.{State, numbers_of, with_gone}
 use Rattle.atl_state.proofs.EveryLaws.{none_some}
 use Rattle.atl_instant.specs.Meaning.{LeavesWell, Moving, both_move, moved_times, most_moved}
 use Rattle.atl_instant.proofs.MeaningLaws.{both_leave_well, fold_leaves_well, near_same, well_unchanged, well_within}
-use Rattle.atl_month.specs.Sweep.{IsKept, gone_at, is_empty, loses_by, menless, passed_on, receiver, remaining, sweep, swept_at, swept_in}
+use Rattle.atl_month.specs.Sweep.{IsKept, faction_swept, is_empty, loses_by, menless, passed_on, receiver, remaining, sweep, swept_at, swept_in}
 use Rattle.atl_month.specs.Swept.{IsSwept}
 use Rattle.atl_state.proofs.RemovedLaws.{IsListed, passing_listed}
 use Rattle.atl_state.proofs.GoneLaws.{as_gone, count-gone, get-gone, get-gone_other, known-gone, none-gone, steady-gone, total-gone}
@@ -152,14 +152,14 @@ abbrev pub nothing_moves : Moving
 nothing_moves e t = 0
 
 module _ (c : State) (n : ℕ) where
-  pub gone_at_units : (gone_at c n).units ≡ c.units
+  pub gone_at_units : (faction_swept c n).units ≡ c.units
   gone_at_units = by_test (is_empty (numbers_of n c.units))
     where
       by_test : (b : Bool) → (if b then with_gone c n else c).units ≡ c.units
       by_test true = refl
       by_test false = refl
 
-  pub gone_at_leaves_well : (w : Planet) → IsSteady w c → LeavesWell IsSteady nothing_moves w c (gone_at c n)
+  pub gone_at_leaves_well : (w : Planet) → IsSteady w c → LeavesWell IsSteady nothing_moves w c (faction_swept c n)
   gone_at_leaves_well w steady = by_test (is_empty (numbers_of n c.units)) refl
     where
       by_faction : numbers_of n c.units ≡ [] → (o : Option Faction) → get c.factions n ≡ o → LeavesWell IsSteady nothing_moves w c (with_gone c n)
@@ -178,7 +178,7 @@ module _ (c : State) (n : ℕ) where
   abbrev Remains : State → Type 0
   Remains d = Every (λ m f. numbers_of m c.units ≡ [] → f.gone ≡ false → (m ≢ n) × (get c.factions m ≡ Some f)) d.factions
 
-  pub gone_at_remains : Remains (gone_at c n)
+  pub gone_at_remains : Remains (faction_swept c n)
   gone_at_remains = by_test (is_empty (numbers_of n c.units)) refl
     where
       by_faction : (o : Option Faction) → get c.factions n ≡ o → Remains (with_gone c n)
@@ -211,17 +211,17 @@ not_false : (b : Bool) → (b ≡ false → ⊥) → b ≡ true
 not_false true h = refl
 not_false false h = absurd (h refl)
 
-all_are_gone : (ns : List ℕ) (c : State) → AreToGo ns c → NoneAreGone (fold gone_at c ns)
+all_are_gone : (ns : List ℕ) (c : State) → AreToGo ns c → NoneAreGone (fold faction_swept c ns)
 all_are_gone [] c listed = λ m f there none. not_false f.gone (listed m f there none)
 all_are_gone (n ∷ ns) c listed =
-    all_are_gone ns (gone_at c n) (λ m f there none stays.
+    all_are_gone ns (faction_swept c n) (λ m f there none stays.
     let here : numbers_of m c.units ≡ [] = ap (numbers_of m) (sym (gone_at_units c n)) ∙ none in
     let (apart, was) = gone_at_remains c n m f there here stays in
     behind_it m n ns apart (listed m f was here stays))
 
-units_stay : (ns : List ℕ) (c : State) → (fold gone_at c ns).units ≡ c.units
+units_stay : (ns : List ℕ) (c : State) → (fold faction_swept c ns).units ≡ c.units
 units_stay [] c = refl
-units_stay (n ∷ ns) c = units_stay ns (gone_at c n) ∙ gone_at_units c n
+units_stay (n ∷ ns) c = units_stay ns (faction_swept c n) ∙ gone_at_units c n
 
 -- ---- the phase
 
@@ -258,7 +258,7 @@ module _ (w : Planet) (c : State) (steady : IsSteady w c) where
   factions_well : LeavesWell IsSteady nothing_moves w units_swept (sweep c)
   factions_well =
       well_within (moved_times (length (remaining units_swept)) nothing_moves) nothing_moves w units_swept (sweep c) (moves_none (length (remaining units_swept)))
-      (fold_leaves_well nothing_moves w gone_at (λ d n. gone_at_leaves_well d n w) units_swept (remaining units_swept) units_well.leaves_it)
+      (fold_leaves_well nothing_moves w faction_swept (λ d n. gone_at_leaves_well d n w) units_swept (remaining units_swept) units_well.leaves_it)
 
   both_well : LeavesWell IsSteady (loses_by most_moved) w c (sweep c)
   both_well =

@@ -30,7 +30,8 @@ use Rattle.atl_state.proofs.BookLaws.{entry_small}
 use Rattle.atl_state.proofs.EveryLaws.{each-from_every, not_below, sorted}
 use Rattle.atl_instant.specs.Meaning.{IsNear, LeavesWell, Moving, both_move, moves_only}
 use Rattle.atl_instant.proofs.MeaningLaws.{near_more}
-use Rattle.atl_month.specs.Sweep.{IsKept, loses_by, moving_items, passed_money, passed_on, receiver, receives}
+use Rattle.atl_instant.specs.LostItems.{moving_items}
+use Rattle.atl_month.specs.Sweep.{IsKept, loses_by, passed_money, passed_on, receiver, receives}
 use Rattle.atl_state.proofs.RemovedLaws.{IsListed, get-remove_other, listed_passing, still}
 use Rattle.atl_state.proofs.LeavingLaws.{only_reduced, steady-without, total-without}
 use Rattle.atl_month.proofs.PassingLaws.{Owes, PassesOn, owing_items, part_of, pass_items, pass_money, passes-trans}

@@ -23,7 +23,8 @@ use Rattle.atl_state.proofs.HoldingLaws.{marks-lent, marks-unit_row}
 use Rattle.atl_state.proofs.ListLaws.{same_number}
 use Rattle.atl_instant.specs.Meaning.{HasRoom, HaveRoom, IsNear, Moving, both_move, moves_only}
 use Rattle.atl_instant.proofs.MeaningLaws.{near_room, room_less}
-use Rattle.atl_month.specs.Sweep.{item_to, loses_by, moving_items, passed_item, passed_money, with_lost}
+use Rattle.atl_instant.specs.LostItems.{moving_items}
+use Rattle.atl_month.specs.Sweep.{item_to, loses_by, passed_item, passed_money, with_lost}
 use Rattle.atl_state.proofs.GoneLaws.{marks-gone_faction}
 use Rattle.atl_month.proofs.PassingLaws.{PassesOn, part_of, pass_item, pass_money}
 use Rattle.atl_month.proofs.SweepLaws.{moves_little, moving_all}

@@ -39,7 +39,7 @@ use Rattle.atl_instant.proofs.BookingLaws.{booked-near, within-neg}
 use Rattle.atl_month.specs.declared.settling.Purse.{Purse}
 use Rattle.atl_month.specs.declared.settling.Settled.{Settled}
 use Rattle.atl_month.specs.Settling.{settled_behind}
-use Rattle.atl_month.specs.Upkeep.{days_with, men_starved, money_paid, purse_of, purses_of, settlements, supplied, takes_up_to, upkeep, upkeep_at, upkeep_in, with_men}
+use Rattle.atl_month.specs.Upkeep.{days_with, men_starved, money_paid, purse_of, purses_of, settlements, supplied, takes_up_to, upkeep, upkeep_at, upkeep_in, with_men_left}
 
 -- ---- what a unit may hold behind it
 
@@ -83,7 +83,7 @@ module _ (w : Planet) (h : Held) (left : ℕ) (fewer : left ≤ h.men) (days : E
   abbrev IsWithMen : Held → Type 0
   IsWithMen k = (k.men ≡ left) × Every (IsStudied w left) k.days × (k.name ≡ h.name) × (k.guard ≡ h.guard) × (k.items ≡ h.items)
 
-  less_men : IsWithMen (with_men left h)
+  less_men : IsWithMen (with_men_left left h)
   less_men = by_men (left == h.men) refl
     where
       by_men : (b : Bool) → (left == h.men) ≡ b → IsWithMen (if b then h else record h { men = left; days = days_with left h.men h.days })
@@ -117,7 +117,7 @@ module _ (w : Planet) (c : State) (s : Settled) (u : Unit) (is : get c.units s.u
       let range = steady.days s.unit u is k days there in
       (skills k days there, range.0, range.1)
 
-  with_less : IsWithMen w old left (omega arith) studied (with_men left old)
+  with_less : IsWithMen w old left (omega arith) studied (with_men_left left old)
   with_less = less_men w old left (omega arith) studied
 
   guard_kept : guards (record u { holding = now }) ≡ true → guards u ≡ true

@@ -1,9 +1,7 @@
 -- For proofs alone: what the code keeps while it settles upkeep.
-use Rattle.std.specs.Prelude.{ℕ, ◌+◌, ◌-◌, ◌*◌, ◌≤◌, List, min, Option, Some, None}
+use Rattle.std.specs.Prelude.{ℕ, ◌+◌, ◌-◌, ◌≤◌, List, min, Option, Some, None}
 use Rattle.std.specs.Ordering.{nat_cmp}
 use Rattle.std.specs.FinMap.{FinMap, empty, get, insert}
-use Rattle.atl_tables.specs.Limits.{most_per_head}
-use Rattle.atl_state.specs.Limits.{holding_limit, men_limit}
 use Rattle.atl_month.specs.declared.accounts.Account.{Account}
 use Rattle.atl_month.specs.declared.settling.Purse.{Purse}
 use Rattle.atl_month.specs.declared.settling.Settled.{Settled}
@@ -71,8 +69,3 @@ account_of maintenance all before region faction = record {
   given = min (left_among maintenance region faction before) (given_among maintenance region faction all);
   covered = min (short_among maintenance region faction before) (given_among maintenance region faction all);
 }
-
--- an account of so many units at most
-pub record IsFew (n : ℕ) (a : Account) : Type 0 where
-  pub left : a.left ≤ holding_limit * n
-  pub short : a.short ≤ most_per_head * men_limit * n

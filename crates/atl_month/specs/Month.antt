@@ -101,11 +101,11 @@ producing = record { meaning = produce_meaning; moving = produce_moves most_move
 abbrev pub working : PhaseTerms
 working = record { meaning = work_meaning; moving = work_moves most_moved; keeps = work_keeps }
 
-abbrev pub upkeep : PhaseTerms
-upkeep = record { meaning = upkeep_meaning; moving = takes_up_to most_moved; keeps = upkeep_keeps }
+abbrev pub supplying : PhaseTerms
+supplying = record { meaning = upkeep_meaning; moving = takes_up_to most_moved; keeps = upkeep_keeps }
 
-abbrev pub season : PhaseTerms
-season = record { meaning = season_meaning; moving = grows_by most_moved; keeps = season_keeps }
+abbrev pub growing : PhaseTerms
+growing = record { meaning = season_meaning; moving = grows_by most_moved; keeps = season_keeps }
 
 abbrev pub sweeping : PhaseTerms
 sweeping = record { meaning = sweep_meaning; moving = loses_by most_moved; keeps = sweep_keeps }
@@ -120,7 +120,7 @@ later_orders = guarding ▷ quitting ▷ walking ▷ sailing ▷ building ▷ le
 
 -- a month, from its first phase to its last
 abbrev pub month_phases : PhaseTerms
-month_phases = early_orders ▷ later_orders ▷ upkeep ▷ season ▷ sweeping
+month_phases = early_orders ▷ later_orders ▷ supplying ▷ growing ▷ sweeping
 
 -- the campaign behind the phases of a month, and what came of the orders
 unfoldable pub month_of : Planet → State → FinMap nat_cmp Reading → List ℕ → State × List Event
@@ -136,7 +136,7 @@ MovesLittle phase = (e : Entry) (t : Thing) → phase.moving e t ≤ most_moved
 abbrev pub PhasesMoveLittle : Type 0
 PhasesMoveLittle =
     MovesLittle forming × MovesLittle naming × MovesLittle placing × MovesLittle giving × MovesLittle transferring × MovesLittle taxing × MovesLittle recruiting × MovesLittle guarding × MovesLittle quitting
-    × MovesLittle walking × MovesLittle sailing × MovesLittle building × MovesLittle learning × MovesLittle producing × MovesLittle working × MovesLittle upkeep × MovesLittle season × MovesLittle sweeping
+    × MovesLittle walking × MovesLittle sailing × MovesLittle building × MovesLittle learning × MovesLittle producing × MovesLittle working × MovesLittle supplying × MovesLittle growing × MovesLittle sweeping
 
 -- How many phases of a month may move an amount of the books: RECRUIT the recruiting, QUIT what is lost and who left, BUILD what is used, STUDY the study, PRODUCE what is made and what is used,
 -- WORK the wages, upkeep the upkeep and the starved, the season the births and the income, and the sweep what is lost.

@@ -26,13 +26,13 @@ abbrev pub with_receiver : ReceiverMap → (region faction number : ℕ) → Rec
 with_receiver m region faction number = insert m region (insert (receivers_under (get m region)) faction number)
 
 -- a unit with men is noted, where none was before
-abbrev pub noted : ReceiverMap → ℕ → Unit → ReceiverMap
-noted m n u = if nat_lt 0 u.holding.men && (receiver_in m u.region u.faction == 0) then with_receiver m u.region u.faction n else m
+abbrev pub receiver_noted : ReceiverMap → ℕ → Unit → ReceiverMap
+receiver_noted m n u = if nat_lt 0 u.holding.men && (receiver_in m u.region u.faction == 0) then with_receiver m u.region u.faction n else m
 
 -- the receivers of a campaign
 abbrev pub AreReceivers : State → ReceiverMap → Type 0
 AreReceivers c m = (region faction : ℕ) → receiver_in m region faction ≡ receiver c region faction
 
 -- a number, or another where it is 0
-abbrev pub or_else : ℕ → ℕ → ℕ
-or_else a b = if a == 0 then b else a
+abbrev pub or_if_zero : ℕ → ℕ → ℕ
+or_if_zero a b = if a == 0 then b else a

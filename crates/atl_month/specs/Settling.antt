@@ -4,6 +4,7 @@ use Rattle.std.specs.List.{sum_by}
 use Rattle.atl_state.specs.Limits.{holding_limit, men_limit}
 use Rattle.atl_month.specs.declared.settling.Purse.{Purse}
 use Rattle.atl_month.specs.declared.settling.Settled.{Settled}
+use Rattle.atl_instant.specs.Dealing.{dealt}
 
 -- the men and the money of a unit
 pub record IsPurse (purse : Purse) : Type 0 where
@@ -26,24 +27,20 @@ short_of maintenance purse = maintenance * purse.men - paid_by maintenance purse
 
 -- ---- the units of a faction in a region
 
-abbrev pub is_of : (region faction : ℕ) → Purse → Bool
-is_of region faction purse = (purse.region == region) && (purse.faction == faction)
+abbrev pub is_purse_of : (region faction : ℕ) → Purse → Bool
+is_purse_of region faction purse = (purse.region == region) && (purse.faction == faction)
 
 abbrev pub left_among : ℕ → (region faction : ℕ) → List Purse → ℕ
-left_among maintenance region faction purses = sum_by (left_of maintenance) (filter (is_of region faction) purses)
+left_among maintenance region faction purses = sum_by (left_of maintenance) (filter (is_purse_of region faction) purses)
 
 abbrev pub short_among : ℕ → (region faction : ℕ) → List Purse → ℕ
-short_among maintenance region faction purses = sum_by (short_of maintenance) (filter (is_of region faction) purses)
+short_among maintenance region faction purses = sum_by (short_of maintenance) (filter (is_purse_of region faction) purses)
 
 -- what those with money left give to those who are short
 abbrev pub given_among : ℕ → (region faction : ℕ) → List Purse → ℕ
 given_among maintenance region faction purses = min (left_among maintenance region faction purses) (short_among maintenance region faction purses)
 
 -- ---- a unit among them
-
--- what one gets of an amount, behind others who want so much together
-abbrev pub dealt : (amount before want : ℕ) → ℕ
-dealt amount before want = min (before + want) amount - min before amount
 
 -- how many men starve where so much is still short
 abbrev pub starved_of : (maintenance short : ℕ) → ℕ

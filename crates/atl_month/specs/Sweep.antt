@@ -15,7 +15,7 @@ use Rattle.atl_state.specs.Limits.{holding_limit}
 use Rattle.atl_state.specs.Owners.{first_or_zero, without_unit}
 use Rattle.atl_state.specs.State.{State, numbers_of, with_amount, with_gone, with_money}
 use Rattle.atl_instant.specs.Course.{Course}
-use Rattle.atl_instant.specs.Meaning.{Keeping, Moving, moves_only}
+use Rattle.atl_instant.specs.Meaning.{Keeping, Moving}
 
 -- ---- who gets what a unit leaves
 
@@ -81,8 +81,8 @@ is_empty [] = true
 is_empty (n ∷ ns) = false
 
 -- a faction that has no unit is gone
-abbrev pub gone_at : State → ℕ → State
-gone_at c n = if is_empty (numbers_of n c.units) then with_gone c n else c
+abbrev pub faction_swept : State → ℕ → State
+faction_swept c n = if is_empty (numbers_of n c.units) then with_gone c n else c
 
 -- the factions that are not gone
 abbrev pub remaining : State → List ℕ
@@ -94,7 +94,7 @@ remaining c = numbers_where (λ f. not f.gone) c.factions
 abbrev pub sweep : State → State
 sweep c =
     let swept = fold swept_at c (menless c) in
-    fold gone_at swept (remaining swept)
+    fold faction_swept swept (remaining swept)
 
 -- it brings no event
 abbrev pub sweep_meaning : Planet → State → Course → State × Course
@@ -103,11 +103,6 @@ sweep_meaning w c m = (sweep c, m)
 -- money and items may be lost, so much of each at most
 abbrev pub loses_by : ℕ → Moving
 loses_by most e t = if (entry_place e == entry_place Lost) && not (thing_place t == thing_place People) then most else 0
-
--- for proofs alone: what so much of some items may move
-abbrev pub moving_items : List (ℕ × ℕ) → Moving
-moving_items [] e t = 0
-moving_items (x ∷ xs) e t = moves_only x.1 Lost (Item x.0) e t + moving_items xs e t
 
 -- a unit with all that it had, and perhaps more money and more items
 pub record IsKept (u v : Unit) : Type 0 where

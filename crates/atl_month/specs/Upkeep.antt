@@ -17,7 +17,7 @@ use Rattle.atl_instant.specs.Course.{Course}
 use Rattle.atl_instant.specs.Meaning.{Keeping, Moving, both_move, moves_only}
 use Rattle.atl_month.specs.declared.settling.Purse.{Purse}
 use Rattle.atl_month.specs.declared.settling.Settled.{Settled}
-use Rattle.atl_month.specs.Settling.{is_of, settled_of, settled_one}
+use Rattle.atl_month.specs.Settling.{is_purse_of, settled_of, settled_one}
 
 -- ---- what a unit has to give for it
 
@@ -26,8 +26,8 @@ abbrev pub days_with : (left men : ℕ) → FinMap nat_cmp ℕ → FinMap nat_cm
 days_with left men days = fold (λ kept e. with_amount_of kept e.0 (e.1 * left / men)) empty (entries days)
 
 -- fewer men, with their part of the days
-abbrev pub with_men : ℕ → Held → Held
-with_men left h = if left == h.men then h else record h { men = left; days = days_with left h.men h.days }
+abbrev pub with_men_left : ℕ → Held → Held
+with_men_left left h = if left == h.men then h else record h { men = left; days = days_with left h.men h.days }
 
 abbrev pub money_paid : Settled → Held → ℕ
 money_paid s h = min s.paid h.money
@@ -37,7 +37,7 @@ men_starved s h = min s.starved h.men
 
 -- what a unit holds behind it
 abbrev pub supplied : Settled → Held → Held
-supplied s h = record (with_men (h.men - men_starved s h) h) { money = h.money - money_paid s h }
+supplied s h = record (with_men_left (h.men - men_starved s h) h) { money = h.money - money_paid s h }
 
 -- the campaign behind the upkeep of a unit, which is booked
 abbrev pub upkeep_in : State → Settled → Option Unit → State
@@ -81,7 +81,7 @@ takes_up_to most = both_move (moves_only most Upkeep Money) (moves_only most Sta
 
 -- the units of a unit's faction in its region
 abbrev pub peers_of : State → Unit → List Purse
-peers_of c u = filter (is_of u.region u.faction) (purses_of c)
+peers_of c u = filter (is_purse_of u.region u.faction) (purses_of c)
 
 -- what upkeep takes from a unit, as they alone tell
 abbrev pub settled_alone : Planet → State → ℕ → Unit → Settled

@@ -1,7 +1,7 @@
 //! Who receives what units without men leave.
 ghost use Rattle.std.specs.Prelude.{◌≡◌, ◌≤◌, IfOk, OnOk};
 ghost use Rattle.atl_state.specs.Good.{Every};
-ghost use Rattle.atl_month.specs.Receivers.{AreReceivers, noted, receiver_in, with_receiver};
+ghost use Rattle.atl_month.specs.Receivers.{AreReceivers, receiver_in, receiver_noted, with_receiver};
 
 use atl_state::{Campaign, Unit};
 use atl_tables::Numbered;
@@ -47,7 +47,7 @@ fn note(
     number: u32,
     unit: &Unit,
 ) -> Result<(), AllocError>
-    ensures { OnOk result (receivers.new ≡ noted receivers.old number unit.now) }
+    ensures { OnOk result (receivers.new ≡ receiver_noted receivers.old number unit.now) }
 {
     if 0 < unit.holding.men() && receiver_in(receivers, unit.region, unit.faction) == 0 {
         put_receiver(alloc, receivers, number, unit)?;

@@ -14,7 +14,8 @@ ghost use Rattle.atl_state.specs.declared.books.Entry.TheVariants.{Lost};
 ghost use Rattle.atl_state.specs.declared.books.Thing.TheVariants.{Item, Money};
 ghost use Rattle.atl_state.specs.declared.records.Unit.{Unit};
 ghost use Rattle.atl_instant.specs.Meaning.{HasRoom, HaveRoom, most_moved, moved_times};
-ghost use Rattle.atl_month.specs.Sweep.{gone_at, loses_by, menless, moving_items, passed_item, passed_money, remaining, sweep, sweep_keeps, sweep_meaning, swept_at, taken_of, with_lost};
+ghost use Rattle.atl_instant.specs.LostItems.{moving_items};
+ghost use Rattle.atl_month.specs.Sweep.{faction_swept, loses_by, menless, passed_item, passed_money, remaining, sweep, sweep_keeps, sweep_meaning, swept_at, taken_of, with_lost};
 ghost use Rattle.atl_month.specs.Receivers.{AreReceivers};
 ghost use Rattle.atl_month.specs.Swept.{IsSwept};
 
@@ -206,7 +207,7 @@ fn remaining(alloc: Global, campaign: &Campaign) -> Result<Vec<u32>, AllocError>
 
 /// A faction without units is gone.
 fn sweep_faction(campaign: &mut Campaign, number: u32)
-    ensures what { campaign.new.what ≡ gone_at campaign.old.what number }
+    ensures what { campaign.new.what ≡ faction_swept campaign.old.what number }
     ensures marks { MarksChanges campaign.old campaign.new }
 {
     if campaign.of_faction(number).is_empty() {
@@ -216,7 +217,7 @@ fn sweep_faction(campaign: &mut Campaign, number: u32)
 
 /// Factions without units are gone.
 fn sweep_factions(campaign: &mut Campaign, numbers: &[u32])
-    ensures what { campaign.new.what ≡ fold gone_at campaign.old.what numbers.now }
+    ensures what { campaign.new.what ≡ fold faction_swept campaign.old.what numbers.now }
     ensures marks { MarksChanges campaign.old campaign.new }
 {
     for number in numbers.iter() {

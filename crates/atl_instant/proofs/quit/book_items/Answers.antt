@@ -7,9 +7,10 @@ use Rattle.atl_state.specs.Founding.{things_of}
 use Rattle.atl_state.specs.State.{State}
 use Rattle.atl_state.proofs.CoverLaws.{marks-trans}
 use Rattle.atl_instant.specs.Meaning.{HaveRoom}
-use Rattle.atl_instant.specs.Quit.{item_gone, items_move}
+use Rattle.atl_instant.specs.Quit.{item_gone}
 use Rattle.atl_instant.proofs.QuitLaws.{first_room, gone_grid, gone_marks, rest_room}
 use Rattle.atl_instant.proofs.quit.book_items.Goals as goal
+use Rattle.atl_instant.specs.LostItems.{moving_items}
 
 pub book_gone-requires-clause-room : goal.book_gone-requires-clause-room
 book_gone-requires-clause-room c =
@@ -18,7 +19,7 @@ book_gone-requires-clause-room c =
     let x : ℕ × ℕ = get_or list i (0, 0) in
     let behind : drop i list ≡ x ∷ drop (i + 1) list = drop_more list i _ c.loop-item-test.true in
     let before = c.loop-item.campaign.what in
-    first_room (Item x.0) x.1 (items_move (drop (i + 1) list)) before (subst (λ (l : List (ℕ × ℕ)). HaveRoom (items_move l) before) behind c.loop-item.invariant.room)
+    first_room (Item x.0) x.1 (moving_items (drop (i + 1) list)) before (subst (λ (l : List (ℕ × ℕ)). HaveRoom (moving_items l) before) behind c.loop-item.invariant.room)
 
 pub loop-item-preserved : goal.loop-item-preserved
 loop-item-preserved c =
@@ -37,8 +38,8 @@ loop-item-preserved c =
       grid = rw is (gone_grid (things_of w) before (Item x.0) x.1 old.grid);
       known = known.1;
       room =
-          rw is (rest_room (things_of w) (Item x.0) x.1 (items_move (drop (i + 1) list)) before old.grid (omega (arith, known.0))
-          (subst (λ (l : List (ℕ × ℕ)). HaveRoom (items_move l) before) behind old.room));
+          rw is (rest_room (things_of w) (Item x.0) x.1 (moving_items (drop (i + 1) list)) before old.grid (omega (arith, known.0))
+          (subst (λ (l : List (ℕ × ℕ)). HaveRoom (moving_items l) before) behind old.room));
       marks = marks-trans c.args.campaign.now c.loop-item.campaign c.book_gone.new.campaign old.marks
           (gone_marks (things_of w) c.loop-item.campaign c.book_gone.new.campaign (Item x.0) x.1 old.grid (omega (arith, known.0)) c.book_gone.ensures.what c.book_gone.ensures.marks);
     }

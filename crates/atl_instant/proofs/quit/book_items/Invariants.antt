@@ -5,14 +5,15 @@ use Rattle.atl_state.specs.Covers.{MarksChanges}
 use Rattle.atl_state.specs.Deciding.{EachOf}
 use Rattle.atl_state.specs.Founding.{things_of}
 use Rattle.atl_instant.specs.Meaning.{HaveRoom}
-use Rattle.atl_instant.specs.Quit.{item_gone, items_move}
+use Rattle.atl_instant.specs.Quit.{item_gone}
 use Rattle.atl_instant.proofs.quit.book_items.Given as goal
+use Rattle.atl_instant.specs.LostItems.{moving_items}
 
 abbrev pub invariant-loop-item : goal.invariant-loop-item
 invariant-loop-item l = record {
   rest : fold item_gone l.campaign.what (drop l.item-index l.items) ≡ fold item_gone l.initial.campaign.what l.items;
   grid : IsGrid (things_of l.world) l.campaign.what.books;
   known : EachOf (λ i amount. i < length l.world.items) (drop l.item-index l.items);
-  room : HaveRoom (items_move (drop l.item-index l.items)) l.campaign.what;
+  room : HaveRoom (moving_items (drop l.item-index l.items)) l.campaign.what;
   marks : MarksChanges l.initial.campaign l.campaign;
 }

@@ -4,29 +4,30 @@ use Rattle.atl_state.specs.declared.books.Thing.TheVariants.{Money, People}
 use Rattle.atl_state.specs.Founding.{things_of}
 use Rattle.atl_state.proofs.CoverLaws.{marks-trans}
 use Rattle.atl_instant.specs.Meaning.{both_move, moves_only}
-use Rattle.atl_instant.specs.Quit.{items_move, with_gone_amount}
+use Rattle.atl_instant.specs.Quit.{with_gone_amount}
 use Rattle.atl_instant.proofs.QuitLaws.{first_room, gone_grid, gone_marks, rest_room}
 use Rattle.atl_instant.proofs.quit.book_off.Goals as goal
+use Rattle.atl_instant.specs.LostItems.{moving_items}
 
 pub book_gone-requires-clause-room : goal.book_gone-requires-clause-room
 book_gone-requires-clause-room c =
-    first_room People c.args.men (both_move (moves_only c.args.money Lost Money) (items_move c.args.items.now)) c.args.campaign.now.what c.requires.room
+    first_room People c.args.men (both_move (moves_only c.args.money Lost Money) (moving_items c.args.items.now)) c.args.campaign.now.what c.requires.room
 
 pub book_gone-requires-2-clause-room : goal.book_gone-requires-2-clause-room
 book_gone-requires-2-clause-room c =
     let w = c.args.world.now in
     let before = c.args.campaign.now.what in
-    let rest = both_move (moves_only c.args.money Lost Money) (items_move c.args.items.now) in
-    rw c.book_gone.ensures.what (first_room Money c.args.money (items_move c.args.items.now) (with_gone_amount before People c.args.men) (rest_room (things_of w) People c.args.men rest before c.requires.grid (omega arith) c.requires.room))
+    let rest = both_move (moves_only c.args.money Lost Money) (moving_items c.args.items.now) in
+    rw c.book_gone.ensures.what (first_room Money c.args.money (moving_items c.args.items.now) (with_gone_amount before People c.args.men) (rest_room (things_of w) People c.args.men rest before c.requires.grid (omega arith) c.requires.room))
 
 pub book_items-requires-clause-room : goal.book_items-requires-clause-room
 book_items-requires-clause-room c =
     let w = c.args.world.now in
     let before = c.args.campaign.now.what in
-    let rest = both_move (moves_only c.args.money Lost Money) (items_move c.args.items.now) in
+    let rest = both_move (moves_only c.args.money Lost Money) (moving_items c.args.items.now) in
     let between = with_gone_amount before People c.args.men in
     rw (c.book_gone-2.ensures.what, c.book_gone.ensures.what)
-    (rest_room (things_of w) Money c.args.money (items_move c.args.items.now) between (gone_grid (things_of w) before People c.args.men c.requires.grid) (omega arith)
+    (rest_room (things_of w) Money c.args.money (moving_items c.args.items.now) between (gone_grid (things_of w) before People c.args.men c.requires.grid) (omega arith)
     (rest_room (things_of w) People c.args.men rest before c.requires.grid (omega arith) c.requires.room))
 
 pub returns-clause-marks : goal.returns-clause-marks

@@ -2,7 +2,7 @@ use Rattle.std.proofs.Common.{◌≡◌, ◌≤◌, ℕ}
 use Rattle.atl_tables.specs.Sums.{numbers_among}
 use Rattle.atl_state.specs.Deciding.{EachOf}
 use Rattle.atl_state.specs.Owners.{first_or_zero}
-use Rattle.atl_month.specs.Receivers.{or_else, receiver_in}
+use Rattle.atl_month.specs.Receivers.{or_if_zero, receiver_in}
 use Rattle.atl_month.specs.Sweep.{receiver, receives}
 use Rattle.atl_month.proofs.receivers.receivers_of.Given as goal
 
@@ -10,5 +10,5 @@ abbrev pub invariant-loop-number : goal.invariant-loop-number
 invariant-loop-number l =
     (goal.iterator-loop-number).can_next l.number-iterator ×
     (goal.iterator-loop-number).is_finite l.number-iterator ×
-    ((region faction : ℕ) → or_else (receiver_in l.receivers region faction) (first_or_zero (numbers_among (receives region faction) l.number-iterator)) ≡ receiver l.campaign.what region faction) ×
+    ((region faction : ℕ) → or_if_zero (receiver_in l.receivers region faction) (first_or_zero (numbers_among (receives region faction) l.number-iterator)) ≡ receiver l.campaign.what region faction) ×
     EachOf (λ n u. 1 ≤ n) l.number-iterator

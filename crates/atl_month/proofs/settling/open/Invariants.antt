@@ -1,6 +1,7 @@
 use Rattle.std.proofs.Common.{◌≡◌, ℕ, [], take}
-use Rattle.atl_month.specs.Accounts.{IsFew, account_at, account_of}
+use Rattle.atl_month.specs.Accounts.{account_at, account_of}
 use Rattle.atl_month.proofs.settling.open.Given as goal
+use Rattle.atl_month.proofs.SettlingLaws.{IsFew}
 
 abbrev pub invariant-loop-purse : goal.invariant-loop-purse
 invariant-loop-purse l = record {

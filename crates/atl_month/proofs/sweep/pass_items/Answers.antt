@@ -5,7 +5,8 @@ use Rattle.atl_state.specs.Deciding.{EachOf}
 use Rattle.atl_state.specs.State.{State}
 use Rattle.atl_state.proofs.CoverLaws.{marks-trans}
 use Rattle.atl_instant.specs.Meaning.{HaveRoom}
-use Rattle.atl_month.specs.Sweep.{moving_items, passed_item}
+use Rattle.atl_instant.specs.LostItems.{moving_items}
+use Rattle.atl_month.specs.Sweep.{passed_item}
 use Rattle.atl_month.proofs.SweepRunLaws.{first_room, item_passes, rest_room}
 use Rattle.atl_month.proofs.sweep.pass_items.Goals as goal
 

@@ -4,7 +4,8 @@ use Rattle.atl_state.specs.Covers.{MarksChanges}
 use Rattle.atl_state.specs.Deciding.{EachOf}
 use Rattle.atl_state.specs.Good.{IsSteady}
 use Rattle.atl_instant.specs.Meaning.{HaveRoom}
-use Rattle.atl_month.specs.Sweep.{moving_items, passed_item}
+use Rattle.atl_instant.specs.LostItems.{moving_items}
+use Rattle.atl_month.specs.Sweep.{passed_item}
 use Rattle.atl_month.proofs.sweep.pass_items.Given as goal
 
 abbrev pub invariant-loop-item : goal.invariant-loop-item

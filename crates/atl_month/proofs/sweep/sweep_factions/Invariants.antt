@@ -1,11 +1,11 @@
 use Rattle.std.proofs.Common.{◌≡◌, drop}
 use Rattle.std.specs.Prelude.{fold}
 use Rattle.atl_state.specs.Covers.{MarksChanges}
-use Rattle.atl_month.specs.Sweep.{gone_at}
+use Rattle.atl_month.specs.Sweep.{faction_swept}
 use Rattle.atl_month.proofs.sweep.sweep_factions.Given as goal
 
 abbrev pub invariant-loop-number : goal.invariant-loop-number
 invariant-loop-number l = record {
-  rest : fold gone_at l.campaign.what (drop l.number-index l.numbers) ≡ fold gone_at l.initial.campaign.what l.numbers;
+  rest : fold faction_swept l.campaign.what (drop l.number-index l.numbers) ≡ fold faction_swept l.initial.campaign.what l.numbers;
   marks : MarksChanges l.initial.campaign l.campaign;
 }

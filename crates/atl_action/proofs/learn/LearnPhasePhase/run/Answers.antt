@@ -6,8 +6,8 @@ use Rattle.atl_instant.specs.Course.{Aliases}
 use Rattle.atl_instant.specs.PhaseOrders.{orders_of}
 use Rattle.atl_instant.specs.Steps.{AreSpared, IsOwnOrder}
 use Rattle.atl_instant.specs.declared.written.Arrangement.TheVariants.{ByUnit}
+use Rattle.atl_instant.specs.Staying.{IsUnchanged}
 use Rattle.atl_action.specs.Learners.{is_studying}
-use Rattle.atl_action.specs.Study.{IsUnchanged}
 use Rattle.atl_action.proofs.learn.LearnPhasePhase.run.Goals as goal
 
 pub carry_out_orders-requires-clause-read : goal.carry_out_orders-requires-clause-read
