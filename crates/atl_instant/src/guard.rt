@@ -35,12 +35,10 @@ fn guards_against(campaign: &Campaign, faction: u32, number: u32) -> bool
 fn is_guarded_against(campaign: &Campaign, region: u32, faction: u32) -> bool
     ensures { result ≡ is_guarded_against campaign.now.what region faction }
 {
-    for number in campaign.in_region(region) {
-        if guards_against(campaign, faction, *number) {
-            return true;
-        }
-    }
-    false
+    campaign
+        .in_region(region)
+        .iter()
+        .any(|number| guards_against(campaign, faction, *number))
 }
 
 /// Why a unit can't guard.
