@@ -1,20 +1,20 @@
 -- How a lesson is given, and what all orders of TEACH leave of a month.
-use Rattle.std.proofs.Common.{◌≡◌, ℕ, ◌+◌, ◌-◌, min, List, [], ◌∷◌, Option, Some, None, map, refl, ap, ◌∙◌, arith}
+use Rattle.std.proofs.Common.{◌≡◌, ℕ, ◌+◌, ◌-◌, min, List, [], ◌∷◌, map, refl, ap, ◌∙◌, arith}
 use Rattle.std.specs.Prelude.{fold}
 use Rattle.std.specs.Ordering.{nat_cmp}
 use Rattle.std.specs.FinMap.{FinMap, empty, values}
 use Rattle.atl_orders.specs.Mailing.{Reading}
-use Rattle.atl_orders.specs.Orders.{Said}
 use Rattle.atl_state.specs.Held.{amount_of}
 use Rattle.atl_state.specs.State.{State}
-use Rattle.atl_instant.specs.Course.{Course, order_at}
+use Rattle.atl_instant.specs.Course.{Course}
 use Rattle.atl_instant.specs.PhaseOrders.{orders_of, written}
 use Rattle.atl_instant.specs.declared.written.Arrangement.TheVariants.{ByUnit}
 use Rattle.atl_instant.specs.declared.written.Written.{Written}
 use Rattle.atl_instant.specs.Dealing.{dealt}
-use Rattle.atl_action.specs.Learners.{Learning, found_said, found_written}
+use Rattle.atl_instant.specs.Carrying.{found_written}
+use Rattle.atl_instant.proofs.FoundLaws.{found_all, found_stays}
+use Rattle.atl_action.specs.Learners.{Learning}
 use Rattle.atl_action.specs.Teach.{Taught, is_teaching, lesson_behind, taught_out, teach_order, untaught}
-use Rattle.atl_action.proofs.FoundLaws.{found_all}
 
 -- ---- places that are counted down
 
@@ -47,19 +47,11 @@ down c taught places ns = down_from c taught places 0 places ns (all places)
 module _ (c : State) (learning : Learning) where
   -- an order leaves what was read, and the units that were formed
   pub same_readings : (readings : FinMap nat_cmp Reading) (p : Taught × Course) (o : Written) → (found_written (teach_order c learning) readings p o).1.readings ≡ p.1.readings
-  same_readings readings p o = by_order (order_at readings o.faction o.place)
-    where
-      by_order : (s : Option Said) → (found_said (teach_order c learning) p o s).1.readings ≡ p.1.readings
-      by_order None = refl
-      by_order (Some s) = refl
+  same_readings = found_stays (teach_order c learning) (λ (p : Taught × Course). p.1.readings) (λ p t. refl)
 
   pub same_aliases : (readings : FinMap nat_cmp Reading) (p : Taught × Course) (o : Written) → (found_written (teach_order c learning) readings p o).1.aliases ≡ p.1.aliases
-  same_aliases readings p o = by_order (order_at readings o.faction o.place)
-    where
-      by_order : (s : Option Said) → (found_said (teach_order c learning) p o s).1.aliases ≡ p.1.aliases
-      by_order None = refl
-      by_order (Some s) = refl
+  same_aliases = found_stays (teach_order c learning) (λ (p : Taught × Course). p.1.aliases) (λ p t. refl)
 
   pub taught_found : (m : Course) → fold (found_written (teach_order c learning) m.readings) (empty, m) (map written (values (orders_of is_teaching ByUnit m.aliases m.readings))) ≡ taught_out c learning m
   unfolding taught_out
-  taught_found m = found_all (teach_order c learning) m.aliases m.readings is_teaching (empty, m)
+  taught_found m = found_all (teach_order c learning) m.aliases m.readings is_teaching ByUnit (empty, m)

@@ -8,16 +8,13 @@ use Rattle.atl_tables.specs.Planet.{Planet}
 use Rattle.atl_orders.specs.declared.order.Order.TheVariants as orders
 use Rattle.atl_orders.specs.declared.verb.Verb.{Verb}
 use Rattle.atl_orders.specs.declared.verb.Verb.TheVariants as verbs
-use Rattle.atl_orders.specs.Mailing.{Reading}
 use Rattle.atl_orders.specs.Orders.{Said}
 use Rattle.atl_state.specs.declared.records.Unit.{Unit}
 use Rattle.atl_state.specs.Held.{Held}
 use Rattle.atl_state.specs.State.{State}
-use Rattle.atl_instant.specs.Carrying.{task_of}
-use Rattle.atl_instant.specs.Course.{Course, order_at}
+use Rattle.atl_instant.specs.Course.{Course}
 use Rattle.atl_instant.specs.PhaseOrders.{Task, orders_of}
 use Rattle.atl_instant.specs.declared.written.Arrangement.TheVariants.{ByUnit}
-use Rattle.atl_instant.specs.declared.written.Written.{Written}
 
 abbrev pub is_studying : Verb → Bool
 is_studying verbs.Study = true
@@ -56,12 +53,3 @@ with_learner w c learning t = with_skill w c learning t (skill_of t.said)
 -- At most one order of STUDY stands for a unit in the mailing of its own faction.
 unfoldable pub learners : Planet → State → Course → Learning
 learners w c m = fold (with_learner w c) empty (values (orders_of is_studying ByUnit m.aliases m.readings))
-
--- ---- for proofs alone: how the code finds what an order says
-
-abbrev pub found_said : {A : Type 0} → (A → Task → A) → A → Written → Option Said → A
-found_said f a o None = a
-found_said f a o (Some s) = f a (task_of o s)
-
-abbrev pub found_written : {A : Type 0} → (A → Task → A) → FinMap nat_cmp Reading → A → Written → A
-found_written f readings a o = found_said f a o (order_at readings o.faction o.place)

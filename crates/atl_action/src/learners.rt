@@ -2,8 +2,8 @@
 ghost use Rattle.std.specs.Prelude.{◌≡◌, ◌*◌, IfOk, List, OnOk, ℕ};
 ghost use Rattle.std.specs.FinMap as map;
 ghost use Rattle.atl_orders.specs.Orders.{Said, said};
-ghost use Rattle.atl_instant.specs.Carrying.{task_of};
-ghost use Rattle.atl_action.specs.Learners.{can_learn, fee_of, found_written, is_studying, learners, learns, skill_of, with_learner, with_skill};
+ghost use Rattle.atl_instant.specs.Carrying.{found_written, task_of};
+ghost use Rattle.atl_action.specs.Learners.{can_learn, fee_of, is_studying, learners, learns, skill_of, with_learner, with_skill};
 
 use atl_instant::{Arrangement, Month, PhaseVerbs, Written};
 use atl_orders::{Order, Verb};

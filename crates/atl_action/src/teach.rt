@@ -4,8 +4,8 @@ ghost use Rattle.std.specs.FinMap as map;
 ghost use Rattle.atl_orders.specs.Orders.{said};
 ghost use Rattle.atl_state.specs.Held.{amount_of};
 ghost use Rattle.atl_state.specs.Limits.{men_limit};
-ghost use Rattle.atl_action.specs.Learners.{found_written};
 ghost use Rattle.atl_action.specs.Teach.{NobodyIsTaughtTwice, below_of, first_mentions, is_below, is_pupil, is_teaching, lesson, lesson_behind, level_at, listed, pupils_of, taught_out, teach, teach_fault, teach_order, teach_pupils, untaught, with_taught};
+ghost use Rattle.atl_instant.specs.Carrying.{found_written};
 
 use crate::limits::PLACES_EACH;
 use atl_instant::{Arrangement, Month, PhaseVerbs, Written, failed, region_of};

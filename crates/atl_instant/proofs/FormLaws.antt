@@ -1,13 +1,11 @@
 -- FORM leaves a campaign well, and each unit as it is.
-use Rattle.std.proofs.Common.{◌≡◌, ℕ, ◌≤◌, Bool, true, false, not, List, [], ◌∷◌, Option, Some, None, map, refl, sym, ap, subst, ◌∙◌, arith}
-use Rattle.std.specs.Prelude.{fold, option_map}
-use Rattle.std.specs.List.{AllByRecursion}
+use Rattle.std.proofs.Common.{◌≡◌, ℕ, ◌≤◌, Bool, true, false, not, [], ◌∷◌, Option, Some, None, map, refl, sym, ap, subst, ◌∙◌, arith}
+use Rattle.std.specs.Prelude.{fold}
 use Rattle.std.specs.Option.{option_map_or}
 use Rattle.std.specs.Ordering.{nat_cmp}
 use Rattle.std.specs.FinMap.{FinMap, get, values}
-use Rattle.std.proofs.lemmas.List.Elements.{recursion_from_All}
 use Rattle.atl_tables.specs.Planet.{Planet}
-use Rattle.atl_orders.specs.Mailing.{EntrySaid, Reading}
+use Rattle.atl_orders.specs.Mailing.{Reading}
 use Rattle.atl_orders.specs.Orders.{Said}
 use Rattle.atl_state.specs.declared.event.EventFault.TheVariants.{NotYours, UnitLimit}
 use Rattle.atl_state.specs.declared.event.Outcome.TheVariants.{Done}
@@ -15,11 +13,11 @@ use Rattle.atl_state.specs.declared.records.Unit.{Unit}
 use Rattle.atl_state.specs.Good.{Every, IsEarly}
 use Rattle.atl_state.specs.Limits.{last_unit}
 use Rattle.atl_state.specs.State.{State, with_unit_begun}
-use Rattle.atl_instant.specs.Course.{Aliases, Course, order_at, order_in}
-use Rattle.atl_instant.specs.Form.{form_by, form_fault, form_meaning, form_order, formed, formed_said, formed_written, is_forming, is_unit_limit, new_unit}
+use Rattle.atl_instant.specs.Course.{Course, order_at}
+use Rattle.atl_instant.specs.Form.{form_by, form_fault, form_meaning, form_order, formed, is_forming, is_unit_limit, new_unit}
 use Rattle.atl_instant.specs.Inside.{inside, region_of}
 use Rattle.atl_instant.specs.Outcomes.{first_fault, unless}
-use Rattle.atl_instant.specs.PhaseOrders.{IsInMailing, Task, orders_of, written}
+use Rattle.atl_instant.specs.PhaseOrders.{orders_of, written}
 use Rattle.atl_instant.specs.Steps.{StepsWell, is_of_faction}
 use Rattle.atl_instant.specs.Unbooked.{books_nothing}
 use Rattle.atl_instant.specs.declared.written.Arrangement.TheVariants.{ByFaction}
@@ -27,7 +25,8 @@ use Rattle.atl_instant.specs.declared.written.Written.{Written}
 use Rattle.atl_instant.proofs.FormingLaws.{begun_stays, begun_well, room}
 use Rattle.atl_instant.proofs.StepLaws.{well_same}
 use Rattle.atl_instant.proofs.StructureLaws.{is_equal}
-use Rattle.atl_instant.proofs.WrittenLaws.{orders_are_in_mailings}
+use Rattle.atl_instant.specs.Carrying.{found_said, found_written}
+use Rattle.atl_instant.proofs.FoundLaws.{found_all, found_stays}
 
 some_none : {X P : Type 0} (x : X) → Some x ≡ None → P
 some_none x e = cc
@@ -75,39 +74,22 @@ module _ (w : Planet) (c : State) (early : IsEarly w c) where
     form_fine : Fine (form_by c f n).0
     form_fine = by_unit (get c.units n) refl
 
-  said_fine : (m : Course) (o : Written) (s : Option Said) → Fine 0 0 (formed_said (c, m) o s).0
+  said_fine : (m : Course) (o : Written) (s : Option Said) → Fine 0 0 (found_said form_order (c, m) o s).0
   said_fine m o None = same_fine 0 0
   said_fine m o (Some s) = form_fine o.faction o.unit
 
   -- an order of the code leaves a campaign well, and each unit as it is
-  pub written_well : (m : Course) (o : Written) → StepsWell IsEarly books_nothing w c (formed_written (c, m) o).0
+  pub written_well : (m : Course) (o : Written) → StepsWell IsEarly books_nothing w c (found_written form_order m.readings (c, m) o).0
   written_well m o = (said_fine m o (order_at m.readings o.faction o.place)).0
 
-  pub written_stays : (m : Course) (o : Written) → Every (λ k v. get (formed_written (c, m) o).0.units k ≡ Some v) c.units
+  pub written_stays : (m : Course) (o : Written) → Every (λ k v. get (found_written form_order m.readings (c, m) o).0.units k ≡ Some v) c.units
   written_stays m o = (said_fine m o (order_at m.readings o.faction o.place)).1
 
 -- ---- what the code finds is what is written
 
-pub written_readings : (p : State × Course) (o : Written) → (formed_written p o).1.readings ≡ p.1.readings
-written_readings p o = by_order (order_at p.1.readings o.faction o.place)
-  where
-    by_order : (s : Option Said) → (formed_said p o s).1.readings ≡ p.1.readings
-    by_order None = refl
-    by_order (Some s) = refl
+pub written_readings : (readings : FinMap nat_cmp Reading) (p : State × Course) (o : Written) → (found_written form_order readings p o).1.readings ≡ p.1.readings
+written_readings = found_stays form_order (λ (p : State × Course). p.1.readings) (λ p t. refl)
 
-found : (aliases : Aliases) (readings : FinMap nat_cmp Reading) (p : State × Course) (t : Task) → p.1.readings ≡ readings → IsInMailing aliases readings t → formed_written p (written t) ≡ form_order p t
-found aliases readings p t same h =
-    let at : order_at p.1.readings t.faction t.place ≡ Some t.said =
-    ap (λ m. order_at m t.faction t.place) same ∙ ap (order_in t.place) h.of_faction ∙ ap (option_map (λ (e : EntrySaid). e.said)) h.at_place ∙ ap (λ s. Some s) h.says in
-    ap (formed_said p (written t)) at
-
-found_each : (aliases : Aliases) (readings : FinMap nat_cmp Reading) (p : State × Course) (ts : List Task) → p.1.readings ≡ readings → AllByRecursion (IsInMailing aliases readings) ts → fold formed_written p (map written ts) ≡ fold form_order p ts
-found_each aliases readings p [] same all = refl
-found_each aliases readings p (t ∷ ts) same all =
-    ap (λ q. fold formed_written q (map written ts)) (found aliases readings p t same all.0) ∙ found_each aliases readings (form_order p t) ts same all.1
-
-pub written_out : (w : Planet) (c : State) (m : Course) → fold formed_written (c, m) (map written (values (orders_of is_forming ByFaction m.aliases m.readings))) ≡ form_meaning w c m
+pub written_out : (w : Planet) (c : State) (m : Course) → fold (found_written form_order m.readings) (c, m) (map written (values (orders_of is_forming ByFaction m.aliases m.readings))) ≡ form_meaning w c m
 unfolding form_meaning
-written_out w c m =
-    let ts = values (orders_of is_forming ByFaction m.aliases m.readings) in
-    found_each m.aliases m.readings (c, m) ts refl (recursion_from_All (IsInMailing m.aliases m.readings) ts (orders_are_in_mailings is_forming ByFaction m.aliases m.readings))
+written_out w c m = found_all form_order m.aliases m.readings is_forming ByFaction (c, m)

@@ -4,6 +4,7 @@ pub mod StandingLaws
 pub mod MappedLaws
 pub mod OrderLaws
 pub mod WrittenLaws
+pub mod FoundLaws
 pub mod MeaningLaws
 pub mod BookingLaws
 pub mod StayingLaws

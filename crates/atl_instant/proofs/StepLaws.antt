@@ -1,5 +1,5 @@
 -- What a phase leaves that carries its orders out one by one.
-use Rattle.std.proofs.Common.{suc, zero, ◌≡◌, ℕ, ◌≤◌, Bool, true, false, List, [], ◌∷◌, Option, Some, None, map, refl, sym, ap, subst, ◌∙◌, arith}
+use Rattle.std.proofs.Common.{suc, zero, ◌≡◌, ℕ, ◌≤◌, Bool, true, false, List, [], ◌∷◌, Option, Some, None, map, refl, sym, subst, ◌∙◌, arith}
 use Rattle.std.specs.Prelude.{ℤ, fold, OnOk, Result, Ok, Err, option_map, if◌then◌else◌}
 use Rattle.std.specs.List.{All, AllByRecursion, slice_get}
 use Rattle.std.proofs.lemmas.List.Elements.{recursion_from_All}
@@ -21,7 +21,7 @@ use Rattle.atl_instant.specs.Course.{Aliases, Course, order_at, order_in}
 use Rattle.atl_instant.specs.Fit.{AreFit}
 use Rattle.atl_instant.specs.Meaning.{Condition, HasRoom, HaveRoom, IsNear, LeavesWell, Moving}
 use Rattle.atl_instant.specs.PhaseOrders.{IsInMailing, Task, orders_of, written}
-use Rattle.atl_instant.specs.Carrying.{carried_said, carried_written, task_of}
+use Rattle.atl_instant.specs.Carrying.{found_written}
 use Rattle.atl_instant.specs.declared.written.Written.{Written}
 use Rattle.atl_instant.specs.Staying.{IsNoWorse}
 use Rattle.atl_instant.specs.Steps.{AreSpared, Concern, IsDrawn, IsOrderly, IsSpared, IsSparing, Reserve, Sparing, Step, StepsWell, and_told, carried, carried_out, is_own, one_order}
@@ -29,6 +29,7 @@ use Rattle.atl_instant.specs.declared.written.Arrangement.TheVariants.{ByUnit}
 use Rattle.atl_instant.proofs.MeaningLaws.{less_room, same_month}
 use Rattle.atl_instant.proofs.StayingLaws.{no_worse, no_worse_twice}
 use Rattle.atl_instant.proofs.WrittenLaws.{orders_are_in_mailings}
+use Rattle.atl_instant.proofs.FoundLaws.{found_all, found_stays}
 
 Some_same : {X : Type 0} {x y : X} → Some x ≡ Some y → x ≡ y
 Some_same e = cc
@@ -179,30 +180,12 @@ module _ (step : Step) (is_taken : Said → Bool) (w : Planet) where
       by_test true = refl
       by_test false = refl
 
-  pub written_readings : (p : State × Course) (o : Written) → (carried_written step is_taken w p o).1.readings ≡ p.1.readings
-  written_readings p o = by_order (order_at p.1.readings o.faction o.place)
-    where
-      by_order : (s : Option Said) → (carried_said step is_taken w p o s).1.readings ≡ p.1.readings
-      by_order None = refl
-      by_order (Some s) = order_readings p (task_of o s)
+  pub written_readings : (readings : FinMap nat_cmp Reading) (p : State × Course) (o : Written) → (found_written (one_order step is_taken w) readings p o).1.readings ≡ p.1.readings
+  written_readings = found_stays (one_order step is_taken w) (λ (p : State × Course). p.1.readings) order_readings
 
-  found : (aliases : Aliases) (readings : FinMap nat_cmp Reading) (p : State × Course) (t : Task) → p.1.readings ≡ readings → IsInMailing aliases readings t → carried_written step is_taken w p (written t) ≡ one_order step is_taken w p t
-  found aliases readings p t same h =
-      let at : order_at p.1.readings t.faction t.place ≡ Some t.said =
-      ap (λ m. order_at m t.faction t.place) same ∙ ap (order_in t.place) h.of_faction ∙ ap (option_map (λ (e : EntrySaid). e.said)) h.at_place ∙ ap (λ s. Some s) h.says in
-      ap (carried_said step is_taken w p (written t)) at
-
-  found_each : (aliases : Aliases) (readings : FinMap nat_cmp Reading) (p : State × Course) (ts : List Task) → p.1.readings ≡ readings → AllByRecursion (IsInMailing aliases readings) ts → fold (carried_written step is_taken w) p (map written ts) ≡ fold (one_order step is_taken w) p ts
-  found_each aliases readings p [] same all = refl
-  found_each aliases readings p (t ∷ ts) same all =
-      ap (λ q. fold (carried_written step is_taken w) q (map written ts)) (found aliases readings p t same all.0)
-      ∙ found_each aliases readings (one_order step is_taken w p t) ts (order_readings p t ∙ same) all.1
-
-  pub written_out : (is_of : Verb → Bool) (c : State) (m : Course) → fold (carried_written step is_taken w) (c, m) (map written (values (orders_of is_of ByUnit m.aliases m.readings))) ≡ carried_out step is_taken is_of w c m
+  pub written_out : (is_of : Verb → Bool) (c : State) (m : Course) → fold (found_written (one_order step is_taken w) m.readings) (c, m) (map written (values (orders_of is_of ByUnit m.aliases m.readings))) ≡ carried_out step is_taken is_of w c m
   unfolding carried_out
-  written_out is_of c m =
-      let ts = values (orders_of is_of ByUnit m.aliases m.readings) in
-      found_each m.aliases m.readings (c, m) ts refl (recursion_from_All (IsInMailing m.aliases m.readings) ts (orders_are_in_mailings is_of ByUnit m.aliases m.readings))
+  written_out is_of c m = found_all (one_order step is_taken w) m.aliases m.readings is_of ByUnit (c, m)
 
 -- ---- what is so in any case is so where a call answers Ok
 

@@ -1,5 +1,5 @@
 -- FORM: units form new ones. See docs/RULES.md, "Form".
-use Rattle.std.specs.Prelude.{◌≡◌, ◌||◌, ◌++◌, ℕ, Bool, true, false, [], ◌∷◌, codes, fold, nat_le, nat_lt, not, Option, Some, None}
+use Rattle.std.specs.Prelude.{◌≡◌, ◌||◌, ◌++◌, ℕ, Bool, true, false, [], ◌∷◌, codes, fold, nat_le, nat_lt, not, Option, Some}
 use Rattle.std.specs.Fmt.{decimal}
 use Rattle.std.specs.FinMap.{empty, get, len, values}
 use Rattle.atl_orders.specs.declared.order.Order.TheVariants as orders
@@ -14,14 +14,12 @@ use Rattle.atl_state.specs.declared.records.Unit.{Unit}
 use Rattle.atl_state.specs.Good.{Every}
 use Rattle.atl_state.specs.Limits.{last_unit, most_units}
 use Rattle.atl_state.specs.State.{State, with_unit_begun}
-use Rattle.atl_instant.specs.Carrying.{task_of}
-use Rattle.atl_instant.specs.Course.{Aliases, Course, order_at, with_alias}
+use Rattle.atl_instant.specs.Course.{Aliases, Course, with_alias}
 use Rattle.atl_instant.specs.Inside.{inside, region_of}
 use Rattle.atl_instant.specs.Meaning.{Keeping, Meaning}
 use Rattle.atl_instant.specs.Outcomes.{first_fault, unless}
 use Rattle.atl_instant.specs.PhaseOrders.{Task, orders_of}
 use Rattle.atl_instant.specs.Steps.{is_of_faction, told}
-use Rattle.atl_instant.specs.declared.written.Written.{Written}
 use Rattle.atl_instant.specs.declared.written.Arrangement.TheVariants.{ByFaction}
 
 abbrev pub is_forming : Verb → Bool
@@ -80,12 +78,3 @@ form_meaning w c m = fold form_order (c, m) (values (orders_of is_forming ByFact
 -- each unit stays as it is
 abbrev pub form_keeps : Keeping
 form_keeps w m before after = Every (λ n u. get after.units n ≡ Some u) before.units
-
--- ---- for proofs alone: how the code finds what an order says
-
-abbrev pub formed_said : State × Course → Written → Option Said → State × Course
-formed_said p o None = p
-formed_said p o (Some s) = form_order p (task_of o s)
-
-abbrev pub formed_written : State × Course → Written → State × Course
-formed_written p o = formed_said p o (order_at p.1.readings o.faction o.place)

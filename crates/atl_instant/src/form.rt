@@ -5,8 +5,9 @@ ghost use Rattle.atl_orders.specs.Orders.{said};
 ghost use Rattle.atl_state.specs.Covers.{MarksChanges};
 ghost use Rattle.atl_state.specs.Good.{IsEarly};
 ghost use Rattle.atl_state.specs.Limits.{last_unit};
-ghost use Rattle.atl_instant.specs.Form.{alias_of, form_by, form_fault, form_keeps, form_meaning, formed, formed_written, is_forming, is_unit_limit, new_unit, noted};
+ghost use Rattle.atl_instant.specs.Form.{alias_of, form_by, form_fault, form_keeps, form_meaning, form_order, formed, is_forming, is_unit_limit, new_unit, noted};
 ghost use Rattle.atl_instant.specs.Unbooked.{moves_nothing};
+ghost use Rattle.atl_instant.specs.Carrying.{found_written};
 
 use crate::inside::{region_of, structure_of};
 use crate::month::Month;
@@ -125,7 +126,7 @@ fn form_one(
     order: Written,
 ) -> Result<(), AllocError>
     requires free { map.get campaign.old.what.units campaign.old.what.next_unit ≡ None }
-    ensures step { OnOk result ((campaign.new.what, month.new) ≡ formed_written (campaign.old.what, month.old) order) }
+    ensures step { OnOk result ((campaign.new.what, month.new) ≡ found_written form_order month.old.readings (campaign.old.what, month.old) order) }
     ensures marks { OnOk result (MarksChanges campaign.old campaign.new) }
 {
     let (alias, verb) = match month.order(order.faction, order.place) {

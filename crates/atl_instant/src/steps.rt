@@ -7,8 +7,8 @@ ghost use Rattle.atl_instant.specs.Course.{order_at, said_of};
 ghost use Rattle.atl_orders.specs.Bounds.{IsOrderOf};
 ghost use Rattle.atl_instant.specs.Fit.{AreFit};
 ghost use Rattle.atl_instant.specs.Meaning.{Condition, HaveRoom, LeavesWell, Moving};
-ghost use Rattle.atl_instant.specs.Steps.{Concern, IsOrderly, Reserve, Sparing, Step, StepsWell, carried, carried_out, is_of_faction, is_own, spares_others};
-ghost use Rattle.atl_instant.specs.Carrying.{carried_written, task_of};
+ghost use Rattle.atl_instant.specs.Steps.{Concern, IsOrderly, Reserve, Sparing, Step, StepsWell, carried, carried_out, is_of_faction, is_own, one_order, spares_others};
+ghost use Rattle.atl_instant.specs.Carrying.{found_written, task_of};
 
 use crate::month::Month;
 use crate::orders::PhaseVerbs;
@@ -115,7 +115,7 @@ fn carry_one<P: OrderPhase>(
     requires holds { P.holds world.now campaign.old.what }
     requires room { HaveRoom (P.reserve campaign.old.what) campaign.old.what }
     requires read { AreFit world.now month.old.readings }
-    ensures step { OnOk result ((campaign.new.what, month.new) ≡ carried_written (P.step phase.now) P.is_taken world.now (campaign.old.what, month.old) order) }
+    ensures step { OnOk result ((campaign.new.what, month.new) ≡ found_written (one_order (P.step phase.now) P.is_taken world.now) month.old.readings (campaign.old.what, month.old) order) }
     ensures well { OnOk result (StepsWell P.holds P.reserve world.now campaign.old.what campaign.new.what) }
     ensures marks { OnOk result (MarksChanges campaign.old campaign.new) }
 {

@@ -5,7 +5,7 @@ use Rattle.std.specs.FinMap.{empty}
 use Rattle.atl_orders.specs.declared.verb.Verb.TheVariants.{Form}
 use Rattle.atl_instant.specs.Course.{Course}
 use Rattle.atl_instant.specs.declared.written.Written.{Written}
-use Rattle.atl_action.specs.Learners.{found_written}
+use Rattle.atl_instant.specs.Carrying.{found_written}
 use Rattle.atl_action.specs.Teach.{Taught, teach_order}
 use Rattle.atl_action.proofs.TeachLaws.{same_aliases, same_readings, taught_found}
 use Rattle.atl_action.proofs.teach.teach_all.Goals as goal

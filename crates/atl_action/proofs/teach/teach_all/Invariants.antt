@@ -1,9 +1,9 @@
 use Rattle.std.proofs.Common.{◌≡◌, drop}
 use Rattle.std.specs.Prelude.{fold}
 use Rattle.std.specs.FinMap.{empty}
-use Rattle.atl_action.specs.Learners.{found_written}
 use Rattle.atl_action.specs.Teach.{teach_order}
 use Rattle.atl_action.proofs.teach.teach_all.Given as goal
+use Rattle.atl_instant.specs.Carrying.{found_written}
 
 abbrev pub invariant-loop-order : goal.invariant-loop-order
 invariant-loop-order l = record {

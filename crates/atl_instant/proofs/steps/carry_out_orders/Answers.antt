@@ -4,16 +4,16 @@ use Rattle.std.specs.Prelude.{fold}
 use Rattle.std.specs.FinMap.{values}
 use Rattle.atl_state.proofs.CoverLaws.{marks-refl, marks-trans}
 use Rattle.atl_orders.specs.declared.verb.Verb.TheVariants.{Form}
-use Rattle.atl_instant.specs.Carrying.{carried_written}
 use Rattle.atl_state.specs.State.{State}
 use Rattle.atl_instant.specs.Course.{Course}
 use Rattle.atl_instant.specs.Fit.{AreFit}
 use Rattle.atl_instant.specs.PhaseOrders.{orders_of}
-use Rattle.atl_instant.specs.Steps.{AreSpared, carried_out}
+use Rattle.atl_instant.specs.Steps.{AreSpared, carried_out, one_order}
 use Rattle.atl_instant.specs.declared.written.Written.{Written}
 use Rattle.atl_instant.specs.declared.written.Arrangement.TheVariants.{ByUnit}
 use Rattle.atl_instant.proofs.StepLaws.{leaves_well, orders_fit, orders_spare, room_left, room_reserved, well_same, well_twice, written_out, written_readings}
 use Rattle.atl_instant.proofs.steps.carry_out_orders.Goals as goal
+use Rattle.atl_instant.specs.Carrying.{found_written}
 
 -- what stands where nothing is read
 abbrev none : Written
@@ -44,13 +44,16 @@ loop-order-preserved g c =
     let P = g.P.OrderPhase in
     let w = c.args.world.now in
     let before : State × Course = (c.loop-order.campaign.what, c.loop-order.month) in
-    let one = carried_written (P.step c.args.phase.now) P.is_taken w in
+    let order = one_order (P.step c.args.phase.now) P.is_taken w in
+    let readings = c.args.month.now.readings in
+    let one = found_written order readings in
     let xs = c.deref-order-items.result.now in
     let i = c.loop-order.order-index in
-    let step = c.in_ok-carry_one.ensures.step in
+    let o = get_or xs i none in
+    let step = c.in_ok-carry_one.ensures.step ∙ ap (λ r. found_written order r before o) c.loop-order.invariant.readings in
     record {
       orders = ap (λ p. fold one p (drop (i + 1) xs)) step ∙ sym (ap (fold one before) (drop_more xs i none c.loop-order-test.true)) ∙ c.loop-order.invariant.orders;
-      readings = ap (λ p. p.1.readings) step ∙ written_readings (P.step c.args.phase.now) P.is_taken w before (get_or xs i none) ∙ c.loop-order.invariant.readings;
+      readings = ap (λ (p : State × Course). p.1.readings) step ∙ written_readings (P.step c.args.phase.now) P.is_taken w readings before o ∙ c.loop-order.invariant.readings;
       well = well_twice w c.args.campaign.now.what c.loop-order.campaign.what _ c.loop-order.invariant.well c.in_ok-carry_one.ensures.well;
       marks = marks-trans c.args.campaign.now c.loop-order.campaign _ c.loop-order.invariant.marks c.in_ok-carry_one.ensures.marks;
     }
@@ -64,7 +67,8 @@ returns-clause-meaning g c =
     let i = c.loop-order.order-index in
     let past : drop i xs ≡ [] = drop_all i xs (omega (arith, c.loop-order-test.false)) in
     let behind : State × Course = (c.loop-order.campaign.what, c.loop-order.month) in
-    sym (ap (fold (carried_written (P.step c.args.phase.now) P.is_taken w) behind) past) ∙ c.loop-order.invariant.orders ∙ ap (fold (carried_written (P.step c.args.phase.now) P.is_taken w) start) (c.deref-order-items.ensures.value ∙ c.in_ok-orders.ensures)
+    let one = found_written (one_order (P.step c.args.phase.now) P.is_taken w) c.args.month.now.readings in
+    sym (ap (fold one behind) past) ∙ c.loop-order.invariant.orders ∙ ap (fold one start) (c.deref-order-items.ensures.value ∙ c.in_ok-orders.ensures)
     ∙ written_out (P.step c.args.phase.now) P.is_taken w g.P.PhaseVerbs.is_of c.args.campaign.now.what c.args.month.now
 
 pub returns-clause-leaves : goal.returns-clause-leaves

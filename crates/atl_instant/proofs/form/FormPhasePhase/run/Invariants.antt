@@ -3,14 +3,15 @@ use Rattle.std.specs.Prelude.{fold}
 use Rattle.std.specs.FinMap.{get}
 use Rattle.atl_state.specs.Covers.{MarksChanges}
 use Rattle.atl_state.specs.Good.{Every, IsEarly}
-use Rattle.atl_instant.specs.Form.{formed_written}
 use Rattle.atl_instant.specs.Steps.{StepsWell}
 use Rattle.atl_instant.specs.Unbooked.{books_nothing}
 use Rattle.atl_instant.proofs.form.FormPhasePhase.run.Given as goal
+use Rattle.atl_instant.specs.Form.{form_order}
+use Rattle.atl_instant.specs.Carrying.{found_written}
 
 abbrev pub invariant-loop-order : goal.invariant-loop-order
 invariant-loop-order l = record {
-  orders : fold formed_written (l.campaign.what, l.month) (drop l.order-index l.order-items) ≡ fold formed_written (l.fn.campaign.what, l.fn.month) l.order-items;
+  orders : fold (found_written form_order l.fn.month.readings) (l.campaign.what, l.month) (drop l.order-index l.order-items) ≡ fold (found_written form_order l.fn.month.readings) (l.fn.campaign.what, l.fn.month) l.order-items;
   readings : l.month.readings ≡ l.fn.month.readings;
   well : StepsWell IsEarly books_nothing l._world l.fn.campaign.what l.campaign.what;
   stays : Every (λ n u. get l.campaign.what.units n ≡ Some u) l.fn.campaign.what.units;
