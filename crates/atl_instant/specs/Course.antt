@@ -5,8 +5,9 @@ use Rattle.std.specs.Ordering.{nat_cmp, eq_by_cmp}
 use Rattle.std.specs.List.{IsDistinct, slice_get}
 use Rattle.std.specs.List.Sorted.{IsPermutation}
 use Rattle.std.specs.Coded.{Coded, code_by, coded×, coded_ℕ, coded_list}
-use Rattle.std.specs.FinMap.{FinMap, code, empty, from_entries, get, insert}
+use Rattle.std.specs.FinMap.{FinMap, code, from_entries, get, insert}
 use Rattle.atl_tables.specs.contracts.sequence.Sequence as sequence
+use Rattle.atl_tables.specs.Groups.{group_of}
 use Rattle.atl_orders.specs.declared.mailing.Mailing.{Mailing}
 use Rattle.atl_orders.specs.declared.fault.FaultyLine.{FaultyLine}
 use Rattle.atl_orders.specs.declared.order.Order.{Order}
@@ -62,20 +63,12 @@ course_code =
 -- ---- aliases
 
 -- the unit that a faction's FORM made under an alias
-abbrev pub alias_in : ℕ → Option (FinMap nat_cmp ℕ) → Option ℕ
-alias_in alias None = None
-alias_in alias (Some units) = get units alias
-
 abbrev pub alias_unit : Aliases → ℕ → ℕ → Option ℕ
-alias_unit aliases faction alias = alias_in alias (get aliases faction)
-
-abbrev pub units_under : Option (FinMap nat_cmp ℕ) → FinMap nat_cmp ℕ
-units_under None = empty
-units_under (Some units) = units
+alias_unit aliases faction alias = get (group_of aliases faction) alias
 
 -- the aliases with one unit more
 abbrev pub with_alias : Aliases → ℕ → ℕ → ℕ → Aliases
-with_alias aliases faction alias unit = insert aliases faction (insert (units_under (get aliases faction)) alias unit)
+with_alias aliases faction alias unit = insert aliases faction (insert (group_of aliases faction) alias unit)
 
 -- ---- mailings
 

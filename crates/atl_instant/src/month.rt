@@ -119,7 +119,7 @@ impl Month {
         ensures ok { OnOk result (self.new ≡ record self.old { aliases = with_alias self.old.aliases faction alias unit }) }
         ensures err { OnErr result (self.new ≡ self.old) }
     {
-        put_alias(alloc, &mut self.aliases, faction, alias, unit)
+        self.aliases.insert_under(alloc, faction, alias, unit)
     }
 
     /// The orders of a phase that stand, in the arrangement of the phase. It takes memory for each of them, and n log n steps
@@ -175,27 +175,6 @@ fn sort(mailings: &mut Vec<Mailing>)
     mailings.sort_unstable_by_key(|mailing| mailing.faction);
 }
 
-/// Puts a unit under an alias of a faction. Without memory the aliases stay as they are.
-fn put_alias(
-    alloc: Global,
-    aliases: &mut Numbered<Numbered<u32>>,
-    faction: u32,
-    alias: u32,
-    unit: u32,
-) -> Result<(), AllocError>
-    ensures ok { OnOk result (aliases.new ≡ with_alias aliases.old faction alias unit) }
-    ensures err { OnErr result (aliases.new ≡ aliases.old) }
-{
-    match aliases.get_mut(faction) {
-        Some(units) => units.insert(alias, unit),
-        None => {
-            let mut units = Numbered::new(alloc);
-            units.insert(alias, unit)?;
-            aliases.insert(faction, units)
-        }
-    }
-}
-
 /// The mailing of a faction, of mailings that are sorted by their factions.
 fn mailing_of(mailings: &[Mailing], faction: u32) -> Option<&Mailing>
     requires { AreByFaction mailings.now }
@@ -211,10 +190,7 @@ fn mailing_of(mailings: &[Mailing], faction: u32) -> Option<&Mailing>
 pub(crate) fn unit_under(aliases: &Numbered<Numbered<u32>>, faction: u32, alias: u32) -> Option<u32>
     ensures { result ≡ alias_unit aliases.now faction alias }
 {
-    match aliases.get(faction) {
-        Some(units) => units.get(alias).copied(),
-        None => None,
-    }
+    aliases.get_under(faction, alias).copied()
 }
 
 /// Mailings in another order are the same mailings.

@@ -8,17 +8,18 @@ use Rattle.std.specs.FinMap.{FinMap, empty, entries, find, get, get-empty, get-e
 use Rattle.std.proofs.lemmas.Bool.{and_parts, cases_eq}
 use Rattle.std.proofs.lemmas.Bool.Decides.{nat_tests}
 use Rattle.atl_tables.specs.Planet.{Planet}
+use Rattle.atl_tables.specs.Groups.{group_of}
 use Rattle.atl_state.specs.Deciding.{EachOf}
-use Rattle.atl_state.specs.FromRows.{group_of}
 use Rattle.atl_state.specs.Good.{Every}
 use Rattle.atl_state.specs.State.{State}
 use Rattle.atl_state.proofs.EveryLaws.{each-from_every, every-empty, first, get-insert_other, none_some, not_below, sorted}
 use Rattle.atl_state.proofs.RegionLaws.{get-insert_same}
-use Rattle.atl_market.specs.Making.{Groups, amount_among, amount_of_group, grouped, made_from, want_put, with_shares, with_want}
+use Rattle.atl_market.specs.Making.{Groups, amount_of_group, grouped, made_from, want_put, with_shares, with_want}
 use Rattle.atl_market.specs.Pots.{AreWants, pot_shares, with_each}
-use Rattle.atl_market.specs.Produce.{gathered, is_for, made_by, made_of, makes, output_at, produce_pots, wants_for}
+use Rattle.atl_market.specs.Produce.{produce_pots}
 use Rattle.atl_market.proofs.PotLaws.{pots_give}
 use Rattle.atl_market.proofs.WantLaws.{GivesToWants, every-with_each}
+use Rattle.atl_market.specs.Outputs.{gathered, is_for, made_by, made_of, makes, output_at, wants_for}
 
 found_other : {V : Type 0} (e : ℕ × V) (es : List (ℕ × V)) (n : ℕ) → n ≢ e.0 → find nat_cmp n (e ∷ es) ≡ find nat_cmp n es
 found_other e es n apart =
@@ -31,8 +32,12 @@ found_other e es n apart =
 none_under : {V : Type 0} (n : ℕ) → get (empty {X = V} {R = nat_cmp}) n ≡ None
 none_under n = get-empty nat_cmp n
 
-pub no_group : (i : ℕ) → group_of empty i ≡ empty
+pub no_group : (i : ℕ) → group_of {V = ℕ} empty i ≡ empty
 no_group i = ap (λ o. unwrap_or o empty) (none_under i)
+
+-- what stands under a number in a group, where there is one
+abbrev amount_among : Option (FinMap nat_cmp ℕ) → ℕ → ℕ
+amount_among group n = unwrap_or (get (unwrap_or group empty) n) 0
 
 -- ---- the wants of an item
 
@@ -146,7 +151,7 @@ module _ (w : Planet) (asked wants : FinMap nat_cmp ℕ) where
             → amount_among (shares_or i o None) e.0 ≡ unwrap_or (get (shared_as i (wants_for w asked wants i)) e.0) 0
         by_group i None is =
             let none : wants_for w asked wants i ≡ empty = sym (groups_are i) ∙ ap (λ o. unwrap_or o empty) is in
-            ap (λ o. unwrap_or o 0) (sym (nothing_wanted i e.0 (wants_for w asked wants i) none))
+            ap (λ o. unwrap_or o 0) (none_under e.0) ∙ ap (λ o. unwrap_or o 0) (sym (nothing_wanted i e.0 (wants_for w asked wants i) none))
         by_group i (Some group) is =
             let same : group ≡ wants_for w asked wants i = sym (ap (λ o. unwrap_or o empty) is) ∙ groups_are i in
             ap (λ g. unwrap_or (get (shared_as i g) e.0) 0) same

@@ -8,5 +8,7 @@ pub mod Recruit
 pub mod Work
 pub mod Stock
 pub mod Build
+pub mod Craft
+pub mod Outputs
 pub mod Produce
 pub mod Making

@@ -5,16 +5,17 @@ use Rattle.std.specs.Ordering.{nat_cmp}
 use Rattle.std.specs.FinMap.{FinMap, get, insert}
 use Rattle.atl_tables.specs.Planet.{Planet}
 use Rattle.atl_tables.specs.declared.world.Item.{Item}
+use Rattle.atl_tables.specs.Groups.{group_of}
 use Rattle.atl_state.specs.declared.records.Unit.{Unit}
-use Rattle.atl_state.specs.FromRows.{group_of}
 use Rattle.atl_state.specs.Good.{IsSteady}
 use Rattle.atl_state.specs.Held.{amount_of}
 use Rattle.atl_state.specs.Limits.{holding_limit}
 use Rattle.atl_state.specs.State.{State}
 use Rattle.atl_instant.specs.Meaning.{HaveRoom}
 use Rattle.atl_market.specs.Pots.{pot_shares}
-use Rattle.atl_market.specs.Produce.{gathered, output_at, produce_moves, with_raw_used}
+use Rattle.atl_market.specs.Produce.{produce_moves, with_raw_used}
 use Rattle.atl_market.specs.Stock.{CanMake, CanUse}
+use Rattle.atl_market.specs.Outputs.{gathered, output_at}
 
 abbrev pub Groups : Type 0
 Groups = FinMap nat_cmp (FinMap nat_cmp ℕ)
@@ -35,13 +36,9 @@ grouped w asked groups es = fold (with_want w asked) groups es
 abbrev pub with_shares : Planet → State → Groups → ℕ × FinMap nat_cmp ℕ → Groups
 with_shares w c shares e = insert shares e.0 (pot_shares (output_at w e.0) e.1 c)
 
-abbrev pub amount_among : Option (FinMap nat_cmp ℕ) → ℕ → ℕ
-amount_among None n = 0
-amount_among (Some shares) n = unwrap_or (get shares n) 0
-
 abbrev pub amount_of_group : Groups → ℕ × ℕ → Option ℕ → ℕ
 amount_of_group shares e None = e.1
-amount_of_group shares e (Some i) = amount_among (get shares i) e.0
+amount_of_group shares e (Some i) = unwrap_or (get (group_of shares i) e.0) 0
 
 -- how much a unit makes by them
 abbrev pub made_from : Planet → FinMap nat_cmp ℕ → Groups → ℕ × ℕ → ℕ

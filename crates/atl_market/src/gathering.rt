@@ -2,10 +2,10 @@
 ghost use Rattle.std.specs.Prelude.{⊤, ℕ, ◌≡◌, map, IfOk, OnOk};
 ghost use Rattle.std.specs.List.{fold};
 ghost use Rattle.std.specs.FinMap as finmap;
-ghost use Rattle.atl_state.specs.FromRows.{group_of};
 ghost use Rattle.atl_market.specs.Making.{grouped, made_from, with_shares, with_want};
 ghost use Rattle.atl_market.specs.Pots.{AreWants, with_each};
-ghost use Rattle.atl_market.specs.Produce.{gathered, output_at};
+ghost use Rattle.atl_market.specs.Outputs.{gathered, output_at};
+ghost use Rattle.atl_tables.specs.Groups.{group_of};
 
 use crate::making::item_of;
 use crate::pots::{Pots, pot_shares};
@@ -49,26 +49,6 @@ impl<'a> Pots for Output<'a> {
 /// Wants or shares by item, and of each item by unit.
 pub(crate) type Groups = Numbered<Numbered<u32>>;
 
-/// Puts a want beside those of its item.
-fn put_want(
-    alloc: Global,
-    groups: &mut Groups,
-    item: u32,
-    unit: u32,
-    want: u32,
-) -> Result<(), AllocError>
-    ensures { OnOk result (groups.new ≡ finmap.insert groups.old item (finmap.insert (group_of groups.old item) unit want)) }
-{
-    match groups.get_mut(item) {
-        Some(wants) => wants.insert(unit, want),
-        None => {
-            let mut wants = Numbered::new(alloc);
-            wants.insert(unit, want)?;
-            groups.insert(item, wants)
-        }
-    }
-}
-
 /// Puts a want beside those of its item, where the unit makes it out of what its region gives.
 fn note_want(
     alloc: Global,
@@ -81,7 +61,7 @@ fn note_want(
     ensures { OnOk result (groups.new ≡ with_want world.now asked.now groups.old (unit, want)) }
 {
     match gathered(world, asked, unit) {
-        Some(item) => put_want(alloc, groups, u32::from(item), unit, want),
+        Some(item) => groups.insert_under(alloc, u32::from(item), unit, want),
         None => Ok(()),
     }
 }
@@ -125,10 +105,10 @@ fn made_from(world: &World, asked: &Numbered<u16>, shares: &Groups, unit: u32, w
     ensures { result ≡ made_from world.now asked.now shares.now (unit, want) }
 {
     match gathered(world, asked, unit) {
-        Some(item) => match shares.get(u32::from(item)) {
-            Some(given) => given.get(unit).copied().unwrap_or(0),
-            None => 0,
-        },
+        Some(item) => shares
+            .get_under(u32::from(item), unit)
+            .copied()
+            .unwrap_or(0),
         None => want,
     }
 }

@@ -1,5 +1,5 @@
 -- Who receives what units without men leave: from one unit to the next, and while they are swept.
-use Rattle.std.proofs.Common.{◌≡◌, ◌≢◌, ◌==◌, ◌&&◌, ℕ, ◌≤◌, ◌<◌, Bool, true, false, cond, List, [], ◌∷◌, Option, Some, None, refl, sym, ap, subst, ◌∙◌, inl, inr, ◌⊎◌, arith}
+use Rattle.std.proofs.Common.{◌≡◌, ◌≢◌, ◌==◌, ◌&&◌, ℕ, ◌≤◌, ◌<◌, Bool, true, false, cond, List, [], ◌∷◌, Option, Some, refl, sym, ap, subst, ◌∙◌, inl, inr, ◌⊎◌, arith}
 use Rattle.std.specs.Prelude.{nat_lt, unwrap_or, if◌then◌else◌}
 use Rattle.std.proofs.lemmas.Bool.Decides.{nat_tests}
 use Rattle.std.proofs.lemmas.Bool.{and_parts, cases_eq}
@@ -9,6 +9,7 @@ use Rattle.std.specs.FinMap.Entries.{below_all}
 use Rattle.atl_tables.specs.Planet.{Planet}
 use Rattle.atl_tables.specs.Sums.{numbers_among, numbers_where}
 use Rattle.atl_tables.proofs.SumLaws.{chosen-cons}
+use Rattle.atl_tables.specs.Groups.{group_of}
 use Rattle.atl_state.specs.declared.records.Unit.{Unit}
 use Rattle.atl_state.specs.Good.{Every, IsSteady}
 use Rattle.atl_state.specs.Owners.{first_or_zero}
@@ -18,7 +19,7 @@ use Rattle.atl_state.proofs.ListLaws.{other_number, same_number}
 use Rattle.atl_state.proofs.OrderedLaws.{below}
 use Rattle.atl_state.proofs.RegionLaws.{get-insert_same}
 use Rattle.atl_state.proofs.RemovedLaws.{IsListed, listed_passing, passing_listed}
-use Rattle.atl_month.specs.Receivers.{AreReceivers, ReceiverMap, or_if_zero, receiver_in, receiver_noted, receiver_under, receivers_under, with_receiver}
+use Rattle.atl_month.specs.Receivers.{AreReceivers, ReceiverMap, or_if_zero, receiver_in, receiver_noted, with_receiver}
 use Rattle.atl_month.specs.Sweep.{IsKept, receiver, receives, swept_at}
 use Rattle.atl_month.proofs.SweepLaws.{first_listed}
 use Rattle.atl_month.proofs.SweepAllLaws.{swept_at_keeps, swept_at_leaves_well, swept_at_were}
@@ -104,15 +105,14 @@ module _ (w : Planet) (c : State) (n : ℕ) (steady : IsSteady w c) where
 
 -- ---- as they are noted, unit by unit
 
+abbrev receiver_under : ℕ → Option (FinMap nat_cmp ℕ) → ℕ
+receiver_under faction o = unwrap_or (get (unwrap_or o empty) faction) 0
+
 module _ (m : ReceiverMap) (region faction n : ℕ) where
   noted_here : receiver_in (with_receiver m region faction n) region faction ≡ n
   noted_here =
-      ap (receiver_under faction) (get-insert_same m region (insert (receivers_under (get m region)) faction n))
-      ∙ ap (λ o. unwrap_or o 0) (get-insert_same (receivers_under (get m region)) faction n)
-
-  under_none : (f : ℕ) (o : Option (FinMap nat_cmp ℕ)) → unwrap_or (get (receivers_under o) f) 0 ≡ receiver_under f o
-  under_none f None = ap (λ o. unwrap_or o 0) (get-empty nat_cmp f)
-  under_none f (Some x) = refl
+      ap (receiver_under faction) (get-insert_same m region (insert (group_of m region) faction n))
+      ∙ ap (λ o. unwrap_or o 0) (get-insert_same (group_of m region) faction n)
 
   noted_apart : (r f : ℕ) → (r ≢ region) ⊎ (f ≢ faction) → receiver_in (with_receiver m region faction n) r f ≡ receiver_in m r f
   noted_apart r f h =
@@ -122,11 +122,11 @@ module _ (m : ReceiverMap) (region faction n : ℕ) where
               | inl apart ↦ absurd (apart same)
               | inr apart ↦
                   ap (λ k. receiver_in (with_receiver m region faction n) k f) same
-                  ∙ ap (receiver_under f) (get-insert_same m region (insert (receivers_under (get m region)) faction n))
-                  ∙ ap (λ o. unwrap_or o 0) (get-insert_other (receivers_under (get m region)) faction f n apart)
-                  ∙ under_none f (get m region) ∙ ap (λ k. receiver_in m k f) (sym same)
+                  ∙ ap (receiver_under f) (get-insert_same m region (insert (group_of m region) faction n))
+                  ∙ ap (λ o. unwrap_or o 0) (get-insert_other (group_of m region) faction f n apart)
+                  ∙ ap (λ k. receiver_in m k f) (sym same)
             ]
-        | inr apart ↦ ap (receiver_under f) (get-insert_other m region r (insert (receivers_under (get m region)) faction n) apart)
+        | inr apart ↦ ap (receiver_under f) (get-insert_other m region r (insert (group_of m region) faction n) apart)
       ]
 
 module _ (m : ReceiverMap) (n : ℕ) (u : Unit) (es : List (ℕ × Unit)) (low : 1 ≤ n) where
@@ -214,6 +214,7 @@ pub nothing_noted : (c : State) (m : ReceiverMap) → m ≡ empty → (r f : ℕ
 nothing_noted c m none r f =
     ap (λ k. or_if_zero (receiver_under f (get k r)) (first_or_zero (numbers_among (receives r f) (entries c.units)))) none
     ∙ ap (λ o. or_if_zero (receiver_under f o) (first_or_zero (numbers_among (receives r f) (entries c.units)))) (get-empty nat_cmp r)
+    ∙ ap (λ o. or_if_zero (unwrap_or o 0) (first_or_zero (numbers_among (receives r f) (entries c.units)))) (get-empty nat_cmp f)
 
 pub all_noted : (c : State) (m : ReceiverMap) → ((r f : ℕ) → or_if_zero (receiver_in m r f) (first_or_zero (numbers_among (receives r f) [])) ≡ receiver c r f) → AreReceivers c m
 all_noted c m h r f = plain (receiver_in m r f) ∙ h r f

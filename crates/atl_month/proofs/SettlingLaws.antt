@@ -1,40 +1,42 @@
 -- The accounts of upkeep, unit by unit.
-use Rattle.std.proofs.Common.{◌≡◌, ◌≢◌, ◌==◌, ◌&&◌, ◌++◌, ℕ, ◌+◌, ◌-◌, ◌*◌, ◌≤◌, min, Bool, true, false, cond, List, [], ◌∷◌, filter, sum_by, Option, Some, None, refl, sym, ap, ◌∙◌, arith}
+use Rattle.std.proofs.Common.{◌≡◌, ◌≢◌, ◌==◌, ◌&&◌, ◌++◌, ℕ, ◌+◌, ◌-◌, ◌*◌, ◌≤◌, min, Bool, true, false, cond, List, [], ◌∷◌, filter, sum_by, Option, unwrap_or, refl, sym, ap, ◌∙◌, arith}
 use Rattle.std.specs.Ordering.{nat_cmp}
 use Rattle.std.specs.FinMap.{FinMap, empty, get, insert, get-empty}
 use Rattle.std.proofs.lemmas.Bool.Decides.{nat_tests}
 use Rattle.std.proofs.lemmas.List.Elements.{filter-append}
 use Rattle.std.proofs.lemmas.List.Sums.{sum_by-append}
 use Rattle.atl_tables.specs.Limits.{most_per_head}
+use Rattle.atl_tables.specs.Groups.{group_of}
 use Rattle.atl_state.specs.Limits.{holding_limit, men_limit}
 use Rattle.atl_state.proofs.EveryLaws.{get-insert_other}
 use Rattle.atl_state.proofs.RegionLaws.{get-insert_same}
 use Rattle.atl_month.specs.declared.accounts.Account.{Account}
 use Rattle.atl_month.specs.declared.settling.Purse.{Purse}
 use Rattle.atl_month.specs.declared.settling.Settled.{Settled}
-use Rattle.atl_month.specs.Accounts.{AccountMap, IsOpen, account_at, account_behind, account_in, account_of, account_or, accounts_under, counted, settled_by, with_account}
+use Rattle.atl_month.specs.Accounts.{AccountMap, IsOpen, account_at, account_behind, account_of, counted, no_account, settled_by, with_account}
 use Rattle.atl_month.specs.Settling.{given_among, is_purse_of, left_among, left_of, paid_by, settled_one, short_among, short_of, starved_of}
 
 -- ---- an account that is put
+
+abbrev account_or : Option Account → Account
+account_or o = unwrap_or o no_account
+
+abbrev account_in : ℕ → Option (FinMap nat_cmp Account) → Account
+account_in faction o = account_or (get (unwrap_or o empty) faction)
 
 module _ (m : AccountMap) (r f : ℕ) (a : Account) where
   abbrev put : AccountMap
   put = with_account m r f a
 
   put_same : account_at put r f ≡ a
-  put_same = ap (account_in f) (get-insert_same m r (insert (accounts_under (get m r)) f a)) ∙ ap account_or (get-insert_same (accounts_under (get m r)) f a)
+  put_same = ap (account_in f) (get-insert_same m r (insert (group_of m r) f a)) ∙ ap account_or (get-insert_same (group_of m r) f a)
 
   other_region : (s g : ℕ) → s ≢ r → account_at put s g ≡ account_at m s g
-  other_region s g apart = ap (account_in g) (get-insert_other m r s (insert (accounts_under (get m r)) f a) apart)
-
-  under_is : (g : ℕ) (o : Option (FinMap nat_cmp Account)) → account_or (get (accounts_under o) g) ≡ account_in g o
-  under_is g None = ap account_or (get-empty nat_cmp g)
-  under_is g (Some accounts) = refl
+  other_region s g apart = ap (account_in g) (get-insert_other m r s (insert (group_of m r) f a) apart)
 
   other_faction : (g : ℕ) → g ≢ f → account_at put r g ≡ account_at m r g
   other_faction g apart =
-      ap (account_in g) (get-insert_same m r (insert (accounts_under (get m r)) f a))
-      ∙ ap account_or (get-insert_other (accounts_under (get m r)) f g a apart) ∙ under_is g (get m r)
+      ap (account_in g) (get-insert_same m r (insert (group_of m r) f a)) ∙ ap account_or (get-insert_other (group_of m r) f g a apart)
 
   pub account_put : (s g : ℕ) → account_at put s g ≡ cond ((r == s) && (f == g)) a (account_at m s g)
   account_put s g = by_region (r == s) refl
@@ -94,7 +96,7 @@ own p = rw (true_same p.region, true_same p.faction) refl
 
 -- before the first unit
 pub no_accounts : (m s g : ℕ) → account_at empty s g ≡ account_of m [] [] s g
-no_accounts m s g = ap (account_in g) (get-empty nat_cmp s)
+no_accounts m s g = ap (account_in g) (get-empty nat_cmp s) ∙ ap account_or (get-empty nat_cmp g)
 
 -- an account of so many units at most
 pub record IsFew (n : ℕ) (a : Account) : Type 0 where
@@ -102,7 +104,7 @@ pub record IsFew (n : ℕ) (a : Account) : Type 0 where
   pub short : a.short ≤ most_per_head * men_limit * n
 
 pub none_few : (s g : ℕ) → IsFew 0 (account_at empty s g)
-none_few s g = rw (ap (account_in g) (get-empty nat_cmp s)) (record { left = omega arith; short = omega arith })
+none_few s g = rw (ap (account_in g) (get-empty nat_cmp s) ∙ ap account_or (get-empty nat_cmp g)) (record { left = omega arith; short = omega arith })
 
 module _ (m : ℕ) (before : List Purse) (p : Purse) where
   abbrev more : List Purse

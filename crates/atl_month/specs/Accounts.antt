@@ -1,11 +1,12 @@
 -- For proofs alone: what the code keeps while it settles upkeep.
-use Rattle.std.specs.Prelude.{ℕ, ◌+◌, ◌-◌, ◌≤◌, List, min, Option, Some, None}
+use Rattle.std.specs.Prelude.{List, min, unwrap_or, ℕ, ◌+◌, ◌-◌, ◌≤◌}
 use Rattle.std.specs.Ordering.{nat_cmp}
-use Rattle.std.specs.FinMap.{FinMap, empty, get, insert}
+use Rattle.std.specs.FinMap.{FinMap, get, insert}
 use Rattle.atl_month.specs.declared.accounts.Account.{Account}
 use Rattle.atl_month.specs.declared.settling.Purse.{Purse}
 use Rattle.atl_month.specs.declared.settling.Settled.{Settled}
 use Rattle.atl_month.specs.Settling.{given_among, left_among, left_of, paid_by, short_among, short_of, starved_of}
+use Rattle.atl_tables.specs.Groups.{group_of}
 
 abbrev pub AccountMap : Type 0
 AccountMap = FinMap nat_cmp (FinMap nat_cmp Account)
@@ -13,24 +14,12 @@ AccountMap = FinMap nat_cmp (FinMap nat_cmp Account)
 abbrev pub no_account : Account
 no_account = record { left = 0; short = 0; given = 0; covered = 0 }
 
-abbrev pub account_or : Option Account → Account
-account_or None = no_account
-account_or (Some a) = a
-
-abbrev pub account_in : ℕ → Option (FinMap nat_cmp Account) → Account
-account_in faction None = no_account
-account_in faction (Some m) = account_or (get m faction)
-
 -- the account of a faction in a region
 abbrev pub account_at : AccountMap → (region faction : ℕ) → Account
-account_at m region faction = account_in faction (get m region)
-
-abbrev pub accounts_under : Option (FinMap nat_cmp Account) → FinMap nat_cmp Account
-accounts_under None = empty
-accounts_under (Some m) = m
+account_at m region faction = unwrap_or (get (group_of m region) faction) no_account
 
 abbrev pub with_account : AccountMap → (region faction : ℕ) → Account → AccountMap
-with_account m region faction a = insert m region (insert (accounts_under (get m region)) faction a)
+with_account m region faction a = insert m region (insert (group_of m region) faction a)
 
 -- what is to be given of an account
 abbrev pub to_give : Account → ℕ

@@ -1,29 +1,22 @@
 -- For proofs alone: what the code keeps of the units that receive what others leave.
-use Rattle.std.specs.Prelude.{◌≡◌, ◌==◌, ◌&&◌, ℕ, nat_lt, Option, Some, None, unwrap_or, if◌then◌else◌}
+use Rattle.std.specs.Prelude.{◌≡◌, ◌==◌, ◌&&◌, ℕ, nat_lt, unwrap_or, if◌then◌else◌}
 use Rattle.std.specs.Ordering.{nat_cmp}
-use Rattle.std.specs.FinMap.{FinMap, empty, get, insert}
+use Rattle.std.specs.FinMap.{FinMap, get, insert}
 use Rattle.atl_state.specs.declared.records.Unit.{Unit}
 use Rattle.atl_state.specs.State.{State}
 use Rattle.atl_month.specs.Sweep.{receiver}
+use Rattle.atl_tables.specs.Groups.{group_of}
 
 -- their numbers by region, and then by faction
 abbrev pub ReceiverMap : Type 0
 ReceiverMap = FinMap nat_cmp (FinMap nat_cmp ℕ)
 
-abbrev pub receiver_under : ℕ → Option (FinMap nat_cmp ℕ) → ℕ
-receiver_under faction None = 0
-receiver_under faction (Some m) = unwrap_or (get m faction) 0
-
 -- the one of a faction in a region; 0 where there is none
 abbrev pub receiver_in : ReceiverMap → (region faction : ℕ) → ℕ
-receiver_in m region faction = receiver_under faction (get m region)
-
-abbrev pub receivers_under : Option (FinMap nat_cmp ℕ) → FinMap nat_cmp ℕ
-receivers_under None = empty
-receivers_under (Some m) = m
+receiver_in m region faction = unwrap_or (get (group_of m region) faction) 0
 
 abbrev pub with_receiver : ReceiverMap → (region faction number : ℕ) → ReceiverMap
-with_receiver m region faction number = insert m region (insert (receivers_under (get m region)) faction number)
+with_receiver m region faction number = insert m region (insert (group_of m region) faction number)
 
 -- a unit with men is noted, where none was before
 abbrev pub receiver_noted : ReceiverMap → ℕ → Unit → ReceiverMap

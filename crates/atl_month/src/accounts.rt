@@ -23,10 +23,7 @@ pub(crate) type Accounts = Numbered<Numbered<Account>>;
 pub(crate) fn account_of(accounts: &Accounts, purse: &Purse) -> Account
     ensures { result ≡ account_at accounts.now purse.now.region purse.now.faction }
 {
-    let found = match accounts.get(purse.region) {
-        Some(of_region) => of_region.get(purse.faction).copied(),
-        None => None,
-    };
+    let found = accounts.get_under(purse.region, purse.faction).copied();
     found.unwrap_or(Account {
         left: 0,
         short: 0,
@@ -44,12 +41,5 @@ pub(crate) fn put_account(
 ) -> Result<(), AllocError>
     ensures { OnOk result (accounts.new ≡ with_account accounts.old purse.now.region purse.now.faction account) }
 {
-    match accounts.get_mut(purse.region) {
-        Some(of_region) => of_region.insert(purse.faction, account),
-        None => {
-            let mut of_region = Numbered::new(alloc);
-            of_region.insert(purse.faction, account)?;
-            accounts.insert(purse.region, of_region)
-        }
-    }
+    accounts.insert_under(alloc, purse.region, purse.faction, account)
 }

@@ -1,7 +1,7 @@
 //! Who receives what units without men leave.
 ghost use Rattle.std.specs.Prelude.{◌≡◌, ◌≤◌, IfOk, OnOk};
 ghost use Rattle.atl_state.specs.Good.{Every};
-ghost use Rattle.atl_month.specs.Receivers.{AreReceivers, receiver_in, receiver_noted, with_receiver};
+ghost use Rattle.atl_month.specs.Receivers.{AreReceivers, receiver_in, receiver_noted};
 
 use atl_state::{Campaign, Unit};
 use atl_tables::Numbered;
@@ -14,30 +14,7 @@ pub(crate) type Receivers = Numbered<Numbered<u32>>;
 pub(crate) fn receiver_in(receivers: &Receivers, region: u32, faction: u32) -> u32
     ensures { result ≡ receiver_in receivers.now region faction }
 {
-    let found = match receivers.get(region) {
-        Some(of_region) => of_region.get(faction).copied(),
-        None => None,
-    };
-    found.unwrap_or(0)
-}
-
-/// Puts a unit under its region and its faction. Without memory the receivers are to be given up.
-fn put_receiver(
-    alloc: Global,
-    receivers: &mut Receivers,
-    number: u32,
-    unit: &Unit,
-) -> Result<(), AllocError>
-    ensures { OnOk result (receivers.new ≡ with_receiver receivers.old unit.now.region unit.now.faction number) }
-{
-    match receivers.get_mut(unit.region) {
-        Some(of_region) => of_region.insert(unit.faction, number),
-        None => {
-            let mut of_region = Numbered::new(alloc);
-            of_region.insert(unit.faction, number)?;
-            receivers.insert(unit.region, of_region)
-        }
-    }
+    receivers.get_under(region, faction).copied().unwrap_or(0)
 }
 
 /// Notes a unit, if it has men and none was noted before it.
@@ -50,7 +27,7 @@ fn note(
     ensures { OnOk result (receivers.new ≡ receiver_noted receivers.old number unit.now) }
 {
     if 0 < unit.holding.men() && receiver_in(receivers, unit.region, unit.faction) == 0 {
-        put_receiver(alloc, receivers, number, unit)?;
+        receivers.insert_under(alloc, unit.region, unit.faction, number)?;
     }
     Ok(())
 }

@@ -2,11 +2,11 @@ use Rattle.std.proofs.Common.{◌≡◌, map, sym, ap, subst, ◌∙◌}
 use Rattle.std.specs.Prelude.{IfOk}
 use Rattle.std.specs.List.{fold}
 use Rattle.std.specs.FinMap.{empty, entries}
-use Rattle.atl_state.specs.FromRows.{group_of}
 use Rattle.atl_market.specs.Making.{made_from, with_shares}
 use Rattle.atl_market.specs.Pots.{AreWants, with_each}
 use Rattle.atl_market.proofs.GroupLaws.{groups_small, makes_are}
 use Rattle.atl_market.proofs.produce.MailedProducingPotPhase.given.Goals as goal
+use Rattle.atl_tables.specs.Groups.{group_of}
 
 pub shares_by_item-requires : goal.shares_by_item-requires
 shares_by_item-requires c = λ i.
