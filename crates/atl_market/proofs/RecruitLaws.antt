@@ -37,7 +37,7 @@ use Rattle.atl_instant.specs.declared.written.Written.{Written}
 use Rattle.atl_instant.proofs.BookingLaws.{booked-near, within-neg}
 use Rattle.atl_instant.proofs.MeaningLaws.{room_less, well_within}
 use Rattle.atl_market.specs.PotPhase.{CanInTurn, given_by, shared_out}
-use Rattle.atl_market.specs.Recruit.{CanRecruit, recruit_moves, recruit_pots, recruited, recruited_by, recruited_from, recruits_at, recruits_in, with_men, with_recruits}
+use Rattle.atl_market.specs.Recruit.{recruit_moves, recruit_pots, recruited, recruited_by, recruited_from, recruits_at, recruits_in, with_men, with_recruits}
 use Rattle.atl_market.specs.Unordered.{OthersAreNoWorse}
 use Rattle.atl_market.proofs.DrawLaws.{AreUntouched, HaveEnough, HaveLess, all_pairs, changed_regions, drawn, first_draws, others_draw, pot_is_enough, still, untouched}
 use Rattle.atl_state.proofs.HavingLaws.{MayHave, early-having, may_have}
@@ -45,6 +45,7 @@ use Rattle.atl_market.proofs.OrderedLaws.{others_no_worse}
 use Rattle.atl_market.proofs.TurnLaws.{first_room, later_room, turns_leave_well}
 use Rattle.atl_market.proofs.PotLaws.{pots_give}
 use Rattle.atl_market.proofs.WantLaws.{few_given, given_is_wanted}
+use Rattle.atl_market.specs.Payable.{CanRecruit}
 
 abbrev peasants_of : Region → ℕ
 peasants_of q = q.peasants

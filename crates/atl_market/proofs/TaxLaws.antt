@@ -28,12 +28,13 @@ use Rattle.atl_instant.specs.declared.written.Written.{Written}
 use Rattle.atl_instant.proofs.MeaningLaws.{near_same, well_within}
 use Rattle.atl_instant.proofs.StayingLaws.{are_no_worse, are_no_worse_twice}
 use Rattle.atl_market.specs.PotPhase.{CanInTurn, given_by, shared_out}
-use Rattle.atl_market.specs.Tax.{CanTax, money_at, tax_moves, tax_pots, taxed, taxed_by, taxed_from, with_tax}
+use Rattle.atl_market.specs.Tax.{money_at, tax_moves, tax_pots, taxed, taxed_by, taxed_from, with_tax}
 use Rattle.atl_market.proofs.DrawLaws.{all_pairs, HaveEnough, HaveLess, changed_regions, drawn, first_draws, others_draw, pot_is_enough, still, untouched}
 use Rattle.atl_market.proofs.PurseLaws.{others_stay, paid, richer, richer_is, richer_no_worse}
 use Rattle.atl_market.proofs.TurnLaws.{turns_leave_well}
 use Rattle.atl_market.proofs.PotLaws.{pots_give}
 use Rattle.atl_market.proofs.WantLaws.{given_is_wanted}
+use Rattle.atl_market.specs.Payable.{CanTax}
 
 abbrev money_of : Region → ℕ
 money_of q = q.money

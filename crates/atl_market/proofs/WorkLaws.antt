@@ -40,10 +40,11 @@ use Rattle.atl_instant.proofs.BookingLaws.{booked-near, within-pos}
 use Rattle.atl_instant.proofs.MeaningLaws.{room_less, well_within}
 use Rattle.atl_instant.proofs.StayingLaws.{are_no_worse, are_no_worse_twice, no_worse}
 use Rattle.atl_market.specs.PotPhase.{CanInTurn, given_by, shared_out}
-use Rattle.atl_market.specs.Work.{CanWork, earned, places_at, places_wanted, with_wages, work_moves, work_pots, worked, worked_by}
+use Rattle.atl_market.specs.Work.{earned, places_at, places_wanted, with_wages, work_moves, work_pots, worked, worked_by}
 use Rattle.atl_market.proofs.TurnLaws.{first_room, later_room, turns_leave_well}
 use Rattle.atl_market.proofs.PotLaws.{pots_give}
 use Rattle.atl_market.proofs.WantLaws.{few_given, given_is_wanted}
+use Rattle.atl_market.specs.Payable.{CanWork}
 
 -- ---- one unit gets its wages
 

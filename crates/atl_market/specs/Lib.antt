@@ -6,6 +6,7 @@ pub mod Unordered
 pub mod Tax
 pub mod Recruit
 pub mod Work
+pub mod Payable
 pub mod Stock
 pub mod Build
 pub mod Craft

@@ -1,5 +1,5 @@
 -- RECRUIT: peasants of a region join its units, at a price. See docs/RULES.md, "Recruiting".
-use Rattle.std.specs.Prelude.{◌≡◌, ◌≤◌, ◌++◌, ◌+◌, ◌-◌, ◌*◌, ◌/◌, ℕ, Bool, true, false, List, map, min, pos, neg_ℤ, nat_lt, Option, Some, None, if◌then◌else◌}
+use Rattle.std.specs.Prelude.{◌++◌, ◌+◌, ◌-◌, ◌*◌, ◌/◌, ℕ, Bool, true, false, List, map, min, pos, neg_ℤ, nat_lt, Option, Some, None, if◌then◌else◌}
 use Rattle.std.specs.Ordering.{nat_cmp}
 use Rattle.std.specs.FinMap.{FinMap, get, values}
 use Rattle.atl_tables.specs.Planet.{Planet}
@@ -14,13 +14,12 @@ use Rattle.atl_state.specs.declared.event.EventFault.{EventFault}
 use Rattle.atl_state.specs.declared.event.EventFault.TheVariants.{NotEnough}
 use Rattle.atl_state.specs.declared.records.Region.{Region}
 use Rattle.atl_state.specs.declared.records.Unit.{Unit}
-use Rattle.atl_state.specs.Good.{IsEarly}
 use Rattle.atl_state.specs.Held.{Held}
 use Rattle.atl_state.specs.Lending.{with_holding}
-use Rattle.atl_state.specs.Limits.{holding_limit, men_limit}
+use Rattle.atl_state.specs.Limits.{men_limit}
 use Rattle.atl_state.specs.State.{State, with_amount, with_peasants}
 use Rattle.atl_instant.specs.Course.{Course, order_at}
-use Rattle.atl_instant.specs.Meaning.{HaveRoom, Keeping, Meaning, Moving, moves_only}
+use Rattle.atl_instant.specs.Meaning.{Keeping, Meaning, Moving, moves_only}
 use Rattle.atl_instant.specs.PhaseOrders.{orders_of, written}
 use Rattle.atl_instant.specs.declared.written.Arrangement.TheVariants.{ByUnit}
 use Rattle.atl_instant.specs.declared.written.Written.{Written}
@@ -100,15 +99,3 @@ recruit_moves most = moves_only most Recruiting Money
 -- recruiting takes nothing from a unit whose own faction wrote no order of it
 abbrev pub recruit_keeps : Keeping
 recruit_keeps w m before after = OthersAreNoWorse (recruit_orders m) before after
-
--- ---- a unit, by its number, can get so many recruits: it is there, and can pay for them and has room for them, and the region and the books have
-pub record CanRecruit (w : Planet) (c : State) (e : ℕ × ℕ) : Type 0 where
-  pub unit : Unit
-  pub there : get c.units e.0 ≡ Some unit
-  pub region : Region
-  pub around : get c.regions unit.region ≡ Some region
-  pub fits : unit.holding.men + e.1 ≤ men_limit
-  pub payable : e.1 * w.rules.recruit_price ≤ unit.holding.money
-  pub enough : e.1 ≤ region.peasants
-  pub early : IsEarly w c
-  pub room : HaveRoom (recruit_moves holding_limit) c

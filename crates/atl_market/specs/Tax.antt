@@ -1,5 +1,5 @@
 -- TAX: the units on guard share the money of their region. See docs/RULES.md, "Tax".
-use Rattle.std.specs.Prelude.{◌≡◌, ◌≤◌, ◌+◌, ◌-◌, ◌*◌, ◌==◌, ℕ, Bool, true, false, List, map, min, Option, Some, None, if◌then◌else◌}
+use Rattle.std.specs.Prelude.{◌+◌, ◌-◌, ◌*◌, ◌==◌, ℕ, Bool, true, false, List, map, min, Option, Some, None, if◌then◌else◌}
 use Rattle.std.specs.Option.{option_map_or}
 use Rattle.std.specs.FinMap.{get, values}
 use Rattle.atl_tables.specs.Planet.{Planet}
@@ -9,7 +9,6 @@ use Rattle.atl_state.specs.declared.event.EventFault.{EventFault}
 use Rattle.atl_state.specs.declared.event.EventFault.TheVariants.{NoMen, NotGuarding}
 use Rattle.atl_state.specs.declared.records.Region.{Region}
 use Rattle.atl_state.specs.declared.records.Unit.{Unit}
-use Rattle.atl_state.specs.Good.{IsEarly}
 use Rattle.atl_state.specs.Limits.{holding_limit}
 use Rattle.atl_state.specs.State.{State, with_money, with_region_money}
 use Rattle.atl_instant.specs.Course.{Course}
@@ -77,13 +76,3 @@ tax_moves e t = 0
 -- tax takes nothing from any unit
 abbrev pub tax_keeps : Keeping
 tax_keeps w m before after = AreNoWorse before after
-
--- ---- a unit, by its number, can take so much: it is there, and has room for it, and the region has it
-pub record CanTax (w : Planet) (c : State) (e : ℕ × ℕ) : Type 0 where
-  pub unit : Unit
-  pub there : get c.units e.0 ≡ Some unit
-  pub region : Region
-  pub around : get c.regions unit.region ≡ Some region
-  pub fits : unit.holding.money + e.1 ≤ holding_limit
-  pub enough : e.1 ≤ region.money
-  pub early : IsEarly w c

@@ -1,5 +1,5 @@
 -- WORK: the places of each region's terrain are shared among the units that work, and each place pays the wage. See docs/RULES.md, "Work".
-use Rattle.std.specs.Prelude.{◌≡◌, ◌≤◌, ◌+◌, ◌-◌, ◌*◌, ◌/◌, ◌==◌, ◌&&◌, ◌++◌, ℕ, pos, Bool, true, false, List, [], ◌∷◌, map, filter, min, nat_lt, Option, Some, None, is_some, not, unwrap_or, if◌then◌else◌}
+use Rattle.std.specs.Prelude.{◌≡◌, ◌+◌, ◌-◌, ◌*◌, ◌/◌, ◌==◌, ◌&&◌, ◌++◌, ℕ, pos, Bool, true, false, List, [], ◌∷◌, map, filter, min, nat_lt, Option, Some, None, is_some, not, unwrap_or, if◌then◌else◌}
 use Rattle.std.specs.List.{flat_map}
 use Rattle.std.specs.Option.{option_map_or}
 use Rattle.std.specs.Ordering.{nat_cmp}
@@ -14,11 +14,10 @@ use Rattle.atl_state.specs.declared.books.Thing.TheVariants.{Money}
 use Rattle.atl_state.specs.declared.event.EventFault.{EventFault}
 use Rattle.atl_state.specs.declared.event.EventFault.TheVariants.{NoMen}
 use Rattle.atl_state.specs.declared.records.Unit.{Unit}
-use Rattle.atl_state.specs.Good.{IsSteady}
 use Rattle.atl_state.specs.Limits.{holding_limit}
 use Rattle.atl_state.specs.State.{State, with_amount, with_money}
 use Rattle.atl_instant.specs.Course.{Course}
-use Rattle.atl_instant.specs.Meaning.{HaveRoom, Keeping, Meaning, Moving, moves_only}
+use Rattle.atl_instant.specs.Meaning.{Keeping, Meaning, Moving, moves_only}
 use Rattle.atl_instant.specs.PhaseOrders.{is_month_long, orders_of, written}
 use Rattle.atl_instant.specs.Staying.{AreNoWorse}
 use Rattle.atl_instant.specs.Terrains.{terrain_of}
@@ -117,14 +116,6 @@ work_moves most = moves_only most Wages Money
 -- work takes nothing from any unit
 abbrev pub work_keeps : Keeping
 work_keeps w m before after = AreNoWorse before after
-
--- ---- a unit, by its number, can get so many places: it is there, and has room for the wages, as the books have
-pub record CanWork (w : Planet) (c : State) (e : ℕ × ℕ) : Type 0 where
-  pub unit : Unit
-  pub there : get c.units e.0 ≡ Some unit
-  pub fits : unit.holding.money + earned w unit.region e.1 ≤ holding_limit
-  pub steady : IsSteady w c
-  pub room : HaveRoom (work_moves holding_limit) c
 
 -- ---- a law
 

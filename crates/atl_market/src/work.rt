@@ -11,7 +11,8 @@ ghost use Rattle.atl_state.specs.Limits.{holding_limit};
 ghost use Rattle.atl_instant.specs.Meaning.{HaveRoom, most_moved};
 ghost use Rattle.atl_instant.specs.Terrains.{terrain_of};
 ghost use Rattle.atl_market.specs.PotPhase.{events_by, shared_out};
-ghost use Rattle.atl_market.specs.Work.{CanWork, PaysAllAtOnce, all_work, earned, idle_work, is_work, long_orders, own_lines, places_at, places_wanted, wage_at, with_wages, work_fault, work_keeps, work_key, work_meaning, work_moves, work_orders, work_pots};
+ghost use Rattle.atl_market.specs.Work.{PaysAllAtOnce, all_work, earned, idle_work, is_work, long_orders, own_lines, places_at, places_wanted, wage_at, with_wages, work_fault, work_keeps, work_key, work_meaning, work_moves, work_orders, work_pots};
+ghost use Rattle.atl_market.specs.Payable.{CanWork};
 
 use crate::pot_phase::{PotPhase, share_out, tell_all};
 use crate::pots::{Pots, pot_shares};

@@ -1,0 +1,42 @@
+-- For proofs alone: when a share of a pot can be paid.
+use Rattle.std.specs.Prelude.{◌≡◌, ◌≤◌, ◌+◌, ◌*◌, ℕ, Some}
+use Rattle.std.specs.FinMap.{get}
+use Rattle.atl_tables.specs.Planet.{Planet}
+use Rattle.atl_state.specs.declared.records.Region.{Region}
+use Rattle.atl_state.specs.declared.records.Unit.{Unit}
+use Rattle.atl_state.specs.Good.{IsEarly, IsSteady}
+use Rattle.atl_state.specs.Limits.{holding_limit, men_limit}
+use Rattle.atl_state.specs.State.{State}
+use Rattle.atl_instant.specs.Meaning.{HaveRoom}
+use Rattle.atl_market.specs.Recruit.{recruit_moves}
+use Rattle.atl_market.specs.Work.{earned, work_moves}
+
+-- a unit, by its number, can take so much: it is there, and has room for it, and the region has it
+pub record CanTax (w : Planet) (c : State) (e : ℕ × ℕ) : Type 0 where
+  pub unit : Unit
+  pub there : get c.units e.0 ≡ Some unit
+  pub region : Region
+  pub around : get c.regions unit.region ≡ Some region
+  pub fits : unit.holding.money + e.1 ≤ holding_limit
+  pub enough : e.1 ≤ region.money
+  pub early : IsEarly w c
+
+-- a unit, by its number, can get so many recruits: it is there, and can pay for them and has room for them, and the region and the books have
+pub record CanRecruit (w : Planet) (c : State) (e : ℕ × ℕ) : Type 0 where
+  pub unit : Unit
+  pub there : get c.units e.0 ≡ Some unit
+  pub region : Region
+  pub around : get c.regions unit.region ≡ Some region
+  pub fits : unit.holding.men + e.1 ≤ men_limit
+  pub payable : e.1 * w.rules.recruit_price ≤ unit.holding.money
+  pub enough : e.1 ≤ region.peasants
+  pub early : IsEarly w c
+  pub room : HaveRoom (recruit_moves holding_limit) c
+
+-- a unit, by its number, can get so many places: it is there, and has room for the wages, as the books have
+pub record CanWork (w : Planet) (c : State) (e : ℕ × ℕ) : Type 0 where
+  pub unit : Unit
+  pub there : get c.units e.0 ≡ Some unit
+  pub fits : unit.holding.money + earned w unit.region e.1 ≤ holding_limit
+  pub steady : IsSteady w c
+  pub room : HaveRoom (work_moves holding_limit) c
