@@ -21,7 +21,7 @@ use Rattle.atl_instant.specs.declared.written.Arrangement.TheVariants.{ByUnit}
 use Rattle.atl_instant.specs.declared.written.Written.{Written}
 use Rattle.atl_instant.proofs.StructureLaws.{unequal}
 use Rattle.atl_instant.proofs.UnmailedLaws.{HasItsItems, HasItsMen, HaveTheirMen, LeavesUnmailed, UnmailedAre, items_of_no_worse, men_changed, men_in_turn, men_stay, none_ordered, whole_leaves}
-use Rattle.atl_market.specs.PotPhase.{PotMeaning, event_of, events_by, given_by, shared_out}
+use Rattle.atl_market.specs.PotPhase.{PotMeaning, event_of, events_by, given_by, pots_meaning, shared_out}
 use Rattle.atl_market.specs.Recruit.{is_recruit, recruit_keeps, recruit_meaning, recruit_orders, recruit_pots, recruits_at}
 use Rattle.atl_market.specs.Tax.{tax_keeps, tax_meaning, tax_orders, tax_pots, taxed, taxed_by, taxed_from}
 use Rattle.atl_market.specs.Unordered.{OthersAreNoWorse, is_ordered}
@@ -56,7 +56,7 @@ module _ (p : PotMeaning) (w : Planet) (c : State) where
 -- a phase with pots, which may be of what the mailings say
 module _ (p : State → Course → PotMeaning) (orders : State → Course → List Written) where
   abbrev pub shared : Meaning
-  shared w c m = (shared_out (p c m) w c (orders c m), record m { events = m.events ++ events_by (p c m) w c (orders c m) })
+  shared = pots_meaning p orders
 
   pub shared_leave : {keeps : Keeping} → ((w : Planet) (c : State) (m : Course) → UnmailedAre HasItsMen m c (shared w c m).0) → ((w : Planet) (c d : State) (m : Course) → keeps w m c d → UnmailedAre HasItsItems m c d) → LeavesUnmailed shared keeps
   shared_leave {keeps} men items =

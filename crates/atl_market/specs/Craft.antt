@@ -1,5 +1,5 @@
 -- How much of an item a unit can make: by its men, their skill, its room, and the raw items that it holds. See docs/RULES.md, "Producing".
-use Rattle.std.specs.Prelude.{◌-◌, ◌*◌, ◌/◌, ◌==◌, ℕ, Bool, true, false, min, nat_lt, Option, Some, None, is_some, option_and_then, if◌then◌else◌}
+use Rattle.std.specs.Prelude.{◌-◌, ◌*◌, ◌/◌, ◌==◌, ℕ, Bool, true, false, min, nat_lt, Option, Some, None, is_some, option_and_then, if◌then◌else◌, [], ◌∷◌}
 use Rattle.std.specs.List.{slice_get}
 use Rattle.atl_tables.specs.Planet.{Planet}
 use Rattle.atl_tables.specs.declared.world.Item.{Item}
@@ -8,6 +8,7 @@ use Rattle.atl_state.specs.declared.event.EventFault.TheVariants.{NoMaterial, No
 use Rattle.atl_state.specs.Held.{Held, amount_of}
 use Rattle.atl_state.specs.Levels.{level_in_any}
 use Rattle.atl_state.specs.Limits.{holding_limit}
+use Rattle.atl_instant.specs.Outcomes.{first_fault}
 
 -- the item that a unit is told to make, where it is one of the world
 abbrev pub item_of : Planet → Option ℕ → Option Item
@@ -29,11 +30,8 @@ lacks_raw h count (Some raw) = amount_of h.items raw / count == 0
 
 -- Why a unit doesn't make an item. A thing that is none of the world's items, no skill makes.
 abbrev pub make_fault : Held → Option Item → Option EventFault
-make_fault h None = if h.men == 0 then Some NoMen else Some NoSkill
-make_fault h (Some x) =
-    if h.men == 0 then Some NoMen
-    else (if is_unskilled h x then Some NoSkill
-    else (if lacks_raw h x.raw_count x.raw then Some NoMaterial else None))
+make_fault h None = first_fault ((h.men == 0, NoMen) ∷ (true, NoSkill) ∷ [])
+make_fault h (Some x) = first_fault ((h.men == 0, NoMen) ∷ (is_unskilled h x, NoSkill) ∷ (lacks_raw h x.raw_count x.raw, NoMaterial) ∷ [])
 
 abbrev pub can_make_of : Held → ℕ → Option Item → ℕ
 can_make_of h i None = 0

@@ -15,6 +15,7 @@ use Rattle.atl_state.specs.Events.{event_fault_number}
 use Rattle.atl_state.specs.State.{State}
 use Rattle.atl_instant.specs.Course.{Course}
 use Rattle.atl_instant.specs.declared.written.Written.{Written}
+use Rattle.atl_instant.specs.Meaning.{Meaning}
 use Rattle.atl_market.specs.Pots.{with_each}
 
 pub record PotMeaning : Type 0 where
@@ -76,9 +77,9 @@ module _ (p : PotMeaning) (w : Planet) (c : State) where
   unfoldable pub events_by : List Written → List Event
   events_by os = map (event_of (given_by os)) os
 
--- what a phase makes of a campaign and of what the month carries, with the orders that it finds
-abbrev pub pots_meaning : PotMeaning → (State → Course → List Written) → Planet → State → Course → State × Course
-pots_meaning p orders w c m = (shared_out p w c (orders c m), record m { events = m.events ++ events_by p w c (orders c m) })
+-- what a phase makes of a campaign and of what the month carries, by what it is there, with the orders that it finds
+abbrev pub pots_meaning : (State → Course → PotMeaning) → (State → Course → List Written) → Meaning
+pots_meaning p orders w c m = (shared_out (p c m) w c (orders c m), record m { events = m.events ++ events_by (p c m) w c (orders c m) })
 
 -- ---- steps in turn, each of which can be taken when its turn comes
 abbrev pub CanInTurn : {X : Type 0} → (State → X → Type 0) → (State → X → State) → State → List X → Type 0

@@ -1,5 +1,5 @@
 -- PRODUCE: units make items, of raw items (specs/Craft) or of what the terrain of their region gives (specs/Outputs). See docs/RULES.md, "Producing".
-use Rattle.std.specs.Prelude.{◌++◌, ◌*◌, ℕ, Bool, true, false, List, [], ◌∷◌, map, Option, Some, None, if◌then◌else◌}
+use Rattle.std.specs.Prelude.{◌*◌, ℕ, Bool, true, false, List, [], ◌∷◌, map, Option, Some, None, if◌then◌else◌}
 use Rattle.std.specs.List.{flat_map, slice_get}
 use Rattle.std.specs.Ordering.{nat_cmp}
 use Rattle.std.specs.FinMap.{FinMap, empty, get, values}
@@ -20,7 +20,7 @@ use Rattle.atl_instant.specs.declared.written.Arrangement.TheVariants.{ByUnit}
 use Rattle.atl_instant.specs.declared.written.Written.{Written}
 use Rattle.atl_instant.specs.Steps.{is_of_faction}
 use Rattle.atl_market.specs.Pots.{with_each}
-use Rattle.atl_market.specs.PotPhase.{PotMeaning, events_by, shared_out}
+use Rattle.atl_market.specs.PotPhase.{PotMeaning, pots_meaning}
 use Rattle.atl_market.specs.Unordered.{OthersAreNoWorse}
 use Rattle.atl_market.specs.Stock.{with_made, with_used}
 use Rattle.atl_market.specs.Craft.{can_make, item_of, make_fault}
@@ -81,9 +81,7 @@ produce_pots asked = record {
 }
 
 abbrev pub produce_meaning : Meaning
-produce_meaning w c m =
-    let p = produce_pots (items_asked m.readings c (produce_orders m)) in
-    (shared_out p w c (produce_orders m), record m { events = m.events ++ events_by p w c (produce_orders m) })
+produce_meaning = pots_meaning (λ c m. produce_pots (items_asked m.readings c (produce_orders m))) (λ c m. produce_orders m)
 
 -- what is made and what is used is of items
 abbrev pub produce_moves : ℕ → Moving

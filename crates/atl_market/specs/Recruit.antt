@@ -1,5 +1,5 @@
 -- RECRUIT: peasants of a region join its units, at a price. See docs/RULES.md, "Recruiting".
-use Rattle.std.specs.Prelude.{◌++◌, ◌+◌, ◌-◌, ◌*◌, ◌/◌, ℕ, Bool, true, false, List, map, min, pos, neg_ℤ, nat_lt, Option, Some, None, if◌then◌else◌}
+use Rattle.std.specs.Prelude.{◌+◌, ◌-◌, ◌*◌, ◌/◌, ℕ, Bool, true, false, List, map, min, pos, neg_ℤ, nat_lt, Option, Some, None, [], ◌∷◌}
 use Rattle.std.specs.Ordering.{nat_cmp}
 use Rattle.std.specs.FinMap.{FinMap, get, values}
 use Rattle.atl_tables.specs.Planet.{Planet}
@@ -23,8 +23,9 @@ use Rattle.atl_instant.specs.Meaning.{Keeping, Meaning, Moving, moves_only}
 use Rattle.atl_instant.specs.PhaseOrders.{orders_of, written}
 use Rattle.atl_instant.specs.declared.written.Arrangement.TheVariants.{ByUnit}
 use Rattle.atl_instant.specs.declared.written.Written.{Written}
+use Rattle.atl_instant.specs.Outcomes.{first_fault}
 use Rattle.atl_market.specs.Pots.{pot_shares}
-use Rattle.atl_market.specs.PotPhase.{PotMeaning, events_by, shared_out}
+use Rattle.atl_market.specs.PotPhase.{PotMeaning, pots_meaning}
 use Rattle.atl_market.specs.Unordered.{OthersAreNoWorse}
 
 abbrev pub is_recruit : Verb → Bool
@@ -42,7 +43,7 @@ asked_in other = 0
 
 -- why a unit recruits nobody
 abbrev pub recruit_fault : Planet → Unit → Option EventFault
-recruit_fault w u = if nat_lt u.holding.money w.rules.recruit_price then Some NotEnough else None
+recruit_fault w u = first_fault ((nat_lt u.holding.money w.rules.recruit_price, NotEnough) ∷ [])
 
 -- as many as it asks for, as it can pay for, and as it has room for
 abbrev pub recruits_wanted : Planet → Unit → ℕ → ℕ
@@ -88,9 +89,7 @@ recruit_pots readings = record {
 }
 
 abbrev pub recruit_meaning : Meaning
-recruit_meaning w c m =
-    let p = recruit_pots m.readings in
-    (shared_out p w c (recruit_orders m), record m { events = m.events ++ events_by p w c (recruit_orders m) })
+recruit_meaning = pots_meaning (λ c m. recruit_pots m.readings) (λ c m. recruit_orders m)
 
 -- what is paid for recruits is of money
 abbrev pub recruit_moves : ℕ → Moving

@@ -1,5 +1,5 @@
 -- TAX: the units on guard share the money of their region. See docs/RULES.md, "Tax".
-use Rattle.std.specs.Prelude.{◌+◌, ◌-◌, ◌*◌, ◌==◌, ℕ, Bool, true, false, List, map, min, Option, Some, None, if◌then◌else◌}
+use Rattle.std.specs.Prelude.{◌+◌, ◌-◌, ◌*◌, ◌==◌, ℕ, Bool, true, false, List, map, min, Option, Some, None, not, [], ◌∷◌}
 use Rattle.std.specs.Option.{option_map_or}
 use Rattle.std.specs.FinMap.{get, values}
 use Rattle.atl_tables.specs.Planet.{Planet}
@@ -17,6 +17,7 @@ use Rattle.atl_instant.specs.PhaseOrders.{orders_of, written}
 use Rattle.atl_instant.specs.Staying.{AreNoWorse}
 use Rattle.atl_instant.specs.declared.written.Arrangement.TheVariants.{ByUnit}
 use Rattle.atl_instant.specs.declared.written.Written.{Written}
+use Rattle.atl_instant.specs.Outcomes.{first_fault}
 use Rattle.atl_market.specs.Pots.{pot_shares}
 use Rattle.atl_market.specs.PotPhase.{PotMeaning, pots_meaning}
 
@@ -30,7 +31,7 @@ tax_orders c m = map written (values (orders_of is_tax ByUnit m.aliases m.readin
 
 -- why a unit takes no tax
 abbrev pub tax_fault : Unit → Option EventFault
-tax_fault u = if u.holding.men == 0 then Some NoMen else (if u.holding.guard then None else Some NotGuarding)
+tax_fault u = first_fault ((u.holding.men == 0, NoMen) ∷ (not u.holding.guard, NotGuarding) ∷ [])
 
 -- as much as its men take, as far as it has room for it
 abbrev pub tax_wanted : Planet → Unit → ℕ
@@ -67,7 +68,7 @@ tax_pots = record {
 }
 
 abbrev pub tax_meaning : Meaning
-tax_meaning = pots_meaning tax_pots tax_orders
+tax_meaning = pots_meaning (λ c m. tax_pots) tax_orders
 
 -- what a region's people pay was theirs: no entry of the books changes
 abbrev pub tax_moves : Moving

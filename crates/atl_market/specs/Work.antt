@@ -24,6 +24,7 @@ use Rattle.atl_instant.specs.Terrains.{terrain_of}
 use Rattle.atl_instant.specs.declared.written.Arrangement.TheVariants.{ByUnit}
 use Rattle.atl_instant.specs.declared.written.Written.{Written}
 use Rattle.atl_instant.specs.Steps.{is_of_faction}
+use Rattle.atl_instant.specs.Outcomes.{first_fault}
 use Rattle.atl_market.specs.PotPhase.{PotMeaning, given_by, pots_meaning, shared_out}
 use Rattle.atl_market.specs.Pots.{pot_shares, with_each}
 
@@ -94,7 +95,7 @@ unfoldable pub worked : Planet → State → ℕ × ℕ → State
 worked w c e = worked_by w c e (get c.units e.0)
 
 abbrev pub work_fault : Unit → Option EventFault
-work_fault u = if u.holding.men == 0 then Some NoMen else None
+work_fault u = first_fault ((u.holding.men == 0, NoMen) ∷ [])
 
 -- A unit wants a place for each of its men, as far as it has room for the wages, and is told what it earned.
 abbrev pub work_pots : PotMeaning
@@ -107,7 +108,7 @@ work_pots = record {
 }
 
 abbrev pub work_meaning : Meaning
-work_meaning = pots_meaning work_pots work_orders
+work_meaning = pots_meaning (λ c m. work_pots) work_orders
 
 -- wages are of money
 abbrev pub work_moves : ℕ → Moving

@@ -67,10 +67,10 @@ impl PotPhase for TaxPhase {
     fn fault(&self, _world: &World, unit: &Unit, _order: Written) -> Option<EventFault> {
         if unit.holding.men() == 0 {
             Some(EventFault::NoMen)
-        } else if unit.holding.guard() {
-            None
-        } else {
+        } else if !unit.holding.guard() {
             Some(EventFault::NotGuarding)
+        } else {
+            None
         }
     }
 
