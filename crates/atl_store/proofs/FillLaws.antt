@@ -90,7 +90,7 @@ fills_players c text a b d e first second third none =
     (λ bare. (rows_filled report_row (λ n f. refl) (rows_in report_table e.trees) (rows_in report_table d.trees) c.reports bare third.rows, third.others))
     none.campaign none.factions none.reports in (
       record { campaign = all.0; factions = all.1; reports = all.2 },
-      λ t listed free. all.3 t listed (other_tree t.tree player_trees 0 (inl refl) free) (other_tree t.tree player_trees 1 (inr (inl refl)) free) (other_tree t.tree player_trees 9 (inr (inr (inl refl))) free),
+      λ t listed free. all.3 t listed (other_tree t.tree player_trees campaign_table.tree (inl refl) free) (other_tree t.tree player_trees faction_table.tree (inr (inl refl)) free) (other_tree t.tree player_trees report_table.tree (inr (inr (inl refl))) free),
     )
 
 pub players_done : (c : Campaign) (text : List ℕ) (start one two three : State) → Inside HasTables (PutsHead (head_of c) text) start one → Inside HasTables (PutsRows faction_table 1 (lines_of faction_line (entries c.factions))) one two
@@ -115,7 +115,7 @@ fills_places c a b d e first second third none =
     (λ bare. (books_filled c (rows_in books_table e.trees) (rows_in books_table d.trees) bare third.rows, third.others))
     none.regions none.structures none.books in (
       record { regions = all.0; structures = all.1; books = all.2 },
-      λ t listed free. all.3 t listed (other_tree t.tree place_trees 3 (inl refl) free) (other_tree t.tree place_trees 7 (inr (inl refl)) free) (other_tree t.tree place_trees 10 (inr (inr (inl refl))) free),
+      λ t listed free. all.3 t listed (other_tree t.tree place_trees region_table.tree (inl refl) free) (other_tree t.tree place_trees structure_table.tree (inr (inl refl)) free) (other_tree t.tree place_trees books_table.tree (inr (inr (inl refl))) free),
     )
 
 pub places_done : (c : Campaign) (start one two three : State) → Inside HasTables (PutsRows region_table 1 (lines_of region_line (entries c.regions))) start one
@@ -141,7 +141,7 @@ fills_people c a b d e first second third none =
     (λ bare. (rows_filled mail_row (λ n f. refl) (rows_in mail_table e.trees) (rows_in mail_table d.trees) c.mail bare third.rows, third.others))
     none.units none.has none.mail in (
       record { units = all.0; has = all.1; mail = all.2 },
-      λ t listed free. all.3 t listed (other_tree t.tree people_trees 4 (inl refl) free) (other_tree t.tree people_trees 5 (inr (inl refl)) free) (other_tree t.tree people_trees 8 (inr (inr (inl refl))) free),
+      λ t listed free. all.3 t listed (other_tree t.tree people_trees unit_table.tree (inl refl) free) (other_tree t.tree people_trees has_table.tree (inr (inl refl)) free) (other_tree t.tree people_trees mail_table.tree (inr (inr (inl refl))) free),
     )
 
 pub people_done : (c : Campaign) (start one two three : State) → Inside HasTables (PutsRows unit_table 1 (lines_of unit_line (entries c.units))) start one → Inside HasTables (PutsRows has_table 3 (all_goods_lines (entries c.units))) one two

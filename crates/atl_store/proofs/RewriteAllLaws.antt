@@ -71,7 +71,7 @@ module _ (c : Marked) where
         all.0,
         all.1,
         all.2,
-        λ t listed free. all.3 t listed (other_tree t.tree player_trees 0 (inl refl) free) (other_tree t.tree player_trees 1 (inr (inl refl)) free) (other_tree t.tree player_trees 9 (inr (inr (inl refl))) free),
+        λ t listed free. all.3 t listed (other_tree t.tree player_trees campaign_table.tree (inl refl) free) (other_tree t.tree player_trees faction_table.tree (inr (inl refl)) free) (other_tree t.tree player_trees report_table.tree (inr (inr (inl refl))) free),
       )
 
   places : (a b d e : Database) → RewritesMarked region_table region_line c.what.regions c.marks.regions a b → RewritesMarked structure_table structure_line c.what.structures c.marks.structures b d → RewritesBooks c d e → RewritesPlaces c a e
@@ -83,7 +83,7 @@ module _ (c : Marked) where
         all.0,
         all.1,
         all.2,
-        λ t listed free. all.3 t listed (other_tree t.tree place_trees 3 (inl refl) free) (other_tree t.tree place_trees 7 (inr (inl refl)) free) (other_tree t.tree place_trees 10 (inr (inr (inl refl))) free),
+        λ t listed free. all.3 t listed (other_tree t.tree place_trees region_table.tree (inl refl) free) (other_tree t.tree place_trees structure_table.tree (inr (inl refl)) free) (other_tree t.tree place_trees books_table.tree (inr (inr (inl refl))) free),
       )
 
   people : (a b d e : Database) → RewritesMarked unit_table unit_line c.what.units c.marks.units a b → RewritesAllGoods c.what.units c.marks.goods b d → RewritesMarked mail_table mail_row c.what.mail c.marks.mail d e → RewritesPeople c a e
@@ -95,7 +95,7 @@ module _ (c : Marked) where
         all.0,
         all.1,
         all.2,
-        λ t listed free. all.3 t listed (other_tree t.tree people_trees 4 (inl refl) free) (other_tree t.tree people_trees 5 (inr (inl refl)) free) (other_tree t.tree people_trees 8 (inr (inr (inl refl))) free),
+        λ t listed free. all.3 t listed (other_tree t.tree people_trees unit_table.tree (inl refl) free) (other_tree t.tree people_trees has_table.tree (inr (inl refl)) free) (other_tree t.tree people_trees mail_table.tree (inr (inr (inl refl))) free),
       )
 
   -- ---- inside a transaction

@@ -50,7 +50,7 @@ campaign_order = (col 1 0, ascending Binary) ∷ []
 abbrev campaign_titles : List (List ℕ)
 campaign_titles = codes "id" ∷ codes "format" ∷ codes "month" ∷ codes "next_faction" ∷ codes "next_unit" ∷ codes "next_structure" ∷ codes "pass" ∷ codes "world" ∷ []
 
-campaign_all : IsAll all_campaign 0 campaign_columns campaign_order campaign_titles
+campaign_all : IsAll all_campaign campaign_table.tree campaign_columns campaign_order campaign_titles
 unfolding understood everything
 campaign_all = record { command = λ more indexes. refl; plain = λ more indexes. (refl, refl); unlisted = λ more indexes. refl }
 
@@ -59,7 +59,7 @@ pub campaign_plain : (schema : Schema) → HasNine schema → IsPlain (understoo
 campaign_plain schema has = subst (λ s. IsPlain (understood s all_campaign)) (sym has.is) (campaign_all.plain has.tables has.indexes)
 
 pub reads_campaign : (old new : State) (rows : List Row) → Shown all_campaign [] old new rows → HasNine old.now.schema → IsPermutation (rows_in campaign_table old.now.trees) (map (first_columns 8) rows)
-reads_campaign = reads_all all_campaign 0 campaign_columns campaign_order campaign_titles campaign_all (λ db. refl) 8 (λ r. refl)
+reads_campaign = reads_all all_campaign campaign_table.tree campaign_columns campaign_order campaign_titles campaign_all (λ db. refl) 8 (λ r. refl)
 
 -- ---- faction
 
@@ -72,12 +72,12 @@ faction_order = (col 1 0, ascending Binary) ∷ []
 abbrev faction_titles : List (List ℕ)
 faction_titles = codes "number" ∷ codes "joined_as" ∷ codes "name" ∷ codes "pass" ∷ codes "gone" ∷ []
 
-faction_all : IsAll all_factions 1 faction_columns faction_order faction_titles
+faction_all : IsAll all_factions faction_table.tree faction_columns faction_order faction_titles
 unfolding understood everything
 faction_all = record { command = λ more indexes. refl; plain = λ more indexes. (refl, refl); unlisted = λ more indexes. refl }
 
 pub reads_faction : (old new : State) (rows : List Row) → Shown all_factions [] old new rows → HasNine old.now.schema → IsPermutation (rows_in faction_table old.now.trees) (map (first_columns 5) rows)
-reads_faction = reads_all all_factions 1 faction_columns faction_order faction_titles faction_all (λ db. refl) 5 (λ r. refl)
+reads_faction = reads_all all_factions faction_table.tree faction_columns faction_order faction_titles faction_all (λ db. refl) 5 (λ r. refl)
 
 -- ---- region
 
@@ -90,12 +90,12 @@ region_order = (col 1 0, ascending Binary) ∷ []
 abbrev region_titles : List (List ℕ)
 region_titles = codes "number" ∷ codes "peasants" ∷ codes "money" ∷ []
 
-region_all : IsAll all_regions 3 region_columns region_order region_titles
+region_all : IsAll all_regions region_table.tree region_columns region_order region_titles
 unfolding understood everything
 region_all = record { command = λ more indexes. refl; plain = λ more indexes. (refl, refl); unlisted = λ more indexes. refl }
 
 pub reads_region : (old new : State) (rows : List Row) → Shown all_regions [] old new rows → HasNine old.now.schema → IsPermutation (rows_in region_table old.now.trees) (map (first_columns 3) rows)
-reads_region = reads_all all_regions 3 region_columns region_order region_titles region_all (λ db. refl) 3 (λ r. refl)
+reads_region = reads_all all_regions region_table.tree region_columns region_order region_titles region_all (λ db. refl) 3 (λ r. refl)
 
 -- ---- unit
 
@@ -108,12 +108,12 @@ unit_order = (col 1 0, ascending Binary) ∷ []
 abbrev unit_titles : List (List ℕ)
 unit_titles = codes "number" ∷ codes "faction" ∷ codes "name" ∷ codes "region" ∷ codes "structure" ∷ codes "men" ∷ codes "money" ∷ codes "guard" ∷ []
 
-unit_all : IsAll all_units 4 unit_columns unit_order unit_titles
+unit_all : IsAll all_units unit_table.tree unit_columns unit_order unit_titles
 unfolding understood everything
 unit_all = record { command = λ more indexes. refl; plain = λ more indexes. (refl, refl); unlisted = λ more indexes. refl }
 
 pub reads_unit : (old new : State) (rows : List Row) → Shown all_units [] old new rows → HasNine old.now.schema → IsPermutation (rows_in unit_table old.now.trees) (map (first_columns 8) rows)
-reads_unit = reads_all all_units 4 unit_columns unit_order unit_titles unit_all (λ db. refl) 8 (λ r. refl)
+reads_unit = reads_all all_units unit_table.tree unit_columns unit_order unit_titles unit_all (λ db. refl) 8 (λ r. refl)
 
 -- ---- has
 
@@ -126,12 +126,12 @@ has_order = (col 1 1, ascending Binary) ∷ (col 1 2, ascending Binary) ∷ (col
 abbrev has_titles : List (List ℕ)
 has_titles = codes "unit" ∷ codes "sort" ∷ codes "thing" ∷ codes "amount" ∷ codes "rowid" ∷ []
 
-has_all : IsAll all_has 5 has_columns has_order has_titles
+has_all : IsAll all_has has_table.tree has_columns has_order has_titles
 unfolding understood everything
 has_all = record { command = λ more indexes. refl; plain = λ more indexes. (refl, refl); unlisted = λ more indexes. refl }
 
 pub reads_has : (old new : State) (rows : List Row) → Shown all_has [] old new rows → HasNine old.now.schema → IsPermutation (placed_rows_in has_table old.now.trees) (map (first_columns 5) rows)
-reads_has = reads_all all_has 5 has_columns has_order has_titles has_all (λ db. refl) 5 (λ r. refl)
+reads_has = reads_all all_has has_table.tree has_columns has_order has_titles has_all (λ db. refl) 5 (λ r. refl)
 
 -- ---- structure
 
@@ -144,12 +144,12 @@ structure_order = (col 1 0, ascending Binary) ∷ []
 abbrev structure_titles : List (List ℕ)
 structure_titles = codes "number" ∷ codes "kind" ∷ codes "name" ∷ codes "region" ∷ codes "done" ∷ codes "owner" ∷ []
 
-structure_all : IsAll all_structures 7 structure_columns structure_order structure_titles
+structure_all : IsAll all_structures structure_table.tree structure_columns structure_order structure_titles
 unfolding understood everything
 structure_all = record { command = λ more indexes. refl; plain = λ more indexes. (refl, refl); unlisted = λ more indexes. refl }
 
 pub reads_structure : (old new : State) (rows : List Row) → Shown all_structures [] old new rows → HasNine old.now.schema → IsPermutation (rows_in structure_table old.now.trees) (map (first_columns 6) rows)
-reads_structure = reads_all all_structures 7 structure_columns structure_order structure_titles structure_all (λ db. refl) 6 (λ r. refl)
+reads_structure = reads_all all_structures structure_table.tree structure_columns structure_order structure_titles structure_all (λ db. refl) 6 (λ r. refl)
 
 -- ---- mail
 
@@ -162,12 +162,12 @@ mail_order = (col 1 0, ascending Binary) ∷ []
 abbrev mail_titles : List (List ℕ)
 mail_titles = codes "faction" ∷ codes "text" ∷ []
 
-mail_all : IsAll all_mail 8 mail_columns mail_order mail_titles
+mail_all : IsAll all_mail mail_table.tree mail_columns mail_order mail_titles
 unfolding understood everything
 mail_all = record { command = λ more indexes. refl; plain = λ more indexes. (refl, refl); unlisted = λ more indexes. refl }
 
 pub reads_mail : (old new : State) (rows : List Row) → Shown all_mail [] old new rows → HasNine old.now.schema → IsPermutation (rows_in mail_table old.now.trees) (map (first_columns 2) rows)
-reads_mail = reads_all all_mail 8 mail_columns mail_order mail_titles mail_all (λ db. refl) 2 (λ r. refl)
+reads_mail = reads_all all_mail mail_table.tree mail_columns mail_order mail_titles mail_all (λ db. refl) 2 (λ r. refl)
 
 -- ---- report
 
@@ -180,12 +180,12 @@ report_order = (col 1 0, ascending Binary) ∷ []
 abbrev report_titles : List (List ℕ)
 report_titles = codes "faction" ∷ codes "text" ∷ []
 
-report_all : IsAll all_reports 9 report_columns report_order report_titles
+report_all : IsAll all_reports report_table.tree report_columns report_order report_titles
 unfolding understood everything
 report_all = record { command = λ more indexes. refl; plain = λ more indexes. (refl, refl); unlisted = λ more indexes. refl }
 
 pub reads_report : (old new : State) (rows : List Row) → Shown all_reports [] old new rows → HasNine old.now.schema → IsPermutation (rows_in report_table old.now.trees) (map (first_columns 2) rows)
-reads_report = reads_all all_reports 9 report_columns report_order report_titles report_all (λ db. refl) 2 (λ r. refl)
+reads_report = reads_all all_reports report_table.tree report_columns report_order report_titles report_all (λ db. refl) 2 (λ r. refl)
 
 -- ---- books
 
@@ -198,9 +198,9 @@ books_order = (col 1 1, ascending Binary) ∷ (col 1 2, ascending Binary) ∷ []
 abbrev books_titles : List (List ℕ)
 books_titles = codes "entry" ∷ codes "thing" ∷ codes "amount" ∷ codes "rowid" ∷ []
 
-books_all : IsAll all_books 10 books_columns books_order books_titles
+books_all : IsAll all_books books_table.tree books_columns books_order books_titles
 unfolding understood everything
 books_all = record { command = λ more indexes. refl; plain = λ more indexes. (refl, refl); unlisted = λ more indexes. refl }
 
 pub reads_books : (old new : State) (rows : List Row) → Shown all_books [] old new rows → HasNine old.now.schema → IsPermutation (placed_rows_in books_table old.now.trees) (map (first_columns 4) rows)
-reads_books = reads_all all_books 10 books_columns books_order books_titles books_all (λ db. refl) 4 (λ r. refl)
+reads_books = reads_all all_books books_table.tree books_columns books_order books_titles books_all (λ db. refl) 4 (λ r. refl)

@@ -27,7 +27,7 @@ pub record HasPlayers (text : List ℕ) (c : State) (db : Database) : Type 0 whe
   pub reports : Is (rows_in report_table db.trees) (RowsOf report_row c.reports)
 
 abbrev pub player_trees : List ℕ
-player_trees = 0 ∷ 1 ∷ 9 ∷ []
+player_trees = campaign_table.tree ∷ faction_table.tree ∷ report_table.tree ∷ []
 
 abbrev pub FillsPlayers : List ℕ → State → Database → Database → Type 0
 FillsPlayers text c old new = NoPlayers old → HasPlayers text c new × SparesAllBut player_trees old new
@@ -45,7 +45,7 @@ pub record HasPlaces (c : State) (db : Database) : Type 0 where
   pub books : Is (rows_in books_table db.trees) (BooksRowsOf c.books)
 
 abbrev pub place_trees : List ℕ
-place_trees = 3 ∷ 7 ∷ 10 ∷ []
+place_trees = region_table.tree ∷ structure_table.tree ∷ books_table.tree ∷ []
 
 abbrev pub FillsPlaces : State → Database → Database → Type 0
 FillsPlaces c old new = NoPlaces old → HasPlaces c new × SparesAllBut place_trees old new
@@ -63,7 +63,7 @@ pub record HasPeople (c : State) (db : Database) : Type 0 where
   pub mail : Is (rows_in mail_table db.trees) (RowsOf mail_row c.mail)
 
 abbrev pub people_trees : List ℕ
-people_trees = 4 ∷ 5 ∷ 8 ∷ []
+people_trees = unit_table.tree ∷ has_table.tree ∷ mail_table.tree ∷ []
 
 abbrev pub FillsPeople : State → Database → Database → Type 0
 FillsPeople c old new = NoPeople old → HasPeople c new × SparesAllBut people_trees old new

@@ -24,6 +24,22 @@ number name = field name Integer
 abbrev pub text : List ℕ → Column
 text name = field name Text
 
+-- ---- the places in a row of what is unique in a table beside the row's number
+
+-- a faction's joined_as
+abbrev pub faction_unique : List ℕ
+faction_unique = 2 ∷ []
+
+-- unit, sort and thing
+abbrev pub has_unique : List ℕ
+has_unique = 1 ∷ 2 ∷ 3 ∷ []
+
+-- entry and thing
+abbrev pub books_unique : List ℕ
+books_unique = 1 ∷ 2 ∷ []
+
+-- ---- the tables, each with the tree that it stands at
+
 abbrev pub campaign_table : Table
 campaign_table = table 0 (codes "campaign")
     (number (codes "id") ∷ number (codes "format") ∷ number (codes "month") ∷ number (codes "next_faction") ∷ number (codes "next_unit") ∷ number (codes "next_structure") ∷ text (codes "pass") ∷ text (codes "world") ∷ [])
@@ -32,7 +48,7 @@ campaign_table = table 0 (codes "campaign")
 abbrev pub faction_table : Table
 faction_table = table 1 (codes "faction")
     (number (codes "number") ∷ text (codes "joined_as") ∷ text (codes "name") ∷ text (codes "pass") ∷ number (codes "gone") ∷ [])
-    (Some 0) (0 ∷ []) ((2 ∷ []) ∷ []) []
+    (Some 0) (0 ∷ []) (faction_unique ∷ []) []
 
 abbrev pub region_table : Table
 region_table = table 3 (codes "region") (number (codes "number") ∷ number (codes "peasants") ∷ number (codes "money") ∷ []) (Some 0) (0 ∷ []) [] []
@@ -43,7 +59,7 @@ unit_table = table 4 (codes "unit")
     (Some 0) (0 ∷ []) [] []
 
 abbrev pub has_table : Table
-has_table = table 5 (codes "has") (number (codes "unit") ∷ number (codes "sort") ∷ number (codes "thing") ∷ number (codes "amount") ∷ []) None (1 ∷ 2 ∷ 3 ∷ []) ((1 ∷ 2 ∷ 3 ∷ []) ∷ []) []
+has_table = table 5 (codes "has") (number (codes "unit") ∷ number (codes "sort") ∷ number (codes "thing") ∷ number (codes "amount") ∷ []) None has_unique (has_unique ∷ []) []
 
 abbrev pub structure_table : Table
 structure_table = table 7 (codes "structure")
@@ -57,7 +73,7 @@ abbrev pub report_table : Table
 report_table = table 9 (codes "report") (number (codes "faction") ∷ text (codes "text") ∷ []) (Some 0) (0 ∷ []) [] []
 
 abbrev pub books_table : Table
-books_table = table 10 (codes "books") (number (codes "entry") ∷ number (codes "thing") ∷ number (codes "amount") ∷ []) None (1 ∷ 2 ∷ []) ((1 ∷ 2 ∷ []) ∷ []) []
+books_table = table 10 (codes "books") (number (codes "entry") ∷ number (codes "thing") ∷ number (codes "amount") ∷ []) None books_unique (books_unique ∷ []) []
 
 -- in the order in which they are made
 abbrev pub all_tables : List Table
@@ -65,7 +81,7 @@ all_tables = campaign_table ∷ faction_table ∷ region_table ∷ unit_table �
 
 -- the keys that are not the row's number have an index of their own
 abbrev pub all_indexes : List Index
-all_indexes = automatic faction_table 0 (2 ∷ []) 2 ∷ automatic has_table 0 (1 ∷ 2 ∷ 3 ∷ []) 6 ∷ automatic books_table 0 (1 ∷ 2 ∷ []) 11 ∷ []
+all_indexes = automatic faction_table 0 faction_unique 2 ∷ automatic has_table 0 has_unique 6 ∷ automatic books_table 0 books_unique 11 ∷ []
 
 -- the schema once so many of the tables are made, which have so many indexes
 abbrev pub first_tables : ℕ → ℕ → Schema

@@ -1,6 +1,6 @@
 use Rattle.std.proofs.Common.{◌≡◌, rules, ◌∙◌, sym}
 use Rattle.atl_store.proofs.SchemaLaws.{only_one}
-use Rattle.atl_store.proofs.schema.is_one_key.Goals as goal
+use Rattle.atl_store.proofs.schema.keys.is_one_key.Goals as goal
 
 pub returns-in-len1 : goal.returns-in-len1
 returns-in-len1 c equal =

@@ -1,0 +1,34 @@
+//! The columns of a table.
+ghost use Rattle.std.specs.Prelude.{◌≡◌, map, IsTrue};
+ghost use Rattle.atl_store.specs.Sets.{field};
+
+use sqlite_schema::schema::{Column, Kind};
+use sqlite_value::keys::Collation;
+use sqlite_value::value::Value;
+
+/// A column of a STRICT table, NOT NULL, with this name.
+fn is_field(column: &Column, name: &[u8], kind: Kind) -> bool
+    ensures { IsTrue result → column.now ≡ field name.now kind }
+{
+    column.name.as_slice() == name
+        && column.kind == kind
+        && column.is_strict
+        && column.not_null
+        && matches!(column.default, Value::Null)
+        && column.collation == Collation::Binary
+}
+
+/// Such columns, in this order.
+pub(crate) fn are_fields(columns: &[Column], fields: &[(&[u8], Kind)]) -> bool
+    ensures { IsTrue result → columns.now ≡ map (λ f. field f.0.now f.1) fields.now }
+{
+    if columns.len() != fields.len() {
+        return false;
+    }
+    for i in 0..columns.len() {
+        if !is_field(&columns[i], fields[i].0, fields[i].1) {
+            return false;
+        }
+    }
+    true
+}

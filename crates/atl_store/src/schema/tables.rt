@@ -1,0 +1,190 @@
+//! The nine tables, one by one.
+ghost use Rattle.std.specs.Prelude.{◌≡◌, [], ◌∷◌, IsTrue};
+ghost use Rattle.atl_store.specs.Tables.{campaign_table, faction_table, region_table, unit_table, has_table, structure_table, mail_table, report_table, books_table};
+
+use crate::schema::checks::is_own_row;
+use crate::schema::keys::{has_no_unique, is_numbered, is_unique};
+use crate::schema::places;
+use crate::schema::shapes::{is_keyed, is_simple, is_strict};
+use sqlite_schema::schema::{Kind, Table};
+
+fn is_campaign(found: &Table) -> bool
+    ensures { IsTrue result → found.now ≡ campaign_table }
+{
+    is_strict(
+        found,
+        places::CAMPAIGN,
+        b"campaign",
+        &[
+            (b"id", Kind::Integer),
+            (b"format", Kind::Integer),
+            (b"month", Kind::Integer),
+            (b"next_faction", Kind::Integer),
+            (b"next_unit", Kind::Integer),
+            (b"next_structure", Kind::Integer),
+            (b"pass", Kind::Text),
+            (b"world", Kind::Text),
+        ],
+    ) && is_numbered(found)
+        && has_no_unique(found)
+        && is_own_row(&found.checks)
+}
+
+fn is_faction(found: &Table) -> bool
+    ensures { IsTrue result → found.now ≡ faction_table }
+{
+    is_strict(
+        found,
+        places::FACTION,
+        b"faction",
+        &[
+            (b"number", Kind::Integer),
+            (b"joined_as", Kind::Text),
+            (b"name", Kind::Text),
+            (b"pass", Kind::Text),
+            (b"gone", Kind::Integer),
+        ],
+    ) && is_numbered(found)
+        && is_unique(found, &places::FACTION_UNIQUE)
+        && found.checks.roots.is_empty()
+}
+
+fn is_region(found: &Table) -> bool
+    ensures { IsTrue result → found.now ≡ region_table }
+{
+    is_simple(
+        found,
+        places::REGION,
+        b"region",
+        &[
+            (b"number", Kind::Integer),
+            (b"peasants", Kind::Integer),
+            (b"money", Kind::Integer),
+        ],
+    )
+}
+
+fn is_unit(found: &Table) -> bool
+    ensures { IsTrue result → found.now ≡ unit_table }
+{
+    is_simple(
+        found,
+        places::UNIT,
+        b"unit",
+        &[
+            (b"number", Kind::Integer),
+            (b"faction", Kind::Integer),
+            (b"name", Kind::Text),
+            (b"region", Kind::Integer),
+            (b"structure", Kind::Integer),
+            (b"men", Kind::Integer),
+            (b"money", Kind::Integer),
+            (b"guard", Kind::Integer),
+        ],
+    )
+}
+
+fn is_has(found: &Table) -> bool
+    ensures { IsTrue result → found.now ≡ has_table }
+{
+    is_keyed(
+        found,
+        places::HAS,
+        b"has",
+        &[
+            (b"unit", Kind::Integer),
+            (b"sort", Kind::Integer),
+            (b"thing", Kind::Integer),
+            (b"amount", Kind::Integer),
+        ],
+        &places::HAS_UNIQUE,
+    )
+}
+
+fn is_structure(found: &Table) -> bool
+    ensures { IsTrue result → found.now ≡ structure_table }
+{
+    is_simple(
+        found,
+        places::STRUCTURE,
+        b"structure",
+        &[
+            (b"number", Kind::Integer),
+            (b"kind", Kind::Integer),
+            (b"name", Kind::Text),
+            (b"region", Kind::Integer),
+            (b"done", Kind::Integer),
+            (b"owner", Kind::Integer),
+        ],
+    )
+}
+
+fn is_mail(found: &Table) -> bool
+    ensures { IsTrue result → found.now ≡ mail_table }
+{
+    is_simple(
+        found,
+        places::MAIL,
+        b"mail",
+        &[(b"faction", Kind::Integer), (b"text", Kind::Blob)],
+    )
+}
+
+fn is_report(found: &Table) -> bool
+    ensures { IsTrue result → found.now ≡ report_table }
+{
+    is_simple(
+        found,
+        places::REPORT,
+        b"report",
+        &[(b"faction", Kind::Integer), (b"text", Kind::Text)],
+    )
+}
+
+fn is_books(found: &Table) -> bool
+    ensures { IsTrue result → found.now ≡ books_table }
+{
+    is_keyed(
+        found,
+        places::BOOKS,
+        b"books",
+        &[
+            (b"entry", Kind::Integer),
+            (b"thing", Kind::Integer),
+            (b"amount", Kind::Integer),
+        ],
+        &places::BOOKS_UNIQUE,
+    )
+}
+
+/// The first three tables: of the campaign, its factions and its regions.
+pub(crate) fn are_first_three(tables: &[Table]) -> bool
+    ensures { IsTrue result → tables.now ≡ campaign_table ∷ faction_table ∷ region_table ∷ [] }
+{
+    match tables {
+        [campaign, faction, region] => {
+            is_campaign(campaign) && is_faction(faction) && is_region(region)
+        }
+        _ => false,
+    }
+}
+
+/// The next three: of units, of what they have, and of structures.
+pub(crate) fn are_next_three(tables: &[Table]) -> bool
+    ensures { IsTrue result → tables.now ≡ unit_table ∷ has_table ∷ structure_table ∷ [] }
+{
+    match tables {
+        [unit, has, structure] => is_unit(unit) && is_has(has) && is_structure(structure),
+        _ => false,
+    }
+}
+
+/// The last three: of mail, reports and books.
+pub(crate) fn are_last_three(tables: &[Table]) -> bool
+    ensures { IsTrue result → tables.now ≡ mail_table ∷ report_table ∷ books_table ∷ [] }
+{
+    match tables {
+        [mail, report, books] => is_mail(mail) && is_report(report) && is_books(books),
+        _ => false,
+    }
+}
