@@ -31,6 +31,7 @@ pub mod HasRowLaws
 pub mod BooksRowLaws
 pub mod HeadRowLaws
 pub mod ShownLaws
+pub mod CheckTerms
 pub mod SchemaLaws
 pub mod SelectLaws
 pub mod SelectingLaws

@@ -1,5 +1,6 @@
 //! Whether the schema of a file begins with the nine tables. See docs/FORMATS.md, "Tables".
-ghost use Rattle.std.specs.Prelude.{◌≡◌, [], IsTrue};
+ghost use Rattle.std.specs.Prelude.{◌≡◌, []};
+ghost use Rattle.std.specs.Bool.{Decides};
 ghost use Rattle.std.specs.List.{AllByRecursion};
 ghost use Rattle.atl_store.specs.Tables.{AreTables, HasNine};
 
@@ -17,13 +18,13 @@ use tables::{are_first_three, are_last_three, are_next_three};
 
 /// A table with no foreign key.
 fn is_free(found: &Table) -> bool
-    ensures { IsTrue result → found.now.references ≡ [] }
+    ensures { Decides result (found.now.references ≡ []) }
 {
     found.references.is_empty()
 }
 
 fn are_free(tables: &[Table]) -> bool
-    ensures { IsTrue result → AllByRecursion (λ t. t.references ≡ []) tables.now }
+    ensures { Decides result (AllByRecursion (λ t. t.references ≡ []) tables.now) }
 {
     for table in tables {
         if !is_free(table) {
@@ -35,7 +36,7 @@ fn are_free(tables: &[Table]) -> bool
 
 /// The nine tables, and tables without a foreign key behind them.
 fn are_tables(tables: &[Table]) -> bool
-    ensures { IsTrue result → AreTables tables.now }
+    ensures { Decides result (AreTables tables.now) }
 {
     tables.len() >= 9
         && are_first_three(&tables[..3])
@@ -44,13 +45,16 @@ fn are_tables(tables: &[Table]) -> bool
         && are_free(&tables[9..])
 }
 
-/// Whether the schema begins with the nine tables of a campaign, made as `create` makes them. Other tables without a foreign
-/// key and indexes that make nothing of the nine unique may have come behind them; with a view or a trigger it does not.
-/// See docs/FORMATS.md, "Tables".
+/// Whether the schema begins with the nine tables of a campaign, made as `create` makes them: after `create` it does. Other
+/// tables without a foreign key and indexes that make nothing of the nine unique may have come behind them; with a view or
+/// a trigger it does not. See docs/FORMATS.md, "Tables".
 pub fn has_nine(schema: &Schema) -> bool
-    ensures { IsTrue result → HasNine schema.now }
+    ensures { Decides result (HasNine schema.now) }
 {
-    if !are_tables(schema.tables.as_slice()) || !are_indexes(schema.indexes.as_slice()) {
+    if !are_tables(schema.tables.as_slice()) {
+        return false;
+    }
+    if !are_indexes(schema.indexes.as_slice()) {
         return false;
     }
     schema.views.is_empty()

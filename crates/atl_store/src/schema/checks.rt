@@ -1,29 +1,63 @@
-//! The CHECK of a table.
-ghost use Rattle.std.specs.Prelude.{◌≡◌, [], ◌∷◌, IsTrue, pos};
+//! The CHECK of the campaign's own table.
+ghost use Rattle.std.specs.Prelude.{◌≡◌, ◌≢◌, [], ◌∷◌, ℕ, Some, IfSome, IfNone, pos};
+ghost use Rattle.std.specs.Bool.{Decides};
+ghost use Rattle.std.specs.Option.{option_copied};
 ghost use Rattle.sqlite.specs.declared.types.Value.TheVariants.{Int};
+ghost use Rattle.sqlite_schema.specs.Code.{term_in};
+ghost use Rattle.sqlite_schema.specs.declared.code.Op.TheVariants as variant;
 ghost use Rattle.sqlite_sql.specs.Term.{lit, col, op2};
 ghost use Rattle.sqlite_sql.specs.declared.ops.BinaryOp.TheVariants.{Compare};
 ghost use Rattle.sqlite_sql.specs.declared.ops.CompareOp.TheVariants.{Eq};
 ghost use Rattle.sqlite.specs.Collation.TheVariants.{Binary};
 
+use sqlite_items::at;
 use sqlite_schema::code::{Op, Terms};
 use sqlite_sql::ops::{BinaryOp, CompareOp};
 use sqlite_value::keys::Collation;
 use sqlite_value::value::Value;
 
-/// The check that the campaign's own row has the number 1.
-pub(crate) fn is_own_row(checks: &Terms) -> bool
-    ensures { IsTrue result → checks.now ≡ op2 (Compare Eq Binary) (col 1 0) (lit (Int (pos 1))) ∷ [] }
+/// The places of the two sides, where the node says that they are equal.
+fn sides(node: Option<&Op>) -> Option<(usize, usize)>
+    ensures equal { IfSome result (λ two. option_copied node.entry ≡ Some (variant.Binary (Compare Eq Binary) two.0 two.1)) }
+    ensures other { IfNone result ((a b : ℕ) → option_copied node.entry ≢ Some (variant.Binary (Compare Eq Binary) a b)) }
 {
-    match (checks.roots.as_slice(), checks.nodes.as_slice()) {
-        (
-            [2],
-            [
-                Op::Column(1, 0),
-                Op::Literal(Value::Int(1)),
-                Op::Binary(BinaryOp::Compare(CompareOp::Eq, Collation::Binary), 0, 1),
-            ],
-        ) => true,
+    match node {
+        Some(Op::Binary(BinaryOp::Compare(CompareOp::Eq, Collation::Binary), left, right)) => {
+            Some((*left, *right))
+        }
+        _ => None,
+    }
+}
+
+/// The number of the row that is checked.
+fn is_number(node: Option<&Op>) -> bool
+    ensures { Decides result (option_copied node.entry ≡ Some (variant.Column 1 0)) }
+{
+    matches!(node, Some(Op::Column(1, 0)))
+}
+
+fn is_one(node: Option<&Op>) -> bool
+    ensures { Decides result (option_copied node.entry ≡ Some (variant.Literal (Int (pos 1)))) }
+{
+    matches!(node, Some(Op::Literal(Value::Int(1))))
+}
+
+/// The expression at a place among the nodes says that the row has the number 1.
+fn has_number_one(nodes: &[Op], root: usize) -> bool
+    ensures { Decides result (term_in nodes.now root ≡ op2 (Compare Eq Binary) (col 1 0) (lit (Int (pos 1)))) }
+{
+    match sides(at(nodes, root)) {
+        Some((left, right)) => is_number(at(nodes, left)) && is_one(at(nodes, right)),
+        None => false,
+    }
+}
+
+/// The check that the campaign's own row has the number 1, and no other.
+pub(crate) fn is_own_row(checks: &Terms) -> bool
+    ensures { Decides result (checks.now ≡ op2 (Compare Eq Binary) (col 1 0) (lit (Int (pos 1))) ∷ []) }
+{
+    match checks.roots.as_slice() {
+        [root] => has_number_one(checks.nodes.as_slice(), *root),
         _ => false,
     }
 }

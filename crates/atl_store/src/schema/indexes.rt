@@ -1,5 +1,6 @@
 //! The indexes of the nine tables' keys, and those that came behind them.
-ghost use Rattle.std.specs.Prelude.{◌≡◌, ◌==◌, [], ◌∷◌, IsTrue, true};
+ghost use Rattle.std.specs.Prelude.{◌≡◌, ◌==◌, [], ◌∷◌, true};
+ghost use Rattle.std.specs.Bool.{Decides};
 ghost use Rattle.std.specs.List.{AllByRecursion, list_any};
 ghost use Rattle.sqlite_catalog.specs.Listing.{automatic};
 ghost use Rattle.sqlite_value.specs.Keys.{plain};
@@ -11,7 +12,7 @@ use sqlite_schema::schema::Index;
 
 /// The index that the database makes for a unique key of a table.
 fn is_index(found: &Index, name: &[u8], tree: u32, table: u32, columns: &[usize]) -> bool
-    ensures { IsTrue result → found.now ≡ record { name = name.now; tree = tree; table = table; columns = columns.now; order = plain; is_unique = true } }
+    ensures { Decides result (found.now ≡ record { name = name.now; tree = tree; table = table; columns = columns.now; order = plain; is_unique = true }) }
 {
     found.name.as_slice() == name
         && found.tree == tree
@@ -22,7 +23,7 @@ fn is_index(found: &Index, name: &[u8], tree: u32, table: u32, columns: &[usize]
 }
 
 fn is_faction_index(found: &Index) -> bool
-    ensures { IsTrue result → found.now ≡ automatic faction_table 0 (2 ∷ []) 2 }
+    ensures { Decides result (found.now ≡ automatic faction_table 0 (2 ∷ []) 2) }
 {
     is_index(
         found,
@@ -34,7 +35,7 @@ fn is_faction_index(found: &Index) -> bool
 }
 
 fn is_has_index(found: &Index) -> bool
-    ensures { IsTrue result → found.now ≡ automatic has_table 0 (1 ∷ 2 ∷ 3 ∷ []) 6 }
+    ensures { Decides result (found.now ≡ automatic has_table 0 (1 ∷ 2 ∷ 3 ∷ []) 6) }
 {
     is_index(
         found,
@@ -46,7 +47,7 @@ fn is_has_index(found: &Index) -> bool
 }
 
 fn is_books_index(found: &Index) -> bool
-    ensures { IsTrue result → found.now ≡ automatic books_table 0 (1 ∷ 2 ∷ []) 11 }
+    ensures { Decides result (found.now ≡ automatic books_table 0 (1 ∷ 2 ∷ []) 11) }
 {
     is_index(
         found,
@@ -59,7 +60,7 @@ fn is_books_index(found: &Index) -> bool
 
 /// The indexes of the keys that are not the row's number.
 fn are_our_indexes(indexes: &[Index]) -> bool
-    ensures { IsTrue result → indexes.now ≡ all_indexes }
+    ensures { Decides result (indexes.now ≡ all_indexes) }
 {
     match indexes {
         [faction, has, books] => {
@@ -89,13 +90,13 @@ fn is_ours(tree: u32) -> bool
 
 /// An index that makes nothing of the nine tables unique.
 fn is_harmless(found: &Index) -> bool
-    ensures { IsTrue result → IsHarmless found.now }
+    ensures { Decides result (IsHarmless found.now) }
 {
     !found.is_unique || !is_ours(found.table)
 }
 
 fn are_harmless(indexes: &[Index]) -> bool
-    ensures { IsTrue result → AllByRecursion IsHarmless indexes.now }
+    ensures { Decides result (AllByRecursion IsHarmless indexes.now) }
 {
     for index in indexes {
         if !is_harmless(index) {
@@ -107,7 +108,7 @@ fn are_harmless(indexes: &[Index]) -> bool
 
 /// Their indexes, and behind them indexes that make nothing of them unique.
 pub(crate) fn are_indexes(indexes: &[Index]) -> bool
-    ensures { IsTrue result → AreIndexes indexes.now }
+    ensures { Decides result (AreIndexes indexes.now) }
 {
     indexes.len() >= 3 && are_our_indexes(&indexes[..3]) && are_harmless(&indexes[3..])
 }

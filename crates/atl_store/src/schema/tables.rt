@@ -1,5 +1,6 @@
 //! The nine tables, one by one.
-ghost use Rattle.std.specs.Prelude.{◌≡◌, [], ◌∷◌, IsTrue};
+ghost use Rattle.std.specs.Prelude.{◌≡◌, [], ◌∷◌};
+ghost use Rattle.std.specs.Bool.{Decides};
 ghost use Rattle.atl_store.specs.Tables.{campaign_table, faction_table, region_table, unit_table, has_table, structure_table, mail_table, report_table, books_table};
 
 use crate::schema::checks::is_own_row;
@@ -9,7 +10,7 @@ use crate::schema::shapes::{is_keyed, is_simple, is_strict};
 use sqlite_schema::schema::{Kind, Table};
 
 fn is_campaign(found: &Table) -> bool
-    ensures { IsTrue result → found.now ≡ campaign_table }
+    ensures { Decides result (found.now ≡ campaign_table) }
 {
     is_strict(
         found,
@@ -31,7 +32,7 @@ fn is_campaign(found: &Table) -> bool
 }
 
 fn is_faction(found: &Table) -> bool
-    ensures { IsTrue result → found.now ≡ faction_table }
+    ensures { Decides result (found.now ≡ faction_table) }
 {
     is_strict(
         found,
@@ -50,7 +51,7 @@ fn is_faction(found: &Table) -> bool
 }
 
 fn is_region(found: &Table) -> bool
-    ensures { IsTrue result → found.now ≡ region_table }
+    ensures { Decides result (found.now ≡ region_table) }
 {
     is_simple(
         found,
@@ -65,7 +66,7 @@ fn is_region(found: &Table) -> bool
 }
 
 fn is_unit(found: &Table) -> bool
-    ensures { IsTrue result → found.now ≡ unit_table }
+    ensures { Decides result (found.now ≡ unit_table) }
 {
     is_simple(
         found,
@@ -85,7 +86,7 @@ fn is_unit(found: &Table) -> bool
 }
 
 fn is_has(found: &Table) -> bool
-    ensures { IsTrue result → found.now ≡ has_table }
+    ensures { Decides result (found.now ≡ has_table) }
 {
     is_keyed(
         found,
@@ -102,7 +103,7 @@ fn is_has(found: &Table) -> bool
 }
 
 fn is_structure(found: &Table) -> bool
-    ensures { IsTrue result → found.now ≡ structure_table }
+    ensures { Decides result (found.now ≡ structure_table) }
 {
     is_simple(
         found,
@@ -120,7 +121,7 @@ fn is_structure(found: &Table) -> bool
 }
 
 fn is_mail(found: &Table) -> bool
-    ensures { IsTrue result → found.now ≡ mail_table }
+    ensures { Decides result (found.now ≡ mail_table) }
 {
     is_simple(
         found,
@@ -131,7 +132,7 @@ fn is_mail(found: &Table) -> bool
 }
 
 fn is_report(found: &Table) -> bool
-    ensures { IsTrue result → found.now ≡ report_table }
+    ensures { Decides result (found.now ≡ report_table) }
 {
     is_simple(
         found,
@@ -142,7 +143,7 @@ fn is_report(found: &Table) -> bool
 }
 
 fn is_books(found: &Table) -> bool
-    ensures { IsTrue result → found.now ≡ books_table }
+    ensures { Decides result (found.now ≡ books_table) }
 {
     is_keyed(
         found,
@@ -159,7 +160,7 @@ fn is_books(found: &Table) -> bool
 
 /// The first three tables: of the campaign, its factions and its regions.
 pub(crate) fn are_first_three(tables: &[Table]) -> bool
-    ensures { IsTrue result → tables.now ≡ campaign_table ∷ faction_table ∷ region_table ∷ [] }
+    ensures { Decides result (tables.now ≡ campaign_table ∷ faction_table ∷ region_table ∷ []) }
 {
     match tables {
         [campaign, faction, region] => {
@@ -171,7 +172,7 @@ pub(crate) fn are_first_three(tables: &[Table]) -> bool
 
 /// The next three: of units, of what they have, and of structures.
 pub(crate) fn are_next_three(tables: &[Table]) -> bool
-    ensures { IsTrue result → tables.now ≡ unit_table ∷ has_table ∷ structure_table ∷ [] }
+    ensures { Decides result (tables.now ≡ unit_table ∷ has_table ∷ structure_table ∷ []) }
 {
     match tables {
         [unit, has, structure] => is_unit(unit) && is_has(has) && is_structure(structure),
@@ -181,7 +182,7 @@ pub(crate) fn are_next_three(tables: &[Table]) -> bool
 
 /// The last three: of mail, reports and books.
 pub(crate) fn are_last_three(tables: &[Table]) -> bool
-    ensures { IsTrue result → tables.now ≡ mail_table ∷ report_table ∷ books_table ∷ [] }
+    ensures { Decides result (tables.now ≡ mail_table ∷ report_table ∷ books_table ∷ []) }
 {
     match tables {
         [mail, report, books] => is_mail(mail) && is_report(report) && is_books(books),

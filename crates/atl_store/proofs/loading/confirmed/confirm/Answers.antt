@@ -10,7 +10,7 @@ pub returns-in_err-query_all-clause-leaves : goal.returns-in_err-query_all-claus
 returns-in_err-query_all-clause-leaves g c =
     let old = state g.S.Store c.args.conn.now in
     let new = state g.S.Store c.query_all.new.self in
-    let plain = campaign_plain old.now.schema (subst HasNine c.schema.ensures.value (c.has_nine.ensures c.if-not-has_nine.false)) in
+    let plain = campaign_plain old.now.schema (subst HasNine c.schema.ensures.value (c.has_nine.ensures.0 c.if-not-has_nine.false)) in
     record {
       stays = λ clean. refused_stays all_campaign old new plain c.requires.settled (omega (arith, c.query_all.ensures.survives.clean, clean)) _ (c.in_err-query_all.ensures.err clean);
       survives = commits_none all_campaign old new plain c.query_all.ensures.survives;
@@ -21,7 +21,7 @@ pub returns-clause-ok : goal.returns-clause-ok
 returns-clause-ok g c clean =
     let old = state g.S.Store c.args.conn.now in
     let new = state g.S.Store c.query_all.new.self in
-    let nine = subst HasNine c.schema.ensures.value (c.has_nine.ensures c.if-not-has_nine.false) in
+    let nine = subst HasNine c.schema.ensures.value (c.has_nine.ensures.0 c.if-not-has_nine.false) in
     let same = shown_unchanged all_campaign old new (campaign_plain old.now.schema nine) _ (c.in_ok-query_all.ensures.ok clean) in
     record { nine = nine; is_open = same.0.is_open; sound = (c.schema.ensures.live same.0.was_open).0 }
 
@@ -29,7 +29,7 @@ pub returns-clause-leaves : goal.returns-clause-leaves
 returns-clause-leaves g c =
     let old = state g.S.Store c.args.conn.now in
     let new = state g.S.Store c.query_all.new.self in
-    let plain = campaign_plain old.now.schema (subst HasNine c.schema.ensures.value (c.has_nine.ensures c.if-not-has_nine.false)) in
+    let plain = campaign_plain old.now.schema (subst HasNine c.schema.ensures.value (c.has_nine.ensures.0 c.if-not-has_nine.false)) in
     record {
       stays = λ clean. shown_stays all_campaign old new plain _ (c.in_ok-query_all.ensures.ok clean);
       survives = commits_none all_campaign old new plain c.query_all.ensures.survives;

@@ -3,4 +3,4 @@ use Rattle.atl_store.proofs.SchemaLaws.{named}
 use Rattle.atl_store.proofs.schema.indexes.is_books_index.Goals as goal
 
 pub returns : goal.returns
-returns c told = named (codes "books") 11 10 (1 ∷ 2 ∷ []) c.args.found.now (c.is_index.ensures told)
+returns c = named (codes "books") 11 10 (1 ∷ 2 ∷ []) c.args.found.now c.is_index.result c.is_index.ensures
