@@ -1,5 +1,5 @@
 -- The nine texts that make the tables, and what each does.
-use Rattle.std.proofs.Common.{◌≡◌, ◌++◌, ◌∷◌, ℕ, IsTrue, false, List, [], Ok, codes, refl, sym, subst}
+use Rattle.std.proofs.Common.{◌≡◌, ◌++◌, ◌∷◌, ℕ, false, List, [], Ok, codes, refl, sym, subst}
 use Rattle.sqlite_tied.specs.Compute.{everything}
 use Rattle.sqlite.specs.Change.{created, next_tree}
 use Rattle.sqlite.specs.Compile.{table_defined_by}
@@ -8,10 +8,11 @@ use Rattle.sqlite.specs.Listing.{understood}
 use Rattle.sqlite.specs.Schema.{Schema}
 use Rattle.sqlite.specs.Table.{Table}
 use Rattle.sqlite.specs.Command.TheVariants.{CreateTable}
-use Rattle.sqlite.specs.State.{State, ExecutesInside}
+use Rattle.sqlite.specs.State.{State}
 use Rattle.sqlite.proofs.Callers.{IsPlain, command_of, statement_of}
 use Rattle.atl_store.specs.Tables.{campaign_table, faction_table, region_table, unit_table, has_table, structure_table, mail_table, report_table, books_table, first_tables}
 use Rattle.atl_store.specs.Making.{Extends}
+use Rattle.atl_store.specs.Writes.{Runs}
 use Rattle.atl_store.proofs.Made.{Creates}
 use Rattle.atl_store.proofs.CreateLaws.{creates}
 use Rattle.atl_store.proofs.MakingLaws.{extends}
@@ -28,10 +29,10 @@ record IsCreate (before after : Schema) (table : Table) (text : List ℕ) : Type
   uncounted : lacks_sequence after ≡ false
 
 abbrev pub Makes : Schema → Schema → List ℕ → Type 1
-Makes before after text = (old new : State) (count : ℕ) → IsTrue old.in_transaction → ExecutesInside 0 text [] old new (Ok count) → Extends before after old new
+Makes before after text = (old new : State) → Runs text [] old new → Extends before after old new
 
 makes : (before after : Schema) (table : Table) (text : List ℕ) → IsCreate before after table text → Makes before after text
-makes before after table text is old new count inside h =
+makes before after table text is old new (inside, count, h) =
     let uncounted = subst (λ s. lacks_sequence s ≡ false) (sym is.after_is) is.uncounted in
     extends before after table old new inside h.1.mode is.last
     (λ has. subst (λ s. Creates before s table.tree old.now new.now) is.after_is (subst (λ tree. Creates before (created before (record table { tree = 0 })) tree old.now new.now) is.tree_is

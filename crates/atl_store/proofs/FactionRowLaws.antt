@@ -1,39 +1,20 @@
 -- What the statements on the table faction mean, and what they do.
-use Rattle.std.proofs.Common.{IsTrue, ◌≡◌, ℕ, pos, Bool, if◌then◌else◌, true, List, [], ◌∷◌, codes, Some, Ok, refl, sym, ap, ◌∙◌, subst, inl, inr}
+use Rattle.std.proofs.Common.{IsTrue, ◌≡◌, ℕ, pos, Bool, if◌then◌else◌, List, [], ◌∷◌, codes, Ok, refl, inl, inr}
 use Rattle.sqlite_tied.specs.Compute.{everything}
 use Rattle.sqlite.specs.declared.types.Value.TheVariants.{Null, Text}
-use Rattle.sqlite.specs.Command.TheVariants.{InsertOr, Delete}
-use Rattle.sqlite.specs.Term.{Term, lit, col, op2}
-use Rattle.sqlite.specs.Source.TheVariants.{Values}
+use Rattle.sqlite.specs.Term.{Term, lit, col}
 use Rattle.sqlite.specs.Listing.{understood}
 use Rattle.sqlite.specs.Order.{Row}
 use Rattle.sqlite.specs.State.{State, ExecutesInside}
-use Rattle.sqlite.proofs.Callers.{IsPlain, command_of, statement_of, runs_as}
-use Rattle.sqlite_value.specs.Keys.{first_key}
-use Rattle.sqlite_schema.specs.declared.command.Conflict.TheVariants.{Abort}
-use Rattle.sqlite_trees.specs.Tree.{rowid}
-use Rattle.sqlite_trees.specs.View.{is_int}
 use Rattle.sqlite_rules.specs.Lists.{Has}
-use Rattle.sqlite_rules.specs.Cast.{cast_row}
-use Rattle.sqlite_rules.specs.Edit.{with_rowid}
-use Rattle.sqlite_rules.specs.declared.error.Rowids.TheVariants.{Chosen}
-use Rattle.sqlite_rules.proofs.ListLemmas.{all_has}
-use Rattle.sqlite_sql.specs.declared.ops.BinaryOp.TheVariants.{Compare}
-use Rattle.sqlite_sql.specs.declared.ops.CompareOp.TheVariants.{Eq}
-use Rattle.sqlite.specs.Collation.TheVariants.{Binary}
-use Rattle.sqlite.specs.Program.{overlay}
-use Rattle.atl_store.specs.Sets.{visible}
-use Rattle.atl_store.specs.Tables.{faction_table, nine_and}
+use Rattle.atl_store.specs.Tables.{faction_table, all_tables}
 use Rattle.atl_store.specs.Shown.{int, flag, faction_row}
-use Rattle.sqlite.specs.Table.{Table}
-use Rattle.sqlite_schema.specs.declared.schema.Index.{Index}
 use Rattle.atl_store.specs.Inside.{Inside, HasTables, Puts, Drops}
-use Rattle.atl_store.proofs.UpsertLaws.{Upserted, update_query, clause_on}
-use Rattle.atl_store.proofs.StatementLaws.{upserting, removes}
-use Rattle.atl_store.proofs.CarryLaws.{nine_among, unlinked, none_share, sound_under, done_with}
-use Rattle.atl_store.proofs.MakeLaws.{did, upserts_make, loses_make}
-use Rattle.atl_store.proofs.EditLaws.{delete_query, found_by}
-use Rattle.atl_store.proofs.Terms.{cast_null, cast_int, head_is, by_number, one_number, at_number}
+use Rattle.atl_store.proofs.NumberedLaws.{AlwaysPlain, IsPut, IsDrop, MakesRow, puts_numbered, drops_numbered}
+use Rattle.atl_store.proofs.Terms.{cast_null, cast_int}
+
+ours : Has all_tables faction_table
+ours = inr (inl refl)
 
 abbrev pub put_faction : List ℕ
 put_faction = codes "INSERT INTO faction (number, joined_as, name, pass, gone) VALUES (?1, ?2, ?3, ?4, ?5) ON CONFLICT (number) DO UPDATE SET joined_as = ?2, name = ?3, pass = ?4, gone = ?5"
@@ -44,75 +25,40 @@ terms = col 0 0 ∷ lit Null ∷ col 0 1 ∷ col 0 2 ∷ col 0 3 ∷ col 0 4 ∷
 abbrev project : List Term
 project = col 1 0 ∷ lit Null ∷ col 0 1 ∷ col 0 2 ∷ col 0 3 ∷ col 0 4 ∷ []
 
-put_is : (more : List Table) (indexes : List Index) → command_of (understood (nine_and more indexes) put_faction) ≡ InsertOr 1 Abort (Values terms 6) (clause_on (0 ∷ []) (record { lets = []; body = update_query 1 5 project }) ∷ [])
+put_is : IsPut faction_table.tree 1 put_faction 6 terms 5 project
 unfolding understood everything
 put_is more indexes = refl
 
-put_plain : (more : List Table) (indexes : List Index) → IsPlain (understood (nine_and more indexes) put_faction)
+put_plain : AlwaysPlain put_faction
 unfolding understood everything
 put_plain more indexes = (refl, refl)
 
-puts_inside : (old new : State) (number : ℕ) (joined_as : List ℕ) (name : List ℕ) (pass : List ℕ) (gone : Bool) (count : ℕ) → IsTrue old.in_transaction → ExecutesInside 0 put_faction (faction_row number joined_as name pass gone) old new (Ok count)
-    → Inside HasTables (Puts faction_table 1 (faction_row number joined_as name pass gone)) old new
-unfolding first_key
-puts_inside old new number joined_as name pass gone count inside ran = (
-  ran.1.mode ∙ sym inside,
-  λ has.
-      let schema = nine_and has.nine.tables has.nine.indexes in
-      let sound = sound_under old.now has in
-      let none = unlinked has.nine.tables has.nine.indexes 1 has.nine.free in
-      let v = faction_row number joined_as name pass gone in
-      let src = int number ∷ Null ∷ Text joined_as ∷ Text name ∷ Text pass ∷ flag gone ∷ [] in
-      let w = runs_as put_faction v old new schema has.nine.is _ (put_is has.nine.tables has.nine.indexes) (put_plain has.nine.tables has.nine.indexes) count ran.0 in
-      let keyed = sound.keyed faction_table (inr (inl refl)) in
-      let up = upserting schema 1 _ _ _ _ _ _ 1 refl none old.step_limit v (0 ∷ []) 5 project (λ db. refl) (statement_of put_faction (understood schema put_faction)) terms 6 src
-      old.now.trees _ keyed (λ r there. refl) refl (did schema old new _ _ v count has.nine.is w) in
-      let casted : cast_row faction_table src ≡ src = rw (cast_int (pos number), cast_int (if gone then pos 1 else pos 0), cast_null) refl in
-      let made : with_rowid Chosen (old.now.trees 1) (cast_row faction_table src) ≡ src = ap (with_rowid Chosen (old.now.trees 1)) casted in
-      let are_ints : (x : Row) → Has (old.now.trees 1) x → is_int (rowid x) ≡ true = λ x there. all_has _ (old.now.trees 1) x keyed.ints there in
-      let makes = upserts_make schema (nine_among has.nine.tables) faction_table 1 none old.step_limit v (0 ∷ []) 5 project (λ db. refl) src v old.now new.now
-      (subst (λ k. Upserted schema faction_table none old.step_limit v (0 ∷ []) 5 project (λ db. refl) k old.now.trees new.now.trees) made up.0)
-      (ap (visible faction_table) casted)
-      (λ r there same. rw (head_is _ _ _ _ same, cast_int (pos number), cast_int (if gone then pos 1 else pos 0)) refl)
-      (λ x there. by_number (rowid x) number _ (none_share faction_table (Some (0 ∷ [])) src x has.nine.indexes (λ i there. has.nine.plain i there faction_table (inr (inl refl)))) (are_ints x there))
-      (λ x r one two same. one_number _ _ same)
-      (inr (inl refl)) sound w.sound up.1 in
-      done_with faction_table old.now new.now has (inr (inl refl)) _ _ (λ did. did) makes,
-)
+makes_row : (number : ℕ) (joined_as : List ℕ) (name : List ℕ) (pass : List ℕ) (gone : Bool) → MakesRow faction_table 6 terms 5 project number (Text joined_as ∷ Text name ∷ Text pass ∷ flag gone ∷ [])
+makes_row number joined_as name pass gone = record {
+  source = refl;
+  casted = rw (cast_int (pos number), cast_int (if gone then pos 1 else pos 0), cast_null) refl;
+  shown = refl;
+  aimed = λ x more. refl;
+  changed = λ more r same. rw (same, cast_int (pos number), cast_int (if gone then pos 1 else pos 0)) refl;
+  spared = λ x. refl;
+}
 
--- the parameters are shown to be the row
 pub puts_faction : (old new : State) (number : ℕ) (joined_as : List ℕ) (name : List ℕ) (pass : List ℕ) (gone : Bool) (count : ℕ) (params : Row) → IsTrue old.in_transaction → ExecutesInside 0 put_faction params old new (Ok count) → params ≡ faction_row number joined_as name pass gone
     → Inside HasTables (Puts faction_table 1 (faction_row number joined_as name pass gone)) old new
-puts_faction old new number joined_as name pass gone count params inside h same = puts_inside old new number joined_as name pass gone count inside (subst (λ p. ExecutesInside 0 put_faction p old new (Ok count)) same h)
+puts_faction old new number joined_as name pass gone count =
+    puts_numbered faction_table.tree _ _ _ _ 1 ours (λ more. refl) (λ db. refl) put_faction 6 5 terms project put_is put_plain old new number (Text joined_as ∷ Text name ∷ Text pass ∷ flag gone ∷ []) count (makes_row number joined_as name pass gone)
 
 abbrev pub drop_faction : List ℕ
 drop_faction = codes "DELETE FROM faction WHERE number = ?1"
 
-drop_is : (more : List Table) (indexes : List Index) → command_of (understood (nine_and more indexes) drop_faction) ≡ Delete 1 (record { lets = []; body = delete_query 1 (op2 (Compare Eq Binary) (col 1 0) (col 0 0) ∷ []) })
+drop_is : IsDrop faction_table.tree 1 drop_faction
 unfolding understood everything
 drop_is more indexes = refl
 
-drop_plain : (more : List Table) (indexes : List Index) → IsPlain (understood (nine_and more indexes) drop_faction)
+drop_plain : AlwaysPlain drop_faction
 unfolding understood everything
 drop_plain more indexes = (refl, refl)
 
-drops_inside : (old new : State) (number : ℕ) (count : ℕ) → IsTrue old.in_transaction → ExecutesInside 0 drop_faction (int number ∷ []) old new (Ok count) → Inside HasTables (Drops faction_table 1 (int number ∷ [])) old new
-drops_inside old new number count inside ran = (
-  ran.1.mode ∙ sym inside,
-  λ has.
-      let schema = nine_and has.nine.tables has.nine.indexes in
-      let sound = sound_under old.now has in
-      let none = unlinked has.nine.tables has.nine.indexes 1 has.nine.free in
-      let k = int number ∷ [] in
-      let db = old.now.trees in
-      let w = runs_as drop_faction k old new schema has.nine.is _ (drop_is has.nine.tables has.nine.indexes) (drop_plain has.nine.tables has.nine.indexes) count ran.0 in
-      let keyed = sound.keyed faction_table (inr (inl refl)) in
-      let out = removes schema 1 _ _ _ _ _ _ 1 refl none old.step_limit k (statement_of drop_faction (understood schema drop_faction)) _ _ db _ keyed
-      (λ rows answers. found_by 1 _ db (overlay db []) k rows refl (answers.answer Null)) (did schema old new _ _ k count has.nine.is w) in
-      let makes = loses_make schema (nine_among has.nine.tables) faction_table 1 _ k old.now new.now out.0 (λ x there. at_number (rowid x) number (all_has _ (db 1) x keyed.ints there)) sound w.sound out.1 in
-      done_with faction_table old.now new.now has (inr (inl refl)) _ _ (λ did. did) makes,
-)
-
 pub drops_faction : (old new : State) (number : ℕ) (count : ℕ) (params : Row) → IsTrue old.in_transaction → ExecutesInside 0 drop_faction params old new (Ok count) → params ≡ int number ∷ []
     → Inside HasTables (Drops faction_table 1 (int number ∷ [])) old new
-drops_faction old new number count params inside h same = drops_inside old new number count inside (subst (λ p. ExecutesInside 0 drop_faction p old new (Ok count)) same h)
+drops_faction old new = drops_numbered faction_table.tree _ _ _ _ 1 ours (λ more. refl) (λ db. refl) drop_faction drop_is drop_plain old new

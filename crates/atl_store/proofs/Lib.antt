@@ -20,6 +20,7 @@ pub mod LoadLaws
 pub mod Terms
 pub mod MakingLaws
 pub mod CreateTexts
+pub mod NumberedLaws
 pub mod FactionRowLaws
 pub mod RegionRowLaws
 pub mod UnitRowLaws

@@ -1,39 +1,20 @@
 -- What the statements on the table unit mean, and what they do.
-use Rattle.std.proofs.Common.{IsTrue, ◌≡◌, ℕ, pos, Bool, if◌then◌else◌, true, List, [], ◌∷◌, codes, Some, Ok, refl, sym, ap, ◌∙◌, subst, inl, inr}
+use Rattle.std.proofs.Common.{IsTrue, ◌≡◌, ℕ, pos, Bool, if◌then◌else◌, List, [], ◌∷◌, codes, Ok, refl, inl, inr}
 use Rattle.sqlite_tied.specs.Compute.{everything}
 use Rattle.sqlite.specs.declared.types.Value.TheVariants.{Null, Text}
-use Rattle.sqlite.specs.Command.TheVariants.{InsertOr, Delete}
-use Rattle.sqlite.specs.Term.{Term, lit, col, op2}
-use Rattle.sqlite.specs.Source.TheVariants.{Values}
+use Rattle.sqlite.specs.Term.{Term, lit, col}
 use Rattle.sqlite.specs.Listing.{understood}
 use Rattle.sqlite.specs.Order.{Row}
 use Rattle.sqlite.specs.State.{State, ExecutesInside}
-use Rattle.sqlite.proofs.Callers.{IsPlain, command_of, statement_of, runs_as}
-use Rattle.sqlite_value.specs.Keys.{first_key}
-use Rattle.sqlite_schema.specs.declared.command.Conflict.TheVariants.{Abort}
-use Rattle.sqlite_trees.specs.Tree.{rowid}
-use Rattle.sqlite_trees.specs.View.{is_int}
 use Rattle.sqlite_rules.specs.Lists.{Has}
-use Rattle.sqlite_rules.specs.Cast.{cast_row}
-use Rattle.sqlite_rules.specs.Edit.{with_rowid}
-use Rattle.sqlite_rules.specs.declared.error.Rowids.TheVariants.{Chosen}
-use Rattle.sqlite_rules.proofs.ListLemmas.{all_has}
-use Rattle.sqlite_sql.specs.declared.ops.BinaryOp.TheVariants.{Compare}
-use Rattle.sqlite_sql.specs.declared.ops.CompareOp.TheVariants.{Eq}
-use Rattle.sqlite.specs.Collation.TheVariants.{Binary}
-use Rattle.sqlite.specs.Program.{overlay}
-use Rattle.atl_store.specs.Sets.{visible}
-use Rattle.atl_store.specs.Tables.{unit_table, nine_and}
+use Rattle.atl_store.specs.Tables.{unit_table, all_tables}
 use Rattle.atl_store.specs.Shown.{int, flag, unit_row}
-use Rattle.sqlite.specs.Table.{Table}
-use Rattle.sqlite_schema.specs.declared.schema.Index.{Index}
 use Rattle.atl_store.specs.Inside.{Inside, HasTables, Puts, Drops}
-use Rattle.atl_store.proofs.UpsertLaws.{Upserted, update_query, clause_on}
-use Rattle.atl_store.proofs.StatementLaws.{upserting, removes}
-use Rattle.atl_store.proofs.CarryLaws.{nine_among, unlinked, none_share, sound_under, done_with}
-use Rattle.atl_store.proofs.MakeLaws.{did, upserts_make, loses_make}
-use Rattle.atl_store.proofs.EditLaws.{delete_query, found_by}
-use Rattle.atl_store.proofs.Terms.{cast_null, cast_int, head_is, by_number, one_number, at_number}
+use Rattle.atl_store.proofs.NumberedLaws.{AlwaysPlain, IsPut, IsDrop, MakesRow, puts_numbered, drops_numbered}
+use Rattle.atl_store.proofs.Terms.{cast_null, cast_int}
+
+ours : Has all_tables unit_table
+ours = inr (inr (inr (inl refl)))
 
 abbrev pub put_unit : List ℕ
 put_unit = codes "INSERT INTO unit (number, faction, name, region, structure, men, money, guard) VALUES (?1, ?2, ?3, ?4, ?5, ?6, ?7, ?8) ON CONFLICT (number) DO UPDATE SET faction = ?2, name = ?3, region = ?4, structure = ?5, men = ?6, money = ?7, guard = ?8"
@@ -44,75 +25,40 @@ terms = col 0 0 ∷ lit Null ∷ col 0 1 ∷ col 0 2 ∷ col 0 3 ∷ col 0 4 ∷
 abbrev project : List Term
 project = col 1 0 ∷ lit Null ∷ col 0 1 ∷ col 0 2 ∷ col 0 3 ∷ col 0 4 ∷ col 0 5 ∷ col 0 6 ∷ col 0 7 ∷ []
 
-put_is : (more : List Table) (indexes : List Index) → command_of (understood (nine_and more indexes) put_unit) ≡ InsertOr 3 Abort (Values terms 9) (clause_on (0 ∷ []) (record { lets = []; body = update_query 4 8 project }) ∷ [])
+put_is : IsPut unit_table.tree 3 put_unit 9 terms 8 project
 unfolding understood everything
 put_is more indexes = refl
 
-put_plain : (more : List Table) (indexes : List Index) → IsPlain (understood (nine_and more indexes) put_unit)
+put_plain : AlwaysPlain put_unit
 unfolding understood everything
 put_plain more indexes = (refl, refl)
 
-puts_inside : (old new : State) (number : ℕ) (faction : ℕ) (name : List ℕ) (region : ℕ) (structure : ℕ) (men : ℕ) (money : ℕ) (guard : Bool) (count : ℕ) → IsTrue old.in_transaction → ExecutesInside 0 put_unit (unit_row number faction name region structure men money guard) old new (Ok count)
-    → Inside HasTables (Puts unit_table 1 (unit_row number faction name region structure men money guard)) old new
-unfolding first_key
-puts_inside old new number faction name region structure men money guard count inside ran = (
-  ran.1.mode ∙ sym inside,
-  λ has.
-      let schema = nine_and has.nine.tables has.nine.indexes in
-      let sound = sound_under old.now has in
-      let none = unlinked has.nine.tables has.nine.indexes 4 has.nine.free in
-      let v = unit_row number faction name region structure men money guard in
-      let src = int number ∷ Null ∷ int faction ∷ Text name ∷ int region ∷ int structure ∷ int men ∷ int money ∷ flag guard ∷ [] in
-      let w = runs_as put_unit v old new schema has.nine.is _ (put_is has.nine.tables has.nine.indexes) (put_plain has.nine.tables has.nine.indexes) count ran.0 in
-      let keyed = sound.keyed unit_table (inr (inr (inr (inl refl)))) in
-      let up = upserting schema 4 _ _ _ _ _ _ 3 refl none old.step_limit v (0 ∷ []) 8 project (λ db. refl) (statement_of put_unit (understood schema put_unit)) terms 9 src
-      old.now.trees _ keyed (λ r there. refl) refl (did schema old new _ _ v count has.nine.is w) in
-      let casted : cast_row unit_table src ≡ src = rw (cast_int (pos number), cast_int (pos faction), cast_int (pos region), cast_int (pos structure), cast_int (pos men), cast_int (pos money), cast_int (if guard then pos 1 else pos 0), cast_null) refl in
-      let made : with_rowid Chosen (old.now.trees 4) (cast_row unit_table src) ≡ src = ap (with_rowid Chosen (old.now.trees 4)) casted in
-      let are_ints : (x : Row) → Has (old.now.trees 4) x → is_int (rowid x) ≡ true = λ x there. all_has _ (old.now.trees 4) x keyed.ints there in
-      let makes = upserts_make schema (nine_among has.nine.tables) unit_table 1 none old.step_limit v (0 ∷ []) 8 project (λ db. refl) src v old.now new.now
-      (subst (λ k. Upserted schema unit_table none old.step_limit v (0 ∷ []) 8 project (λ db. refl) k old.now.trees new.now.trees) made up.0)
-      (ap (visible unit_table) casted)
-      (λ r there same. rw (head_is _ _ _ _ same, cast_int (pos number), cast_int (pos faction), cast_int (pos region), cast_int (pos structure), cast_int (pos men), cast_int (pos money), cast_int (if guard then pos 1 else pos 0)) refl)
-      (λ x there. by_number (rowid x) number _ (none_share unit_table (Some (0 ∷ [])) src x has.nine.indexes (λ i there. has.nine.plain i there unit_table (inr (inr (inr (inl refl)))))) (are_ints x there))
-      (λ x r one two same. one_number _ _ same)
-      (inr (inr (inr (inl refl)))) sound w.sound up.1 in
-      done_with unit_table old.now new.now has (inr (inr (inr (inl refl)))) _ _ (λ did. did) makes,
-)
+makes_row : (number : ℕ) (faction : ℕ) (name : List ℕ) (region : ℕ) (structure : ℕ) (men : ℕ) (money : ℕ) (guard : Bool) → MakesRow unit_table 9 terms 8 project number (int faction ∷ Text name ∷ int region ∷ int structure ∷ int men ∷ int money ∷ flag guard ∷ [])
+makes_row number faction name region structure men money guard = record {
+  source = refl;
+  casted = rw (cast_int (pos number), cast_int (pos faction), cast_int (pos region), cast_int (pos structure), cast_int (pos men), cast_int (pos money), cast_int (if guard then pos 1 else pos 0), cast_null) refl;
+  shown = refl;
+  aimed = λ x more. refl;
+  changed = λ more r same. rw (same, cast_int (pos number), cast_int (pos faction), cast_int (pos region), cast_int (pos structure), cast_int (pos men), cast_int (pos money), cast_int (if guard then pos 1 else pos 0)) refl;
+  spared = λ x. refl;
+}
 
--- the parameters are shown to be the row
 pub puts_unit : (old new : State) (number : ℕ) (faction : ℕ) (name : List ℕ) (region : ℕ) (structure : ℕ) (men : ℕ) (money : ℕ) (guard : Bool) (count : ℕ) (params : Row) → IsTrue old.in_transaction → ExecutesInside 0 put_unit params old new (Ok count) → params ≡ unit_row number faction name region structure men money guard
     → Inside HasTables (Puts unit_table 1 (unit_row number faction name region structure men money guard)) old new
-puts_unit old new number faction name region structure men money guard count params inside h same = puts_inside old new number faction name region structure men money guard count inside (subst (λ p. ExecutesInside 0 put_unit p old new (Ok count)) same h)
+puts_unit old new number faction name region structure men money guard count =
+    puts_numbered unit_table.tree _ _ _ _ 3 ours (λ more. refl) (λ db. refl) put_unit 9 8 terms project put_is put_plain old new number (int faction ∷ Text name ∷ int region ∷ int structure ∷ int men ∷ int money ∷ flag guard ∷ []) count (makes_row number faction name region structure men money guard)
 
 abbrev pub drop_unit : List ℕ
 drop_unit = codes "DELETE FROM unit WHERE number = ?1"
 
-drop_is : (more : List Table) (indexes : List Index) → command_of (understood (nine_and more indexes) drop_unit) ≡ Delete 3 (record { lets = []; body = delete_query 4 (op2 (Compare Eq Binary) (col 1 0) (col 0 0) ∷ []) })
+drop_is : IsDrop unit_table.tree 3 drop_unit
 unfolding understood everything
 drop_is more indexes = refl
 
-drop_plain : (more : List Table) (indexes : List Index) → IsPlain (understood (nine_and more indexes) drop_unit)
+drop_plain : AlwaysPlain drop_unit
 unfolding understood everything
 drop_plain more indexes = (refl, refl)
 
-drops_inside : (old new : State) (number : ℕ) (count : ℕ) → IsTrue old.in_transaction → ExecutesInside 0 drop_unit (int number ∷ []) old new (Ok count) → Inside HasTables (Drops unit_table 1 (int number ∷ [])) old new
-drops_inside old new number count inside ran = (
-  ran.1.mode ∙ sym inside,
-  λ has.
-      let schema = nine_and has.nine.tables has.nine.indexes in
-      let sound = sound_under old.now has in
-      let none = unlinked has.nine.tables has.nine.indexes 4 has.nine.free in
-      let k = int number ∷ [] in
-      let db = old.now.trees in
-      let w = runs_as drop_unit k old new schema has.nine.is _ (drop_is has.nine.tables has.nine.indexes) (drop_plain has.nine.tables has.nine.indexes) count ran.0 in
-      let keyed = sound.keyed unit_table (inr (inr (inr (inl refl)))) in
-      let out = removes schema 4 _ _ _ _ _ _ 3 refl none old.step_limit k (statement_of drop_unit (understood schema drop_unit)) _ _ db _ keyed
-      (λ rows answers. found_by 4 _ db (overlay db []) k rows refl (answers.answer Null)) (did schema old new _ _ k count has.nine.is w) in
-      let makes = loses_make schema (nine_among has.nine.tables) unit_table 1 _ k old.now new.now out.0 (λ x there. at_number (rowid x) number (all_has _ (db 4) x keyed.ints there)) sound w.sound out.1 in
-      done_with unit_table old.now new.now has (inr (inr (inr (inl refl)))) _ _ (λ did. did) makes,
-)
-
 pub drops_unit : (old new : State) (number : ℕ) (count : ℕ) (params : Row) → IsTrue old.in_transaction → ExecutesInside 0 drop_unit params old new (Ok count) → params ≡ int number ∷ []
     → Inside HasTables (Drops unit_table 1 (int number ∷ [])) old new
-drops_unit old new number count params inside h same = drops_inside old new number count inside (subst (λ p. ExecutesInside 0 drop_unit p old new (Ok count)) same h)
+drops_unit old new = drops_numbered unit_table.tree _ _ _ _ 3 ours (λ more. refl) (λ db. refl) drop_unit drop_is drop_plain old new

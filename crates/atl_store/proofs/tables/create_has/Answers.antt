@@ -1,6 +1,0 @@
-use Rattle.atl_store.proofs.CreateTexts.{makes_has}
-use Rattle.atl_store.proofs.WriteLaws.{weaker}
-use Rattle.atl_store.proofs.tables.create_has.Goals as goal
-
-pub returns : goal.returns
-returns g c = weaker g.S.Store (λ old new did. makes_has old new did.1 did.0 did.2) c.run.ensures
