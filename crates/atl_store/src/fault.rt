@@ -6,7 +6,7 @@ use atl_state::check::{CheckFault, Rule};
 use sqlite::{Error, ErrorCode};
 use std::alloc::{AllocError, AllocFailed};
 
-/// Why nothing was written. The tables are as they were.
+/// Why nothing was written. While the connection is open the tables are as they were; a crash leaves them so, or written.
 #[derive(Drop, Clone, Copy, Debug, PartialEq, Eq)]
 pub enum WriteFault {
     /// The database refuses for another cause than memory.
@@ -15,18 +15,19 @@ pub enum WriteFault {
     Memory,
 }
 
-/// Why no campaign was created. The tables are as they were.
+/// Why no campaign was created. While the connection is open the tables are as they were; a crash leaves them so, or, but
+/// after NotEmpty, with the campaign.
 #[derive(Drop, Clone, Copy, Debug, PartialEq, Eq)]
 pub enum CreateFault {
-    /// A table `campaign` is there already.
+    /// A table `campaign` is there already. Nothing at all is changed.
     NotEmpty,
-    /// The database refuses for another cause than memory, or has other tables.
+    /// The database refuses for another cause than memory, has other tables, or is in a transaction.
     Store,
     /// There is no memory for it.
     Memory,
 }
 
-/// Why the rows of a table are not read. The database is as it was.
+/// Why the rows of a table are not read. Nothing is changed.
 #[derive(Drop, Clone, Copy, Debug, PartialEq, Eq)]
 pub enum ReadFault {
     /// The disk fails, something is too big, or it would take too many steps.
@@ -39,10 +40,11 @@ pub enum ReadFault {
     OtherType,
 }
 
-/// Why no campaign is loaded. The database is as it was.
+/// Why no campaign is loaded, or no database is opened again. Nothing is changed.
 #[derive(Drop, Clone, Copy, Debug, PartialEq, Eq)]
 pub enum StoreFault {
-    /// The database refuses for another cause than memory, or its tables are not made as those of a campaign.
+    /// The database refuses for another cause than memory, is in a transaction, or has tables that are not made as those of a
+    /// campaign.
     Store,
     /// The rows of the tables break this rule, and none before it.
     Damaged(Rule),

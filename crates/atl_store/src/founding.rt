@@ -100,10 +100,10 @@ fn is_blank(schema: &Schema) -> bool
 }
 
 /// Makes the nine tables and writes the whole campaign with its world text, in one transaction. With Ok the connection
-/// holds the campaign, of which nothing is marked any more, and no table `campaign` was there. NotEmpty: a table `campaign` is there, and nothing is changed.
-/// Store: the connection is in a transaction, the database has other tables, or it refuses. After Store and Memory the
-/// tables are as they were while the connection is open, and a crash leaves what it left before or the campaign. After any
-/// fault the marks are as they were. See docs/FORMATS.md, "Tables".
+/// holds the campaign, of which nothing is marked any more, and no table `campaign` was there. NotEmpty: a table `campaign`
+/// is there, and nothing is changed. Store: the connection is in a transaction, the database has other tables, or it
+/// refuses. After Store and Memory the tables are as they were while the connection is open, and a crash leaves what it
+/// left before or the campaign. After any fault the marks are as they were. See docs/FORMATS.md, "Tables".
 pub fn create<S: Alter>(
     conn: &mut Connection<S>,
     world_text: &str,

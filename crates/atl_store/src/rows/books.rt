@@ -17,13 +17,14 @@ use atl_state::parts::StoredBooks;
 use sqlite::{Alter, Connection, Error, Row, Transaction, params};
 use std::alloc::Global;
 
-/// What is booked of a thing under an entry.
+/// What is booked of a thing under an entry, which is not 0.
 #[derive(Clone, Copy, Debug)]
 pub struct BooksRow {
     /// The number of the entry, from 1 to 13.
     pub entry: u32,
     /// 0 for money, 1 for people, and 2 more than its number for an item.
     pub thing: u32,
+    /// Money, men or pieces of the item.
     pub amount: i64,
 }
 
@@ -70,7 +71,8 @@ impl Stored for Placed<StoredBooks> {
     }
 }
 
-/// The books.
+/// The books, by entry and thing, each row with its place. Each fault is told as `ReadFault` says; whatever is answered,
+/// nothing is changed.
 pub fn read_books<S: Alter>(
     alloc: Global,
     conn: &mut Connection<S>,

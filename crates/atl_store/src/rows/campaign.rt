@@ -23,10 +23,13 @@ use std::alloc::Global;
 /// What the campaign's own row says beside its format, which is 1, and the world text.
 #[derive(Clone, Copy, Debug)]
 pub struct CampaignRow<'a> {
-    /// The month last closed.
+    /// The month last closed, 0 before the first.
     pub month: u32,
+    /// The number that the next faction gets,
     pub next_faction: u32,
+    /// the next unit,
     pub next_unit: u32,
+    /// and the next structure.
     pub next_structure: u32,
     /// The moderator's pass text.
     pub pass: &'a str,
@@ -57,7 +60,9 @@ pub(crate) fn put_campaign<S: Alter>(
 /// The campaign's own row with its world text as it stands in its table, whoever wrote it.
 #[derive(Debug)]
 pub struct StoredCampaign {
+    /// All of the row but the world text.
     pub head: StoredHead,
+    /// The text of a world file, byte for byte as it was handed in.
     pub world: String,
 }
 
@@ -108,7 +113,8 @@ impl Stored for StoredCampaign {
     }
 }
 
-/// The campaign's own rows, of which a whole store has one.
+/// The campaign's own rows, of which a whole store has one. Each fault is told as `ReadFault` says, OtherType also of a world
+/// text that isn't UTF-8; whatever is answered, nothing is changed.
 pub fn read_campaign<S: Alter>(
     alloc: Global,
     conn: &mut Connection<S>,

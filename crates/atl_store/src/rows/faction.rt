@@ -75,7 +75,8 @@ impl Stored for StoredFaction {
     }
 }
 
-/// All factions, in the order of their numbers.
+/// All factions, in the order of their numbers. Each fault is told as `ReadFault` says; whatever is answered, nothing is
+/// changed.
 pub fn read_factions<S: Alter>(
     alloc: Global,
     conn: &mut Connection<S>,

@@ -17,7 +17,7 @@ use atl_state::parts::StoredHas;
 use sqlite::{Alter, Connection, Error, Row, Transaction, params};
 use std::alloc::Global;
 
-/// What a row of the table is of.
+/// What a row of the table is of: an amount of an item, or days of a skill.
 #[derive(Clone, Copy, Debug, PartialEq, Eq)]
 pub enum Sort {
     Item,
@@ -36,10 +36,10 @@ impl Sort {
     }
 }
 
-/// What a unit has of an item or a skill.
+/// What a unit has of an item or a skill, which is more than 0.
 #[derive(Clone, Copy, Debug)]
 pub struct HasRow {
-    /// Who has it.
+    /// The number of the unit.
     pub unit: u32,
     /// Whether it is an item or a skill.
     pub sort: Sort,
@@ -86,7 +86,8 @@ impl Stored for Placed<StoredHas> {
     }
 }
 
-/// What units have.
+/// What units have, by unit, sort and thing, each row with its place. Each fault is told as `ReadFault` says; whatever is
+/// answered, nothing is changed.
 pub fn read_has<S: Alter>(
     alloc: Global,
     conn: &mut Connection<S>,

@@ -18,10 +18,10 @@ use atl_state::parts::StoredMail;
 use sqlite::{Alter, Connection, Error, Row, Transaction, params};
 use std::alloc::Global;
 
-/// The mail of a faction, as it came.
+/// The mail of a faction: the mailing that it sent last, as it came.
 #[derive(Clone, Copy, Debug)]
 pub struct MailRow<'a> {
-    /// Whose it is.
+    /// The number of the faction.
     pub faction: u32,
     /// Its bytes.
     pub text: &'a [u8],
@@ -60,7 +60,7 @@ impl Stored for StoredMail {
     }
 }
 
-/// All mail, in the order of the factions.
+/// All mail, in the order of the factions. Each fault is told as `ReadFault` says; whatever is answered, nothing is changed.
 pub fn read_mail<S: Alter>(
     alloc: Global,
     conn: &mut Connection<S>,

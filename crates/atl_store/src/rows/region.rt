@@ -25,7 +25,7 @@ pub struct RegionRow {
     pub number: u32,
     /// How many peasants live there.
     pub peasants: u32,
-    /// The money there.
+    /// The money there, without that of units.
     pub money: u32,
 }
 
@@ -65,7 +65,8 @@ impl Stored for StoredRegion {
     }
 }
 
-/// All regions, in the order of their numbers.
+/// All regions, in the order of their numbers. Each fault is told as `ReadFault` says; whatever is answered, nothing is
+/// changed.
 pub fn read_regions<S: Alter>(
     alloc: Global,
     conn: &mut Connection<S>,

@@ -22,7 +22,7 @@ use std::alloc::Global;
 /// The last report of a faction.
 #[derive(Clone, Copy, Debug)]
 pub struct ReportRow<'a> {
-    /// Whose it is.
+    /// The number of the faction.
     pub faction: u32,
     /// The whole text.
     pub text: &'a str,
@@ -68,7 +68,8 @@ impl Stored for StoredReport {
     }
 }
 
-/// All reports, in the order of the factions.
+/// All reports, in the order of the factions. Each fault is told as `ReadFault` says, OtherType also of a report that isn't
+/// UTF-8; whatever is answered, nothing is changed.
 pub fn read_reports<S: Alter>(
     alloc: Global,
     conn: &mut Connection<S>,

@@ -22,10 +22,11 @@ pub(crate) trait Stored: Drop + Sized {
         ensures other { IfErr result (λ e. IsTrue (not (is_memory e)) → ¬ IsTyped forms row.now) };
 }
 
-/// A row with the place that the database keeps it at, which differs from row to row of a table.
+/// A row of a table that has no number for its rows, with the place that the database keeps it at.
 #[derive(Debug, Drop)]
 pub struct Placed<T> {
     pub row: T,
+    /// Where it is kept, which differs from row to row of a table.
     pub rowid: i64,
 }
 

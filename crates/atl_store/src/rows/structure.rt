@@ -27,11 +27,11 @@ pub struct StructureRow<'a> {
     pub kind: u32,
     /// Its name.
     pub name: &'a str,
-    /// Where it stands.
+    /// The world's number of the region that it stands in.
     pub region: u32,
-    /// How much of it is built.
+    /// How much of its size is built.
     pub done: u32,
-    /// The unit that owns it, or 0.
+    /// The number of the unit that owns it, or 0.
     pub owner: u32,
 }
 
@@ -85,7 +85,8 @@ impl Stored for StoredStructure {
     }
 }
 
-/// All structures, in the order of their numbers.
+/// All structures, in the order of their numbers. Each fault is told as `ReadFault` says; whatever is answered, nothing is
+/// changed.
 pub fn read_structures<S: Alter>(
     alloc: Global,
     conn: &mut Connection<S>,

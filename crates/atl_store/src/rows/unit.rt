@@ -23,15 +23,15 @@ use std::alloc::Global;
 pub struct UnitRow<'a> {
     /// From 1.
     pub number: u32,
-    /// Whose it is.
+    /// The number of the faction that it belongs to.
     pub faction: u32,
     /// Its name.
     pub name: &'a str,
-    /// Where it is.
+    /// The world's number of the region that it is in.
     pub region: u32,
-    /// The structure that it is inside, or 0.
+    /// The number of the structure that it is inside, or 0.
     pub structure: u32,
-    /// How many people it has.
+    /// How many men it has.
     pub men: u32,
     /// Its money.
     pub money: u32,
@@ -92,7 +92,8 @@ impl Stored for StoredUnit {
     }
 }
 
-/// All units, in the order of their numbers.
+/// All units, in the order of their numbers, without their goods. Each fault is told as `ReadFault` says; whatever is
+/// answered, nothing is changed.
 pub fn read_units<S: Alter>(
     alloc: Global,
     conn: &mut Connection<S>,

@@ -9,6 +9,7 @@ use crate::schema::places;
 use crate::schema::shapes::{is_keyed, is_simple, is_strict};
 use sqlite_schema::schema::{Kind, Table};
 
+/// The table of the campaign's own row, which has a check.
 fn is_campaign(found: &Table) -> bool
     ensures { Decides result (found.now ≡ campaign_table) }
 {
@@ -31,6 +32,7 @@ fn is_campaign(found: &Table) -> bool
         && is_own_row(&found.checks)
 }
 
+/// The table of factions, of which no two joined under one name.
 fn is_faction(found: &Table) -> bool
     ensures { Decides result (found.now ≡ faction_table) }
 {
