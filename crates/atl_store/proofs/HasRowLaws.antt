@@ -30,7 +30,7 @@ use Rattle.sqlite_rules.specs.declared.error.Rowids.TheVariants.{Chosen}
 use Rattle.sqlite_rules.proofs.ListLemmas.{all_has, some_from}
 use Rattle.sqlite_rules.proofs.RuleLemmas.{keeps_at}
 use Rattle.atl_store.specs.Sets.{visible}
-use Rattle.atl_store.specs.Tables.{has_table, nine_and, IsSoundly}
+use Rattle.atl_store.specs.Tables.{has_table, nine_and, IsSoundly, all_tables, has_unique}
 use Rattle.atl_store.specs.Shown.{int, has_row}
 use Rattle.sqlite.specs.Table.{Table}
 use Rattle.sqlite.specs.Schema.{Schema}
@@ -43,6 +43,9 @@ use Rattle.atl_store.proofs.CarryLaws.{nine_among, unlinked, none_share, sound_u
 use Rattle.atl_store.proofs.MakeLaws.{did, upserts_make, loses_make}
 use Rattle.atl_store.proofs.Terms.{cast_null, cast_int, at_number}
 use Rattle.atl_store.proofs.KeyLaws.{int_by, cons_is, unwrapped}
+
+ours : Has all_tables has_table
+ours = inr (inr (inr (inr (inl refl))))
 
 -- ---- the columns of the key are integers
 
@@ -65,8 +68,8 @@ ints_from schema (r ∷ a ∷ b ∷ c ∷ rest) typed present =
     let p3 = and_parts _ _ p2.1 in
     record { one = int_by a t1.0 (not-true _ p1.0); two = int_by b t2.0 (not-true _ p2.0); three = int_by c t3.0 (not-true _ p3.0) }
 
-key_ints : (more : List Table) (indexes : List Index) (db : Trees) → IsSoundly (nine_and more indexes) db → (x : Row) → Has (db 5) x → KeyInts x
-key_ints more indexes db sound x there = ints_from (nine_and more indexes) x (keeps_at Datatype (nine_and more indexes) db has_table x (sound.listed.obeys.rules Datatype) (inr (inr (inr (inr (inl refl))))) there) (keeps_at NotNull (nine_and more indexes) db has_table x (sound.listed.obeys.rules NotNull) (inr (inr (inr (inr (inl refl))))) there)
+key_ints : (more : List Table) (indexes : List Index) (db : Trees) → IsSoundly (nine_and more indexes) db → (x : Row) → Has (db has_table.tree) x → KeyInts x
+key_ints more indexes db sound x there = ints_from (nine_and more indexes) x (keeps_at Datatype (nine_and more indexes) db has_table x (sound.listed.obeys.rules Datatype) (nine_among more has_table ours) there) (keeps_at NotNull (nine_and more indexes) db has_table x (sound.listed.obeys.rules NotNull) (nine_among more has_table ours) there)
 
 -- ---- two rows with one key have one rowid
 
@@ -88,17 +91,17 @@ agree_is a b c d e f ia ib ic id ie if' h =
 agree_same : (a b c : Value) → is_int a ≡ true → is_int b ≡ true → is_int c ≡ true → (equal Binary a a && (equal Binary b b && (equal Binary c c && true))) ≡ true
 agree_same a b c ia ib ic = and_from _ _ (is_equal a ia) (and_from _ _ (is_equal b ib) (and_from _ _ (is_equal c ic) refl))
 
-alone : (more : List Table) (indexes : List Index) (db : Trees) → IsSoundly (nine_and more indexes) db → (x r : Row) → Has (db 5) x → Has (db 5) r → take 3 (visible has_table x) ≡ take 3 (visible has_table r) → is_eq (value_cmp (rowid x) (rowid r)) ≡ true
+alone : (more : List Table) (indexes : List Index) (db : Trees) → IsSoundly (nine_and more indexes) db → (x r : Row) → Has (db has_table.tree) x → Has (db has_table.tree) r → take 3 (visible has_table x) ≡ take 3 (visible has_table r) → is_eq (value_cmp (rowid x) (rowid r)) ≡ true
 unfolding first_key
 alone more indexes db sound x r one two same =
-    let unique = keeps_at Unique (nine_and more indexes) db has_table r (sound.listed.obeys.rules Unique) (inr (inr (inr (inr (inl refl))))) two in
-    let free : list_any (λ y. (equal Binary (column y 1) (column r 1) && (equal Binary (column y 2) (column r 2) && (equal Binary (column y 3) (column r 3) && true))) && differ (rowid y) (rowid r)) (db 5) ≡ false = not-true _ (and_parts _ _ unique).0 in
+    let unique = keeps_at Unique (nine_and more indexes) db has_table r (sound.listed.obeys.rules Unique) (nine_among more has_table ours) two in
+    let free : list_any (λ y. (equal Binary (column y 1) (column r 1) && (equal Binary (column y 2) (column r 2) && (equal Binary (column y 3) (column r 3) && true))) && differ (rowid y) (rowid r)) (db has_table.tree) ≡ false = not-true _ (and_parts _ _ unique).0 in
     let k = key_is x _ _ _ same in
     let ints = key_ints more indexes db sound r two in
-    let keyed = sound.keyed has_table (inr (inr (inr (inr (inl refl))))) in
+    let keyed = sound.keyed has_table ours in
     let agrees : (equal Binary (column x 1) (column r 1) && (equal Binary (column x 2) (column r 2) && (equal Binary (column x 3) (column r 3) && true))) ≡ true = rw (k.0, k.1, k.2) (agree_same _ _ _ ints.one ints.two ints.three) in
-    differ_not (rowid x) (rowid r) (all_has _ (db 5) x keyed.ints one) (all_has _ (db 5) r keyed.ints two) (elim (cases_Bool (differ (rowid x) (rowid r))) [
-      | inl apart ↦ absurd (true≢false (sym (some_from _ (db 5) x one (and_from _ _ agrees apart)) ∙ free))
+    differ_not (rowid x) (rowid r) (all_has _ (db has_table.tree) x keyed.ints one) (all_has _ (db has_table.tree) r keyed.ints two) (elim (cases_Bool (differ (rowid x) (rowid r))) [
+      | inl apart ↦ absurd (true≢false (sym (some_from _ (db has_table.tree) x one (and_from _ _ agrees apart)) ∙ free))
       | inr near ↦ near
     ])
 
@@ -113,10 +116,7 @@ terms = lit Null ∷ col 0 0 ∷ col 0 1 ∷ col 0 2 ∷ col 0 3 ∷ []
 abbrev project : List Term
 project = col 1 0 ∷ col 1 1 ∷ col 1 2 ∷ col 1 3 ∷ col 0 3 ∷ []
 
-abbrev target : List ℕ
-target = 1 ∷ 2 ∷ 3 ∷ []
-
-put_is : (more : List Table) (indexes : List Index) → command_of (understood (nine_and more indexes) put_has) ≡ InsertOr 4 Abort (Values terms 5) (clause_on target (record { lets = []; body = update_query 5 4 project }) ∷ [])
+put_is : (more : List Table) (indexes : List Index) → command_of (understood (nine_and more indexes) put_has) ≡ InsertOr 4 Abort (Values terms 5) (clause_on has_unique (record { lets = []; body = update_query has_table.tree 4 project }) ∷ [])
 unfolding understood everything
 put_is more indexes = refl
 
@@ -132,29 +132,29 @@ puts_inside old new unit sort thing amount count inside ran = (
   λ has.
       let schema = nine_and has.nine.tables has.nine.indexes in
       let sound = sound_under old.now has in
-      let none = unlinked has.nine.tables has.nine.indexes 5 has.nine.free in
+      let none = unlinked has.nine.tables has.nine.indexes has_table.tree has.nine.free in
       let v = has_row unit sort thing amount in
       let src = Null ∷ v in
       let db = old.now.trees in
       let w = runs_as put_has v old new schema has.nine.is _ (put_is has.nine.tables has.nine.indexes) (put_plain has.nine.tables has.nine.indexes) count ran.0 in
-      let keyed = sound.keyed has_table (inr (inr (inr (inr (inl refl))))) in
-      let up = upserting schema 5 _ _ _ _ _ _ 4 refl none old.step_limit v target 4 project (λ db. refl) (statement_of put_has (understood schema put_has)) terms 5 src
+      let keyed = sound.keyed has_table ours in
+      let up = upserting schema has_table.tree _ _ _ _ _ _ 4 refl none old.step_limit v has_unique 4 project (λ db. refl) (statement_of put_has (understood schema put_has)) terms 5 src
       db _ keyed (λ r there. refl) refl (did schema old new _ _ v count has.nine.is w) in
       let casted : cast_row has_table src ≡ src = rw (cast_null, cast_int (pos unit), cast_int (pos sort), cast_int (pos thing), cast_int (pos amount)) refl in
-      let new_row = Int (at_least Chosen (next_rowid (db 5))) ∷ v in
-      let made : with_rowid Chosen (db 5) (cast_row has_table src) ≡ new_row = ap (with_rowid Chosen (db 5)) casted in
-      let again : cast_row has_table new_row ≡ new_row = rw (cast_int (next_rowid (db 5)), cast_int (pos unit), cast_int (pos sort), cast_int (pos thing), cast_int (pos amount)) refl in
-      let makes = upserts_make schema (nine_among has.nine.tables) has_table 3 none old.step_limit v target 4 project (λ db. refl) new_row v old.now new.now
-      (subst (λ n. Upserted schema has_table none old.step_limit v target 4 project (λ db. refl) n db new.now.trees) made up.0)
+      let new_row = Int (at_least Chosen (next_rowid (db has_table.tree))) ∷ v in
+      let made : with_rowid Chosen (db has_table.tree) (cast_row has_table src) ≡ new_row = ap (with_rowid Chosen (db has_table.tree)) casted in
+      let again : cast_row has_table new_row ≡ new_row = rw (cast_int (next_rowid (db has_table.tree)), cast_int (pos unit), cast_int (pos sort), cast_int (pos thing), cast_int (pos amount)) refl in
+      let makes = upserts_make schema (nine_among has.nine.tables) has_table 3 none old.step_limit v has_unique 4 project (λ db. refl) new_row v old.now new.now
+      (subst (λ n. Upserted schema has_table none old.step_limit v has_unique 4 project (λ db. refl) n db new.now.trees) made up.0)
       (ap (visible has_table) again)
       (λ r there same. let k = key_is r _ _ _ same in rw (k.0, k.1, k.2, cast_int (pos unit), cast_int (pos sort), cast_int (pos thing), cast_int (pos amount)) refl)
       (λ x there. let ints = key_ints has.nine.tables has.nine.indexes db sound x there in (
-        λ hit. let k = agree_is _ _ _ _ _ _ ints.one ints.two ints.three refl refl refl (sym (unwrapped _ _ (none_share has_table (Some target) new_row x has.nine.indexes (λ i there. has.nine.plain i there has_table (inr (inr (inr (inr (inl refl)))))))) ∙ hit) in rw (k.0, k.1, k.2) refl,
-        λ same. let k = key_is x _ _ _ same in unwrapped _ _ (none_share has_table (Some target) new_row x has.nine.indexes (λ i there. has.nine.plain i there has_table (inr (inr (inr (inr (inl refl))))))) ∙ rw (k.0, k.1, k.2) (agree_same _ _ _ refl refl refl),
+        λ hit. let k = agree_is _ _ _ _ _ _ ints.one ints.two ints.three refl refl refl (sym (unwrapped _ _ (none_share has_table (Some has_unique) new_row x has.nine.indexes (λ i there. has.nine.plain i there has_table ours))) ∙ hit) in rw (k.0, k.1, k.2) refl,
+        λ same. let k = key_is x _ _ _ same in unwrapped _ _ (none_share has_table (Some has_unique) new_row x has.nine.indexes (λ i there. has.nine.plain i there has_table ours)) ∙ rw (k.0, k.1, k.2) (agree_same _ _ _ refl refl refl),
       ))
       (λ x r one two same. alone has.nine.tables has.nine.indexes db sound x r one two same)
-      (inr (inr (inr (inr (inl refl))))) sound w.sound up.1 in
-      done_with has_table old.now new.now has (inr (inr (inr (inr (inl refl))))) _ _ (λ did. did) makes,
+      ours sound w.sound up.1 in
+      done_with has_table old.now new.now has ours _ _ (λ did. did) makes,
 )
 
 -- the parameters are shown to be the row
@@ -167,7 +167,7 @@ puts_has old new unit sort thing amount count params inside h same = puts_inside
 abbrev pub drop_goods : List ℕ
 drop_goods = codes "DELETE FROM has WHERE unit = ?1"
 
-goods_is : (more : List Table) (indexes : List Index) → command_of (understood (nine_and more indexes) drop_goods) ≡ Delete 4 (record { lets = []; body = delete_query 5 (op2 (Compare Eq Binary) (col 1 1) (col 0 0) ∷ []) })
+goods_is : (more : List Table) (indexes : List Index) → command_of (understood (nine_and more indexes) drop_goods) ≡ Delete 4 (record { lets = []; body = delete_query has_table.tree (op2 (Compare Eq Binary) (col 1 1) (col 0 0) ∷ []) })
 unfolding understood everything
 goods_is more indexes = refl
 
@@ -181,15 +181,15 @@ goods_inside old new unit count inside ran = (
   λ has.
       let schema = nine_and has.nine.tables has.nine.indexes in
       let sound = sound_under old.now has in
-      let none = unlinked has.nine.tables has.nine.indexes 5 has.nine.free in
+      let none = unlinked has.nine.tables has.nine.indexes has_table.tree has.nine.free in
       let k = int unit ∷ [] in
       let db = old.now.trees in
       let w = runs_as drop_goods k old new schema has.nine.is _ (goods_is has.nine.tables has.nine.indexes) (goods_plain has.nine.tables has.nine.indexes) count ran.0 in
-      let keyed = sound.keyed has_table (inr (inr (inr (inr (inl refl))))) in
-      let out = removes schema 5 _ _ _ _ _ _ 4 refl none old.step_limit k (statement_of drop_goods (understood schema drop_goods)) _ _ db _ keyed
-      (λ rows answers. found_by 5 _ db (overlay db []) k rows refl (answers.answer Null)) (did schema old new _ _ k count has.nine.is w) in
+      let keyed = sound.keyed has_table ours in
+      let out = removes schema has_table.tree _ _ _ _ _ _ 4 refl none old.step_limit k (statement_of drop_goods (understood schema drop_goods)) _ _ db _ keyed
+      (λ rows answers. found_by has_table.tree _ db (overlay db []) k rows refl (answers.answer Null)) (did schema old new _ _ k count has.nine.is w) in
       let makes = loses_make schema (nine_among has.nine.tables) has_table 1 _ k old.now new.now out.0 (λ x there. at_number (column x 1) unit (key_ints has.nine.tables has.nine.indexes db sound x there).one) sound w.sound out.1 in
-      done_with has_table old.now new.now has (inr (inr (inr (inr (inl refl))))) _ _ (λ did. did) makes,
+      done_with has_table old.now new.now has ours _ _ (λ did. did) makes,
 )
 
 pub drops_goods : (old new : State) (unit : ℕ) (count : ℕ) (params : Row) → IsTrue old.in_transaction → ExecutesInside 0 drop_goods params old new (Ok count) → params ≡ int unit ∷ []

@@ -19,7 +19,7 @@ use Rattle.sqlite_rules.specs.Edit.{with_rowid}
 use Rattle.sqlite_rules.specs.declared.error.Rowids.TheVariants.{Chosen}
 use Rattle.sqlite_rules.proofs.ListLemmas.{all_has}
 use Rattle.atl_store.specs.Sets.{visible, rows_in, Is}
-use Rattle.atl_store.specs.Tables.{campaign_table, nine_and}
+use Rattle.atl_store.specs.Tables.{campaign_table, nine_and, all_tables}
 use Rattle.atl_store.specs.Shown.{Head, int, head_row}
 use Rattle.sqlite.specs.Table.{Table}
 use Rattle.sqlite_schema.specs.declared.schema.Index.{Index}
@@ -32,6 +32,9 @@ use Rattle.atl_store.proofs.CarryLaws.{nine_among, unlinked, none_share, sound_u
 use Rattle.atl_store.proofs.MakeLaws.{did, upserts_make, updates_make, upserts_sound, upserts_others, Tests}
 use Rattle.atl_store.proofs.Terms.{cast_null, cast_int, head_is, by_number, one_number}
 
+ours : Has all_tables campaign_table
+ours = inl refl
+
 abbrev pub put_campaign : List ℕ
 put_campaign = codes "INSERT INTO campaign (id, format, month, next_faction, next_unit, next_structure, pass, world) VALUES (1, 1, ?1, ?2, ?3, ?4, ?5, ?6) ON CONFLICT (id) DO UPDATE SET month = ?1, next_faction = ?2, next_unit = ?3, next_structure = ?4, pass = ?5"
 
@@ -41,7 +44,7 @@ terms = lit (Int (pos 1)) ∷ lit Null ∷ lit (Int (pos 1)) ∷ col 0 0 ∷ col
 abbrev project : List Term
 project = col 1 0 ∷ lit Null ∷ col 1 2 ∷ col 0 0 ∷ col 0 1 ∷ col 0 2 ∷ col 0 3 ∷ col 0 4 ∷ col 1 8 ∷ []
 
-put_is : (more : List Table) (indexes : List Index) → command_of (understood (nine_and more indexes) put_campaign) ≡ InsertOr 0 Abort (Values terms 9) (clause_on (0 ∷ []) (record { lets = []; body = update_query 0 6 project }) ∷ [])
+put_is : (more : List Table) (indexes : List Index) → command_of (understood (nine_and more indexes) put_campaign) ≡ InsertOr 0 Abort (Values terms 9) (clause_on (0 ∷ []) (record { lets = []; body = update_query campaign_table.tree 6 project }) ∷ [])
 unfolding understood everything
 put_is more indexes = refl
 
@@ -65,39 +68,39 @@ unfolding first_key
 puts_head old new head world count has ran =
     let schema = nine_and has.nine.tables has.nine.indexes in
     let sound = sound_under old.now has in
-    let none = unlinked has.nine.tables has.nine.indexes 0 has.nine.free in
+    let none = unlinked has.nine.tables has.nine.indexes campaign_table.tree has.nine.free in
     let v = given_row head world in
     let src = int 1 ∷ Null ∷ int 1 ∷ v in
     let w = runs_as put_campaign v old new schema has.nine.is _ (put_is has.nine.tables has.nine.indexes) (put_plain has.nine.tables has.nine.indexes) count ran.0 in
-    let keyed = sound.keyed campaign_table (inl refl) in
-    let up = upserting schema 0 _ _ _ _ _ _ 0 refl none old.step_limit v (0 ∷ []) 6 project (λ db. refl) (statement_of put_campaign (understood schema put_campaign)) terms 9 src
+    let keyed = sound.keyed campaign_table ours in
+    let up = upserting schema campaign_table.tree _ _ _ _ _ _ 0 refl none old.step_limit v (0 ∷ []) 6 project (λ db. refl) (statement_of put_campaign (understood schema put_campaign)) terms 9 src
     old.now.trees _ keyed (λ r there. refl) refl (did schema old new _ _ v count has.nine.is w) in
     let casted : cast_row campaign_table src ≡ src = rw (cast_int (pos 1), cast_int (pos head.month), cast_int (pos head.next_faction), cast_int (pos head.next_unit), cast_int (pos head.next_structure), cast_null) refl in
-    let made : with_rowid Chosen (old.now.trees 0) (cast_row campaign_table src) ≡ src = ap (with_rowid Chosen (old.now.trees 0)) casted in
-    let are_ints : (x : Row) → Has (old.now.trees 0) x → is_int (rowid x) ≡ true = λ x there. all_has _ (old.now.trees 0) x keyed.ints there in
+    let made : with_rowid Chosen (old.now.trees campaign_table.tree) (cast_row campaign_table src) ≡ src = ap (with_rowid Chosen (old.now.trees campaign_table.tree)) casted in
+    let are_ints : (x : Row) → Has (old.now.trees campaign_table.tree) x → is_int (rowid x) ≡ true = λ x there. all_has _ (old.now.trees campaign_table.tree) x keyed.ints there in
     let upserted = subst (λ k. Upserted schema campaign_table none old.step_limit v (0 ∷ []) 6 project (λ db. refl) k old.now.trees new.now.trees) made up.0 in
-    let tests : Tests schema (nine_among has.nine.tables) campaign_table 1 (hits schema campaign_table none old.step_limit v (0 ∷ []) 6 project (λ db. refl) src) (int 1 ∷ []) (old.now.trees 0) = λ x there. by_number (rowid x) 1 _ (none_share campaign_table (Some (0 ∷ [])) src x has.nine.indexes (λ i there. has.nine.plain i there campaign_table (inl refl))) (are_ints x there) in
+    let tests : Tests schema (nine_among has.nine.tables) campaign_table 1 (hits schema campaign_table none old.step_limit v (0 ∷ []) 6 project (λ db. refl) src) (int 1 ∷ []) (old.now.trees campaign_table.tree) = λ x there. by_number (rowid x) 1 _ (none_share campaign_table (Some (0 ∷ [])) src x has.nine.indexes (λ i there. has.nine.plain i there campaign_table ours)) (are_ints x there) in
     let first : rows_in campaign_table old.now.trees ≡ [] → Puts campaign_table 1 (head_row head world) old.now new.now = λ bare.
-    altered campaign_table old.now new.now has (inl refl) _ (upserts_make schema (nine_among has.nine.tables) campaign_table 1 none old.step_limit v (0 ∷ []) 6 project (λ db. refl) src (head_row head world) old.now new.now upserted
+    altered campaign_table old.now new.now has ours _ (upserts_make schema (nine_among has.nine.tables) campaign_table 1 none old.step_limit v (0 ∷ []) 6 project (λ db. refl) src (head_row head world) old.now new.now upserted
     (ap (visible campaign_table) casted)
-    (λ r there same. absurd (subst (λ l. Has l (visible campaign_table r)) bare (has_map (visible campaign_table) (old.now.trees 0) r there)))
+    (λ r there same. absurd (subst (λ l. Has l (visible campaign_table r)) bare (has_map (visible campaign_table) (old.now.trees campaign_table.tree) r there)))
     tests
     (λ x r one two same. one_number _ _ same)
-    (inl refl) sound w.sound up.1) in
+    ours sound w.sound up.1) in
     let again : (before : Head) (text : List ℕ) → Is (rows_in campaign_table old.now.trees) (λ r. r ≡ head_row before text) → Puts campaign_table 1 (head_row head text) old.now new.now = λ before text is.
-    let x = map_has (visible campaign_table) (old.now.trees 0) (head_row before text) ((is (head_row before text)).1 refl) in
-    altered campaign_table old.now new.now has (inl refl) _ (updates_make schema (nine_among has.nine.tables) campaign_table 1 none old.step_limit v (0 ∷ []) 6 project (λ db. refl) src (head_row head text) old.now new.now upserted
+    let x = map_has (visible campaign_table) (old.now.trees campaign_table.tree) (head_row before text) ((is (head_row before text)).1 refl) in
+    altered campaign_table old.now new.now has ours _ (updates_make schema (nine_among has.nine.tables) campaign_table 1 none old.step_limit v (0 ∷ []) 6 project (λ db. refl) src (head_row head text) old.now new.now upserted
     x.0 x.1 (ap (take 1) (sym x.2))
     (λ r there same.
-    let shows = (is (visible campaign_table r)).0 (has_map (visible campaign_table) (old.now.trees 0) r there) in
+    let shows = (is (visible campaign_table r)).0 (has_map (visible campaign_table) (old.now.trees campaign_table.tree) r there) in
     rw (world_is r before text shows, format_is r before text shows, head_is _ _ _ _ same, cast_int (pos 1), cast_int (pos head.month), cast_int (pos head.next_faction), cast_int (pos head.next_unit), cast_int (pos head.next_structure)) refl)
     tests
     (λ x r one two same. one_number _ _ same)
-    (inl refl) sound w.sound up.1) in
+    ours sound w.sound up.1) in
     record {
       does = record { first = first; again = again };
-      tables = stays_there campaign_table old.now new.now has (inl refl) up.1 (upserts_sound schema (nine_among has.nine.tables) campaign_table 1 none old.step_limit v (0 ∷ []) 6 project (λ db. refl) src v old.now new.now upserted sound w.sound up.1);
-      carries = carried campaign_table old.now new.now has (inl refl) up.1 (upserts_others schema (nine_among has.nine.tables) campaign_table 1 none old.step_limit v (0 ∷ []) 6 project (λ db. refl) src v old.now new.now upserted);
+      tables = stays_there campaign_table old.now new.now has ours up.1 (upserts_sound schema (nine_among has.nine.tables) campaign_table 1 none old.step_limit v (0 ∷ []) 6 project (λ db. refl) src v old.now new.now upserted sound w.sound up.1);
+      carries = carried campaign_table old.now new.now has ours up.1 (upserts_others schema (nine_among has.nine.tables) campaign_table 1 none old.step_limit v (0 ∷ []) 6 project (λ db. refl) src v old.now new.now upserted);
     }
 
 -- the parameters are shown to be these

@@ -1,5 +1,6 @@
 //! A whole campaign is written into a new store.
-ghost use Rattle.std.specs.Prelude.{◌≡◌, ◌≤◌, false, IsTrue, OnOk, OnErr, IfErr, length};
+ghost use Rattle.std.specs.Prelude.{◌≡◌, ◌≤◌, false, OnOk, OnErr, IfErr, length};
+ghost use Rattle.std.specs.Bool.{Decides};
 ghost use Rattle.sqlite.specs.Held.{state};
 ghost use Rattle.atl_store.specs.Tables.{no_tables};
 ghost use Rattle.atl_state.specs.Limits.{most_things};
@@ -92,7 +93,7 @@ fn is_there(schema: &Schema) -> bool
 
 /// Whether there is no table, index or view at all.
 fn is_blank(schema: &Schema) -> bool
-    ensures { IsTrue result → schema.now ≡ no_tables }
+    ensures { Decides result (schema.now ≡ no_tables) }
 {
     schema.tables.as_slice().is_empty()
         && schema.indexes.as_slice().is_empty()

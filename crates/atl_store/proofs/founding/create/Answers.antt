@@ -14,7 +14,7 @@ returns-clause-ok g c =
       fresh = not_there g.S.Store c.args.conn.now c.schema.result.now _ c.schema.ensures.value c.is_there.ensures c.if-is_there.false;
       idle = c.write_founding.ensures.idle;
       tables = λ clean. commits_keeps old new c.args.world_text.now (λ db up. g.met.S.Store.settled c.write_founding.new.conn.store db up) IsBlank (WritesFounding c.args.world_text.now c.args.campaign.now.what) c.args.campaign.now.what (c.in_ok-write_founding.ensures.ok clean)
-          (sym c.schema-2.ensures.value ∙ c.is_blank.ensures c.if-not-is_blank.false) (λ did. did);
+          (sym c.schema-2.ensures.value ∙ c.is_blank.ensures.0 c.if-not-is_blank.false) (λ did. did);
     }
 
 pub returns-in_err-write_founding-clause-err : goal.returns-in_err-write_founding-clause-err
@@ -24,7 +24,7 @@ returns-in_err-write_founding-clause-err g c =
     let fails : FailsToCreate g.S.Store c.args.world_text.now c.args.campaign.now.what c.args.conn.now c.write_founding.new.conn = record {
       fresh = not_there g.S.Store c.args.conn.now c.schema.result.now _ c.schema.ensures.value c.is_there.ensures c.if-is_there.false;
       tables = λ clean. leaves_spares old new c.is_autocommit.result _ clean (c.in_err-write_founding.ensures.err clean) c.write_founding.ensures.crash c.is_autocommit.ensures.value c.if-not-is_autocommit.false c.is_autocommit.ensures.settled;
-      crash = λ clean. may_found old new c.args.world_text.now c.args.campaign.now.what (sym c.schema-2.ensures.value ∙ c.is_blank.ensures c.if-not-is_blank.false) clean c.write_founding.ensures.crash;
+      crash = λ clean. may_found old new c.args.world_text.now c.args.campaign.now.what (sym c.schema-2.ensures.value ∙ c.is_blank.ensures.0 c.if-not-is_blank.false) clean c.write_founding.ensures.crash;
     } in
     refused_with g.S.Store c.args.world_text.now c.args.campaign.now.what c.args.conn.now c.write_founding.new.conn _ c.from_residual.result c.from_residual.ensures.1 fails
 
