@@ -1,6 +1,6 @@
 -- The closing of a month: the mail that is read, the reports that are stored, and the campaign behind it.
-use Rattle.std.proofs.Common.{◌≡◌, ◌≤◌, ◌<◌, ℕ, Bool, true, false, cond, List, [], ◌∷◌, ◌++◌, ◌+◌, drop, get_or, map, length, Option, Some, None, is_some, option_map, Result, Ok, Err, refl, sym, ap, ap₂, ◌∙◌, subst, arith}
-use Rattle.std.specs.Prelude.{All, OnOk, fold, nat_lt, unwrap_or}
+use Rattle.std.proofs.Common.{◌≡◌, ◌≤◌, ◌<◌, ℕ, Bool, true, false, cond, List, [], ◌∷◌, ◌++◌, ◌+◌, drop, get_or, map, length, Option, Some, None, option_map, Result, Ok, Err, refl, sym, ap, ap₂, ◌∙◌, subst, arith}
+use Rattle.std.specs.Prelude.{All, OnOk, filter, fold, nat_lt, not, unwrap_or}
 use Rattle.std.proofs.lemmas.Bool.Decides.{nat_tests}
 use Rattle.std.proofs.lemmas.Bool.{and_parts}
 use Rattle.std.proofs.lemmas.List.{append-nil, append_assoc, drop_more, map-append}
@@ -10,10 +10,10 @@ use Rattle.std.specs.List.{AllByRecursion, IsDistinct, flat_map}
 use Rattle.std.specs.declared.cmp.Ordering.TheVariants.{Less}
 use Rattle.std.specs.List.Sorted.{IsStrictlySortedBy}
 use Rattle.std.specs.Ordering.{nat_cmp, eq_by_cmp}
-use Rattle.std.specs.FinMap.{FinMap, contains_key, empty, entries, get, insert, is_sorted, same_entries_map}
+use Rattle.std.specs.FinMap.{FinMap, empty, entries, get, insert, is_sorted, same_entries_map}
 use Rattle.std.specs.FinMap.Entries.{below_all}
 use Rattle.atl_tables.specs.Planet.{Planet, IsWorld}
-use Rattle.atl_tables.specs.Sums.{mapped}
+use Rattle.atl_tables.specs.Sums.{mapped, numbers_among}
 use Rattle.atl_tables.proofs.MadeLaws.{entries-mapped, insert_last, is_less}
 use Rattle.atl_tables.proofs.Maps.{entries-empty}
 use Rattle.atl_orders.specs.declared.fault.FaultyLine.{FaultyLine}
@@ -27,7 +27,7 @@ use Rattle.atl_state.specs.declared.event.Event.{Event}
 use Rattle.atl_state.specs.declared.records.Faction.{Faction}
 use Rattle.atl_state.specs.Covers.{MarksChanges}
 use Rattle.atl_state.specs.Deciding.{EachOf}
-use Rattle.atl_state.specs.Good.{IsGood}
+use Rattle.atl_state.specs.Good.{IsGood, IsThere}
 use Rattle.atl_state.specs.Limits.{most_things}
 use Rattle.atl_state.specs.Marking.{mark_all_mail, mark_report, mark_row}
 use Rattle.atl_state.specs.Marks.{Marks}
@@ -43,7 +43,7 @@ use Rattle.atl_report.specs.Sight.{view_of}
 use Rattle.atl_report.specs.Sites.{AreSites}
 use Rattle.atl_service.specs.declared.closing.ReadMail.{ReadMail}
 use Rattle.atl_service.specs.declared.reporting.Told.{Told}
-use Rattle.atl_service.specs.Months.{HasRead, ReadSoFar, told_to_all}
+use Rattle.atl_service.specs.Months.{AreThere, HasRead, ReadSoFar, told_to_all}
 use Rattle.atl_service.specs.Closing.{active, closed, faults_in, faults_of, read_of, readings, reported_to, reported_with, told_after}
 
 -- ---- each mail can be read, and no two are of one faction
@@ -110,18 +110,24 @@ module _ (w : Planet) (events : List Event) where
   pub same_reports : (f g : ℕ → List FaultyLine) → ((n : ℕ) → f n ≡ g n) → (c : State) (ns : List ℕ) → fold (reported_to w f events) c ns ≡ fold (reported_to w g events) c ns
   same_reports f g same c [] = refl
   same_reports f g same c (n ∷ ns) =
-      ap (λ faults. fold (reported_to w f events) (cond (contains_key c.factions n) (reported_with w c n faults events) c) ns) (same n) ∙ same_reports f g same (reported_to w g events c n) ns
+      ap (λ faults. fold (reported_to w f events) (reported_with w c n faults events) ns) (same n) ∙ same_reports f g same (reported_to w g events c n) ns
 
-  good_report : (faults : ℕ → List FaultyLine) (c : State) (n : ℕ) → IsGood w c → IsGood w (reported_to w faults events c n)
-  good_report faults c n good = by_faction_there (get c.factions n) refl
-    where
-      by_faction_there : (o : Option Faction) → get c.factions n ≡ o → IsGood w (cond (is_some o) (reported_with w c n (faults n) events) c)
-      by_faction_there None is = good
-      by_faction_there (Some f) is = IsGood-with_report w c n (report_of w (view_of w c n) (faults n) events) (f, is) good
+  pub good_reports : (faults : ℕ → List FaultyLine) (c : State) (ns : List ℕ) → AreThere c ns → IsGood w c → IsGood w (fold (reported_to w faults events) c ns)
+  good_reports faults c [] there good = good
+  good_reports faults c (n ∷ ns) (here, there) good =
+      good_reports faults (reported_to w faults events c n) ns there (IsGood-with_report w c n (report_of w (view_of w c n) (faults n) events) here good)
 
-  pub good_reports : (faults : ℕ → List FaultyLine) (c : State) (ns : List ℕ) → IsGood w c → IsGood w (fold (reported_to w faults events) c ns)
-  good_reports faults c [] good = good
-  good_reports faults c (n ∷ ns) good = good_reports faults (reported_to w faults events c n) ns (good_report faults c n good)
+there_among : (P : ℕ → Type 0) (p : Faction → Bool) (es : List (ℕ × Faction)) → EachOf (λ n f. P n) es → AllByRecursion P (numbers_among p es)
+there_among P p [] all = tt
+there_among P p (e ∷ es) (here, all) = at (p e.1) (there_among P p es all)
+  where
+    at : (b : Bool) → AllByRecursion P (numbers_among p es) → AllByRecursion P (map (λ x. x.0) (cond b (e ∷ filter (λ x. p x.1) es) (filter (λ x. p x.1) es)))
+    at true rest = (here, rest)
+    at false rest = rest
+
+-- where the factions stay, those that weren't gone before are there
+pub active_there : (before after : State) → ((n : ℕ) → IsThere before.factions n → IsThere after.factions n) → AreThere after (active before)
+active_there before after stay = there_among (IsThere after.factions) (λ f. not f.gone) (entries before.factions) (each-from_every (λ n f. IsThere after.factions n) before.factions (λ n f is. stay n (f, is)))
 
 -- ---- the month
 
@@ -203,7 +209,7 @@ told_on step old new last all i d h is whole = ap (λ a. fold step a (drop (i + 
 -- a report moves no structure
 pub sites_stay : (w : Planet) (faults : ℕ → List FaultyLine) (events : List Event) (c d : State) (n : ℕ) → d ≡ reported_to w faults events c n → (sites : FinMap nat_cmp (List ℕ)) → AreSites c.structures sites → AreSites d.structures sites
 sites_stay w faults events c d n is sites listed =
-    subst (λ (s : State). AreSites s.structures sites) (sym is) (elim (contains_key c.factions n) as (λ b. AreSites (cond b (reported_with w c n (faults n) events) c).structures sites) [ true ↦ listed | false ↦ listed ])
+    subst (λ (s : State). AreSites s.structures sites) (sym is) listed
 
 -- ---- what the store asks for, and what is written
 
@@ -211,6 +217,6 @@ pub few_things : (w : Planet) (c : State) → IsWorld w → IsGood w c → lengt
 few_things w c world good = omega (arith, good.sound.steady.numbers.books.rows, world.few_items)
 
 -- the campaign behind the reports of a month
-pub told_is : (w : Planet) (c turned after : State) (words : List ℕ) (told : Told) → told_to_all w turned told ≡ closed w c words → after ≡ told_to_all w turned told → IsGood w turned → (after ≡ closed w c words) × IsGood w after
-told_is w c turned after words told whole is good =
-    (is ∙ whole, subst (IsGood w) (sym is) (good_reports w told.events.items (λ n. unwrap_or (get told.faults n) []) turned told.factions.items good))
+pub told_is : (w : Planet) (c turned after : State) (words : List ℕ) (told : Told) → told_to_all w turned told ≡ closed w c words → after ≡ told_to_all w turned told → AreThere turned told.factions.items → IsGood w turned → (after ≡ closed w c words) × IsGood w after
+told_is w c turned after words told whole is there good =
+    (is ∙ whole, subst (IsGood w) (sym is) (good_reports w told.events.items (λ n. unwrap_or (get told.faults n) []) turned told.factions.items there good))

@@ -1,7 +1,7 @@
 -- What the closing of a month makes of a campaign. See docs/RULES.md, "Closing a month".
-use Rattle.std.specs.Prelude.{ℕ, List, [], ◌∷◌, fold, not, if◌then◌else◌, Option, Some, None, Result, Ok, Err}
+use Rattle.std.specs.Prelude.{ℕ, List, [], ◌∷◌, fold, not, Option, Some, None, Result, Ok, Err}
 use Rattle.std.specs.List.{flat_map}
-use Rattle.std.specs.FinMap.{contains_key, entries, get}
+use Rattle.std.specs.FinMap.{entries, get}
 use Rattle.atl_tables.specs.Planet.{Planet}
 use Rattle.atl_tables.specs.Sums.{numbers_where}
 use Rattle.atl_orders.specs.declared.fault.FaultyLine.{FaultyLine}
@@ -41,9 +41,9 @@ faults_in w (Some text) = faults_of (reading w text)
 abbrev pub reported_with : Planet → State → ℕ → List FaultyLine → List Event → State
 reported_with w c faction faults events = with_report c faction (report_of w (view_of w c faction) faults events)
 
--- the same, where there is such a faction
+-- the same, with what is wrong with the mail of each faction
 abbrev pub reported_to : Planet → (ℕ → List FaultyLine) → List Event → State → ℕ → State
-reported_to w faults events c faction = if contains_key c.factions faction then reported_with w c faction (faults faction) events else c
+reported_to w faults events c faction = reported_with w c faction (faults faction) events
 
 -- the factions that aren't gone, by number
 abbrev pub active : State → List ℕ

@@ -1,6 +1,6 @@
 -- For proofs alone: what the mail of a campaign was read as, and when a month is closed.
 use Rattle.std.specs.Prelude.{◌≡◌, ◌<◌, ◌++◌, ℕ, List, [], All, fold, map, length, unwrap_or}
-use Rattle.std.specs.List.{flat_map}
+use Rattle.std.specs.List.{AllByRecursion, flat_map}
 use Rattle.std.specs.Ordering.{nat_cmp}
 use Rattle.std.specs.FinMap.{FinMap, entries, get, len}
 use Rattle.atl_tables.specs.Planet.{Planet, IsWorld}
@@ -8,6 +8,7 @@ use Rattle.atl_tables.specs.Sums.{mapped}
 use Rattle.atl_orders.specs.declared.fault.FaultyLine.{FaultyLine}
 use Rattle.atl_orders.specs.declared.mailing.Mailing.{Mailing}
 use Rattle.atl_orders.specs.Mailing.{IsReadWith, reading, reading_of}
+use Rattle.atl_state.specs.Good.{IsThere}
 use Rattle.atl_state.specs.Limits.{last_month}
 use Rattle.atl_state.specs.State.{State}
 use Rattle.atl_service.specs.declared.closing.ReadMail.{ReadMail}
@@ -29,6 +30,10 @@ pub record HasRead (w : Planet) (c : State) (r : ReadMail) : Type 0 where
   pub readings_are : map reading_of r.mailings.items ≡ readings w c
   pub read : All (IsReadWith w) r.mailings.items
   pub faults : r.faults ≡ mapped (λ text. faults_of (reading w text)) c.mail
+
+-- each of these factions is there
+abbrev pub AreThere : State → List ℕ → Type 0
+AreThere c factions = AllByRecursion (λ n. IsThere c.factions n) factions
 
 -- the campaign with the reports of what is told
 abbrev pub told_to_all : Planet → State → Told → State

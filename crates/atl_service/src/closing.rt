@@ -8,7 +8,7 @@ ghost use Rattle.atl_state.specs.Marks.{no_marks};
 ghost use Rattle.atl_service.specs.declared.command.Command.TheVariants as command;
 ghost use Rattle.atl_service.specs.Answering.{Answers, GivesUp, LeavesIdle};
 ghost use Rattle.atl_service.specs.Closing.{active, closed};
-ghost use Rattle.atl_service.specs.Months.{HasRead, MayClose, told_to_all};
+ghost use Rattle.atl_service.specs.Months.{AreThere, HasRead, MayClose, told_to_all};
 ghost use Rattle.atl_service.specs.Step.{step};
 
 use crate::command::{Answer, Refusal};
@@ -72,6 +72,7 @@ fn turn_month(
     requires month { campaign.old.what.month < last_month }
     requires words { length words.now ≡ map.len world.now.regions }
     ensures told { IfOk result (λ told. told_to_all world.now campaign.new.what told ≡ closed world.now campaign.old.what words.now) }
+    ensures there { IfOk result (λ told. AreThere campaign.new.what told.factions.items) }
     ensures good { OnOk result (IsGood world.now campaign.new.what) }
     ensures marks { OnOk result (MarksChanges campaign.old campaign.new) }
 {

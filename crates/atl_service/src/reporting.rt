@@ -70,26 +70,6 @@ pub(crate) fn store_report(
 }
 
 /// Stores a new report for a faction, with what is wrong with its mail and with its own events of the month.
-fn store_own(
-    alloc: Global,
-    world: &World,
-    campaign: &mut Campaign,
-    sites: &Sites,
-    faction: u32,
-    told: &Told,
-    sorted: &Numbered<Sequence<Event>>,
-) -> Result<(), AllocError>
-    requires sites { AreSites campaign.old.what.structures sites.now }
-    requires sorted { AreSorted told.now.events.items sorted.now }
-    ensures ok { OnOk result (campaign.new.what ≡ reported_with world.now campaign.old.what faction (unwrap_or (map.get told.now.faults faction) []) told.now.events.items) }
-    ensures marks { OnOk result (campaign.new.marks ≡ mark_report campaign.old faction) }
-{
-    let faults = listed(&told.faults, faction);
-    let events = listed(sorted, faction);
-    store_seen(alloc, world, campaign, sites, faction, faults, events)
-}
-
-/// The same, where there is such a faction.
 fn report_to(
     alloc: Global,
     world: &World,
@@ -104,13 +84,12 @@ fn report_to(
     ensures what { OnOk result (campaign.new.what ≡ reported_to world.now (λ n. unwrap_or (map.get told.now.faults n) []) told.now.events.items campaign.old.what faction) }
     ensures marks { OnOk result (MarksChanges campaign.old campaign.new) }
 {
-    if campaign.faction(faction).is_none() {
-        return Ok(());
-    }
-    store_own(alloc, world, campaign, sites, faction, told, sorted)
+    let faults = listed(&told.faults, faction);
+    let events = listed(sorted, faction);
+    store_seen(alloc, world, campaign, sites, faction, faults, events)
 }
 
-/// Stores a new report for each of the factions that are to be told, as far as they are there.
+/// Stores a new report for each of the factions that are to be told.
 fn report_to_each(
     alloc: Global,
     world: &World,
@@ -130,7 +109,7 @@ fn report_to_each(
     Ok(())
 }
 
-/// Stores a new report for each of the factions that are to be told, as far as they are there. The structures of each region
+/// Stores a new report for each of the factions that are to be told. The structures of each region
 /// and the events of each faction are found once for all of them.
 pub(crate) fn report_to_all(
     alloc: Global,

@@ -13,14 +13,14 @@ pub write_changes-requires-clause-things : goal.write_changes-requires-clause-th
 write_changes-requires-clause-things g c =
     let w = c.args.world.now in
     let after = c.report_to_all.new.campaign.what in
-    let done = told_is w c.args.campaign.now.what c.turn_month.new.campaign.what after c.as_slice.result.now c.in_ok-told.told c.in_ok-told.ensures.told c.in_ok-report_to_all.ensures.what c.in_ok-told.ensures.good in
+    let done = told_is w c.args.campaign.now.what c.turn_month.new.campaign.what after c.as_slice.result.now c.in_ok-told.told c.in_ok-told.ensures.told c.in_ok-report_to_all.ensures.what c.in_ok-told.ensures.there c.in_ok-told.ensures.good in
     few_things w after c.in_default.ensures.ok.world done.1
 
 pub returns-in_err-write_changes-clause-err : goal.returns-in_err-write_changes-clause-err
 returns-in_err-write_changes-clause-err g c = on_err _ (GivesUp g.S.Store c.args.world.now c.args.campaign.now.what c.args.conn.now (Close c.args.month c.args.pass.now c.args.words.now) c.write_changes.new.conn) (λ clean text keeps.
     let old = c.args.campaign.now.what in
     let after = c.report_to_all.new.campaign.what in
-    let done = rw c.as_slice.ensures at (told_is c.args.world.now old c.turn_month.new.campaign.what after c.as_slice.result.now c.in_ok-told.told c.in_ok-told.ensures.told c.in_ok-report_to_all.ensures.what c.in_ok-told.ensures.good) in
+    let done = rw c.as_slice.ensures at (told_is c.args.world.now old c.turn_month.new.campaign.what after c.as_slice.result.now c.in_ok-told.told c.in_ok-told.ensures.told c.in_ok-report_to_all.ensures.what c.in_ok-told.ensures.there c.in_ok-told.ensures.good) in
     let marks = marks-trans c.args.campaign.now c.turn_month.new.campaign c.report_to_all.new.campaign c.in_ok-told.ensures.marks c.in_ok-report_to_all.ensures.marks in
     let stops = c.in_err-write_changes.ensures.err clean text old keeps marks.covers in
     subst (λ (a : Campaign). Stops (state g.S.Store c.args.conn.now).faults (state g.S.Store c.write_changes.new.conn) text old a) (done.0 ∙ sym (ap (λ p. p.0) c.in_default.ensures.ok.step_is)) stops)
@@ -30,7 +30,7 @@ returns-clause-ok g c =
     let w = c.args.world.now in
     let old = c.args.campaign.now.what in
     let after = c.report_to_all.new.campaign.what in
-    let done = rw c.as_slice.ensures at (told_is w old c.turn_month.new.campaign.what after c.as_slice.result.now c.in_ok-told.told c.in_ok-told.ensures.told c.in_ok-report_to_all.ensures.what c.in_ok-told.ensures.good) in
+    let done = rw c.as_slice.ensures at (told_is w old c.turn_month.new.campaign.what after c.as_slice.result.now c.in_ok-told.told c.in_ok-told.ensures.told c.in_ok-report_to_all.ensures.what c.in_ok-told.ensures.there c.in_ok-told.ensures.good) in
     let marks = marks-trans c.args.campaign.now c.turn_month.new.campaign c.report_to_all.new.campaign c.in_ok-told.ensures.marks c.in_ok-report_to_all.ensures.marks in
     let written : c.write_changes.new.campaign.what ≡ after = ap (λ (m : Marked). m.what) c.in_ok-write_changes.ensures.done in
     record {

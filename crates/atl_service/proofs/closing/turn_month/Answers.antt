@@ -1,6 +1,6 @@
 use Rattle.std.proofs.Common.{◌≡◌, ◌+◌, refl}
 use Rattle.atl_month.specs.Month.{finished}
-use Rattle.atl_service.proofs.CloseLaws.{closed_is, own_factions, turned_marked}
+use Rattle.atl_service.proofs.CloseLaws.{active_there, closed_is, own_factions, turned_marked}
 use Rattle.atl_service.proofs.closing.turn_month.Goals as goal
 
 pub close_month-requires-clause-own : goal.close_month-requires-clause-own
@@ -12,6 +12,13 @@ returns-clause-told c =
     let done : c.clear_mail.new.self.what ≡ finished after = rw (c.clear_mail.ensures.what, c.set_month.ensures.what, c.month.ensures) refl in
     rw (done, c.in_ok-factions.ensures)
     (closed_is c.args.world.now c.args.campaign.now.what after c.in_ok-after.events.items c.args.words.now c.in_ok-mailings.field-0.faults (rw (← c.in_ok-mailings.ensures.readings_are, ← c.replace-before.ensures.value) c.in_ok-after.ensures.definition) c.in_ok-mailings.ensures.faults)
+
+pub returns-clause-there : goal.returns-clause-there
+returns-clause-there c =
+    let after = c.in_ok-after.after.what in
+    let done : c.clear_mail.new.self.what ≡ finished after = rw (c.clear_mail.ensures.what, c.set_month.ensures.what, c.month.ensures) refl in
+    rw (done, c.in_ok-factions.ensures)
+    (active_there c.args.campaign.now.what after (rw (← c.replace-before.ensures.value) c.in_ok-after.ensures.factions))
 
 pub returns-clause-marks : goal.returns-clause-marks
 returns-clause-marks c =
