@@ -1,27 +1,15 @@
 //! Ways from a region to its neighbours.
 ghost use Rattle.std.specs.Prelude.{◌≡◌};
-ghost use Rattle.atl_action.specs.Ways.{beside, is_region, neighbour};
+ghost use Rattle.atl_action.specs.Ways.{is_region, neighbour};
 
 use atl_orders::Direction;
-use atl_tables::{RegionPlan, World};
-
-/// The region's neighbour in a direction.
-fn beside(plan: &RegionPlan, direction: Direction) -> Option<u32>
-    ensures { result ≡ beside direction plan.now }
-{
-    match direction {
-        Direction::North => plan.north,
-        Direction::South => plan.south,
-        Direction::East => plan.east,
-        Direction::West => plan.west,
-    }
-}
+use atl_tables::World;
 
 /// The neighbour of a region of the world. None where there is no such region, or it has none there.
 pub(crate) fn neighbour(world: &World, region: u32, direction: Direction) -> Option<u32>
     ensures { result ≡ neighbour world.now region direction }
 {
-    beside(world.region(region)?, direction)
+    world.region(region)?.beside(direction)
 }
 
 /// Whether it is a region of the world.

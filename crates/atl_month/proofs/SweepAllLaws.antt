@@ -17,11 +17,11 @@ use Rattle.atl_state.specs.declared.records.Faction.{Faction}
 use Rattle.atl_state.specs.declared.records.Unit.{Unit}
 use Rattle.atl_state.specs.Good.{Every, HaveMen, IsSteady, NoneAreGone}
 use Rattle.atl_state.specs.Owners.{without_unit}
-use Rattle.atl_state.specs.State.{State, numbers_of, with_gone}
+use Rattle.atl_state.specs.State.{State, active, numbers_of, with_gone}
 use Rattle.atl_state.proofs.EveryLaws.{none_some}
 use Rattle.atl_instant.specs.Meaning.{LeavesWell, Moving, both_move, moved_times, most_moved}
 use Rattle.atl_instant.proofs.MeaningLaws.{both_leave_well, fold_leaves_well, near_same, well_unchanged, well_within}
-use Rattle.atl_month.specs.Sweep.{IsKept, faction_swept, is_empty, loses_by, menless, passed_on, receiver, remaining, sweep, swept_at, swept_in}
+use Rattle.atl_month.specs.Sweep.{IsKept, faction_swept, is_empty, loses_by, menless, passed_on, receiver, sweep, swept_at, swept_in}
 use Rattle.atl_month.specs.Swept.{IsSwept}
 use Rattle.atl_state.proofs.RemovedLaws.{IsListed, passing_listed}
 use Rattle.atl_state.proofs.GoneLaws.{as_gone, count-gone, get-gone, get-gone_other, known-gone, none-gone, steady-gone, total-gone}
@@ -257,8 +257,8 @@ module _ (w : Planet) (c : State) (steady : IsSteady w c) where
 
   factions_well : LeavesWell IsSteady nothing_moves w units_swept (sweep c)
   factions_well =
-      well_within (moved_times (length (remaining units_swept)) nothing_moves) nothing_moves w units_swept (sweep c) (moves_none (length (remaining units_swept)))
-      (fold_leaves_well nothing_moves w faction_swept (λ d n. gone_at_leaves_well d n w) units_swept (remaining units_swept) units_well.leaves_it)
+      well_within (moved_times (length (active units_swept)) nothing_moves) nothing_moves w units_swept (sweep c) (moves_none (length (active units_swept)))
+      (fold_leaves_well nothing_moves w faction_swept (λ d n. gone_at_leaves_well d n w) units_swept (active units_swept) units_well.leaves_it)
 
   both_well : LeavesWell IsSteady (loses_by most_moved) w c (sweep c)
   both_well =
@@ -267,11 +267,11 @@ module _ (w : Planet) (c : State) (steady : IsSteady w c) where
 
   have_men : HaveMen (sweep c)
   have_men =
-      subst (λ (units : FinMap nat_cmp Unit). Every (λ n u. 1 ≤ u.holding.men) units) (sym (units_stay (remaining units_swept) units_swept))
+      subst (λ (units : FinMap nat_cmp Unit). Every (λ n u. 1 ≤ u.holding.men) units) (sym (units_stay (active units_swept) units_swept))
       (all_have_men w (menless c) c steady (λ m v there none. passing_listed (λ (u : Unit). u.holding.men == 0) c.units m v there (let t : (v.holding.men == 0) ≡ true = grind (arith, nat_tests) in t)))
 
   are_gone : NoneAreGone (sweep c)
-  are_gone = all_are_gone (remaining units_swept) units_swept (λ m f there none stays. passing_listed (λ (x : Faction). not x.gone) units_swept.factions m f there (ap not stays))
+  are_gone = all_are_gone (active units_swept) units_swept (λ m f there none stays. passing_listed (λ (x : Faction). not x.gone) units_swept.factions m f there (ap not stays))
 
   pub sweep_leaves_well : LeavesWell IsSwept (loses_by most_moved) w c (sweep c)
   sweep_leaves_well = record {
@@ -284,4 +284,4 @@ module _ (w : Planet) (c : State) (steady : IsSteady w c) where
   pub sweep_keeps_all : Every (λ n u. 1 ≤ u.holding.men → (v : Unit) × (get (sweep c).units n ≡ Some v) × IsKept u v) c.units
   sweep_keeps_all n u is some =
       let (v, there, kept) = all_keep w (menless c) c steady n u is some in
-      (v, ap (λ (units : FinMap nat_cmp Unit). get units n) (units_stay (remaining units_swept) units_swept) ∙ there, kept)
+      (v, ap (λ (units : FinMap nat_cmp Unit). get units n) (units_stay (active units_swept) units_swept) ∙ there, kept)

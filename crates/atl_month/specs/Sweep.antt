@@ -13,7 +13,7 @@ use Rattle.atl_state.specs.Held.{amount_of, with_amount_of}
 use Rattle.atl_state.specs.Lending.{with_held}
 use Rattle.atl_state.specs.Limits.{holding_limit}
 use Rattle.atl_state.specs.Owners.{first_or_zero, without_unit}
-use Rattle.atl_state.specs.State.{State, numbers_of, with_amount, with_gone, with_money}
+use Rattle.atl_state.specs.State.{State, active, numbers_of, with_amount, with_gone, with_money}
 use Rattle.atl_instant.specs.Course.{Course}
 use Rattle.atl_instant.specs.Meaning.{Keeping, Moving}
 
@@ -84,17 +84,13 @@ is_empty (n ∷ ns) = false
 abbrev pub faction_swept : State → ℕ → State
 faction_swept c n = if is_empty (numbers_of n c.units) then with_gone c n else c
 
--- the factions that are not gone
-abbrev pub remaining : State → List ℕ
-remaining c = numbers_where (λ f. not f.gone) c.factions
-
 -- ---- the phase
 
 -- the units first, and then the factions
 abbrev pub sweep : State → State
 sweep c =
     let swept = fold swept_at c (menless c) in
-    fold faction_swept swept (remaining swept)
+    fold faction_swept swept (active swept)
 
 -- it brings no event
 abbrev pub sweep_meaning : Planet → State → Course → State × Course

@@ -15,7 +15,7 @@ ghost use Rattle.atl_state.specs.declared.books.Thing.TheVariants.{Item, Money};
 ghost use Rattle.atl_state.specs.declared.records.Unit.{Unit};
 ghost use Rattle.atl_instant.specs.Meaning.{HasRoom, HaveRoom, most_moved, moved_times};
 ghost use Rattle.atl_instant.specs.LostItems.{moving_items};
-ghost use Rattle.atl_month.specs.Sweep.{faction_swept, loses_by, menless, passed_item, passed_money, remaining, sweep, sweep_keeps, sweep_meaning, swept_at, taken_of, with_lost};
+ghost use Rattle.atl_month.specs.Sweep.{faction_swept, loses_by, menless, passed_item, passed_money, sweep, sweep_keeps, sweep_meaning, swept_at, taken_of, with_lost};
 ghost use Rattle.atl_month.specs.Receivers.{AreReceivers};
 ghost use Rattle.atl_month.specs.Swept.{IsSwept};
 
@@ -192,19 +192,6 @@ fn sweep_units(
     Ok(())
 }
 
-/// The numbers of the factions that are not gone.
-fn remaining(alloc: Global, campaign: &Campaign) -> Result<Vec<u32>, AllocError>
-    ensures { IfOk result (λ list. list.items ≡ remaining campaign.now.what) }
-{
-    let mut list = Vec::new(alloc);
-    for (number, faction) in campaign.factions() {
-        if !faction.gone {
-            list.push(number)?;
-        }
-    }
-    Ok(list)
-}
-
 /// A faction without units is gone.
 fn sweep_faction(campaign: &mut Campaign, number: u32)
     ensures what { campaign.new.what ≡ faction_swept campaign.old.what number }
@@ -246,7 +233,7 @@ impl Phase for SweepPhase {
         let receivers = receivers_of(alloc, &campaign)?;
         let numbers = menless(alloc, &campaign)?;
         sweep_units(alloc, world, &receivers, &mut campaign, &numbers)?;
-        let factions = remaining(alloc, &campaign)?;
+        let factions = campaign.active()?;
         sweep_factions(&mut campaign, &factions);
         Ok((campaign, month))
     }

@@ -31,7 +31,7 @@ use Rattle.atl_state.specs.Good.{IsGood, IsThere}
 use Rattle.atl_state.specs.Limits.{most_things}
 use Rattle.atl_state.specs.Marking.{mark_all_mail, mark_report, mark_row}
 use Rattle.atl_state.specs.Marks.{Marks}
-use Rattle.atl_state.specs.State.{State, Marked, with_month, without_mail}
+use Rattle.atl_state.specs.State.{State, Marked, active, with_month, without_mail}
 use Rattle.atl_state.proofs.CoverLaws.{marks-trans}
 use Rattle.atl_state.proofs.EveryLaws.{each-from_every, get-mapped, sorted}
 use Rattle.atl_state.proofs.GoodLaws.{IsGood-with_report}
@@ -44,7 +44,7 @@ use Rattle.atl_report.specs.Sites.{AreSites}
 use Rattle.atl_service.specs.declared.closing.ReadMail.{ReadMail}
 use Rattle.atl_service.specs.declared.reporting.Told.{Told}
 use Rattle.atl_service.specs.Months.{AreThere, HasRead, ReadSoFar, told_to_all}
-use Rattle.atl_service.specs.Closing.{active, closed, faults_in, faults_of, read_of, readings, reported_to, reported_with, told_after}
+use Rattle.atl_service.specs.Closing.{closed, faults_in, faults_of, read_of, readings, reported_to, reported_with, told_after}
 
 -- ---- each mail can be read, and no two are of one faction
 

@@ -1,14 +1,13 @@
 -- What the closing of a month makes of a campaign. See docs/RULES.md, "Closing a month".
-use Rattle.std.specs.Prelude.{ℕ, List, [], ◌∷◌, fold, not, Option, Some, None, Result, Ok, Err}
+use Rattle.std.specs.Prelude.{ℕ, List, [], ◌∷◌, fold, Option, Some, None, Result, Ok, Err}
 use Rattle.std.specs.List.{flat_map}
 use Rattle.std.specs.FinMap.{entries, get}
 use Rattle.atl_tables.specs.Planet.{Planet}
-use Rattle.atl_tables.specs.Sums.{numbers_where}
 use Rattle.atl_orders.specs.declared.fault.FaultyLine.{FaultyLine}
 use Rattle.atl_orders.specs.declared.fault.MailFault.{MailFault}
 use Rattle.atl_orders.specs.Mailing.{Reading, reading}
 use Rattle.atl_state.specs.declared.event.Event.{Event}
-use Rattle.atl_state.specs.State.{State, with_report}
+use Rattle.atl_state.specs.State.{State, active, with_report}
 use Rattle.atl_instant.specs.Course.{by_faction}
 use Rattle.atl_month.specs.Month.{finished, month_of}
 use Rattle.atl_report.specs.Report.{report_of}
@@ -44,10 +43,6 @@ reported_with w c faction faults events = with_report c faction (report_of w (vi
 -- the same, with what is wrong with the mail of each faction
 abbrev pub reported_to : Planet → (ℕ → List FaultyLine) → List Event → State → ℕ → State
 reported_to w faults events c faction = reported_with w c faction (faults faction) events
-
--- the factions that aren't gone, by number
-abbrev pub active : State → List ℕ
-active c = numbers_where (λ f. not f.gone) c.factions
 
 -- ---- the whole
 

@@ -7,7 +7,7 @@ ghost use Rattle.atl_state.specs.Limits.{last_month};
 ghost use Rattle.atl_state.specs.Marks.{no_marks};
 ghost use Rattle.atl_service.specs.declared.command.Command.TheVariants as command;
 ghost use Rattle.atl_service.specs.Answering.{Answers, GivesUp, LeavesIdle};
-ghost use Rattle.atl_service.specs.Closing.{active, closed};
+ghost use Rattle.atl_service.specs.Closing.{closed};
 ghost use Rattle.atl_service.specs.Months.{AreThere, HasRead, MayClose, told_to_all};
 ghost use Rattle.atl_service.specs.Step.{step};
 
@@ -47,19 +47,6 @@ fn read_mail(alloc: Global, world: &World, campaign: &Campaign) -> Result<ReadMa
     Ok(ReadMail { mailings, faults })
 }
 
-/// The numbers of the factions that aren't gone, in rising order.
-fn active(alloc: Global, campaign: &Campaign) -> Result<Vec<u32>, AllocError>
-    ensures { IfOk result (λ numbers. numbers.items ≡ active campaign.now.what) }
-{
-    let mut numbers = Vec::new(alloc);
-    for (number, faction) in campaign.factions() {
-        if !faction.gone {
-            numbers.push(number)?;
-        }
-    }
-    Ok(numbers)
-}
-
 /// Runs a month, counts it, and takes the mail away. What changed is marked. What is to be told of the month is given. Without
 /// memory the campaign is given up, and something else stands in its place.
 fn turn_month(
@@ -77,7 +64,7 @@ fn turn_month(
     ensures marks { OnOk result (MarksChanges campaign.old campaign.new) }
 {
     let ReadMail { mailings, faults } = read_mail(alloc, world, campaign)?;
-    let factions = active(alloc, campaign)?;
+    let factions = campaign.active()?;
     let before = mem::replace(campaign, Campaign::blank(alloc));
     let (after, events) = close_month(alloc, world, before, mailings, words)?;
     *campaign = after;

@@ -1,5 +1,5 @@
 -- What a contract sees of a campaign.
-use Rattle.std.specs.Prelude.{◌==◌, ◌+◌, List, ℕ, ℤ, Bool, true, refl}
+use Rattle.std.specs.Prelude.{◌==◌, ◌+◌, not, List, ℕ, ℤ, Bool, true, refl}
 use Rattle.std.specs.Ordering.{nat_cmp}
 use Rattle.std.specs.Coded.{Coded, code_by, coded×, coded_ℕ, coded_ℤ, coded_list}
 use Rattle.std.specs.FinMap.{FinMap, code, empty, insert}
@@ -62,6 +62,10 @@ state_code =
 
 abbrev pub marked_code : Coded Marked
 marked_code = code_by (State × Marks) (coded× state_code marks_code) (λ m. (m.what, m.marks)) (λ p. record { what = p.0; marks = p.1 }) (λ _. refl)
+
+-- the numbers of the factions that aren't gone, in rising order
+abbrev pub active : State → List ℕ
+active c = numbers_where (λ f. not f.gone) c.factions
 
 -- the numbers of the units that stand in a region, in rising order
 abbrev pub numbers_in : ℕ → FinMap nat_cmp Unit → List ℕ

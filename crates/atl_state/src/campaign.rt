@@ -1,8 +1,8 @@
 //! The campaign.
-ghost use Rattle.std.specs.Prelude.{◌≡◌, ◌<◌, OnOk, OnErr, length};
+ghost use Rattle.std.specs.Prelude.{◌≡◌, ◌<◌, IfOk, OnOk, OnErr, length};
 ghost use Rattle.std.specs.Option.{option_copied};
 ghost use Rattle.std.specs.FinMap as map;
-ghost use Rattle.atl_state.specs.State.{numbers_in, numbers_of, numbers_inside, with_mail, with_report};
+ghost use Rattle.atl_state.specs.State.{active, numbers_in, numbers_of, numbers_inside, with_mail, with_report};
 ghost use Rattle.atl_state.specs.Books.{amount_in, thing_place};
 ghost use Rattle.atl_state.specs.Totals.{total, IsCountable};
 ghost use Rattle.atl_state.specs.Marking.{mark_mail, mark_report};
@@ -168,6 +168,19 @@ impl Campaign {
         ensures { result ≡ map.entries self.now.what.factions }
     {
         self.factions.iter()
+    }
+
+    /// The numbers of the factions that aren't gone, in rising order. AllocError without memory for them.
+    pub fn active(&self) -> Result<Vec<u32>, AllocError>
+        ensures { IfOk result (λ numbers. numbers.items ≡ active self.now.what) }
+    {
+        let mut numbers = Vec::new(self.alloc);
+        for (number, faction) in self.factions() {
+            if !faction.gone {
+                numbers.push(number)?;
+            }
+        }
+        Ok(numbers)
     }
 
     /// How many factions ever joined.

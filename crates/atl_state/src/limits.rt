@@ -1,5 +1,7 @@
 //! The limits of a campaign. See docs/RULES.md, "Limits".
 
+use atl_tables::limits::MOST_AMOUNT;
+
 /// So many units stand at one time at most.
 pub const MOST_UNITS: usize = 10_000;
 
@@ -22,7 +24,7 @@ pub const LAST_MONTH: u32 = 9_999;
 pub const MEN_LIMIT: u32 = 999_999;
 
 /// So much money, or so many pieces of one item, has a unit at most.
-pub const HOLDING_LIMIT: u32 = 999_999_999;
+pub const HOLDING_LIMIT: u32 = MOST_AMOUNT;
 
 /// By how much a month moves an amount of the books at most, in size.
 pub(crate) const MOST_IN_MONTH: u128 = 200_000_000_000_000;
@@ -35,6 +37,3 @@ pub(crate) const LEVEL_DAYS: u32 = 15;
 
 /// So many days of study of one skill has a unit at most for each of its men.
 pub const MOST_DAYS: u32 = 450;
-
-/// The largest size that a structure can have.
-pub(crate) const MOST_SIZE: u32 = 999_999;

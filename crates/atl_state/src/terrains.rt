@@ -2,9 +2,9 @@
 ghost use Rattle.std.specs.Prelude.{◌≡◌};
 ghost use Rattle.atl_state.specs.Good.{is_land_at, is_ship, size_of};
 
-use crate::limits::MOST_SIZE;
 use crate::records::Structure;
 use atl_tables::World;
+use atl_tables::limits::MOST_SIZE;
 
 /// Whether a region is there and has land. It takes no memory.
 pub fn is_land_at(world: &World, region: u32) -> bool
