@@ -1,23 +1,17 @@
 //! STUDY, behind TEACH.
-ghost use Rattle.std.specs.Prelude.{◌≡◌, ◌≤◌, ◌*◌, ◌<◌, IfOk, OnOk, Some, length, neg_ℤ, option_copied, pos, ℕ};
-ghost use Rattle.std.specs.List.{slice_get};
+ghost use Rattle.std.specs.Prelude.{◌≡◌, ◌≤◌, ◌*◌, ◌<◌, IfOk, OnOk, Some, option_copied};
 ghost use Rattle.std.specs.FinMap as map;
-ghost use Rattle.atl_state.specs.Books.{IsGrid, amount_in};
 ghost use Rattle.atl_state.specs.Covers.{MarksChanges};
 ghost use Rattle.atl_state.specs.declared.books.Entry.TheVariants.{Study};
 ghost use Rattle.atl_state.specs.declared.books.Thing.TheVariants.{Money};
 ghost use Rattle.atl_state.specs.declared.records.Unit.{Unit};
-ghost use Rattle.atl_state.specs.Founding.{things_of};
 ghost use Rattle.atl_state.specs.Good.{IsSteady};
-ghost use Rattle.atl_state.specs.Held.{with_amount_of};
 ghost use Rattle.atl_state.specs.Lending.{lent};
-ghost use Rattle.atl_state.specs.Marking.{mark_amount};
-ghost use Rattle.atl_state.specs.Limits.{holding_limit, men_limit, most_days};
-ghost use Rattle.atl_state.specs.State.{with_amount};
-ghost use Rattle.atl_instant.specs.Meaning.{HasRoom, HaveRoom};
+ghost use Rattle.atl_state.specs.Limits.{men_limit};
+ghost use Rattle.atl_instant.specs.Meaning.{HaveRoom};
 ghost use Rattle.atl_instant.specs.Steps.{IsOwnOrder, takes_all};
 ghost use Rattle.atl_instant.specs.Staying.{IsUnchanged};
-ghost use Rattle.atl_action.specs.Learners.{fee_of, is_studying};
+ghost use Rattle.atl_action.specs.Learners.{is_studying};
 ghost use Rattle.atl_action.specs.Study.{days_after, is_helpful, studied, study, study_fault, study_moves, study_reserve, study_step, with_study};
 
 use crate::learners::cost_of;

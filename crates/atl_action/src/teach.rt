@@ -1,5 +1,5 @@
 //! TEACH: people teach units that are learning.
-ghost use Rattle.std.specs.Prelude.{◌≡◌, ◌≤◌, ◌+◌, IfOk, List, OnOk, min, nat_lt, sum_by, ℕ};
+ghost use Rattle.std.specs.Prelude.{◌≡◌, ◌≤◌, ◌+◌, IfOk, List, OnOk, min, sum_by, ℕ};
 ghost use Rattle.std.specs.FinMap as map;
 ghost use Rattle.atl_orders.specs.Orders.{said};
 ghost use Rattle.atl_state.specs.Held.{amount_of};

@@ -1,5 +1,5 @@
 -- Laws of heads.
-use Rattle.std.proofs.Common.{◌≡◌, ℕ, ◌≤◌, ◌<◌, ◌+◌, List, ◌++◌, length, map, take, drop, min, sym, ap, ◌∙◌, subst, inl, inr, refl, arith}
+use Rattle.std.proofs.Common.{◌≡◌, ℕ, ◌≤◌, ◌<◌, ◌+◌, List, ◌++◌, length, take, drop, min, sym, ap, ◌∙◌, subst, inl, inr, refl, arith}
 use Rattle.std.specs.Prelude.{Result, Ok, Err, IfOk}
 use Rattle.std.proofs.lemmas.List.{append_assoc, take-append-drop, drop-append-le, length-take, length-map, take_min}
 use Rattle.std.proofs.Math.Seq.{take-length}

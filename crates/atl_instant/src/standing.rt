@@ -2,7 +2,6 @@
 ghost use Rattle.std.specs.Prelude.{◌≡◌, ℕ, IfOk, OnOk, max};
 ghost use Rattle.std.specs.FinMap as map;
 ghost use Rattle.atl_orders.specs.Mailing.{reading_of};
-ghost use Rattle.atl_instant.specs.Course.{alias_unit};
 ghost use Rattle.atl_instant.specs.PhaseOrders.{unit_of, slot_of, is_slot, last_line, tasks_of};
 ghost use Rattle.atl_instant.specs.Collecting.{AreLastLines, line_under, lines_in, stands_by};
 

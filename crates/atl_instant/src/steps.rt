@@ -3,7 +3,6 @@ ghost use Rattle.std.specs.Prelude.{◌≡◌, Bool, IfOk, List, OnOk, Some, tru
 ghost use Rattle.std.specs.FinMap.{get};
 ghost use Rattle.atl_orders.specs.Orders.{Said, said};
 ghost use Rattle.atl_state.specs.Covers.{MarksChanges};
-ghost use Rattle.atl_instant.specs.Course.{order_at, said_of};
 ghost use Rattle.atl_orders.specs.Bounds.{IsOrderOf};
 ghost use Rattle.atl_instant.specs.Fit.{AreFit};
 ghost use Rattle.atl_instant.specs.Meaning.{Condition, HaveRoom, LeavesWell, Moving};

@@ -1,10 +1,10 @@
 //! TRANSFER.
-ghost use Rattle.std.specs.Prelude.{◌≡◌, ◌≢◌, ◌≤◌, ◌+◌, ◌*◌, IfOk, OnOk, Some, nat_lt, true};
+ghost use Rattle.std.specs.Prelude.{◌≡◌, ◌≢◌, ◌≤◌, ◌+◌, ◌*◌, IfOk, OnOk, Some, true};
 ghost use Rattle.std.specs.FinMap as map;
 ghost use Rattle.std.specs.Option.{option_copied};
 ghost use Rattle.atl_state.specs.Covers.{MarksChanges};
 ghost use Rattle.atl_state.specs.Good.{AreDays, Every, IsEarly};
-ghost use Rattle.atl_state.specs.Held.{Held, with_amount_of};
+ghost use Rattle.atl_state.specs.Held.{with_amount_of};
 ghost use Rattle.atl_state.specs.Lending.{lent};
 ghost use Rattle.atl_state.specs.Limits.{men_limit, most_days};
 ghost use Rattle.atl_state.specs.declared.records.Unit.{Unit};

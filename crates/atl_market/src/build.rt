@@ -1,25 +1,17 @@
 //! BUILD: units begin structures, and go on with those that they are inside.
-ghost use Rattle.std.specs.Prelude.{◌≡◌, ◌≤◌, ◌<◌, ◌++◌, IfOk, None, OnOk, Some, length, neg_ℤ, pos, true};
+ghost use Rattle.std.specs.Prelude.{◌≡◌, ◌≤◌, ◌<◌, ◌++◌, IfOk, None, OnOk, Some, true};
 ghost use Rattle.std.specs.FinMap as map;
 ghost use Rattle.std.specs.Fmt.{decimal};
 ghost use Rattle.std.specs.List.{slice_get};
 ghost use Rattle.std.specs.Option.{option_copied};
-ghost use Rattle.atl_tables.specs.Limits.{last_level};
-ghost use Rattle.atl_state.specs.Books.{amount_in, thing_place};
 ghost use Rattle.atl_state.specs.Covers.{MarksChanges};
 ghost use Rattle.atl_state.specs.Good.{IsSteady};
-ghost use Rattle.atl_state.specs.Held.{with_amount_of};
-ghost use Rattle.atl_state.specs.Lending.{lent};
-ghost use Rattle.atl_state.specs.Limits.{holding_limit, last_unit, most_structures};
-ghost use Rattle.atl_state.specs.Marking.{mark_amount};
-ghost use Rattle.atl_state.specs.State.{with_amount, with_done};
-ghost use Rattle.atl_state.specs.declared.books.Entry.TheVariants.{Used};
-ghost use Rattle.atl_state.specs.declared.books.Thing.TheVariants.{Item};
+ghost use Rattle.atl_state.specs.Limits.{last_unit, most_structures};
 ghost use Rattle.atl_state.specs.declared.records.Unit.{Unit};
-ghost use Rattle.atl_instant.specs.Meaning.{HasRoom, HaveRoom};
+ghost use Rattle.atl_instant.specs.Meaning.{HaveRoom};
 ghost use Rattle.atl_instant.specs.Staying.{IsNoWorse};
 ghost use Rattle.atl_instant.specs.Steps.{IsOwnOrder, takes_all};
-ghost use Rattle.atl_market.specs.Build.{CanBuild, begin, begin_fault, build_keeps, build_meaning, build_moves, build_reserve, build_step, go_on, gone_on, inside_fault, is_building, new_structure, outside_fault, size_added, sort_of, started, with_new};
+ghost use Rattle.atl_market.specs.Build.{CanBuild, begin, begin_fault, build_keeps, build_meaning, build_moves, build_reserve, build_step, go_on, gone_on, inside_fault, is_building, outside_fault, size_added, sort_of, started, with_new};
 ghost use Rattle.atl_market.specs.Stock.{CanUse};
 
 use crate::stock::use_item;

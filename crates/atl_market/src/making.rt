@@ -2,13 +2,9 @@
 ghost use Rattle.std.specs.Prelude.{ℕ, ◌≡◌, ◌≤◌, ◌*◌, IfSome, OnOk};
 ghost use Rattle.std.specs.Option.{option_copied};
 ghost use Rattle.std.specs.List.{slice_get};
-ghost use Rattle.std.specs.FinMap as finmap;
-ghost use Rattle.atl_tables.specs.Limits.{last_level, most_amount};
+ghost use Rattle.atl_tables.specs.Limits.{most_amount};
 ghost use Rattle.atl_state.specs.Covers.{MarksChanges};
-ghost use Rattle.atl_state.specs.Held.{amount_of, with_amount_of};
-ghost use Rattle.atl_state.specs.Lending.{lent};
 ghost use Rattle.atl_state.specs.Limits.{holding_limit};
-ghost use Rattle.atl_state.specs.declared.records.Unit.{Unit};
 ghost use Rattle.atl_tables.specs.declared.world.Item.{Item};
 ghost use Rattle.atl_market.specs.Making.{CanMakeOf};
 ghost use Rattle.atl_market.specs.Produce.{produced_of, with_raw_used};

@@ -11,7 +11,7 @@ ghost use Rattle.atl_state.specs.Limits.{holding_limit, men_limit};
 ghost use Rattle.atl_state.specs.State.{with_amount, with_peasants};
 ghost use Rattle.atl_instant.specs.Course.{order_at};
 ghost use Rattle.atl_instant.specs.Meaning.{HaveRoom, most_moved};
-ghost use Rattle.atl_market.specs.Recruit.{asked_in, is_recruit, recruit_fault, recruit_keeps, recruit_meaning, recruit_moves, recruit_pots, recruited, recruits_at, recruits_wanted, with_men};
+ghost use Rattle.atl_market.specs.Recruit.{asked_in, is_recruit, recruit_keeps, recruit_meaning, recruit_moves, recruit_pots, recruited, recruits_at, with_men};
 ghost use Rattle.atl_market.specs.Payable.{CanRecruit};
 
 use crate::pot_phase::{PotPhase, share_out, tell_all};

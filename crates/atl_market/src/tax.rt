@@ -5,7 +5,7 @@ ghost use Rattle.atl_state.specs.Covers.{MarksChanges};
 ghost use Rattle.atl_state.specs.Good.{IsEarly};
 ghost use Rattle.atl_state.specs.Limits.{holding_limit};
 ghost use Rattle.atl_state.specs.State.{with_money, with_region_money};
-ghost use Rattle.atl_market.specs.Tax.{is_tax, money_at, tax_fault, tax_keeps, tax_meaning, tax_moves, tax_pots, tax_wanted, taxed};
+ghost use Rattle.atl_market.specs.Tax.{is_tax, money_at, tax_keeps, tax_meaning, tax_moves, tax_pots, taxed};
 ghost use Rattle.atl_market.specs.Payable.{CanTax};
 
 use crate::pot_phase::{PotPhase, share_out, tell_all};

@@ -1,6 +1,5 @@
 //! WORK: units take the places of their region's terrain, each of which pays the wage.
 ghost use Rattle.std.specs.Prelude.{⊤, ℕ, ◌≡◌, ◌≤◌, ◌+◌, ◌++◌, filter, IfOk, OnOk};
-ghost use Rattle.std.specs.List.{flat_map};
 ghost use Rattle.std.specs.List.Sorted.{IsPermutation, IsSortedByKey};
 ghost use Rattle.std.specs.Cmp.Lexicographic.{slice_cmp};
 ghost use Rattle.std.specs.Ordering.{nat_cmp};
@@ -10,8 +9,7 @@ ghost use Rattle.atl_state.specs.Good.{IsSteady};
 ghost use Rattle.atl_state.specs.Limits.{holding_limit};
 ghost use Rattle.atl_instant.specs.Meaning.{HaveRoom, most_moved};
 ghost use Rattle.atl_instant.specs.Terrains.{terrain_of};
-ghost use Rattle.atl_market.specs.PotPhase.{events_by, shared_out};
-ghost use Rattle.atl_market.specs.Work.{PaysAllAtOnce, all_work, earned, idle_work, is_work, long_orders, own_lines, places_at, places_wanted, wage_at, with_wages, work_fault, work_keeps, work_key, work_meaning, work_moves, work_orders, work_pots};
+ghost use Rattle.atl_market.specs.Work.{PaysAllAtOnce, earned, idle_work, is_work, own_lines, places_at, wage_at, with_wages, work_keeps, work_key, work_meaning, work_moves, work_orders, work_pots};
 ghost use Rattle.atl_market.specs.Payable.{CanWork};
 
 use crate::pot_phase::{PotPhase, share_out, tell_all};

@@ -1,8 +1,8 @@
 //! The season of a month.
-ghost use Rattle.std.specs.Prelude.{ℕ, ◌≡◌, ◌≤◌, ◌<◌, ◌+◌, length, Some};
+ghost use Rattle.std.specs.Prelude.{ℕ, ◌≡◌, ◌≤◌, ◌<◌, ◌+◌, Some};
 ghost use Rattle.std.specs.FinMap as map;
 ghost use Rattle.atl_tables.specs.Planet.{IsWorld};
-ghost use Rattle.atl_tables.specs.Limits.{most_amount, most_growth, most_per_head};
+ghost use Rattle.atl_tables.specs.Limits.{most_amount, most_growth};
 ghost use Rattle.atl_state.specs.Books.{IsGrid};
 ghost use Rattle.atl_state.specs.Covers.{MarksChanges};
 ghost use Rattle.atl_state.specs.Good.{IsSteady};

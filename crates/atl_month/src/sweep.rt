@@ -2,11 +2,10 @@
 ghost use Rattle.std.specs.Prelude.{ℕ, ◌≡◌, ◌≤◌, ◌<◌, ◌+◌, IfOk, OnOk, Some, fold, length};
 ghost use Rattle.std.specs.FinMap as map;
 ghost use Rattle.atl_tables.specs.Limits.{most_amount};
-ghost use Rattle.atl_tables.specs.Planet.{IsWorld};
 ghost use Rattle.atl_state.specs.Books.{IsGrid, amount_in, thing_place};
 ghost use Rattle.atl_state.specs.Covers.{MarksChanges};
 ghost use Rattle.atl_state.specs.Deciding.{EachOf};
-ghost use Rattle.atl_state.specs.Good.{Every, IsSteady};
+ghost use Rattle.atl_state.specs.Good.{IsSteady};
 ghost use Rattle.atl_state.specs.Held.{with_amount_of};
 ghost use Rattle.atl_state.specs.Lending.{lent};
 ghost use Rattle.atl_state.specs.Marking.{mark_amount};
@@ -15,13 +14,13 @@ ghost use Rattle.atl_state.specs.declared.books.Thing.TheVariants.{Item, Money};
 ghost use Rattle.atl_state.specs.declared.records.Unit.{Unit};
 ghost use Rattle.atl_instant.specs.Meaning.{HasRoom, HaveRoom, most_moved, moved_times};
 ghost use Rattle.atl_instant.specs.LostItems.{moving_items};
-ghost use Rattle.atl_month.specs.Sweep.{faction_swept, loses_by, menless, passed_item, passed_money, sweep, sweep_keeps, sweep_meaning, swept_at, taken_of, with_lost};
+ghost use Rattle.atl_month.specs.Sweep.{faction_swept, loses_by, menless, passed_item, passed_money, sweep_keeps, sweep_meaning, swept_at, taken_of, with_lost};
 ghost use Rattle.atl_month.specs.Receivers.{AreReceivers};
 ghost use Rattle.atl_month.specs.Swept.{IsSwept};
 
 use crate::receivers::{Receivers, receiver_in, receivers_of};
 use atl_instant::{Month, Phase, book_taken, items_of};
-use atl_state::{Campaign, Entry, HOLDING_LIMIT, Holding, Thing};
+use atl_state::{Campaign, Entry, HOLDING_LIMIT, Thing};
 use atl_tables::World;
 use std::alloc::{AllocError, Global};
 

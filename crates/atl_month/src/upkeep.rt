@@ -1,16 +1,13 @@
 //! The upkeep of a month.
-ghost use Rattle.std.specs.Prelude.{◌≡◌, ◌≤◌, ◌<◌, ◌++◌, All, IfOk, ℕ, OnOk, Some, filter, length, map, neg_ℤ, pos};
+ghost use Rattle.std.specs.Prelude.{◌≡◌, ◌≤◌, ◌<◌, ◌++◌, All, IfOk, ℕ, OnOk, Some, filter, length, map};
 ghost use Rattle.std.specs.FinMap as finmap;
 ghost use Rattle.atl_tables.specs.Limits.{most_amount};
-ghost use Rattle.atl_tables.specs.Planet.{IsWorld};
-ghost use Rattle.atl_state.specs.Books.{IsGrid, amount_in, thing_place};
+ghost use Rattle.atl_state.specs.Books.{IsGrid};
 ghost use Rattle.atl_state.specs.Covers.{MarksChanges};
 ghost use Rattle.atl_state.specs.Good.{IsSteady};
 ghost use Rattle.atl_state.specs.Lending.{lent};
-ghost use Rattle.atl_state.specs.Marking.{mark_amount};
-ghost use Rattle.atl_state.specs.State.{with_amount};
 ghost use Rattle.atl_state.specs.declared.records.Unit.{Unit};
-ghost use Rattle.atl_instant.specs.Meaning.{HasRoom, HaveRoom, most_moved, moved_times};
+ghost use Rattle.atl_instant.specs.Meaning.{HaveRoom, most_moved, moved_times};
 ghost use Rattle.atl_month.specs.Settling.{IsPurse};
 ghost use Rattle.atl_month.specs.Upkeep.{days_with, purses_of, starved_event, starves, supplied, takes_up_to, upkeep, upkeep_at, upkeep_keeps, upkeep_meaning};
 

@@ -9,7 +9,7 @@ ghost use Rattle.atl_report.specs.Gathering.{with_region};
 use crate::sites::{Sites, sites_in, sites_of};
 use crate::views::{ItemView, RegionView, Side, SkillView, StructureView, UnitView, View};
 use crate::watch::{Watch, is_guard, is_seen, is_seen_there, is_watching, watch_over};
-use atl_state::{Campaign, Faction, Holding, Region, Structure, Unit, level};
+use atl_state::{Campaign, Holding, Region, Structure, Unit, level};
 use atl_tables::{Numbered, Sequence, Text, World};
 use std::alloc::{AllocError, Global};
 

@@ -1,5 +1,5 @@
 //! Commands and answers.
-ghost use Rattle.std.specs.Prelude.{◌≡◌, ◌≤◌};
+ghost use Rattle.std.specs.Prelude.{◌≡◌};
 ghost use Rattle.atl_service.specs.Numbers.{number_of, refusal_name, fault_name};
 ghost use Rattle.atl_service.specs.Found.{of_world, of_creation};
 ghost use Rattle.atl_service.specs.Opened.{of_loading};

@@ -1,5 +1,5 @@
 //! A mail is written into the tables of the campaign.
-ghost use Rattle.std.specs.Prelude.{◌≡◌, ◌≤◌, false, List, ℕ, OnOk, OnErr};
+ghost use Rattle.std.specs.Prelude.{◌≡◌, false, List, ℕ, OnOk, OnErr};
 ghost use Rattle.sqlite.specs.Held.{state};
 ghost use Rattle.sqlite.specs.State.{HasCleanDisk};
 ghost use Rattle.atl_state.specs.State.{State, with_mail};

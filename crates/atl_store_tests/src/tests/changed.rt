@@ -1,5 +1,4 @@
 //! Tables that a person changed: what a reading tells of them.
-ghost use Rattle.std.specs.Prelude.{◌≡◌, false};
 
 use super::compare::{is_bytes, is_count, is_text};
 use super::making::visited;
