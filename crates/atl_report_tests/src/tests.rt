@@ -5,4 +5,3 @@ mod orders;
 mod scenes;
 mod sight;
 mod whole;
-mod worlds;

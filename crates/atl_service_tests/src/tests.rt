@@ -19,4 +19,3 @@ mod script;
 mod state;
 mod tables;
 mod whole_month;
-mod worlds;

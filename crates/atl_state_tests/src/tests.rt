@@ -13,4 +13,3 @@ mod owners;
 mod parts;
 mod setting;
 mod walks;
-mod worlds;

@@ -9,5 +9,4 @@ mod making;
 mod others;
 mod reopening;
 mod schemas;
-mod worlds;
 mod writes;

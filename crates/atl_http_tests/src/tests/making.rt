@@ -2,38 +2,13 @@
 use super::compare::{is_text, is_true};
 use atl_http::{Dice, HttpFault, serve_one};
 use atl_service::{Service, found};
+use atl_test_worlds::SMALL;
 use sqlite::{Alter, Connection};
 use std::alloc::Global;
 use std::io::{Read, Write};
 use std::process::Abort;
 use std::str;
 use std::test::Fail;
-
-/// A world of one region.
-pub(crate) const SMALL: &str = "[rules]
-maintenance = 10
-tax_per_man = 10
-recruit_price = 50
-recruit_fraction = 4
-growth = 0
-income = 1
-start_money = 1000
-man_weight = 10
-man_carry = 5
-[[terrain]]
-name = \"plain\"
-land = true
-wage = 12
-places = 100
-money_limit = 5000
-peasant_limit = 2000
-[[region]]
-number = 1
-name = \"Vale\"
-terrain = \"plain\"
-peasants = 1000
-money = 500
-";
 
 /// A request and what is told of it: its reply, or the fault.
 pub(crate) type Case = (&'static str, &'static str);

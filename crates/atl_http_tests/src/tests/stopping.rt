@@ -1,7 +1,8 @@
 //! A disk that stops while a faction joins: the fault is told once, and from then on that the service is closed.
-use super::making::{Case, SMALL, tell_each};
+use super::making::{Case, tell_each};
 use super::requests::{JOIN, REPORT};
 use atl_service::found;
+use atl_test_worlds::SMALL;
 use sqlite::{Connection, FileStore, Options};
 use sqlite_disk::{Disk, Files, Fuse, Memory};
 use std::alloc::Global;

@@ -7,44 +7,12 @@ use atl_instant::Month;
 use atl_orders::{Mailing, read_mailing};
 use atl_state::are_distinct;
 use atl_tables::{World, read_world};
+use atl_test_worlds::WOOD_AND_SAILING;
 use std::alloc::{AllocError, Global};
 use std::test::Fail;
 
-/// A world with an item and a skill.
-const WORLD: &str = r#"[rules]
-maintenance = 10
-tax_per_man = 10
-recruit_price = 50
-recruit_fraction = 4
-growth = 0
-income = 1
-start_money = 1000
-man_weight = 10
-man_carry = 5
-[[item]]
-name = "wood"
-weight = 5
-carry = 0
-[[skill]]
-name = "sailing"
-fee = 10
-[[terrain]]
-name = "plain"
-land = true
-wage = 12
-places = 100
-money_limit = 5000
-peasant_limit = 2000
-[[region]]
-number = 1
-name = "Vale"
-terrain = "plain"
-peasants = 1000
-money = 500
-"#;
-
 pub(crate) fn world(alloc: Global) -> Result<World, Fail> {
-    Ok(read_world(alloc, WORLD)?)
+    Ok(read_world(alloc, WOOD_AND_SAILING)?)
 }
 
 fn mailings_of(alloc: Global, world: &World, texts: &[&str]) -> Result<Vec<Mailing>, Fail>

@@ -6,43 +6,10 @@ ghost use Rattle.atl_month_tests.specs.Places.{pot_in};
 use atl_market::{Pots, pot_shares};
 use atl_state::{Campaign, Holding, LAST_UNIT, Unit, founded};
 use atl_tables::{Numbered, Text, World, read_world};
+use atl_test_worlds::TWO_REGIONS;
 use std::alloc::Global;
 use std::process::Abort;
 use std::test::Fail;
-
-/// Two regions, 1 and 2.
-const WORLD: &str = r#"[rules]
-maintenance = 10
-tax_per_man = 10
-recruit_price = 50
-recruit_fraction = 4
-growth = 0
-income = 1
-start_money = 1000
-man_weight = 10
-man_carry = 5
-[[terrain]]
-name = "plain"
-land = true
-wage = 12
-places = 100
-money_limit = 5000
-peasant_limit = 2000
-[[region]]
-number = 1
-name = "Vale"
-terrain = "plain"
-peasants = 1000
-money = 500
-east = 2
-[[region]]
-number = 2
-name = "Dale"
-terrain = "plain"
-peasants = 1000
-money = 500
-west = 1
-"#;
 
 /// The pots of regions 1 and 2.
 #[derive(Drop)]
@@ -190,6 +157,6 @@ fn shares_all(rt: &impl Abort, alloc: Global, world: &World) -> Result<(), Fail>
 
 #[test]
 fn pots_are_shared(rt: HostRuntime) -> Result<(), Fail> {
-    let world = read_world(rt.alloc(), WORLD)?;
+    let world = read_world(rt.alloc(), TWO_REGIONS)?;
     shares_all(&rt, rt.alloc(), &world)
 }

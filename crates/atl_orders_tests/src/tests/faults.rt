@@ -4,8 +4,9 @@ use super::changes::{
     Change, HEAD_CHANGES, KEY_CHANGES, NAME_CHANGES, NEIGHBOUR_CHANGES, OUTPUT_CHANGES,
     REFERENCE_CHANGES, RULES_CHANGES, SMALL_CHANGES, TITLE_CHANGES, TRUTH_CHANGES,
 };
-use super::worlds::{MORE, SMALL, fault, fault_with, small_with};
+use super::worlds::{MORE, fault, fault_with, small_with};
 use atl_tables::Text;
+use atl_test_worlds::SMALL;
 use std::alloc::Global;
 use std::process::Abort;
 use std::test::Fail;

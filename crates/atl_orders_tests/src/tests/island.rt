@@ -1,7 +1,7 @@
 //! The island world, field by field.
 use super::asserts::{are_exits, are_numbers, are_places, is_number, is_text};
-use super::worlds::ISLE;
 use atl_tables::{Item, Kind, RegionPlan, Terrain, World, read_world};
+use atl_test_worlds::ISLE;
 use std::process::Abort;
 use std::test::Fail;
 

@@ -1,7 +1,8 @@
 //! Items, skills and kinds by their names, and regions by their numbers.
 use super::asserts::row_is;
-use super::worlds::{ISLE, world_with};
+use super::worlds::world_with;
 use atl_tables::{World, read_world};
+use atl_test_worlds::ISLE;
 use std::alloc::Global;
 use std::process::Abort;
 use std::test::Fail;

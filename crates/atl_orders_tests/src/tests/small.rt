@@ -1,8 +1,8 @@
 //! The small world, field by field.
 use super::asserts::{are_numbers, are_places, is_number, is_text};
 use super::island::has_region;
-use super::worlds::SMALL;
 use atl_tables::{Rules, World, read_world};
+use atl_test_worlds::SMALL;
 use std::process::Abort;
 use std::test::Fail;
 

@@ -1,33 +1,8 @@
 //! The worlds that the tests read.
 use atl_tables::{Text, World, WorldFault, read_world};
+use atl_test_worlds::SMALL;
 use std::alloc::Global;
 use std::test::Fail;
-
-/// The world with one region.
-pub(crate) const SMALL: &str = r#"[rules]
-maintenance = 10
-tax_per_man = 10
-recruit_price = 50
-recruit_fraction = 4
-growth = 0
-income = 1
-start_money = 1000
-man_weight = 10
-man_carry = 5
-[[terrain]]
-name = "plain"
-land = true
-wage = 12
-places = 100
-money_limit = 5000
-peasant_limit = 2000
-[[region]]
-number = 1
-name = "Vale"
-terrain = "plain"
-peasants = 1000
-money = 500
-"#;
 
 /// One item, one skill and one kind.
 pub(crate) const MORE: &str = r#"[[item]]
@@ -68,121 +43,6 @@ material = "wood"
 size = 10
 skill = "sailing"
 level = 1
-"#;
-
-/// An island of three regions with land, and the sea.
-pub(crate) const ISLE: &str = r#"[rules]
-maintenance = 10
-tax_per_man = 10
-recruit_price = 50
-recruit_fraction = 4
-growth = 0
-income = 1
-start_money = 1000
-man_weight = 10
-man_carry = 5
-observation = "observation"
-stealth = "stealth"
-sailing = "sailing"
-[[terrain]]
-name = "plain"
-land = true
-wage = 12
-places = 100
-money_limit = 5000
-peasant_limit = 2000
-[[terrain]]
-name = "forest"
-land = true
-wage = 10
-places = 50
-money_limit = 2000
-peasant_limit = 500
-output = { wood = 20 }
-[[terrain]]
-name = "ocean"
-land = false
-wage = 1
-places = 0
-money_limit = 0
-peasant_limit = 0
-[[item]]
-name = "wood"
-weight = 5
-carry = 0
-skill = "lumberjack"
-[[item]]
-name = "cart"
-weight = 50
-carry = 100
-skill = "carpentry"
-raw = "wood"
-raw_count = 5
-[[skill]]
-name = "lumberjack"
-fee = 0
-[[skill]]
-name = "carpentry"
-fee = 10
-[[skill]]
-name = "shipbuilding"
-fee = 20
-[[skill]]
-name = "sailing"
-fee = 10
-[[skill]]
-name = "stealth"
-fee = 20
-[[skill]]
-name = "observation"
-fee = 20
-[[kind]]
-name = "boat"
-ship = true
-material = "wood"
-size = 10
-skill = "shipbuilding"
-level = 1
-capacity = 200
-crew = 2
-[[kind]]
-name = "lodge"
-ship = false
-material = "wood"
-size = 20
-skill = "carpentry"
-level = 1
-helps = "lumberjack"
-[[region]]
-number = 1
-name = "Shore"
-terrain = "plain"
-peasants = 1000
-money = 500
-east = 2
-[[region]]
-number = 2
-name = "Sound"
-terrain = "ocean"
-peasants = 0
-money = 0
-east = 3
-west = 1
-[[region]]
-number = 3
-name = "Far"
-terrain = "forest"
-peasants = 200
-money = 100
-north = 4
-west = 2
-[[region]]
-number = 4
-name = "Wood"
-terrain = "forest"
-peasants = 100
-money = 50
-south = 3
 "#;
 
 /// The small world, and more after it.

@@ -3,10 +3,10 @@ ghost use Rattle.atl_state.specs.Good.{IsGood};
 
 use super::compare::is_text;
 use super::scenes::{CART, MAN, NOBODY, Person, Scene, WOOD, campaign_of};
-use super::worlds::{ISLE, SMALL};
 use atl_report::books_text;
 use atl_state::Campaign;
 use atl_tables::{World, read_world};
+use atl_test_worlds::{ISLE, SMALL};
 use std::alloc::Global;
 use std::process::Abort;
 use std::test::Fail;

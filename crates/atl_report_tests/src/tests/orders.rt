@@ -1,10 +1,10 @@
 //! What a report tells of orders, without any region.
 use super::compare::is_text;
-use super::worlds::SMALL;
 use atl_orders::{FaultyLine, LineFault, Verb};
 use atl_report::{View, report_text};
 use atl_state::{Event, EventVerb, Outcome};
 use atl_tables::{Sequence, Text, World, read_world};
+use atl_test_worlds::SMALL;
 use std::alloc::Global;
 use std::process::Abort;
 use std::test::Fail;

@@ -4,11 +4,11 @@ use super::scenes::{
     BOAT, Built, CART, LODGE, LUMBERJACK, MAN, NOBODY, OBSERVATION, Person, SAILING, STEALTH,
     Scene, WOOD, campaign_of,
 };
-use super::worlds::ISLE;
 use atl_orders::{FaultyLine, LineFault, Verb};
 use atl_report::{report_text, view};
 use atl_state::{Campaign, Event, EventVerb, Outcome};
 use atl_tables::{World, read_world};
+use atl_test_worlds::ISLE;
 use std::alloc::Global;
 use std::process::Abort;
 use std::test::Fail;

@@ -3,11 +3,11 @@ ghost use Rattle.std.specs.Prelude.{IfOk};
 ghost use Rattle.atl_state.specs.Good.{IsGood};
 
 use super::compare::is_text;
-use super::worlds::SMALL;
 use atl_orders::{FaultyLine, LineFault, Verb};
 use atl_report::{report_text, view};
 use atl_state::{Campaign, Event, EventVerb, Outcome, founded};
 use atl_tables::{World, read_world};
+use atl_test_worlds::SMALL;
 use std::alloc::Global;
 use std::process::Abort;
 use std::test::Fail;

@@ -6,7 +6,7 @@ use super::tables::{
     AFTER_JOINING, BOOKED, FACTIONS, INCOME, MAIL_BYTES, MAILINGS, MONEY, MONTH, NEXT,
     REGION_MONEY, REPORT_BYTES, UNITS, UPKEEP, WAGES,
 };
-use super::worlds::{BARREN, SMALL};
+use atl_test_worlds::{BARREN, SMALL};
 use std::test::Fail;
 
 pub(crate) const MONTH_ONE: Asked = Asked::Close(1, "gm", &[0]);

@@ -6,8 +6,8 @@ use super::script::{Asked, Step, command_of, plays};
 use super::tables::{
     AFTER_JOINING, BOOKED, FACTIONS, MAIL_BYTES, MAILINGS, MONEY, NEXT, REPORT_BYTES, UNITS, holds,
 };
-use super::worlds::{ISLE, SMALL};
 use atl_service::{Answer, Command, Service};
+use atl_test_worlds::{ISLE, SMALL};
 use sqlite::{Alter, Connection};
 use std::alloc::Global;
 use std::process::Abort;

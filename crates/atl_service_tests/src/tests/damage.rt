@@ -2,8 +2,8 @@
 use super::files::{connected, new_files, reopened};
 use super::making::begun;
 use super::script::{Asked, Step, follow};
-use super::worlds::ISLE;
 use atl_service::{Cause, Refused, open};
+use atl_test_worlds::ISLE;
 use sqlite::{Alter, Connection, FileStore};
 use sqlite_disk::Disk;
 use std::alloc::Global;

@@ -2,8 +2,8 @@
 use super::compare::is_text;
 use super::making::{begun, join, told as answered};
 use super::tables::{MONEY, holds};
-use super::worlds::{POOR, SMALL};
 use atl_service::{Cause, Refused, found};
+use atl_test_worlds::{POOR, SMALL};
 use sqlite::{Alter, Connection};
 use std::alloc::Global;
 use std::process::Abort;

@@ -3,7 +3,7 @@ use super::commands::AVALON;
 use super::making::{begun, opened};
 use super::script::{Asked, Step, follow};
 use super::tables::{FACTIONS, NEXT, UNITS, holds};
-use super::worlds::SMALL;
+use atl_test_worlds::SMALL;
 use sqlite::{Alter, Connection, params};
 use std::alloc::Global;
 use std::process::Abort;

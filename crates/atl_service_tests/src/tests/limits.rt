@@ -2,7 +2,7 @@
 use super::making::{begun, opened};
 use super::script::{Asked, Step, follow};
 use super::tables::{MONTH, holds};
-use super::worlds::SMALL;
+use atl_test_worlds::SMALL;
 use sqlite::{Alter, Connection};
 use std::alloc::Global;
 use std::process::Abort;

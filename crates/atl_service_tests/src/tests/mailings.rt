@@ -2,7 +2,7 @@
 use super::commands::AVALON;
 use super::script::{Asked, Step, plays};
 use super::tables::{AFTER_JOINING, MAIL_BYTES, MAILINGS};
-use super::worlds::SMALL;
+use atl_test_worlds::SMALL;
 use std::test::Fail;
 
 pub(crate) const FAULTY: &str =

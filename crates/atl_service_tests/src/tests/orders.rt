@@ -3,7 +3,7 @@ use super::closing::MONTH_ONE;
 use super::commands::AVALON;
 use super::script::{Asked, Step, plays};
 use super::tables::{FACTIONS, MAILINGS, MONEY, MONTH, NEXT, REGION_MONEY, UNITS};
-use super::worlds::{SMALL, THREE_PEASANTS};
+use atl_test_worlds::{SMALL, THREE_PEASANTS};
 use std::test::Fail;
 
 /// With three peasants nobody can be recruited. The new unit has no men: it is swept, and what it was paid goes back.

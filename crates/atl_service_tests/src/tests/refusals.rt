@@ -3,8 +3,8 @@ use super::commands::{AVALON, FIRST_REPORT};
 use super::compare::is_number;
 use super::script::{Asked, Step, plays};
 use super::tables::AFTER_JOINING;
-use super::worlds::SMALL;
 use atl_service::Refusal;
+use atl_test_worlds::SMALL;
 use std::test::Fail;
 
 const JOINS_ONCE: [Step; 1] = [Step::Told(AVALON, "joined")];

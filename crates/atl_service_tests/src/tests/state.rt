@@ -4,10 +4,10 @@ ghost use Rattle.atl_state.specs.Good.{IsGood};
 
 use super::commands::FIRST_REPORT;
 use super::compare::{are_numbers, is_count, is_number, is_text, is_total};
-use super::worlds::SMALL;
 use atl_report::{report_text, view};
 use atl_state::{Campaign, Entry, Thing, founded};
 use atl_tables::{Text, World, read_world};
+use atl_test_worlds::SMALL;
 use std::alloc::{AllocError, Global};
 use std::process::Abort;
 use std::test::Fail;

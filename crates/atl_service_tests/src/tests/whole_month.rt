@@ -2,7 +2,7 @@
 use super::making::{begun, opened};
 use super::script::{Asked, Step, follow};
 use super::tables::{MAILINGS, MONTH, NEXT, UNITS, holds};
-use super::worlds::ISLE;
+use atl_test_worlds::ISLE;
 use sqlite::{Alter, Connection};
 use std::alloc::Global;
 use std::process::Abort;

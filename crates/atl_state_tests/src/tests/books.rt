@@ -1,9 +1,9 @@
 //! Books by themselves, and those of a campaign.
 use super::compare::{is_count, is_number};
 use super::making::founded_in;
-use super::worlds::ISLE;
 use atl_state::{Books, Campaign, Entry, Thing};
 use atl_tables::{World, read_world};
+use atl_test_worlds::ISLE;
 use std::alloc::Global;
 use std::process::Abort;
 use std::test::Fail;

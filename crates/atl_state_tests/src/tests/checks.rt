@@ -1,6 +1,5 @@
 //! Rows that are checked: those of a good campaign, in any order, and rows that break one of the twelve rules.
 use super::compare::{is_count, row_is};
-use super::worlds::ISLE;
 use atl_state::Campaign;
 use atl_state::check::{CheckFault, check};
 use atl_state::parts::{
@@ -8,6 +7,7 @@ use atl_state::parts::{
     StoredStructure, StoredUnit,
 };
 use atl_tables::{Sequence, Text, World, read_world};
+use atl_test_worlds::ISLE;
 use std::alloc::Global;
 use std::process::Abort;
 use std::test::Fail;

@@ -1,9 +1,9 @@
 //! How units and structures come, and how a faction joins: what of it is marked.
 use super::compare::{is_amount, is_count};
 use super::making::{BOAT, avalon_joins, founded_in, is_begun, joined_in, man_comes};
-use super::worlds::ISLE;
 use atl_state::Campaign;
 use atl_tables::{World, read_world};
+use atl_test_worlds::ISLE;
 use std::alloc::Global;
 use std::process::Abort;
 use std::test::Fail;

@@ -1,9 +1,9 @@
 //! Levels, and what units weigh and carry.
 use super::compare::row_is;
 use super::making::one_man;
-use super::worlds::ISLE;
 use atl_state::{Holding, carry, goods, level, load};
 use atl_tables::{World, read_world};
+use atl_test_worlds::ISLE;
 use std::alloc::Global;
 use std::process::Abort;
 use std::test::Fail;

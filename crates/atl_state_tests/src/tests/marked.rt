@@ -1,9 +1,9 @@
 //! Which parts of a campaign are marked, shown one by one.
 use super::compare::{are_numbers, is_so};
 use super::making::joined_in;
-use super::worlds::ISLE;
 use atl_state::{Campaign, Entry, Thing};
 use atl_tables::{MarkedNumbers, World, read_world};
+use atl_test_worlds::ISLE;
 use std::alloc::Global;
 use std::process::Abort;
 use std::test::Fail;

@@ -1,9 +1,9 @@
 //! Where units are, and who owns the structures that they enter and leave, step by step.
 use super::compare::{are_numbers, row_is};
 use super::making::{BOAT, LODGE, founded_in, is_begun, man_comes};
-use super::worlds::ISLE;
 use atl_state::Campaign;
 use atl_tables::{World, read_world};
+use atl_test_worlds::ISLE;
 use std::alloc::Global;
 use std::process::Abort;
 use std::test::Fail;

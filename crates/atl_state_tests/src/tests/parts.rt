@@ -1,13 +1,13 @@
 //! The rows of a campaign, one by one.
 use super::compare::{are_amounts, is_bytes, is_count, is_text};
 use super::making::{LODGE, is_begun, joined_in};
-use super::worlds::ISLE;
 use atl_state::Campaign;
 use atl_state::parts::{
     Parts, StoredBooks, StoredFaction, StoredHas, StoredHead, StoredMail, StoredRegion,
     StoredReport, StoredStructure, StoredUnit,
 };
 use atl_tables::{Sequence, Text, World, read_world};
+use atl_test_worlds::ISLE;
 use std::alloc::Global;
 use std::process::Abort;
 use std::test::Fail;

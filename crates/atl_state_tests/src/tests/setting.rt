@@ -1,9 +1,9 @@
 //! The calls that set one entry of a campaign, each on its own: what it sets, and that it marks one thing.
 use super::compare::{is_amount, is_bytes, is_count, is_so, is_text};
 use super::making::{FAR, LODGE, is_begun, joined_in};
-use super::worlds::ISLE;
 use atl_state::{Campaign, Faction, Region, Structure, Unit};
 use atl_tables::{Sequence, Text, World, read_world};
+use atl_test_worlds::ISLE;
 use std::alloc::Global;
 use std::process::Abort;
 use std::test::Fail;

@@ -1,9 +1,9 @@
 //! Walks over all factions, regions, units and structures of a campaign, and its totals.
 use super::compare::{is_amount, is_count, is_number, is_text, row_is};
 use super::making::{FAR, LODGE, is_begun, joined_in};
-use super::worlds::ISLE;
 use atl_state::{Campaign, Thing};
 use atl_tables::{World, read_world};
+use atl_test_worlds::ISLE;
 use std::alloc::Global;
 use std::process::Abort;
 use std::test::Fail;

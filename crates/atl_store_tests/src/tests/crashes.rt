@@ -3,9 +3,9 @@ ghost use Rattle.std.specs.Prelude.{◌≡◌, false};
 
 use super::counts::{count_books, count_factions, count_units};
 use super::making::{has_arrived, has_few_things, joined, small};
-use super::worlds::SMALL;
 use atl_state::Campaign;
 use atl_store::{CreateFault, WriteFault, create, write_join};
+use atl_test_worlds::SMALL;
 use sqlite::{Alter, Connection, FileStore, Options};
 use sqlite_disk::{Crash, Disk, Files, Fuse, Memory};
 use std::alloc::Global;

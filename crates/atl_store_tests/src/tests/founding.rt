@@ -6,11 +6,11 @@ use super::counts::{
     count_factions, count_has, count_mail, count_reports, count_structures, count_units,
 };
 use super::making::created;
-use super::worlds::SMALL;
 use atl_state::parts::StoredBooks;
 use atl_store::rows::books::read_books;
 use atl_store::rows::campaign::{StoredCampaign, read_campaign};
 use atl_store::rows::region::read_regions;
+use atl_test_worlds::SMALL;
 use sqlite::{Alter, Connection};
 use std::alloc::Global;
 use std::process::Abort;

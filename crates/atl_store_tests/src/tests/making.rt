@@ -5,10 +5,10 @@ ghost use Rattle.atl_state.specs.Good.{IsGood};
 ghost use Rattle.atl_state.specs.Limits.{most_things};
 ghost use Rattle.atl_store.specs.Arriving.{HasArrival};
 
-use super::worlds::SMALL;
 use atl_state::{Campaign, founded};
 use atl_store::{create, write_join, write_mail};
 use atl_tables::{Text, World, read_world};
+use atl_test_worlds::SMALL;
 use sqlite::{Alter, Connection, MemStore};
 use std::alloc::Global;
 use std::test::Fail;

@@ -1,59 +1,91 @@
-//! The worlds of the tests.
+//! World texts that the crates of tests share.
+#![tactic(auto)]
+
+/// A world with one region: who joins has so much money, so many find work there, and so many peasants live there. Behind it
+/// stands more of its text.
+macro_rules! vale {
+    ($start_money:literal, $places:literal, $peasants:literal, $more:literal) => {
+        concat!(
+            r#"[rules]
+maintenance = 10
+tax_per_man = 10
+recruit_price = 50
+recruit_fraction = 4
+growth = 0
+income = 1
+start_money = "#,
+            $start_money,
+            r#"
+man_weight = 10
+man_carry = 5
+[[terrain]]
+name = "plain"
+land = true
+wage = 12
+places = "#,
+            $places,
+            r#"
+money_limit = 5000
+peasant_limit = 2000
+[[region]]
+number = 1
+name = "Vale"
+terrain = "plain"
+peasants = "#,
+            $peasants,
+            r#"
+money = 500
+"#,
+            $more
+        )
+    };
+}
 
 /// The world with one region.
-pub(crate) const SMALL: &str = "[rules]
-maintenance = 10
-tax_per_man = 10
-recruit_price = 50
-recruit_fraction = 4
-growth = 0
-income = 1
-start_money = 1000
-man_weight = 10
-man_carry = 5
-[[terrain]]
-name = \"plain\"
-land = true
-wage = 12
-places = 100
-money_limit = 5000
-peasant_limit = 2000
-[[region]]
-number = 1
-name = \"Vale\"
-terrain = \"plain\"
-peasants = 1000
-money = 500
-";
+pub const SMALL: &str = vale!(1000, 100, 1000, "");
 
 /// The same where nobody starts with money.
-pub(crate) const POOR: &str = "[rules]
-maintenance = 10
-tax_per_man = 10
-recruit_price = 50
-recruit_fraction = 4
-growth = 0
-income = 1
-start_money = 0
-man_weight = 10
-man_carry = 5
-[[terrain]]
-name = \"plain\"
-land = true
-wage = 12
-places = 100
-money_limit = 5000
-peasant_limit = 2000
+pub const POOR: &str = vale!(0, 100, 1000, "");
+
+/// The same where nobody finds work, and who joins has money for half a month.
+pub const BARREN: &str = vale!(5, 0, 1000, "");
+
+/// The same with three peasants.
+pub const THREE_PEASANTS: &str = vale!(1000, 100, 3, "");
+
+/// The same with another region to its east.
+pub const TWO_REGIONS: &str = vale!(
+    1000,
+    100,
+    1000,
+    r#"east = 2
 [[region]]
-number = 1
-name = \"Vale\"
-terrain = \"plain\"
+number = 2
+name = "Dale"
+terrain = "plain"
 peasants = 1000
 money = 500
-";
+west = 1
+"#
+);
 
-/// A world with land, forest and sea, in four regions, where boats and lodges are built.
-pub(crate) const ISLE: &str = r#"[rules]
+/// The same with an item and a skill.
+pub const WOOD_AND_SAILING: &str = vale!(
+    1000,
+    100,
+    1000,
+    r#"[[item]]
+name = "wood"
+weight = 5
+carry = 0
+[[skill]]
+name = "sailing"
+fee = 10
+"#
+);
+
+/// An island of three regions with land, and the sea.
+pub const ISLE: &str = r#"[rules]
 maintenance = 10
 tax_per_man = 10
 recruit_price = 50
@@ -166,55 +198,3 @@ peasants = 100
 money = 50
 south = 3
 "#;
-
-/// The same where nobody finds work, and who joins has money for half a month.
-pub(crate) const BARREN: &str = "[rules]
-maintenance = 10
-tax_per_man = 10
-recruit_price = 50
-recruit_fraction = 4
-growth = 0
-income = 1
-start_money = 5
-man_weight = 10
-man_carry = 5
-[[terrain]]
-name = \"plain\"
-land = true
-wage = 12
-places = 0
-money_limit = 5000
-peasant_limit = 2000
-[[region]]
-number = 1
-name = \"Vale\"
-terrain = \"plain\"
-peasants = 1000
-money = 500
-";
-
-/// The small world with three peasants.
-pub(crate) const THREE_PEASANTS: &str = "[rules]
-maintenance = 10
-tax_per_man = 10
-recruit_price = 50
-recruit_fraction = 4
-growth = 0
-income = 1
-start_money = 1000
-man_weight = 10
-man_carry = 5
-[[terrain]]
-name = \"plain\"
-land = true
-wage = 12
-places = 100
-money_limit = 5000
-peasant_limit = 2000
-[[region]]
-number = 1
-name = \"Vale\"
-terrain = \"plain\"
-peasants = 3
-money = 500
-";
