@@ -8,25 +8,10 @@ use Rattle.std.proofs.lemmas.Bool.{cases_eq, cases_lt}
 use Rattle.std.proofs.lemmas.Bool.Decides.{nat_tests}
 use Rattle.atl_state.specs.Limits.{entry_count}
 use Rattle.atl_state.specs.declared.books.Entry.{Entry}
-use Rattle.atl_state.specs.declared.books.Entry.TheVariants.{Founding, Joining, Income, Wages, Recruiting, Study, Upkeep, Lost, Births, Starved, Left, Made, Used}
 use Rattle.atl_state.specs.declared.books.Thing.{Thing}
 use Rattle.atl_state.specs.declared.books.Thing.TheVariants.{Money, People, Item}
 use Rattle.atl_state.specs.Books.{entry_place, thing_place, thing_at, row_of, amount_in, with_booked, added_up, booked, no_amounts, IsGrid, IsWithin, IsSmall}
-
-pub entry_small : (e : Entry) → entry_place e < entry_count
-entry_small Founding = omega arith
-entry_small Joining = omega arith
-entry_small Income = omega arith
-entry_small Wages = omega arith
-entry_small Recruiting = omega arith
-entry_small Study = omega arith
-entry_small Upkeep = omega arith
-entry_small Lost = omega arith
-entry_small Births = omega arith
-entry_small Starved = omega arith
-entry_small Left = omega arith
-entry_small Made = omega arith
-entry_small Used = omega arith
+use Rattle.atl_state.proofs.EntryLaws.{entry_small}
 
 pub place_at : (i : ℕ) → thing_place (thing_at i) ≡ i
 place_at zero = refl

@@ -24,7 +24,6 @@ use Rattle.atl_state.specs.declared.parts.StoredHead.{StoredHead}
 use Rattle.atl_state.specs.declared.parts.StoredFaction.{StoredFaction}
 use Rattle.atl_state.specs.declared.records.Faction.{Faction}
 use Rattle.atl_state.specs.declared.books.Entry.{Entry}
-use Rattle.atl_state.specs.declared.books.Entry.TheVariants.{Founding, Joining, Income, Wages, Recruiting, Study, Upkeep, Lost, Births, Starved, Left, Made, Used}
 use Rattle.atl_state.specs.Books.{entry_place, thing_at, IsWithin}
 use Rattle.atl_state.specs.Checking.{Keeps, Checks, GivesBack}
 use Rattle.atl_state.specs.Deciding.{EachOf, Differ}
@@ -37,6 +36,7 @@ use Rattle.atl_state.specs.Rows.{flag, rows_by, faction_row, region_row, unit_ro
 use Rattle.atl_state.specs.State.{State, Marked}
 use Rattle.atl_state.specs.Totals.{Balances}
 use Rattle.atl_state.proofs.BookLaws.{place_at}
+use Rattle.atl_state.proofs.EntryLaws.{entry_at}
 use Rattle.atl_state.proofs.BackLaws.{each_permuted, all_pass, read_whole, rows_pass, count_rows}
 use Rattle.atl_state.proofs.BackBooksLaws.{lines_each, books_keys, all_booked}
 use Rattle.atl_state.proofs.BackHasLaws.{has_each, has_keys, goods_of}
@@ -70,23 +70,7 @@ within_true : (bound : ℕ) (z : ℤ) → IsWithin bound z → is_within bound z
 within_true bound (pos n) h = let most : n ≤ bound = omega (arith, ints, h.most) in le_true n bound most
 within_true bound (negsuc n) h = let most : suc n ≤ bound = omega (arith, ints, h.least) in le_true (suc n) bound most
 
--- ---- entries by their places
-
-entry_at : (n : ℕ) → n < entry_count → (e : Entry) × (entry_place e ≡ n)
-entry_at zero l = (Founding, refl)
-entry_at (suc zero) l = (Joining, refl)
-entry_at (suc (suc zero)) l = (Income, refl)
-entry_at (suc (suc (suc zero))) l = (Wages, refl)
-entry_at (suc (suc (suc (suc zero)))) l = (Recruiting, refl)
-entry_at (suc (suc (suc (suc (suc zero))))) l = (Study, refl)
-entry_at (suc (suc (suc (suc (suc (suc zero)))))) l = (Upkeep, refl)
-entry_at (suc (suc (suc (suc (suc (suc (suc zero))))))) l = (Lost, refl)
-entry_at (suc (suc (suc (suc (suc (suc (suc (suc zero)))))))) l = (Births, refl)
-entry_at (suc (suc (suc (suc (suc (suc (suc (suc (suc zero))))))))) l = (Starved, refl)
-entry_at (suc (suc (suc (suc (suc (suc (suc (suc (suc (suc zero)))))))))) l = (Left, refl)
-entry_at (suc (suc (suc (suc (suc (suc (suc (suc (suc (suc (suc zero))))))))))) l = (Made, refl)
-entry_at (suc (suc (suc (suc (suc (suc (suc (suc (suc (suc (suc (suc zero)))))))))))) l = (Used, refl)
-entry_at (suc (suc (suc (suc (suc (suc (suc (suc (suc (suc (suc (suc (suc n))))))))))))) l = absurd (omega (arith, l))
+-- ---- amounts
 
 amounts_within : (c : State) → AreAmountsWithin c → (e t : ℕ) → e < entry_count → IsWithin (amount_bound c) (amount_at c.books e t)
 amounts_within c within e t l =

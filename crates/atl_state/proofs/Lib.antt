@@ -8,6 +8,7 @@ pub mod BackBooksLaws
 pub mod BackHasLaws
 pub mod GoodRowLaws
 pub mod GoodRuleLaws
+pub mod EntryLaws
 pub mod BookLaws
 pub mod TotalLaws
 pub mod MadeOf
