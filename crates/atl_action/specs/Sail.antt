@@ -27,6 +27,8 @@ use Rattle.atl_instant.specs.PhaseOrders.{Task}
 use Rattle.atl_instant.specs.Steps.{Concern, IsSpared, Step, carried_out, is_own, spares_others, takes_all}
 use Rattle.atl_instant.specs.Staying.{IsUnchanged}
 use Rattle.atl_action.specs.Ways.{is_region, neighbour}
+use Rattle.atl_instant.specs.Terms.{PhaseTerms, nothing_moved}
+use Rattle.atl_instant.specs.Unbooked.{moves_nothing}
 
 -- ---- which orders are of the phase
 
@@ -142,3 +144,11 @@ pub record SailsWith (w : Planet) (begun : State) (t : Task) (n f : ℕ) : Type 
 -- each unit goes at most with what it is inside, and where that is no ship that sails, it stays as it is
 abbrev pub sail_keeps : Keeping
 sail_keeps w m before after = AreCarried before after × spares_others (SailsWith w before) IsUnchanged is_sailing w m before after
+
+abbrev pub sail_terms : PhaseTerms
+sail_terms = record {
+  meaning = sail_meaning;
+  moving = moves_nothing;
+  moved = nothing_moved;
+  keeps = sail_keeps;
+}

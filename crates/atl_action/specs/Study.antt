@@ -27,6 +27,7 @@ use Rattle.atl_instant.specs.Staying.{IsUnchanged}
 use Rattle.atl_action.specs.Learners.{fee_of, is_studying, learners}
 use Rattle.atl_action.specs.Limits.{helped_days, month_days, taught_days}
 use Rattle.atl_action.specs.Teach.{Taught, taught_out}
+use Rattle.atl_instant.specs.Terms.{PhaseTerms}
 
 -- ---- days
 
@@ -101,3 +102,11 @@ study_reserve c = moves_only (sum_over (λ u. u.holding.money) c.units) Study Mo
 
 abbrev pub study_moves : Moving
 study_moves = moves_only most_moved Study Money
+
+abbrev pub learn_terms : PhaseTerms
+learn_terms = record {
+  meaning = learn_meaning;
+  moving = study_moves;
+  moved = record { money = Study ∷ []; people = []; items = [] };
+  keeps = learn_keeps;
+}

@@ -22,6 +22,8 @@ use Rattle.atl_instant.specs.Outcomes.{first_fault, unless}
 use Rattle.atl_instant.specs.Staying.{IsNoWorse}
 use Rattle.atl_instant.specs.Steps.{IsOwnOrder, Step, carried_out, spares_others, takes_all}
 use Rattle.atl_action.specs.Ways.{neighbour}
+use Rattle.atl_instant.specs.Terms.{PhaseTerms, nothing_moved}
+use Rattle.atl_instant.specs.Unbooked.{moves_nothing}
 
 -- ---- which orders are of the phase
 
@@ -75,3 +77,11 @@ walk_meaning = carried_out walk_step takes_all is_walking
 -- who gives no such order stays
 abbrev pub walk_keeps : Keeping
 walk_keeps = spares_others IsOwnOrder IsNoWorse is_walking
+
+abbrev pub walk_terms : PhaseTerms
+walk_terms = record {
+  meaning = walk_meaning;
+  moving = moves_nothing;
+  moved = nothing_moved;
+  keeps = walk_keeps;
+}

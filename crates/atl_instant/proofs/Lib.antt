@@ -29,4 +29,5 @@ pub mod QuitLaws
 pub mod QuittingLaws
 pub mod FitLaws
 pub mod UnmailedLaws
+pub mod TermsLaws
 pub mod UnmailedStepLaws

@@ -22,6 +22,8 @@ use Rattle.atl_instant.specs.Staying.{IsNoWorse}
 use Rattle.atl_instant.specs.Steps.{IsOwnOrder, Step, carried_out, spares_others, takes_all}
 use Rattle.atl_instant.specs.declared.give.Gift.{Gift}
 use Rattle.atl_instant.specs.declared.give.Gift.TheVariants.{Item, Money}
+use Rattle.atl_instant.specs.Terms.{PhaseTerms, nothing_moved}
+use Rattle.atl_instant.specs.Unbooked.{moves_nothing}
 
 abbrev pub is_giving : Verb → Bool
 is_giving verbs.Give = true
@@ -85,3 +87,11 @@ give_meaning = carried_out give_step takes_all is_giving
 -- a unit for which its own faction wrote no such order is no worse off
 abbrev pub give_keeps : Keeping
 give_keeps = spares_others IsOwnOrder IsNoWorse is_giving
+
+abbrev pub give_terms : PhaseTerms
+give_terms = record {
+  meaning = give_meaning;
+  moving = moves_nothing;
+  moved = nothing_moved;
+  keeps = give_keeps;
+}

@@ -18,6 +18,8 @@ use Rattle.atl_instant.specs.Outcomes.{first_fault, unless}
 use Rattle.atl_instant.specs.PhaseOrders.{Task}
 use Rattle.atl_instant.specs.Staying.{IsNoWorse}
 use Rattle.atl_instant.specs.Steps.{Concern, IsOwnOrder, Step, carried_out, spares_others}
+use Rattle.atl_instant.specs.Terms.{PhaseTerms, nothing_moved}
+use Rattle.atl_instant.specs.Unbooked.{moves_nothing}
 
 abbrev pub is_guarding : Verb → Bool
 is_guarding verbs.Guard = true
@@ -72,3 +74,11 @@ guard_meaning = carried_out guard_step sets_flag is_guarding
 -- a unit for which its own faction wrote no such order is no worse off
 abbrev pub guard_keeps : Keeping
 guard_keeps = spares_others guard_concerns IsNoWorse is_guarding
+
+abbrev pub guard_terms : PhaseTerms
+guard_terms = record {
+  meaning = guard_meaning;
+  moving = moves_nothing;
+  moved = nothing_moved;
+  keeps = guard_keeps;
+}

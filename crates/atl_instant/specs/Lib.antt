@@ -1,5 +1,6 @@
 pub mod Course
 pub mod Meaning
+pub mod Terms
 pub mod PhaseOrders
 pub mod Collecting
 pub mod Terrains

@@ -20,6 +20,8 @@ use Rattle.atl_instant.specs.Meaning.{Keeping, Meaning}
 use Rattle.atl_instant.specs.Outcomes.{first_fault, unless}
 use Rattle.atl_instant.specs.Staying.{IsNoWorse}
 use Rattle.atl_instant.specs.Steps.{Concern, IsOwnOrder, Step, carried_out, spares_others}
+use Rattle.atl_instant.specs.Terms.{PhaseTerms, nothing_moved}
+use Rattle.atl_instant.specs.Unbooked.{moves_nothing}
 
 -- ---- which orders are of the phase
 
@@ -80,3 +82,11 @@ name_meaning = carried_out name_step takes_naming is_naming
 -- a unit for which its own faction wrote no such order is no worse off
 abbrev pub name_keeps : Keeping
 name_keeps = spares_others name_concerns IsNoWorse is_naming
+
+abbrev pub name_terms : PhaseTerms
+name_terms = record {
+  meaning = name_meaning;
+  moving = moves_nothing;
+  moved = nothing_moved;
+  keeps = name_keeps;
+}

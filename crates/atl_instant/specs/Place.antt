@@ -21,6 +21,8 @@ use Rattle.atl_instant.specs.Outcomes.{first_fault, unless}
 use Rattle.atl_instant.specs.PhaseOrders.{unit_of}
 use Rattle.atl_instant.specs.Staying.{IsNoWorse}
 use Rattle.atl_instant.specs.Steps.{IsOwnOrder, Step, carried_out, spares_others, takes_all}
+use Rattle.atl_instant.specs.Terms.{PhaseTerms, nothing_moved}
+use Rattle.atl_instant.specs.Unbooked.{moves_nothing}
 
 -- ---- which orders are of the phase
 
@@ -89,3 +91,11 @@ place_meaning = carried_out place_step takes_all is_placing
 -- who gives no order of the phase stays
 abbrev pub place_keeps : Keeping
 place_keeps = spares_others IsOwnOrder IsNoWorse is_placing
+
+abbrev pub place_terms : PhaseTerms
+place_terms = record {
+  meaning = place_meaning;
+  moving = moves_nothing;
+  moved = nothing_moved;
+  keeps = place_keeps;
+}

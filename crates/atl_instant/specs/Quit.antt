@@ -25,6 +25,7 @@ use Rattle.atl_instant.specs.Outcomes.{first_fault, unless}
 use Rattle.atl_instant.specs.PhaseOrders.{Task}
 use Rattle.atl_instant.specs.Staying.{IsNoWorse}
 use Rattle.atl_instant.specs.Steps.{Concern, Reserve, Step, carried_out, is_own, spares_others, takes_all}
+use Rattle.atl_instant.specs.Terms.{PhaseTerms}
 
 abbrev pub is_quitting : Verb → Bool
 is_quitting verbs.Quit = true
@@ -108,3 +109,11 @@ quit_reserve c e t = sum_over (λ u. leaves e t u.holding) c.units
 
 abbrev pub quit_moves : Moving
 quit_moves e t = if entry_place e == entry_place (gone_under t) then most_moved else 0
+
+abbrev pub quit_terms : PhaseTerms
+quit_terms = record {
+  meaning = quit_meaning;
+  moving = quit_moves;
+  moved = record { money = Lost ∷ []; people = Left ∷ []; items = Lost ∷ [] };
+  keeps = quit_keeps;
+}

@@ -21,6 +21,8 @@ use Rattle.atl_instant.specs.Outcomes.{first_fault, unless}
 use Rattle.atl_instant.specs.PhaseOrders.{Task, unit_of}
 use Rattle.atl_instant.specs.Staying.{IsNoWorse}
 use Rattle.atl_instant.specs.Steps.{IsOwnOrder, Step, carried_out, spares_others, takes_all}
+use Rattle.atl_instant.specs.Terms.{PhaseTerms, nothing_moved}
+use Rattle.atl_instant.specs.Unbooked.{moves_nothing}
 
 abbrev pub is_transferring : Verb → Bool
 is_transferring verbs.Transfer = true
@@ -95,3 +97,11 @@ transfer_meaning = carried_out transfer_step takes_all is_transferring
 -- a unit for which its own faction wrote no such order is no worse off
 abbrev pub transfer_keeps : Keeping
 transfer_keeps = spares_others IsOwnOrder IsNoWorse is_transferring
+
+abbrev pub transfer_terms : PhaseTerms
+transfer_terms = record {
+  meaning = transfer_meaning;
+  moving = moves_nothing;
+  moved = nothing_moved;
+  keeps = transfer_keeps;
+}

@@ -32,6 +32,7 @@ use Rattle.atl_instant.specs.Outcomes.{first_fault, unless}
 use Rattle.atl_instant.specs.Staying.{IsNoWorse}
 use Rattle.atl_instant.specs.Steps.{IsOwnOrder, Reserve, Step, carried_out, spares_others, takes_all}
 use Rattle.atl_market.specs.Stock.{with_used}
+use Rattle.atl_instant.specs.Terms.{PhaseTerms}
 
 abbrev pub is_building : Verb → Bool
 is_building verbs.Build = true
@@ -156,3 +157,11 @@ build_moves e t = 0
 pub record CanBuild (w : Planet) (c : State) : Type 0 where
   pub steady : IsSteady w c
   pub kinds : (i : ℕ) (k : Kind) → slice_get w.kinds i ≡ Some k → IsKind (length w.items) (length w.skills) k
+
+abbrev pub build_terms : PhaseTerms
+build_terms = record {
+  meaning = build_meaning;
+  moving = build_moves;
+  moved = record { money = []; people = []; items = Used ∷ [] };
+  keeps = build_keeps;
+}

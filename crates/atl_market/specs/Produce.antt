@@ -14,7 +14,7 @@ use Rattle.atl_state.specs.declared.books.Entry.TheVariants.{Made, Used}
 use Rattle.atl_state.specs.declared.books.Thing.TheVariants as things
 use Rattle.atl_state.specs.State.{State}
 use Rattle.atl_instant.specs.Course.{Course, order_at}
-use Rattle.atl_instant.specs.Meaning.{Keeping, Meaning, Moving}
+use Rattle.atl_instant.specs.Meaning.{Keeping, Meaning, Moving, most_moved}
 use Rattle.atl_instant.specs.PhaseOrders.{orders_of, written}
 use Rattle.atl_instant.specs.declared.written.Arrangement.TheVariants.{ByUnit}
 use Rattle.atl_instant.specs.declared.written.Written.{Written}
@@ -25,6 +25,7 @@ use Rattle.atl_market.specs.Unordered.{OthersAreNoWorse}
 use Rattle.atl_market.specs.Stock.{with_made, with_used}
 use Rattle.atl_market.specs.Craft.{can_make, item_of, make_fault}
 use Rattle.atl_market.specs.Outputs.{makes}
+use Rattle.atl_instant.specs.Terms.{PhaseTerms}
 
 abbrev pub is_produce : Verb → Bool
 is_produce verbs.Produce = true
@@ -92,3 +93,11 @@ produce_moves most e t = 0
 -- producing takes nothing from a unit whose own faction wrote no order of it
 abbrev pub produce_keeps : Keeping
 produce_keeps w m before after = OthersAreNoWorse (produce_orders m) before after
+
+abbrev pub produce_terms : PhaseTerms
+produce_terms = record {
+  meaning = produce_meaning;
+  moving = produce_moves most_moved;
+  moved = record { money = []; people = []; items = Made ∷ Used ∷ [] };
+  keeps = produce_keeps;
+}

@@ -19,7 +19,7 @@ use Rattle.atl_state.specs.Lending.{with_holding}
 use Rattle.atl_state.specs.Limits.{men_limit}
 use Rattle.atl_state.specs.State.{State, with_amount, with_peasants}
 use Rattle.atl_instant.specs.Course.{Course, order_at}
-use Rattle.atl_instant.specs.Meaning.{Keeping, Meaning, Moving, moves_only}
+use Rattle.atl_instant.specs.Meaning.{Keeping, Meaning, Moving, moves_only, most_moved}
 use Rattle.atl_instant.specs.PhaseOrders.{orders_of, written}
 use Rattle.atl_instant.specs.declared.written.Arrangement.TheVariants.{ByUnit}
 use Rattle.atl_instant.specs.declared.written.Written.{Written}
@@ -27,6 +27,7 @@ use Rattle.atl_instant.specs.Outcomes.{first_fault}
 use Rattle.atl_market.specs.Pots.{pot_shares}
 use Rattle.atl_market.specs.PotPhase.{PotMeaning, pots_meaning}
 use Rattle.atl_market.specs.Unordered.{OthersAreNoWorse}
+use Rattle.atl_instant.specs.Terms.{PhaseTerms}
 
 abbrev pub is_recruit : Verb → Bool
 is_recruit verbs.Recruit = true
@@ -98,3 +99,11 @@ recruit_moves most = moves_only most Recruiting Money
 -- recruiting takes nothing from a unit whose own faction wrote no order of it
 abbrev pub recruit_keeps : Keeping
 recruit_keeps w m before after = OthersAreNoWorse (recruit_orders m) before after
+
+abbrev pub recruit_terms : PhaseTerms
+recruit_terms = record {
+  meaning = recruit_meaning;
+  moving = recruit_moves most_moved;
+  moved = record { money = Recruiting ∷ []; people = []; items = [] };
+  keeps = recruit_keeps;
+}

@@ -20,6 +20,7 @@ use Rattle.atl_instant.specs.declared.written.Written.{Written}
 use Rattle.atl_instant.specs.Outcomes.{first_fault}
 use Rattle.atl_market.specs.Pots.{pot_shares}
 use Rattle.atl_market.specs.PotPhase.{PotMeaning, pots_meaning}
+use Rattle.atl_instant.specs.Terms.{PhaseTerms, nothing_moved}
 
 abbrev pub is_tax : Verb → Bool
 is_tax verbs.Tax = true
@@ -77,3 +78,11 @@ tax_moves e t = 0
 -- tax takes nothing from any unit
 abbrev pub tax_keeps : Keeping
 tax_keeps w m before after = AreNoWorse before after
+
+abbrev pub tax_terms : PhaseTerms
+tax_terms = record {
+  meaning = tax_meaning;
+  moving = tax_moves;
+  moved = nothing_moved;
+  keeps = tax_keeps;
+}

@@ -17,7 +17,7 @@ use Rattle.atl_state.specs.declared.records.Unit.{Unit}
 use Rattle.atl_state.specs.Limits.{holding_limit}
 use Rattle.atl_state.specs.State.{State, with_amount, with_money}
 use Rattle.atl_instant.specs.Course.{Course}
-use Rattle.atl_instant.specs.Meaning.{Keeping, Meaning, Moving, moves_only}
+use Rattle.atl_instant.specs.Meaning.{Keeping, Meaning, Moving, moves_only, most_moved}
 use Rattle.atl_instant.specs.PhaseOrders.{is_month_long, orders_of, written}
 use Rattle.atl_instant.specs.Staying.{AreNoWorse}
 use Rattle.atl_instant.specs.Terrains.{terrain_of}
@@ -27,6 +27,7 @@ use Rattle.atl_instant.specs.Steps.{is_of_faction}
 use Rattle.atl_instant.specs.Outcomes.{first_fault}
 use Rattle.atl_market.specs.PotPhase.{PotMeaning, given_by, pots_meaning, shared_out}
 use Rattle.atl_market.specs.Pots.{pot_shares, with_each}
+use Rattle.atl_instant.specs.Terms.{PhaseTerms}
 
 -- ---- who works
 
@@ -133,3 +134,11 @@ abbrev pub PaysAllAtOnce : Type 0
 PaysAllAtOnce =
     (w : Planet) (c : State) (os : List Written) (n : ℕ) (u : Unit) → get c.units n ≡ Some u →
     get (shared_out work_pots w c os).units n ≡ Some (with_more_money u (earned w u.region (places_of w c os n)))
+
+abbrev pub work_terms : PhaseTerms
+work_terms = record {
+  meaning = work_meaning;
+  moving = work_moves most_moved;
+  moved = record { money = Wages ∷ []; people = []; items = [] };
+  keeps = work_keeps;
+}

@@ -4,10 +4,12 @@ pub mod SweepAllLaws
 pub mod ReceiverLaws
 pub mod SweepRunLaws
 pub mod SeasonLaws
-pub mod MoveLaws
 pub mod CountLaws
 pub mod MonthLaws
 pub mod SettlingLaws
 pub mod UpkeepLaws
 pub mod AloneLaws
+pub mod UnmailedEndLaws
+pub mod PhaseLaws
+pub mod MoveLaws
 pub mod UnmailedMonthLaws

@@ -18,7 +18,7 @@ use Rattle.atl_instant.specs.Course.{Course}
 use Rattle.atl_instant.specs.Meaning.{Condition, HaveRoom, IsNear, IsSameMonth, LeavesWell, Meaning, Moving}
 use Rattle.atl_instant.proofs.CourseLaws.{mailings_have_no_order}
 use Rattle.atl_instant.proofs.MeaningLaws.{MovesLess, near_more, room_when_sound}
-use Rattle.atl_month.specs.Month.{BooksAreNear, MonthHasNoOrder, begun, finished, month_moves, month_of, month_phases}
+use Rattle.atl_month.specs.Month.{BooksAreNear, MonthHasNoOrder, begun, finished, month_meaning, month_moves, month_of, phases_moving}
 use Rattle.atl_month.specs.Swept.{IsSwept}
 use Rattle.atl_month.proofs.CountLaws.{has_all_back}
 use Rattle.atl_month.proofs.MoveLaws.{month_within, moves_in_month, phases_little}
@@ -102,16 +102,16 @@ module _ (w : Planet) (c d : State) (moving : Moving) (little : MovesLess moving
 
 -- ---- what a month leaves of the books and of the factions
 
-module _ {leaves : Condition} (w : Planet) (c d : State) (well : LeavesWell leaves month_phases.moving w c d) where
+module _ {leaves : Condition} (w : Planet) (c d : State) (well : LeavesWell leaves phases_moving w c d) where
   pub books_near : BooksAreNear month_moves c d
-  books_near e t = near_more (month_phases.moving e t) (month_moves e t) (amount_in c.books e t) (amount_in d.books e t) (month_within e t) (well.near e t)
+  books_near e t = near_more (phases_moving e t) (month_moves e t) (amount_in c.books e t) (amount_in d.books e t) (month_within e t) (well.near e t)
 
   pub factions_stay : (n : ℕ) → IsThere c.factions n → IsThere d.factions n
   factions_stay = has_all_back c.factions d.factions well.same_month.count well.same_month.factions
 
 -- a sound campaign has room for the phases of a month
-pub phases_room : (w : Planet) (c : State) → IsSound w c → HaveRoom month_phases.moving c
-phases_room w c sound = room_when_sound w c month_phases.moving (λ e t. omega (arith, phases_little e t)) sound
+pub phases_room : (w : Planet) (c : State) → IsSound w c → HaveRoom phases_moving c
+phases_room w c sound = room_when_sound w c phases_moving (λ e t. omega (arith, phases_little e t)) sound
 
 -- every unit of a sound campaign has men, so that those with a flag guard
 pub sound_early : (w : Planet) (c : State) → IsSound w c → IsEarly w c
@@ -133,9 +133,9 @@ told_of : (phases : Meaning) (w : Planet) (c d : State) (m n : Course) (begin : 
 told_of phases w c d m n begin events meaning begins told = ap (λ (es : List Event). (d, es)) told ∙ ap (λ (p : State × Course). (p.0, p.1.events)) (meaning ∙ ap (phases w c) begins)
 
 pub month_is : (w : Planet) (c d : State) (m n : Course) (readings : FinMap nat_cmp Reading) (words : List ℕ) (events : List Event)
-    → (d, n) ≡ month_phases.meaning w c m → m ≡ begun readings words → events ≡ n.events → (d, events) ≡ month_of w c readings words
+    → (d, n) ≡ month_meaning w c m → m ≡ begun readings words → events ≡ n.events → (d, events) ≡ month_of w c readings words
 unfolding month_of
-month_is w c d m n readings words events meaning begins told = told_of month_phases.meaning w c d m n (begun readings words) events meaning begins told
+month_is w c d m n readings words events meaning begins told = told_of month_meaning w c d m n (begun readings words) events meaning begins told
 
 -- in which order mailings come isn't seen
 pub month_has_no_order : MonthHasNoOrder

@@ -7,7 +7,7 @@ use Rattle.std.proofs.lemmas.List.{length-map}
 use Rattle.std.proofs.lemmas.Int.{ints}
 use Rattle.std.proofs.lemmas.Bool.Decides.{nat_tests}
 use Rattle.atl_tables.specs.Planet.{Planet, IsWorld}
-use Rattle.atl_tables.specs.Limits.{most_amount}
+use Rattle.atl_tables.specs.Limits.{most_amount, most_regions}
 use Rattle.atl_tables.specs.declared.world.Terrain.{Terrain}
 use Rattle.atl_tables.specs.declared.world.RegionPlan.{RegionPlan}
 use Rattle.atl_state.specs.declared.books.Entry.{Entry}
@@ -181,7 +181,7 @@ length-zip [] ys = omega arith
 length-zip (x ∷ xs) [] = omega arith
 length-zip (x ∷ xs) (y ∷ ys) = omega (arith, length-zip xs ys)
 
-pub grows_little : (k : ℕ) → k ≤ 2500 → (e : Entry) (t : Thing) → moved_times k (grows_by most_amount) e t ≤ grows_by most_moved e t
+pub grows_little : (k : ℕ) → k ≤ most_regions → (e : Entry) (t : Thing) → moved_times k (grows_by most_amount) e t ≤ grows_by most_moved e t
 grows_little k few e t = scaled (amount_number e t == amount_number Births People) (amount_number e t == amount_number Income Money)
   where
     scaled : (a b : Bool) → k * ((if a then most_amount else 0) + (if b then most_amount else 0)) ≤ (if a then most_moved else 0) + (if b then most_moved else 0)
@@ -194,7 +194,7 @@ pub season_leaves_well : (w : Planet) → IsWorld w → (c : State) (words : Lis
 season_leaves_well w world c words steady =
     let numbers = map (λ (e : ℕ × RegionPlan). e.0) (entries w.regions) in
     let pairs = zip numbers words in
-    let few : length pairs ≤ 2500 = omega (arith, length-zip numbers words, length-map (entries w.regions) (λ (e : ℕ × RegionPlan). e.0), len-entries w.regions, world.few_regions) in
+    let few : length pairs ≤ most_regions = omega (arith, length-zip numbers words, length-map (entries w.regions) (λ (e : ℕ × RegionPlan). e.0), len-entries w.regions, world.few_regions) in
     well_within (moved_times (length pairs) (grows_by most_amount)) (grows_by most_moved) w c (season w c words) (grows_little (length pairs) few)
     (fold_leaves_well (grows_by most_amount) w (season_at w) (season_at_leaves_well w world) c pairs steady)
 

@@ -27,6 +27,7 @@ use Rattle.atl_state.proofs.RemovedLaws.{IsListed, passing_listed}
 use Rattle.atl_state.proofs.GoneLaws.{as_gone, count-gone, get-gone, get-gone_other, known-gone, none-gone, steady-gone, total-gone}
 use Rattle.atl_month.proofs.PassingLaws.{kept-refl, kept-trans}
 use Rattle.atl_month.proofs.SweepLaws.{others_keep, others_were, swept_leaves_well}
+use Rattle.atl_state.specs.Limits.{most_units}
 
 -- ---- one unit
 
@@ -233,14 +234,14 @@ length-numbers p (e ∷ es) = subst (λ ns. length ns ≤ length (e ∷ es)) (sy
     one_more true n ns l = omega arith
     one_more false n ns l = omega arith
 
-pub loses_little : (k : ℕ) → k ≤ 10000 → (e : Entry) (t : Thing) → moved_times k (loses_by most_amount) e t ≤ loses_by most_moved e t
+pub loses_little : (k : ℕ) → k ≤ most_units → (e : Entry) (t : Thing) → moved_times k (loses_by most_amount) e t ≤ loses_by most_moved e t
 loses_little k few e t = scaled ((entry_place e == entry_place Lost) && not (thing_place t == thing_place People))
   where
     scaled : (b : Bool) → k * (if b then most_amount else 0) ≤ (if b then most_moved else 0)
     scaled true = omega (arith, few)
     scaled false = omega (arith, few)
 
-pub few_menless : (w : Planet) (c : State) → IsSteady w c → length (menless c) ≤ 10000
+pub few_menless : (w : Planet) (c : State) → IsSteady w c → length (menless c) ≤ most_units
 few_menless w c steady = omega (arith, length-numbers (λ (u : Unit). u.holding.men == 0) (entries c.units), len-entries c.units, steady.numbers.few_units)
 
 moves_none : (k : ℕ) (e : Entry) (t : Thing) → moved_times k nothing_moves e t ≤ nothing_moves e t

@@ -25,155 +25,21 @@ use Rattle.atl_instant.specs.Steps.{IsSpared}
 use Rattle.atl_instant.specs.Unmailed.{IsLeft, IsLessBy, starved_in, starved_told}
 use Rattle.atl_instant.proofs.StructureLaws.{equal, is_equal, unequal}
 use Rattle.atl_instant.proofs.UnmailedLaws.{ClosesUnmailed, LeavesUnmailed, both_leave, men_same, then_closes, whole_leaves}
-use Rattle.atl_instant.proofs.UnmailedStepLaws.{form_leaves, give_leaves, guard_leaves, name_leaves, place_leaves, quit_leaves, transfer_leaves}
-use Rattle.atl_action.proofs.UnmailedLearnLaws.{learn_leaves}
-use Rattle.atl_action.proofs.UnmailedTravelLaws.{sail_leaves, walk_leaves}
-use Rattle.atl_market.proofs.UnmailedMakeLaws.{build_leaves, produce_leaves}
-use Rattle.atl_market.proofs.UnmailedPotLaws.{recruit_leaves, tax_leaves, work_leaves}
 use Rattle.atl_month.specs.declared.settling.Settled.{Settled}
-use Rattle.atl_month.specs.Month.{PhaseTerms, begun, early_orders, later_orders, month_of, month_phases}
+use Rattle.atl_instant.proofs.TermsLaws.{closed_together, each_also, leave_together}
+use Rattle.atl_month.specs.Month.{begun, closing_phases, early_phases, later_phases, month_keeps, month_meaning, month_of}
+use Rattle.atl_month.proofs.PhaseLaws.{IsPhase, closing_leave, early_are, later_are}
 use Rattle.atl_month.specs.Season.{season_keeps, season_meaning}
 use Rattle.atl_month.specs.Sweep.{sweep_keeps, sweep_meaning}
 use Rattle.atl_month.specs.Unmailed.{SentNone, UnmailedAreLeft}
 use Rattle.atl_month.specs.Upkeep.{days_with, money_paid, settlements, starved_event, starves, supplied, upkeep_at, upkeep_in, upkeep_keeps, upkeep_meaning}
 
--- ---- upkeep
-
-less_plus : (a b : ℕ) (u v x : Unit) → IsLessBy a u v → IsLessBy b v x → IsLessBy (a + b) u x
-less_plus a b u v x one two = record {
-  faction = two.faction ∙ one.faction;
-  name = two.name ∙ one.name;
-  men = less u.holding.men v.holding.men x.holding.men one.men two.men;
-  items = λ i. omega (arith, one.items i, two.items i);
-}
-  where
-    less : (j k l : ℕ) → k ≡ j - a → l ≡ k - b → l ≡ j - (a + b)
-    less j k l e f = omega (arith, e, f)
-
-nobody_less : (u : Unit) → IsLessBy 0 u u
-nobody_less u = record { faction = refl; name = refl; men = omega arith; items = λ i. omega arith }
-
--- a unit behind its upkeep
-abbrev supplied_unit : Settled → Unit → Unit
-supplied_unit s u = record u { holding = supplied s u.holding }
-
-abbrev men_left : Settled → Unit → ℕ
-men_left s u = u.holding.men - min s.starved u.holding.men
-
-abbrev held_by : Settled → Unit → Bool → Held
-held_by s u b = record (if b then u.holding else record u.holding { men = men_left s u; days = days_with (men_left s u) u.holding.men u.holding.days }) { money = u.holding.money - money_paid s u.holding }
-
-fewer_by : (s : Settled) (u : Unit) → IsLessBy s.starved u (supplied_unit s u)
-fewer_by s u = by_test (men_left s u == u.holding.men) refl
-  where
-    least : (a b d : ℕ) → d ≡ b - min a b → d ≡ b - a
-    least a b d is = omega (arith, is)
-
-    by_test : (b : Bool) → (men_left s u == u.holding.men) ≡ b → IsLessBy s.starved u (record u { holding = held_by s u b })
-    by_test true is = record { faction = refl; name = refl; men = least s.starved u.holding.men u.holding.men (sym (is_equal (men_left s u) u.holding.men is)); items = λ i. omega arith }
-    by_test false is = record { faction = refl; name = refl; men = least s.starved u.holding.men (men_left s u) refl; items = λ i. omega arith }
-
--- how many men of a unit starve by some settlements
-abbrev among : ℕ → Settled → ℕ
-among n s = if s.unit == n then s.starved else 0
-
-supplied_at : (c : State) (s : Settled) (n : ℕ) (u : Unit) → get c.units n ≡ Some u → IsSpared (IsLessBy (among n s)) (upkeep_at c s) n u
-unfolding upkeep_at
-supplied_at c s n u there = elim (cases_eq n s.unit) [
-  | inl own ↦
-      let here : get c.units s.unit ≡ Some u = ap (get c.units) (sym own) ∙ there in
-      let behind : get (upkeep_at c s).units n ≡ Some (supplied_unit s u) = ap (λ k. get (upkeep_at c s).units k) own ∙ ap (λ o. get (upkeep_in c s o).units s.unit) here ∙ get-insert_same c.units s.unit (supplied_unit s u) in
-      record { unit = supplied_unit s u; there = behind; spared = subst (λ b. IsLessBy (if b then s.starved else 0) u (supplied_unit s u)) (sym (equal s.unit n (sym own))) (fewer_by s u) }
-  | inr apart ↦
-      record { unit = u; there = by_unit apart (get c.units s.unit) ∙ there; spared = subst (λ b. IsLessBy (if b then s.starved else 0) u u) (sym (unequal s.unit n (λ same. apart (sym same)))) (nobody_less u) }
-]
-  where
-    by_unit : n ≢ s.unit → (o : Option Unit) → get (upkeep_in c s o).units n ≡ get c.units n
-    by_unit apart None = refl
-    by_unit apart (Some v) = get-insert_other c.units s.unit n (supplied_unit s v) apart
-
-all_supplied : (c : State) (ss : List Settled) (n : ℕ) (u : Unit) → get c.units n ≡ Some u → IsSpared (IsLessBy (sum_by (among n) ss)) (fold upkeep_at c ss) n u
-all_supplied c [] n u there = record { unit = u; there = there; spared = nobody_less u }
-all_supplied c (s ∷ ss) n u there =
-    let one = supplied_at c s n u there in
-    let two = all_supplied (upkeep_at c s) ss n one.unit one.there in
-    record { unit = two.unit; there = two.there; spared = subst (λ k. IsLessBy k u two.unit) (sym (sum_by-cons (among n) s ss)) (less_plus (among n s) (sum_by (among n) ss) u one.unit two.unit one.spared two.spared) }
-
-abbrev by_event : ℕ → Event → ℕ
-by_event n e = if e.unit == n then starved_told e.verb e.outcome else 0
-
-abbrev told : ℕ → List Settled → ℕ
-told n ss = starved_in (map starved_event ss) n
-
--- the events tell of them
-starved_told_of : (ss : List Settled) (n : ℕ) → told n (filter starves ss) ≡ sum_by (among n) ss
-starved_told_of [] n = refl
-starved_told_of (s ∷ ss) n = by_test (starved_told_of ss n) (s.starved == 0) refl ∙ sym (sum_by-cons (among n) s ss)
-  where
-    none : (a x : ℕ) (b : Bool) → a ≡ 0 → x ≡ (if b then a else 0) + x
-    none a x true is = omega (arith, is)
-    none a x false is = omega arith
-
-    by_test : told n (filter starves ss) ≡ sum_by (among n) ss → (b : Bool) → (s.starved == 0) ≡ b → told n (cond (not b) (s ∷ filter starves ss) (filter starves ss)) ≡ among n s + sum_by (among n) ss
-    by_test rest true is = rest ∙ none s.starved (sum_by (among n) ss) (s.unit == n) (is_equal s.starved 0 is)
-    by_test rest false is = sum_by-cons (by_event n) (starved_event s) (map starved_event (filter starves ss)) ∙ ap (λ x. among n s + x) rest
-
-pub upkeep_leaves : LeavesUnmailed upkeep_meaning upkeep_keeps
-upkeep_leaves = record {
-  readings = λ w c m. refl;
-  told = λ w c m n. more (starved_in m.events n) (all w c n) _ (sums w c m n);
-  left = λ w c m keeps n u there none.
-      let one = all_supplied c (settlements w c) n u there in
-      record { unit = one.unit; there = one.there; spared = subst (λ k. IsLessBy k u one.unit) (less (starved_in m.events n) (all w c n) _ (sums w c m n)) one.spared };
-}
-  where
-    all : (w : Planet) (c : State) (n : ℕ) → ℕ
-    all w c n = sum_by (among n) (settlements w c)
-
-    sums : (w : Planet) (c : State) (m : Course) (n : ℕ) → starved_in (upkeep_meaning w c m).1.events n ≡ starved_in m.events n + all w c n
-    sums w c m n = sum_by-append (by_event n) m.events (map starved_event (filter starves (settlements w c))) ∙ ap (λ x. starved_in m.events n + x) (starved_told_of (settlements w c) n)
-
-    more : (x y z : ℕ) → z ≡ x + y → x ≤ z
-    more x y z is = omega (arith, is)
-
-    less : (x y z : ℕ) → z ≡ x + y → y ≡ z - x
-    less x y z is = omega (arith, is)
-
--- ---- season and sweep
-
-pub season_leaves : LeavesUnmailed season_meaning season_keeps
-season_leaves =
-    whole_leaves {meaning = season_meaning} {keeps = season_keeps} (λ w c m. refl) (λ w c m n. refl)
-    (λ w c m same n u there none. men_same c (season_meaning w c m).0 same n u there)
-    (λ w c m same n u there none. record { unit = u; there = ap (λ (units : FinMap nat_cmp Unit). get units n) same ∙ there; spared = record { name = refl; items = λ i. omega arith } })
-
-pub sweep_closes : ClosesUnmailed sweep_meaning sweep_keeps
-sweep_closes = record {
-  told = λ w c m n. omega arith;
-  left = λ w c m keeps n u there none some.
-      let (v, behind, kept) = keeps n u there (some_men (starved_in m.events n) u.holding.men some) in
-      record { unit = v; there = behind; spared = record { faction = kept.faction; name = kept.name; men = nobody (starved_in m.events n) u.holding.men v.holding.men kept.men; items = kept.items } };
-}
-  where
-    some_men : (x a : ℕ) → x - x < a → 1 ≤ a
-    some_men x a l = omega (arith, l)
-
-    nobody : (x a b : ℕ) → b ≡ a → b ≡ a - (x - x)
-    nobody x a b is = omega (arith, is)
-
 -- ---- the month
 
-abbrev Leaves : PhaseTerms → Type 0
-Leaves p = LeavesUnmailed p.meaning p.keeps
-
-early_leave : Leaves early_orders
-early_leave = both_leave form_leaves (both_leave name_leaves (both_leave place_leaves (both_leave give_leaves (both_leave transfer_leaves (both_leave tax_leaves recruit_leaves)))))
-
-later_leave : Leaves later_orders
-later_leave = both_leave guard_leaves (both_leave quit_leaves (both_leave walk_leaves (both_leave sail_leaves (both_leave build_leaves (both_leave learn_leaves (both_leave produce_leaves work_leaves))))))
-
-month_closes : ClosesUnmailed month_phases.meaning month_phases.keeps
-month_closes = then_closes early_leave (then_closes later_leave (then_closes upkeep_leaves (then_closes season_leaves sweep_closes)))
+month_closes : ClosesUnmailed month_meaning month_keeps
+month_closes =
+    then_closes (both_leave (leave_together early_phases (each_also (λ phase (is : IsPhase phase). is.leaves) early_phases early_are)) (leave_together later_phases (each_also (λ phase (is : IsPhase phase). is.leaves) later_phases later_are)))
+    (closed_together closing_phases closing_leave)
 
 -- where no mailing is a faction's, none is read
 none_read : (f : ℕ) (ms : List Mailing) → SentNone ms f → get (by_faction (map reading_of ms)) f ≡ None
@@ -200,7 +66,7 @@ left_behind phases keeps closes w c d m events begins is kept n u there none som
     (closes.left w c m (subst (keeps w m c) state kept) n u there none (subst (λ k. k < u.holding.men) (sym so_many) some)))
 
 pub unmailed_left : (w : Planet) (c d : State) (ms : List Mailing) (words : List ℕ) (events : List Event) → (d, events) ≡ month_of w c (by_faction (map reading_of ms)) words
-    → month_phases.keeps w (begun (by_faction (map reading_of ms)) words) c d → UnmailedAreLeft ms events c d
+    → month_keeps w (begun (by_faction (map reading_of ms)) words) c d → UnmailedAreLeft ms events c d
 unfolding month_of
 unmailed_left w c d ms words events is kept n u there none =
-    left_behind month_phases.meaning month_phases.keeps month_closes w c d (begun (by_faction (map reading_of ms)) words) events refl is kept n u there (none_read u.faction ms none)
+    left_behind month_meaning month_keeps month_closes w c d (begun (by_faction (map reading_of ms)) words) events refl is kept n u there (none_read u.faction ms none)

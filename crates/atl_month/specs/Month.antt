@@ -1,5 +1,5 @@
 -- A month: its phases, one after the other. See docs/RULES.md, "Closing a month".
-use Rattle.std.specs.Prelude.{◌≡◌, ◌≤◌, ℕ, ◌+◌, ◌*◌, List, [], map}
+use Rattle.std.specs.Prelude.{◌≡◌, ◌≤◌, ℕ, ◌+◌, ◌*◌, List, [], ◌∷◌, map}
 use Rattle.std.specs.Ordering.{nat_cmp}
 use Rattle.std.specs.List.Sorted.{IsPermutation}
 use Rattle.std.specs.FinMap.{FinMap, empty}
@@ -7,33 +7,31 @@ use Rattle.atl_tables.specs.Planet.{Planet}
 use Rattle.atl_orders.specs.Mailing.{Reading, reading_of}
 use Rattle.atl_orders.specs.declared.mailing.Mailing.{Mailing}
 use Rattle.atl_state.specs.declared.books.Entry.{Entry}
-use Rattle.atl_state.specs.declared.books.Entry.TheVariants as entries
 use Rattle.atl_state.specs.declared.books.Thing.{Thing}
-use Rattle.atl_state.specs.declared.books.Thing.TheVariants.{Item, Money, People}
 use Rattle.atl_state.specs.declared.event.Event.{Event}
 use Rattle.atl_state.specs.Books.{amount_in}
 use Rattle.atl_state.specs.State.{State, with_month, without_mail}
 use Rattle.atl_instant.specs.Course.{Course, HaveOwnFactions, by_faction}
 use Rattle.atl_instant.specs.Meaning.{IsNear, Keeping, Meaning, Moving, both_keep, both_move, most_moved, then_also}
-use Rattle.atl_instant.specs.Form.{form_keeps, form_meaning}
-use Rattle.atl_instant.specs.Give.{give_keeps, give_meaning}
-use Rattle.atl_instant.specs.Guard.{guard_keeps, guard_meaning}
-use Rattle.atl_instant.specs.Name.{name_keeps, name_meaning}
-use Rattle.atl_instant.specs.Place.{place_keeps, place_meaning}
-use Rattle.atl_instant.specs.Quit.{quit_keeps, quit_meaning, quit_moves}
-use Rattle.atl_instant.specs.Transfer.{transfer_keeps, transfer_meaning}
-use Rattle.atl_instant.specs.Unbooked.{moves_nothing}
-use Rattle.atl_action.specs.Sail.{sail_keeps, sail_meaning}
-use Rattle.atl_action.specs.Study.{learn_keeps, learn_meaning, study_moves}
-use Rattle.atl_action.specs.Walk.{walk_keeps, walk_meaning}
-use Rattle.atl_market.specs.Build.{build_keeps, build_meaning, build_moves}
-use Rattle.atl_market.specs.Produce.{produce_keeps, produce_meaning, produce_moves}
-use Rattle.atl_market.specs.Recruit.{recruit_keeps, recruit_meaning, recruit_moves}
-use Rattle.atl_market.specs.Tax.{tax_keeps, tax_meaning, tax_moves}
-use Rattle.atl_market.specs.Work.{work_keeps, work_meaning, work_moves}
-use Rattle.atl_month.specs.Season.{grows_by, season_keeps, season_meaning}
-use Rattle.atl_month.specs.Sweep.{loses_by, sweep_keeps, sweep_meaning}
-use Rattle.atl_month.specs.Upkeep.{takes_up_to, upkeep_keeps, upkeep_meaning}
+use Rattle.atl_instant.specs.Terms.{EachPhase, MovesItsOwn, PhaseTerms, keeps_of, meaning_of, moving_of, moving_phases_of}
+use Rattle.atl_instant.specs.Form.{form_terms}
+use Rattle.atl_instant.specs.Give.{give_terms}
+use Rattle.atl_instant.specs.Guard.{guard_terms}
+use Rattle.atl_instant.specs.Name.{name_terms}
+use Rattle.atl_instant.specs.Place.{place_terms}
+use Rattle.atl_instant.specs.Quit.{quit_terms}
+use Rattle.atl_instant.specs.Transfer.{transfer_terms}
+use Rattle.atl_action.specs.Sail.{sail_terms}
+use Rattle.atl_action.specs.Study.{learn_terms}
+use Rattle.atl_action.specs.Walk.{walk_terms}
+use Rattle.atl_market.specs.Build.{build_terms}
+use Rattle.atl_market.specs.Produce.{produce_terms}
+use Rattle.atl_market.specs.Recruit.{recruit_terms}
+use Rattle.atl_market.specs.Tax.{tax_terms}
+use Rattle.atl_market.specs.Work.{work_terms}
+use Rattle.atl_month.specs.Season.{season_terms}
+use Rattle.atl_month.specs.Sweep.{sweep_terms}
+use Rattle.atl_month.specs.Upkeep.{upkeep_terms}
 
 -- the month before its first phase
 abbrev pub begun : FinMap nat_cmp Reading → List ℕ → Course
@@ -41,119 +39,55 @@ begun readings words = record { readings = readings; aliases = empty; words = wo
 
 -- ---- the phases
 
--- A phase: what it makes, by how much it may move the amounts of the books, and what it keeps.
-pub record PhaseTerms : Type 1 where
-  pub meaning : Meaning
-  pub moving : Moving
-  pub keeps : Keeping
+-- the phases of orders that are carried out while no flag is set anew
+abbrev pub early_phases : List PhaseTerms
+early_phases = form_terms ∷ name_terms ∷ place_terms ∷ give_terms ∷ transfer_terms ∷ tax_terms ∷ recruit_terms ∷ []
 
--- one phase, and behind it another
-infixr 10 ◌▷◌
-abbrev pub ◌▷◌ : PhaseTerms → PhaseTerms → PhaseTerms
-first ▷ second = record {
-  meaning = then_also first.meaning second.meaning;
-  moving = both_move first.moving second.moving;
-  keeps = both_keep first.meaning first.keeps second.keeps;
-}
+-- those of the other orders, but for WORK, which units do without an order as well
+abbrev pub later_phases : List PhaseTerms
+later_phases = guard_terms ∷ quit_terms ∷ walk_terms ∷ sail_terms ∷ build_terms ∷ learn_terms ∷ produce_terms ∷ []
 
-abbrev pub forming : PhaseTerms
-forming = record { meaning = form_meaning; moving = moves_nothing; keeps = form_keeps }
+-- and those behind all these
+abbrev pub closing_phases : List PhaseTerms
+closing_phases = work_terms ∷ upkeep_terms ∷ season_terms ∷ sweep_terms ∷ []
 
-abbrev pub naming : PhaseTerms
-naming = record { meaning = name_meaning; moving = moves_nothing; keeps = name_keeps }
+abbrev pub orders_meaning : Meaning
+orders_meaning = then_also (meaning_of early_phases) (meaning_of later_phases)
 
-abbrev pub placing : PhaseTerms
-placing = record { meaning = place_meaning; moving = moves_nothing; keeps = place_keeps }
-
-abbrev pub giving : PhaseTerms
-giving = record { meaning = give_meaning; moving = moves_nothing; keeps = give_keeps }
-
-abbrev pub transferring : PhaseTerms
-transferring = record { meaning = transfer_meaning; moving = moves_nothing; keeps = transfer_keeps }
-
-abbrev pub taxing : PhaseTerms
-taxing = record { meaning = tax_meaning; moving = tax_moves; keeps = tax_keeps }
-
-abbrev pub recruiting : PhaseTerms
-recruiting = record { meaning = recruit_meaning; moving = recruit_moves most_moved; keeps = recruit_keeps }
-
-abbrev pub guarding : PhaseTerms
-guarding = record { meaning = guard_meaning; moving = moves_nothing; keeps = guard_keeps }
-
-abbrev pub quitting : PhaseTerms
-quitting = record { meaning = quit_meaning; moving = quit_moves; keeps = quit_keeps }
-
-abbrev pub walking : PhaseTerms
-walking = record { meaning = walk_meaning; moving = moves_nothing; keeps = walk_keeps }
-
-abbrev pub sailing : PhaseTerms
-sailing = record { meaning = sail_meaning; moving = moves_nothing; keeps = sail_keeps }
-
-abbrev pub building : PhaseTerms
-building = record { meaning = build_meaning; moving = build_moves; keeps = build_keeps }
-
-abbrev pub learning : PhaseTerms
-learning = record { meaning = learn_meaning; moving = study_moves; keeps = learn_keeps }
-
-abbrev pub producing : PhaseTerms
-producing = record { meaning = produce_meaning; moving = produce_moves most_moved; keeps = produce_keeps }
-
-abbrev pub working : PhaseTerms
-working = record { meaning = work_meaning; moving = work_moves most_moved; keeps = work_keeps }
-
-abbrev pub supplying : PhaseTerms
-supplying = record { meaning = upkeep_meaning; moving = takes_up_to most_moved; keeps = upkeep_keeps }
-
-abbrev pub growing : PhaseTerms
-growing = record { meaning = season_meaning; moving = grows_by most_moved; keeps = season_keeps }
-
-abbrev pub sweeping : PhaseTerms
-sweeping = record { meaning = sweep_meaning; moving = loses_by most_moved; keeps = sweep_keeps }
-
--- the orders that are carried out while no flag is set anew
-abbrev pub early_orders : PhaseTerms
-early_orders = forming ▷ naming ▷ placing ▷ giving ▷ transferring ▷ taxing ▷ recruiting
-
--- and the others
-abbrev pub later_orders : PhaseTerms
-later_orders = guarding ▷ quitting ▷ walking ▷ sailing ▷ building ▷ learning ▷ producing ▷ working
+abbrev pub orders_keep : Keeping
+orders_keep = both_keep (meaning_of early_phases) (keeps_of early_phases) (keeps_of later_phases)
 
 -- a month, from its first phase to its last
-abbrev pub month_phases : PhaseTerms
-month_phases = early_orders ▷ later_orders ▷ supplying ▷ growing ▷ sweeping
+abbrev pub month_meaning : Meaning
+month_meaning = then_also orders_meaning (meaning_of closing_phases)
+
+abbrev pub month_keeps : Keeping
+month_keeps = both_keep orders_meaning orders_keep (keeps_of closing_phases)
 
 -- the campaign behind the phases of a month, and what came of the orders
 unfoldable pub month_of : Planet → State → FinMap nat_cmp Reading → List ℕ → State × List Event
-month_of w c readings words = let behind = month_phases.meaning w c (begun readings words) in (behind.0, behind.1.events)
+month_of w c readings words = let behind = month_meaning w c (begun readings words) in (behind.0, behind.1.events)
 
 -- ---- the books
 
--- A phase moves each amount of the books by less than 10^14.
-abbrev pub MovesLittle : PhaseTerms → Type 0
-MovesLittle phase = (e : Entry) (t : Thing) → phase.moving e t ≤ most_moved
-
--- each phase of a month does
+-- Each phase of a month moves the amounts of its own entries alone, and each by less than 10^14.
 abbrev pub PhasesMoveLittle : Type 0
-PhasesMoveLittle =
-    MovesLittle forming × MovesLittle naming × MovesLittle placing × MovesLittle giving × MovesLittle transferring × MovesLittle taxing × MovesLittle recruiting × MovesLittle guarding × MovesLittle quitting
-    × MovesLittle walking × MovesLittle sailing × MovesLittle building × MovesLittle learning × MovesLittle producing × MovesLittle working × MovesLittle supplying × MovesLittle growing × MovesLittle sweeping
+PhasesMoveLittle = EachPhase MovesItsOwn early_phases × EachPhase MovesItsOwn later_phases × EachPhase MovesItsOwn closing_phases
 
--- How many phases of a month may move an amount of the books: RECRUIT the recruiting, QUIT what is lost and who left, BUILD what is used, STUDY the study, PRODUCE what is made and what is used,
--- WORK the wages, upkeep the upkeep and the starved, the season the births and the income, and the sweep what is lost.
+-- how many phases of a month may move an amount of the books
 abbrev pub moving_phases : Entry → Thing → ℕ
-moving_phases entries.Income Money = 1
-moving_phases entries.Wages Money = 1
-moving_phases entries.Recruiting Money = 1
-moving_phases entries.Study Money = 1
-moving_phases entries.Upkeep Money = 1
-moving_phases entries.Lost Money = 2
-moving_phases entries.Lost (Item i) = 2
-moving_phases entries.Births People = 1
-moving_phases entries.Starved People = 1
-moving_phases entries.Left People = 1
-moving_phases entries.Made (Item i) = 1
-moving_phases entries.Used (Item i) = 2
-moving_phases entry thing = 0
+moving_phases e t = moving_phases_of early_phases e t + moving_phases_of later_phases e t + moving_phases_of closing_phases e t
+
+-- two at most
+abbrev pub TwoMoveAtMost : Type 0
+TwoMoveAtMost = (e : Entry) (t : Thing) → moving_phases e t ≤ 2
+
+-- by so much the phases may move it together
+abbrev pub orders_moving : Moving
+orders_moving = both_move (moving_of early_phases) (moving_of later_phases)
+
+abbrev pub phases_moving : Moving
+phases_moving = both_move orders_moving (moving_of closing_phases)
 
 -- by so much a month may move an amount
 abbrev pub month_moves : Moving

@@ -1,5 +1,5 @@
 -- The season of a month: what each region has of births and of income. See docs/RULES.md, "Season".
-use Rattle.std.specs.Prelude.{◌≡◌, ℕ, pos, ◌+◌, ◌-◌, ◌*◌, ◌/◌, ◌%◌, min, List, map, fold, zip, Option, Some, None}
+use Rattle.std.specs.Prelude.{◌≡◌, ℕ, pos, ◌+◌, ◌-◌, ◌*◌, ◌/◌, ◌%◌, min, List, map, fold, zip, Option, Some, None, [], ◌∷◌}
 use Rattle.std.specs.FinMap.{entries, get}
 use Rattle.atl_tables.specs.Planet.{Planet}
 use Rattle.atl_tables.specs.declared.world.Terrain.{Terrain}
@@ -8,9 +8,10 @@ use Rattle.atl_state.specs.declared.books.Thing.TheVariants.{Money, People}
 use Rattle.atl_state.specs.declared.records.Region.{Region}
 use Rattle.atl_state.specs.State.{State, with_amount, with_peasants, with_region_money}
 use Rattle.atl_instant.specs.Course.{Course}
-use Rattle.atl_instant.specs.Meaning.{Keeping, Moving, both_move, moves_only}
+use Rattle.atl_instant.specs.Meaning.{Keeping, Moving, both_move, moves_only, most_moved}
 use Rattle.atl_instant.specs.Terrains.{terrain_of}
 use Rattle.atl_month.specs.Limits.{per_hundred}
+use Rattle.atl_instant.specs.Terms.{PhaseTerms}
 
 -- So many of a hundred peasants are born as the word says, from 0 to the growth; at most up to the terrain's limit.
 abbrev pub births : (growth limit word peasants : ℕ) → ℕ
@@ -52,3 +53,11 @@ grows_by most = both_move (moves_only most Births People) (moves_only most Incom
 -- the season changes no unit
 abbrev pub season_keeps : Keeping
 season_keeps w m before after = after.units ≡ before.units
+
+abbrev pub season_terms : PhaseTerms
+season_terms = record {
+  meaning = season_meaning;
+  moving = grows_by most_moved;
+  moved = record { money = Income ∷ []; people = Births ∷ []; items = [] };
+  keeps = season_keeps;
+}

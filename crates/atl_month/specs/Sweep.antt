@@ -15,7 +15,8 @@ use Rattle.atl_state.specs.Limits.{holding_limit}
 use Rattle.atl_state.specs.Owners.{first_or_zero, without_unit}
 use Rattle.atl_state.specs.State.{State, active, numbers_of, with_amount, with_gone, with_money}
 use Rattle.atl_instant.specs.Course.{Course}
-use Rattle.atl_instant.specs.Meaning.{Keeping, Moving}
+use Rattle.atl_instant.specs.Meaning.{Keeping, Moving, most_moved}
+use Rattle.atl_instant.specs.Terms.{PhaseTerms}
 
 -- ---- who gets what a unit leaves
 
@@ -115,3 +116,11 @@ pub record IsKept (u v : Unit) : Type 0 where
 -- the sweep takes nothing from a unit with men
 abbrev pub sweep_keeps : Keeping
 sweep_keeps w m before after = Every (λ n u. 1 ≤ u.holding.men → (v : Unit) × (get after.units n ≡ Some v) × IsKept u v) before.units
+
+abbrev pub sweep_terms : PhaseTerms
+sweep_terms = record {
+  meaning = sweep_meaning;
+  moving = loses_by most_moved;
+  moved = record { money = Lost ∷ []; people = []; items = Lost ∷ [] };
+  keeps = sweep_keeps;
+}

@@ -1,5 +1,5 @@
 -- The upkeep of a month. See docs/RULES.md, "Upkeep".
-use Rattle.std.specs.Prelude.{◌≡◌, ℕ, nat_lt, pos, neg_ℤ, ◌-◌, ◌*◌, ◌/◌, ◌==◌, not, ◌++◌, min, Bool, List, map, filter, fold, Option, Some, None, if◌then◌else◌}
+use Rattle.std.specs.Prelude.{◌≡◌, ℕ, nat_lt, pos, neg_ℤ, ◌-◌, ◌*◌, ◌/◌, ◌==◌, not, ◌++◌, min, Bool, List, map, filter, fold, Option, Some, None, if◌then◌else◌, [], ◌∷◌}
 use Rattle.std.specs.Ordering.{nat_cmp}
 use Rattle.std.specs.FinMap.{FinMap, empty, entries, get}
 use Rattle.atl_tables.specs.Planet.{Planet}
@@ -14,10 +14,11 @@ use Rattle.atl_state.specs.Held.{Held, with_amount_of}
 use Rattle.atl_state.specs.Lending.{with_held}
 use Rattle.atl_state.specs.State.{State, with_amount}
 use Rattle.atl_instant.specs.Course.{Course}
-use Rattle.atl_instant.specs.Meaning.{Keeping, Moving, both_move, moves_only}
+use Rattle.atl_instant.specs.Meaning.{Keeping, Moving, both_move, moves_only, most_moved}
 use Rattle.atl_month.specs.declared.settling.Purse.{Purse}
 use Rattle.atl_month.specs.declared.settling.Settled.{Settled}
 use Rattle.atl_month.specs.Settling.{is_purse_of, settled_of, settled_one}
+use Rattle.atl_instant.specs.Terms.{PhaseTerms}
 
 -- ---- what a unit has to give for it
 
@@ -90,3 +91,11 @@ settled_alone w c n u = settled_one w.rules.maintenance (peers_of c u) (filter (
 -- It takes from each unit what follows from the units of its faction in its region alone.
 abbrev pub upkeep_keeps : Keeping
 upkeep_keeps w m before after = Every (λ n u. get after.units n ≡ Some (record u { holding = supplied (settled_alone w before n u) u.holding })) before.units
+
+abbrev pub upkeep_terms : PhaseTerms
+upkeep_terms = record {
+  meaning = upkeep_meaning;
+  moving = takes_up_to most_moved;
+  moved = record { money = Upkeep ∷ []; people = Starved ∷ []; items = [] };
+  keeps = upkeep_keeps;
+}

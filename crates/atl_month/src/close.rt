@@ -8,18 +8,16 @@ ghost use Rattle.atl_state.specs.Limits.{last_month};
 ghost use Rattle.atl_instant.specs.Course.{HaveOwnFactions, by_faction};
 ghost use Rattle.atl_instant.specs.Fit.{AreFit};
 ghost use Rattle.atl_instant.specs.Meaning.{IsSameMonth, LeavesWell};
-ghost use Rattle.atl_month.specs.Month.{BooksAreNear, MonthHasNoOrder, PhasesMoveLittle, begun, finished, month_moves, month_of, month_phases};
+ghost use Rattle.atl_month.specs.Month.{BooksAreNear, MonthHasNoOrder, PhasesMoveLittle, TwoMoveAtMost, begun, finished, month_keeps, month_meaning, month_moves, month_of, phases_moving};
 ghost use Rattle.atl_month.specs.Swept.{IsSwept};
 ghost use Rattle.atl_month.specs.Unmailed.{UnmailedAreLeft};
 
+use crate::orders::OrderPhases;
 use crate::season::SeasonPhase;
 use crate::sweep::SweepPhase;
 use crate::upkeep::UpkeepPhase;
-use atl_action::{LearnPhase, MovePhase, SailPhase};
-use atl_instant::{
-    FormPhase, GivePhase, GuardPhase, Month, NamePhase, Phase, PlacePhase, QuitPhase, TransferPhase,
-};
-use atl_market::{BuildPhase, ProducePhase, RecruitPhase, TaxPhase, WorkPhase};
+use atl_instant::{Month, Phase};
+use atl_market::WorkPhase;
 use atl_orders::Mailing;
 use atl_state::{Campaign, Event};
 use atl_tables::World;
@@ -34,18 +32,13 @@ fn run_phases(
 ) -> Result<(Campaign, Month), AllocError>
     requires sound { IsSound world.now campaign.what }
     requires read { AreFit world.now month.readings }
-    ensures meaning { IfOk result (λ r. (r.0.what, r.1) ≡ month_phases.meaning world.now campaign.what month) }
-    ensures leaves { IfOk result (λ r. LeavesWell IsSwept month_phases.moving world.now campaign.what r.0.what) }
-    ensures keeps { IfOk result (λ r. month_phases.keeps world.now month campaign.what r.0.what) }
+    ensures meaning { IfOk result (λ r. (r.0.what, r.1) ≡ month_meaning world.now campaign.what month) }
+    ensures leaves { IfOk result (λ r. LeavesWell IsSwept phases_moving world.now campaign.what r.0.what) }
+    ensures keeps { IfOk result (λ r. month_keeps world.now month campaign.what r.0.what) }
     ensures marks { IfOk result (λ r. MarksChanges campaign r.0) }
 {
-    let goods = (GivePhase, (TransferPhase, (TaxPhase, RecruitPhase)));
-    let early = (FormPhase, (NamePhase, (PlacePhase, goods)));
-    let making = (BuildPhase, (LearnPhase, (ProducePhase, WorkPhase)));
-    let long = (MovePhase, (SailPhase, making));
-    let later = (GuardPhase, (QuitPhase, long));
-    let closing = (UpkeepPhase, (SeasonPhase, SweepPhase));
-    let phases = (early, (later, closing));
+    let closing = (WorkPhase, (UpkeepPhase, (SeasonPhase, SweepPhase)));
+    let phases = (OrderPhases, closing);
     let (campaign, month) = phases.run(alloc, world, campaign, month)?;
     Ok((campaign, month))
 }
@@ -73,7 +66,7 @@ pub fn close_month(
     ensures same { IfOk result (λ r. IsSameMonth campaign.what r.0.what) }
     ensures factions { IfOk result (λ r. (n : ℕ) → IsThere campaign.what.factions n → IsThere r.0.what.factions n) }
     ensures books { IfOk result (λ r. BooksAreNear month_moves campaign.what r.0.what) }
-    ensures keeps { IfOk result (λ r. month_phases.keeps world.now (begun (by_faction (map reading_of mailings.items)) words.now) campaign.what r.0.what) }
+    ensures keeps { IfOk result (λ r. month_keeps world.now (begun (by_faction (map reading_of mailings.items)) words.now) campaign.what r.0.what) }
     ensures unmailed { IfOk result (λ r. UnmailedAreLeft mailings.items r.1.items campaign.what r.0.what) }
     ensures marks { IfOk result (λ r. MarksChanges campaign r.0) }
 {
@@ -88,7 +81,9 @@ pub fn months_have_no_order()
     ensures { MonthHasNoOrder }
 {}
 
-/// Each phase of a month moves each amount of the books by less than 10^14.
+/// Does nothing. Its clauses are the laws of what a month books: each phase moves the amounts of its own entries alone, and
+/// each by less than 10^14; and no amount is moved by more than two phases.
 pub fn phases_move_little()
-    ensures { PhasesMoveLittle }
+    ensures little { PhasesMoveLittle }
+    ensures two { TwoMoveAtMost }
 {}

@@ -4,6 +4,7 @@
 mod accounts;
 mod close;
 mod limits;
+mod orders;
 mod receivers;
 mod season;
 mod settling;
@@ -11,6 +12,7 @@ mod sweep;
 mod upkeep;
 
 pub use close::{close_month, months_have_no_order, phases_move_little};
+pub use orders::OrderPhases;
 pub use season::SeasonPhase;
 pub use settling::{Purse, Settled, settle};
 pub use sweep::SweepPhase;

@@ -1,23 +1,22 @@
 -- What the phases of the cases need.
-use Rattle.std.proofs.Common.{◌≡◌, ◌==◌, ◌&&◌, not, ◌+◌, ◌≤◌, Bool, true, false, sym, subst, arith}
+use Rattle.std.proofs.Common.{◌≡◌, ◌≤◌, ℕ, Bool, true, false, sym, subst, arith}
 use Rattle.std.specs.Prelude.{if◌then◌else◌}
 use Rattle.atl_tables.specs.Planet.{Planet}
 use Rattle.atl_state.specs.declared.books.Entry.{Entry}
-use Rattle.atl_state.specs.declared.books.Entry.TheVariants.{Births, Income, Lost, Starved, Upkeep, Wages}
 use Rattle.atl_state.specs.declared.books.Thing.{Thing}
-use Rattle.atl_state.specs.declared.books.Thing.TheVariants.{Money, People}
-use Rattle.atl_state.specs.Books.{amount_in, entry_place, thing_place}
+use Rattle.atl_state.specs.Books.{amount_in}
 use Rattle.atl_state.specs.Good.{IsGood}
-use Rattle.atl_state.specs.Marks.{amount_number}
 use Rattle.atl_state.specs.State.{State}
 use Rattle.atl_instant.specs.Meaning.{HasRoom, HaveRoom, Moving, both_move, most_moved}
+use Rattle.atl_instant.specs.Terms.{MovesItsOwn, PhaseTerms, may_move}
 use Rattle.atl_instant.proofs.MeaningLaws.{room_less, room_when_sound}
-use Rattle.atl_month.specs.Month.{◌▷◌, PhaseTerms, building, early_orders, guarding, learning, producing, quitting, sailing, walking}
-use Rattle.atl_month.specs.Season.{grows_by}
-use Rattle.atl_month.specs.Sweep.{loses_by}
-use Rattle.atl_month.specs.Upkeep.{takes_up_to}
-use Rattle.atl_market.specs.Work.{work_moves}
+use Rattle.atl_market.specs.Work.{work_terms}
+use Rattle.atl_month.specs.Month.{orders_moving}
+use Rattle.atl_month.specs.Season.{season_terms}
+use Rattle.atl_month.specs.Sweep.{sweep_terms}
+use Rattle.atl_month.specs.Upkeep.{upkeep_terms}
 use Rattle.atl_month.proofs.MoveLaws.{phases_little}
+use Rattle.atl_month.proofs.PhaseLaws.{season_alone, sweep_alone, upkeep_alone, work_alone}
 use Rattle.atl_phase_tests.specs.Roomy.{IsRoomy, much}
 
 -- a good campaign is roomy, and so is one with the same books
@@ -28,42 +27,31 @@ roomy_when_good w c d good books e t = subst (λ b. HasRoom much (amount_in b e 
 pub room_for : (c : State) (moving : Moving) → ((e : Entry) (t : Thing) → moving e t ≤ much) → IsRoomy c → HaveRoom moving c
 room_for c moving little room = room_less moving (λ e t. much) c little room
 
--- ---- what moves less
+pub room_for_orders : (c : State) → IsRoomy c → HaveRoom orders_moving c
+room_for_orders c = room_for c orders_moving (λ e t. omega (arith, phases_little e t))
 
-one : (b : Bool) → (if b then most_moved else 0) ≤ much
-one true = omega arith
-one false = omega arith
+-- a phase moves less, and so do two
+cut : (b : Bool) (moved : ℕ) → moved ≤ (if b then most_moved else 0) → moved ≤ most_moved
+cut true moved l = l
+cut false moved l = omega (arith, l)
 
-two : (a b : Bool) → (if a then most_moved else 0) + (if b then most_moved else 0) ≤ much
-two true true = omega arith
-two true false = omega arith
-two false true = omega arith
-two false false = omega arith
+moves_little : (phase : PhaseTerms) → MovesItsOwn phase → (e : Entry) (t : Thing) → phase.moving e t ≤ most_moved
+moves_little phase own e t = cut (may_move phase.moved e t) (phase.moving e t) (own e t)
 
-four : (a b : Bool) → ((if a then most_moved else 0) + (if b then most_moved else 0)) + ((if a then most_moved else 0) + (if b then most_moved else 0)) ≤ much
-four true true = omega arith
-four true false = omega arith
-four false true = omega arith
-four false false = omega arith
+room_of : (phase : PhaseTerms) → MovesItsOwn phase → (c : State) → IsRoomy c → HaveRoom phase.moving c
+room_of phase own c = room_for c phase.moving (λ e t. omega (arith, moves_little phase own e t))
 
--- the phases that carry out orders, but for WORK
-abbrev pub carried : PhaseTerms
-carried = early_orders ▷ (guarding ▷ quitting ▷ walking ▷ sailing ▷ building ▷ learning ▷ producing)
+pub room_for_work : (c : State) → IsRoomy c → HaveRoom work_terms.moving c
+room_for_work = room_of work_terms work_alone
 
-pub room_for_orders : (c : State) → IsRoomy c → HaveRoom carried.moving c
-room_for_orders c = room_for c carried.moving (λ e t. omega (arith, phases_little e t))
+pub room_for_upkeep : (c : State) → IsRoomy c → HaveRoom upkeep_terms.moving c
+room_for_upkeep = room_of upkeep_terms upkeep_alone
 
-pub room_for_work : (c : State) → IsRoomy c → HaveRoom (work_moves most_moved) c
-room_for_work c = room_for c (work_moves most_moved) (λ e t. one (amount_number e t == amount_number Wages Money))
+pub room_for_season : (c : State) → IsRoomy c → HaveRoom season_terms.moving c
+room_for_season = room_of season_terms season_alone
 
-pub room_for_upkeep : (c : State) → IsRoomy c → HaveRoom (takes_up_to most_moved) c
-room_for_upkeep c = room_for c (takes_up_to most_moved) (λ e t. two (amount_number e t == amount_number Upkeep Money) (amount_number e t == amount_number Starved People))
+pub room_for_seasons : (c : State) → IsRoomy c → HaveRoom (both_move season_terms.moving season_terms.moving) c
+room_for_seasons c = room_for c (both_move season_terms.moving season_terms.moving) (λ e t. omega (arith, moves_little season_terms season_alone e t))
 
-pub room_for_season : (c : State) → IsRoomy c → HaveRoom (grows_by most_moved) c
-room_for_season c = room_for c (grows_by most_moved) (λ e t. two (amount_number e t == amount_number Births People) (amount_number e t == amount_number Income Money))
-
-pub room_for_seasons : (c : State) → IsRoomy c → HaveRoom (both_move (grows_by most_moved) (grows_by most_moved)) c
-room_for_seasons c = room_for c (both_move (grows_by most_moved) (grows_by most_moved)) (λ e t. four (amount_number e t == amount_number Births People) (amount_number e t == amount_number Income Money))
-
-pub room_for_sweep : (c : State) → IsRoomy c → HaveRoom (loses_by most_moved) c
-room_for_sweep c = room_for c (loses_by most_moved) (λ e t. one ((entry_place e == entry_place Lost) && not (thing_place t == thing_place People)))
+pub room_for_sweep : (c : State) → IsRoomy c → HaveRoom sweep_terms.moving c
+room_for_sweep = room_of sweep_terms sweep_alone

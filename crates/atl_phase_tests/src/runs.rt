@@ -9,12 +9,9 @@ ghost use Rattle.atl_phase_tests.specs.Roomy.{IsRoomy};
 use crate::months::month_of;
 use crate::settings::{Setting, campaign_of, good_campaign};
 use anyhow::{Result, bail};
-use atl_action::{LearnPhase, MovePhase, SailPhase};
-use atl_instant::{
-    FormPhase, GivePhase, GuardPhase, Month, NamePhase, Phase, PlacePhase, QuitPhase, TransferPhase,
-};
-use atl_market::{BuildPhase, ProducePhase, RecruitPhase, TaxPhase, WorkPhase};
-use atl_month::{SeasonPhase, SweepPhase, UpkeepPhase, close_month};
+use atl_instant::{Month, Phase};
+use atl_market::WorkPhase;
+use atl_month::{OrderPhases, SeasonPhase, SweepPhase, UpkeepPhase, close_month};
 use atl_orders::Mailing;
 use atl_state::{Campaign, Event, LAST_MONTH};
 use atl_tables::World;
@@ -66,11 +63,7 @@ fn carry_out(
     requires room { IsRoomy campaign.what }
     requires read { AreFit world.now month.readings }
 {
-    let goods = (GivePhase, (TransferPhase, (TaxPhase, RecruitPhase)));
-    let early = (FormPhase, (NamePhase, (PlacePhase, goods)));
-    let making = (BuildPhase, (LearnPhase, ProducePhase));
-    let later = (GuardPhase, (QuitPhase, (MovePhase, (SailPhase, making))));
-    (early, later).run(alloc, world, campaign, month)
+    OrderPhases.run(alloc, world, campaign, month)
 }
 
 fn work(

@@ -3,7 +3,7 @@ use Rattle.std.proofs.lemmas.List.Elements.{recursion_from_All}
 use Rattle.atl_orders.specs.Mailing.{IsReadWith, reading_of}
 use Rattle.atl_instant.specs.Fit.{AreFit}
 use Rattle.atl_instant.specs.Course.{Course, by_faction}
-use Rattle.atl_month.specs.Month.{begun, month_phases}
+use Rattle.atl_month.specs.Month.{begun, month_keeps, phases_moving}
 use Rattle.atl_month.proofs.MonthLaws.{books_near, factions_stay, finished_good, month_is}
 use Rattle.atl_instant.proofs.FitLaws.{read_fit}
 use Rattle.atl_month.proofs.MoveLaws.{phases_little}
@@ -11,7 +11,7 @@ use Rattle.atl_month.proofs.UnmailedMonthLaws.{unmailed_left}
 use Rattle.atl_month.proofs.close.close_month.Goals as goal
 
 pub returns-clause-good : goal.returns-clause-good
-returns-clause-good c = finished_good c.args.world.now c.args.campaign.what c.in_ok-campaign.campaign.what month_phases.moving phases_little c.requires.month c.in_ok-campaign.ensures.leaves c.requires.good
+returns-clause-good c = finished_good c.args.world.now c.args.campaign.what c.in_ok-campaign.campaign.what phases_moving phases_little c.requires.month c.in_ok-campaign.ensures.leaves c.requires.good
 
 pub returns-clause-same : goal.returns-clause-same
 returns-clause-same c = c.in_ok-campaign.ensures.leaves.same_month
@@ -25,7 +25,7 @@ returns-clause-books c = books_near c.args.world.now c.args.campaign.what c.in_o
 pub returns-clause-keeps : goal.returns-clause-keeps
 returns-clause-keeps c =
     let is : c.new-month.result ≡ begun (by_faction (map reading_of c.args.mailings.items)) c.args.words.now = search rules in
-    subst (λ (m : Course). month_phases.keeps c.args.world.now m c.args.campaign.what c.in_ok-campaign.campaign.what) is c.in_ok-campaign.ensures.keeps
+    subst (λ (m : Course). month_keeps c.args.world.now m c.args.campaign.what c.in_ok-campaign.campaign.what) is c.in_ok-campaign.ensures.keeps
 
 pub run_phases-requires-clause-read : goal.run_phases-requires-clause-read
 run_phases-requires-clause-read c =

@@ -2,7 +2,7 @@ use Rattle.std.proofs.Common.{◌≡◌, ◌+◌, ◌≤◌, ◌∷◌, ◌∙�
 use Rattle.std.specs.Prelude.{fold, zip}
 use Rattle.std.proofs.lemmas.List.{drop_more}
 use Rattle.std.specs.FinMap.{entries, len-entries}
-use Rattle.atl_tables.specs.Limits.{most_amount}
+use Rattle.atl_tables.specs.Limits.{most_amount, most_regions}
 use Rattle.atl_state.proofs.CoverLaws.{marks-refl, marks-trans}
 use Rattle.atl_instant.specs.Meaning.{moved_times, most_moved}
 use Rattle.atl_instant.proofs.MeaningLaws.{room_less}
@@ -13,7 +13,7 @@ use Rattle.atl_month.proofs.season.turn_regions.Goals as goal
 pub loop-number-init : goal.loop-number-init
 loop-number-init c =
     let listed : c.into_iter-number-iterator.result ≡ entries c.args.world.now.regions = search rules in
-    let few : length c.into_iter-number-iterator.result ≤ 2500 = omega (arith, ap length listed, len-entries c.args.world.now.regions, c.regions.ensures.world.few_regions) in (
+    let few : length c.into_iter-number-iterator.result ≤ most_regions = omega (arith, ap length listed, len-entries c.args.world.now.regions, c.regions.ensures.world.few_regions) in (
       tt,
       tt,
       ap (λ l. fold (season_at c.args.world.now) c.args.campaign.now.what (zip (map (λ e. e.0) l) c.args.words.now)) listed,

@@ -1,0 +1,70 @@
+-- A phase as a month takes it: what it makes, how far it may move the books, and what it keeps. See docs/RULES.md, "Closing a month".
+use Rattle.std.specs.Prelude.{⊤, ℕ, ◌+◌, ◌≤◌, ◌==◌, ◌||◌, Bool, false, List, [], ◌∷◌, if◌then◌else◌}
+use Rattle.atl_state.specs.declared.books.Entry.{Entry}
+use Rattle.atl_state.specs.declared.books.Thing.{Thing}
+use Rattle.atl_state.specs.declared.books.Thing.TheVariants.{Item, Money, People}
+use Rattle.atl_state.specs.Books.{entry_place}
+use Rattle.atl_instant.specs.Meaning.{Keeping, Meaning, Moving, both_keep, both_move, most_moved, then_also}
+
+-- ---- the books
+
+-- the entries that a phase may move: of money, of people and of items
+pub record Moved : Type 0 where
+  pub money : List Entry
+  pub people : List Entry
+  pub items : List Entry
+
+abbrev pub nothing_moved : Moved
+nothing_moved = record { money = []; people = []; items = [] }
+
+abbrev pub entries_of : Moved → Thing → List Entry
+entries_of moved Money = moved.money
+entries_of moved People = moved.people
+entries_of moved (Item i) = moved.items
+
+abbrev pub is_among : Entry → List Entry → Bool
+is_among e [] = false
+is_among e (k ∷ ks) = is_among e ks || (entry_place e == entry_place k)
+
+-- whether a phase may move an amount
+abbrev pub may_move : Moved → Entry → Thing → Bool
+may_move moved e t = is_among e (entries_of moved t)
+
+-- ---- a phase
+
+pub record PhaseTerms : Type 1 where
+  pub meaning : Meaning
+  pub moving : Moving
+  pub moved : Moved
+  pub keeps : Keeping
+
+-- A phase moves the amounts of its own entries alone, and each by less than 10^14.
+abbrev pub MovesItsOwn : PhaseTerms → Type 0
+MovesItsOwn phase = (e : Entry) (t : Thing) → phase.moving e t ≤ (if may_move phase.moved e t then most_moved else 0)
+
+-- ---- some phases, one after the other
+
+abbrev pub meaning_of : List PhaseTerms → Meaning
+meaning_of [] = λ w c m. (c, m)
+meaning_of (phase ∷ []) = phase.meaning
+meaning_of (phase ∷ next ∷ rest) = then_also phase.meaning (meaning_of (next ∷ rest))
+
+abbrev pub moving_of : List PhaseTerms → Moving
+moving_of [] = λ e t. 0
+moving_of (phase ∷ []) = phase.moving
+moving_of (phase ∷ next ∷ rest) = both_move phase.moving (moving_of (next ∷ rest))
+
+abbrev pub keeps_of : List PhaseTerms → Keeping
+keeps_of [] = λ w m before after. ⊤
+keeps_of (phase ∷ []) = phase.keeps
+keeps_of (phase ∷ next ∷ rest) = both_keep phase.meaning phase.keeps (keeps_of (next ∷ rest))
+
+-- how many of them may move an amount
+abbrev pub moving_phases_of : List PhaseTerms → Entry → Thing → ℕ
+moving_phases_of [] e t = 0
+moving_phases_of (phase ∷ rest) e t = (if may_move phase.moved e t then 1 else 0) + moving_phases_of rest e t
+
+-- what is so of each of them
+abbrev pub EachPhase : (PhaseTerms → Type 0) → List PhaseTerms → Type 0
+EachPhase P [] = ⊤
+EachPhase P (phase ∷ rest) = P phase × EachPhase P rest

@@ -1,0 +1,160 @@
+-- What each phase of a month is: which entries of the books it moves, and what it leaves to a faction without a mailing.
+use Rattle.std.proofs.Common.{◌≡◌, ◌≢◌, ◌==◌, ◌&&◌, not, ℕ, ◌+◌, ◌*◌, ◌≤◌, Bool, true, false, [], ◌∷◌, refl, sym, subst, arith}
+use Rattle.std.specs.Prelude.{if◌then◌else◌}
+use Rattle.std.proofs.lemmas.Bool.Decides.{nat_tests}
+use Rattle.atl_state.specs.declared.books.Entry.{Entry}
+use Rattle.atl_state.specs.declared.books.Entry.TheVariants as entries
+use Rattle.atl_state.specs.declared.books.Thing.{Thing}
+use Rattle.atl_state.specs.declared.books.Thing.TheVariants.{Item, Money, People}
+use Rattle.atl_state.specs.Books.{entry_place, thing_place}
+use Rattle.atl_state.specs.Limits.{entry_count}
+use Rattle.atl_state.specs.Marks.{amount_number}
+use Rattle.atl_state.proofs.EntryLaws.{entry_small}
+use Rattle.atl_instant.specs.Meaning.{Moving, both_move, most_moved, moves_only}
+use Rattle.atl_instant.specs.Quit.{quit_terms}
+use Rattle.atl_instant.specs.Terms.{EachPhase, Moved, MovesItsOwn, PhaseTerms, may_move, nothing_moved}
+use Rattle.atl_instant.specs.Unbooked.{moves_nothing}
+use Rattle.atl_instant.proofs.StructureLaws.{unequal}
+use Rattle.atl_instant.proofs.TermsLaws.{CloseTogether, Leaves}
+use Rattle.atl_instant.proofs.UnmailedStepLaws.{form_leaves, give_leaves, guard_leaves, name_leaves, place_leaves, quit_leaves, transfer_leaves}
+use Rattle.atl_action.proofs.UnmailedLearnLaws.{learn_leaves}
+use Rattle.atl_action.proofs.UnmailedTravelLaws.{sail_leaves, walk_leaves}
+use Rattle.atl_market.specs.Build.{build_terms}
+use Rattle.atl_market.specs.Produce.{produce_terms}
+use Rattle.atl_market.specs.Work.{work_terms}
+use Rattle.atl_market.proofs.UnmailedMakeLaws.{build_leaves, produce_leaves}
+use Rattle.atl_market.proofs.UnmailedPotLaws.{recruit_leaves, tax_leaves, work_leaves}
+use Rattle.atl_instant.specs.Form.{form_terms}
+use Rattle.atl_instant.specs.Name.{name_terms}
+use Rattle.atl_instant.specs.Place.{place_terms}
+use Rattle.atl_instant.specs.Give.{give_terms}
+use Rattle.atl_instant.specs.Transfer.{transfer_terms}
+use Rattle.atl_market.specs.Tax.{tax_terms}
+use Rattle.atl_market.specs.Recruit.{recruit_terms}
+use Rattle.atl_instant.specs.Guard.{guard_terms}
+use Rattle.atl_action.specs.Walk.{walk_terms}
+use Rattle.atl_action.specs.Sail.{sail_terms}
+use Rattle.atl_action.specs.Study.{learn_terms}
+use Rattle.atl_month.specs.Month.{closing_phases, early_phases, later_phases}
+use Rattle.atl_month.specs.Season.{season_terms}
+use Rattle.atl_month.specs.Sweep.{sweep_terms}
+use Rattle.atl_month.specs.Upkeep.{upkeep_terms}
+use Rattle.atl_month.proofs.UnmailedEndLaws.{season_leaves, sweep_closes, upkeep_leaves}
+
+-- ---- the books
+
+-- a phase that may move some amounts moves no others
+abbrev MovesAlone : Moving → Moved → Type 0
+MovesAlone moving moved = (e : Entry) (t : Thing) → moving e t ≤ (if may_move moved e t then most_moved else 0)
+
+nothing : (moved : Moved) → MovesAlone moves_nothing moved
+nothing moved e t = omega arith
+
+-- the amounts of one thing
+same_thing : (a x y : ℕ) (p : Bool) → (x == y) ≡ p → (q : Bool) → (entry_count * a + x == entry_count * a + y) ≡ q → (if q then most_moved else 0) ≤ (if p then most_moved else 0)
+same_thing a x y true e false f = omega arith
+same_thing a x y true e true f = omega arith
+same_thing a x y false e false f = omega arith
+same_thing a x y false e true f = absurd (grind (arith, nat_tests, e, f))
+
+-- and those of two
+other_thing : (m n : ℕ) → m ≢ n → (if m == n then most_moved else 0) ≤ 0
+other_thing m n apart = subst (λ q. (if q then most_moved else 0) ≤ 0) (sym (unequal m n apart)) (omega arith)
+
+money_alone : (k : Entry) → MovesAlone (moves_only most_moved k Money) (record { money = k ∷ []; people = []; items = [] })
+money_alone k e Money = same_thing 0 (entry_place e) (entry_place k) (entry_place e == entry_place k) refl (amount_number e Money == amount_number k Money) refl
+money_alone k e People = other_thing (amount_number e People) (amount_number k Money) (λ same. omega (arith, same, entry_small k))
+money_alone k e (Item i) = other_thing (amount_number e (Item i)) (amount_number k Money) (λ same. omega (arith, same, entry_small k))
+
+people_alone : (k : Entry) → MovesAlone (moves_only most_moved k People) (record { money = []; people = k ∷ []; items = [] })
+people_alone k e Money = other_thing (amount_number e Money) (amount_number k People) (λ same. omega (arith, same, entry_small e))
+people_alone k e People = same_thing 1 (entry_place e) (entry_place k) (entry_place e == entry_place k) refl (amount_number e People == amount_number k People) refl
+people_alone k e (Item i) = other_thing (amount_number e (Item i)) (amount_number k People) (λ same. omega (arith, same, entry_small k))
+
+money_and_people : (k j : Entry) → MovesAlone (both_move (moves_only most_moved k Money) (moves_only most_moved j People)) (record { money = k ∷ []; people = j ∷ []; items = [] })
+money_and_people k j e Money = omega (arith, money_alone k e Money, people_alone j e Money)
+money_and_people k j e People = omega (arith, money_alone k e People, people_alone j e People)
+money_and_people k j e (Item i) = omega (arith, money_alone k e (Item i), people_alone j e (Item i))
+
+people_and_money : (j k : Entry) → MovesAlone (both_move (moves_only most_moved j People) (moves_only most_moved k Money)) (record { money = k ∷ []; people = j ∷ []; items = [] })
+people_and_money j k e t = omega (arith, money_and_people k j e t)
+
+quit_alone : MovesItsOwn quit_terms
+quit_alone e Money = omega arith
+quit_alone e People = omega arith
+quit_alone e (Item i) = omega arith
+
+build_alone : MovesItsOwn build_terms
+build_alone e Money = omega arith
+build_alone e People = omega arith
+build_alone e (Item i) = omega arith
+
+produce_alone : MovesItsOwn produce_terms
+produce_alone entries.Made (Item i) = omega arith
+produce_alone entries.Used (Item i) = omega arith
+produce_alone e t = omega arith
+
+pub work_alone : MovesItsOwn work_terms
+work_alone = money_alone entries.Wages
+
+pub upkeep_alone : MovesItsOwn upkeep_terms
+upkeep_alone = money_and_people entries.Upkeep entries.Starved
+
+pub season_alone : MovesItsOwn season_terms
+season_alone = people_and_money entries.Births entries.Income
+
+both_hold : (a b : Bool) → (if a && b then most_moved else 0) ≤ (if a then most_moved else 0)
+both_hold true true = omega arith
+both_hold true false = omega arith
+both_hold false b = omega arith
+
+never : (a : Bool) → (if a && false then most_moved else 0) ≤ 0
+never true = omega arith
+never false = omega arith
+
+pub sweep_alone : MovesItsOwn sweep_terms
+sweep_alone e Money = both_hold (entry_place e == entry_place entries.Lost) true
+sweep_alone e People = never (entry_place e == entry_place entries.Lost)
+sweep_alone e (Item i) = both_hold (entry_place e == entry_place entries.Lost) (not (thing_place (Item i) == thing_place People))
+
+-- ---- each phase
+
+pub record IsPhase (phase : PhaseTerms) : Type 0 where
+  pub moves : MovesItsOwn phase
+  pub leaves : Leaves phase
+
+is_phase : (phase : PhaseTerms) → MovesItsOwn phase → Leaves phase → IsPhase phase
+is_phase phase moves leaves = record { moves = moves; leaves = leaves }
+
+-- what is so of one phase, and what is so of the others
+infixr 5 ◌▹◌
+◌▹◌ : {A B : Type 0} → A → B → A × B
+one ▹ others = (one, others)
+
+pub early_are : EachPhase IsPhase early_phases
+early_are =
+    is_phase form_terms (nothing nothing_moved) form_leaves
+    ▹ is_phase name_terms (nothing nothing_moved) name_leaves
+    ▹ is_phase place_terms (nothing nothing_moved) place_leaves
+    ▹ is_phase give_terms (nothing nothing_moved) give_leaves
+    ▹ is_phase transfer_terms (nothing nothing_moved) transfer_leaves
+    ▹ is_phase tax_terms (nothing nothing_moved) tax_leaves
+    ▹ is_phase recruit_terms (money_alone entries.Recruiting) recruit_leaves
+    ▹ tt
+
+pub later_are : EachPhase IsPhase later_phases
+later_are =
+    is_phase guard_terms (nothing nothing_moved) guard_leaves
+    ▹ is_phase quit_terms quit_alone quit_leaves
+    ▹ is_phase walk_terms (nothing nothing_moved) walk_leaves
+    ▹ is_phase sail_terms (nothing nothing_moved) sail_leaves
+    ▹ is_phase build_terms build_alone build_leaves
+    ▹ is_phase learn_terms (money_alone entries.Study) learn_leaves
+    ▹ is_phase produce_terms produce_alone produce_leaves
+    ▹ tt
+
+pub closing_move : EachPhase MovesItsOwn closing_phases
+closing_move = work_alone ▹ upkeep_alone ▹ season_alone ▹ sweep_alone ▹ tt
+
+pub closing_leave : CloseTogether closing_phases
+closing_leave = work_leaves ▹ upkeep_leaves ▹ season_leaves ▹ sweep_closes

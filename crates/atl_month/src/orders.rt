@@ -1,0 +1,43 @@
+//! The phases that carry out orders, one after the other.
+ghost use Rattle.atl_state.specs.Good.{IsEarly, IsSteady};
+ghost use Rattle.atl_month.specs.Month.{orders_keep, orders_meaning, orders_moving};
+
+use atl_action::{LearnPhase, MovePhase, SailPhase};
+use atl_instant::{
+    FormPhase, GivePhase, GuardPhase, Month, NamePhase, Phase, PlacePhase, QuitPhase, TransferPhase,
+};
+use atl_market::{BuildPhase, ProducePhase, RecruitPhase, TaxPhase};
+use atl_state::Campaign;
+use atl_tables::World;
+use std::alloc::{AllocError, Global};
+
+/// All phases that carry out orders, in their order, but for WORK, which units do without an order as well. See
+/// docs/RULES.md, "Closing a month".
+#[derive(Drop, Clone, Copy)]
+pub struct OrderPhases;
+
+impl Phase for OrderPhases {
+    ghost meaning = { orders_meaning };
+
+    ghost needs = { IsEarly };
+
+    ghost leaves = { IsSteady };
+
+    ghost moving = { orders_moving };
+
+    ghost keeps = { orders_keep };
+
+    fn run(
+        &self,
+        alloc: Global,
+        world: &World,
+        campaign: Campaign,
+        month: Month,
+    ) -> Result<(Campaign, Month), AllocError> {
+        let goods = (GivePhase, (TransferPhase, (TaxPhase, RecruitPhase)));
+        let early = (FormPhase, (NamePhase, (PlacePhase, goods)));
+        let making = (BuildPhase, (LearnPhase, ProducePhase));
+        let later = (GuardPhase, (QuitPhase, (MovePhase, (SailPhase, making))));
+        (early, later).run(alloc, world, campaign, month)
+    }
+}
