@@ -1,3 +1,4 @@
+pub mod GeneralLaws
 pub mod Maps
 pub mod Lent
 pub mod RetainLaws

@@ -9,6 +9,7 @@ use Rattle.std.specs.FinMap.Entries.{by_order, below_all}
 use Rattle.std.proofs.lemmas.Bool.{and_parts, false≢true}
 use Rattle.std.proofs.lemmas.List.Sums.{sum_by-cons}
 use Rattle.atl_tables.specs.Sums.{mapped, sum_over}
+use Rattle.atl_tables.proofs.GeneralLaws.{is_true}
 
 module _ {V W : Type 0} (f : V → W) where
   abbrev at_each : List (ℕ × V) → List (ℕ × W)
@@ -39,10 +40,6 @@ is_less Greater h = absurd (false≢true h)
 
 above : (k q : ℕ) → is_lt (nat_cmp k q) ≡ true → nat_cmp q k ≡ Greater
 above k q h = nat_cmp_total.antisymm q k ∙ ap ordering_reverse (is_less (nat_cmp k q) h)
-
-is_true : (b : Bool) → T b → b ≡ true
-is_true true h = refl
-is_true false h = absurd h
 
 module _ {W : Type 0} where
   below_last : (q : ℕ) (es fs : List (ℕ × W)) (k : ℕ) (w : W) → below_all nat_cmp q (es ++ (k, w) ∷ fs) ≡ true → nat_cmp k q ≡ Greater

@@ -7,6 +7,7 @@ use Rattle.std.specs.Cmp.{nat_cmp_total}
 use Rattle.std.specs.FinMap.{FinMap, get, insert, remove, find, put, entries, entries-insert, get-entries, get-insert, get-remove, same_map, nat_cmp-IsAntisymmetric}
 use Rattle.std.specs.FinMap.Entries.{by_order}
 use Rattle.std.proofs.lemmas.List.Sums.{sum_by-cons}
+use Rattle.std.proofs.lemmas.Option.{none-some}
 use Rattle.atl_tables.specs.Sums.{sum_over, numbers_where}
 
 swapped : (a b : ℕ) → a + b ≡ b + a
@@ -52,9 +53,6 @@ module _ {X : Type 0} where
         | Greater ↦ λ _. refl
       ] refl)
 
-  some_none : (x : X) {P : Type 0} → Some x ≡ None → P
-  some_none x e = cc
-
   -- ---- sums
   abbrev weighed : (f : X → ℕ) → List (ℕ × X) → ℕ
   weighed f es = sum_by (λ e. f e.1) es
@@ -65,7 +63,7 @@ module _ {X : Type 0} where
       let more = sum_by-cons (λ (e : ℕ × X). f e.1) in
       elim (nat_cmp k e.0) as (λ r. cond (is_eq r) (Some e.1) (find nat_cmp k es) ≡ None → weighed f (by_order r ((k, v) ∷ e ∷ es) ((e.0, v) ∷ es) (e ∷ put nat_cmp k v es)) ≡ weighed f (e ∷ es) + f v) [
         | Less ↦ λ _. more (k, v) (e ∷ es) ∙ swapped (f v) _
-        | Equal ↦ λ g. some_none e.1 g
+        | Equal ↦ λ g. absurd (none-some e.1 (sym g))
         | Greater ↦ λ g. more e (put nat_cmp k v es) ∙ later (f e.1) _ (weighed f es) (f v) (put_new f k v es g) ∙ ap (λ n. n + f v) (sym (more e es))
       ] h
 
@@ -118,7 +116,7 @@ module _ {X : Type 0} where
   chosen-put_other p k v h (e ∷ es) g =
       elim (nat_cmp k e.0) as (λ r. cond (is_eq r) (Some e.1) (find nat_cmp k es) ≡ None → chosen p (by_order r ((k, v) ∷ e ∷ es) ((e.0, v) ∷ es) (e ∷ put nat_cmp k v es)) ≡ chosen p (e ∷ es)) [
         | Less ↦ λ _. chosen-cons p (k, v) (e ∷ es) ∙ ap (λ b. cond b (k ∷ chosen p (e ∷ es)) (chosen p (e ∷ es))) h
-        | Equal ↦ λ g. some_none e.1 g
+        | Equal ↦ λ g. absurd (none-some e.1 (sym g))
         | Greater ↦ λ g. chosen-cons p e (put nat_cmp k v es) ∙ ap (λ ns. cond (p e.1) (e.0 ∷ ns) ns) (chosen-put_other p k v h es g) ∙ sym (chosen-cons p e es)
       ] g
 

@@ -4,25 +4,21 @@ use Rattle.std.specs.Prelude.{is_some}
 use Rattle.std.specs.List.{list_any, AllByRecursion}
 use Rattle.std.specs.List.Sorted.{IsStrictlySortedBy}
 use Rattle.std.proofs.lemmas.Bool.{false≢true, and_parts}
+use Rattle.std.proofs.lemmas.Option.{none-some}
 use Rattle.std.specs.Ordering.{nat_cmp, eq_by_cmp, is_eq, is_lt}
 use Rattle.std.specs.declared.cmp.Ordering.TheVariants.{Less, Equal, Greater}
-use Rattle.std.specs.Cmp.{nat_cmp_total, ranked}
+use Rattle.std.specs.Cmp.{nat_cmp_total}
 use Rattle.std.specs.FinMap.{FinMap, get, get-entries, find, entries, entries_sorted, insert, remove, empty, get-empty, get-insert, get-remove, same_map, is_sorted, keys, contains_key-keys, nat_cmp-IsAntisymmetric}
 use Rattle.std.specs.FinMap.Entries.{below_all}
 use Rattle.std.specs.FinSet as set
 use Rattle.atl_tables.specs.Changing.{Changing}
 use Rattle.atl_tables.specs.MarkPlaces.{marked_in, put_mark, lowered, raised, ArePlaces}
 use Rattle.atl_tables.specs.Tracking.{marked_with, with_value, without_value_at, taken_out, Lists}
+pub use Rattle.atl_tables.proofs.GeneralLaws.{is_true}
+use Rattle.atl_tables.proofs.GeneralLaws.{key_itself}
 use Rattle.atl_tables.proofs.SumLaws.{taken_back}
 use Rattle.atl_tables.specs.Sums.{mapped, numbers_among, numbers_where}
 use Rattle.atl_tables.proofs.MadeLaws.{entries-mapped, is_less}
-
-pub is_true : (b : Bool) → T b → b ≡ true
-is_true true h = refl
-is_true false h = absurd h
-
-some_none : {A P : Type 0} (x : A) → None ≡ Some x → P
-some_none x e = cc
 
 true_false : {P : Type 0} → Some true ≡ Some false → P
 true_false e = absurd (false≢true (sym (ap held e)))
@@ -165,15 +161,8 @@ insert_undone s n h = same _ _ (λ q.
       | Greater ↦ λ _. refl
     ] refl)
 
-itself : (n : ℕ) → eq_by_cmp nat_cmp n n ≡ true
-itself n = elim (nat_cmp n n) as (λ r. nat_cmp n n ≡ r → is_eq r ≡ true) [
-  | Less ↦ λ e. let l = ranked n n Less (sym e) in absurd (omega arith)
-  | Equal ↦ λ _. refl
-  | Greater ↦ λ e. let l = ranked n n Greater (sym e) in absurd (omega arith)
-] refl
-
 pub contains_inserted : (s : set.FinSet nat_cmp) (n : ℕ) → set.contains (set.insert s n) n ≡ true
-contains_inserted s n = set.contains-insert nat_cmp_total s n n ∙ ap (λ b. b || set.contains s n) (itself n)
+contains_inserted s n = set.contains-insert nat_cmp_total s n n ∙ ap (λ b. b || set.contains s n) (key_itself n)
 
 module _ {V : Type 0} where
   pub marked-put : (m : FinMap nat_cmp Bool) (n : ℕ) (o : Option V) → marked_in (put_mark m n o) ≡ marked_with (marked_in m) n o
@@ -213,13 +202,13 @@ module _ {V : Type 0} where
   still false o p n h same e = ap is_some same ∙ h e
 
   left : (b : Bool) (o : Option V) (p : Option Bool) → (p ≡ Some false → is_some o ≡ true) → cond b None p ≡ Some false → is_some (cond b None o) ≡ true
-  left true o p h e = some_none false e
+  left true o p h e = absurd (none-some false e)
   left false o p h e = h e
 
   pub ArePlaces-empty : ArePlaces (empty {X = V} {R = nat_cmp}) empty
   ArePlaces-empty = record {
     placed = λ q h. absurd (false≢true (sym (ap is_some (get-empty {X = V} nat_cmp q)) ∙ h));
-    needed = λ q h. some_none false (sym (get-empty nat_cmp q) ∙ h);
+    needed = λ q h. absurd (none-some false (sym (get-empty nat_cmp q) ∙ h));
   }
 
   pub ArePlaces-insert : (v : FinMap nat_cmp V) (m : FinMap nat_cmp Bool) (n : ℕ) (x : V) → ArePlaces v m → ArePlaces (insert v n x) (insert m n true)
@@ -294,7 +283,7 @@ module _ {V : Type 0} where
   without_value_is c n (Some x) e = refl
 
   there_itself : (m : FinMap nat_cmp V) (n : ℕ) (x : V) → get (insert m n x) n ≡ Some x
-  there_itself m n x = get-insert nat_cmp_total m n x n ∙ ap (λ b. cond b (Some x) (get m n)) (itself n)
+  there_itself m n x = get-insert nat_cmp_total m n x n ∙ ap (λ b. cond b (Some x) (get m n)) (key_itself n)
 
   undone : (c : Changing V) (n : ℕ) (x : V) (b : Bool) → get c.values n ≡ None → set.contains c.marks n ≡ b → taken_out (with_value c n x) n b ≡ c
   undone c n x true fresh h =
@@ -314,7 +303,7 @@ module _ {V : Type 0} where
   lower_some (Some b) (Some v) h g = refl
 
   lower_needed : (p : Option Bool) (o : Option V) → lowered p o ≡ Some false → is_some o ≡ true
-  lower_needed p None e = some_none false e
+  lower_needed p None e = absurd (none-some false e)
   lower_needed p (Some v) e = refl
 
   lower_unset : (p : Option Bool) (o : Option V) → is_set (lowered p o) ≡ false
@@ -332,7 +321,7 @@ module _ {V : Type 0} where
   marked-lowered v m l is = same _ _ (λ q. contains-marked l q ∙ ap is_set (is q) ∙ lower_unset (get m q) (get v q) ∙ sym (set.contains-empty nat_cmp q))
 
   raised_set : (p : Option Bool) → raised p ≡ Some false → (o : Option V) → is_some o ≡ true
-  raised_set None e o = some_none false e
+  raised_set None e o = absurd (none-some false e)
   raised_set (Some b) e o = true_false e
 
   pub ArePlaces-raised : (m l : FinMap nat_cmp Bool) → ((q : ℕ) → get l q ≡ raised (get m q)) → ArePlaces (empty {X = V} {R = nat_cmp}) l

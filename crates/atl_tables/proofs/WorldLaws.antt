@@ -1,10 +1,9 @@
 -- What is true of the records of a world, place by place.
 use Rattle.std.proofs.Common.{◌≡◌, ◌≤◌, ◌<◌, ◌+◌, ℕ, zero, suc, ◌==◌, Bool, true, false, cond, List, [], ◌∷◌, length, map, Option, Some, refl, subst, sym, ap, ◌∙◌, arith}
 use Rattle.std.specs.Cmp.{nat_cmp_total, unsigned_tied}
-use Rattle.std.specs.FinMap.{FinMap, get, insert, len, contains_key, get-empty, get-insert, len-insert, len-empty}
+use Rattle.std.specs.FinMap.{FinMap, get, insert, len, get-empty, get-insert, len-empty}
 use Rattle.std.specs.List.{All, slice_get}
 use Rattle.std.specs.Ordering.{nat_cmp}
-use Rattle.std.proofs.lemmas.Bool.Decides.{nat_tests}
 use Rattle.std.proofs.lemmas.List.{length-map}
 use Rattle.std.proofs.lemmas.Option.{get_or_from_slice_get, slice_get_within}
 use Rattle.std.proofs.lemmas.List.Elements.{All-get_or, All-head, All-tail}
@@ -21,6 +20,7 @@ use Rattle.atl_tables.specs.KindTable.{kind_of}
 use Rattle.atl_tables.specs.World.{planet_of, regions_of}
 use Rattle.atl_tables.specs.declared.tables.Tables.{Tables}
 use Rattle.atl_tables.specs.declared.world.RegionPlan.{RegionPlan}
+use Rattle.atl_tables.proofs.GeneralLaws.{is_equal, one_more}
 use Rattle.atl_tables.proofs.TwinLaws.{names_kept}
 
 -- at a place of a list of which something is true at all places
@@ -33,9 +33,6 @@ mapped_places P Q f then [] all i y h = absurd (cc)
 mapped_places P Q f then (x ∷ xs) all zero y h = let same : f x ≡ y = cc in subst Q same (then x (All-head P x xs all))
 mapped_places P Q f then (x ∷ xs) all (suc i) y h = mapped_places P Q f then xs (All-tail P x xs all) i y h
 
-same_number : (n k : ℕ) → (n == k) ≡ true → n ≡ k
-same_number n k h = grind (arith, nat_tests)
-
 none : {X : Type 0} (n : ℕ) (p : RegionPlan) → get (by_number []) n ≡ Some p → X
 none n p h = let e = get-empty {X = RegionPlan} nat_cmp n in absurd (cc)
 
@@ -43,7 +40,7 @@ module _ (P : ℕ → RegionPlan → Type 0) where
   one : (b : Bool) (n : ℕ) (p q : RegionPlan) (o : Option RegionPlan) → (n == p.number) ≡ b → P p.number p → (o ≡ Some q → P n q) → cond b (Some p) o ≡ Some q → P n q
   one true n p q o e here rest h =
       let same : p ≡ q = cc in
-      subst (P n) same (subst (λ k. P k p) (sym (same_number n p.number e)) here)
+      subst (P n) same (subst (λ k. P k p) (sym (is_equal n p.number e)) here)
   one false n p q o e here rest h = rest h
 
   -- at a number of a map, where it is true of all plans that the map is made of
@@ -52,13 +49,6 @@ module _ (P : ℕ → RegionPlan → Type 0) where
   at_number (q ∷ ps) all n p h =
       one (n == q.number) n q p (get (by_number ps) n) refl (all zero q refl) (at_number ps (λ i x e. all (suc i) x e) n p)
       (sym (get-insert nat_cmp_total (by_number ps) q.number q n ∙ ap (λ b. cond b (Some q) (get (by_number ps) n)) (unsigned_tied n q.number)) ∙ h)
-
-at_most : (b : Bool) (n : ℕ) → cond b n (n + 1) ≤ n + 1
-at_most true n = omega arith
-at_most false n = omega arith
-
-one_more : (m : FinMap nat_cmp RegionPlan) (k : ℕ) (p : RegionPlan) → len (insert m k p) ≤ len m + 1
-one_more m k p = rw (len-insert nat_cmp_total m k p) (at_most (contains_key m k) (len m))
 
 few : (ps : List RegionPlan) → len (by_number ps) ≤ length ps
 few [] = omega (arith, len-empty nat_cmp RegionPlan)

@@ -1,17 +1,10 @@
-use Rattle.std.proofs.Common.{◌≡◌, ℕ, ◌+◌, ◌≤◌, ◌++◌, ◌∷◌, [], Bool, true, false, cond, length, sym, ap, ◌∙◌, arith, append_assoc, length-append}
-use Rattle.std.specs.Cmp.{nat_cmp_total}
-use Rattle.std.specs.FinMap.{FinMap, len, len-insert, len-empty, insert, contains_key}
+use Rattle.std.proofs.Common.{◌≡◌, ◌++◌, ◌∷◌, [], length, sym, ap, ◌∙◌, arith, append_assoc, length-append}
+use Rattle.std.specs.FinMap.{len, len-empty, insert}
 use Rattle.std.specs.Ordering.{nat_cmp}
 use Rattle.std.proofs.lemmas.List.{append-nil}
 use Rattle.atl_tables.specs.declared.world.RegionPlan.{RegionPlan}
+use Rattle.atl_tables.proofs.GeneralLaws.{one_more}
 use Rattle.atl_tables.proofs.regions.by_number.Goals as goal
-
-at_most : (b : Bool) (n : ℕ) → cond b n (n + 1) ≤ n + 1
-at_most true n = omega arith
-at_most false n = omega arith
-
-one_more : (m : FinMap nat_cmp RegionPlan) (k : ℕ) (p : RegionPlan) → len (insert m k p) ≤ len m + 1
-one_more m k p = rw (len-insert nat_cmp_total m k p) (at_most (contains_key m k) (len m))
 
 pub loop-plan-init : goal.loop-plan-init
 loop-plan-init c = record {

@@ -1,7 +1,8 @@
 use Rattle.std.proofs.Common.{◌≡◌, ◌+◌, length, sym, ◌∙◌, [], arith, rules}
 use Rattle.std.specs.FinMap.{entries, entries_sorted, len-entries}
 use Rattle.atl_tables.specs.Sums.{numbers_where}
-use Rattle.atl_tables.proofs.TrackLaws.{is_true, len-marked}
+use Rattle.atl_tables.proofs.GeneralLaws.{is_true}
+use Rattle.atl_tables.proofs.TrackLaws.{len-marked}
 use Rattle.atl_tables.proofs.CountLaws.{begins_zero}
 use Rattle.atl_tables.proofs.tracked.count_marked.Goals as goal
 

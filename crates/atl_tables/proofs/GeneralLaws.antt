@@ -1,0 +1,47 @@
+-- General laws of truth values, numbers and keys, which the crates above cite, too.
+use Rattle.std.proofs.Common.{◌≡◌, ◌≢◌, ◌==◌, ◌∙◌, ◌+◌, ◌≤◌, ℕ, Bool, cond, true, false, T, nat_eq, ap, refl, sym, arith}
+use Rattle.std.specs.Ordering.{nat_cmp, eq_by_cmp}
+use Rattle.std.specs.Cmp.{nat_cmp_total, unsigned_tied}
+use Rattle.std.specs.FinMap.{FinMap, insert, len, len-insert, contains_key}
+use Rattle.std.proofs.lemmas.Bool.{false_from_ne_true}
+use Rattle.std.proofs.lemmas.Bool.Decides.{nat_tests}
+
+pub is_true : (b : Bool) → T b → b ≡ true
+is_true true h = refl
+is_true false h = absurd h
+
+-- ---- numbers
+
+pub is_equal : (a b : ℕ) → (a == b) ≡ true → a ≡ b
+is_equal a b test = grind (arith, nat_tests)
+
+pub is_unequal : (a b : ℕ) → (a == b) ≡ false → a ≢ b
+is_unequal a b test = grind (arith, nat_tests)
+
+pub equal_itself : (a : ℕ) → (a == a) ≡ true
+equal_itself a = grind (arith, nat_tests)
+
+pub equal_turned : (a b : ℕ) → nat_eq a b ≡ nat_eq b a
+equal_turned a b = grind (arith, nat_tests)
+
+-- ---- keys
+
+pub key_itself : (n : ℕ) → eq_by_cmp nat_cmp n n ≡ true
+key_itself n = unsigned_tied n n ∙ equal_itself n
+
+pub key_turned : (q r : ℕ) → eq_by_cmp nat_cmp q r ≡ (r == q)
+key_turned q r = unsigned_tied q r ∙ equal_turned q r
+
+pub same_key : (q r : ℕ) → eq_by_cmp nat_cmp q r ≡ true → q ≡ r
+same_key q r test = is_equal q r (sym (unsigned_tied q r) ∙ test)
+
+pub other_key : (q r : ℕ) → q ≢ r → eq_by_cmp nat_cmp q r ≡ false
+other_key q r apart = false_from_ne_true _ (λ same. apart (same_key q r same))
+
+at_most : (b : Bool) (n : ℕ) → cond b n (n + 1) ≤ n + 1
+at_most true n = omega arith
+at_most false n = omega arith
+
+-- a map with one entry put has at most one more
+pub one_more : {V : Type 0} (m : FinMap nat_cmp V) (k : ℕ) (v : V) → len (insert m k v) ≤ len m + 1
+one_more m k v = rw (len-insert nat_cmp_total m k v) (at_most (contains_key m k) (len m))
