@@ -5,31 +5,25 @@ use Rattle.atl_orders.specs.declared.fault.LineFault.TheVariants.{NoUnit, Unknow
 use Rattle.atl_orders.specs.declared.fault.MailFault.{MailFault}
 use Rattle.atl_orders.specs.declared.fault.MailFault.TheVariants.{TooLong, NoHeader, BadHeader, Memory}
 
+-- each fault by its number and its name
+abbrev pub line_fault : LineFault → ℕ × List ℕ
+line_fault NoUnit = (1, codes "NoUnit")
+line_fault UnknownOrder = (2, codes "UnknownOrder")
+line_fault BadNumber = (3, codes "BadNumber")
+line_fault UnknownThing = (4, codes "UnknownThing")
+line_fault MissingWord = (5, codes "MissingWord")
+line_fault BadByte = (6, codes "BadByte")
+line_fault BadAlias = (7, codes "BadAlias")
+line_fault NestedForm = (8, codes "NestedForm")
+line_fault EndAlone = (9, codes "EndAlone")
+line_fault BadDirection = (10, codes "BadDirection")
+line_fault BadName = (11, codes "BadName")
+
 abbrev pub fault_number : LineFault → ℕ
-fault_number NoUnit = 1
-fault_number UnknownOrder = 2
-fault_number BadNumber = 3
-fault_number UnknownThing = 4
-fault_number MissingWord = 5
-fault_number BadByte = 6
-fault_number BadAlias = 7
-fault_number NestedForm = 8
-fault_number EndAlone = 9
-fault_number BadDirection = 10
-fault_number BadName = 11
+fault_number fault = (line_fault fault).0
 
 abbrev pub fault_name : LineFault → List ℕ
-fault_name NoUnit = codes "NoUnit"
-fault_name UnknownOrder = codes "UnknownOrder"
-fault_name BadNumber = codes "BadNumber"
-fault_name UnknownThing = codes "UnknownThing"
-fault_name MissingWord = codes "MissingWord"
-fault_name BadByte = codes "BadByte"
-fault_name BadAlias = codes "BadAlias"
-fault_name NestedForm = codes "NestedForm"
-fault_name EndAlone = codes "EndAlone"
-fault_name BadDirection = codes "BadDirection"
-fault_name BadName = codes "BadName"
+fault_name fault = (line_fault fault).1
 
 -- the number of a refused mailing; want of memory has none
 abbrev pub mail_fault_number : MailFault → Option ℕ

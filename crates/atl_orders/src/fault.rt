@@ -2,34 +2,43 @@
 ghost use Rattle.std.specs.Prelude.{◌≡◌};
 ghost use Rattle.atl_orders.specs.declared.fault.MailFault.TheVariants.{Memory};
 
+use atl_tables::variant_names;
 use std::alloc::{AllocError, AllocFailed};
+use std::error::Error;
+use std::fmt;
 
 /// What is wrong with a line. The line gives no order then, and the other lines stand. See docs/FORMATS.md, "Line faults".
 #[derive(Drop, Clone, Copy, Debug, PartialEq, Eq)]
 pub enum LineFault {
     /// No unit is named for the order.
-    NoUnit,
+    NoUnit = 1,
     /// The first word is no keyword of an order.
-    UnknownOrder,
+    UnknownOrder = 2,
     /// A number was to stand here, from 1 to `MOST_NUMBER`; for GUARD 0 or 1.
-    BadNumber,
+    BadNumber = 3,
     /// Nothing has this name, or NAME is followed by none of the four words for what it names.
-    UnknownThing,
+    UnknownThing = 4,
     /// The line ends too early.
-    MissingWord,
+    MissingWord = 5,
     /// A byte other than tab and those from 32 to 126.
-    BadByte,
+    BadByte = 6,
     /// No number from 1 to `LAST_ALIAS`, or the alias of an earlier FORM without fault.
-    BadAlias,
+    BadAlias = 7,
     /// A FORM inside a block, which goes on.
-    NestedForm,
+    NestedForm = 8,
     /// An END without a block.
-    EndAlone,
+    EndAlone = 9,
     /// None of the four directions.
-    BadDirection,
+    BadDirection = 10,
     /// A name that breaks the rule of names.
-    BadName,
+    BadName = 11,
 }
+
+/// The names of the faults, by their numbers.
+const NAMES: [&str; 11] = variant_names!(
+    NoUnit UnknownOrder BadNumber UnknownThing MissingWord BadByte BadAlias NestedForm EndAlone
+    BadDirection BadName
+);
 
 impl LineFault {
     ghost use Rattle.atl_orders.specs.Faulting.{fault_number, fault_name};
@@ -38,40 +47,25 @@ impl LineFault {
     pub fn number(self) -> u8
         ensures { result ≡ fault_number self }
     {
-        match self {
-            LineFault::NoUnit => 1,
-            LineFault::UnknownOrder => 2,
-            LineFault::BadNumber => 3,
-            LineFault::UnknownThing => 4,
-            LineFault::MissingWord => 5,
-            LineFault::BadByte => 6,
-            LineFault::BadAlias => 7,
-            LineFault::NestedForm => 8,
-            LineFault::EndAlone => 9,
-            LineFault::BadDirection => 10,
-            LineFault::BadName => 11,
-        }
+        self as u8
     }
 
     /// The fault's name, as reports print it.
     pub fn name(self) -> &'static str
         ensures { result.now ≡ fault_name self }
     {
-        match self {
-            LineFault::NoUnit => "NoUnit",
-            LineFault::UnknownOrder => "UnknownOrder",
-            LineFault::BadNumber => "BadNumber",
-            LineFault::UnknownThing => "UnknownThing",
-            LineFault::MissingWord => "MissingWord",
-            LineFault::BadByte => "BadByte",
-            LineFault::BadAlias => "BadAlias",
-            LineFault::NestedForm => "NestedForm",
-            LineFault::EndAlone => "EndAlone",
-            LineFault::BadDirection => "BadDirection",
-            LineFault::BadName => "BadName",
-        }
+        NAMES[self as usize - 1]
     }
 }
+
+/// The number and the name, as `4 UnknownThing`.
+impl fmt::Display for LineFault {
+    fn fmt<W: fmt::Write>(&self, f: &mut fmt::Formatter<W>) -> fmt::Result {
+        write!(f, "{} {}", self.number(), self.name())
+    }
+}
+
+impl Error for LineFault {}
 
 /// A line, and what is wrong with it.
 #[derive(Drop, Clone, Copy, Debug, PartialEq, Eq)]
@@ -110,6 +104,18 @@ impl MailFault {
         }
     }
 }
+
+/// The number and the name, as `2 NoHeader`; `Memory` has its name alone.
+impl fmt::Display for MailFault {
+    fn fmt<W: fmt::Write>(&self, f: &mut fmt::Formatter<W>) -> fmt::Result {
+        match self.number() {
+            Some(number) => write!(f, "{number} {self:?}"),
+            None => write!(f, "{self:?}"),
+        }
+    }
+}
+
+impl Error for MailFault {}
 
 impl From<AllocError> for MailFault {
     ghost from_gives = { λ _ e. e ≡ Memory };

@@ -4,6 +4,7 @@ ghost use Rattle.atl_orders.specs.Words.{is_word};
 ghost use Rattle.atl_orders.specs.Views.{word_text};
 
 use crate::words::{Word, is_same};
+use atl_tables::variants;
 
 /// What an order does.
 #[derive(Drop, Clone, Copy, Debug, PartialEq, Eq)]
@@ -30,26 +31,10 @@ pub enum Verb {
 }
 
 /// The verbs of the order table, which FORM isn't in.
-const TABLE: [Verb; 18] = [
-    Verb::Name,
-    Verb::Guard,
-    Verb::Enter,
-    Verb::Leave,
-    Verb::Promote,
-    Verb::Give,
-    Verb::Pay,
-    Verb::Transfer,
-    Verb::Tax,
-    Verb::Recruit,
-    Verb::Quit,
-    Verb::Move,
-    Verb::Sail,
-    Verb::Build,
-    Verb::Teach,
-    Verb::Study,
-    Verb::Produce,
-    Verb::Work,
-];
+const TABLE: [Verb; 18] = variants!(
+    Verb: Name Guard Enter Leave Promote Give Pay Transfer Tax Recruit Quit Move Sail Build Teach Study
+    Produce Work
+);
 
 impl Verb {
     ghost use Rattle.atl_orders.specs.Verbs.{keyword, table, verb_of};

@@ -6,6 +6,8 @@ ghost use Rattle.atl_tables.specs.declared.fault.WorldFault.TheVariants.{Memory}
 
 use crate::text::Text;
 use std::alloc::{AllocError, AllocFailed};
+use std::error::Error;
+use std::fmt;
 
 /// The first fault of a world file, most with the path of the key, as `rules.growth`, or that there was no memory to read it.
 /// Nothing is made of the file then. See docs/FORMATS.md, "Faults of a world file".
@@ -32,40 +34,38 @@ pub enum WorldFault {
 }
 
 impl WorldFault {
+    /// The number and the name of the fault's sort.
+    fn sort(&self) -> (Option<u8>, &'static str)
+        ensures number { result.0 ≡ fault_number self.now }
+        ensures name { result.1.now ≡ fault_name self.now }
+    {
+        match self {
+            WorldFault::NotToml => (Some(1), "NotToml"),
+            WorldFault::Missing(_) => (Some(2), "Missing"),
+            WorldFault::WrongType(_) => (Some(3), "WrongType"),
+            WorldFault::OutOfRange(_) => (Some(4), "OutOfRange"),
+            WorldFault::TwoNames(_) => (Some(5), "TwoNames"),
+            WorldFault::UnknownName(_) => (Some(6), "UnknownName"),
+            WorldFault::BadNeighbour(_) => (Some(7), "BadNeighbour"),
+            WorldFault::NoLand => (Some(8), "NoLand"),
+            WorldFault::Memory => (None, "Memory"),
+        }
+    }
+
     /// The number of the fault's sort, from 1 to 8; `Memory` has none. A lower number doesn't always count first: `Missing`,
     /// `WrongType` and `OutOfRange` (2 to 4) count key by key, and the first key with one of them decides. See
     /// docs/FORMATS.md, "Faults of a world file".
     pub fn number(&self) -> Option<u8>
         ensures { result ≡ fault_number self.now }
     {
-        match self {
-            WorldFault::NotToml => Some(1),
-            WorldFault::Missing(_) => Some(2),
-            WorldFault::WrongType(_) => Some(3),
-            WorldFault::OutOfRange(_) => Some(4),
-            WorldFault::TwoNames(_) => Some(5),
-            WorldFault::UnknownName(_) => Some(6),
-            WorldFault::BadNeighbour(_) => Some(7),
-            WorldFault::NoLand => Some(8),
-            WorldFault::Memory => None,
-        }
+        self.sort().0
     }
 
     /// The name of the fault's sort, as `WrongType`.
     pub fn name(&self) -> &'static str
         ensures { result.now ≡ fault_name self.now }
     {
-        match self {
-            WorldFault::Memory => "Memory",
-            WorldFault::NotToml => "NotToml",
-            WorldFault::Missing(_) => "Missing",
-            WorldFault::WrongType(_) => "WrongType",
-            WorldFault::OutOfRange(_) => "OutOfRange",
-            WorldFault::TwoNames(_) => "TwoNames",
-            WorldFault::UnknownName(_) => "UnknownName",
-            WorldFault::BadNeighbour(_) => "BadNeighbour",
-            WorldFault::NoLand => "NoLand",
-        }
+        self.sort().1
     }
 
     /// The path of the key that the fault is about, as `rules.growth`. `NotToml`, `NoLand` and `Memory` have none.
@@ -83,6 +83,20 @@ impl WorldFault {
         }
     }
 }
+
+/// The number, the name and the path, as `3 WrongType rules.growth`, as far as the fault has them.
+impl fmt::Display for WorldFault {
+    fn fmt<W: fmt::Write>(&self, f: &mut fmt::Formatter<W>) -> fmt::Result {
+        let name = self.name();
+        match (self.number(), self.path()) {
+            (Some(number), Some(path)) => write!(f, "{number} {name} {}", path.as_str()),
+            (Some(number), None) => write!(f, "{number} {name}"),
+            (None, _) => write!(f, "{name}"),
+        }
+    }
+}
+
+impl Error for WorldFault {}
 
 impl From<AllocError> for WorldFault {
     ghost from_gives = { λ _ e. e ≡ Memory };

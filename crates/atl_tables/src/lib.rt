@@ -26,6 +26,7 @@ mod terrain_table;
 mod text;
 mod titled;
 mod tracked;
+mod variants;
 mod world;
 
 pub use direction::Direction;
