@@ -46,9 +46,9 @@ module _ {A : Type 0} (title : A → List ℕ) where
   by_test true f h = absurd (cc)
   by_test false f h = refl
 
-  no_twin : (key : List ℕ) (all : List A) (i : ℕ) (x : A) → first_fault (twin_at title key all i x) ≡ None → is_before x (take i all) ≡ false
+  no_twin : (array key : List ℕ) (all : List A) (i : ℕ) (x : A) → first_fault (twin_at title array key all i x) ≡ None → is_before x (take i all) ≡ false
   unfolding twin_at
-  no_twin key all i x h = by_test (is_before x (take i all)) (TwoNames (path (indexed key i) (codes "name"))) h
+  no_twin array key all i x h = by_test (is_before x (take i all)) (TwoNames (path (indexed array i) key)) h
 
   head_differs : (x : A) (xs : List A) → ((k : ℕ) (y : A) → slice_get xs k ≡ Some y → same_name (title x) (title y) ≡ false) → AllByRecursion (λ n. same_name (title x) n ≡ false) (map title xs)
   head_differs x [] h = tt
@@ -65,8 +65,8 @@ module _ {A : Type 0} (title : A → List ℕ) where
       IsDistinct-cons same_name (title x) (map title xs) (head_differs x xs (λ k y e. in_middle front (take k xs) x y (h (suc k) y e)))
       (differ_behind (front ++ x ∷ []) xs (λ k y e. ap (is_before y) (append_assoc front (x ∷ []) (take k xs)) ∙ h (suc k) y e))
 
-  pub differ : (key : List ℕ) (all : List A) → first_fault (twins title key all) ≡ None → NamesDiffer (map title all)
-  differ key all h = differ_behind [] all (λ k x e. let same : 0 + k ≡ k = omega arith in no_twin key all k x (rw same at (at_each (twin_at title key all) 0 all h k x e)))
+  pub differ : (array key : List ℕ) (all : List A) → first_fault (twins title array key all) ≡ None → NamesDiffer (map title all)
+  differ array key all h = differ_behind [] all (λ k x e. let same : 0 + k ≡ k = omega arith in no_twin array key all k x (rw same at (at_each (twin_at title array key all) 0 all h k x e)))
 
 -- the names stay where a table stands for something
 pub names_kept : {A B : Type 0} (f : A → B) (n : A → List ℕ) (m : B → List ℕ) → ((x : A) → m (f x) ≡ n x) → (xs : List A) → map m (map f xs) ≡ map n xs
@@ -77,17 +77,17 @@ names_kept f n m h (x ∷ xs) = rw (h x, names_kept f n m h xs) refl
 pub have_names : (all : Tables) → first_fault (names_differ all) ≡ None → HaveNames all
 unfolding names_differ
 have_names all h =
-    let terrains = twins (λ d. d.name) (codes "terrain") all.terrains in
-    let items = twins (λ d. d.name) (codes "item") all.items in
-    let skills = twins (λ s. s.name) (codes "skill") all.skills in
-    let kinds = twins (λ d. d.name) (codes "kind") all.kinds in
+    let terrains = twins (λ d. d.name) (codes "terrain") (codes "name") all.terrains in
+    let items = twins (λ d. d.name) (codes "item") (codes "name") all.items in
+    let skills = twins (λ s. s.name) (codes "skill") (codes "name") all.skills in
+    let kinds = twins (λ d. d.name) (codes "kind") (codes "name") all.kinds in
     let others = twin_numbers all.regions ++ each terrain_twins 0 all.terrains in
     let behind_terrains = back_none terrains (items ++ (skills ++ (kinds ++ others))) h in
     let behind_items = back_none items (skills ++ (kinds ++ others)) behind_terrains in
     let behind_skills = back_none skills (kinds ++ others) behind_items in
     record {
-      terrains = differ (λ d. d.name) (codes "terrain") all.terrains (front_none terrains (items ++ (skills ++ (kinds ++ others))) h);
-      items = differ (λ d. d.name) (codes "item") all.items (front_none items (skills ++ (kinds ++ others)) behind_terrains);
-      skills = differ (λ s. s.name) (codes "skill") all.skills (front_none skills (kinds ++ others) behind_items);
-      kinds = differ (λ d. d.name) (codes "kind") all.kinds (front_none kinds others behind_skills);
+      terrains = differ (λ d. d.name) (codes "terrain") (codes "name") all.terrains (front_none terrains (items ++ (skills ++ (kinds ++ others))) h);
+      items = differ (λ d. d.name) (codes "item") (codes "name") all.items (front_none items (skills ++ (kinds ++ others)) behind_terrains);
+      skills = differ (λ s. s.name) (codes "skill") (codes "name") all.skills (front_none skills (kinds ++ others) behind_items);
+      kinds = differ (λ d. d.name) (codes "kind") (codes "name") all.kinds (front_none kinds others behind_skills);
     }

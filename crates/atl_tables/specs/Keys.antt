@@ -82,7 +82,7 @@ optional_text_at key at t = optional (λ d. typed (path at key) (as_str d)) (get
 unfoldable pub optional_table_at : List ℕ → List ℕ → Members → Result Members WorldFault
 optional_table_at key at t = or_else no_members (λ d. typed (path at key) (as_table d)) (get_member key t)
 
--- ---- under a key of the document: a table, an array of 1 to so many elements, and one of at most so many
+-- ---- under a key of the document: a table, and an array of 1 to so many elements
 unfoldable pub table_at : List ℕ → Members → Result Members WorldFault
 table_at key doc = present key (λ d. typed key (as_table d)) (get_member key doc)
 
@@ -97,5 +97,6 @@ sized key least most (Some ds) = if nat_le least (count_of ds) && nat_le (count_
 unfoldable pub array_at : ℕ → List ℕ → Members → Result Items WorldFault
 array_at most key doc = present key (λ d. sized key 1 most (as_array d)) (get_member key doc)
 
-unfoldable pub optional_array_at : ℕ → List ℕ → Members → Result Items WorldFault
-optional_array_at most key doc = or_else no_items (λ d. sized key 0 most (as_array d)) (get_member key doc)
+-- an array of at most so many elements, which is empty where it is missing, by its path and its key
+unfoldable pub optional_array_at : ℕ → List ℕ → List ℕ → Members → Result Items WorldFault
+optional_array_at most array key t = or_else no_items (λ d. sized array 0 most (as_array d)) (get_member key t)

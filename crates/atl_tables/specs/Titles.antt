@@ -1,5 +1,5 @@
 -- Names that may stand once only, and the numbers that names stand for.
-use Rattle.std.specs.Prelude.{ℕ, List, [], ◌∷◌, take, codes, Option, Some, None, if◌then◌else◌}
+use Rattle.std.specs.Prelude.{ℕ, List, [], ◌∷◌, take, Option, Some, None, if◌then◌else◌}
 use Rattle.std.specs.List.{list_any, position_from}
 use Rattle.atl_tables.specs.declared.fault.WorldFault.{WorldFault}
 use Rattle.atl_tables.specs.declared.fault.WorldFault.TheVariants.{TwoNames, UnknownName}
@@ -10,12 +10,12 @@ use Rattle.atl_tables.specs.Keys.{path, indexed}
 use Rattle.atl_tables.specs.Names.{same_name}
 
 module _ {A : Type 0} (title : A → List ℕ) where
-  -- no element before this one has its name
-  unfoldable pub twin_at : List ℕ → List A → ℕ → A → Conditions
-  twin_at key all i x = (if list_any (λ y. same_name (title y) (title x)) (take i all) then Some (TwoNames (path (indexed key i) (codes "name"))) else None) ∷ []
+  -- no element of the array before this one has the name that it has under a key
+  unfoldable pub twin_at : List ℕ → List ℕ → List A → ℕ → A → Conditions
+  twin_at array key all i x = (if list_any (λ y. same_name (title y) (title x)) (take i all) then Some (TwoNames (path (indexed array i) key)) else None) ∷ []
 
-  abbrev pub twins : List ℕ → List A → Conditions
-  twins key all = each (twin_at key all) 0 all
+  abbrev pub twins : List ℕ → List ℕ → List A → Conditions
+  twins array key all = each (twin_at array key all) 0 all
 
   -- the number of the first element with this name
   unfoldable pub number_of : List A → List ℕ → Option ℕ

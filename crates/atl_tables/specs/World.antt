@@ -28,9 +28,9 @@ use Rattle.atl_tables.specs.declared.world.RegionPlan.{RegionPlan}
 -- what the tables say, where each key keeps its rule: those that may be missing, and all
 unfoldable pub things_of : Members → Things
 things_of doc = record {
-  items = list_of item_from (codes "item") (optional_array_at most_items (codes "item") doc);
-  skills = list_of skill_from (codes "skill") (optional_array_at most_skills (codes "skill") doc);
-  kinds = list_of kind_from (codes "kind") (optional_array_at most_kinds (codes "kind") doc);
+  items = list_of item_from (codes "item") (optional_array_at most_items (codes "item") (codes "item") doc);
+  skills = list_of skill_from (codes "skill") (optional_array_at most_skills (codes "skill") (codes "skill") doc);
+  kinds = list_of kind_from (codes "kind") (optional_array_at most_kinds (codes "kind") (codes "kind") doc);
 }
 
 unfoldable pub tables_of : Members → Tables
@@ -61,9 +61,9 @@ planet_of all = record {
 -- every key is there, has its type and is in its range: in items, skills and kinds, and in all tables
 unfoldable pub things_are_good : Members → Conditions
 things_are_good doc =
-    list_conditions item_keys (codes "item") (optional_array_at most_items (codes "item") doc)
-    ++ (list_conditions skill_keys (codes "skill") (optional_array_at most_skills (codes "skill") doc)
-    ++ list_conditions kind_keys (codes "kind") (optional_array_at most_kinds (codes "kind") doc))
+    list_conditions item_keys (codes "item") (optional_array_at most_items (codes "item") (codes "item") doc)
+    ++ (list_conditions skill_keys (codes "skill") (optional_array_at most_skills (codes "skill") (codes "skill") doc)
+    ++ list_conditions kind_keys (codes "kind") (optional_array_at most_kinds (codes "kind") (codes "kind") doc))
 
 unfoldable pub keys_are_good : Members → Conditions
 keys_are_good doc =
@@ -75,10 +75,10 @@ keys_are_good doc =
 -- no name and no number stands twice
 unfoldable pub names_differ : Tables → Conditions
 names_differ all =
-    twins (λ d. d.name) (codes "terrain") all.terrains
-    ++ (twins (λ d. d.name) (codes "item") all.items
-    ++ (twins (λ s. s.name) (codes "skill") all.skills
-    ++ (twins (λ d. d.name) (codes "kind") all.kinds
+    twins (λ d. d.name) (codes "terrain") (codes "name") all.terrains
+    ++ (twins (λ d. d.name) (codes "item") (codes "name") all.items
+    ++ (twins (λ s. s.name) (codes "skill") (codes "name") all.skills
+    ++ (twins (λ d. d.name) (codes "kind") (codes "name") all.kinds
     ++ (twin_numbers all.regions
     ++ each terrain_twins 0 all.terrains))))
 

@@ -83,24 +83,25 @@ pub(crate) fn list<E: Element>(
     }
 }
 
-/// The elements of the array under a key of the document, at most so many, or none where there is no such array; else
-/// WrongType or OutOfRange of the array, or the first fault of an element.
+/// The elements of the array at a path, which is under a key of the table, at most so many, or none where there is no such
+/// array; else WrongType or OutOfRange of the array, or the first fault of an element.
 #[tactic(auto, unfolding(crate::specs::Arrays::list_conditions, crate::specs::Arrays::list_of, crate::specs::Keys::optional_array_at))]
 pub(crate) fn optional_list<E: Element>(
     alloc: Global,
     most: usize,
+    array: &str,
     key: &str,
-    document: &Table,
+    table: &Table,
 ) -> Result<Sequence<E>, WorldFault>
-    ensures value { Gives (λ v. v) result (first_fault (list_conditions E.conditions key.now (optional_array_at most key.now (table_view document.now)))) (list_of E.record_of key.now (optional_array_at most key.now (table_view document.now))) }
+    ensures value { Gives (λ v. v) result (first_fault (list_conditions E.conditions array.now (optional_array_at most array.now key.now (table_view table.now)))) (list_of E.record_of array.now (optional_array_at most array.now key.now (table_view table.now))) }
     ensures sound { IfOk result (λ v. All E.is_sound v) }
     ensures most { IfOk result (λ v. length v ≤ most) }
 {
-    match member(document, key) {
+    match member(table, key) {
         None => Ok(Sequence::new(alloc)),
         Some(value) => {
-            let values = sized(alloc, 0, most, key, value)?;
-            Ok(Sequence::from_vec(elements(alloc, key, values)?))
+            let values = sized(alloc, 0, most, array, value)?;
+            Ok(Sequence::from_vec(elements(alloc, array, values)?))
         }
     }
 }

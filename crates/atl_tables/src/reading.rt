@@ -50,9 +50,9 @@ fn read_things(alloc: Global, document: &Table) -> Result<Things, WorldFault>
     ensures value { Gives (λ t. t) result (first_fault (things_are_good (table_view document.now))) (things_of (table_view document.now)) }
     ensures sound { IfOk result AreThings }
 {
-    let items = optional_list::<ItemDraft>(alloc, MOST_ITEMS, "item", document)?;
-    let skills = optional_list::<Skill>(alloc, MOST_SKILLS, "skill", document)?;
-    let kinds = optional_list::<KindDraft>(alloc, MOST_KINDS, "kind", document)?;
+    let items = optional_list::<ItemDraft>(alloc, MOST_ITEMS, "item", "item", document)?;
+    let skills = optional_list::<Skill>(alloc, MOST_SKILLS, "skill", "skill", document)?;
+    let kinds = optional_list::<KindDraft>(alloc, MOST_KINDS, "kind", "kind", document)?;
     Ok(Things {
         items,
         skills,
@@ -90,10 +90,10 @@ fn tables(alloc: Global, document: &Table) -> Result<Tables, WorldFault>
 fn names_differ(alloc: Global, all: &Tables) -> Result<(), WorldFault>
     ensures { Gives (λ u. u) result (first_fault (names_differ all.now)) (tt {0}) }
 {
-    no_twins(alloc, "terrain", all.terrains.as_slice())?;
-    no_twins(alloc, "item", all.items.as_slice())?;
-    no_twins(alloc, "skill", all.skills.as_slice())?;
-    no_twins(alloc, "kind", all.kinds.as_slice())?;
+    no_twins(alloc, "terrain", "name", all.terrains.as_slice())?;
+    no_twins(alloc, "item", "name", all.items.as_slice())?;
+    no_twins(alloc, "skill", "name", all.skills.as_slice())?;
+    no_twins(alloc, "kind", "name", all.kinds.as_slice())?;
     no_twin_numbers(alloc, all.regions.as_slice())?;
     no_twins_in_outputs(alloc, all.terrains.as_slice())
 }

@@ -34,14 +34,19 @@ pub(crate) fn is_among<T: Titled>(items: &[T], name: &Text) -> bool
     items.iter().any(|item| same_name(item.title(), name))
 }
 
-/// That no two names are equal, ignoring ASCII case, else TwoNames at the second.
-pub(crate) fn no_twins<T: Titled>(alloc: Global, key: &str, items: &[T]) -> Result<(), WorldFault>
-    ensures { Gives (λ u. u) result (first_fault (twins T.title_of key.now items.now)) (tt {0}) }
+/// That no two elements of the array at a path have equal names under a key, ignoring ASCII case, else TwoNames at the second.
+pub(crate) fn no_twins<T: Titled>(
+    alloc: Global,
+    array: &str,
+    key: &str,
+    items: &[T],
+) -> Result<(), WorldFault>
+    ensures { Gives (λ u. u) result (first_fault (twins T.title_of array.now key.now items.now)) (tt {0}) }
 {
     for i in 0..items.len() {
         if is_among(&items[..i], items[i].title()) {
-            let place = indexed(alloc, key, i)?;
-            return Err(WorldFault::TwoNames(path(alloc, place.as_str(), "name")?));
+            let place = indexed(alloc, array, i)?;
+            return Err(WorldFault::TwoNames(path(alloc, place.as_str(), key)?));
         }
     }
     Ok(())

@@ -10,16 +10,16 @@ use Rattle.atl_tables.proofs.FaultLaws.{exits, stops_on, stops_after, gives_afte
 use Rattle.atl_tables.proofs.reading.names_differ.Goals as goal
 
 abbrev terrains : Tables → Conditions
-terrains all = twins (λ d. d.name) (codes "terrain") all.terrains
+terrains all = twins (λ d. d.name) (codes "terrain") (codes "name") all.terrains
 
 abbrev items : Tables → Conditions
-items all = twins (λ d. d.name) (codes "item") all.items
+items all = twins (λ d. d.name) (codes "item") (codes "name") all.items
 
 abbrev skills : Tables → Conditions
-skills all = twins (λ s. s.name) (codes "skill") all.skills
+skills all = twins (λ s. s.name) (codes "skill") (codes "name") all.skills
 
 abbrev kinds : Tables → Conditions
-kinds all = twins (λ d. d.name) (codes "kind") all.kinds
+kinds all = twins (λ d. d.name) (codes "kind") (codes "name") all.kinds
 
 abbrev numbers : Tables → Conditions
 numbers all = twin_numbers all.regions

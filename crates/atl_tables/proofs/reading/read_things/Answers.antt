@@ -13,13 +13,13 @@ use Rattle.atl_tables.proofs.FaultLaws.{exits, stops_on, stops_after, passes_bot
 use Rattle.atl_tables.proofs.reading.read_things.Goals as goal
 
 abbrev items : Members → Conditions
-items doc = list_conditions item_keys (codes "item") (optional_array_at most_items (codes "item") doc)
+items doc = list_conditions item_keys (codes "item") (optional_array_at most_items (codes "item") (codes "item") doc)
 
 abbrev skills : Members → Conditions
-skills doc = list_conditions skill_keys (codes "skill") (optional_array_at most_skills (codes "skill") doc)
+skills doc = list_conditions skill_keys (codes "skill") (optional_array_at most_skills (codes "skill") (codes "skill") doc)
 
 abbrev kinds : Members → Conditions
-kinds doc = list_conditions kind_keys (codes "kind") (optional_array_at most_kinds (codes "kind") doc)
+kinds doc = list_conditions kind_keys (codes "kind") (optional_array_at most_kinds (codes "kind") (codes "kind") doc)
 
 pub returns-in_err-items-clause-value : goal.returns-in_err-items-clause-value
 unfolding things_are_good

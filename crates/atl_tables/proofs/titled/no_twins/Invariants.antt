@@ -5,4 +5,4 @@ use Rattle.atl_tables.specs.Titles.{twin_at}
 use Rattle.atl_tables.proofs.titled.no_twins.Given as goal
 
 abbrev pub invariant-loop-i : goal.invariant-loop-i
-invariant-loop-i g l = first_fault (each (twin_at g.T.Titled.title_of l.key l.items) l.i (drop l.i l.items)) ≡ first_fault (each (twin_at g.T.Titled.title_of l.key l.items) 0 l.items)
+invariant-loop-i g l = first_fault (each (twin_at g.T.Titled.title_of l.array l.key l.items) l.i (drop l.i l.items)) ≡ first_fault (each (twin_at g.T.Titled.title_of l.array l.key l.items) 0 l.items)
