@@ -8,6 +8,7 @@ use Rattle.sqlite_schema.specs.declared.schema.Schema.{Schema}
 use Rattle.sqlite_schema.specs.declared.schema.Reference.{Reference}
 use Rattle.sqlite_schema.specs.declared.schema.Keys.TheVariants.{Enforced}
 use Rattle.sqlite_rules.specs.Lists.{Has}
+use Rattle.sqlite_rules.proofs.ListLemmas.{has_left}
 use Rattle.sqlite_rules.specs.Keys.{shares}
 use Rattle.sqlite_schema.specs.Rules.{guards}
 use Rattle.sqlite_rules.specs.Action.{works, Work, work_for}
@@ -35,13 +36,8 @@ none_share t target new r (i ∷ indexes) plain = rw (plain i (inl refl)) (none_
 
 -- ---- one of the nine is one of all
 
-pub one_of : (tables : List Table) (t : Table) (ours : List Table) → Has ours t → Has (ours ++ tables) t
-one_of tables t [] there = absurd there
-one_of tables t (x ∷ ours) (inl same) = inl same
-one_of tables t (x ∷ ours) (inr later) = inr (one_of tables t ours later)
-
 pub nine_among : (tables : List Table) (t : Table) → Has all_tables t → Has (all_tables ++ tables) t
-nine_among tables t there = one_of tables t all_tables there
+nine_among tables t there = has_left all_tables tables t there
 
 -- the trees are sound under the schema as it is known
 pub sound_under : (db : Database) (has : HasTables db) → IsSoundly (nine_and has.nine.tables has.nine.indexes) db.trees

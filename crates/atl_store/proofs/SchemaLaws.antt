@@ -1,5 +1,7 @@
--- From the tests of a schema to the schema that begins with the nine tables.
-use Rattle.std.proofs.Common.{◌≡◌, ◌==◌, inl, inr, ℕ, ◌≤◌, ◌<◌, ◌++◌, Bool, true, false, codes, List, [], ◌∷◌, length, get_or, refl, sym, ap, ◌∙◌, subst, arith}
+-- From the tests of a schema to the schema that begins with the tables of a campaign.
+use Rattle.std.proofs.Common.{◌≡◌, ◌==◌, ◌||◌, inl, inr, ℕ, ◌≤◌, ◌<◌, ◌++◌, Bool, true, false, codes, List, [], ◌∷◌, length, get_or, take, map, append_assoc, refl, sym, ap, ◌∙◌, subst, arith}
+use Rattle.std.proofs.lemmas.Bool.{and_right, or_parts}
+use Rattle.std.proofs.lemmas.List.{take-map}
 use Rattle.std.specs.Bool.{Decides}
 use Rattle.std.specs.List.{AllByRecursion, list_any}
 use Rattle.std.specs.Fmt.{decimal}
@@ -10,8 +12,9 @@ use Rattle.sqlite_schema.specs.declared.schema.Table.{Table}
 use Rattle.sqlite_schema.specs.declared.schema.Index.{Index}
 use Rattle.sqlite_schema.specs.Rules.{guards}
 use Rattle.sqlite_rules.specs.Lists.{Has}
-use Rattle.sqlite_rules.proofs.ListLemmas.{all_has}
-use Rattle.atl_store.specs.Tables.{all_indexes, IsHarmless, AreTables, AreIndexes, HasNine}
+use Rattle.sqlite_rules.proofs.ListLemmas.{all_has, all_from, has_left, has_either}
+use Rattle.sqlite_trees.proofs.ListLemmas.{all-append}
+use Rattle.atl_store.specs.Tables.{all_tables, all_indexes, IsHarmless, AreTables, AreIndexes, Begins}
 
 -- a list of one element, which is this one
 pub only_one : {A : Type 0} (xs : List A) (x d : A) → 1 ≤ length xs → length xs < 2 → d ≡ get_or xs 0 d → d ≡ x → xs ≡ x ∷ []
@@ -34,29 +37,59 @@ spares i (t ∷ tables) unique spared =
     let rest = spares i tables unique (λ u there. spared u (inr there)) in
     rw (first, rest) refl
 
+-- an index of another table guards nothing of these
+pub guards_not : (i : Index) (tables : List Table) → list_any (λ t. i.table == t.tree) tables ≡ false → (t : Table) → Has tables t → guards i t ≡ false
+guards_not i [] none t there = absurd there
+guards_not i (x ∷ tables) none t (inl same) = ap (λ (u : Table). guards i u) same ∙ and_right i.is_unique _ (or_parts _ _ none).0
+guards_not i (x ∷ tables) none t (inr later) = guards_not i tables (or_parts _ _ none).1 t later
+
+-- ---- the trees of the first tables
+
+any_mapped : {A B : Type 0} (f : A → B) (p : B → Bool) (xs : List A) → list_any p (map f xs) ≡ list_any (λ x. p (f x)) xs
+any_mapped f p [] = refl
+any_mapped f p (x ∷ xs) = ap (λ b. p (f x) || b) (any_mapped f p xs)
+
+-- the first so many trees are those of the first so many tables
+pub our_trees : (tree count : ℕ) → list_any (λ n. tree == n) (take count (map (λ (t : Table). t.tree) all_tables)) ≡ list_any (λ t. tree == t.tree) (take count all_tables)
+our_trees tree count = ap (list_any (λ n. tree == n)) (take-map (λ (t : Table). t.tree) count all_tables) ∙ any_mapped (λ (t : Table). t.tree) (λ n. tree == n) (take count all_tables)
+
 -- ---- the whole schema
 
-pub nine_made : (schema : Schema) → AreTables schema.tables → AreIndexes schema.indexes → schema.views ≡ [] → HasNine schema
-nine_made schema tables indexes none = record {
-  tables = tables.others;
-  indexes = indexes.others;
-  is =
-      ap (λ (v : List _). record { tables = schema.tables; indexes = schema.indexes; views = v }) none
-      ∙ ap (λ (i : List Index). record { tables = schema.tables; indexes = i; views = [] }) indexes.is
-      ∙ ap (λ (t : List Table). record { tables = t; indexes = all_indexes ++ indexes.others; views = [] }) tables.is;
-  free = tables.free;
-  plain = λ i there. all_has IsHarmless indexes.others i indexes.plain there;
-}
+module _ (count keys : ℕ) (schema : Schema) where
+  pub begins_made : AreTables count schema.tables → AreIndexes count keys schema.indexes → schema.views ≡ [] → Begins count keys schema
+  begins_made tables indexes none = record {
+    tables = tables.others;
+    indexes = indexes.others;
+    is =
+        ap (λ (v : List _). record { tables = schema.tables; indexes = schema.indexes; views = v }) none
+        ∙ ap (λ (i : List Index). record { tables = schema.tables; indexes = i; views = [] }) indexes.is
+        ∙ ap (λ (t : List Table). record { tables = t; indexes = take keys all_indexes ++ indexes.others; views = [] }) tables.is;
+    free = tables.free;
+    plain = λ i there. all_has (IsHarmless count) indexes.others i indexes.plain there;
+  }
 
-all_of : {X : Type 0} (P : X → Type 0) (xs : List X) → ((x : X) → Has xs x → P x) → AllByRecursion P xs
-all_of P [] each = tt
-all_of P (x ∷ xs) each = (each x (inl refl), all_of P xs (λ y there. each y (inr there)))
+  pub its_tables : Begins count keys schema → AreTables count schema.tables
+  its_tables begins = record { others = begins.tables; is = ap (λ (s : Schema). s.tables) begins.is; free = begins.free }
 
-pub nine_tables : (schema : Schema) → HasNine schema → AreTables schema.tables
-nine_tables schema nine = record { others = nine.tables; is = ap (λ (s : Schema). s.tables) nine.is; free = nine.free }
+  pub its_indexes : Begins count keys schema → AreIndexes count keys schema.indexes
+  its_indexes begins = record { others = begins.indexes; is = ap (λ (s : Schema). s.indexes) begins.is; plain = all_from (IsHarmless count) begins.indexes begins.plain }
 
-pub nine_indexes : (schema : Schema) → HasNine schema → AreIndexes schema.indexes
-nine_indexes schema nine = record { others = nine.indexes; is = ap (λ (s : Schema). s.indexes) nine.is; plain = all_of IsHarmless nine.indexes nine.plain }
+  pub no_views : Begins count keys schema → schema.views ≡ []
+  no_views begins = ap (λ (s : Schema). s.views) begins.is
 
-pub no_views : (schema : Schema) → HasNine schema → schema.views ≡ []
-no_views schema nine = ap (λ (s : Schema). s.views) nine.is
+  -- It begins with fewer of them too, where of the tables between none has a foreign key and the indexes between make nothing of the fewer unique.
+  pub begins_with_fewer : (fewer fewer_keys : ℕ) (tables : List Table) (indexes : List Index) → take count all_tables ≡ take fewer all_tables ++ tables → take keys all_indexes ≡ take fewer_keys all_indexes ++ indexes
+      → AllByRecursion (λ t. t.references ≡ []) tables → AllByRecursion (IsHarmless fewer) indexes → Begins count keys schema → Begins fewer fewer_keys schema
+  begins_with_fewer fewer fewer_keys tables indexes first first_keys free plain begins = record {
+    tables = tables ++ begins.tables;
+    indexes = indexes ++ begins.indexes;
+    is =
+        begins.is
+        ∙ ap (λ (t : List Table). record { tables = t; indexes = take keys all_indexes ++ begins.indexes; views = [] }) (ap (λ l. l ++ begins.tables) first ∙ append_assoc (take fewer all_tables) tables begins.tables)
+        ∙ ap (λ (i : List Index). record { tables = take fewer all_tables ++ (tables ++ begins.tables); indexes = i; views = [] }) (ap (λ l. l ++ begins.indexes) first_keys ∙ append_assoc (take fewer_keys all_indexes) indexes begins.indexes);
+    free = all-append _ tables begins.tables free begins.free;
+    plain = λ i there. elim (has_either indexes begins.indexes i there) [
+      | inl between ↦ all_has (IsHarmless fewer) indexes i plain between
+      | inr behind ↦ λ t ours. begins.plain i behind t (subst (λ l. Has l t) (sym first) (has_left (take fewer all_tables) tables t ours))
+    ];
+  }

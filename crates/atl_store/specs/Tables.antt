@@ -90,33 +90,43 @@ first_tables tables indexes = record { tables = take tables all_tables; indexes 
 abbrev pub no_tables : Schema
 no_tables = first_tables 0 0
 
--- the nine tables with their indexes, and what came behind them
-abbrev pub nine_and : List Table → List Index → Schema
-nine_and tables indexes = record { tables = all_tables ++ tables; indexes = all_indexes ++ indexes; views = [] }
+-- the first so many tables with so many indexes, and what came behind them
+abbrev pub first_and : ℕ → ℕ → List Table → List Index → Schema
+first_and count keys tables indexes = record { tables = take count all_tables ++ tables; indexes = take keys all_indexes ++ indexes; views = [] }
 
--- an index that makes nothing of the nine tables unique
-abbrev pub IsHarmless : Index → Type 0
-IsHarmless i = (t : Table) → Has all_tables t → guards i t ≡ false
+-- an index that makes nothing of the first so many tables unique
+abbrev pub IsHarmless : ℕ → Index → Type 0
+IsHarmless count i = (t : Table) → Has (take count all_tables) t → guards i t ≡ false
 
--- The nine tables come first. Other tables without a foreign key may have come behind them,
-pub record AreTables (all : List Table) : Type 0 where
+-- So many of the tables come first. Other tables without a foreign key may have come behind them,
+pub record AreTables (count : ℕ) (all : List Table) : Type 0 where
   pub others : List Table
-  pub is : all ≡ all_tables ++ others
+  pub is : all ≡ take count all_tables ++ others
   pub free : AllByRecursion (λ t. t.references ≡ []) others
 
--- and indexes that make nothing of the nine unique.
-pub record AreIndexes (all : List Index) : Type 0 where
+-- and behind so many of their indexes those that make nothing of these tables unique.
+pub record AreIndexes (count keys : ℕ) (all : List Index) : Type 0 where
   pub others : List Index
-  pub is : all ≡ all_indexes ++ others
-  pub plain : AllByRecursion IsHarmless others
+  pub is : all ≡ take keys all_indexes ++ others
+  pub plain : AllByRecursion (IsHarmless count) others
 
--- The schema begins with the nine tables, and there is no view and no trigger.
-pub record HasNine (schema : Schema) : Type 0 where
+-- The schema begins with so many of the tables, which have so many indexes, and there is no view and no trigger.
+pub record Begins (count keys : ℕ) (schema : Schema) : Type 0 where
   pub tables : List Table
   pub indexes : List Index
-  pub is : schema ≡ nine_and tables indexes
+  pub is : schema ≡ first_and count keys tables indexes
   pub free : AllByRecursion (λ t. t.references ≡ []) tables
-  pub plain : (i : Index) → Has indexes i → IsHarmless i
+  pub plain : (i : Index) → Has indexes i → IsHarmless count i
+
+-- ---- the schema of a campaign
+
+-- the nine tables with their indexes, and what came behind them
+abbrev pub nine_and : List Table → List Index → Schema
+nine_and = first_and 9 3
+
+-- the schema begins with the nine tables
+abbrev pub HasNine : Schema → Type 0
+HasNine = Begins 9 3
 
 -- the trees of the nine tables
 abbrev pub nine_trees : List ℕ

@@ -1,8 +1,8 @@
-//! Whether the schema of a file begins with the nine tables. See docs/FORMATS.md, "Tables".
-ghost use Rattle.std.specs.Prelude.{◌≡◌, []};
+//! Whether the schema of a file begins with the tables of a campaign. See docs/FORMATS.md, "Tables".
+ghost use Rattle.std.specs.Prelude.{◌≡◌, ◌≤◌, [], length};
 ghost use Rattle.std.specs.Bool.{Decides};
 ghost use Rattle.std.specs.List.{AllByRecursion};
-ghost use Rattle.atl_store.specs.Tables.{AreTables, HasNine};
+ghost use Rattle.atl_store.specs.Tables.{all_tables, all_indexes, AreTables, Begins, HasNine};
 
 mod checks;
 mod columns;
@@ -14,7 +14,7 @@ mod tables;
 
 use indexes::are_indexes;
 use sqlite_schema::schema::{Schema, Table};
-use tables::{are_first_three, are_last_three, are_next_three};
+use tables::are_first_tables;
 
 /// A table with no foreign key.
 fn is_free(found: &Table) -> bool
@@ -34,15 +34,27 @@ fn are_free(tables: &[Table]) -> bool
     true
 }
 
-/// The nine tables, and tables without a foreign key behind them.
-fn are_tables(tables: &[Table]) -> bool
-    ensures { Decides result (AreTables tables.now) }
+/// So many of the tables of a campaign, and tables without a foreign key behind them.
+fn are_tables(tables: &[Table], count: usize) -> bool
+    requires { count ≤ length all_tables }
+    ensures { Decides result (AreTables count tables.now) }
 {
-    tables.len() >= 9
-        && are_first_three(&tables[..3])
-        && are_next_three(&tables[3..6])
-        && are_last_three(&tables[6..9])
-        && are_free(&tables[9..])
+    tables.len() >= count && are_first_tables(tables, count) && are_free(&tables[count..])
+}
+
+/// Whether the schema begins with so many of the tables of a campaign, which have so many indexes.
+fn begins(schema: &Schema, tables: usize, keys: usize) -> bool
+    requires tables { tables ≤ length all_tables }
+    requires keys { keys ≤ length all_indexes }
+    ensures { Decides result (Begins tables keys schema.now) }
+{
+    if !are_tables(schema.tables.as_slice(), tables) {
+        return false;
+    }
+    if !are_indexes(schema.indexes.as_slice(), tables, keys) {
+        return false;
+    }
+    schema.views.is_empty()
 }
 
 /// Whether the schema begins with the nine tables of a campaign, made as `create` makes them: after `create` it does. Other
@@ -51,11 +63,5 @@ fn are_tables(tables: &[Table]) -> bool
 pub fn has_nine(schema: &Schema) -> bool
     ensures { Decides result (HasNine schema.now) }
 {
-    if !are_tables(schema.tables.as_slice()) {
-        return false;
-    }
-    if !are_indexes(schema.indexes.as_slice()) {
-        return false;
-    }
-    schema.views.is_empty()
+    begins(schema, 9, 3)
 }

@@ -1,5 +1,5 @@
-//! The indexes of the nine tables' keys, and those that came behind them.
-ghost use Rattle.std.specs.Prelude.{◌≡◌, ◌==◌, [], ◌∷◌, true};
+//! The indexes of the tables' keys, and those that came behind them.
+ghost use Rattle.std.specs.Prelude.{◌≡◌, ◌==◌, ◌≤◌, [], ◌∷◌, true, length, slice_get, take};
 ghost use Rattle.std.specs.Bool.{Decides};
 ghost use Rattle.std.specs.List.{AllByRecursion, list_any};
 ghost use Rattle.sqlite_catalog.specs.Listing.{automatic};
@@ -58,57 +58,72 @@ fn is_books_index(found: &Index) -> bool
     )
 }
 
-/// The indexes of the keys that are not the row's number.
-fn are_our_indexes(indexes: &[Index]) -> bool
-    ensures { Decides result (indexes.now ≡ all_indexes) }
+/// Whether this is the index with this place among those of the keys that are not the row's number.
+fn is_key_index(found: &Index, place: usize) -> bool
+    ensures { Decides result (slice_get all_indexes place ≡ Some found.now) }
 {
-    match indexes {
-        [faction, has, books] => {
-            is_faction_index(faction) && is_has_index(has) && is_books_index(books)
-        }
+    match place {
+        0 => is_faction_index(found),
+        1 => is_has_index(found),
+        2 => is_books_index(found),
         _ => false,
     }
 }
 
-/// Whether a tree is that of one of the nine tables.
-fn is_ours(tree: u32) -> bool
-    ensures { result ≡ list_any (λ t. tree == t.tree) all_tables }
+/// So many indexes are the first that are made.
+fn are_first_indexes(indexes: &[Index], count: usize) -> bool
+    requires { count ≤ length indexes.now }
+    ensures { Decides result (take count indexes.now ≡ take count all_indexes) }
 {
-    matches!(
-        tree,
-        places::CAMPAIGN
-            | places::FACTION
-            | places::REGION
-            | places::UNIT
-            | places::HAS
-            | places::STRUCTURE
-            | places::MAIL
-            | places::REPORT
-            | places::BOOKS
-    )
-}
-
-/// An index that makes nothing of the nine tables unique.
-fn is_harmless(found: &Index) -> bool
-    ensures { Decides result (IsHarmless found.now) }
-{
-    !found.is_unique || !is_ours(found.table)
-}
-
-fn are_harmless(indexes: &[Index]) -> bool
-    ensures { Decides result (AllByRecursion IsHarmless indexes.now) }
-{
-    for index in indexes {
-        if !is_harmless(index) {
+    for place in 0..count {
+        if !is_key_index(&indexes[place], place) {
             return false;
         }
     }
     true
 }
 
-/// Their indexes, and behind them indexes that make nothing of them unique.
-pub(crate) fn are_indexes(indexes: &[Index]) -> bool
-    ensures { Decides result (AreIndexes indexes.now) }
+fn is_among(tree: u32, trees: &[u32]) -> bool
+    ensures { result ≡ list_any (λ n. tree == n) trees.now }
 {
-    indexes.len() >= 3 && are_our_indexes(&indexes[..3]) && are_harmless(&indexes[3..])
+    trees.iter().any(|one| tree == *one)
+}
+
+/// Whether a tree is that of one of the first so many tables.
+fn is_ours(tree: u32, count: usize) -> bool
+    requires { count ≤ length all_tables }
+    ensures { result ≡ list_any (λ t. tree == t.tree) (take count all_tables) }
+{
+    is_among(tree, &places::TREES[..count])
+}
+
+/// An index that makes nothing of the first so many tables unique.
+fn is_harmless(found: &Index, count: usize) -> bool
+    requires { count ≤ length all_tables }
+    ensures { Decides result (IsHarmless count found.now) }
+{
+    !found.is_unique || !is_ours(found.table, count)
+}
+
+fn are_harmless(indexes: &[Index], count: usize) -> bool
+    requires { count ≤ length all_tables }
+    ensures { Decides result (AllByRecursion (IsHarmless count) indexes.now) }
+{
+    for index in indexes {
+        if !is_harmless(index, count) {
+            return false;
+        }
+    }
+    true
+}
+
+/// The first so many tables' indexes, which are so many, and behind them indexes that make nothing of these tables unique.
+pub(crate) fn are_indexes(indexes: &[Index], tables: usize, keys: usize) -> bool
+    requires tables { tables ≤ length all_tables }
+    requires keys { keys ≤ length all_indexes }
+    ensures { Decides result (AreIndexes tables keys indexes.now) }
+{
+    indexes.len() >= keys
+        && are_first_indexes(indexes, keys)
+        && are_harmless(&indexes[keys..], tables)
 }

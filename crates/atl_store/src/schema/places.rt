@@ -1,4 +1,4 @@
-//! Where the nine tables stand in a file, and which values of a row are its key.
+//! Where the tables stand in a file, and which values of a row are its key.
 
 /// The tree of each table. Tables and the indexes of their keys take the trees of a file in the order in which they are made.
 pub(crate) const CAMPAIGN: u32 = 0;
@@ -18,6 +18,11 @@ pub(crate) const MAIL: u32 = 8;
 pub(crate) const REPORT: u32 = 9;
 
 pub(crate) const BOOKS: u32 = 10;
+
+/// In the order in which the tables are made.
+pub(crate) const TREES: [u32; 9] = [
+    CAMPAIGN, FACTION, REGION, UNIT, HAS, STRUCTURE, MAIL, REPORT, BOOKS,
+];
 
 /// The trees of the indexes.
 pub(crate) const FACTION_INDEX: u32 = 2;

@@ -1,4 +1,4 @@
-//! What the nine tables have in common.
+//! What the tables have in common.
 ghost use Rattle.std.specs.Prelude.{◌≡◌, [], ◌∷◌, map, Some, None, false};
 ghost use Rattle.std.specs.Bool.{Decides};
 ghost use Rattle.atl_store.specs.Sets.{field, table};

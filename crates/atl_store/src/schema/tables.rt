@@ -1,7 +1,7 @@
-//! The nine tables, one by one.
-ghost use Rattle.std.specs.Prelude.{◌≡◌, [], ◌∷◌};
+//! The tables of a campaign, one by one.
+ghost use Rattle.std.specs.Prelude.{◌≡◌, ◌≤◌, length, slice_get, take};
 ghost use Rattle.std.specs.Bool.{Decides};
-ghost use Rattle.atl_store.specs.Tables.{campaign_table, faction_table, region_table, unit_table, has_table, structure_table, mail_table, report_table, books_table};
+ghost use Rattle.atl_store.specs.Tables.{campaign_table, faction_table, region_table, unit_table, has_table, structure_table, mail_table, report_table, books_table, all_tables};
 
 use crate::schema::checks::is_own_row;
 use crate::schema::keys::{has_no_unique, is_numbered, is_unique};
@@ -160,34 +160,33 @@ fn is_books(found: &Table) -> bool
     )
 }
 
-/// The first three tables: of the campaign, its factions and its regions.
-pub(crate) fn are_first_three(tables: &[Table]) -> bool
-    ensures { Decides result (tables.now ≡ campaign_table ∷ faction_table ∷ region_table ∷ []) }
+/// Whether this is the table with this place among those of a campaign, in the order in which they are made.
+fn is_table(found: &Table, place: usize) -> bool
+    ensures { Decides result (slice_get all_tables place ≡ Some found.now) }
 {
-    match tables {
-        [campaign, faction, region] => {
-            is_campaign(campaign) && is_faction(faction) && is_region(region)
+    match place {
+        0 => is_campaign(found),
+        1 => is_faction(found),
+        2 => is_region(found),
+        3 => is_unit(found),
+        4 => is_has(found),
+        5 => is_structure(found),
+        6 => is_mail(found),
+        7 => is_report(found),
+        8 => is_books(found),
+        _ => false,
+    }
+}
+
+/// So many tables are the first that are made.
+pub(crate) fn are_first_tables(tables: &[Table], count: usize) -> bool
+    requires { count ≤ length tables.now }
+    ensures { Decides result (take count tables.now ≡ take count all_tables) }
+{
+    for place in 0..count {
+        if !is_table(&tables[place], place) {
+            return false;
         }
-        _ => false,
     }
-}
-
-/// The next three: of units, of what they have, and of structures.
-pub(crate) fn are_next_three(tables: &[Table]) -> bool
-    ensures { Decides result (tables.now ≡ unit_table ∷ has_table ∷ structure_table ∷ []) }
-{
-    match tables {
-        [unit, has, structure] => is_unit(unit) && is_has(has) && is_structure(structure),
-        _ => false,
-    }
-}
-
-/// The last three: of mail, reports and books.
-pub(crate) fn are_last_three(tables: &[Table]) -> bool
-    ensures { Decides result (tables.now ≡ mail_table ∷ report_table ∷ books_table ∷ []) }
-{
-    match tables {
-        [mail, report, books] => is_mail(mail) && is_report(report) && is_books(books),
-        _ => false,
-    }
+    true
 }

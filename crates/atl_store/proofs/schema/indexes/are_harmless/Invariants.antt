@@ -4,4 +4,4 @@ use Rattle.atl_store.specs.Tables.{IsHarmless}
 use Rattle.atl_store.proofs.schema.indexes.are_harmless.Given as goal
 
 abbrev pub invariant-loop-index : goal.invariant-loop-index
-invariant-loop-index l = AllByRecursion IsHarmless (take l.index-index l.indexes)
+invariant-loop-index l = AllByRecursion (IsHarmless l.count) (take l.index-index l.indexes)

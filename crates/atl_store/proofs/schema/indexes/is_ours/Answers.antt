@@ -1,0 +1,6 @@
+use Rattle.std.proofs.Common.{◌∙◌}
+use Rattle.atl_store.proofs.SchemaLaws.{our_trees}
+use Rattle.atl_store.proofs.schema.indexes.is_ours.Goals as goal
+
+pub returns : goal.returns
+returns c = c.is_among.ensures ∙ our_trees c.args.tree c.args.count
