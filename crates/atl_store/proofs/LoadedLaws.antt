@@ -1,6 +1,5 @@
 -- From the rows that were read to the campaign that is loaded.
 use Rattle.std.proofs.Common.{◌≡◌, List, [], ◌∷◌, Bool, true, false, not, pos, IsTrue, Result, Ok, Err, IfErr, IsErrAnd, arith, refl, sym, ap, ◌∙◌, subst, inr, string_bytes}
-use Rattle.std.proofs.lemmas.Str.{IsUtf8-string_bytes}
 use Rattle.sqlite_catalog.specs.Listing.{IsSound}
 use Rattle.sqlite_trees.specs.Tree.{Trees}
 use Rattle.sqlite_trees.specs.declared.store.Store.{Ghosts}
@@ -44,7 +43,7 @@ module _ {S : Type 0} (g : Ghosts S) where
     head = own.head;
     text = string_bytes own.world;
     world = w;
-    own = record { is = read.is; id = read.id; format = read.format; utf8 = IsUtf8-string_bytes own.world; world = read.world };
+    own = read.row;
   }
 
   -- all rows, as they were read
@@ -76,9 +75,9 @@ module _ {S : Type 0} (g : Ghosts S) where
   pub gathered_with : {Z : Type 0} (old : Held S) (own : StoredCampaign) (w : Planet) (read : OthersRead Z) (p : Parts) → OwnRead g old own w → AreOthers g old read → IsMadeOf own.head read p → Gathered g old w p
   gathered_with old own w read p row others made = record {
     one = own_kept old own w row;
-    head = one_head own.head p.campaign row.id row.format (ap (λ (p : Parts). p.campaign) made.is);
+    head = one_head own.head p.campaign row.row.id row.row.format (ap (λ (p : Parts). p.campaign) made.is);
     text = string_bytes own.world;
-    world = row.world;
+    world = row.row.world;
     rows = made_rows old own w read p row others made;
     places = made_places old own.head read p others made;
   }

@@ -1,6 +1,7 @@
 -- Why the campaign's own row is refused.
-use Rattle.std.proofs.Common.{◌≡◌, ℕ, List, [], ◌∷◌, map, length, Result, Ok, Err, IfErr, refl, sym, ap, ◌∙◌, subst, inl, inr, string_bytes}
-use Rattle.sqlite.specs.Held.{Held}
+use Rattle.std.proofs.Common.{◌≡◌, ℕ, List, [], ◌∷◌, map, length, Result, Ok, Err, IfOk, IfErr, IsPermutation, refl, sym, ap, ◌∙◌, subst, inl, inr, string_bytes}
+use Rattle.std.proofs.lemmas.Str.{IsUtf8-string_bytes}
+use Rattle.sqlite.specs.Held.{Held, state}
 use Rattle.sqlite.specs.Order.{Row, column}
 use Rattle.sqlite_rules.specs.Lists.{Has}
 use Rattle.sqlite_trees.specs.declared.store.Store.{Ghosts}
@@ -8,17 +9,21 @@ use Rattle.atl_tables.specs.Planet.{Planet}
 use Rattle.atl_tables.specs.World.{world_of}
 use Rattle.atl_state.specs.declared.check.Rule.TheVariants.{OneRow, Ranges, Names, Known, Next, Days, Gone, Owners, Water, Guards, Books, Mail}
 use Rattle.atl_state.specs.declared.parts.StoredHead.{StoredHead}
-use Rattle.atl_store.specs.Gathering.{own_fault, IsOwn, JudgesOwn}
+use Rattle.atl_store.specs.Gathering.{own_fault, IsOwn, JudgesOwn, JudgesRows, OwnRead}
 use Rattle.atl_store.specs.Loading.{own_stored, AreOwnRow, RefusesToLoad}
 use Rattle.atl_store.specs.Reading.{Selects, RefusesToSelect}
 use Rattle.atl_store.specs.Selects.{all_campaign}
+use Rattle.atl_store.specs.Sets.{rows_in}
 use Rattle.atl_store.specs.Stored.{first_columns, AreTyped, IsTyped}
 use Rattle.atl_store.specs.StoredRows.{campaign_stored, campaign_forms}
 use Rattle.atl_store.specs.declared.fault.ReadFault.{ReadFault}
 use Rattle.atl_store.specs.declared.fault.ReadFault.TheVariants as read
 use Rattle.atl_store.specs.declared.fault.StoreFault.{StoreFault}
 use Rattle.atl_store.specs.declared.fault.StoreFault.TheVariants.{Store, Damaged, NotACampaign, Memory}
+use Rattle.atl_store.specs.Tables.{campaign_table}
 use Rattle.atl_store.specs.declared.rows.campaign.StoredCampaign.{StoredCampaign}
+use Rattle.atl_store.proofs.SelectLaws.{reads_campaign}
+use Rattle.atl_store.proofs.SelectingLaws.{never_other}
 
 -- a list whose image is one element has one
 pub one_mapped : {A B : Type 0} (f : A → B) (xs : List A) (y : B) → map f xs ≡ y ∷ [] → (x : A) × (xs ≡ x ∷ []) × (f x ≡ y)
@@ -70,37 +75,68 @@ own_typed rows h text w own row there =
         let at = λ (n : ℕ). ap (λ (r : Row). column r n) is in
         ((h.id, at 0), ((h.format, at 1), ((h.month, at 2), ((h.next_faction, at 3), ((h.next_unit, at 4), ((h.next_structure, at 5), ((h.pass, at 6), ((text, at 7, own.utf8), tt))))))))
 
-module _ {S : Type 0} (g : Ghosts S) (old : Held S) where
-  -- one was read, and is not as it should be
-  pub refuses_own : (items : List StoredCampaign) (r : Result (StoredCampaign × Planet) StoreFault) → JudgesOwn items r
-      → (rows : List Row) × Selects g all_campaign old rows × (map campaign_stored items ≡ map (first_columns (length campaign_forms)) rows) → IfErr r (RefusesToLoad g old)
-  refuses_own items (Ok both) judged told = tt
-  refuses_own items (Err Store) judged told = absurd judged
-  refuses_own items (Err NotACampaign) judged told = absurd judged
-  refuses_own items (Err Memory) judged told = tt
-  refuses_own items (Err (Damaged OneRow)) judged told = record {
-    rows = told.0;
-    selects = told.1;
-    broken = λ h text w own. let was = own_read items told.0 h text w told.2 own in judged was.0 w was.1;
-  }
-  refuses_own items (Err (Damaged Ranges)) judged told = absurd judged
-  refuses_own items (Err (Damaged Names)) judged told = absurd judged
-  refuses_own items (Err (Damaged Known)) judged told = absurd judged
-  refuses_own items (Err (Damaged Next)) judged told = absurd judged
-  refuses_own items (Err (Damaged Days)) judged told = absurd judged
-  refuses_own items (Err (Damaged Gone)) judged told = absurd judged
-  refuses_own items (Err (Damaged Owners)) judged told = absurd judged
-  refuses_own items (Err (Damaged Water)) judged told = absurd judged
-  refuses_own items (Err (Damaged Guards)) judged told = absurd judged
-  refuses_own items (Err (Damaged Books)) judged told = absurd judged
-  refuses_own items (Err (Damaged Mail)) judged told = absurd judged
+-- ---- the rows that are shown
 
-  -- it is not read
-  pub unread_own : (fault : ReadFault) → (fault ≡ read.OtherType → (rows : List Row) × Selects g all_campaign old rows × ¬ AreTyped campaign_forms rows)
-      → ((fault ≡ read.OtherType → ⊥) → (fault ≡ read.Memory → ⊥) → RefusesToSelect g all_campaign old fault) → RefusesToLoad g old (own_fault fault)
-  unread_own read.Store other refused = inr (inl (refused (λ e. let k = e in cc) (λ e. let k = e in cc)))
-  unread_own read.Memory other refused = tt
-  unread_own read.Refused other refused = refused (λ e. let k = e in cc) (λ e. let k = e in cc)
-  unread_own read.OtherType other refused =
-      let told = other refl in
-      record { rows = told.0; selects = told.1; broken = λ h text w own. told.2 (own_typed told.0 h text w own) }
+-- they were read, and what was read is judged
+pub judged_rows : (items : List StoredCampaign) (rows : List Row) (r : Result (StoredCampaign × Planet) StoreFault) → map campaign_stored items ≡ map (first_columns (length campaign_forms)) rows → JudgesOwn items r → JudgesRows rows r
+judged_rows items rows (Ok both) shown judged = record {
+  is = sym shown ∙ ap (map campaign_stored) judged.only;
+  id = judged.id;
+  format = judged.format;
+  utf8 = IsUtf8-string_bytes both.0.world;
+  world = judged.world;
+}
+judged_rows items rows (Err Memory) shown judged = tt
+judged_rows items rows (Err (Damaged OneRow)) shown judged = λ h text w own. let was = own_read items rows h text w shown own in judged was.0 w was.1
+judged_rows items rows (Err Store) shown judged = absurd judged
+judged_rows items rows (Err NotACampaign) shown judged = absurd judged
+judged_rows items rows (Err (Damaged Ranges)) shown judged = absurd judged
+judged_rows items rows (Err (Damaged Names)) shown judged = absurd judged
+judged_rows items rows (Err (Damaged Known)) shown judged = absurd judged
+judged_rows items rows (Err (Damaged Next)) shown judged = absurd judged
+judged_rows items rows (Err (Damaged Days)) shown judged = absurd judged
+judged_rows items rows (Err (Damaged Gone)) shown judged = absurd judged
+judged_rows items rows (Err (Damaged Owners)) shown judged = absurd judged
+judged_rows items rows (Err (Damaged Water)) shown judged = absurd judged
+judged_rows items rows (Err (Damaged Guards)) shown judged = absurd judged
+judged_rows items rows (Err (Damaged Books)) shown judged = absurd judged
+judged_rows items rows (Err (Damaged Mail)) shown judged = absurd judged
+
+-- they were not, as a value is of another type or for want of memory
+pub unread_rows : (rows : List Row) (fault : ReadFault) → (fault ≡ read.OtherType → ¬ AreTyped campaign_forms rows) → ((fault ≡ read.OtherType → ⊥) → fault ≡ read.Memory) → JudgesRows rows (Err (own_fault fault))
+unread_rows rows read.OtherType other which = λ h text w own. other refl (own_typed rows h text w own)
+unread_rows rows read.Memory other which = tt
+unread_rows rows read.Store other which = absurd (let e = which (λ e. cc) in cc)
+unread_rows rows read.Refused other which = absurd (let e = which (λ e. cc) in cc)
+
+module _ {S : Type 0} (g : Ghosts S) (old : Held S) where
+  -- the rows are not as they should be
+  pub refuses_own : (rows : List Row) (r : Result (StoredCampaign × Planet) StoreFault) → JudgesRows rows r → Selects g all_campaign old rows → IfErr r (RefusesToLoad g old)
+  refuses_own rows (Ok both) judged told = tt
+  refuses_own rows (Err Memory) judged told = tt
+  refuses_own rows (Err (Damaged OneRow)) judged told = record { rows = rows; selects = told; broken = judged }
+  refuses_own rows (Err Store) judged told = absurd judged
+  refuses_own rows (Err NotACampaign) judged told = absurd judged
+  refuses_own rows (Err (Damaged Ranges)) judged told = absurd judged
+  refuses_own rows (Err (Damaged Names)) judged told = absurd judged
+  refuses_own rows (Err (Damaged Known)) judged told = absurd judged
+  refuses_own rows (Err (Damaged Next)) judged told = absurd judged
+  refuses_own rows (Err (Damaged Days)) judged told = absurd judged
+  refuses_own rows (Err (Damaged Gone)) judged told = absurd judged
+  refuses_own rows (Err (Damaged Owners)) judged told = absurd judged
+  refuses_own rows (Err (Damaged Water)) judged told = absurd judged
+  refuses_own rows (Err (Damaged Guards)) judged told = absurd judged
+  refuses_own rows (Err (Damaged Books)) judged told = absurd judged
+  refuses_own rows (Err (Damaged Mail)) judged told = absurd judged
+
+  -- they are the campaign's own row and its world
+  pub own_is : (rows : List Row) (r : Result (StoredCampaign × Planet) StoreFault) → JudgesRows rows r → Selects g all_campaign old rows → IfOk r (λ both. OwnRead g old both.0 both.1)
+  own_is rows (Err fault) judged told = tt
+  own_is rows (Ok both) judged told = record { rows = rows; selects = told; row = judged; table = λ nine. subst (IsPermutation (rows_in campaign_table (state g old).now.trees)) judged.is (reads_campaign _ _ rows told.1 nine) }
+
+  -- they could not be asked for
+  pub unasked_own : (fault : ReadFault) → RefusesToSelect g all_campaign old fault → RefusesToLoad g old (own_fault fault)
+  unasked_own read.Store refused = inr (inl refused)
+  unasked_own read.Memory refused = tt
+  unasked_own read.Refused refused = refused
+  unasked_own read.OtherType refused = absurd (never_other g all_campaign old read.OtherType refused refl)

@@ -92,29 +92,30 @@ module _ {S : Type 0} (g : Ghosts S) (sql : List ℕ) (old begun mid end : Held 
 
 -- ---- each row read
 
+-- a SELECT that is refused is never told as OtherType
+not_other : (e : Error) → read_fault e ≡ OtherType → ⊥
+not_other e same = by_memory (is_memory e) (is_failure e) same
+  where
+    by_memory : (a b : Bool) → cond a Memory (cond b Store Refused) ≡ OtherType → ⊥
+    by_memory true b is = cc
+    by_memory false true is = cc
+    by_memory false false is = cc
+
+pub never_other : {S : Type 0} (g : Ghosts S) (sql : List ℕ) (old : Held S) (fault : ReadFault) → RefusesToSelect g sql old fault → fault ≡ OtherType → ⊥
+never_other g sql old fault told same = not_other told.1 (sym told.3 ∙ same)
+
 module _ {S A Z : Type 0} (g : Ghosts S) (sql : List ℕ) (old new : Held S) (forms : List Form) (shown : A → Row) where
   -- the SELECT was refused
   pub unasked : {Y : Type 0} (fault : ReadFault) (r : Result (Vec A Z) ReadFault) → Asks g sql old {Z = Y} (Err fault) new → IsErrAnd r (λ told. told ≡ fault) → ReadsRows g sql old forms shown r new
   unasked fault (Ok all) asks is = absurd is
   unasked fault (Err told) asks is = record {
     rows = λ _. tt;
-    other = λ clean same. absurd (never_other told (subst (RefusesToSelect g sql old) (sym is) (asks.refused clean)) same);
+    other = λ clean same. absurd (never_other g sql old told (subst (RefusesToSelect g sql old) (sym is) (asks.refused clean)) same);
     refused = λ clean _ _. subst (RefusesToSelect g sql old) (sym is) (asks.refused clean);
     rests = asks.rests;
     survives = asks.survives;
     idle = asks.idle;
   }
-    where
-      not_other : (e : Error) → read_fault e ≡ OtherType → ⊥
-      not_other e same = by_memory (is_memory e) (is_failure e) same
-        where
-          by_memory : (a b : Bool) → cond a Memory (cond b Store Refused) ≡ OtherType → ⊥
-          by_memory true b is = cc
-          by_memory false true is = cc
-          by_memory false false is = cc
-
-      never_other : (fault : ReadFault) → RefusesToSelect g sql old fault → fault ≡ OtherType → ⊥
-      never_other fault told same = not_other told.1 (sym told.3 ∙ same)
 
   -- it was answered, and its rows were read
   pub parsed : {Y : Type 0} (rows : Vec Row Y) (lent : List Row) (r : Result (Vec A Z) ReadFault) → Asks g sql old (Ok rows) new → lent ≡ rows.items

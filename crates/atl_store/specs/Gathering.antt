@@ -1,5 +1,5 @@
 -- For proofs alone: how far loading has come.
-use Rattle.std.specs.Prelude.{◌≡◌, ◌≢◌, ℕ, List, [], ◌∷◌, false, IsTrue, IsPermutation, map, length, pos, Option, Some, None, Result, Ok, Err, IfOk, IfErr, ⊤, string_bytes}
+use Rattle.std.specs.Prelude.{◌≡◌, ◌≢◌, ℕ, List, [], ◌∷◌, false, IsTrue, IsPermutation, map, pos, Option, Some, None, Result, Ok, Err, IfOk, IfErr, ⊤, string_bytes}
 use Rattle.std.specs.List.{IsDistinct}
 use Rattle.std.specs.Ordering.{eq_by_cmp, int_cmp}
 use Rattle.std.specs.declared.vec.Vec.{Vec}
@@ -25,12 +25,11 @@ use Rattle.atl_state.specs.declared.parts.StoredRegion.{StoredRegion}
 use Rattle.atl_state.specs.declared.parts.StoredReport.{StoredReport}
 use Rattle.atl_state.specs.declared.parts.StoredStructure.{StoredStructure}
 use Rattle.atl_state.specs.declared.parts.StoredUnit.{StoredUnit}
-use Rattle.atl_store.specs.Loading.{HaveRows, HasOtherType, KeepsOneRow}
+use Rattle.atl_store.specs.Loading.{HaveRows, AreOwnRow, HasOtherType, KeepsOneRow}
 use Rattle.atl_store.specs.Reading.{Selects, placed_rows_in}
 use Rattle.atl_store.specs.Selects.{all_campaign}
 use Rattle.atl_store.specs.Sets.{rows_in}
-use Rattle.atl_store.specs.Stored.{first_columns}
-use Rattle.atl_store.specs.StoredRows.{campaign_stored, campaign_forms, faction_stored, region_stored, unit_stored, structure_stored, mail_stored, report_stored, has_stored, books_stored}
+use Rattle.atl_store.specs.StoredRows.{campaign_stored, faction_stored, region_stored, unit_stored, structure_stored, mail_stored, report_stored, has_stored, books_stored}
 use Rattle.atl_store.specs.Tables.{campaign_table, faction_table, region_table, unit_table, has_table, structure_table, mail_table, report_table, books_table, HasNine}
 use Rattle.atl_store.specs.declared.fault.ReadFault.{ReadFault}
 use Rattle.atl_store.specs.declared.fault.ReadFault.TheVariants as read
@@ -106,6 +105,13 @@ JudgesOwn rows (Err Memory) = ⊤
 JudgesOwn rows (Err (Damaged OneRow)) = (own : StoredCampaign) (w : Planet) → ¬ IsOwn rows own w
 JudgesOwn rows (Err fault) = ⊥
 
+-- The rows that are shown are judged: whether they are the one of a world's text.
+abbrev pub JudgesRows : List Row → Result (StoredCampaign × Planet) StoreFault → Type 0
+JudgesRows rows (Ok both) = AreOwnRow rows both.0.head (string_bytes both.0.world) both.1
+JudgesRows rows (Err Memory) = ⊤
+JudgesRows rows (Err (Damaged OneRow)) = (h : StoredHead) (text : List ℕ) (w : Planet) → ¬ AreOwnRow rows h text w
+JudgesRows rows (Err fault) = ⊥
+
 -- what was read of the eight tables
 abbrev pub OthersRead : Type 0 → Type 0
 OthersRead Z = (((Vec StoredFaction Z × Vec StoredRegion Z) × Vec StoredReport Z) × (Vec StoredUnit Z × Vec (Placed StoredHas) Z)) × ((Vec StoredStructure Z × Vec StoredMail Z) × Vec (Placed StoredBooks) Z)
@@ -115,10 +121,7 @@ module _ {S : Type 0} (g : Ghosts S) (old : Held S) where
   pub record OwnRead (own : StoredCampaign) (w : Planet) : Type 0 where
     pub rows : List Row
     pub selects : Selects g all_campaign old rows
-    pub is : map (first_columns (length campaign_forms)) rows ≡ campaign_stored own ∷ []
-    pub id : own.head.id ≡ pos 1
-    pub format : own.head.format ≡ pos 1
-    pub world : world_of (string_bytes own.world) ≡ Ok w
+    pub row : AreOwnRow rows own.head (string_bytes own.world) w
     pub table : HasNine old.schema → IsPermutation (rows_in campaign_table (state g old).now.trees) (campaign_stored own ∷ [])
 
   -- ---- the other tables

@@ -8,7 +8,7 @@ pub mod has;
 pub mod mail;
 pub mod region;
 pub mod report;
-mod stored;
+pub(crate) mod stored;
 pub mod structure;
 pub mod unit;
 

@@ -3,15 +3,16 @@ ghost use Rattle.std.specs.Prelude.{◌≡◌, false, pos, IfOk, IfErr};
 ghost use Rattle.std.specs.Bool.{Decides};
 ghost use Rattle.sqlite.specs.Held.{state};
 ghost use Rattle.sqlite.specs.State.{HasCleanDisk};
-ghost use Rattle.atl_store.specs.Gathering.{IsSettled, Leaves, own_fault, only_of, ReadsWorld, JudgesOwn, OwnRead};
+ghost use Rattle.atl_store.specs.Gathering.{IsSettled, Leaves, own_fault, only_of, ReadsWorld, JudgesOwn, JudgesRows, OwnRead};
 ghost use Rattle.atl_store.specs.Loading.{RefusesToLoad};
 
 use crate::fault::{ReadFault, StoreFault};
-use crate::rows::campaign::{StoredCampaign, read_campaign};
+use crate::rows::campaign::{StoredCampaign, select_campaign};
+use crate::rows::stored::parse_rows;
 use atl_state::check::Rule;
 use atl_state::parts::StoredHead;
 use atl_tables::{World, WorldFault, read_world};
-use sqlite::{Alter, Connection};
+use sqlite::{Alter, Connection, Row};
 use std::alloc::Global;
 
 /// The fault of a campaign's own row that isn't read.
@@ -65,7 +66,17 @@ fn judged(alloc: Global, rows: Vec<StoredCampaign>) -> Result<(StoredCampaign, W
     Ok((own, world))
 }
 
-/// The campaign's own row, and its world.
+/// The campaign's own row and its world, of the rows that are shown.
+fn own_of(alloc: Global, rows: &[Row]) -> Result<(StoredCampaign, World), StoreFault>
+    ensures { JudgesRows rows.now result }
+{
+    match parse_rows(alloc, rows) {
+        Ok(rows) => judged(alloc, rows),
+        Err(fault) => Err(own_fault(fault)),
+    }
+}
+
+/// The campaign's own row, and its world. The rows are judged as they are shown, before their values are typed.
 pub(crate) fn read_own<S: Alter>(
     alloc: Global,
     conn: &mut Connection<S>,
@@ -76,8 +87,8 @@ pub(crate) fn read_own<S: Alter>(
     ensures err { HasCleanDisk (state S.Store conn.new) → IfErr result (RefusesToLoad S.Store conn.old) }
     ensures leaves { Leaves S.Store conn.old conn.new }
 {
-    match read_campaign(alloc, conn) {
-        Ok(rows) => judged(alloc, rows),
+    match select_campaign(conn) {
+        Ok(rows) => own_of(alloc, rows.as_slice()),
         Err(fault) => Err(own_fault(fault)),
     }
 }

@@ -10,11 +10,11 @@ ghost use Rattle.atl_store.specs.Inside.{Inside, HasTables};
 ghost use Rattle.atl_store.specs.Selects.{all_campaign};
 ghost use Rattle.atl_store.specs.StoredRows.{head_stored, head_forms, campaign_stored, campaign_forms};
 ghost use Rattle.atl_store.specs.Sets.{rows_in};
-ghost use Rattle.atl_store.specs.Reading.{ReadsRows, GivesTable};
+ghost use Rattle.atl_store.specs.Reading.{Asks, ReadsRows, GivesTable};
 
 use crate::fault::ReadFault;
 use crate::rows::columns::{letters, three_integers, words};
-use crate::rows::stored::{Stored, read_all};
+use crate::rows::stored::{Stored, read_all, select};
 use crate::statement::run;
 use atl_state::parts::StoredHead;
 use sqlite::{Alter, Connection, Error, Row, Transaction, params};
@@ -113,6 +113,18 @@ impl Stored for StoredCampaign {
     }
 }
 
+const ALL: &str =
+    "SELECT id, format, month, next_faction, next_unit, next_structure, pass, world FROM campaign ORDER BY id";
+
+/// The campaign's own rows as they are shown, whatever their values are. Each fault is told as `ReadFault` says, OtherType
+/// never; whatever is answered, nothing is changed.
+pub(crate) fn select_campaign<S: Alter>(conn: &mut Connection<S>) -> Result<Vec<Row>, ReadFault>
+    requires { conn.old.in_transaction ≡ false }
+    ensures { Asks S.Store all_campaign conn.old result conn.new }
+{
+    select(conn, ALL)
+}
+
 /// The campaign's own rows, of which a whole store has one. Each fault is told as `ReadFault` says, OtherType also of a world
 /// text that isn't UTF-8; whatever is answered, nothing is changed.
 pub fn read_campaign<S: Alter>(
@@ -123,9 +135,5 @@ pub fn read_campaign<S: Alter>(
     ensures select { ReadsRows S.Store all_campaign conn.old campaign_forms campaign_stored result conn.new }
     ensures table { GivesTable S.Store (rows_in campaign_table) campaign_stored result conn.old conn.new }
 {
-    read_all(
-        alloc,
-        conn,
-        "SELECT id, format, month, next_faction, next_unit, next_structure, pass, world FROM campaign ORDER BY id",
-    )
+    read_all(alloc, conn, ALL)
 }

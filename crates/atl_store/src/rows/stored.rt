@@ -31,7 +31,7 @@ pub struct Placed<T> {
 }
 
 /// Each row of an answer.
-fn parse_rows<T: Stored>(alloc: Global, rows: &[Row]) -> Result<Vec<T>, ReadFault>
+pub(crate) fn parse_rows<T: Stored>(alloc: Global, rows: &[Row]) -> Result<Vec<T>, ReadFault>
     ensures ok { IfOk result (λ all. map T.shown all.items ≡ map (first_columns (length T.forms)) rows.now) }
     ensures other { IfErr result (λ fault. fault ≡ OtherType → ¬ AreTyped T.forms rows.now) }
     ensures which { IfErr result (λ fault. fault ≢ OtherType → fault ≡ Memory) }
@@ -48,7 +48,7 @@ fn parse_rows<T: Stored>(alloc: Global, rows: &[Row]) -> Result<Vec<T>, ReadFaul
 
 /// The rows that a SELECT shows. It runs in a transaction of its own, which is rolled back, so that it changes nothing
 /// whatever it means.
-fn select<S: Alter>(conn: &mut Connection<S>, sql: &str) -> Result<Vec<Row>, ReadFault>
+pub(crate) fn select<S: Alter>(conn: &mut Connection<S>, sql: &str) -> Result<Vec<Row>, ReadFault>
     requires { conn.old.in_transaction ≡ false }
     ensures { Asks S.Store sql.now conn.old result conn.new }
 {
