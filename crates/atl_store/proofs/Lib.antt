@@ -28,6 +28,7 @@ pub mod StructureRowLaws
 pub mod MailRowLaws
 pub mod ReportRowLaws
 pub mod KeyLaws
+pub mod KeyedRowLaws
 pub mod HasRowLaws
 pub mod BooksRowLaws
 pub mod HeadRowLaws
