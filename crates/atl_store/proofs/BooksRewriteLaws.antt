@@ -3,7 +3,8 @@ use Rattle.std.proofs.Common.{◌≡◌, ◌≢◌, ◌⊎◌, ◌+◌, ◌*◌,
 use Rattle.std.specs.List.{range_with_len}
 use Rattle.std.specs.Ordering.{nat_cmp, int_eq, eq_by_cmp}
 use Rattle.std.specs.FinSet.{FinSet, contains}
-use Rattle.std.proofs.lemmas.Bool.{cases_Bool, cases_lt, and_parts}
+use Rattle.std.proofs.lemmas.Bool.{cases_Bool, cases_lt, and_parts, false_from_ne_true}
+use Rattle.std.proofs.Math.Bool.{and-false, and-or_distrib_left, and-or_distrib_right}
 use Rattle.std.proofs.lemmas.Bool.Decides.{nat_tests}
 use Rattle.sqlite.specs.Effect.{Database}
 use Rattle.sqlite.specs.Order.{Row}
@@ -23,11 +24,11 @@ use Rattle.atl_store.specs.Rows.{BooksRowsOf}
 use Rattle.atl_store.specs.Lines.{amount_lines}
 use Rattle.atl_store.specs.Arriving.{Settles}
 use Rattle.atl_store.specs.Inside.{Inside, HasTables}
-use Rattle.atl_store.specs.Changing.{accounts, amount_marked, is_marked_amount, Chosen}
+use Rattle.atl_store.specs.Changing.{accounts, amount_marked, is_marked_amount}
 use Rattle.atl_store.specs.Rewriting.{RewritesAmounts, RewritesBooks, is_number, is_among, of_amounts}
 use Rattle.atl_store.proofs.GoodsLaws.{optional_has, has_optional}
 use Rattle.atl_store.proofs.LedgerLaws.{two_same, differs_zero, is_differing}
-use Rattle.atl_store.proofs.RewriteLaws.{Nearing, one_nearer, all_rewritten, tied, is_itself, not_true}
+use Rattle.atl_store.proofs.RewriteLaws.{Nearing, one_nearer, all_rewritten, tied, is_itself, rewrites_key}
 use Rattle.atl_store.proofs.WholeLaws.{inside_weaker}
 
 -- ---- a row that begins with an entry and a thing
@@ -65,16 +66,8 @@ accounts_none f never r = elim (account_cases r) [
 
 -- ---- tests of entries and of things
 
-or_and : (a b c : Bool) → ((a || b) && c) ≡ ((a && c) || (b && c))
-or_and true true true = refl
-or_and true true false = refl
-or_and true false true = refl
-or_and true false false = refl
-or_and false b c = refl
-
 and_or : (p a b c : Bool) → (p && ((a || b) && c)) ≡ ((p && (a && c)) || (p && (b && c)))
-and_or true a b c = or_and a b c
-and_or false a b c = refl
+and_or p a b c = ap (λ q. p && q) (and-or_distrib_right a b c) ∙ and-or_distrib_left p (a && c) (b && c)
 
 module _ (marks : FinSet nat_cmp) where
   abbrev marked : ℕ → ℕ → Bool
@@ -84,7 +77,7 @@ module _ (marks : FinSet nat_cmp) where
   next_entry e es things r =
       let one : ℕ → ℕ → Bool = λ k t. is_number e k && (things t && marked k t) in
       let rest : ℕ → ℕ → Bool = λ k t. is_among es k && (things t && marked k t) in
-      accounts_same (λ k t. is_among (e ∷ es) k && (things t && marked k t)) (λ k t. one k t || rest k t) (λ k t. or_and (is_number e k) (is_among es k) (things t && marked k t)) r ∙ accounts_either one rest r
+      accounts_same (λ k t. is_among (e ∷ es) k && (things t && marked k t)) (λ k t. one k t || rest k t) (λ k t. and-or_distrib_right (is_number e k) (is_among es k) (things t && marked k t)) r ∙ accounts_either one rest r
 
   pub next_thing : (entries : ℕ → Bool) (t : ℕ) (ts : List ℕ) (r : Row) → of_amounts marks entries (is_among (t ∷ ts)) r ≡ (of_amounts marks entries (is_number t) r || of_amounts marks entries (is_among ts) r)
   next_thing entries t ts r =
@@ -96,11 +89,7 @@ module _ (marks : FinSet nat_cmp) where
   no_entry es things none r = ap (λ l. of_amounts marks (is_among l) things r) none ∙ accounts_none (λ e t. false) (λ e t. refl) r
 
   pub no_thing : (entries : ℕ → Bool) (ts : List ℕ) → ts ≡ [] → (r : Row) → of_amounts marks entries (is_among ts) r ≡ false
-  no_thing entries ts none r = ap (λ l. of_amounts marks entries (is_among l) r) none ∙ accounts_none (λ e t. entries e && false) (λ e t. never (entries e)) r
-    where
-      never : (b : Bool) → (b && false) ≡ false
-      never true = refl
-      never false = refl
+  no_thing entries ts none r = ap (λ l. of_amounts marks entries (is_among l) r) none ∙ accounts_none (λ e t. entries e && false) (λ e t. and-false (entries e)) r
 
   -- ---- all entries and all things
 
@@ -119,24 +108,27 @@ module _ (marks : FinSet nat_cmp) where
   beyond : (from count i : ℕ) → from + count ≤ i → is_among (range_with_len from count) i ≡ false
   beyond from zero i past = refl
   beyond from (suc count) i past =
-      ap (λ b. b || is_among (range_with_len (from + 1) count) i) (not_true (eq_by_cmp nat_cmp i from) (λ is. absurd (omega (arith, past, tied i from is)))) ∙ beyond (from + 1) count i (omega (arith, past))
+      ap (λ b. b || is_among (range_with_len (from + 1) count) i) (false_from_ne_true (eq_by_cmp nat_cmp i from) (λ is. absurd (omega (arith, past, tied i from is)))) ∙ beyond (from + 1) count i (omega (arith, past))
 
-  each_entry : (e : ℕ) → is_among (map entry_place all_entries) e ≡ nat_le (suc e) entry_count
-  each_entry e = elim (cases_lt e 13) [
-    | inl less ↦ in_range 0 13 e (omega arith) (omega (arith, less)) ∙ sym (counted e less)
-    | inr past ↦ beyond 0 13 e (omega (arith, past)) ∙ sym (uncounted e past)
+  among_first : (count e : ℕ) → is_among (range_with_len 0 count) e ≡ nat_le (suc e) count
+  among_first count e = elim (cases_lt e count) [
+    | inl less ↦ in_range 0 count e (omega arith) (omega (arith, less)) ∙ sym (counted less)
+    | inr past ↦ beyond 0 count e (omega (arith, past)) ∙ sym (uncounted past)
   ]
     where
-      counted : (e : ℕ) → e < 13 → nat_le (suc e) 13 ≡ true
-      counted e less = grind (arith, nat_tests, less)
+      counted : e < count → nat_le (suc e) count ≡ true
+      counted less = grind (arith, nat_tests, less)
 
-      uncounted : (e : ℕ) → 13 ≤ e → nat_le (suc e) 13 ≡ false
-      uncounted e past = grind (arith, nat_tests, past)
+      uncounted : count ≤ e → nat_le (suc e) count ≡ false
+      uncounted past = grind (arith, nat_tests, past)
+
+  each_entry : (e : ℕ) → is_among (map entry_place all_entries) e ≡ nat_le (suc e) entry_count
+  each_entry e = among_first entry_count e
 
   pub all_amounts : (things : ℕ) → AreOfThings things marks → (r : Row) → of_amounts marks (is_among (map entry_place all_entries)) (is_among (range_with_len 0 things)) r ≡ amount_marked marks r
   all_amounts things few r = accounts_same (λ e t. is_among (map entry_place all_entries) e && (is_among (range_with_len 0 things) t && marked e t)) (is_marked_amount marks) same r
     where
-      inside : (e t n : ℕ) → 13 * t + e < 13 * n → t < n
+      inside : (e t n : ℕ) → entry_count * t + e < entry_count * n → t < n
       inside e t n h = omega (arith, h)
 
       same : (e t : ℕ) → (is_among (map entry_place all_entries) e && (is_among (range_with_len 0 things) t && marked e t)) ≡ is_marked_amount marks e t
@@ -144,12 +136,8 @@ module _ (marks : FinSet nat_cmp) where
         | inl is ↦
             let there : is_among (range_with_len 0 things) t ≡ true = in_range 0 things t (omega arith) (omega (arith, inside e t things (few (entry_count * t + e) is))) in
             ap (λ b. b && (is_among (range_with_len 0 things) t && marked e t)) (each_entry e) ∙ ap (λ b. nat_le (suc e) entry_count && (b && marked e t)) there
-        | inr unmarked ↦ ap (λ b. b && (is_among (range_with_len 0 things) t && marked e t)) (each_entry e) ∙ ap (λ b. nat_le (suc e) entry_count && (is_among (range_with_len 0 things) t && b)) unmarked ∙ ap (λ b. nat_le (suc e) entry_count && b) (never (is_among (range_with_len 0 things) t)) ∙ ap (λ b. nat_le (suc e) entry_count && b) (sym unmarked)
+        | inr unmarked ↦ ap (λ b. b && (is_among (range_with_len 0 things) t && marked e t)) (each_entry e) ∙ ap (λ b. nat_le (suc e) entry_count && (is_among (range_with_len 0 things) t && b)) unmarked ∙ ap (λ b. nat_le (suc e) entry_count && b) (and-false (is_among (range_with_len 0 things) t)) ∙ ap (λ b. nat_le (suc e) entry_count && b) (sym unmarked)
       ]
-        where
-          never : (b : Bool) → (b && false) ≡ false
-          never true = refl
-          never false = refl
 
 -- ---- one amount
 
@@ -170,7 +158,7 @@ module _ (c : Marked) (e : Entry) (t : Thing) where
 
   -- an amount that isn't marked chooses no row
   pub unmarked_none : contains c.marks.books (amount_number e t) ≡ false → (r : Row) → is_here r ≡ false
-  unmarked_none unmarked r = accounts_none _ (λ k j. not_true _ (λ is.
+  unmarked_none unmarked r = accounts_none _ (λ k j. false_from_ne_true _ (λ is.
       let one = and_parts _ _ is in
       let two = and_parts _ _ one.1 in
       true≢false (sym two.1 ∙ ap (λ x. contains c.marks.books (entry_count * x + k)) (tied j (thing_place t) two.0) ∙ ap (λ x. contains c.marks.books (entry_count * thing_place t + x)) (tied k (entry_place e) one.0) ∙ unmarked))) r
@@ -200,24 +188,13 @@ module _ (c : Marked) (e : Entry) (t : Thing) where
         ap (λ x. is_here (x ∷ w ∷ row)) (first ∙ ap int place) ∙ ap (λ x. is_here (int (suc (entry_place e)) ∷ x ∷ row)) second
         ∙ ap (λ b. b && (is_number (thing_place t) (thing_place t) && contains c.marks.books (amount_number e t))) (is_itself (entry_place e)) ∙ ap (λ b. b && contains c.marks.books (amount_number e t)) (is_itself (thing_place t)) ∙ marked
 
-    module _ (old new : Database) (did : Settles c.what e t old new) where
-      abbrev Were : Row → Type 0
-      Were r = Has (rows_in books_table old.trees) r
-
-      settle_rewrite : RewritesAmounts c (is_number (entry_place e)) (is_number (thing_place t)) old new
-      settle_rewrite = record { rows = λ r. (λ h. ahead r ((did.rows r).0 h), λ h. (did.rows r).1 (back r (is_here r) refl h)); others = did.others }
-        where
-          ahead : (r : Row) → Has (amount_lines c.what e t) r ⊎ (Were r × (take 2 r ≢ books_key (entry_place e + 1) (thing_place t))) → Chosen (is_here r) (BooksRowsOf c.what.books r) (Were r)
-          ahead r (inl here) =
-              let is = optional_has (int_eq (amount_in c.what.books e t) (pos 0)) row r here in
-              subst (λ b. Chosen b (BooksRowsOf c.what.books r) (Were r)) (sym (of_key r (ap (take 2) is.1))) (e, t, differs_zero (amount_in c.what.books e t) is.0, is.1)
-          ahead r (inr kept) = subst (λ b. Chosen b (BooksRowsOf c.what.books r) (Were r)) (sym (not_true _ (λ is. kept.1 (key_of r is)))) kept.0
-
-          back : (r : Row) (b : Bool) → is_here r ≡ b → Chosen b (BooksRowsOf c.what.books r) (Were r) → Has (amount_lines c.what e t) r ⊎ (Were r × (take 2 r ≢ books_key (entry_place e + 1) (thing_place t)))
-          back r true is of =
-              let keys = two_same (entry_place of.0 + 1) (thing_place of.1) (entry_place e + 1) (thing_place t) (ap (take 2) (sym of.3) ∙ key_of r is) in
-              inl (same_place of.0 of.1 of.2 (omega (arith, keys.0)) keys.1 r of.3)
-          back r false is was = inr (was, λ key. true≢false (sym (of_key r key) ∙ is))
+    settle_rewrite : (old new : Database) → Settles c.what e t old new → RewritesAmounts c (is_number (entry_place e)) (is_number (thing_place t)) old new
+    settle_rewrite old new did = rewrites_key is_here (λ r. take 2 r ≡ books_key (entry_place e + 1) (thing_place t)) (Has (amount_lines c.what e t)) (BooksRowsOf c.what.books) key_of of_key
+        (λ r here. let is = optional_has (int_eq (amount_in c.what.books e t) (pos 0)) row r here in (ap (take 2) is.1, (e, t, differs_zero (amount_in c.what.books e t) is.0, is.1)))
+        (λ r is of.
+            let keys = two_same (entry_place of.0 + 1) (thing_place of.1) (entry_place e + 1) (thing_place t) (ap (take 2) (sym of.3) ∙ key_of r is) in
+            same_place of.0 of.1 of.2 (omega (arith, keys.0)) keys.1 r of.3)
+        books_table old new did.rows did.others
 
     pub settle_done : (old new : State) → Inside HasTables (Settles c.what e t) old new → Inside HasTables (RewritesAmounts c (is_number (entry_place e)) (is_number (thing_place t))) old new
     settle_done old new did = inside_weaker HasTables (Settles c.what e t) (RewritesAmounts c (is_number (entry_place e)) (is_number (thing_place t))) old new (λ has settles. settle_rewrite old.now new.now settles) did

@@ -1,10 +1,12 @@
 -- Rows of a table that are rewritten where a test holds, one step after another.
-use Rattle.std.proofs.Common.{◌≡◌, ◌≢◌, ◌⊎◌, ◌↔◌, ◌||◌, ℕ, pos, negsuc, Bool, true, false, List, [], ◌∷◌, take, Some, None, Less, Equal, Greater, refl, sym, ap, ◌∙◌, subst, inl, inr, true≢false}
+use Rattle.std.proofs.Common.{◌≡◌, ◌≢◌, ◌⊎◌, ◌↔◌, ◌||◌, ℕ, suc, pos, negsuc, Bool, true, false, List, [], ◌∷◌, take, Some, None, Less, Equal, Greater, refl, sym, ap, ◌∙◌, subst, inl, inr, true≢false}
 use Rattle.std.specs.Ordering.{nat_cmp, is_eq, eq_by_cmp}
 use Rattle.std.specs.Cmp.{nat_cmp_total}
 use Rattle.std.specs.FinMap.{FinMap, get, nat_cmp-IsAntisymmetric}
 use Rattle.std.specs.FinSet.{FinSet, contains, from_list, contains-from_list}
+use Rattle.std.proofs.lemmas.Bool.{false_from_ne_true}
 use Rattle.std.proofs.lemmas.Cmp.{tied_itself}
+use Rattle.std.proofs.lemmas.Option.{same_Some, none-some}
 use Rattle.sqlite.specs.Effect.{Database}
 use Rattle.sqlite.specs.Order.{Row}
 use Rattle.sqlite.specs.State.{State}
@@ -15,12 +17,12 @@ use Rattle.atl_store.specs.Sets.{Set, rows_in}
 use Rattle.atl_store.specs.Tables.{all_tables}
 use Rattle.atl_store.specs.Shown.{int}
 use Rattle.atl_store.specs.Rows.{RowsOf}
-use Rattle.atl_store.specs.Inside.{Inside, HasTables, Puts, Drops}
+use Rattle.atl_store.specs.Inside.{Inside, HasTables, Both, Puts, Drops, PutsRows}
 use Rattle.atl_store.specs.Changing.{begins, begins_marked, Chosen}
 use Rattle.atl_store.specs.Rewriting.{Rewrites, RewritesNumber, is_number, is_among}
 use Rattle.atl_store.proofs.CarryLaws.{carries_then, carries_none}
-use Rattle.atl_store.proofs.EntryLaws.{same_number}
-use Rattle.atl_store.proofs.WholeLaws.{inside_weaker}
+use Rattle.atl_store.proofs.EntryLaws.{AreApart, puts_has, same_number}
+use Rattle.atl_store.proofs.WholeLaws.{inside_then, inside_weaker}
 
 -- ---- one step after another
 
@@ -141,10 +143,6 @@ key_begins n (v ∷ row) key =
     let value : v ≡ int n = cc in
     ap (λ x. begins (is_number n) (x ∷ row)) value ∙ is_itself n
 
-pub not_true : (b : Bool) → (b ≡ true → ⊥) → b ≡ false
-not_true true never = absurd (never refl)
-not_true false never = refl
-
 -- the numbers that are left, and the next one of them
 pub next_number : (n : ℕ) (ns : List ℕ) (r : Row) → begins (is_among (n ∷ ns)) r ≡ (begins (is_number n) r || begins (is_among ns) r)
 next_number n ns r = begins_either (is_number n) (is_among ns) r
@@ -156,13 +154,29 @@ no_number ns none r = ap (λ l. begins (is_among l) r) none ∙ begins_none r
 pub of_set : (marks : FinSet nat_cmp) (ns : List ℕ) → from_list ns ≡ marks → (r : Row) → begins (is_among ns) r ≡ begins_marked marks r
 of_set marks ns all r = ap (λ (f : ℕ → Bool). begins f r) (λ i n. (sym (contains-from_list nat_cmp_total ns n) ∙ ap (λ s. contains s n) all) i)
 
+-- ---- rows that take the place of those with a key
+
+-- Where a test finds the rows of a key, and the new rows are the wanted ones of it, these are rewritten and no others.
+module _ (p : Row → Bool) (Key New Wanted : Set) (found : (r : Row) → p r ≡ true → Key r) (finds : (r : Row) → Key r → p r ≡ true) (news : (r : Row) → New r → Key r × Wanted r) (olds : (r : Row) → p r ≡ true → Wanted r → New r) where
+  in_place : (Were : Type 0) (r : Row) → (New r ⊎ (Were × ¬ Key r)) ↔ Chosen (p r) (Wanted r) Were
+  in_place Were r = (ahead, back (p r) refl)
+    where
+      ahead : New r ⊎ (Were × ¬ Key r) → Chosen (p r) (Wanted r) Were
+      ahead (inl new) = let is = news r new in subst (λ b. Chosen b (Wanted r) Were) (sym (finds r is.0)) is.1
+      ahead (inr kept) = subst (λ b. Chosen b (Wanted r) Were) (sym (false_from_ne_true (p r) (λ is. kept.1 (found r is)))) kept.0
+
+      back : (b : Bool) → p r ≡ b → Chosen b (Wanted r) Were → New r ⊎ (Were × ¬ Key r)
+      back true is wanted = inl (olds r is wanted)
+      back false is was = inr (was, λ key. true≢false (sym (finds r key) ∙ is))
+
+  pub rewrites_key : (table : Table) (old new : Database) → ((r : Row) → Has (rows_in table new.trees) r ↔ (New r ⊎ (Has (rows_in table old.trees) r × ¬ Key r))) → ((t : Table) → Has all_tables t → t.tree ≢ table.tree → new.trees t.tree ≡ old.trees t.tree) → Rewrites table p Wanted old new
+  rewrites_key table old new rows others = record { rows = λ r. let so = in_place (Has (rows_in table old.trees) r) r in (λ h. so.0 ((rows r).0 h), λ h. (rows r).1 (so.1 h)); others = others }
+
+kept_only : {P : Type 0} → ⊥ ⊎ P → P
+kept_only (inl never) = absurd never
+kept_only (inr kept) = kept
+
 -- ---- a row that is put, or taken out
-
-pub some_is : {V : Type 0} (a b : V) → Some a ≡ Some b → a ≡ b
-some_is a b e = cc
-
-pub nothing_is : {V : Type 0} (v : V) → None ≡ Some v → ⊥
-nothing_is v e = cc
 
 module _ {V : Type 0} (table : Table) (line : ℕ → V → Row) (numbered : (n : ℕ) (v : V) → take 1 (line n v) ≡ int n ∷ []) (values : FinMap nat_cmp V) (n : ℕ) where
   -- a wanted row with this number
@@ -171,33 +185,64 @@ module _ {V : Type 0} (table : Table) (line : ℕ → V → Row) (numbered : (n 
       let number : of.0 ≡ n = same_number of.0 n (sym (numbered of.0 of.1) ∙ ap (take 1) (sym of.3) ∙ begins_key n r is) in
       (of.1, ap (get values) (sym number) ∙ of.2, of.3 ∙ ap (λ k. line k of.1) number)
 
-  module _ (old new : Database) where
-    abbrev Goal : Row → Type 0
-    Goal r = Chosen (begins (is_number n) r) (RowsOf line values r) (Has (rows_in table old.trees) r)
+  put_rewrites : (old new : Database) (v : V) → get values n ≡ Some v → Puts table 1 (line n v) old new → RewritesNumber table line values n old new
+  put_rewrites old new v there did = rewrites_key (begins (is_number n)) (λ r. take 1 r ≡ take 1 (line n v)) (λ r. r ≡ line n v) (RowsOf line values)
+      (λ r is. begins_key n r is ∙ sym (numbered n v))
+      (λ r key. key_begins n r (key ∙ numbered n v))
+      (λ r same. (ap (take 1) same, (n, v, there, same)))
+      (λ r is of. let w = wanted_at r is of in w.2 ∙ ap (line n) (same_Some w.0 v (sym w.1 ∙ there)))
+      table old new did.rows did.others
 
-    put_rewrites : (v : V) → get values n ≡ Some v → Puts table 1 (line n v) old new → RewritesNumber table line values n old new
-    put_rewrites v there did = record { rows = λ r. (λ h. ahead r ((did.rows r).0 h), λ h. (did.rows r).1 (back r (begins (is_number n) r) refl h)); others = did.others }
-      where
-        ahead : (r : Row) → (r ≡ line n v) ⊎ (Has (rows_in table old.trees) r × (take 1 r ≢ take 1 (line n v))) → Goal r
-        ahead r (inl same) = subst (λ b. Chosen b (RowsOf line values r) (Has (rows_in table old.trees) r)) (sym (key_begins n r (ap (take 1) same ∙ numbered n v))) (n, v, there, same)
-        ahead r (inr kept) = subst (λ b. Chosen b (RowsOf line values r) (Has (rows_in table old.trees) r)) (sym (not_true _ (λ is. kept.1 (begins_key n r is ∙ sym (numbered n v))))) kept.0
-
-        back : (r : Row) (b : Bool) → begins (is_number n) r ≡ b → Chosen b (RowsOf line values r) (Has (rows_in table old.trees) r) → (r ≡ line n v) ⊎ (Has (rows_in table old.trees) r × (take 1 r ≢ take 1 (line n v)))
-        back r true is of = let w = wanted_at r is of in inl (w.2 ∙ ap (line n) (some_is w.0 v (sym w.1 ∙ there)))
-        back r false is was = inr (was, λ e. true≢false (sym (key_begins n r (e ∙ numbered n v)) ∙ is))
-
-    drop_rewrites : get values n ≡ None → Drops table 1 (int n ∷ []) old new → RewritesNumber table line values n old new
-    drop_rewrites none did = record { rows = λ r. (λ h. ahead r ((did.rows r).0 h), λ h. (did.rows r).1 (back r (begins (is_number n) r) refl h)); others = did.others }
-      where
-        ahead : (r : Row) → Has (rows_in table old.trees) r × (take 1 r ≢ int n ∷ []) → Goal r
-        ahead r kept = subst (λ b. Chosen b (RowsOf line values r) (Has (rows_in table old.trees) r)) (sym (not_true _ (λ is. kept.1 (begins_key n r is)))) kept.0
-
-        back : (r : Row) (b : Bool) → begins (is_number n) r ≡ b → Chosen b (RowsOf line values r) (Has (rows_in table old.trees) r) → Has (rows_in table old.trees) r × (take 1 r ≢ int n ∷ [])
-        back r true is of = let w = wanted_at r is of in absurd (nothing_is w.0 (sym none ∙ w.1))
-        back r false is was = (was, λ e. true≢false (sym (key_begins n r e) ∙ is))
+  drop_rewrites : (old new : Database) → get values n ≡ None → Drops table 1 (int n ∷ []) old new → RewritesNumber table line values n old new
+  drop_rewrites old new none did = rewrites_key (begins (is_number n)) (λ r. take 1 r ≡ int n ∷ []) (λ r. ⊥) (RowsOf line values) (begins_key n) (key_begins n) (λ r never. absurd never)
+      (λ r is of. let w = wanted_at r is of in none-some w.0 (sym none ∙ w.1))
+      table old new (λ r. let so = did.rows r in (λ h. inr (so.0 h), λ h. so.1 (kept_only h))) did.others
 
   pub put_done : (v : V) → get values n ≡ Some v → (old new : State) → Inside HasTables (Puts table 1 (line n v)) old new → Inside HasTables (RewritesNumber table line values n) old new
   put_done v there old new did = inside_weaker HasTables (Puts table 1 (line n v)) (RewritesNumber table line values n) old new (λ has puts. put_rewrites old.now new.now v there puts) did
 
   pub drop_done : get values n ≡ None → (old new : State) → Inside HasTables (Drops table 1 (int n ∷ [])) old new → Inside HasTables (RewritesNumber table line values n) old new
   drop_done none old new did = inside_weaker HasTables (Drops table 1 (int n ∷ [])) (RewritesNumber table line values n) old new (λ has drops. drop_rewrites old.now new.now none drops) did
+
+-- ---- rows that belong to a number, taken out and put anew
+
+-- rows that are the same in more columns begin with the same one
+first_of : (more : ℕ) (a b : Row) → take (suc more) a ≡ take (suc more) b → take 1 a ≡ take 1 b
+first_of more a b same = sym (first a) ∙ ap (take 1) same ∙ first b
+  where
+    first : (r : Row) → take 1 (take (suc more) r) ≡ take 1 r
+    first [] = refl
+    first (v ∷ row) = refl
+
+module _ {V : Type 0} (table : Table) (more : ℕ) (lines : ℕ → V → List Row) (Wanted : Set) (values : FinMap nat_cmp V) (n : ℕ)
+    (numbered : (v : V) (r : Row) → Has (lines n v) r → take 1 r ≡ int n ∷ []) (apart : (v : V) → AreApart (suc more) (lines n v))
+    (wanted : (v : V) → get values n ≡ Some v → (r : Row) → Has (lines n v) r → Wanted r) (lined : (r : Row) → begins (is_number n) r ≡ true → Wanted r → (v : V) × (get values n ≡ Some v) × Has (lines n v) r) where
+  abbrev RewritesLines : Database → Database → Type 0
+  RewritesLines = Rewrites table (begins (is_number n)) Wanted
+
+  lines_rewrite : (old mid new : Database) → Drops table 1 (int n ∷ []) old mid → (v : V) → get values n ≡ Some v → PutsRows table (suc more) (lines n v) mid new → RewritesLines old new
+  lines_rewrite old mid new dropped v there did = rewrites_key (begins (is_number n)) (λ r. take 1 r ≡ int n ∷ []) (Has (lines n v)) Wanted (begins_key n) (key_begins n)
+      (λ r here. (numbered v r here, wanted v there r here))
+      (λ r is of. let line = lined r is of in subst (λ u. Has (lines n u) r) (same_Some line.0 v (sym line.1 ∙ there)) line.2)
+      table old new rows (λ t listed other. did.others t listed other ∙ dropped.others t listed other)
+    where
+      rows : (r : Row) → Has (rows_in table new.trees) r ↔ (Has (lines n v) r ⊎ (Has (rows_in table old.trees) r × (take 1 r ≢ int n ∷ [])))
+      rows r =
+          let all = puts_has (suc more) (lines n v) (Has (rows_in table mid.trees)) (apart v) (λ s was x here same. ((dropped.rows s).0 was).1 (first_of more s x same ∙ numbered v x here)) r in (
+            λ h. elim (all.0 ((did.rows r).0 h)) [ inl here ↦ inl here | inr was ↦ inr ((dropped.rows r).0 was) ],
+            λ h. (did.rows r).1 (all.1 (elim h [ inl here ↦ inl here | inr kept ↦ inr ((dropped.rows r).1 kept) ])),
+          )
+
+  bare_rewrite : (old new : Database) → Drops table 1 (int n ∷ []) old new → get values n ≡ None → RewritesLines old new
+  bare_rewrite old new dropped none = rewrites_key (begins (is_number n)) (λ r. take 1 r ≡ int n ∷ []) (λ r. ⊥) Wanted (begins_key n) (key_begins n) (λ r never. absurd never)
+      (λ r is of. let line = lined r is of in none-some line.0 (sym none ∙ line.1))
+      table old new (λ r. let so = dropped.rows r in (λ h. inr (so.0 h), λ h. so.1 (kept_only h))) dropped.others
+
+  pub lines_done : (v : V) → get values n ≡ Some v → (old mid new : State) → Inside HasTables (Drops table 1 (int n ∷ [])) old mid → Inside HasTables (PutsRows table (suc more) (lines n v)) mid new → Inside HasTables RewritesLines old new
+  lines_done v there old mid new one two =
+      let drops = Drops table 1 (int n ∷ []) in
+      let puts = PutsRows table (suc more) (lines n v) in
+      inside_weaker HasTables (Both drops puts) RewritesLines old new (λ has did. lines_rewrite old.now did.0 new.now did.1 v there did.2) (inside_then HasTables drops puts old mid new one two)
+
+  pub bare_done : get values n ≡ None → (old new : State) → Inside HasTables (Drops table 1 (int n ∷ [])) old new → Inside HasTables RewritesLines old new
+  bare_done none old new did = inside_weaker HasTables (Drops table 1 (int n ∷ [])) RewritesLines old new (λ has drops. bare_rewrite old.now new.now drops none) did
