@@ -1,6 +1,6 @@
 -- Producing leaves a campaign well.
 use Rattle.std.proofs.Common.{◌≡◌, ◌≢◌, ◌==◌, ℕ, ◌+◌, ◌-◌, ◌*◌, ◌/◌, ◌≤◌, ◌<◌, Bool, true, false, List, [], ◌∷◌, length, Option, Some, None, refl, sym, subst, ◌∙◌, arith}
-use Rattle.std.specs.Prelude.{IfSome, fold, min, if◌then◌else◌}
+use Rattle.std.specs.Prelude.{ℤ, IfSome, fold, min, if◌then◌else◌}
 use Rattle.std.specs.List.{AllByRecursion, flat_map, slice_get}
 use Rattle.std.specs.Ordering.{nat_cmp}
 use Rattle.std.specs.FinMap.{FinMap, empty, entries, get}
@@ -25,11 +25,11 @@ use Rattle.atl_state.specs.Marks.{amount_number}
 use Rattle.atl_state.specs.State.{State}
 use Rattle.atl_state.proofs.BackLaws.{Rise, entries_rise}
 use Rattle.atl_state.proofs.EveryLaws.{each-from_every, every-empty, none_some}
-use Rattle.atl_instant.specs.Meaning.{HaveRoom, LeavesWell, Moving, both_move, most_moved, moved_times, moves_only}
+use Rattle.atl_instant.specs.Meaning.{HasRoom, HaveRoom, LeavesWell, Moving, both_move, most_moved, moved_times, moves_only}
 use Rattle.atl_instant.specs.declared.written.Written.{Written}
 use Rattle.atl_instant.proofs.AmountsLaws.{amount_within}
 use Rattle.atl_instant.proofs.MeaningLaws.{MovesLess, both_leave_well, less_room, room_behind, room_less, well_unchanged, well_within}
-use Rattle.atl_market.specs.Making.{CanMakeOf, CanProduce, Fits, step_most}
+use Rattle.atl_market.specs.Making.{CanMakeOf, CanProduce, Fits}
 use Rattle.atl_market.specs.PotPhase.{CanInTurn, fault_of, given_by, shared_out, want_at, want_by, wants_by}
 use Rattle.atl_market.specs.Pots.{with_each}
 use Rattle.atl_market.specs.Produce.{produce_moves, produce_pots, produced, produced_by, produced_of, with_raw_used}
@@ -66,20 +66,23 @@ scaled steps one all few booked.Made (things.Item i) = few
 scaled steps one all few booked.Used (things.Item i) = few
 scaled steps one all few e t = omega arith
 
-twice : (e : Entry) (t : Thing) → 2 * produce_moves holding_limit e t ≤ produce_moves step_most e t
-twice e t = scaled 2 holding_limit step_most (omega arith) e t
+used_none : (r j : ℕ) → (if amount_number booked.Made (things.Item j) == amount_number booked.Used (things.Item r) then holding_limit else 0) ≤ 0
+used_none r j = off (amount_number booked.Made (things.Item j)) (amount_number booked.Used (things.Item r)) (omega arith)
 
-both_less : (r i : ℕ) → MovesLess (both_move (moves_only holding_limit booked.Used (things.Item r)) (moves_only holding_limit booked.Made (things.Item i))) (produce_moves step_most)
-both_less r i e t = omega (arith, used_less r e t, made_less i e t, twice e t)
+made_none : (i j : ℕ) → (if amount_number booked.Used (things.Item j) == amount_number booked.Made (things.Item i) then holding_limit else 0) ≤ 0
+made_none i j = off (amount_number booked.Used (things.Item j)) (amount_number booked.Made (things.Item i)) (omega arith)
 
-used_and_more : (r : ℕ) → MovesLess (both_move (moves_only holding_limit booked.Used (things.Item r)) (produce_moves holding_limit)) (produce_moves step_most)
-used_and_more r e t = omega (arith, used_less r e t, twice e t)
+both_less : (r i : ℕ) → MovesLess (both_move (moves_only holding_limit booked.Used (things.Item r)) (moves_only holding_limit booked.Made (things.Item i))) (produce_moves holding_limit)
+both_less r i booked.Made (things.Item j) = omega (arith, used_none r j, made_less i booked.Made (things.Item j))
+both_less r i booked.Used (things.Item j) = omega (arith, used_less r booked.Used (things.Item j), made_none i j)
+both_less r i e t = omega (arith, used_less r e t, made_less i e t)
 
-one_step : MovesLess (produce_moves holding_limit) (produce_moves step_most)
-one_step e t = omega (arith, twice e t)
-
-made_step : (i : ℕ) → MovesLess (moves_only holding_limit booked.Made (things.Item i)) (produce_moves step_most)
-made_step i e t = omega (arith, made_less i e t, twice e t)
+-- room for an amount alone is room under its entry
+only_room : (e : Entry) (t : Thing) (z : ℤ) → HasRoom (moves_only holding_limit e t e t) z → HasRoom holding_limit z
+only_room e t z room = subst (λ b. HasRoom (if b then holding_limit else 0) z) (itself (amount_number e t)) room
+  where
+    itself : (n : ℕ) → (n == n) ≡ true
+    itself n = grind (arith, nat_tests)
 
 -- ---- one step
 
@@ -98,7 +101,7 @@ module _ (asked : FinMap nat_cmp ℕ) (w : Planet) (c : State) (e : ℕ × ℕ) 
           known = fits.raw_known r raw;
           enough = fits.raw r raw;
           steady = can.steady;
-          room = less_room (e.1 * x.raw_count) holding_limit (amount_in c.books booked.Used (things.Item r)) (omega (arith, fits.raw r raw, held r)) (room_less (produce_moves holding_limit) (produce_moves step_most) c one_step can.room booked.Used (things.Item r));
+          room = less_room (e.1 * x.raw_count) holding_limit (amount_in c.books booked.Used (things.Item r)) (omega (arith, fits.raw r raw, held r)) (can.room booked.Used (things.Item r));
         }
 
     can_at_once : CanMake w c e.0 i e.1
@@ -110,7 +113,7 @@ module _ (asked : FinMap nat_cmp ℕ) (w : Planet) (c : State) (e : ℕ × ℕ) 
           known = fits.known;
           fits = fits.fits;
           steady = can.steady;
-          room = less_room e.1 holding_limit (amount_in c.books booked.Made (things.Item i)) (omega (arith, fits.fits)) (room_less (produce_moves holding_limit) (produce_moves step_most) c one_step can.room booked.Made (things.Item i));
+          room = less_room e.1 holding_limit (amount_in c.books booked.Made (things.Item i)) (omega (arith, fits.fits)) (can.room booked.Made (things.Item i));
         }
 
     can_behind : (r : ℕ) → x.raw ≡ Some r → CanMake w (with_used c e.0 r (e.1 * x.raw_count)) e.0 i e.1
@@ -126,8 +129,9 @@ module _ (asked : FinMap nat_cmp ℕ) (w : Planet) (c : State) (e : ℕ × ℕ) 
           fits = below (amount_of h.items i) (amount_of can.unit.holding.items i) left fits.fits;
           steady = well.leaves_it;
           room = less_room e.1 holding_limit (amount_in (with_used c e.0 r (e.1 * x.raw_count)).books booked.Made (things.Item i)) (omega (arith, fits.fits))
-              (room_behind (moves_only holding_limit booked.Used (things.Item r)) (produce_moves holding_limit) w c (with_used c e.0 r (e.1 * x.raw_count)) well
-              (room_less (both_move (moves_only holding_limit booked.Used (things.Item r)) (produce_moves holding_limit)) (produce_moves step_most) c (used_and_more r) can.room) booked.Made (things.Item i));
+              (only_room booked.Made (things.Item i) (amount_in (with_used c e.0 r (e.1 * x.raw_count)).books booked.Made (things.Item i))
+              (room_behind (moves_only holding_limit booked.Used (things.Item r)) (moves_only holding_limit booked.Made (things.Item i)) w c (with_used c e.0 r (e.1 * x.raw_count)) well
+              (room_less (both_move (moves_only holding_limit booked.Used (things.Item r)) (moves_only holding_limit booked.Made (things.Item i))) (produce_moves holding_limit) c (both_less r i) can.room) booked.Made (things.Item i)));
         }
       where
         below : (a b : ℕ) → a ≤ b → b + e.1 ≤ holding_limit → a + e.1 ≤ holding_limit
@@ -148,28 +152,28 @@ module _ (asked : FinMap nat_cmp ℕ) (w : Planet) (c : State) (e : ℕ × ℕ) 
       make = can_make_then;
     }
 
-    item_well : LeavesWell IsSteady (produce_moves step_most) w c (with_made (with_raw_used c e.0 (e.1 * x.raw_count) x.raw) e.0 i e.1)
+    item_well : LeavesWell IsSteady (produce_moves holding_limit) w c (with_made (with_raw_used c e.0 (e.1 * x.raw_count) x.raw) e.0 i e.1)
     item_well = by_raw x.raw refl
       where
-        by_raw : (o : Option ℕ) → x.raw ≡ o → LeavesWell IsSteady (produce_moves step_most) w c (with_made (with_raw_used c e.0 (e.1 * x.raw_count) o) e.0 i e.1)
-        by_raw None is = well_within (moves_only holding_limit booked.Made (things.Item i)) (produce_moves step_most) w c (with_made c e.0 i e.1) (made_step i) (made_well w c e.0 i e.1 can_at_once)
+        by_raw : (o : Option ℕ) → x.raw ≡ o → LeavesWell IsSteady (produce_moves holding_limit) w c (with_made (with_raw_used c e.0 (e.1 * x.raw_count) o) e.0 i e.1)
+        by_raw None is = well_within (moves_only holding_limit booked.Made (things.Item i)) (produce_moves holding_limit) w c (with_made c e.0 i e.1) (made_less i) (made_well w c e.0 i e.1 can_at_once)
         by_raw (Some r) is =
             let d = with_used c e.0 r (e.1 * x.raw_count) in
             let one = moves_only holding_limit booked.Used (things.Item r) in
             let two = moves_only holding_limit booked.Made (things.Item i) in
-            well_within (both_move one two) (produce_moves step_most) w c (with_made d e.0 i e.1) (both_less r i)
+            well_within (both_move one two) (produce_moves holding_limit) w c (with_made d e.0 i e.1) (both_less r i)
             (both_leave_well one two w c d (with_made d e.0 i e.1) (used_well w c e.0 r (e.1 * x.raw_count) (can_use r is)) (made_well w d e.0 i e.1 (can_behind r is)))
 
-  pub produced_well : CanProduce asked w c e → LeavesWell IsSteady (produce_moves step_most) w c (produced asked w c e)
+  pub produced_well : CanProduce asked w c e → LeavesWell IsSteady (produce_moves holding_limit) w c (produced asked w c e)
   unfolding produced
   produced_well can = by_item (get asked e.0) refl
     where
-      by_world : (i : ℕ) → get asked e.0 ≡ Some i → (o : Option Item) → slice_get w.items i ≡ o → LeavesWell IsSteady (produce_moves step_most) w c (produced_of c e i o)
-      by_world i told None is = well_unchanged (produce_moves step_most) w c can.steady
+      by_world : (i : ℕ) → get asked e.0 ≡ Some i → (o : Option Item) → slice_get w.items i ≡ o → LeavesWell IsSteady (produce_moves holding_limit) w c (produced_of c e i o)
+      by_world i told None is = well_unchanged (produce_moves holding_limit) w c can.steady
       by_world i told (Some x) is = item_well can i x told is
 
-      by_item : (o : Option ℕ) → get asked e.0 ≡ o → LeavesWell IsSteady (produce_moves step_most) w c (produced_by w c e o)
-      by_item None is = well_unchanged (produce_moves step_most) w c can.steady
+      by_item : (o : Option ℕ) → get asked e.0 ≡ o → LeavesWell IsSteady (produce_moves holding_limit) w c (produced_by w c e o)
+      by_item None is = well_unchanged (produce_moves holding_limit) w c can.steady
       by_item (Some i) is = by_world i is (slice_get w.items i) refl
 
   -- nothing changes for other units
@@ -259,7 +263,7 @@ HasRoomFor asked w c e = (u : Unit) × (get c.units e.0 ≡ Some u) × ((i : ℕ
 
 module _ (asked : FinMap nat_cmp ℕ) (w : Planet) where
   abbrev step_moves : Moving
-  step_moves = produce_moves step_most
+  step_moves = produce_moves holding_limit
 
   still : (c d : State) (n : ℕ) (es : List (ℕ × ℕ)) → ((k : ℕ) → k ≢ n → get d.units k ≡ get c.units k) → AllByRecursion (λ f. n < f.0) es → AllByRecursion (HasRoomFor asked w c) es → AllByRecursion (HasRoomFor asked w d) es
   still c d n [] same above all = tt
@@ -288,7 +292,7 @@ module _ (asked : FinMap nat_cmp ℕ) (w : Planet) where
     few = omega (arith, few_given (produce_pots asked) w c (makes_give asked w c) os, steady.numbers.few_units)
 
     little : MovesLess (moved_times (length shares) step_moves) (produce_moves most_moved)
-    little e t = scaled (length shares) step_most most_moved (omega (arith, few)) e t
+    little e t = scaled (length shares) holding_limit most_moved (omega (arith, few)) e t
 
     pub can_share_out : HaveRoom (produce_moves most_moved) c → CanInTurn (CanProduce asked w) (produced asked w) c shares
     can_share_out room =

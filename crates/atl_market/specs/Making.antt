@@ -59,13 +59,10 @@ pub record Fits (w : Planet) (u : Unit) (made i : ℕ) (x : Item) : Type 0 where
   pub raw_known : (r : ℕ) → x.raw ≡ Some r → r < length w.items
   pub raw : (r : ℕ) → x.raw ≡ Some r → made * x.raw_count ≤ amount_of u.holding.items r
 
--- so many, but no more than are used of an item and are made of one in a step
-abbrev pub step_most : ℕ
-step_most = 1999999998
-
+-- A unit is there and has room and raw items for so much of its item, and no amount of the books moves by more than a holding in a step.
 pub record CanProduce (asked : FinMap nat_cmp ℕ) (w : Planet) (c : State) (e : ℕ × ℕ) : Type 0 where
   pub unit : Unit
   pub there : get c.units e.0 ≡ Some unit
   pub fits : (i : ℕ) (x : Item) → get asked e.0 ≡ Some i → slice_get w.items i ≡ Some x → Fits w unit e.1 i x
   pub steady : IsSteady w c
-  pub room : HaveRoom (produce_moves step_most) c
+  pub room : HaveRoom (produce_moves holding_limit) c
