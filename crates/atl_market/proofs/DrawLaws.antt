@@ -6,8 +6,7 @@ use Rattle.std.specs.List.{AllByRecursion}
 use Rattle.std.specs.Ordering.{nat_cmp}
 use Rattle.std.specs.Cmp.{ranked}
 use Rattle.std.specs.FinMap.{FinMap, entries, get, insert}
-use Rattle.std.proofs.lemmas.Bool.{cases_eq}
-use Rattle.std.proofs.lemmas.Bool.Decides.{nat_tests}
+use Rattle.std.proofs.lemmas.Bool.{cases_eq, eqb-true}
 use Rattle.std.proofs.lemmas.List.Sums.{sum_by-cons}
 use Rattle.atl_state.specs.declared.records.Region.{Region}
 use Rattle.atl_state.specs.declared.records.Unit.{Unit}
@@ -16,6 +15,7 @@ use Rattle.atl_state.specs.Good.{IsThere}
 use Rattle.atl_state.specs.State.{State, region_changed}
 use Rattle.atl_state.proofs.BackLaws.{Rise, entries_rise}
 use Rattle.atl_state.proofs.EveryLaws.{each-from_every, get-insert_other}
+use Rattle.atl_state.proofs.ListLaws.{same_number}
 use Rattle.atl_state.proofs.RegionLaws.{changed-known, get-insert_same}
 use Rattle.atl_market.specs.Pots.{amount_given, pot_shares, takers_in, wants_in}
 use Rattle.atl_market.proofs.PotLaws.{IsRisen, gives_each_pot, only_takers_get, taker_place, takers_risen}
@@ -123,9 +123,6 @@ module _ (units : FinMap nat_cmp Unit) (r : ℕ) where
 -- ---- a pot is enough for all
 
 module _ (pot_of : ℕ → ℕ) (wants : FinMap nat_cmp ℕ) (c : State) (r : ℕ) where
-  same_region : (a b : ℕ) → (a == b) ≡ true → a ≡ b
-  same_region a b h = grind (arith, nat_tests)
-
   abbrev amount : ℕ → ℕ
   amount n = amount_given pot_of wants c n
 
@@ -135,7 +132,7 @@ module _ (pot_of : ℕ → ℕ) (wants : FinMap nat_cmp ℕ) (c : State) (r : �
   listed : (n share : ℕ) → get (pot_shares pot_of wants c) n ≡ Some share → Listed c.units r amount takers (n, share)
   listed n share is stands =
       let (want, u, wanted, low, at, region) = only_takers_get pot_of wants c n share is in
-      let here : u.region ≡ r = same_region u.region r (ap (stands_in r) (sym at) ∙ stands) in
+      let here : u.region ≡ r = eqb-true u.region r (ap (stands_in r) (sym at) ∙ stands) in
       let (i, less, found) = taker_place wants c.units n want u wanted at in
       let among : IsIn n (takers_in wants c.units u.region) = place_in (takers_in wants c.units u.region) n i less found in
       (subst (λ k. IsIn n (takers_in wants c.units k)) here among, ap (λ o. unwrap_or o 0) is)
@@ -161,11 +158,8 @@ module _ (units : FinMap nat_cmp Unit) (stock : Region → ℕ) where
   HaveLess d after r q share = (k : ℕ) (x : Region) → get after.regions k ≡ Some x → ((k ≡ r) × (stock x + share ≡ stock q)) ⊎ (get d.regions k ≡ Some x)
 
   module _ (d : State) (e : ℕ × ℕ) (es : List (ℕ × ℕ)) (u : Unit) (q : Region) (enough : HaveEnough d (e ∷ es)) (there : get units e.0 ≡ Some u) (around : get d.regions u.region ≡ Some q) where
-    itself : (a : ℕ) → (a == a) ≡ true
-    itself a = grind (arith, nat_tests)
-
     pub first_draws : e.1 + drawn units u.region es ≤ stock q
-    first_draws = subst (λ b. cond b e.1 0 + drawn units u.region es ≤ stock q) (ap (stands_in u.region) there ∙ itself u.region) (enough u.region q around)
+    first_draws = subst (λ b. cond b e.1 0 + drawn units u.region es ≤ stock q) (ap (stands_in u.region) there ∙ same_number u.region) (enough u.region q around)
 
     left_over : (share rest less all : ℕ) → share + rest ≤ all → less + share ≡ all → rest ≤ less
     left_over share rest less all h k = omega (arith, h, k)

@@ -2,9 +2,8 @@
 use Rattle.std.proofs.Common.{◌≡◌, ◌≢◌, ◌==◌, ℕ, ◌≤◌, Bool, true, false, cond, List, [], ◌∷◌, map, filter, Option, Some, None, refl, sym, ap, subst, ◌∙◌, inl, inr, arith}
 use Rattle.std.specs.Prelude.{fold, unwrap_or}
 use Rattle.std.specs.List.{AllByRecursion}
-use Rattle.std.specs.declared.cmp.Ordering.TheVariants.{Less, Equal, Greater}
-use Rattle.std.specs.Ordering.{nat_cmp, is_eq}
-use Rattle.std.specs.FinMap.{FinMap, empty, entries, find, get, get-empty, get-entries, insert, is_sorted, nat_cmp-IsAntisymmetric}
+use Rattle.std.specs.Ordering.{nat_cmp}
+use Rattle.std.specs.FinMap.{FinMap, empty, entries, find, get, get-empty, get-entries, insert, is_sorted}
 use Rattle.std.proofs.lemmas.Bool.{and_parts, cases_eq}
 use Rattle.std.proofs.lemmas.Bool.Decides.{nat_tests}
 use Rattle.atl_tables.specs.Planet.{Planet}
@@ -17,17 +16,9 @@ use Rattle.atl_state.proofs.RegionLaws.{get-insert_same}
 use Rattle.atl_market.specs.Making.{Groups, amount_of_group, grouped, made_from, want_put, with_shares, with_want}
 use Rattle.atl_market.specs.Pots.{AreWants, pot_shares, with_each}
 use Rattle.atl_market.specs.Produce.{produce_pots}
-use Rattle.atl_market.proofs.PotLaws.{pots_give}
+use Rattle.atl_market.proofs.PotLaws.{found_other, pots_give}
 use Rattle.atl_market.proofs.WantLaws.{GivesToWants, every-with_each}
 use Rattle.atl_market.specs.Outputs.{gathered, is_for, made_by, made_of, makes, output_at, wants_for}
-
-found_other : {V : Type 0} (e : ℕ × V) (es : List (ℕ × V)) (n : ℕ) → n ≢ e.0 → find nat_cmp n (e ∷ es) ≡ find nat_cmp n es
-found_other e es n apart =
-    elim (nat_cmp n e.0) as (λ o. nat_cmp n e.0 ≡ o → cond (is_eq o) (Some e.1) (find nat_cmp n es) ≡ find nat_cmp n es) [
-      | Less ↦ λ _. refl
-      | Equal ↦ λ o. absurd (apart (nat_cmp-IsAntisymmetric n e.0 o))
-      | Greater ↦ λ _. refl
-    ] refl
 
 none_under : {V : Type 0} (n : ℕ) → get (empty {X = V} {R = nat_cmp}) n ≡ None
 none_under n = get-empty nat_cmp n

@@ -1,10 +1,9 @@
 -- All units are paid at once.
-use Rattle.std.proofs.Common.{◌≡◌, ◌≢◌, ℕ, ◌+◌, ◌<◌, cond, Option, Some, None, List, [], ◌∷◌, refl, sym, ap, subst, ◌∙◌, inl, inr, arith}
+use Rattle.std.proofs.Common.{◌≡◌, ◌≢◌, ℕ, ◌+◌, ◌<◌, Option, Some, None, List, [], ◌∷◌, refl, sym, ap, subst, ◌∙◌, inl, inr, arith}
 use Rattle.std.specs.Prelude.{fold, unwrap_or}
 use Rattle.std.specs.List.{AllByRecursion}
-use Rattle.std.specs.declared.cmp.Ordering.TheVariants.{Less, Equal, Greater}
-use Rattle.std.specs.Ordering.{nat_cmp, is_eq}
-use Rattle.std.specs.FinMap.{entries, find, get, get-entries, nat_cmp-IsAntisymmetric}
+use Rattle.std.specs.Ordering.{nat_cmp}
+use Rattle.std.specs.FinMap.{entries, find, get, get-entries}
 use Rattle.std.proofs.lemmas.Bool.{cases_eq}
 use Rattle.atl_tables.specs.Planet.{Planet}
 use Rattle.atl_state.specs.State.{State}
@@ -12,6 +11,7 @@ use Rattle.atl_state.specs.declared.records.Unit.{Unit}
 use Rattle.atl_state.proofs.BackLaws.{Rise, entries_rise}
 use Rattle.atl_state.proofs.EveryLaws.{first}
 use Rattle.atl_state.proofs.RegionLaws.{get-insert_same}
+use Rattle.atl_market.proofs.PotLaws.{found_other}
 use Rattle.atl_market.specs.PotPhase.{given_by, shared_out}
 use Rattle.atl_market.specs.Work.{PaysAllAtOnce, earned, with_more_money, work_pots, worked, worked_by}
 use Rattle.atl_market.proofs.WorkLaws.{wages_are, wages_leave_others, worked_is}
@@ -35,14 +35,6 @@ module _ (w : Planet) where
   later_stay : (c : State) (es : List (ℕ × ℕ)) (n : ℕ) → AllByRecursion (λ f. n < f.0) es → get (fold (worked w) c es).units n ≡ get c.units n
   later_stay c [] n above = refl
   later_stay c (e ∷ es) n above = later_stay (worked w c e) es n above.1 ∙ others_stay c e n (λ same. absurd (omega (arith, same, above.0)))
-
-  found_other : (e : ℕ × ℕ) (es : List (ℕ × ℕ)) (n : ℕ) → n ≢ e.0 → find nat_cmp n (e ∷ es) ≡ find nat_cmp n es
-  found_other e es n apart =
-      elim (nat_cmp n e.0) as (λ o. nat_cmp n e.0 ≡ o → cond (is_eq o) (Some e.1) (find nat_cmp n es) ≡ find nat_cmp n es) [
-        | Less ↦ λ _. refl
-        | Equal ↦ λ o. absurd (apart (nat_cmp-IsAntisymmetric n e.0 o))
-        | Greater ↦ λ _. refl
-      ] refl
 
   nothing_more : (u : Unit) → u ≡ with_more_money u (earned w u.region 0)
   nothing_more u =

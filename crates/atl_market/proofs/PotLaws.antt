@@ -1,5 +1,5 @@
 -- Laws of what units get of the pots of their regions.
-use Rattle.std.proofs.Common.{◌≡◌, ℕ, ◌<◌, ◌≤◌, ◌==◌, ◌||◌, zero, suc, Bool, true, false, cond, List, [], ◌∷◌, ◌++◌, length, get_or, map, filter, sum, Option, Some, None, is_some, refl, sym, ap, subst, ◌∙◌, arith, T}
+use Rattle.std.proofs.Common.{◌≡◌, ◌≢◌, ℕ, ◌<◌, ◌≤◌, ◌==◌, ◌||◌, zero, suc, Bool, true, false, cond, List, [], ◌∷◌, ◌++◌, length, get_or, map, filter, sum, Option, Some, None, is_some, refl, sym, ap, subst, ◌∙◌, arith}
 use Rattle.std.specs.Prelude.{⊤, unwrap_or}
 use Rattle.std.specs.declared.cmp.Ordering.{Ordering}
 use Rattle.std.specs.declared.cmp.Ordering.TheVariants.{Less, Equal, Greater}
@@ -7,9 +7,8 @@ use Rattle.std.specs.List.{AllByRecursion, flat_map, list_any, zip}
 use Rattle.std.specs.Ordering.{nat_cmp, is_eq, eq_by_cmp}
 use Rattle.std.specs.Cmp.{nat_cmp_total, ranked}
 use Rattle.std.specs.FinMap.Entries.{below_all}
-use Rattle.std.specs.FinMap.{FinMap, get, insert, find, empty, entries, keys, from_entries, contains_key-keys, is_sorted, entries_sorted, get-entries, get-empty, get-insert, get-from_entries, same_map, nat_cmp-IsAntisymmetric}
-use Rattle.std.proofs.lemmas.Bool.{and_parts, false≢true}
-use Rattle.std.proofs.lemmas.Bool.Decides.{nat_tests}
+use Rattle.std.specs.FinMap.{FinMap, get, insert, find, empty, entries, keys, from_entries, contains_key-keys, is_sorted, get-entries, get-empty, get-insert, get-from_entries, same_map, nat_cmp-IsAntisymmetric}
+use Rattle.std.proofs.lemmas.Bool.{and_parts, eqb-true, false≢true}
 use Rattle.std.proofs.lemmas.List.{get_or-map, length-map}
 use Rattle.std.proofs.lemmas.List.Sums.{fold-append}
 use Rattle.atl_tables.specs.Sums.{numbers_among}
@@ -20,7 +19,8 @@ use Rattle.atl_state.specs.State.{State, numbers_in}
 use Rattle.atl_state.specs.declared.records.Region.{Region}
 use Rattle.atl_state.specs.declared.records.Unit.{Unit}
 use Rattle.atl_state.specs.Deciding.{EachOf}
-use Rattle.atl_state.proofs.EveryLaws.{every-from_each, none_some, first, later}
+use Rattle.atl_state.proofs.EveryLaws.{every-from_each, none_some, first, later, sorted}
+use Rattle.atl_state.proofs.ListLaws.{same_number}
 use Rattle.atl_state.proofs.RegionLaws.{get-insert_same}
 use Rattle.atl_state.proofs.OrderLaws.{each_so}
 use Rattle.atl_market.specs.Asked.{region_at, regions_asked}
@@ -79,6 +79,14 @@ found_later n (e ∷ es) fs h =
       | true ↦ λ g. none_some e.1 (sym g)
       | false ↦ found_later n es fs
     ] h
+
+pub found_other : {V : Type 0} (e : ℕ × V) (es : List (ℕ × V)) (n : ℕ) → n ≢ e.0 → find nat_cmp n (e ∷ es) ≡ find nat_cmp n es
+found_other e es n apart =
+    elim (nat_cmp n e.0) as (λ o. nat_cmp n e.0 ≡ o → cond (is_eq o) (Some e.1) (find nat_cmp n es) ≡ find nat_cmp n es) [
+      | Less ↦ λ _. refl
+      | Equal ↦ λ o. absurd (apart (nat_cmp-IsAntisymmetric n e.0 o))
+      | Greater ↦ λ _. refl
+    ] refl
 
 -- no number stands twice
 abbrev IsApart : Entries → Type 0
@@ -214,16 +222,6 @@ zip_all g (n ∷ ns) (s ∷ ss) l apart h =
 
 -- ---- units that stand in a region
 
-is_so : (b : Bool) → T b → b ≡ true
-is_so true h = refl
-is_so false h = absurd h
-
-same_number : (a b : ℕ) → (a == b) ≡ true → a ≡ b
-same_number a b h = grind (arith, nat_tests)
-
-equal_numbers : (a : ℕ) → (a == a) ≡ true
-equal_numbers a = grind (arith, nat_tests)
-
 module _ (p : ℕ → Bool) where
   kept_each : (P : ℕ → Type 0) (ns : List ℕ) → AllByRecursion P ns → AllByRecursion (λ n. P n × (p n ≡ true)) (filter p ns)
   kept_each P [] h = tt
@@ -265,7 +263,7 @@ module _ (r : ℕ) where
   listed_each (e ∷ es) s =
       let behind = each_so (StandsIn es) (StandsIn (e ∷ es)) (λ n (u, is, here). (u, later e es n u s is, here)) (listed es) (listed_each es (and_parts _ _ s).1) in
       subst (AllByRecursion (StandsIn (e ∷ es))) (sym (chosen-cons stands e es)) (elim (stands e.1) as (λ b. stands e.1 ≡ b → AllByRecursion (StandsIn (e ∷ es)) (cond b (e.0 ∷ listed es) (listed es))) [
-        | true ↦ λ h. ((e.1, first e es, same_number e.1.region r h), behind)
+        | true ↦ λ h. ((e.1, first e es, eqb-true e.1.region r h), behind)
         | false ↦ λ _. behind
       ] refl)
 
@@ -312,7 +310,7 @@ module _ (wants : FinMap nat_cmp ℕ) (units : FinMap nat_cmp Unit) where
   Takes r n = ((u : Unit) × (get units n ≡ Some u) × (u.region ≡ r)) × IsThere wants n
 
   sorted_units : is_sorted nat_cmp (entries units) ≡ true
-  sorted_units = is_so _ (entries_sorted units)
+  sorted_units = sorted units
 
   takers_each : (r : ℕ) → AllByRecursion (Takes r) (takers_in wants units r)
   takers_each r =
@@ -324,7 +322,7 @@ module _ (wants : FinMap nat_cmp ℕ) (units : FinMap nat_cmp Unit) where
 
   pub taker_place : (n want : ℕ) (u : Unit) → get wants n ≡ Some want → get units n ≡ Some u → (i : ℕ) × (i < length (takers_in wants units u.region)) × (get_or (takers_in wants units u.region) i 0 ≡ n)
   taker_place n want u wanted is =
-      let (i, low, at) = listed_place u.region (entries units) n u (sym (get-entries units n) ∙ is) (equal_numbers u.region) in
+      let (i, low, at) = listed_place u.region (entries units) n u (sym (get-entries units n) ∙ is) (same_number u.region) in
       kept_place (λ k. is_some (get wants k)) (numbers_in u.region units) n i low at (ap is_some wanted)
 
 -- ---- shares of all regions

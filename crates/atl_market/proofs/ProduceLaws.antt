@@ -16,7 +16,6 @@ use Rattle.atl_state.specs.declared.books.Thing.TheVariants as things
 use Rattle.atl_state.specs.declared.event.EventFault.{EventFault}
 use Rattle.atl_state.specs.declared.records.Unit.{Unit}
 use Rattle.atl_state.specs.Books.{amount_in}
-use Rattle.atl_state.specs.Deciding.{EachOf}
 use Rattle.atl_state.specs.Good.{Every, IsSteady}
 use Rattle.atl_state.specs.Held.{Held, amount_of, with_amount_of}
 use Rattle.atl_state.specs.Levels.{level_in_any}
@@ -25,6 +24,7 @@ use Rattle.atl_state.specs.Marks.{amount_number}
 use Rattle.atl_state.specs.State.{State}
 use Rattle.atl_state.proofs.BackLaws.{Rise, entries_rise}
 use Rattle.atl_state.proofs.EveryLaws.{each-from_every, every-empty, none_some}
+use Rattle.atl_state.proofs.ListLaws.{same_number}
 use Rattle.atl_instant.specs.Meaning.{HasRoom, HaveRoom, LeavesWell, Moving, both_move, most_moved, moved_times, moves_only}
 use Rattle.atl_instant.specs.declared.written.Written.{Written}
 use Rattle.atl_instant.proofs.AmountsLaws.{amount_within}
@@ -35,6 +35,7 @@ use Rattle.atl_market.specs.Pots.{with_each}
 use Rattle.atl_market.specs.Produce.{produce_moves, produce_pots, produced, produced_by, produced_of, with_raw_used}
 use Rattle.atl_market.specs.Stock.{CanMake, CanUse, with_made, with_used}
 use Rattle.atl_market.specs.Unordered.{OthersAreNoWorse}
+use Rattle.atl_market.proofs.DrawLaws.{all_pairs}
 use Rattle.atl_market.proofs.GroupLaws.{makes_give}
 use Rattle.atl_market.proofs.OrderedLaws.{others_no_worse}
 use Rattle.atl_market.proofs.StockLaws.{made_others, made_well, no_more, used_others, used_unit, used_well}
@@ -79,10 +80,7 @@ both_less r i e t = omega (arith, used_less r e t, made_less i e t)
 
 -- room for an amount alone is room under its entry
 only_room : (e : Entry) (t : Thing) (z : ℤ) → HasRoom (moves_only holding_limit e t e t) z → HasRoom holding_limit z
-only_room e t z room = subst (λ b. HasRoom (if b then holding_limit else 0) z) (itself (amount_number e t)) room
-  where
-    itself : (n : ℕ) → (n == n) ≡ true
-    itself n = grind (arith, nat_tests)
+only_room e t z room = subst (λ b. HasRoom (if b then holding_limit else 0) z) (same_number (amount_number e t)) room
 
 -- ---- one step
 
@@ -297,11 +295,7 @@ module _ (asked : FinMap nat_cmp ℕ) (w : Planet) where
     pub can_share_out : HaveRoom (produce_moves most_moved) c → CanInTurn (CanProduce asked w) (produced asked w) c shares
     can_share_out room =
         produce_in_turn c shares (entries_rise (given_by (produce_pots asked) w c os)) steady (room_less (moved_times (length shares) step_moves) (produce_moves most_moved) c little room)
-        (all_fit shares (each-from_every (λ n made. HasRoomFor asked w c (n, made)) (given_by (produce_pots asked) w c os) each_fits))
-      where
-        all_fit : (es : List (ℕ × ℕ)) → EachOf (λ n made. HasRoomFor asked w c (n, made)) es → AllByRecursion (HasRoomFor asked w c) es
-        all_fit [] h = tt
-        all_fit (e ∷ es) h = (h.0, all_fit es h.1)
+        (all_pairs (HasRoomFor asked w c) shares (each-from_every (λ n made. HasRoomFor asked w c (n, made)) (given_by (produce_pots asked) w c os) each_fits))
 
     pub produce_leaves_well : HaveRoom (produce_moves most_moved) c → LeavesWell IsSteady (produce_moves most_moved) w c (shared_out (produce_pots asked) w c os)
     unfolding shared_out

@@ -1,6 +1,6 @@
 -- Recruiting leaves a campaign well.
-use Rattle.std.proofs.Common.{◌≡◌, ◌≢◌, ◌==◌, ℕ, ◌+◌, ◌-◌, ◌*◌, ◌/◌, ◌≤◌, Bool, true, false, cond, Option, Some, None, List, [], ◌∷◌, length, refl, sym, ap, subst, ◌∙◌, inl, inr, arith}
-use Rattle.std.specs.Prelude.{ℤ, fold, pos, neg_ℤ, ◌+ℤ◌, min, if◌then◌else◌}
+use Rattle.std.proofs.Common.{◌≡◌, ◌≢◌, ◌==◌, ℕ, ◌+◌, ◌-◌, ◌*◌, ◌/◌, ◌≤◌, false, cond, Option, Some, None, List, [], ◌∷◌, length, refl, sym, ap, subst, ◌∙◌, inl, inr, arith}
+use Rattle.std.specs.Prelude.{ℤ, fold, pos, neg_ℤ, ◌+ℤ◌, min}
 use Rattle.std.specs.List.{AllByRecursion}
 use Rattle.std.specs.Ordering.{nat_cmp}
 use Rattle.std.specs.FinMap.{FinMap, entries, get, insert}
@@ -23,7 +23,6 @@ use Rattle.atl_state.specs.Held.{Held, amount_of}
 use Rattle.atl_state.specs.Lending.{lent, with_held}
 use Rattle.atl_state.specs.Limits.{holding_limit, men_limit, most_units}
 use Rattle.atl_state.specs.Marking.{mark_amount, mark_region}
-use Rattle.atl_state.specs.Marks.{amount_number}
 use Rattle.atl_state.specs.State.{Marked, State, region_changed, with_amount, with_peasants}
 use Rattle.atl_state.specs.Totals.{held, kept, total}
 use Rattle.atl_state.proofs.BackLaws.{Rise, entries_rise}
@@ -35,6 +34,7 @@ use Rattle.atl_state.proofs.RegionLaws.{steady-amount, steady-region, total-amou
 use Rattle.atl_instant.specs.Meaning.{HaveRoom, LeavesWell, Moving, moved_times, most_moved}
 use Rattle.atl_instant.specs.declared.written.Written.{Written}
 use Rattle.atl_instant.proofs.BookingLaws.{booked-near, within-neg}
+use Rattle.atl_instant.proofs.MarkLaws.{marks_by}
 use Rattle.atl_instant.proofs.MeaningLaws.{room_less, well_within}
 use Rattle.atl_market.specs.PotPhase.{CanInTurn, given_by, shared_out}
 use Rattle.atl_market.specs.Recruit.{recruit_moves, recruit_pots, recruited, recruited_by, recruited_from, recruits_at, recruits_in, with_men, with_recruits}
@@ -42,7 +42,7 @@ use Rattle.atl_market.specs.Unordered.{OthersAreNoWorse}
 use Rattle.atl_market.proofs.DrawLaws.{AreUntouched, HaveEnough, HaveLess, all_pairs, changed_regions, drawn, first_draws, others_draw, pot_is_enough, still, untouched}
 use Rattle.atl_state.proofs.HavingLaws.{MayHave, early-having, may_have}
 use Rattle.atl_market.proofs.OrderedLaws.{others_no_worse}
-use Rattle.atl_market.proofs.TurnLaws.{first_room, later_room, turns_leave_well}
+use Rattle.atl_market.proofs.TurnLaws.{few_holdings, first_room, later_room, turns_leave_well}
 use Rattle.atl_market.proofs.PotLaws.{pots_give}
 use Rattle.atl_market.proofs.WantLaws.{few_given, given_is_wanted}
 use Rattle.atl_market.specs.Payable.{CanRecruit}
@@ -144,9 +144,6 @@ leaving_marks things c d e region peasants z d_is d_marks e_is e_marks grid two 
     let d_grid : IsGrid things d.what.books = rw books grid in
     marks-trans c d e (marks_by c d _ d_is d_marks (marks-region (λ r. record r { peasants = peasants }) c region))
     (marks_by d e _ e_is e_marks (marks-amount things d Recruiting Money z d_grid (omega arith)))
-  where
-    marks_by : (a b m : Marked) → b.what ≡ m.what → b.marks ≡ m.marks → MarksChanges a m → MarksChanges a b
-    marks_by a b m what marks h = rw (what, marks) (record { stay = h.stay; covers = h.covers })
 
 -- a unit that is there was lent its holding
 pub lent_is : (c d : Marked) (n : ℕ) (u : Unit) (h : Held) → get c.what.units n ≡ Some u → d ≡ lent c n h → d.what ≡ record c.what { units = insert c.what.units n (record u { holding = h }) }
@@ -265,11 +262,7 @@ module _ (w : Planet) (c : State) where
     few = omega (arith, few_given (recruit_pots readings) w c (pots_give (recruits_at w c) c) os, early.steady.numbers.few_units)
 
     little : (e : Entry) (t : Thing) → moved_times (length shares) step_moves e t ≤ recruit_moves most_moved e t
-    little e t = scaled (length shares) few (amount_number e t == amount_number Recruiting Money)
-      where
-        scaled : (k : ℕ) → k ≤ most_units → (b : Bool) → k * (if b then holding_limit else 0) ≤ (if b then most_moved else 0)
-        scaled k few true = omega (arith, few)
-        scaled k few false = omega (arith, few)
+    little e t = few_holdings (length shares) few Recruiting Money e t
 
     pub can_share_out : CanInTurn (CanRecruit w) (recruited w) c shares
     can_share_out = all_can c shares (record {

@@ -31,6 +31,7 @@ use Rattle.atl_state.proofs.RegionLaws.{get-insert_same, steady-amount, total-am
 use Rattle.atl_instant.specs.Meaning.{LeavesWell, moves_only}
 use Rattle.atl_instant.proofs.AmountsLaws.{alike, amount_within, every_amount, set_amount}
 use Rattle.atl_instant.proofs.BookingLaws.{booked-near, within-neg, within-pos}
+use Rattle.atl_instant.proofs.MarkLaws.{marks_by}
 use Rattle.atl_market.specs.Stock.{CanMake, CanUse, made_to, used_by, with_item, with_made, with_used}
 
 moved : (x y t k a l : ℕ) (z : ℤ) → x ≡ y → y + k ≡ t + a → k ≡ l → pos a ≡ pos l +ℤ z → pos x ≡ pos t +ℤ z
@@ -184,6 +185,3 @@ module _ (c d e : Marked) (n : ℕ) (u : Unit) (i amount : ℕ) (entry : Entry) 
       let d_grid : IsGrid things d.what.books = rw same_books grid in
       marks-trans c d e (subst (MarksChanges c) (sym set) (marks-lent c n (record u.holding { items = with_amount_of u.holding.items i amount })))
       (marks_by d e _ what marks (marks-amount things d entry (Item i) z d_grid (omega (arith, known))))
-    where
-      marks_by : (a b m : Marked) → b.what ≡ m.what → b.marks ≡ m.marks → MarksChanges a m → MarksChanges a b
-      marks_by a b m what marks h = rw (what, marks) (record { stay = h.stay; covers = h.covers })

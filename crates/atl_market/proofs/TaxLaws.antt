@@ -25,6 +25,7 @@ use Rattle.atl_state.proofs.RegionLaws.{steady-region, total-region}
 use Rattle.atl_instant.specs.Meaning.{LeavesWell, moved_times}
 use Rattle.atl_instant.specs.Staying.{AreNoWorse}
 use Rattle.atl_instant.specs.declared.written.Written.{Written}
+use Rattle.atl_instant.proofs.MarkLaws.{marks_by}
 use Rattle.atl_instant.proofs.MeaningLaws.{near_same, well_within}
 use Rattle.atl_instant.proofs.StayingLaws.{are_no_worse, are_no_worse_twice}
 use Rattle.atl_market.specs.PotPhase.{CanInTurn, given_by, shared_out}
@@ -93,9 +94,6 @@ pub tax_marks : (c d e : Marked) (n money region left : ℕ) → d.what ≡ with
 tax_marks c d e n money region left d_is d_marks e_is e_marks =
     marks-trans c d e (marks_by c d _ d_is d_marks (marks-unit_row (λ u. record u { holding = record u.holding { money = money } }) (λ u. refl) c n))
     (marks_by d e _ e_is e_marks (marks-region (λ r. record r { money = left }) d region))
-  where
-    marks_by : (a b m : Marked) → b.what ≡ m.what → b.marks ≡ m.marks → MarksChanges a m → MarksChanges a b
-    marks_by a b m what marks h = rw (what, marks) (record { stay = h.stay; covers = h.covers })
 
 -- ---- one step
 

@@ -1,12 +1,24 @@
 -- What steps in turn leave, each of which leaves a campaign well where it can be taken.
-use Rattle.std.proofs.Common.{◌≡◌, ◌+◌, ◌*◌, List, [], ◌∷◌, length, arith}
-use Rattle.std.specs.Prelude.{fold}
+use Rattle.std.proofs.Common.{◌≡◌, ◌==◌, ◌≤◌, ◌+◌, ◌*◌, ℕ, Bool, true, false, List, [], ◌∷◌, length, arith}
+use Rattle.std.specs.Prelude.{fold, if◌then◌else◌}
 use Rattle.std.proofs.Math.Nat.{suc-mul}
 use Rattle.atl_tables.specs.Planet.{Planet}
+use Rattle.atl_state.specs.declared.books.Entry.{Entry}
+use Rattle.atl_state.specs.declared.books.Thing.{Thing}
+use Rattle.atl_state.specs.Limits.{holding_limit, most_units}
+use Rattle.atl_state.specs.Marks.{amount_number}
 use Rattle.atl_state.specs.State.{State}
-use Rattle.atl_instant.specs.Meaning.{Condition, HaveRoom, LeavesWell, Moving, both_move, moved_times}
+use Rattle.atl_instant.specs.Meaning.{Condition, HaveRoom, LeavesWell, Moving, both_move, most_moved, moved_times, moves_only}
 use Rattle.atl_instant.proofs.MeaningLaws.{MovesLess, both_leave_well, room_behind, room_less, well_unchanged, well_within}
 use Rattle.atl_market.specs.PotPhase.{CanInTurn}
+
+-- what each unit moves of one amount by a holding at most, all units together move as far as a phase may
+pub few_holdings : (k : ℕ) → k ≤ most_units → (a : Entry) (b : Thing) (e : Entry) (t : Thing) → moved_times k (moves_only holding_limit a b) e t ≤ moves_only most_moved a b e t
+few_holdings k few a b e t = by_test (amount_number e t == amount_number a b)
+  where
+    by_test : (same : Bool) → k * (if same then holding_limit else 0) ≤ (if same then most_moved else 0)
+    by_test true = omega (arith, few)
+    by_test false = omega (arith, few)
 
 -- one step and the steps behind it move as much as all of them
 pub one_more : {B : Type 0} (moving : Moving) (x : B) (xs : List B) → MovesLess (both_move moving (moved_times (length xs) moving)) (moved_times (length (x ∷ xs)) moving)

@@ -1,11 +1,10 @@
 -- Work leaves a campaign well.
-use Rattle.std.proofs.Common.{◌≡◌, ◌≢◌, ◌==◌, ℕ, ◌+◌, ◌-◌, ◌*◌, ◌/◌, ◌%◌, ◌≤◌, ◌<◌, Bool, true, false, cond, Option, Some, None, List, [], ◌∷◌, length, refl, sym, ap, subst, ◌∙◌, inl, inr, arith}
-use Rattle.std.specs.Prelude.{pos, ◌+ℤ◌, fold, if◌then◌else◌}
+use Rattle.std.proofs.Common.{◌≡◌, ◌≢◌, ◌==◌, ℕ, ◌+◌, ◌-◌, ◌*◌, ◌/◌, ◌%◌, ◌≤◌, ◌<◌, false, cond, Option, Some, None, List, [], ◌∷◌, length, refl, sym, ap, subst, ◌∙◌, arith}
+use Rattle.std.specs.Prelude.{pos, ◌+ℤ◌, fold}
 use Rattle.std.specs.List.{AllByRecursion}
 use Rattle.std.specs.Option.{option_map_or}
-use Rattle.std.specs.FinMap.{entries, get, insert}
+use Rattle.std.specs.FinMap.{entries, get}
 use Rattle.std.proofs.lemmas.Int.{ints}
-use Rattle.std.proofs.lemmas.Bool.{cases_eq}
 use Rattle.std.proofs.lemmas.Bool.Decides.{nat_tests}
 use Rattle.std.proofs.Math.Nat.{div-add-mod, mul-le-mul_left, mul_comm}
 use Rattle.atl_tables.specs.Planet.{Planet}
@@ -17,31 +16,32 @@ use Rattle.atl_state.specs.declared.books.Thing.TheVariants.{Money, People, Item
 use Rattle.atl_state.specs.declared.records.Unit.{Unit}
 use Rattle.atl_state.specs.Books.{IsGrid}
 use Rattle.atl_state.specs.Covers.{MarksChanges}
-use Rattle.atl_state.specs.Deciding.{EachOf}
 use Rattle.atl_state.specs.Founding.{things_of}
 use Rattle.atl_state.specs.Good.{Every, IsSteady}
 use Rattle.atl_state.specs.Held.{Held, amount_of}
 use Rattle.atl_state.specs.Limits.{holding_limit, most_units}
 use Rattle.atl_state.specs.Marking.{mark_amount, mark_unit_row}
-use Rattle.atl_state.specs.Marks.{amount_number}
 use Rattle.atl_state.specs.State.{Marked, State, with_amount, with_money}
 use Rattle.atl_state.specs.Totals.{held, total}
 use Rattle.atl_state.proofs.BackLaws.{Rise, entries_rise}
 use Rattle.atl_state.proofs.BookLaws.{booked-with_booked, share_of}
 use Rattle.atl_state.proofs.CoverLaws.{marks-amount, marks-trans}
-use Rattle.atl_state.proofs.EveryLaws.{each-from_every, get-insert_other}
+use Rattle.atl_state.proofs.EveryLaws.{each-from_every}
 use Rattle.atl_state.proofs.HoldingLaws.{marks-unit_row, may_hold_money, steady-held, total-held}
-use Rattle.atl_state.proofs.RegionLaws.{changed-known, get-insert_same, steady-amount, total-amount}
+use Rattle.atl_state.proofs.RegionLaws.{steady-amount, total-amount}
 use Rattle.atl_instant.specs.Meaning.{HaveRoom, LeavesWell, Moving, moved_times, most_moved}
-use Rattle.atl_instant.specs.Staying.{AreNoWorse, IsNoWorse}
+use Rattle.atl_instant.specs.Staying.{AreNoWorse}
 use Rattle.atl_instant.specs.Terrains.{terrain_of}
 use Rattle.atl_instant.specs.declared.written.Written.{Written}
 use Rattle.atl_instant.proofs.BookingLaws.{booked-near, within-pos}
+use Rattle.atl_instant.proofs.MarkLaws.{marks_by}
 use Rattle.atl_instant.proofs.MeaningLaws.{room_less, well_within}
-use Rattle.atl_instant.proofs.StayingLaws.{are_no_worse, are_no_worse_twice, no_worse}
+use Rattle.atl_instant.proofs.StayingLaws.{are_no_worse, are_no_worse_twice}
 use Rattle.atl_market.specs.PotPhase.{CanInTurn, given_by, shared_out}
 use Rattle.atl_market.specs.Work.{earned, places_at, places_wanted, with_wages, work_moves, work_pots, worked, worked_by}
-use Rattle.atl_market.proofs.TurnLaws.{first_room, later_room, turns_leave_well}
+use Rattle.atl_market.proofs.DrawLaws.{all_pairs}
+use Rattle.atl_market.proofs.PurseLaws.{others_stay, paid, richer, richer_is, richer_no_worse}
+use Rattle.atl_market.proofs.TurnLaws.{few_holdings, first_room, later_room, turns_leave_well}
 use Rattle.atl_market.proofs.PotLaws.{pots_give}
 use Rattle.atl_market.proofs.WantLaws.{few_given, given_is_wanted}
 use Rattle.atl_market.specs.Payable.{CanWork}
@@ -49,30 +49,27 @@ use Rattle.atl_market.specs.Payable.{CanWork}
 -- ---- one unit gets its wages
 
 module _ (w : Planet) (c : State) (n : ℕ) (u : Unit) (money : ℕ) (is : get c.units n ≡ Some u) where
-  abbrev paid : Held
-  paid = record u.holding { money = u.holding.money + money }
+  abbrev more : Held
+  more = paid c n u money
 
-  abbrev richer : State
-  richer = record c { units = insert c.units n (record u { holding = paid }) }
-
-  richer_is : with_money c n (u.holding.money + money) ≡ richer
-  richer_is = ap (λ m. record c { units = m }) (changed-known (λ (v : Unit). record v { holding = record v.holding { money = u.holding.money + money } }) c.units n u is)
+  abbrev given : State
+  given = richer c n u money
 
   abbrev wages_paid : State
-  wages_paid = with_amount richer Wages Money (pos money)
+  wages_paid = with_amount given Wages Money (pos money)
 
   pub wages_are : with_wages c n u.holding.money money ≡ wages_paid
-  wages_are = ap (λ d. with_amount d Wages Money (pos money)) richer_is
+  wages_are = ap (λ d. with_amount d Wages Money (pos money)) (richer_is c n u money is)
 
   total_paid : (t : Thing) → pos (total wages_paid t) ≡ pos (total c t) +ℤ share_of t Money (pos money)
-  total_paid t = total_of t (total-amount richer Wages Money t (pos money)) (total-held w c n u paid is t)
+  total_paid t = total_of t (total-amount given Wages Money t (pos money)) (total-held w c n u more is t)
     where
-      total_of : (t : Thing) → total wages_paid t ≡ total richer t → total richer t + held t u.holding ≡ total c t + held t paid → pos (total wages_paid t) ≡ pos (total c t) +ℤ share_of t Money (pos money)
+      total_of : (t : Thing) → total wages_paid t ≡ total given t → total given t + held t u.holding ≡ total c t + held t more → pos (total wages_paid t) ≡ pos (total c t) +ℤ share_of t Money (pos money)
       total_of Money a b = omega (arith, ints, a, b)
       total_of People a b = omega (arith, ints, a, b)
       total_of (Item i) a b =
           let other : (2 + i == 0) ≡ false = grind (arith, nat_tests) in
-          ap pos (same (total wages_paid (Item i)) (total richer (Item i)) (total c (Item i)) (amount_of u.holding.items i) a b)
+          ap pos (same (total wages_paid (Item i)) (total given (Item i)) (total c (Item i)) (amount_of u.holding.items i) a b)
           ∙ sym (ap (λ q. pos (total c (Item i)) +ℤ cond q (pos money) (pos 0)) other ∙ zero_more (total c (Item i)))
         where
           same : (x y z k : ℕ) → x ≡ y → y + k ≡ z + k → x ≡ z
@@ -83,7 +80,7 @@ module _ (w : Planet) (c : State) (n : ℕ) (u : Unit) (money : ℕ) (is : get c
 
   pub wages_leave_well : u.holding.money + money ≤ holding_limit → IsSteady w c → LeavesWell IsSteady (work_moves holding_limit) w c wages_paid
   wages_leave_well fits steady = record {
-    leaves_it = steady-amount w richer Wages Money (pos money) (steady-held w c n u paid is (may_hold_money w c n (u.holding.money + money) u is fits steady) steady);
+    leaves_it = steady-amount w given Wages Money (pos money) (steady-held w c n u more is (may_hold_money w c n (u.holding.money + money) u is fits steady) steady);
     same_month = record { month = refl; reports = refl; count = refl; factions = λ k there. there };
     balances = λ old t.
         total_paid t ∙ ap (λ z. z +ℤ share_of t Money (pos money)) (old t)
@@ -93,23 +90,10 @@ module _ (w : Planet) (c : State) (n : ℕ) (u : Unit) (money : ℕ) (is : get c
 
   -- nothing else changes
   pub wages_leave_others : (k : ℕ) → k ≢ n → get wages_paid.units k ≡ get c.units k
-  wages_leave_others k apart = get-insert_other c.units n k (record u { holding = paid }) apart
-
-  -- ---- and is no worse off
-  abbrev paid_unit : Unit
-  paid_unit = record u { holding = paid }
-
-  paid_no_worse : IsNoWorse u paid_unit
-  paid_no_worse = record { faction = refl; region = refl; structure = refl; name = refl; guard = refl; men = omega arith; money = omega arith; items = λ i. omega arith; days = λ s. omega arith }
+  wages_leave_others k apart = others_stay c n u money is k apart
 
   pub wages_no_worse : AreNoWorse c wages_paid
-  wages_no_worse k v there = elim (cases_eq k n) [
-    | inl same ↦
-        let one : Some u ≡ Some v = sym is ∙ ap (get c.units) (sym same) ∙ there in
-        let unit : u ≡ v = cc in
-        (paid_unit, ap (get wages_paid.units) same ∙ get-insert_same c.units n paid_unit, subst (λ x. IsNoWorse x paid_unit) unit paid_no_worse)
-    | inr apart ↦ (v, get-insert_other c.units n k paid_unit apart ∙ there, no_worse v)
-  ]
+  wages_no_worse k v there = richer_no_worse c n u money is k v there
 
 -- ---- what is marked
 
@@ -120,9 +104,6 @@ wages_marks things c d e n money held d_is d_marks e_is e_marks grid two =
     let d_grid : IsGrid things d.what.books = rw books grid in
     marks-trans c d e (marks_by c d _ d_is d_marks (marks-unit_row (λ u. record u { holding = record u.holding { money = held } }) (λ u. refl) c n))
     (marks_by d e _ e_is e_marks (marks-amount things d Wages Money (pos money) d_grid (omega arith)))
-  where
-    marks_by : (a b m : Marked) → b.what ≡ m.what → b.marks ≡ m.marks → MarksChanges a m → MarksChanges a b
-    marks_by a b m what marks h = rw (what, marks) (record { stay = h.stay; covers = h.covers })
 
 -- ---- one step
 
@@ -201,18 +182,10 @@ module _ (w : Planet) where
     few = omega (arith, few_given work_pots w c (pots_give (places_at w) c) os, steady.numbers.few_units)
 
     little : (e : Entry) (t : Thing) → moved_times (length shares) step_moves e t ≤ work_moves most_moved e t
-    little e t = scaled (length shares) few (amount_number e t == amount_number Wages Money)
-      where
-        scaled : (k : ℕ) → k ≤ most_units → (b : Bool) → k * (if b then holding_limit else 0) ≤ (if b then most_moved else 0)
-        scaled k few true = omega (arith, few)
-        scaled k few false = omega (arith, few)
+    little e t = few_holdings (length shares) few Wages Money e t
 
     pub can_share_out : HaveRoom (work_moves most_moved) c → CanInTurn (CanWork w) (worked w) c shares
-    can_share_out room = work_in_turn c shares (entries_rise (given_by work_pots w c os)) steady (room_less (moved_times (length shares) step_moves) (work_moves most_moved) c little room) (all_fit shares (each-from_every (λ n places. HasRoomFor w c (n, places)) (given_by work_pots w c os) each_fits))
-      where
-        all_fit : (es : List (ℕ × ℕ)) → EachOf (λ n places. HasRoomFor w c (n, places)) es → AllByRecursion (HasRoomFor w c) es
-        all_fit [] h = tt
-        all_fit (e ∷ es) h = (h.0, all_fit es h.1)
+    can_share_out room = work_in_turn c shares (entries_rise (given_by work_pots w c os)) steady (room_less (moved_times (length shares) step_moves) (work_moves most_moved) c little room) (all_pairs (HasRoomFor w c) shares (each-from_every (λ n places. HasRoomFor w c (n, places)) (given_by work_pots w c os) each_fits))
 
     pub work_leaves_well : HaveRoom (work_moves most_moved) c → LeavesWell IsSteady (work_moves most_moved) w c (shared_out work_pots w c os)
     unfolding shared_out

@@ -11,7 +11,7 @@ use Rattle.std.specs.List.{AllByRecursion, IsDistinct}
 use Rattle.std.specs.List.Sorted.{IsSortedByKey}
 use Rattle.std.specs.FinMap.{FinMap, IsAntisymmetric, empty, entries, entries-insert, entries_sorted, from_entries, get, is_sorted, put, values, slice_cmp-IsAntisymmetric, nat_cmp-IsAntisymmetric}
 use Rattle.std.specs.FinMap.Entries.{below_all, by_order}
-use Rattle.std.proofs.lemmas.Bool.{and_parts, false≢true}
+use Rattle.std.proofs.lemmas.Bool.{and_parts, false_from_ne_true, false≢true, not-true}
 use Rattle.std.proofs.lemmas.Bool.Decides.{nat_tests}
 use Rattle.std.proofs.lemmas.List.Sorted.{IsPermutation-map}
 use Rattle.atl_state.specs.Deciding.{EachOf}
@@ -33,10 +33,6 @@ use Rattle.atl_market.specs.Pots.{with_each}
 use Rattle.atl_market.specs.Work.{all_work, idle_at, idle_work, is_work, long_orders, own_line, own_lines, work_key, work_orders}
 use Rattle.atl_market.proofs.PotLaws.{some_new, still_some}
 use Rattle.atl_market.proofs.WantLaws.{appended_entries}
-
-refuted : (b : Bool) → (b ≡ true → ⊥) → b ≡ false
-refuted true h = absurd (h refl)
-refuted false h = refl
 
 is_so : (b : Bool) → T b → b ≡ true
 is_so true h = refl
@@ -90,7 +86,7 @@ keys_tie : (a b : Written) → same_work a b ≡ true → work_key a ≡ work_ke
 keys_tie a b h = slice_cmp-IsAntisymmetric nat_cmp-IsAntisymmetric (work_key a) (work_key b) ((Equal-is (slice_cmp nat_cmp (work_key a) (work_key b))).0 h)
 
 apart_by : (a b : Written) → (a.unit ≡ b.unit → a.faction ≡ b.faction → ⊥) → same_work a b ≡ false
-apart_by a b differ = refuted (same_work a b) (λ h. let e = keys_tie a b h in differ (ap (λ k. get_or k 0 0) e) (ap (λ k. get_or k 2 0) e))
+apart_by a b differ = false_from_ne_true (same_work a b) (λ h. let e = keys_tie a b h in differ (ap (λ k. get_or k 0 0) e) (ap (λ k. get_or k 2 0) e))
 
 long_apart : (m : Course) → IsDistinct same_work (long_orders m)
 long_apart m =
@@ -127,12 +123,8 @@ module _ (c : State) where
     abbrev idle_one : ℕ → Unit → Written
     idle_one n u = record { unit = n; line = 0; faction = u.faction; verb = verbs.Work; place = 0 }
 
-    falsified : (b : Bool) → not b ≡ true → b ≡ false
-    falsified true h = absurd (false≢true h)
-    falsified false h = refl
-
     idle_if : (n : ℕ) (u : Unit) (b : Bool) → (nat_lt 0 u.holding.men && not (is_some (get lines n))) ≡ b → get c.units n ≡ Some u → AllByRecursion IsIdle (cond b (idle_one n u ∷ []) [])
-    idle_if n u true is there = (record { unit = u; there = there; own = refl; unordered = falsified _ (and_parts _ _ is).1 }, tt)
+    idle_if n u true is there = (record { unit = u; there = there; own = refl; unordered = not-true _ (and_parts _ _ is).1 }, tt)
     idle_if n u false is there = tt
 
     idle_each : (es : List (ℕ × Unit)) → EachOf (λ n u. get c.units n ≡ Some u) es → AllByRecursion IsIdle (flat_map (idle_at lines) es)
