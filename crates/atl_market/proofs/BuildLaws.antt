@@ -44,11 +44,11 @@ use Rattle.atl_instant.proofs.PlacingLaws.{place_stays}
 use Rattle.atl_instant.proofs.StepLaws.{no_worse_spares, well_same, well_twice}
 use Rattle.atl_instant.proofs.UnbookedLaws.{other_spared}
 use Rattle.atl_market.specs.Build.{CanBuild, begin, begin_by, begin_fault, begin_with, build_moves, build_reserve, build_said, build_step, go_on, go_on_at, go_on_by, go_on_with, gone_on, inside_fault, new_structure, size_added, started, with_new}
-use Rattle.atl_market.specs.Stock.{CanUse}
+use Rattle.atl_market.specs.Goods.{CanUse}
 use Rattle.atl_market.proofs.BuildBegunLaws.{built_well, raised_well, sort_name_ok}
 use Rattle.atl_market.proofs.BuildPlaceLaws.{place_well}
 use Rattle.atl_market.proofs.BuildUsedLaws.{others_stay, used, used_for_well, used_room, user, user_there}
-use Rattle.atl_market.proofs.StockLaws.{used_is}
+use Rattle.atl_market.proofs.GoodsLaws.{used_is}
 
 true_false : {P : Type 0} → true ≡ false → P
 true_false e = cc

@@ -29,8 +29,8 @@ use Rattle.atl_instant.specs.Steps.{IsDrawn, StepsWell}
 use Rattle.atl_instant.proofs.AmountsLaws.{alike, set_amount}
 use Rattle.atl_instant.proofs.MeaningLaws.{less_room, near_more}
 use Rattle.atl_market.specs.Build.{CanBuild, build_reserve, usable}
-use Rattle.atl_market.specs.Stock.{used_by, with_item, with_used}
-use Rattle.atl_market.proofs.StockLaws.{used_is, used_up_to}
+use Rattle.atl_market.specs.Goods.{used_by, with_item, with_used}
+use Rattle.atl_market.proofs.GoodsLaws.{used_is, used_up_to}
 
 -- ---- what a unit holds less
 

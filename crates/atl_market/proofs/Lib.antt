@@ -16,6 +16,6 @@ pub mod BuildBegunLaws
 pub mod BuildPlaceLaws
 pub mod BuildLaws
 pub mod GroupLaws
-pub mod StockLaws
+pub mod GoodsLaws
 pub mod ProduceLaws
 pub mod UnmailedMakeLaws

@@ -33,12 +33,12 @@ use Rattle.atl_market.specs.Making.{CanMakeOf, CanProduce, Fits}
 use Rattle.atl_market.specs.PotPhase.{CanInTurn, fault_of, given_by, shared_out, want_at, want_by, wants_by}
 use Rattle.atl_market.specs.Pots.{with_each}
 use Rattle.atl_market.specs.Produce.{produce_moves, produce_pots, produced, produced_by, produced_of, with_raw_used}
-use Rattle.atl_market.specs.Stock.{CanMake, CanUse, with_made, with_used}
+use Rattle.atl_market.specs.Goods.{CanMake, CanUse, with_made, with_used}
 use Rattle.atl_market.specs.Unordered.{OthersAreNoWorse}
 use Rattle.atl_market.proofs.DrawLaws.{all_pairs}
 use Rattle.atl_market.proofs.GroupLaws.{makes_give}
 use Rattle.atl_market.proofs.OrderedLaws.{others_no_worse}
-use Rattle.atl_market.proofs.StockLaws.{made_others, made_well, no_more, used_others, used_unit, used_well}
+use Rattle.atl_market.proofs.GoodsLaws.{made_others, made_well, no_more, used_others, used_unit, used_well}
 use Rattle.atl_market.proofs.TurnLaws.{first_room, later_room, turns_leave_well}
 use Rattle.atl_market.proofs.WantLaws.{appended_entries, every-with_each, few_given}
 use Rattle.atl_market.specs.Craft.{can_make, can_make_of, up_to_raw}

@@ -19,7 +19,7 @@ use Rattle.atl_instant.proofs.UnmailedLaws.{HaveTheirMen, LeavesUnmailed, Spares
 use Rattle.atl_instant.proofs.UnmailedStepLaws.{place_men}
 use Rattle.atl_instant.specs.Steps.{takes_all}
 use Rattle.atl_market.specs.Build.{begin, begin_by, begin_fault, begin_with, build_keeps, build_meaning, build_said, build_step, go_on, go_on_at, go_on_by, go_on_with, gone_on, inside_fault, is_building, outside_fault, size_added, started, with_new}
-use Rattle.atl_market.specs.Stock.{made_to, used_by, with_made, with_used}
+use Rattle.atl_market.specs.Goods.{made_to, used_by, with_made, with_used}
 use Rattle.atl_market.specs.PotPhase.{PotMeaning}
 use Rattle.atl_market.specs.Produce as produce
 use Rattle.atl_market.proofs.UnmailedPotLaws.{others_items, paid_men, shared_leave}
@@ -27,15 +27,15 @@ use Rattle.atl_market.proofs.UnmailedPotLaws.{others_items, paid_men, shared_lea
 -- ---- what a unit uses
 
 -- a unit that is there has so much of an item
-abbrev stocked : (item amount : ℕ) → Unit → Unit
-stocked i amount u = record u { holding = record u.holding { items = with_amount_of u.holding.items i amount } }
+abbrev with_item : (item amount : ℕ) → Unit → Unit
+with_item i amount u = record u { holding = record u.holding { items = with_amount_of u.holding.items i amount } }
 
 used_men : (c : State) (n i amount : ℕ) → HaveTheirMen c (with_used c n i amount)
 used_men c n i amount = by_unit (get c.units n) refl
   where
     by_unit : (o : Option Unit) → get c.units n ≡ o → HaveTheirMen c (used_by c n i amount o)
     by_unit None is = men_stay c
-    by_unit (Some u) is = men_put c (used_by c n i amount (Some u)) n u (stocked i (amount_of u.holding.items i - amount) u) is (record { faction = refl; men = refl }) refl
+    by_unit (Some u) is = men_put c (used_by c n i amount (Some u)) n u (with_item i (amount_of u.holding.items i - amount) u) is (record { faction = refl; men = refl }) refl
 
 -- ---- BUILD
 
@@ -95,7 +95,7 @@ made_men c n i amount = by_unit (get c.units n) refl
   where
     by_unit : (o : Option Unit) → get c.units n ≡ o → HaveTheirMen c (made_to c n i amount o)
     by_unit None is = men_stay c
-    by_unit (Some u) is = men_put c (made_to c n i amount (Some u)) n u (stocked i (amount_of u.holding.items i + amount) u) is (record { faction = refl; men = refl }) refl
+    by_unit (Some u) is = men_put c (made_to c n i amount (Some u)) n u (with_item i (amount_of u.holding.items i + amount) u) is (record { faction = refl; men = refl }) refl
 
 produced_men : (asked : FinMap nat_cmp ℕ) (w : Planet) (c : State) (e : ℕ × ℕ) → HaveTheirMen c (produce.produced asked w c e)
 unfolding produce.produced

@@ -31,8 +31,8 @@ use Rattle.atl_instant.specs.Meaning.{Keeping, Meaning, Moving, most_moved}
 use Rattle.atl_instant.specs.Outcomes.{first_fault, unless}
 use Rattle.atl_instant.specs.Staying.{IsNoWorse}
 use Rattle.atl_instant.specs.Steps.{IsOwnOrder, Reserve, Step, carried_out, spares_others, takes_all}
-use Rattle.atl_market.specs.Stock.{with_used}
 use Rattle.atl_instant.specs.Terms.{PhaseTerms}
+use Rattle.atl_market.specs.Goods.{with_used}
 
 abbrev pub is_building : Verb → Bool
 is_building verbs.Build = true

@@ -7,7 +7,7 @@ pub mod Tax
 pub mod Recruit
 pub mod Work
 pub mod Payable
-pub mod Stock
+pub mod Goods
 pub mod Build
 pub mod Craft
 pub mod Outputs

@@ -14,7 +14,7 @@ use Rattle.atl_state.specs.State.{State}
 use Rattle.atl_instant.specs.Meaning.{HaveRoom}
 use Rattle.atl_market.specs.Pots.{pot_shares}
 use Rattle.atl_market.specs.Produce.{produce_moves, with_raw_used}
-use Rattle.atl_market.specs.Stock.{CanMake, CanUse}
+use Rattle.atl_market.specs.Goods.{CanMake, CanUse}
 use Rattle.atl_market.specs.Outputs.{gathered, output_at}
 
 abbrev pub Groups : Type 0

@@ -22,7 +22,7 @@ use Rattle.atl_instant.specs.Steps.{is_of_faction}
 use Rattle.atl_market.specs.Pots.{with_each}
 use Rattle.atl_market.specs.PotPhase.{PotMeaning, pots_meaning}
 use Rattle.atl_market.specs.Unordered.{OthersAreNoWorse}
-use Rattle.atl_market.specs.Stock.{with_made, with_used}
+use Rattle.atl_market.specs.Goods.{with_made, with_used}
 use Rattle.atl_market.specs.Craft.{can_make, item_of, make_fault}
 use Rattle.atl_market.specs.Outputs.{makes}
 use Rattle.atl_instant.specs.Terms.{PhaseTerms}

@@ -12,9 +12,9 @@ ghost use Rattle.atl_instant.specs.Meaning.{HaveRoom};
 ghost use Rattle.atl_instant.specs.Staying.{IsNoWorse};
 ghost use Rattle.atl_instant.specs.Steps.{IsOwnOrder, takes_all};
 ghost use Rattle.atl_market.specs.Build.{CanBuild, begin, begin_fault, build_keeps, build_meaning, build_moves, build_reserve, build_step, go_on, gone_on, inside_fault, is_building, outside_fault, size_added, sort_of, started, with_new};
-ghost use Rattle.atl_market.specs.Stock.{CanUse};
+ghost use Rattle.atl_market.specs.Goods.{CanUse};
 
-use crate::stock::use_item;
+use crate::goods::use_item;
 use atl_instant::{Month, OrderPhase, Phase, PhaseVerbs, Written, carry_out_orders, failed};
 use atl_orders::{Mailing, Order, Verb};
 use atl_state::{

@@ -3,13 +3,13 @@
 
 mod build;
 mod gathering;
+mod goods;
 mod making;
 mod pot_phase;
 pub mod pots;
 pub mod produce;
 pub mod recruit;
 pub mod shares;
-mod stock;
 pub mod tax;
 pub mod work;
 

@@ -8,10 +8,10 @@ ghost use Rattle.atl_state.specs.Limits.{holding_limit};
 ghost use Rattle.atl_tables.specs.declared.world.Item.{Item};
 ghost use Rattle.atl_market.specs.Making.{CanMakeOf};
 ghost use Rattle.atl_market.specs.Produce.{produced_of, with_raw_used};
-ghost use Rattle.atl_market.specs.Stock.{CanUse};
+ghost use Rattle.atl_market.specs.Goods.{CanUse};
 ghost use Rattle.atl_market.specs.Craft.{can_make, can_make_of, is_unskilled, item_of, lacks_raw, make_fault, up_to_raw};
 
-use crate::stock::{make_item, use_item};
+use crate::goods::{make_item, use_item};
 use atl_state::{Campaign, EventFault, HOLDING_LIMIT, Holding, level_in_any};
 use atl_tables::{Item, World};
 use std::alloc::AllocError;

@@ -4,7 +4,7 @@ use Rattle.atl_state.specs.State.{State}
 use Rattle.atl_state.proofs.CoverLaws.{marks-trans}
 use Rattle.atl_instant.proofs.MarkLaws.{marks-place}
 use Rattle.atl_market.specs.Build.{with_new}
-use Rattle.atl_market.specs.Stock.{with_used}
+use Rattle.atl_market.specs.Goods.{with_used}
 use Rattle.atl_market.proofs.BuildUsedLaws.{same_next, same_structures}
 use Rattle.atl_market.proofs.build.start.Goals as goal
 

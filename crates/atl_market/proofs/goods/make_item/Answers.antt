@@ -6,9 +6,9 @@ use Rattle.atl_state.specs.State.{with_amount}
 use Rattle.atl_state.specs.declared.books.Entry.TheVariants.{Made}
 use Rattle.atl_state.specs.declared.books.Thing.TheVariants.{Item}
 use Rattle.atl_instant.proofs.BookingLaws.{booking_fits, within-pos}
-use Rattle.atl_market.specs.Stock.{with_item}
-use Rattle.atl_market.proofs.StockLaws.{made_is, same_books, stock_marks, stock_what}
-use Rattle.atl_market.proofs.stock.make_item.Goals as goal
+use Rattle.atl_market.specs.Goods.{with_item}
+use Rattle.atl_market.proofs.GoodsLaws.{made_is, same_books, goods_marks, goods_what}
+use Rattle.atl_market.proofs.goods.make_item.Goals as goal
 
 pub book-requires-clause-there : goal.book-requires-clause-there
 book-requires-clause-there c =
@@ -28,7 +28,7 @@ pub returns-clause-what : goal.returns-clause-what
 returns-clause-what c =
     let can = c.requires.can in
     let same : to_z w64 (of_z w64 c.from.result) ≡ pos c.args.amount = search (rules, c.from.ensures) in
-    stock_what c.args.campaign.now c.set_item.new.campaign c.book.new.self c.args.number can.unit c.args.item (c.held_of.result + c.args.amount) Made (pos c.args.amount) (things_of c.args.world.now) can.there (c.in_ok-set_item.ensures can.unit can.there) (rw same at c.book.ensures.what)
+    goods_what c.args.campaign.now c.set_item.new.campaign c.book.new.self c.args.number can.unit c.args.item (c.held_of.result + c.args.amount) Made (pos c.args.amount) (things_of c.args.world.now) can.there (c.in_ok-set_item.ensures can.unit can.there) (rw same at c.book.ensures.what)
     ∙ ap (λ a. with_amount (with_item c.args.campaign.now.what c.args.number can.unit c.args.item (a + c.args.amount)) Made (Item c.args.item) (pos c.args.amount)) (c.held_of.ensures can.unit can.there)
     ∙ sym (made_is c.args.world.now c.args.campaign.now.what c.args.number c.args.item c.args.amount can.unit can.there)
 
@@ -36,5 +36,5 @@ pub returns-clause-marks : goal.returns-clause-marks
 returns-clause-marks c =
     let can = c.requires.can in
     let same : to_z w64 (of_z w64 c.from.result) ≡ pos c.args.amount = search (rules, c.from.ensures) in
-    stock_marks c.args.campaign.now c.set_item.new.campaign c.book.new.self c.args.number can.unit c.args.item (c.held_of.result + c.args.amount) Made (pos c.args.amount) (things_of c.args.world.now) can.there (c.in_ok-set_item.ensures can.unit can.there)
+    goods_marks c.args.campaign.now c.set_item.new.campaign c.book.new.self c.args.number can.unit c.args.item (c.held_of.result + c.args.amount) Made (pos c.args.amount) (things_of c.args.world.now) can.there (c.in_ok-set_item.ensures can.unit can.there)
     (rw same at c.book.ensures.what) c.book.ensures.marks can.steady.numbers.books (omega (arith, can.known))

@@ -6,7 +6,7 @@ ghost use Rattle.atl_state.specs.Held.{amount_of, with_amount_of};
 ghost use Rattle.atl_state.specs.Lending.{lent};
 ghost use Rattle.atl_state.specs.Limits.{holding_limit};
 ghost use Rattle.atl_state.specs.declared.records.Unit.{Unit};
-ghost use Rattle.atl_market.specs.Stock.{CanMake, CanUse, with_made, with_used};
+ghost use Rattle.atl_market.specs.Goods.{CanMake, CanUse, with_made, with_used};
 
 use atl_instant::book_taken;
 use atl_state::{Campaign, Entry, Thing};

@@ -4,9 +4,9 @@ use Rattle.atl_state.specs.Founding.{things_of}
 use Rattle.atl_state.specs.State.{with_amount}
 use Rattle.atl_state.specs.declared.books.Entry.TheVariants.{Used}
 use Rattle.atl_state.specs.declared.books.Thing.TheVariants.{Item}
-use Rattle.atl_market.specs.Stock.{with_item}
-use Rattle.atl_market.proofs.StockLaws.{same_books, stock_marks, stock_what, used_is}
-use Rattle.atl_market.proofs.stock.use_item.Goals as goal
+use Rattle.atl_market.specs.Goods.{with_item}
+use Rattle.atl_market.proofs.GoodsLaws.{same_books, goods_marks, goods_what, used_is}
+use Rattle.atl_market.proofs.goods.use_item.Goals as goal
 
 pub book_taken-requires-clause-there : goal.book_taken-requires-clause-there
 book_taken-requires-clause-there c =
@@ -24,12 +24,12 @@ pub returns-clause-what : goal.returns-clause-what
 returns-clause-what c =
     let can = c.requires.can in
     let z = neg_ℤ (pos c.args.amount) in
-    stock_what c.args.campaign.now c.set_item.new.campaign c.book_taken.new.campaign c.args.number can.unit c.args.item (c.held_of.result - c.args.amount) Used z (things_of c.args.world.now) can.there (c.in_ok-set_item.ensures can.unit can.there) c.book_taken.ensures.what
+    goods_what c.args.campaign.now c.set_item.new.campaign c.book_taken.new.campaign c.args.number can.unit c.args.item (c.held_of.result - c.args.amount) Used z (things_of c.args.world.now) can.there (c.in_ok-set_item.ensures can.unit can.there) c.book_taken.ensures.what
     ∙ ap (λ a. with_amount (with_item c.args.campaign.now.what c.args.number can.unit c.args.item (a - c.args.amount)) Used (Item c.args.item) z) (c.held_of.ensures can.unit can.there)
     ∙ sym (used_is c.args.world.now c.args.campaign.now.what c.args.number c.args.item c.args.amount can.unit can.there)
 
 pub returns-clause-marks : goal.returns-clause-marks
 returns-clause-marks c =
     let can = c.requires.can in
-    stock_marks c.args.campaign.now c.set_item.new.campaign c.book_taken.new.campaign c.args.number can.unit c.args.item (c.held_of.result - c.args.amount) Used (neg_ℤ (pos c.args.amount)) (things_of c.args.world.now) can.there (c.in_ok-set_item.ensures can.unit can.there)
+    goods_marks c.args.campaign.now c.set_item.new.campaign c.book_taken.new.campaign c.args.number can.unit c.args.item (c.held_of.result - c.args.amount) Used (neg_ℤ (pos c.args.amount)) (things_of c.args.world.now) can.there (c.in_ok-set_item.ensures can.unit can.there)
     c.book_taken.ensures.what c.book_taken.ensures.marks can.steady.numbers.books (omega (arith, can.known))

@@ -32,7 +32,7 @@ use Rattle.atl_instant.specs.Meaning.{LeavesWell, moves_only}
 use Rattle.atl_instant.proofs.AmountsLaws.{alike, amount_within, every_amount, set_amount}
 use Rattle.atl_instant.proofs.BookingLaws.{booked-near, within-neg, within-pos}
 use Rattle.atl_instant.proofs.MarkLaws.{marks_by}
-use Rattle.atl_market.specs.Stock.{CanMake, CanUse, made_to, used_by, with_item, with_made, with_used}
+use Rattle.atl_market.specs.Goods.{CanMake, CanUse, made_to, used_by, with_item, with_made, with_used}
 
 moved : (x y t k a l : ℕ) (z : ℤ) → x ≡ y → y + k ≡ t + a → k ≡ l → pos a ≡ pos l +ℤ z → pos x ≡ pos t +ℤ z
 moved x y t k a l z e f g h = omega (arith, ints, e, f, g, h)
@@ -46,8 +46,8 @@ module _ (w : Planet) (c : State) (n : ℕ) (u : Unit) (i amount : ℕ) (is : ge
   abbrev more : Held
   more = record u.holding { items = with_amount_of u.holding.items i amount }
 
-  abbrev stocked : State
-  stocked = with_item c n u i amount
+  abbrev with_set : State
+  with_set = with_item c n u i amount
 
   may : i < length w.items → amount ≤ holding_limit → MayHave w u.holding → MayHave w more
   may known most old = record {
@@ -60,7 +60,7 @@ module _ (w : Planet) (c : State) (n : ℕ) (u : Unit) (i amount : ℕ) (is : ge
 
   module _ (e : Entry) (z : ℤ) where
     abbrev after : State
-    after = with_amount stocked e (Item i) z
+    after = with_amount with_set e (Item i) z
 
     module _ (change : pos amount ≡ pos (amount_of u.holding.items i) +ℤ z) where
       by_test : (j : ℕ) (q : Bool) → eq_by_cmp nat_cmp j i ≡ q → (x y t : ℕ) → x ≡ y → y + amount_of u.holding.items j ≡ t + cond q amount (amount_of u.holding.items j) → pos x ≡ pos t +ℤ cond (2 + j == 2 + i) z (pos 0)
@@ -74,28 +74,28 @@ module _ (w : Planet) (c : State) (n : ℕ) (u : Unit) (i amount : ℕ) (is : ge
           let other : (2 + j == 2 + i) ≡ false = grind (arith, nat_tests) in
           unmoved x y t (amount_of u.holding.items j) a b ∙ sym (ap (λ p. pos t +ℤ cond p z (pos 0)) other)
 
-      total_of : (t : Thing) → total after t ≡ total stocked t → total stocked t + held t u.holding ≡ total c t + held t more → pos (total after t) ≡ pos (total c t) +ℤ share_of t (Item i) z
+      total_of : (t : Thing) → total after t ≡ total with_set t → total with_set t + held t u.holding ≡ total c t + held t more → pos (total after t) ≡ pos (total c t) +ℤ share_of t (Item i) z
       total_of Money a b =
           let other : (0 == 2 + i) ≡ false = grind (arith, nat_tests) in
-          unmoved (total after Money) (total stocked Money) (total c Money) u.holding.money a b ∙ sym (ap (λ p. pos (total c Money) +ℤ cond p z (pos 0)) other)
+          unmoved (total after Money) (total with_set Money) (total c Money) u.holding.money a b ∙ sym (ap (λ p. pos (total c Money) +ℤ cond p z (pos 0)) other)
       total_of People a b =
           let other : (1 == 2 + i) ≡ false = grind (arith, nat_tests) in
-          unmoved (total after People) (total stocked People) (total c People) u.holding.men a b ∙ sym (ap (λ p. pos (total c People) +ℤ cond p z (pos 0)) other)
+          unmoved (total after People) (total with_set People) (total c People) u.holding.men a b ∙ sym (ap (λ p. pos (total c People) +ℤ cond p z (pos 0)) other)
       total_of (Item j) a b =
-          by_test j (eq_by_cmp nat_cmp j i) refl (total after (Item j)) (total stocked (Item j)) (total c (Item j)) a
+          by_test j (eq_by_cmp nat_cmp j i) refl (total after (Item j)) (total with_set (Item j)) (total c (Item j)) a
           (b ∙ ap (λ k. total c (Item j) + k) (set_amount u.holding.items i amount j))
 
-      pub stocked_well : (limit : ℕ) → i < length w.items → amount ≤ holding_limit → IsWithin limit z → IsSteady w c → LeavesWell IsSteady (moves_only limit e (Item i)) w c after
-      stocked_well limit known most small steady =
+      pub set_well : (limit : ℕ) → i < length w.items → amount ≤ holding_limit → IsWithin limit z → IsSteady w c → LeavesWell IsSteady (moves_only limit e (Item i)) w c after
+      set_well limit known most small steady =
           let has = may known most (may_have w c n u is steady) in
           let grid = steady.numbers.books in
           record {
             leaves_it =
-                steady-amount w stocked e (Item i) z
+                steady-amount w with_set e (Item i) z
                 (steady-held w c n u more is (record { limits = has.limits; name = has.name; items = has.items; skills = has.skills; days = has.days; guard = λ g. g }) steady);
             same_month = record { month = refl; reports = refl; count = refl; factions = λ k there. there };
             balances = λ old t.
-                total_of t (total-amount stocked e (Item i) t z) (total-held w c n u more is t)
+                total_of t (total-amount with_set e (Item i) t z) (total-held w c n u more is t)
                 ∙ ap (λ y. y +ℤ share_of t (Item i) z) (old t) ∙ sym (booked-with_booked (things_of w) c.books e (Item i) z grid (omega (arith, known)) t);
             near = booked-near (things_of w) c.books e (Item i) z limit grid (omega (arith, known)) small;
           }
@@ -124,7 +124,7 @@ module _ (w : Planet) (c : State) (n i k : ℕ) where
       let a = amount_of u.holding.items i in
       let within = held_within u there steady in
       subst (λ d. LeavesWell IsSteady (moves_only limit entries.Used (Item i)) w c d) (sym (used_is u there))
-      (stocked_well w c n u i (a - k) there entries.Used (neg_ℤ (pos k)) (taken_off a k enough) limit known (omega (arith, within)) (within-neg k limit most) steady)
+      (set_well w c n u i (a - k) there entries.Used (neg_ℤ (pos k)) (taken_off a k enough) limit known (omega (arith, within)) (within-neg k limit most) steady)
 
   pub used_well : CanUse w c n i k → LeavesWell IsSteady (moves_only holding_limit entries.Used (Item i)) w c (with_used c n i k)
   used_well can =
@@ -136,7 +136,7 @@ module _ (w : Planet) (c : State) (n i k : ℕ) where
       let u = can.unit in
       let a = amount_of u.holding.items i in
       subst (λ d. LeavesWell IsSteady (moves_only holding_limit entries.Made (Item i)) w c d) (sym (made_is u can.there))
-      (stocked_well w c n u i (a + k) can.there entries.Made (pos k) (put_to a k) holding_limit can.known can.fits (within-pos k holding_limit (omega (arith, can.fits))) can.steady)
+      (set_well w c n u i (a + k) can.there entries.Made (pos k) (put_to a k) holding_limit can.known can.fits (within-pos k holding_limit (omega (arith, can.fits))) can.steady)
 
   -- the unit behind it
   pub used_unit : (u : Unit) → get c.units n ≡ Some u → get (with_used c n i k).units n ≡ Some (record u { holding = record u.holding { items = with_amount_of u.holding.items i (amount_of u.holding.items i - k) } })
@@ -177,11 +177,11 @@ module _ (c d e : Marked) (n : ℕ) (u : Unit) (i amount : ℕ) (entry : Entry) 
   pub same_books : d.what.books ≡ c.what.books
   same_books = ap (λ (s : State). s.books) lent_item
 
-  pub stock_what : e.what ≡ with_amount d.what entry (Item i) z → e.what ≡ with_amount (with_item c.what n u i amount) entry (Item i) z
-  stock_what what = what ∙ ap (λ s. with_amount s entry (Item i) z) lent_item
+  pub goods_what : e.what ≡ with_amount d.what entry (Item i) z → e.what ≡ with_amount (with_item c.what n u i amount) entry (Item i) z
+  goods_what what = what ∙ ap (λ s. with_amount s entry (Item i) z) lent_item
 
-  pub stock_marks : e.what ≡ with_amount d.what entry (Item i) z → e.marks ≡ mark_amount d entry (Item i) → IsGrid things c.what.books → 2 + i < things → MarksChanges c e
-  stock_marks what marks grid known =
+  pub goods_marks : e.what ≡ with_amount d.what entry (Item i) z → e.marks ≡ mark_amount d entry (Item i) → IsGrid things c.what.books → 2 + i < things → MarksChanges c e
+  goods_marks what marks grid known =
       let d_grid : IsGrid things d.what.books = rw same_books grid in
       marks-trans c d e (subst (MarksChanges c) (sym set) (marks-lent c n (record u.holding { items = with_amount_of u.holding.items i amount })))
       (marks_by d e _ what marks (marks-amount things d entry (Item i) z d_grid (omega (arith, known))))
