@@ -1,4 +1,4 @@
--- What units with their shares draw from the pots of their regions: a pot holds enough for all of them.
+-- What units with their shares draw from pots: a pot holds enough for all of them.
 use Rattle.std.proofs.Common.{◌≡◌, ◌≢◌, ℕ, ◌+◌, ◌<◌, ◌≤◌, ◌==◌, ◌⊎◌, zero, suc, Bool, true, false, cond, List, [], ◌∷◌, length, get_or, map, sum, Option, Some, None, refl, sym, ap, subst, ◌∙◌, inl, inr, arith}
 use Rattle.std.specs.Prelude.{min, unwrap_or}
 use Rattle.std.specs.declared.cmp.Ordering.TheVariants.{Less}
@@ -15,7 +15,7 @@ use Rattle.atl_state.specs.Good.{IsThere}
 use Rattle.atl_state.specs.State.{State, region_changed}
 use Rattle.atl_state.proofs.BackLaws.{Rise, entries_rise}
 use Rattle.atl_state.proofs.EveryLaws.{each-from_every, get-insert_other}
-use Rattle.atl_state.proofs.ListLaws.{same_number}
+use Rattle.atl_state.proofs.ListLaws.{other_number, same_number}
 use Rattle.atl_state.proofs.RegionLaws.{changed-known, get-insert_same}
 use Rattle.atl_market.specs.Pots.{amount_given, pot_shares, takers_in, wants_in}
 use Rattle.atl_market.proofs.PotLaws.{IsRisen, gives_each_pot, only_takers_get, taker_place, takers_risen}
@@ -49,26 +49,26 @@ pub all_pairs : (P : ℕ × ℕ → Type 0) (es : List (ℕ × ℕ)) → EachOf 
 all_pairs P [] h = tt
 all_pairs P (e ∷ es) h = (h.0, all_pairs P es h.1)
 
--- ---- what is drawn from one region
+-- ---- what is drawn from one pot
 
-abbrev pub stands_in : ℕ → Option Unit → Bool
-stands_in r None = false
-stands_in r (Some u) = u.region == r
+-- a pot by the units that draw from it, of their numbers
+abbrev pub Drawers : Type 0
+Drawers = ℕ → Bool
 
-module _ (units : FinMap nat_cmp Unit) (r : ℕ) where
-  -- what the units of a region draw by these shares
+module _ (draws : Drawers) where
+  -- what the units of a pot draw by these shares
   abbrev pub drawn : List (ℕ × ℕ) → ℕ
   drawn [] = 0
-  drawn (e ∷ es) = cond (stands_in r (get units e.0)) e.1 0 + drawn es
+  drawn (e ∷ es) = cond (draws e.0) e.1 0 + drawn es
 
   module _ (amount : ℕ → ℕ) where
-    -- who stands there is one of the list, and draws its amount
-    abbrev Listed : List ℕ → ℕ × ℕ → Type 0
-    Listed ns e = stands_in r (get units e.0) ≡ true → IsIn e.0 ns × (amount e.0 ≡ e.1)
+    -- who draws is one of the list, and draws its amount
+    abbrev pub Listed : List ℕ → ℕ × ℕ → Type 0
+    Listed ns e = draws e.0 ≡ true → IsIn e.0 ns × (amount e.0 ≡ e.1)
 
     narrowed : (n : ℕ) (ns : List ℕ) (es : List (ℕ × ℕ)) → AllByRecursion (λ f. n < f.0) es → AllByRecursion (Listed (n ∷ ns)) es → AllByRecursion (Listed ns) es
     narrowed n ns [] above all = tt
-    narrowed n ns (f ∷ es) above all = (λ stands. let (is, same) = all.0 stands in (another f.0 n ns above.0 is, same), narrowed n ns es above.1 all.1)
+    narrowed n ns (f ∷ es) above all = (λ draws. let (is, same) = all.0 draws in (another f.0 n ns above.0 is, same), narrowed n ns es above.1 all.1)
 
     lower : (n k : ℕ) (es : List (ℕ × ℕ)) → n ≤ k → AllByRecursion (λ f. k < f.0) es → AllByRecursion (λ f. n < f.0) es
     lower n k [] low above = tt
@@ -80,7 +80,7 @@ module _ (units : FinMap nat_cmp Unit) (r : ℕ) where
     nothing_drawn : (es : List (ℕ × ℕ)) → AllByRecursion (Listed []) es → drawn es ≡ 0
     nothing_drawn [] all = refl
     nothing_drawn (e ∷ es) all =
-        elim (stands_in r (get units e.0)) as (λ b. stands_in r (get units e.0) ≡ b → cond b e.1 0 + drawn es ≡ 0) [
+        elim (draws e.0) as (λ b. draws e.0 ≡ b → cond b e.1 0 + drawn es ≡ 0) [
           | true ↦ λ is. absurd (all.0 is).0
           | false ↦ λ _. none_first (drawn es) (nothing_drawn es all.1)
         ] refl
@@ -101,7 +101,7 @@ module _ (units : FinMap nat_cmp Unit) (r : ℕ) where
     with_first n ns rest [] up rise all = omega arith
     with_first n ns rest (e ∷ es) up rise all =
         let split : sum (map amount (n ∷ ns)) ≡ amount n + sum (map amount ns) = sum_by-cons (λ x. x) (amount n) (map amount ns) in
-        elim (stands_in r (get units e.0)) as (λ b. stands_in r (get units e.0) ≡ b → cond b e.1 0 + drawn es ≤ sum (map amount (n ∷ ns))) [
+        elim (draws e.0) as (λ b. draws e.0 ≡ b → cond b e.1 0 + drawn es ≤ sum (map amount (n ∷ ns))) [
           | true ↦ λ is. elim (cases_eq e.0 n) [
             | inl same ↦
                 let tail = narrowed n ns es (lower n e.0 es (omega (arith, same)) rise.0) all.1 in
@@ -120,8 +120,80 @@ module _ (units : FinMap nat_cmp Unit) (r : ℕ) where
     drawn_among [] es up rise all = let none = nothing_drawn es all in omega (arith, none)
     drawn_among (n ∷ ns) es up rise all = with_first n ns (drawn_among ns) es up rise all
 
--- ---- a pot is enough for all
+-- ---- one unit draws after the other
 
+-- pots, each in a region, with the units that draw from it and what a region has of it
+pub record DrawnPots (K : Type 0) : Type 0 where
+  pub place : K → ℕ
+  pub draws : K → Drawers
+  pub left : K → Region → ℕ
+
+module _ {K : Type 0} (pots : DrawnPots K) where
+  -- each pot has enough for what its units are to draw
+  abbrev pub HaveEnough : State → List (ℕ × ℕ) → Type 0
+  HaveEnough d es = (k : K) (q : Region) → get d.regions (pots.place k) ≡ Some q → drawn (pots.draws k) es ≤ pots.left k q
+
+  -- each pot has less by a unit's share where the unit draws from it, and else what it had
+  abbrev pub Drains : State → ℕ × ℕ → State → Type 0
+  Drains d e after =
+      (k : K) (x : Region) → get after.regions (pots.place k) ≡ Some x
+      → (q : Region) × (get d.regions (pots.place k) ≡ Some q) × (pots.left k x + cond (pots.draws k e.0) e.1 0 ≡ pots.left k q)
+
+  module _ (d : State) (e : ℕ × ℕ) (es : List (ℕ × ℕ)) (enough : HaveEnough d (e ∷ es)) where
+    -- a unit can draw its share
+    pub first_draws : (k : K) (q : Region) → get d.regions (pots.place k) ≡ Some q → pots.draws k e.0 ≡ true → e.1 ≤ pots.left k q
+    first_draws k q around mine = at_least (pots.left k q) (subst (λ b. cond b e.1 0 + drawn (pots.draws k) es ≤ pots.left k q) mine (enough k q around))
+      where
+        at_least : (all : ℕ) → e.1 + drawn (pots.draws k) es ≤ all → e.1 ≤ all
+        at_least all h = omega (arith, h)
+
+    -- and leaves enough for the others
+    pub others_draw : (after : State) → Drains d e after → HaveEnough after es
+    others_draw after drains k x is =
+        let (q, around, less) = drains k x is in
+        left_over (cond (pots.draws k e.0) e.1 0) (drawn (pots.draws k) es) (pots.left k x) (pots.left k q) (enough k q around) less
+      where
+        left_over : (share rest less all : ℕ) → share + rest ≤ all → less + share ≡ all → rest ≤ less
+        left_over share rest less all h k = omega (arith, h, k)
+
+-- ---- the pots of regions: those draw who stand there
+
+abbrev pub stands_in : ℕ → Option Unit → Bool
+stands_in r None = false
+stands_in r (Some u) = u.region == r
+
+abbrev pub who_stand : FinMap nat_cmp Unit → ℕ → Drawers
+who_stand units r n = stands_in r (get units n)
+
+module _ (units : FinMap nat_cmp Unit) (left : Region → ℕ) where
+  abbrev pub region_pots : DrawnPots ℕ
+  region_pots = record { place = λ r. r; draws = who_stand units; left = λ r q. left q }
+
+  module _ (d : State) (e : ℕ × ℕ) (u : Unit) (q : Region) (there : get units e.0 ≡ Some u) (around : get d.regions u.region ≡ Some q) where
+    -- a unit's region changes, and has so much less
+    pub one_drains : (after : State) (f : Region → Region) → after.regions ≡ (region_changed f d u.region).regions → left (f q) + e.1 ≡ left q → Drains region_pots d e after
+    one_drains after f changed less k x found = elim (cases_eq k u.region) [
+      | inl same ↦
+          let new : Some (f q) ≡ Some x = sym (get-insert_same d.regions u.region (f q)) ∙ ap (get (insert d.regions u.region (f q))) (sym same) ∙ put in
+          let value : f q ≡ x = cc in
+          let mine : who_stand units k e.0 ≡ true = ap (stands_in k) there ∙ ap (λ r. u.region == r) same ∙ same_number u.region in
+          (q, ap (get d.regions) same ∙ around, subst (λ y. left y + cond (who_stand units k e.0) e.1 0 ≡ left q) value (subst (λ b. left (f q) + cond b e.1 0 ≡ left q) (sym mine) less))
+      | inr apart ↦
+          let other : who_stand units k e.0 ≡ false = ap (stands_in k) there ∙ other_number u.region k (λ is. apart (sym is)) in
+          (x, sym (get-insert_other d.regions u.region k (f q) apart) ∙ put, subst (λ b. left x + cond b e.1 0 ≡ left x) (sym other) (no_less (left x)))
+    ]
+      where
+        put : get (insert d.regions u.region (f q)) k ≡ Some x
+        put = sym (ap (λ m. get m k) (changed ∙ changed-known f d.regions u.region q around)) ∙ found
+
+        no_less : (a : ℕ) → a + 0 ≡ a
+        no_less a = omega arith
+
+    -- who stands in a region can draw its share
+    pub one_draws : (es : List (ℕ × ℕ)) → HaveEnough region_pots d (e ∷ es) → e.1 ≤ left q
+    one_draws es enough = first_draws region_pots d e es enough u.region q around (ap (stands_in u.region) there ∙ same_number u.region)
+
+-- each has enough: what the units of a region get together is its pot at most
 module _ (pot_of : ℕ → ℕ) (wants : FinMap nat_cmp ℕ) (c : State) (r : ℕ) where
   abbrev amount : ℕ → ℕ
   amount n = amount_given pot_of wants c n
@@ -129,7 +201,7 @@ module _ (pot_of : ℕ → ℕ) (wants : FinMap nat_cmp ℕ) (c : State) (r : �
   abbrev takers : List ℕ
   takers = takers_in wants c.units r
 
-  listed : (n share : ℕ) → get (pot_shares pot_of wants c) n ≡ Some share → Listed c.units r amount takers (n, share)
+  listed : (n share : ℕ) → get (pot_shares pot_of wants c) n ≡ Some share → Listed (who_stand c.units r) amount takers (n, share)
   listed n share is stands =
       let (want, u, wanted, low, at, region) = only_takers_get pot_of wants c n share is in
       let here : u.region ≡ r = eqb-true u.region r (ap (stands_in r) (sym at) ∙ stands) in
@@ -140,51 +212,13 @@ module _ (pot_of : ℕ → ℕ) (wants : FinMap nat_cmp ℕ) (c : State) (r : �
   least : (drawing pot all : ℕ) → drawing ≤ min pot all → drawing ≤ pot
   least drawing pot all h = omega (arith, h)
 
-  pub pot_is_enough : IsThere c.regions r → drawn c.units r (entries (pot_shares pot_of wants c)) ≤ pot_of r
+  pub pot_is_enough : IsThere c.regions r → drawn (who_stand c.units r) (entries (pot_shares pot_of wants c)) ≤ pot_of r
   pot_is_enough there =
       let given = pot_shares pot_of wants c in
-      let few = drawn_among c.units r amount takers (entries given) (takers_risen wants c.units r) (entries_rise given) (all_pairs (Listed c.units r amount takers) (entries given) (each-from_every (λ n share. Listed c.units r amount takers (n, share)) given listed)) in
-      least (drawn c.units r (entries given)) (pot_of r) (sum (wants_in wants c.units r)) (subst (λ s. drawn c.units r (entries given) ≤ s) (gives_each_pot pot_of wants c r there) few)
-
--- ---- one unit draws after the other
-
-module _ (units : FinMap nat_cmp Unit) (stock : Region → ℕ) where
-  -- each region has enough for what its units are to draw
-  abbrev pub HaveEnough : State → List (ℕ × ℕ) → Type 0
-  HaveEnough d es = (r : ℕ) (q : Region) → get d.regions r ≡ Some q → drawn units r es ≤ stock q
-
-  -- regions of which one has so much less
-  abbrev pub HaveLess : State → State → ℕ → Region → ℕ → Type 0
-  HaveLess d after r q share = (k : ℕ) (x : Region) → get after.regions k ≡ Some x → ((k ≡ r) × (stock x + share ≡ stock q)) ⊎ (get d.regions k ≡ Some x)
-
-  module _ (d : State) (e : ℕ × ℕ) (es : List (ℕ × ℕ)) (u : Unit) (q : Region) (enough : HaveEnough d (e ∷ es)) (there : get units e.0 ≡ Some u) (around : get d.regions u.region ≡ Some q) where
-    pub first_draws : e.1 + drawn units u.region es ≤ stock q
-    first_draws = subst (λ b. cond b e.1 0 + drawn units u.region es ≤ stock q) (ap (stands_in u.region) there ∙ same_number u.region) (enough u.region q around)
-
-    left_over : (share rest less all : ℕ) → share + rest ≤ all → less + share ≡ all → rest ≤ less
-    left_over share rest less all h k = omega (arith, h, k)
-
-    fewer : (b : Bool) (rest all : ℕ) → cond b e.1 0 + rest ≤ all → rest ≤ all
-    fewer true rest all h = omega (arith, h)
-    fewer false rest all h = omega (arith, h)
-
-    pub others_draw : (after : State) → HaveLess d after u.region q e.1 → HaveEnough after es
-    others_draw after less k x is = elim (less k x is) [
-      | inl here ↦ subst (λ r. drawn units r es ≤ stock x) (sym here.0) (left_over e.1 (drawn units u.region es) (stock x) (stock q) first_draws here.1)
-      | inr there ↦ fewer (stands_in k (get units e.0)) (drawn units k es) (stock x) (enough k x there)
-    ]
-
--- a region that is changed, and the others
-pub changed_regions : (f : Region → Region) (c : State) (n : ℕ) (r : Region) → get c.regions n ≡ Some r → (k : ℕ) (x : Region) → get (region_changed f c n).regions k ≡ Some x → ((k ≡ n) × (x ≡ f r)) ⊎ (get c.regions k ≡ Some x)
-changed_regions f c n r is k x found =
-    let put : get (insert c.regions n (f r)) k ≡ Some x = sym (ap (λ m. get m k) (changed-known f c.regions n r is)) ∙ found in
-    elim (cases_eq k n) [
-      | inl same ↦
-          let new : Some (f r) ≡ Some x = sym (get-insert_same c.regions n (f r)) ∙ ap (get (insert c.regions n (f r))) (sym same) ∙ put in
-          let value : x ≡ f r = cc in
-          inl (same, value)
-      | inr apart ↦ inr (sym (get-insert_other c.regions n k (f r) apart) ∙ put)
-    ]
+      let drawing = drawn (who_stand c.units r) (entries given) in
+      let each = all_pairs (Listed (who_stand c.units r) amount takers) (entries given) (each-from_every (λ n share. Listed (who_stand c.units r) amount takers (n, share)) given listed) in
+      let few = drawn_among (who_stand c.units r) amount takers (entries given) (takers_risen wants c.units r) (entries_rise given) each in
+      least drawing (pot_of r) (sum (wants_in wants c.units r)) (subst (λ s. drawing ≤ s) (gives_each_pot pot_of wants c r there) few)
 
 -- ---- units whose turn is still to come are as they were
 

@@ -1,5 +1,5 @@
 -- Recruiting leaves a campaign well.
-use Rattle.std.proofs.Common.{◌≡◌, ◌≢◌, ◌==◌, ℕ, ◌+◌, ◌-◌, ◌*◌, ◌/◌, ◌≤◌, false, cond, Option, Some, None, List, [], ◌∷◌, length, refl, sym, ap, subst, ◌∙◌, inl, inr, arith}
+use Rattle.std.proofs.Common.{◌≡◌, ◌≢◌, ◌==◌, ℕ, ◌+◌, ◌-◌, ◌*◌, ◌/◌, ◌≤◌, false, cond, Option, Some, None, List, [], ◌∷◌, length, refl, sym, ap, subst, ◌∙◌, arith}
 use Rattle.std.specs.Prelude.{ℤ, fold, pos, neg_ℤ, ◌+ℤ◌, min}
 use Rattle.std.specs.List.{AllByRecursion}
 use Rattle.std.specs.Ordering.{nat_cmp}
@@ -39,7 +39,7 @@ use Rattle.atl_instant.proofs.MeaningLaws.{room_less, well_within}
 use Rattle.atl_market.specs.PotPhase.{CanInTurn, given_by, shared_out}
 use Rattle.atl_market.specs.Recruit.{recruit_moves, recruit_pots, recruited, recruited_by, recruited_from, recruits_at, recruits_in, with_men, with_recruits}
 use Rattle.atl_market.specs.Unordered.{OthersAreNoWorse}
-use Rattle.atl_market.proofs.DrawLaws.{AreUntouched, HaveEnough, HaveLess, all_pairs, changed_regions, drawn, first_draws, others_draw, pot_is_enough, still, untouched}
+use Rattle.atl_market.proofs.DrawLaws.{AreUntouched, Drains, DrawnPots, HaveEnough, all_pairs, drawn, one_drains, one_draws, others_draw, pot_is_enough, region_pots, still, untouched, who_stand}
 use Rattle.atl_state.proofs.HavingLaws.{MayHave, early-having, may_have}
 use Rattle.atl_market.proofs.OrderedLaws.{others_no_worse}
 use Rattle.atl_market.proofs.TurnLaws.{few_holdings, first_room, later_room, turns_leave_well}
@@ -127,13 +127,6 @@ module _ (w : Planet) (c : State) (n : ℕ) (u : Unit) (q : Region) (recruits co
           near = booked-near (things_of w) c.books Recruiting Money price holding_limit grid (omega arith) (within-neg cost holding_limit (omega (arith, payable, (may_have w c n u is early.steady).limits.money)));
         }
 
-    -- what the region has then
-    recruits_drain : HaveLess c.units peasants_of c after u.region q recruits
-    recruits_drain k x found = elim (changed_regions (leave q recruits) peopled u.region q around k x found) [
-      | inl here ↦ let less : x.peasants ≡ q.peasants - recruits = ap peasants_of here.1 in inl (here.0, omega (arith, less, enough))
-      | inr there ↦ inr there
-    ]
-
 -- ---- what is marked
 
 -- as the region and the books change
@@ -170,10 +163,12 @@ module _ (w : Planet) (c : State) (e : ℕ × ℕ) where
       subst (λ d. LeavesWell IsEarly (recruit_moves holding_limit) w c d) (sym (made_is can))
       (recruits_leave_well w c e.0 can.unit can.region e.1 price can.there can.around can.fits can.payable can.enough can.early)
 
-  recruited_drains : (can : CanRecruit w c e) → HaveLess c.units peasants_of c (recruited w c e) can.unit.region can.region e.1
-  recruited_drains can =
-      subst (λ d. HaveLess c.units peasants_of c d can.unit.region can.region e.1) (sym (made_is can))
-      (recruits_drain w c e.0 can.unit can.region e.1 price can.there can.around can.fits can.payable can.enough can.early)
+  recruited_drains : (can : CanRecruit w c e) (units : FinMap nat_cmp Unit) → get units e.0 ≡ Some can.unit → Drains (region_pots units peasants_of) c e (recruited w c e)
+  recruited_drains can units there =
+      one_drains units peasants_of c e can.unit can.region there can.around (recruited w c e) (leave can.region e.1) (ap (λ (d : State). d.regions) (made_is can)) (less can.region.peasants can.enough)
+    where
+      less : (all : ℕ) → e.1 ≤ all → all - e.1 + e.1 ≡ all
+      less all enough = omega (arith, enough)
 
   pub recruited_others : (k : ℕ) → k ≢ e.0 → get (recruited w c e).units k ≡ get c.units k
   unfolding recruited
@@ -196,6 +191,10 @@ abbrev step_moves : Moving
 step_moves = recruit_moves holding_limit
 
 module _ (w : Planet) (c : State) where
+  -- the peasants of the regions
+  abbrev pots : DrawnPots ℕ
+  pots = region_pots c.units peasants_of
+
   -- a unit is there, has room for so many recruits and can pay for them
   abbrev CanHave : ℕ × ℕ → Type 0
   CanHave e = (u : Unit) × (get c.units e.0 ≡ Some u) × (u.holding.men + e.1 ≤ men_limit) × (e.1 * w.rules.recruit_price ≤ u.holding.money)
@@ -206,7 +205,7 @@ module _ (w : Planet) (c : State) where
     rise : Rise es
     same : AreUntouched c d es
     fits : AllByRecursion CanHave es
-    enough : HaveEnough c.units peasants_of d es
+    enough : HaveEnough pots d es
     room : HaveRoom (moved_times (length es) step_moves) d
 
   first_can : (d : State) (e : ℕ × ℕ) (es : List (ℕ × ℕ)) → AreReady d (e ∷ es) → CanRecruit w d e
@@ -214,8 +213,8 @@ module _ (w : Planet) (c : State) where
       let (u, there, fits, payable) = ready.fits.0 in
       let now : get d.units e.0 ≡ Some u = ready.same.0 ∙ there in
       let (q, around) = (ready.early.steady.known.units e.0 u now).region in
-      let draws = first_draws c.units peasants_of d e es u q ready.enough there around in
-      record { unit = u; there = now; region = q; around = around; fits = fits; payable = payable; enough = omega (arith, draws); early = ready.early; room = first_room step_moves d e es ready.room }
+      let draws = one_draws c.units peasants_of d e u q there around es ready.enough in
+      record { unit = u; there = now; region = q; around = around; fits = fits; payable = payable; enough = draws; early = ready.early; room = first_room step_moves d e es ready.room }
 
   all_can : (d : State) (es : List (ℕ × ℕ)) → AreReady d es → CanInTurn (CanRecruit w) (recruited w) d es
   all_can d [] ready = tt
@@ -228,7 +227,7 @@ module _ (w : Planet) (c : State) where
           rise = ready.rise.1;
           same = still c d (recruited w d e) e.0 es (recruited_others w d e) ready.rise.0 ready.same.1;
           fits = ready.fits.1;
-          enough = others_draw c.units peasants_of d e es can.unit can.region ready.enough (sym ready.same.0 ∙ can.there) can.around (recruited w d e) (recruited_drains w d e can);
+          enough = others_draw pots d e es ready.enough (recruited w d e) (recruited_drains w d e can c.units (sym ready.same.0 ∙ can.there));
           room = later_room step_moves w d (recruited w d e) e es well ready.room;
         }),
       )
@@ -253,9 +252,9 @@ module _ (w : Planet) (c : State) where
     part : (all one : ℕ) → all / one ≤ all
     part all one = div-le_self all one
 
-    all_enough : HaveEnough c.units peasants_of c shares
+    all_enough : HaveEnough pots c shares
     all_enough r q around =
-        let few : drawn c.units r shares ≤ q.peasants / w.rules.recruit_fraction = subst (λ pot. drawn c.units r shares ≤ pot) (ap (recruits_in w) around) (pot_is_enough _ _ c r (q, around)) in
+        let few : drawn (who_stand c.units r) shares ≤ q.peasants / w.rules.recruit_fraction = subst (λ pot. drawn (who_stand c.units r) shares ≤ pot) (ap (recruits_in w) around) (pot_is_enough _ _ c r (q, around)) in
         omega (arith, few, part q.peasants w.rules.recruit_fraction)
 
     few : length shares ≤ most_units

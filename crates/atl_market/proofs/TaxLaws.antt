@@ -1,9 +1,10 @@
 -- Tax leaves a campaign well.
-use Rattle.std.proofs.Common.{◌≡◌, ◌≢◌, ℕ, ◌+◌, ◌-◌, ◌≤◌, Option, Some, None, List, [], ◌∷◌, length, refl, sym, ap, subst, ◌∙◌, inl, inr, arith}
+use Rattle.std.proofs.Common.{◌≡◌, ◌≢◌, ℕ, ◌+◌, ◌-◌, ◌≤◌, Option, Some, None, List, [], ◌∷◌, length, refl, sym, ap, subst, ◌∙◌, arith}
 use Rattle.std.specs.Prelude.{fold, pos, min}
 use Rattle.std.specs.List.{AllByRecursion}
 use Rattle.std.specs.Option.{option_map_or}
-use Rattle.std.specs.FinMap.{entries, get}
+use Rattle.std.specs.Ordering.{nat_cmp}
+use Rattle.std.specs.FinMap.{FinMap, entries, get}
 use Rattle.atl_tables.specs.Planet.{Planet}
 use Rattle.atl_state.specs.declared.books.Thing.{Thing}
 use Rattle.atl_state.specs.declared.books.Thing.TheVariants.{Money, People, Item}
@@ -30,7 +31,7 @@ use Rattle.atl_instant.proofs.MeaningLaws.{near_same, well_within}
 use Rattle.atl_instant.proofs.StayingLaws.{are_no_worse, are_no_worse_twice}
 use Rattle.atl_market.specs.PotPhase.{CanInTurn, given_by, shared_out}
 use Rattle.atl_market.specs.Tax.{money_at, tax_moves, tax_pots, taxed, taxed_by, taxed_from, with_tax}
-use Rattle.atl_market.proofs.DrawLaws.{all_pairs, HaveEnough, HaveLess, changed_regions, drawn, first_draws, others_draw, pot_is_enough, still, untouched}
+use Rattle.atl_market.proofs.DrawLaws.{AreUntouched, Drains, DrawnPots, HaveEnough, all_pairs, drawn, one_drains, one_draws, others_draw, pot_is_enough, region_pots, still, untouched, who_stand}
 use Rattle.atl_market.proofs.PurseLaws.{others_stay, paid, richer, richer_is, richer_no_worse}
 use Rattle.atl_market.proofs.TurnLaws.{turns_leave_well}
 use Rattle.atl_market.proofs.PotLaws.{pots_give}
@@ -80,13 +81,6 @@ module _ (w : Planet) (c : State) (n : ℕ) (u : Unit) (q : Region) (share : ℕ
           near = λ e t. near_same 0 (amount_in c.books e t);
         }
 
-    -- what the region has then
-    pub tax_drains : HaveLess c.units money_of c after u.region q share
-    tax_drains k x found = elim (changed_regions (drain q share) (richer c n u share) u.region q around k x found) [
-      | inl here ↦ let less : x.money ≡ q.money - share = ap money_of here.1 in inl (here.0, omega (arith, less, enough))
-      | inr there ↦ inr there
-    ]
-
 -- ---- what is marked
 
 pub tax_marks : (c d e : Marked) (n money region left : ℕ) → d.what ≡ with_money c.what n money → d.marks ≡ mark_unit_row c n
@@ -110,8 +104,13 @@ module _ (w : Planet) (c : State) (e : ℕ × ℕ) where
   taxed_others : CanTax w c e → (k : ℕ) → k ≢ e.0 → get (taxed c e).units k ≡ get c.units k
   taxed_others can k apart = ap (λ (d : State). get d.units k) (taxed_is can.unit can.region can.there can.around) ∙ others_stay c e.0 can.unit e.1 can.there k apart
 
-  taxed_drains : (can : CanTax w c e) → HaveLess c.units money_of c (taxed c e) can.unit.region can.region e.1
-  taxed_drains can = subst (λ d. HaveLess c.units money_of c d can.unit.region can.region e.1) (sym (taxed_is can.unit can.region can.there can.around)) (tax_drains w c e.0 can.unit can.region e.1 can.there can.around can.enough)
+  taxed_drains : (can : CanTax w c e) (units : FinMap nat_cmp Unit) → get units e.0 ≡ Some can.unit → Drains (region_pots units money_of) c e (taxed c e)
+  taxed_drains can units there =
+      one_drains units money_of c e can.unit can.region there can.around (taxed c e) (drain can.region e.1)
+      (ap (λ (d : State). d.regions) (taxed_is can.unit can.region can.there can.around)) (less can.region.money can.enough)
+    where
+      less : (all : ℕ) → e.1 ≤ all → all - e.1 + e.1 ≡ all
+      less all enough = omega (arith, enough)
 
   taxed_no_worse : AreNoWorse c (taxed c e)
   unfolding taxed
@@ -136,6 +135,10 @@ tax_keeps_units w c os = each_no_worse w c (entries (given_by tax_pots w c os))
 -- ---- all steps can be taken
 
 module _ (w : Planet) (c : State) where
+  -- the money of the regions
+  abbrev pots : DrawnPots ℕ
+  pots = region_pots c.units money_of
+
   -- a unit is there and has room for so much
   abbrev HasRoomFor : ℕ × ℕ → Type 0
   HasRoomFor e = (u : Unit) × (get c.units e.0 ≡ Some u) × (u.holding.money + e.1 ≤ holding_limit)
@@ -144,17 +147,17 @@ module _ (w : Planet) (c : State) where
   record AreReady (d : State) (es : List (ℕ × ℕ)) : Type 0 where
     early : IsEarly w d
     rise : Rise es
-    same : AllByRecursion (λ e. get d.units e.0 ≡ get c.units e.0) es
+    same : AreUntouched c d es
     fits : AllByRecursion HasRoomFor es
-    enough : HaveEnough c.units money_of d es
+    enough : HaveEnough pots d es
 
   first_can : (d : State) (e : ℕ × ℕ) (es : List (ℕ × ℕ)) → AreReady d (e ∷ es) → CanTax w d e
   first_can d e es ready =
       let (u, there, fits) = ready.fits.0 in
       let now : get d.units e.0 ≡ Some u = ready.same.0 ∙ there in
       let (q, around) = (ready.early.steady.known.units e.0 u now).region in
-      let draws = first_draws c.units money_of d e es u q ready.enough there around in
-      record { unit = u; there = now; region = q; around = around; fits = fits; enough = omega (arith, draws); early = ready.early }
+      let draws = one_draws c.units money_of d e u q there around es ready.enough in
+      record { unit = u; there = now; region = q; around = around; fits = fits; enough = draws; early = ready.early }
 
   all_can : (d : State) (es : List (ℕ × ℕ)) → AreReady d es → CanInTurn (CanTax w) taxed d es
   all_can d [] ready = tt
@@ -167,7 +170,7 @@ module _ (w : Planet) (c : State) where
           rise = ready.rise.1;
           same = still c d (taxed d e) e.0 es (taxed_others w d e can) ready.rise.0 ready.same.1;
           fits = ready.fits.1;
-          enough = others_draw c.units money_of d e es can.unit can.region ready.enough (sym ready.same.0 ∙ can.there) can.around (taxed d e) (taxed_drains w d e can);
+          enough = others_draw pots d e es ready.enough (taxed d e) (taxed_drains w d e can c.units (sym ready.same.0 ∙ can.there));
         }),
       )
 
@@ -183,8 +186,8 @@ module _ (w : Planet) (c : State) where
         let (u, o, there, low) = given_is_wanted tax_pots w c (pots_give (money_at c) c) os n share is in
         (u, there, wanted_fits u.holding.money _ share (early.steady.numbers.units n u there).1.money low)
 
-    all_enough : HaveEnough c.units money_of c shares
-    all_enough r q around = subst (λ pot. drawn c.units r shares ≤ pot) (ap (λ o. option_map_or money_of o 0) around) (pot_is_enough _ _ c r (q, around))
+    all_enough : HaveEnough pots c shares
+    all_enough r q around = subst (λ pot. drawn (who_stand c.units r) shares ≤ pot) (ap (λ o. option_map_or money_of o 0) around) (pot_is_enough _ _ c r (q, around))
 
     pub can_share_out : CanInTurn (CanTax w) taxed c shares
     can_share_out = all_can c shares (record {
