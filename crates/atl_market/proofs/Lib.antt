@@ -15,7 +15,8 @@ pub mod BuildUsedLaws
 pub mod BuildBegunLaws
 pub mod BuildPlaceLaws
 pub mod BuildLaws
-pub mod GroupLaws
+pub mod ItemPotLaws
+pub mod MakesLaws
 pub mod GoodsLaws
 pub mod ProduceLaws
 pub mod UnmailedMakeLaws

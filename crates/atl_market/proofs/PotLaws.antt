@@ -19,6 +19,7 @@ use Rattle.atl_state.specs.State.{State, numbers_in}
 use Rattle.atl_state.specs.declared.records.Region.{Region}
 use Rattle.atl_state.specs.declared.records.Unit.{Unit}
 use Rattle.atl_state.specs.Deciding.{EachOf}
+use Rattle.atl_state.proofs.BackLaws.{Rise}
 use Rattle.atl_state.proofs.EveryLaws.{every-from_each, none_some, first, later, sorted}
 use Rattle.atl_state.proofs.ListLaws.{same_number}
 use Rattle.atl_state.proofs.RegionLaws.{get-insert_same}
@@ -28,7 +29,7 @@ use Rattle.atl_market.specs.Share.{shares}
 use Rattle.atl_market.specs.Pots.{want_of, takers_in, wants_in, shares_in, pot_shares, with_each, share_of, OnlyTakersGet, EachTakerGets, SharesEachPot, GivesEachPot, OtherRegionsDoNotCount}
 use Rattle.atl_market.proofs.ShareLaws.{all_is_given, share_at_most, length-shares}
 
-abbrev Entries : Type 0
+abbrev pub Entries : Type 0
 Entries = List (ℕ × ℕ)
 
 refuted : {X : Type 0} (o : Option X) → ((x : X) → o ≡ Some x → ⊥) → o ≡ None
@@ -64,7 +65,7 @@ is_there (Some x) h = (x, refl)
 
 -- ---- what is found under a number
 
-found_first : (n : ℕ) (es fs : Entries) (s : ℕ) → find nat_cmp n es ≡ Some s → find nat_cmp n (es ++ fs) ≡ Some s
+pub found_first : (n : ℕ) (es fs : Entries) (s : ℕ) → find nat_cmp n es ≡ Some s → find nat_cmp n (es ++ fs) ≡ Some s
 found_first n [] fs s h = none_some s h
 found_first n (e ∷ es) fs s h =
     elim (is_eq (nat_cmp n e.0)) as (λ b. cond b (Some e.1) (find nat_cmp n es) ≡ Some s → cond b (Some e.1) (find nat_cmp n (es ++ fs)) ≡ Some s) [
@@ -72,7 +73,7 @@ found_first n (e ∷ es) fs s h =
       | false ↦ found_first n es fs s
     ] h
 
-found_later : (n : ℕ) (es fs : Entries) → find nat_cmp n es ≡ None → find nat_cmp n (es ++ fs) ≡ find nat_cmp n fs
+pub found_later : (n : ℕ) (es fs : Entries) → find nat_cmp n es ≡ None → find nat_cmp n (es ++ fs) ≡ find nat_cmp n fs
 found_later n [] fs h = refl
 found_later n (e ∷ es) fs h =
     elim (is_eq (nat_cmp n e.0)) as (λ b. cond b (Some e.1) (find nat_cmp n es) ≡ None → cond b (Some e.1) (find nat_cmp n (es ++ fs)) ≡ find nat_cmp n fs) [
@@ -89,11 +90,11 @@ found_other e es n apart =
     ] refl
 
 -- no number stands twice
-abbrev IsApart : Entries → Type 0
+abbrev pub IsApart : Entries → Type 0
 IsApart [] = ⊤
 IsApart (e ∷ es) = (find nat_cmp e.0 es ≡ None) × IsApart es
 
-found_head : (e : ℕ × ℕ) (es : Entries) → find nat_cmp e.0 (e ∷ es) ≡ Some e.1
+pub found_head : (e : ℕ × ℕ) (es : Entries) → find nat_cmp e.0 (e ∷ es) ≡ Some e.1
 found_head e es =
     elim (nat_cmp e.0 e.0) as (λ o. nat_cmp e.0 e.0 ≡ o → cond (is_eq o) (Some e.1) (find nat_cmp e.0 es) ≡ Some e.1) [
       | Less ↦ λ o. not_itself e.0 o
@@ -101,7 +102,7 @@ found_head e es =
       | Greater ↦ λ o. let l = ranked e.0 e.0 Greater (sym o) in absurd (omega arith)
     ] refl
 
-found_tail : (e : ℕ × ℕ) (es : Entries) (n s : ℕ) → IsApart (e ∷ es) → find nat_cmp n es ≡ Some s → find nat_cmp n (e ∷ es) ≡ Some s
+pub found_tail : (e : ℕ × ℕ) (es : Entries) (n s : ℕ) → IsApart (e ∷ es) → find nat_cmp n es ≡ Some s → find nat_cmp n (e ∷ es) ≡ Some s
 found_tail e es n s apart is =
     elim (nat_cmp n e.0) as (λ o. nat_cmp n e.0 ≡ o → cond (is_eq o) (Some e.1) (find nat_cmp n es) ≡ Some s) [
       | Less ↦ λ _. is
@@ -111,7 +112,7 @@ found_tail e es n s apart is =
 
 -- ---- entries put in turn
 
-left : (m : FinMap nat_cmp ℕ) (es : Entries) (n : ℕ) → find nat_cmp n es ≡ None → get (with_each m es) n ≡ get m n
+pub left : (m : FinMap nat_cmp ℕ) (es : Entries) (n : ℕ) → find nat_cmp n es ≡ None → get (with_each m es) n ≡ get m n
 left m [] n h = refl
 left m (e ∷ es) n h =
     elim (eq_by_cmp nat_cmp n e.0) as (λ b. get (insert m e.0 e.1) n ≡ cond b (Some e.1) (get m n) → cond b (Some e.1) (find nat_cmp n es) ≡ None → get (with_each (insert m e.0 e.1) es) n ≡ get m n) [
@@ -119,7 +120,7 @@ left m (e ∷ es) n h =
       | false ↦ λ g none. left (insert m e.0 e.1) es n none ∙ g
     ] (get-insert nat_cmp_total m e.0 e.1 n) h
 
-put : (m : FinMap nat_cmp ℕ) (es : Entries) (n s : ℕ) → IsApart es → find nat_cmp n es ≡ Some s → get (with_each m es) n ≡ Some s
+pub put : (m : FinMap nat_cmp ℕ) (es : Entries) (n s : ℕ) → IsApart es → find nat_cmp n es ≡ Some s → get (with_each m es) n ≡ Some s
 put m [] n s apart h = none_some s h
 put m (e ∷ es) n s apart h =
     let more = insert m e.0 e.1 in
@@ -128,6 +129,26 @@ put m (e ∷ es) n s apart h =
       | Equal ↦ λ o g is. left more es n (ap (λ k. find nat_cmp k es) (nat_cmp-IsAntisymmetric n e.0 o) ∙ apart.0) ∙ g ∙ is
       | Greater ↦ λ _ _ is. put more es n s apart.1 is
     ] refl (get-insert nat_cmp_total m e.0 e.1 n) h
+
+-- what stands under a number then
+pub found_put : (es : Entries) → IsApart es → (n : ℕ) → get (with_each empty es) n ≡ find nat_cmp n es
+found_put es apart n = by_find (find nat_cmp n es) refl
+  where
+    by_find : (o : Option ℕ) → find nat_cmp n es ≡ o → get (with_each empty es) n ≡ o
+    by_find None is = left empty es n is ∙ get-empty nat_cmp n
+    by_find (Some s) is = put empty es n s apart is
+
+none_under : (k : ℕ) (es : Entries) → AllByRecursion (λ e. k < e.0) es → find nat_cmp k es ≡ None
+none_under k [] above = refl
+none_under k (e ∷ es) above = found_other e es k (λ same. absurd (omega (arith, same, above.0))) ∙ none_under k es above.1
+
+rise_apart : (es : Entries) → Rise es → IsApart es
+rise_apart [] rise = tt
+rise_apart (e ∷ es) rise = (none_under e.0 es rise.0, rise_apart es rise.1)
+
+-- entries whose numbers rise, put in turn, are a map of these entries
+pub risen_put : (es : Entries) → Rise es → with_each empty es ≡ from_entries es
+risen_put es rise = same_map nat_cmp_total nat_cmp-IsAntisymmetric _ _ (λ n. found_put es (rise_apart es rise) n ∙ sym (get-from_entries nat_cmp_total es n))
 
 -- ---- entries that regions give, where a number gets one share at most
 
@@ -143,7 +164,7 @@ module _ (f : ℕ → Entries) where
   nowhere n none (r ∷ rs) = found_later n (f r) (from_all rs) (none r) ∙ nowhere n none rs
 
   -- who gets a share gets it in some region
-  somewhere : (n s : ℕ) (rs : List ℕ) → find nat_cmp n (from_all rs) ≡ Some s → (r : ℕ) × (list_any (eq_by_cmp nat_cmp r) rs ≡ true) × (find nat_cmp n (f r) ≡ Some s)
+  pub somewhere : (n s : ℕ) (rs : List ℕ) → find nat_cmp n (from_all rs) ≡ Some s → (r : ℕ) × (list_any (eq_by_cmp nat_cmp r) rs ≡ true) × (find nat_cmp n (f r) ≡ Some s)
   somewhere n s [] h = none_some s h
   somewhere n s (r ∷ rs) h =
       elim (find nat_cmp n (f r)) as (λ o. find nat_cmp n (f r) ≡ o → (q : ℕ) × (list_any (eq_by_cmp nat_cmp q) (r ∷ rs) ≡ true) × (find nat_cmp n (f q) ≡ Some s)) [
@@ -306,7 +327,7 @@ module _ (r : ℕ) where
 -- ---- takers
 
 module _ (wants : FinMap nat_cmp ℕ) (units : FinMap nat_cmp Unit) where
-  abbrev Takes : ℕ → ℕ → Type 0
+  abbrev pub Takes : ℕ → ℕ → Type 0
   Takes r n = ((u : Unit) × (get units n ≡ Some u) × (u.region ≡ r)) × IsThere wants n
 
   sorted_units : is_sorted nat_cmp (entries units) ≡ true
@@ -331,10 +352,10 @@ module _ (pot_of : ℕ → ℕ) (wants : FinMap nat_cmp ℕ) (units : FinMap nat
   abbrev given_in : ℕ → Entries
   given_in r = shares_in pot_of wants units r
 
-  given_takes : (r n s : ℕ) → find nat_cmp n (given_in r) ≡ Some s → Takes wants units r n
+  pub given_takes : (r n s : ℕ) → find nat_cmp n (given_in r) ≡ Some s → Takes wants units r n
   given_takes r n s is = zip_found (Takes wants units r) (takers_in wants units r) (shares (pot_of r) (wants_in wants units r)) n s (takers_each wants units r) is
 
-  given_apart : (r : ℕ) → IsApart (given_in r)
+  pub given_apart : (r : ℕ) → IsApart (given_in r)
   given_apart r = zip_apart (takers_in wants units r) (shares (pot_of r) (wants_in wants units r)) (takers_risen wants units r)
 
   gives_one : (n : ℕ) → GivesOne given_in n
@@ -362,17 +383,22 @@ module _ (pot_of : ℕ → ℕ) (wants : FinMap nat_cmp ℕ) (c : State) where
   all_put given [] none so_far = so_far ∙ put_is
   all_put given (e ∷ coming) none so_far = cc
 
-  found_is : (n : ℕ) → share_of pot_of wants c n ≡ find nat_cmp n (flat_map (shares_in pot_of wants c.units) (keys c.regions))
+  pub found_is : (n : ℕ) → share_of pot_of wants c n ≡ find nat_cmp n (flat_map (shares_in pot_of wants c.units) (keys c.regions))
   unfolding pot_shares
   found_is n = get-from_entries nat_cmp_total (flat_map (shares_in pot_of wants c.units) (keys c.regions)) n
 
   among : (r : ℕ) → IsThere c.regions r → list_any (eq_by_cmp nat_cmp r) (keys c.regions) ≡ true
   among r (v, is) = sym (contains_key-keys c.regions r) ∙ ap is_some is
 
-  given_is : (r n s : ℕ) → IsThere c.regions r → find nat_cmp n (shares_in pot_of wants c.units r) ≡ Some s → share_of pot_of wants c n ≡ Some s
+  pub given_is : (r n s : ℕ) → IsThere c.regions r → find nat_cmp n (shares_in pot_of wants c.units r) ≡ Some s → share_of pot_of wants c n ≡ Some s
   given_is r n s region is = found_is n ∙ there (shares_in pot_of wants c.units) n r s (gives_one pot_of wants c.units n) is (keys c.regions) (among r region)
 
 -- ---- the regions where a unit has a want
+
+-- what is so of each entry, as of numbers and values
+pub as_pairs : (P : ℕ → ℕ → Type 0) (es : Entries) → AllByRecursion (λ e. P e.0 e.1) es → EachOf P es
+as_pairs P [] h = tt
+as_pairs P (e ∷ es) h = (h.0, as_pairs P es h.1)
 
 some_more : (m : FinMap nat_cmp ℕ) (k v n : ℕ) → is_some (get m n) ≡ true → is_some (get (insert m k v) n) ≡ true
 some_more m k v n h = ap is_some (get-insert nat_cmp_total m k v n) ∙ elim (is_eq (nat_cmp n k)) as (λ b. is_some (cond b (Some v) (get m n)) ≡ true) [ true ↦ refl | false ↦ h ]
@@ -397,14 +423,10 @@ module _ (wants : FinMap nat_cmp ℕ) (c : State) where
         subst (λ k. AllByRecursion (λ f. (u : Unit) → get c.units f.0 ≡ Some u → is_some (get k u.region) ≡ true) es) (sym both) (asked_each (with_each m (asked_at e)) es),
       )
 
-  asked_pairs : (P : ℕ → ℕ → Type 0) (es : Entries) → AllByRecursion (λ e. P e.0 e.1) es → EachOf P es
-  asked_pairs P [] h = tt
-  asked_pairs P (e ∷ es) h = (h.0, asked_pairs P es h.1)
-
   -- where a unit that has a want stands
   taker_asks : (n : ℕ) (u : Unit) → IsThere wants n → get c.units n ≡ Some u → is_some (get (regions_asked wants c) u.region) ≡ true
   taker_asks n u (want, wanted) is =
-      every-from_each (λ k x. (v : Unit) → get c.units k ≡ Some v → is_some (get (regions_asked wants c) v.region) ≡ true) wants (asked_pairs _ (entries wants) (asked_each empty (entries wants))) n want wanted u is
+      every-from_each (λ k x. (v : Unit) → get c.units k ≡ Some v → is_some (get (regions_asked wants c) v.region) ≡ true) wants (as_pairs _ (entries wants) (asked_each empty (entries wants))) n want wanted u is
 
   -- in other regions nobody takes part
   pub none_asked : (r : ℕ) → is_some (get (regions_asked wants c) r) ≡ false → takers_in wants c.units r ≡ []

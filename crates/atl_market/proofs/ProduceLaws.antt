@@ -36,7 +36,7 @@ use Rattle.atl_market.specs.Produce.{produce_moves, produce_pots, produced, prod
 use Rattle.atl_market.specs.Goods.{CanMake, CanUse, with_made, with_used}
 use Rattle.atl_market.specs.Unordered.{OthersAreNoWorse}
 use Rattle.atl_market.proofs.DrawLaws.{all_pairs}
-use Rattle.atl_market.proofs.GroupLaws.{makes_give}
+use Rattle.atl_market.proofs.MakesLaws.{makes_give}
 use Rattle.atl_market.proofs.OrderedLaws.{others_no_worse}
 use Rattle.atl_market.proofs.GoodsLaws.{made_others, made_well, no_more, used_others, used_unit, used_well}
 use Rattle.atl_market.proofs.TurnLaws.{first_room, later_room, turns_leave_well}

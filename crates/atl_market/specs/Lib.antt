@@ -1,6 +1,8 @@
 pub mod Share
 pub mod Pots
 pub mod Asked
+pub mod ItemPots
+pub mod ItemGroups
 pub mod PotPhase
 pub mod Unordered
 pub mod Tax

@@ -1,50 +1,18 @@
--- For proofs alone: how wants and shares are kept by item, and when a unit can make something.
-use Rattle.std.specs.Prelude.{◌≡◌, ◌≤◌, ◌<◌, ◌+◌, ◌*◌, ℕ, List, length, Option, Some, None, unwrap_or}
-use Rattle.std.specs.List.{fold, slice_get}
+-- For proofs alone: when a unit can make something.
+use Rattle.std.specs.Prelude.{◌≡◌, ◌≤◌, ◌<◌, ◌+◌, ◌*◌, ℕ, length, Some}
+use Rattle.std.specs.List.{slice_get}
 use Rattle.std.specs.Ordering.{nat_cmp}
-use Rattle.std.specs.FinMap.{FinMap, get, insert}
+use Rattle.std.specs.FinMap.{FinMap, get}
 use Rattle.atl_tables.specs.Planet.{Planet}
 use Rattle.atl_tables.specs.declared.world.Item.{Item}
-use Rattle.atl_tables.specs.Groups.{group_of}
 use Rattle.atl_state.specs.declared.records.Unit.{Unit}
 use Rattle.atl_state.specs.Good.{IsSteady}
 use Rattle.atl_state.specs.Held.{amount_of}
 use Rattle.atl_state.specs.Limits.{holding_limit}
 use Rattle.atl_state.specs.State.{State}
 use Rattle.atl_instant.specs.Meaning.{HaveRoom}
-use Rattle.atl_market.specs.Pots.{pot_shares}
 use Rattle.atl_market.specs.Produce.{produce_moves, with_raw_used}
 use Rattle.atl_market.specs.Goods.{CanMake, CanUse}
-use Rattle.atl_market.specs.Outputs.{gathered, output_at}
-
-abbrev pub Groups : Type 0
-Groups = FinMap nat_cmp (FinMap nat_cmp ℕ)
-
-abbrev pub want_put : Groups → ℕ × ℕ → Option ℕ → Groups
-want_put groups e None = groups
-want_put groups e (Some i) = insert groups i (insert (group_of groups i) e.0 e.1)
-
--- a want beside those of its item
-abbrev pub with_want : Planet → FinMap nat_cmp ℕ → Groups → ℕ × ℕ → Groups
-with_want w asked groups e = want_put groups e (gathered w asked e.0)
-
--- the wants of the units by item
-abbrev pub grouped : Planet → FinMap nat_cmp ℕ → Groups → List (ℕ × ℕ) → Groups
-grouped w asked groups es = fold (with_want w asked) groups es
-
--- the shares of the units by item
-abbrev pub with_shares : Planet → State → Groups → ℕ × FinMap nat_cmp ℕ → Groups
-with_shares w c shares e = insert shares e.0 (pot_shares (output_at w e.0) e.1 c)
-
-abbrev pub amount_of_group : Groups → ℕ × ℕ → Option ℕ → ℕ
-amount_of_group shares e None = e.1
-amount_of_group shares e (Some i) = unwrap_or (get (group_of shares i) e.0) 0
-
--- how much a unit makes by them
-abbrev pub made_from : Planet → FinMap nat_cmp ℕ → Groups → ℕ × ℕ → ℕ
-made_from w asked shares e = amount_of_group shares e (gathered w asked e.0)
-
--- ---- what a unit can make
 
 -- it can use the raw items of so many, and make them then
 pub record CanMakeOf (w : Planet) (c : State) (n made i : ℕ) (x : Item) : Type 0 where

@@ -2,9 +2,10 @@
 #![tactic(auto)]
 
 mod build;
-mod gathering;
 mod goods;
+mod item_pots;
 mod making;
+mod outputs;
 mod pot_phase;
 pub mod pots;
 pub mod produce;

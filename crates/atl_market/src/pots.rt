@@ -3,6 +3,7 @@ ghost use Rattle.std.specs.Prelude.{◌≡◌, ◌≤◌, All, IfOk, OnOk, lengt
 ghost use Rattle.std.specs.List.{zip};
 ghost use Rattle.atl_tables.specs.Limits.{most_amount};
 ghost use Rattle.atl_market.specs.Asked.{regions_asked};
+ghost use Rattle.atl_market.specs.Share.{shares};
 ghost use Rattle.atl_market.specs.Pots.{AreWants, EachTakerGets, GivesEachPot, OnlyTakersGet, OtherRegionsDoNotCount, SharesEachPot, pot_shares, shares_in, takers_among, want_of, with_each};
 
 use crate::shares::share;
@@ -77,8 +78,25 @@ fn put_shares(takers: &[u32], shares: &[u64], given: &mut Numbered<u32>) -> Resu
     Ok(())
 }
 
+/// Puts the shares of one pot, of at most 999,999,999, among these units in their order, each by what it wants.
+pub(crate) fn share_pot(
+    alloc: Global,
+    pot: u64,
+    takers: &[u32],
+    wants: &Numbered<u32>,
+    given: &mut Numbered<u32>,
+) -> Result<(), AllocError>
+    requires pot { pot ≤ most_amount }
+    requires wants { AreWants wants.now }
+    ensures { OnOk result (given.new ≡ with_each given.old (zip takers.now (shares pot (map (want_of wants.now) takers.now)))) }
+{
+    let wanted = wants_of(alloc, takers, wants)?;
+    let shares = share(alloc, pot, &wanted)?;
+    put_shares(takers, &shares, given)
+}
+
 /// The regions where a unit has a want.
-fn regions_asked(
+pub(crate) fn regions_asked(
     alloc: Global,
     campaign: &Campaign,
     wants: &Numbered<u32>,
@@ -116,9 +134,7 @@ fn share_region<P: Pots>(
     if takers.is_empty() {
         return Ok(());
     }
-    let wanted = wants_of(alloc, &takers, wants)?;
-    let shares = share(alloc, pots.pot(region), &wanted)?;
-    put_shares(&takers, &shares, given)
+    share_pot(alloc, pots.pot(region), &takers, wants, given)
 }
 
 /// What units get of the pots of their regions, by unit, all at once. Those of a region's units that have a want share its

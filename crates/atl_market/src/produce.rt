@@ -8,8 +8,8 @@ ghost use Rattle.atl_market.specs.Making.{CanProduce};
 ghost use Rattle.atl_market.specs.Pots.{with_each};
 ghost use Rattle.atl_market.specs.Produce.{asked_by, is_produce, item_in, items_asked, produce_keeps, produce_meaning, produce_moves, produce_pots, produced};
 
-use crate::gathering::{made_by_unit, shares_by_item, wants_by_item};
 use crate::making::{can_make, make, make_fault};
+use crate::outputs::makes;
 use crate::pot_phase::{PotPhase, share_out, tell_all};
 use atl_instant::{Arrangement, Month, Phase, PhaseVerbs, Written, is_of_faction};
 use atl_orders::{Order, Verb};
@@ -101,9 +101,7 @@ impl<'a> PotPhase for MailedProducing<'a> {
         campaign: &Campaign,
         wants: &Numbered<u32>,
     ) -> Result<Numbered<u32>, AllocError> {
-        let groups = wants_by_item(alloc, world, self.asked, wants)?;
-        let shares = shares_by_item(alloc, world, campaign, &groups)?;
-        made_by_unit(alloc, world, self.asked, &shares, wants)
+        makes(alloc, world, campaign, self.asked, wants)
     }
 
     fn told(&self, _world: &World, _unit: &Unit, share: u32) -> u64 {

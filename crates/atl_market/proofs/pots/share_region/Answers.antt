@@ -1,12 +1,10 @@
 use Rattle.std.proofs.Common.{◌≡◌, false, is_some, List, [], ◌∷◌, map, length, refl, sym, ◌∙◌, ap, rules, arith}
-use Rattle.std.proofs.lemmas.List.{length-map}
 use Rattle.std.specs.List.{zip}
 use Rattle.std.specs.FinMap.{get}
 use Rattle.atl_market.proofs.PotLaws.{none_asked}
 use Rattle.atl_market.specs.Asked.{regions_asked}
 use Rattle.atl_market.specs.Pots.{takers_in, want_of, with_each}
 use Rattle.atl_market.specs.Share.{shares}
-use Rattle.atl_market.proofs.ShareLaws.{length-shares}
 use Rattle.atl_market.proofs.pots.share_region.Goals as goal
 
 empty_list : {X : Type 0} (xs : List X) → length xs ≡ 0 → xs ≡ []
@@ -18,14 +16,6 @@ returns-then-is_empty g c =
     let empty : c.in_ok-takers.takers.items ≡ [] = empty_list c.in_ok-takers.takers.items (search rules) in
     let none : takers_in c.args.wants.now c.args.campaign.now.what.units c.args.region ≡ [] = sym (search rules) ∙ empty in
     ap (λ takers. with_each c.args.given.now (zip takers (shares (g.P.Pots.pot_of c.args.pots.now c.args.region) (map (want_of c.args.wants.now) takers)))) (sym none)
-
-pub put_shares-requires-clause-length : goal.put_shares-requires-clause-length
-put_shares-requires-clause-length g c =
-    ap length c.deref-4.ensures.value ∙ ap length c.in_ok-shares.ensures.definition
-    ∙ length-shares c.pot.result c.deref-2.result.now
-    ∙ ap length (c.deref-2.ensures.value ∙ c.in_ok-wanted.ensures.value)
-    ∙ length-map c.deref.result.now (want_of c.args.wants.now)
-    ∙ ap length (c.deref.ensures.value ∙ sym c.deref-3.ensures.value)
 
 pub returns-then-is_none : goal.returns-then-is_none
 returns-then-is_none g c =

@@ -1,0 +1,319 @@
+-- Pots of items: the shares that are put region by region and item by item are those of the definition.
+use Rattle.std.proofs.Common.{◌≡◌, ℕ, ◌≤◌, ◌==◌, ◌||◌, ◌&&◌, Bool, true, false, cond, List, [], ◌∷◌, ◌++◌, map, filter, Option, Some, None, is_some, T, refl, sym, ap, subst, ◌∙◌, inl, inr}
+use Rattle.std.specs.Prelude.{fold, unwrap_or}
+use Rattle.std.specs.List.{AllByRecursion, flat_map, list_any, zip}
+use Rattle.std.specs.Ordering.{nat_cmp, eq_by_cmp, is_eq, is_lt}
+use Rattle.std.specs.Cmp.{nat_cmp_total}
+use Rattle.std.specs.declared.cmp.Ordering.TheVariants.{Less, Equal, Greater}
+use Rattle.std.specs.FinMap.Entries.{below_all}
+use Rattle.std.specs.FinMap.{FinMap, contains_key-keys, empty, entries, entries-from_sorted, find, from_sorted, get, get-empty, get-from_sorted, get-retain_keys, insert, is_sorted, keys, nat_cmp-IsAntisymmetric, same_map}
+use Rattle.std.proofs.lemmas.Bool.{cases_eq, eqb-true, false≢true}
+use Rattle.atl_tables.specs.Groups.{group_of}
+use Rattle.atl_state.specs.Deciding.{EachOf}
+use Rattle.atl_state.specs.Good.{IsThere}
+use Rattle.atl_state.specs.State.{State, numbers_in}
+use Rattle.atl_state.specs.declared.records.Region.{Region}
+use Rattle.atl_state.proofs.BackLaws.{append_each}
+use Rattle.atl_state.proofs.EveryLaws.{each-from_every, found_of, get-insert_other, none_some}
+use Rattle.atl_state.proofs.ListLaws.{other_number, same_number}
+use Rattle.atl_state.proofs.OrderLaws.{each_so}
+use Rattle.atl_state.proofs.RegionLaws.{get-insert_same}
+use Rattle.atl_instant.proofs.MappedLaws.{no_entries}
+use Rattle.atl_market.specs.ItemGroups.{Groups, item_shares_in, region_shares, want_put, with_want}
+use Rattle.atl_market.specs.ItemPots.{is_for, item_share, share_for, wants_for}
+use Rattle.atl_market.specs.Pots.{shares_in, takers_in, want_of, with_each}
+use Rattle.atl_market.specs.Share.{shares}
+use Rattle.atl_market.proofs.PotLaws.{Entries, IsApart, IsRisen, as_pairs, found_first, found_head, found_is, found_later, found_other, found_put, found_tail, given_apart, given_is, given_takes, left, pots_give, somewhere, takers_risen}
+
+-- ---- entries that tell what a function tells, put in turn
+
+module _ (g : ℕ → Option ℕ) where
+  abbrev Tells : Entries → Type 0
+  Tells es = AllByRecursion (λ e. g e.0 ≡ Some e.1) es
+
+  put_here : (m : FinMap nat_cmp ℕ) (e : ℕ × ℕ) (n s : ℕ) → n ≡ e.0 → g e.0 ≡ Some e.1 → g n ≡ Some s → get (insert m e.0 e.1) n ≡ Some s
+  put_here m e n s same tells is = ap (get (insert m e.0 e.1)) same ∙ get-insert_same m e.0 e.1 ∙ sym tells ∙ ap g (sym same) ∙ is
+
+  told_stays : (m : FinMap nat_cmp ℕ) (es : Entries) (n s : ℕ) → Tells es → g n ≡ Some s → get m n ≡ Some s → get (with_each m es) n ≡ Some s
+  told_stays m [] n s tells is at = at
+  told_stays m (e ∷ es) n s tells is at =
+      told_stays (insert m e.0 e.1) es n s tells.1 is (elim (cases_eq n e.0) [
+        | inl same ↦ put_here m e n s same tells.0 is
+        | inr apart ↦ get-insert_other m e.0 n e.1 apart ∙ at
+      ])
+
+  told_comes : (m : FinMap nat_cmp ℕ) (es : Entries) (n s : ℕ) → Tells es → g n ≡ Some s → is_some (find nat_cmp n es) ≡ true → get (with_each m es) n ≡ Some s
+  told_comes m [] n s tells is some = absurd (false≢true some)
+  told_comes m (e ∷ es) n s tells is some = elim (cases_eq n e.0) [
+    | inl same ↦ told_stays (insert m e.0 e.1) es n s tells.1 is (put_here m e n s same tells.0 is)
+    | inr apart ↦ told_comes (insert m e.0 e.1) es n s tells.1 is (ap is_some (sym (found_other e es n apart)) ∙ some)
+  ]
+
+  -- once all that it tells is among them
+  pub all_told : (es : Entries) → Tells es → ((n s : ℕ) → g n ≡ Some s → is_some (find nat_cmp n es) ≡ true) → (n : ℕ) → get (with_each empty es) n ≡ g n
+  all_told es tells whole n = by_find (find nat_cmp n es) refl
+    where
+      nothing : find nat_cmp n es ≡ None → (o : Option ℕ) → g n ≡ o → o ≡ None
+      nothing none None is = refl
+      nothing none (Some s) is = absurd (false≢true (ap is_some (sym none) ∙ whole n s is))
+
+      by_find : (o : Option ℕ) → find nat_cmp n es ≡ o → get (with_each empty es) n ≡ g n
+      by_find None is = left empty es n is ∙ get-empty nat_cmp n ∙ sym (nothing is (g n) refl)
+      by_find (Some s) is =
+          let at : g n ≡ Some s = found_of (λ k t. g k ≡ Some t) es n s (as_pairs (λ k t. g k ≡ Some t) es tells) is in
+          told_comes empty es n s tells at (ap is_some is) ∙ sym at
+
+-- what is found among the entries of some list is found among all
+found_among : {A : Type 0} (f : A → Entries) (n : ℕ) (e : A → A → Bool) → ((x y : A) → e x y ≡ true → x ≡ y) → (xs : List A) (x : A)
+    → list_any (e x) xs ≡ true → is_some (find nat_cmp n (f x)) ≡ true → is_some (find nat_cmp n (flat_map f xs)) ≡ true
+found_among f n e exact [] x among some = absurd (false≢true among)
+found_among f n e exact (y ∷ xs) x among some = by_first (λ h. found_among f n e exact xs x h some) (find nat_cmp n (f y)) refl (e x y) refl among
+  where
+    by_first : (list_any (e x) xs ≡ true → is_some (find nat_cmp n (flat_map f xs)) ≡ true)
+        → (o : Option ℕ) → find nat_cmp n (f y) ≡ o → (b : Bool) → e x y ≡ b → (b || list_any (e x) xs) ≡ true → is_some (find nat_cmp n (flat_map f (y ∷ xs))) ≡ true
+    by_first rest (Some s) is b at h = ap is_some (found_first n (f y) (flat_map f xs) s is)
+    by_first rest None is true at h = absurd (false≢true (sym (ap is_some is) ∙ ap (λ z. is_some (find nat_cmp n (f z))) (sym (exact x y at)) ∙ some))
+    by_first rest None is false at h = ap is_some (found_later n (f y) (flat_map f xs) is) ∙ rest h
+
+each_flat : {A : Type 0} (P : ℕ × ℕ → Type 0) (f : A → Entries) (xs : List A) → AllByRecursion (λ x. AllByRecursion P (f x)) xs → AllByRecursion P (flat_map f xs)
+each_flat P f [] h = tt
+each_flat P f (x ∷ xs) h = append_each P (f x) (flat_map f xs) h.0 (each_flat P f xs h.1)
+
+tied : (a b : ℕ) → eq_by_cmp nat_cmp a b ≡ true → a ≡ b
+tied a b h = by_order (nat_cmp a b) refl h
+  where
+    by_order : (o : _) → nat_cmp a b ≡ o → is_eq o ≡ true → a ≡ b
+    by_order Less is h = absurd (false≢true h)
+    by_order Equal is h = nat_cmp-IsAntisymmetric a b is
+    by_order Greater is h = absurd (false≢true h)
+
+-- ---- entries whose numbers rise, put in turn
+
+none_above : (k : ℕ) (es : Entries) → AllByRecursion (λ n. nat_cmp k n ≡ Less) (map (λ e. e.0) es) → find nat_cmp k es ≡ None
+none_above k [] h = refl
+none_above k (e ∷ es) h = ap (λ o. cond (is_eq o) (Some e.1) (find nat_cmp k es)) h.0 ∙ none_above k es h.1
+
+risen_apart : (es : Entries) → IsRisen (map (λ e. e.0) es) → IsApart es
+risen_apart [] up = tt
+risen_apart (e ∷ es) up = (none_above e.0 es up.0, risen_apart es up.1)
+
+all_below : (k : ℕ) (es : Entries) → AllByRecursion (λ n. nat_cmp k n ≡ Less) (map (λ e. e.0) es) → below_all nat_cmp k es ≡ true
+all_below k [] h = refl
+all_below k (e ∷ es) h = ap (λ o. is_lt o && below_all nat_cmp k es) h.0 ∙ all_below k es h.1
+
+risen_sorted : (es : Entries) → IsRisen (map (λ e. e.0) es) → is_sorted nat_cmp es ≡ true
+risen_sorted [] up = refl
+risen_sorted (e ∷ es) up = ap (λ b. b && is_sorted nat_cmp es) (all_below e.0 es up.0) ∙ risen_sorted es up.1
+
+-- which entries there are then
+entries_put : (es : Entries) → IsRisen (map (λ e. e.0) es) → entries (with_each empty es) ≡ es
+entries_put es up =
+    let sorted : T (is_sorted nat_cmp es) = subst T (sym (risen_sorted es up)) tt in
+    let same : with_each empty es ≡ from_sorted es = same_map nat_cmp_total nat_cmp-IsAntisymmetric _ _ (λ n. found_put es (risen_apart es up) n ∙ sym (get-from_sorted nat_cmp es n sorted)) in
+    ap (λ (m : FinMap nat_cmp ℕ). entries m) same ∙ entries-from_sorted nat_cmp es sorted
+
+-- ---- the wants of some units by item
+
+abbrev told : ℕ → Option ℕ → Entries
+told n None = []
+told n (Some want) = (n, want) ∷ []
+
+no_group : (i : ℕ) → group_of {V = ℕ} empty i ≡ empty
+no_group i = ap (λ o. unwrap_or o empty) (get-empty nat_cmp i)
+
+module _ (item_of : ℕ → Option ℕ) (wants : FinMap nat_cmp ℕ) where
+  abbrev mine : ℕ → FinMap nat_cmp ℕ
+  mine i = wants_for item_of wants i
+
+  mine_at : (i n : ℕ) → get (mine i) n ≡ cond (is_for i (item_of n)) (get wants n) None
+  mine_at i n = get-retain_keys wants (λ k. is_for i (item_of k)) n (λ k tie. ap (λ j. is_for i (item_of j)) (sym (nat_cmp-IsAntisymmetric n k tie)))
+
+  -- who has a want for an item asks for it, and wants as much
+  asks : (i n want : ℕ) → get (mine i) n ≡ Some want → item_of n ≡ Some i
+  asks i n want is = by_item (item_of n) refl (sym (mine_at i n) ∙ is)
+    where
+      by_item : (o : Option ℕ) → item_of n ≡ o → cond (is_for i o) (get wants n) None ≡ Some want → item_of n ≡ Some i
+      by_item None at h = none_some want h
+      by_item (Some j) at h = by_test (j == i) refl h
+        where
+          by_test : (b : Bool) → (j == i) ≡ b → cond b (get wants n) None ≡ Some want → item_of n ≡ Some i
+          by_test true same h = at ∙ ap Some (eqb-true j i same)
+          by_test false same h = none_some want h
+
+  is_wanted : (i n want : ℕ) → get (mine i) n ≡ Some want → get wants n ≡ Some want
+  is_wanted i n want is = by_test (is_for i (item_of n)) (sym (mine_at i n) ∙ is)
+    where
+      by_test : (b : Bool) → cond b (get wants n) None ≡ Some want → get wants n ≡ Some want
+      by_test true h = h
+      by_test false h = none_some want h
+
+  wants_the_same : (i n : ℕ) → is_some (get (mine i) n) ≡ true → want_of wants n ≡ want_of (mine i) n
+  wants_the_same i n some = by_test (is_for i (item_of n)) refl
+    where
+      by_test : (b : Bool) → is_for i (item_of n) ≡ b → want_of wants n ≡ want_of (mine i) n
+      by_test true is = sym (ap (λ o. unwrap_or o 0) (mine_at i n ∙ ap (λ b. cond b (get wants n) None) is))
+      by_test false is = absurd (false≢true (sym (ap is_some (mine_at i n ∙ ap (λ b. cond b (get wants n) None) is)) ∙ some))
+
+  abbrev pairs : ℕ → List ℕ → Entries
+  pairs i ns = flat_map (λ n. told n (get (mine i) n)) ns
+
+  one_put : (groups : Groups) (n : ℕ) (rest : Entries) (i : ℕ) → with_each (group_of (with_want item_of wants groups n) i) rest ≡ with_each (group_of groups i) (told n (get (mine i) n) ++ rest)
+  one_put groups n rest i = by_item (item_of n) (get wants n) ∙ sym (ap (λ o. with_each (group_of groups i) (told n o ++ rest)) (mine_at i n))
+    where
+      by_item : (o v : Option ℕ) → with_each (group_of (want_put groups n o v) i) rest ≡ with_each (group_of groups i) (told n (cond (is_for i o) v None) ++ rest)
+      by_item None v = refl
+      by_item (Some j) None = elim (j == i) as (λ b. with_each (group_of groups i) rest ≡ with_each (group_of groups i) (told n (cond b None None) ++ rest)) [ true ↦ refl | false ↦ refl ]
+      by_item (Some j) (Some v) =
+          let group = insert (group_of groups j) n v in
+          elim (cases_eq j i) [
+            | inl same ↦
+                let here : group_of (insert groups j group) i ≡ insert (group_of groups i) n v =
+                ap (group_of (insert groups j group)) (sym same) ∙ ap (λ o. unwrap_or o empty) (get-insert_same groups j group) ∙ ap (λ k. insert (group_of groups k) n v) same in
+                ap (λ m. with_each m rest) here ∙ sym (ap (λ b. with_each (group_of groups i) (told n (cond b (Some v) None) ++ rest)) (ap (λ k. j == k) (sym same) ∙ same_number j))
+            | inr apart ↦
+                ap (λ m. with_each m rest) (ap (λ o. unwrap_or o empty) (get-insert_other groups j i group (λ is. apart (sym is))))
+                ∙ sym (ap (λ b. with_each (group_of groups i) (told n (cond b (Some v) None) ++ rest)) (other_number j i apart))
+          ]
+
+  group_is : (groups : Groups) (ns : List ℕ) (i : ℕ) → group_of (fold (with_want item_of wants) groups ns) i ≡ with_each (group_of groups i) (pairs i ns)
+  group_is groups [] i = refl
+  group_is groups (n ∷ ns) i = group_is (with_want item_of wants groups n) ns i ∙ one_put groups n (pairs i ns) i
+
+  pair_keys : (i : ℕ) (ns : List ℕ) → map (λ e. e.0) (pairs i ns) ≡ filter (λ n. is_some (get (mine i) n)) ns
+  pair_keys i [] = refl
+  pair_keys i (n ∷ ns) = elim (get (mine i) n) as (λ o. map (λ e. e.0) (told n o ++ pairs i ns) ≡ cond (is_some o) (n ∷ filter (λ k. is_some (get (mine i) k)) ns) (filter (λ k. is_some (get (mine i) k)) ns)) [
+    | None ↦ pair_keys i ns
+    | Some want ↦ ap (λ ks. n ∷ ks) (pair_keys i ns)
+  ]
+
+filtered_map : (p : ℕ → Bool) (f g : ℕ → ℕ) → ((n : ℕ) → p n ≡ true → f n ≡ g n) → (ns : List ℕ) → map f (filter p ns) ≡ map g (filter p ns)
+filtered_map p f g same [] = refl
+filtered_map p f g same (n ∷ ns) = by_test (p n) refl (filtered_map p f g same ns)
+  where
+    by_test : (b : Bool) → p n ≡ b → map f (filter p ns) ≡ map g (filter p ns) → map f (cond b (n ∷ filter p ns) (filter p ns)) ≡ map g (cond b (n ∷ filter p ns) (filter p ns))
+    by_test true is rest = λ i. same n is i ∷ rest i
+    by_test false is rest = rest
+
+found_all : (es : Entries) → IsApart es → AllByRecursion (λ e. find nat_cmp e.0 es ≡ Some e.1) es
+found_all [] apart = tt
+found_all (e ∷ es) apart = (found_head e es, each_so (λ f. find nat_cmp f.0 es ≡ Some f.1) (λ f. find nat_cmp f.0 (e ∷ es) ≡ Some f.1) (λ f is. found_tail e es f.0 f.1 apart is) es (found_all es apart.1))
+
+so_each : {A : Type 0} (P : A → Type 0) → ((x : A) → P x) → (xs : List A) → AllByRecursion P xs
+so_each P h [] = tt
+so_each P h (x ∷ xs) = (h x, so_each P h xs)
+
+-- ---- the shares of one region, and of all
+
+module _ (item_of : ℕ → Option ℕ) (pot_of : (item region : ℕ) → ℕ) (wants : FinMap nat_cmp ℕ) (c : State) where
+  abbrev gets : ℕ → Option ℕ
+  gets n = item_share item_of pot_of wants c n
+
+  module _ (r : ℕ) where
+    abbrev groups : Groups
+    groups = fold (with_want item_of wants) empty (numbers_in r c.units)
+
+    -- the shares of an item
+    abbrev of_item : ℕ → Entries
+    of_item i = shares_in (pot_of i) (mine item_of wants i) c.units r
+
+    takers_are : (i : ℕ) → keys (group_of groups i) ≡ takers_in (mine item_of wants i) c.units r
+    takers_are i =
+        let ns = numbers_in r c.units in
+        let of_pairs = pair_keys item_of wants i ns in
+        ap keys (group_is item_of wants empty ns i ∙ ap (λ m. with_each m (pairs item_of wants i ns)) (no_group i))
+        ∙ ap (map (λ e. e.0)) (entries_put (pairs item_of wants i ns) (subst IsRisen (sym of_pairs) (takers_risen (mine item_of wants i) c.units r))) ∙ of_pairs
+
+    item_is : (i : ℕ) → item_shares_in pot_of wants r (i, group_of groups i) ≡ of_item i
+    item_is i =
+        let takers = takers_in (mine item_of wants i) c.units r in
+        ap (λ ks. zip ks (shares (pot_of i r) (map (want_of wants) ks))) (takers_are i)
+        ∙ ap (λ ws. zip takers (shares (pot_of i r) ws)) (filtered_map (λ n. is_some (get (mine item_of wants i) n)) (want_of wants) (want_of (mine item_of wants i)) (wants_the_same item_of wants i) (numbers_in r c.units))
+
+    items_are : (es : List (ℕ × FinMap nat_cmp ℕ)) → EachOf (λ i group. get groups i ≡ Some group) es → flat_map (item_shares_in pot_of wants r) es ≡ flat_map of_item (map (λ e. e.0) es)
+    items_are [] h = refl
+    items_are (e ∷ es) h =
+        let group : group_of groups e.0 ≡ e.1 = ap (λ o. unwrap_or o empty) h.0 in
+        let one : item_shares_in pot_of wants r e ≡ of_item e.0 = ap (λ g. item_shares_in pot_of wants r (e.0, g)) (sym group) ∙ item_is e.0 in
+        ap (λ (fs : Entries). fs ++ flat_map (item_shares_in pot_of wants r) es) one ∙ ap (λ (fs : Entries). of_item e.0 ++ fs) (items_are es h.1)
+
+    region_is : region_shares item_of pot_of wants c r ≡ flat_map of_item (keys groups)
+    region_is = items_are (entries groups) (each-from_every (λ i group. get groups i ≡ Some group) groups (λ i group is. is))
+
+    -- all of them are told
+    region_tells : IsThere c.regions r → Tells gets (region_shares item_of pot_of wants c r)
+    region_tells there = subst (Tells gets) (sym region_is) (each_flat (λ e. gets e.0 ≡ Some e.1) of_item (keys groups) (so_each _ one (keys groups)))
+      where
+        one : (i : ℕ) → Tells gets (of_item i)
+        one i =
+            each_so (λ e. find nat_cmp e.0 (of_item i) ≡ Some e.1) (λ e. gets e.0 ≡ Some e.1)
+            (λ e is.
+            let (at, (want, wanted)) = given_takes (pot_of i) (mine item_of wants i) c.units r e.0 e.1 is in
+            ap (share_for item_of pot_of wants c e.0) (asks item_of wants i e.0 want wanted) ∙ given_is (pot_of i) (mine item_of wants i) c r e.0 e.1 there is) (of_item i) (found_all (of_item i) (given_apart (pot_of i) (mine item_of wants i) c.units r))
+
+    -- and none is missing
+    region_whole : (i n s : ℕ) → find nat_cmp n (of_item i) ≡ Some s → is_some (find nat_cmp n (region_shares item_of pot_of wants c r)) ≡ true
+    region_whole i n s is =
+        subst (λ (es : Entries). is_some (find nat_cmp n es) ≡ true) (sym region_is)
+        (found_among of_item n (eq_by_cmp nat_cmp) tied (keys groups) i (sym (contains_key-keys groups i) ∙ by_group (get groups i) refl) (ap is_some is))
+      where
+        by_group : (o : Option (FinMap nat_cmp ℕ)) → get groups i ≡ o → is_some o ≡ true
+        by_group (Some group) at = refl
+        by_group None at =
+            let nobody : takers_in (mine item_of wants i) c.units r ≡ [] = sym (takers_are i) ∙ ap (λ o. keys (unwrap_or o empty)) at ∙ ap (map (λ (e : ℕ × ℕ). e.0)) (no_entries nat_cmp) in
+            none_some s (sym (ap (λ ks. find nat_cmp n (zip ks (shares (pot_of i r) (map (want_of (mine item_of wants i)) ks)))) nobody) ∙ is)
+
+  -- who gets something wants that much at least
+  pub items_give : (n s : ℕ) → gets n ≡ Some s → (want : ℕ) × (get wants n ≡ Some want) × (s ≤ want)
+  items_give n s is = by_item (item_of n) is
+    where
+      by_item : (o : Option ℕ) → share_for item_of pot_of wants c n o ≡ Some s → (want : ℕ) × (get wants n ≡ Some want) × (s ≤ want)
+      by_item None is = none_some s is
+      by_item (Some i) is =
+          let (want, wanted, low) = pots_give (pot_of i) c (mine item_of wants i) n s is in
+          (want, is_wanted item_of wants i n want wanted, low)
+
+  abbrev all_shares : Entries
+  all_shares = flat_map (region_shares item_of pot_of wants c) (keys c.regions)
+
+  all_tell : Tells gets all_shares
+  all_tell = each_flat (λ e. gets e.0 ≡ Some e.1) (region_shares item_of pot_of wants c) (keys c.regions) (by_region (entries c.regions) (each-from_every (λ r q. get c.regions r ≡ Some q) c.regions (λ r q is. is)))
+    where
+      by_region : (es : List (ℕ × Region)) → EachOf (λ r q. get c.regions r ≡ Some q) es → AllByRecursion (λ r. Tells gets (region_shares item_of pot_of wants c r)) (map (λ e. e.0) es)
+      by_region [] h = tt
+      by_region (e ∷ es) h = (region_tells e.0 (e.1, h.0), by_region es h.1)
+
+  none_missing : (n s : ℕ) → gets n ≡ Some s → is_some (find nat_cmp n all_shares) ≡ true
+  none_missing n s is = by_item (item_of n) is
+    where
+      by_item : (o : Option ℕ) → share_for item_of pot_of wants c n o ≡ Some s → is_some (find nat_cmp n all_shares) ≡ true
+      by_item None is = none_some s is
+      by_item (Some i) is =
+          let (r, among, found) = somewhere (of_item_in i) n s (keys c.regions) (sym (found_is (pot_of i) (mine item_of wants i) c n) ∙ is) in
+          found_among (region_shares item_of pot_of wants c) n (eq_by_cmp nat_cmp) tied (keys c.regions) r among (region_whole r i n s found)
+        where
+          of_item_in : ℕ → ℕ → Entries
+          of_item_in i r = shares_in (pot_of i) (mine item_of wants i) c.units r
+
+  -- once no region is left to come
+  pub all_items_put : (given : FinMap nat_cmp ℕ) (coming : List (ℕ × Region)) → coming ≡ []
+      → with_each given (flat_map (region_shares item_of pot_of wants c) (map (λ e. e.0) coming)) ≡ with_each empty all_shares
+      → (n : ℕ) → get given n ≡ item_share item_of pot_of wants c n
+  all_items_put given [] none so_far n = ap (λ (m : FinMap nat_cmp ℕ). get m n) so_far ∙ all_told gets all_shares all_tell none_missing n
+  all_items_put given (e ∷ coming) none so_far n = cc
+
+  -- where nobody asks nothing is put
+  pub nothing_put : (r : ℕ) → takers_in wants c.units r ≡ [] → region_shares item_of pot_of wants c r ≡ []
+  nothing_put r nobody = ap (λ (gs : Groups). flat_map (item_shares_in pot_of wants r) (entries gs)) (unwanted empty (numbers_in r c.units) nobody) ∙ ap (flat_map (item_shares_in pot_of wants r)) (no_entries nat_cmp)
+    where
+      skipped : (groups : Groups) (n : ℕ) (i v : Option ℕ) → is_some v ≡ false → want_put groups n i v ≡ groups
+      skipped groups n None v h = refl
+      skipped groups n (Some i) None h = refl
+      skipped groups n (Some i) (Some v) h = absurd (false≢true (sym h))
+
+      unwanted : (groups : Groups) (ns : List ℕ) → filter (λ n. is_some (get wants n)) ns ≡ [] → fold (with_want item_of wants) groups ns ≡ groups
+      unwanted groups [] h = refl
+      unwanted groups (n ∷ ns) h = by_test (unwanted groups ns) (is_some (get wants n)) refl h
+        where
+          by_test : (filter (λ k. is_some (get wants k)) ns ≡ [] → fold (with_want item_of wants) groups ns ≡ groups) → (b : Bool) → is_some (get wants n) ≡ b → cond b (n ∷ filter (λ k. is_some (get wants k)) ns) (filter (λ k. is_some (get wants k)) ns) ≡ [] → fold (with_want item_of wants) groups (n ∷ ns) ≡ groups
+          by_test rest true is h = cc
+          by_test rest false is h = ap (λ (gs : Groups). fold (with_want item_of wants) gs ns) (skipped groups n (item_of n) (get wants n) is) ∙ rest h

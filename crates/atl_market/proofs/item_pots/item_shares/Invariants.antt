@@ -1,0 +1,11 @@
+use Rattle.std.proofs.Common.{◌≡◌, map}
+use Rattle.std.specs.List.{flat_map}
+use Rattle.std.specs.FinMap.{empty, keys}
+use Rattle.atl_market.specs.ItemGroups.{region_shares}
+use Rattle.atl_market.specs.Pots.{with_each}
+use Rattle.atl_market.proofs.item_pots.item_shares.Given as goal
+
+abbrev pub invariant-loop-region : goal.invariant-loop-region
+invariant-loop-region g l =
+    with_each l.given (flat_map (region_shares (g.P.ItemPots.item_of l.pots) (g.P.ItemPots.pot_of l.pots) l.wants l.campaign.what) (map (λ e. e.0) l.region-iterator))
+    ≡ with_each empty (flat_map (region_shares (g.P.ItemPots.item_of l.pots) (g.P.ItemPots.pot_of l.pots) l.wants l.campaign.what) (keys l.campaign.what.regions))

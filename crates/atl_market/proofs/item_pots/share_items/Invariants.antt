@@ -1,0 +1,11 @@
+use Rattle.std.proofs.Common.{◌≡◌}
+use Rattle.std.specs.List.{flat_map}
+use Rattle.std.specs.FinMap.{entries}
+use Rattle.atl_market.specs.ItemGroups.{item_shares_in}
+use Rattle.atl_market.specs.Pots.{with_each}
+use Rattle.atl_market.proofs.item_pots.share_items.Given as goal
+
+abbrev pub invariant-loop-item : goal.invariant-loop-item
+invariant-loop-item g l =
+    with_each l.given (flat_map (item_shares_in (g.P.ItemPots.pot_of l.pots) l.wants l.region) l.item-iterator)
+    ≡ with_each l.fn.given (flat_map (item_shares_in (g.P.ItemPots.pot_of l.pots) l.wants l.region) (entries l.groups))

@@ -1,0 +1,6 @@
+use Rattle.std.proofs.Common.{◌≡◌, ◌++◌, map}
+use Rattle.std.specs.FinMap.{keys}
+use Rattle.atl_market.proofs.item_pots.takers_of.Given as goal
+
+abbrev pub invariant-loop-unit : goal.invariant-loop-unit
+invariant-loop-unit l = l.takers.items ++ map (λ e. e.0) l.unit-iterator ≡ keys l.wants

@@ -1,0 +1,28 @@
+-- For proofs alone: how the wants of a region's units are kept by item, and which shares are put.
+use Rattle.std.specs.Prelude.{ℕ, List, map, Option, Some}
+use Rattle.std.specs.List.{flat_map, fold, zip}
+use Rattle.std.specs.Ordering.{nat_cmp}
+use Rattle.std.specs.FinMap.{FinMap, empty, entries, get, insert, keys}
+use Rattle.atl_tables.specs.Groups.{group_of}
+use Rattle.atl_state.specs.State.{State, numbers_in}
+use Rattle.atl_market.specs.Pots.{want_of}
+use Rattle.atl_market.specs.Share.{shares}
+
+abbrev pub Groups : Type 0
+Groups = FinMap nat_cmp (FinMap nat_cmp ℕ)
+
+abbrev pub want_put : Groups → ℕ → Option ℕ → Option ℕ → Groups
+want_put groups number (Some item) (Some want) = insert groups item (insert (group_of groups item) number want)
+want_put groups number item want = groups
+
+-- a unit's want beside those of its item
+abbrev pub with_want : (ℕ → Option ℕ) → FinMap nat_cmp ℕ → Groups → ℕ → Groups
+with_want item_of wants groups number = want_put groups number (item_of number) (get wants number)
+
+-- the units of a group with their shares of what a region has of its item
+abbrev pub item_shares_in : (pot_of : (item region : ℕ) → ℕ) → FinMap nat_cmp ℕ → (region : ℕ) → ℕ × FinMap nat_cmp ℕ → List (ℕ × ℕ)
+item_shares_in pot_of wants region group = zip (keys group.1) (shares (pot_of group.0 region) (map (want_of wants) (keys group.1)))
+
+-- and those of all items in a region
+abbrev pub region_shares : (ℕ → Option ℕ) → (pot_of : (item region : ℕ) → ℕ) → FinMap nat_cmp ℕ → State → (region : ℕ) → List (ℕ × ℕ)
+region_shares item_of pot_of wants c region = flat_map (item_shares_in pot_of wants region) (entries (fold (with_want item_of wants) empty (numbers_in region c.units)))

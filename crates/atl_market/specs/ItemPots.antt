@@ -1,0 +1,24 @@
+-- Pots of items: in each region, those that ask for one item share what the region has of it. See docs/RULES.md, "Shares".
+use Rattle.std.specs.Prelude.{◌==◌, ℕ, Bool, false, Option, Some, None}
+use Rattle.std.specs.Ordering.{nat_cmp}
+use Rattle.std.specs.FinMap.{FinMap, retain_keys}
+use Rattle.atl_state.specs.State.{State}
+use Rattle.atl_market.specs.Pots.{share_of}
+
+abbrev pub is_for : ℕ → Option ℕ → Bool
+is_for item None = false
+is_for item (Some other) = other == item
+
+module _ (item_of : ℕ → Option ℕ) where
+  -- the wants of the units that ask for an item
+  abbrev pub wants_for : FinMap nat_cmp ℕ → (item : ℕ) → FinMap nat_cmp ℕ
+  wants_for wants item = retain_keys wants (λ number. is_for item (item_of number))
+
+  module _ (pot_of : (item region : ℕ) → ℕ) (wants : FinMap nat_cmp ℕ) (c : State) where
+    abbrev pub share_for : ℕ → Option ℕ → Option ℕ
+    share_for number None = None
+    share_for number (Some item) = share_of (pot_of item) (wants_for wants item) c number
+
+    -- What a unit, by its number, gets: its share of what its region has of the item that it asks for, which all units there share that ask for it too.
+    abbrev pub item_share : ℕ → Option ℕ
+    item_share number = share_for number (item_of number)

@@ -1,0 +1,146 @@
+//! Pots of items: in each region, those that ask for one item share what the region has of it.
+ghost use Rattle.std.specs.Prelude.{ℕ, ◌≡◌, IfOk, OnOk};
+ghost use Rattle.std.specs.List.{flat_map, fold};
+ghost use Rattle.std.specs.FinMap as finmap;
+ghost use Rattle.atl_tables.specs.Limits.{most_amount};
+ghost use Rattle.atl_market.specs.Asked.{regions_asked};
+ghost use Rattle.atl_market.specs.ItemGroups.{item_shares_in, region_shares, with_want};
+ghost use Rattle.atl_market.specs.ItemPots.{item_share};
+ghost use Rattle.atl_market.specs.Pots.{AreWants, with_each};
+
+use crate::pots::{regions_asked, share_pot};
+use atl_state::Campaign;
+use atl_tables::Numbered;
+use std::alloc::{AllocError, Global};
+
+/// Who asks for which item, and how much of it there is to share in each region.
+pub(crate) trait ItemPots {
+    ghost use Rattle.std.specs.Prelude.{ℕ, Option, ◌≡◌, ◌≤◌};
+
+    // The item that a unit asks for, by the unit's number.
+    ghost item_of: { Self → ℕ → Option ℕ };
+
+    // By the numbers of the item and of the region.
+    ghost pot_of: { Self → ℕ → ℕ → ℕ };
+
+    // When they can be asked for.
+    ghost ready: { Self → Type 0 };
+
+    /// The item that a unit asks for, if it asks for one.
+    fn item(&self, unit: u32) -> Option<u16>
+        ensures { result ≡ item_of self.now unit };
+
+    /// How much of an item there is in a region, at most 999,999,999.
+    fn pot(&self, item: u32, region: u32) -> u64
+        requires { ready self.now }
+        ensures value { result ≡ pot_of self.now item region }
+        ensures bound { result ≤ most_amount };
+}
+
+/// Wants by item, and of each item by unit.
+type Groups = Numbered<Numbered<u32>>;
+
+/// Puts a unit's want beside those of its item, where it has a want and asks for an item.
+fn note_want<P: ItemPots>(
+    alloc: Global,
+    pots: &P,
+    wants: &Numbered<u32>,
+    groups: &mut Groups,
+    unit: u32,
+) -> Result<(), AllocError>
+    ensures { OnOk result (groups.new ≡ with_want (P.item_of pots.now) wants.now groups.old unit) }
+{
+    match (pots.item(unit), wants.get(unit)) {
+        (Some(item), Some(want)) => groups.insert_under(alloc, u32::from(item), unit, *want),
+        _ => Ok(()),
+    }
+}
+
+/// The wants of these units by item.
+fn wants_by_item<P: ItemPots>(
+    alloc: Global,
+    pots: &P,
+    units: &[u32],
+    wants: &Numbered<u32>,
+) -> Result<Groups, AllocError>
+    ensures { IfOk result (λ groups. groups ≡ fold (with_want (P.item_of pots.now) wants.now) finmap.empty units.now) }
+{
+    let mut groups = Numbered::new(alloc);
+    for unit in units {
+        note_want(alloc, pots, wants, &mut groups, *unit)?;
+    }
+    Ok(groups)
+}
+
+/// The units that have one of these wants, in unit order.
+fn takers_of(alloc: Global, wants: &Numbered<u32>) -> Result<Vec<u32>, AllocError>
+    ensures { IfOk result (λ takers. takers.items ≡ finmap.keys wants.now) }
+{
+    let mut takers = Vec::new(alloc);
+    for (unit, _) in wants.iter() {
+        takers.push(unit)?;
+    }
+    Ok(takers)
+}
+
+/// Puts the shares of all that one region has, item by item.
+fn share_items<P: ItemPots>(
+    alloc: Global,
+    pots: &P,
+    wants: &Numbered<u32>,
+    region: u32,
+    groups: &Groups,
+    given: &mut Numbered<u32>,
+) -> Result<(), AllocError>
+    requires ready { P.ready pots.now }
+    requires wants { AreWants wants.now }
+    ensures { OnOk result (given.new ≡ with_each given.old (flat_map (item_shares_in (P.pot_of pots.now) wants.now region) (finmap.entries groups.now))) }
+{
+    for (item, group) in groups.iter() {
+        let takers = takers_of(alloc, group)?;
+        share_pot(alloc, pots.pot(item, region), &takers, wants, given)?;
+    }
+    Ok(())
+}
+
+/// Puts the shares of one region. It goes over the units that stand there once, if one of them has a want, and no further.
+fn share_region<P: ItemPots>(
+    alloc: Global,
+    campaign: &Campaign,
+    pots: &P,
+    wants: &Numbered<u32>,
+    asked: &Numbered<u32>,
+    region: u32,
+    given: &mut Numbered<u32>,
+) -> Result<(), AllocError>
+    requires ready { P.ready pots.now }
+    requires wants { AreWants wants.now }
+    requires asked { asked.now ≡ regions_asked wants.now campaign.now.what }
+    ensures { OnOk result (given.new ≡ with_each given.old (region_shares (P.item_of pots.now) (P.pot_of pots.now) wants.now campaign.now.what region)) }
+{
+    if asked.get(region).is_none() {
+        return Ok(());
+    }
+    let groups = wants_by_item(alloc, pots, campaign.in_region(region), wants)?;
+    share_items(alloc, pots, wants, region, &groups, given)
+}
+
+/// What units get of what their regions have of the items that they ask for, by unit, all at once. It goes over the regions
+/// once, and over the units of those where one has a want once, for however many items. AllocError without memory.
+pub(crate) fn item_shares<P: ItemPots>(
+    alloc: Global,
+    campaign: &Campaign,
+    pots: &P,
+    wants: &Numbered<u32>,
+) -> Result<Numbered<u32>, AllocError>
+    requires ready { P.ready pots.now }
+    requires wants { AreWants wants.now }
+    ensures definition { IfOk result (λ given. (n : ℕ) → finmap.get given n ≡ item_share (P.item_of pots.now) (P.pot_of pots.now) wants.now campaign.now.what n) }
+{
+    let asked = regions_asked(alloc, campaign, wants)?;
+    let mut given = Numbered::new(alloc);
+    for (region, _) in campaign.regions() {
+        share_region(alloc, campaign, pots, wants, &asked, region, &mut given)?;
+    }
+    Ok(given)
+}

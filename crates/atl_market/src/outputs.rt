@@ -1,0 +1,91 @@
+//! What units make out of what the terrains of their regions give.
+ghost use Rattle.std.specs.Prelude.{⊤, ℕ, ◌≡◌, map, IfOk};
+ghost use Rattle.std.specs.FinMap as finmap;
+ghost use Rattle.atl_market.specs.Outputs.{gathered, made_by, makes, output_at, output_share};
+ghost use Rattle.atl_market.specs.Pots.{AreWants, with_each};
+
+use crate::item_pots::{ItemPots, item_shares};
+use crate::making::item_of;
+use atl_instant::terrain_of;
+use atl_state::Campaign;
+use atl_tables::{Numbered, World};
+use std::alloc::{AllocError, Global};
+
+/// What the terrains of the regions give of the items that the units are told to make.
+#[derive(Drop)]
+struct Outputs<'a> {
+    world: &'a World,
+    asked: &'a Numbered<u16>,
+}
+
+/// The item that a unit makes out of what its region gives.
+fn gathered(world: &World, asked: &Numbered<u16>, unit: u32) -> Option<u16>
+    ensures { result ≡ gathered world.now asked.now unit }
+{
+    let number = asked.get(unit).copied();
+    let item = item_of(world, number)?;
+    if item.raw.is_some() { None } else { number }
+}
+
+impl<'a> ItemPots for Outputs<'a> {
+    ghost item_of = { λ pots. gathered pots.world.now pots.asked.now };
+
+    ghost pot_of = { λ pots. output_at pots.world.now };
+
+    ghost ready = { λ _. ⊤ };
+
+    fn item(&self, unit: u32) -> Option<u16> {
+        gathered(self.world, self.asked, unit)
+    }
+
+    fn pot(&self, item: u32, region: u32) -> u64 {
+        match terrain_of(self.world, region) {
+            Some(terrain) => match terrain.output.as_slice().get(item as usize) {
+                Some(amount) => u64::from(*amount),
+                None => 0,
+            },
+            None => 0,
+        }
+    }
+}
+
+/// How much a unit makes that wants so much.
+fn made_by(
+    world: &World,
+    campaign: &Campaign,
+    asked: &Numbered<u16>,
+    wants: &Numbered<u32>,
+    shares: &Numbered<u32>,
+    unit: u32,
+    want: u32,
+) -> u32
+    requires { (n : ℕ) → finmap.get shares.now n ≡ output_share world.now asked.now campaign.now.what wants.now n }
+    ensures { result ≡ made_by world.now asked.now campaign.now.what wants.now (unit, want) }
+{
+    match gathered(world, asked, unit) {
+        Some(_) => shares.get(unit).copied().unwrap_or(0),
+        None => want,
+    }
+}
+
+/// How much the units make by what they want, by unit.
+pub(crate) fn makes(
+    alloc: Global,
+    world: &World,
+    campaign: &Campaign,
+    asked: &Numbered<u16>,
+    wants: &Numbered<u32>,
+) -> Result<Numbered<u32>, AllocError>
+    requires { AreWants wants.now }
+    ensures { IfOk result (λ made. made ≡ makes asked.now world.now campaign.now.what wants.now) }
+{
+    let shares = item_shares(alloc, campaign, &Outputs { world, asked }, wants)?;
+    let mut made = Numbered::new(alloc);
+    for (unit, want) in wants.iter() {
+        made.insert(
+            unit,
+            made_by(world, campaign, asked, wants, &shares, unit, *want),
+        )?;
+    }
+    Ok(made)
+}
