@@ -1,5 +1,5 @@
 -- Upkeep takes from a unit what follows from the units of its faction in its region alone.
-use Rattle.std.proofs.Common.{◌≡◌, ◌≢◌, ◌++◌, ℕ, ◌+◌, ◌-◌, ◌<◌, Bool, true, false, cond, Option, Some, None, List, [], ◌∷◌, map, filter, sum_by, refl, sym, ap, ◌∙◌, arith}
+use Rattle.std.proofs.Common.{◌≡◌, ◌++◌, ℕ, ◌+◌, ◌-◌, ◌<◌, Bool, true, false, cond, Some, List, [], ◌∷◌, map, filter, sum_by, refl, sym, ap, ◌∙◌, arith}
 use Rattle.std.specs.Prelude.{fold, min, nat_lt}
 use Rattle.std.specs.List.{AllByRecursion}
 use Rattle.std.specs.Ordering.{is_lt, nat_cmp}
@@ -15,27 +15,19 @@ use Rattle.atl_state.specs.declared.records.Unit.{Unit}
 use Rattle.atl_state.specs.Deciding.{EachOf}
 use Rattle.atl_state.specs.Good.{Every}
 use Rattle.atl_state.specs.State.{State}
-use Rattle.atl_state.proofs.EveryLaws.{each-from_every, every-from_each, get-insert_other, sorted}
+use Rattle.atl_state.proofs.EveryLaws.{each-from_every, every-from_each, sorted}
 use Rattle.atl_state.proofs.RegionLaws.{get-insert_same}
 use Rattle.atl_month.specs.declared.settling.Purse.{Purse}
 use Rattle.atl_month.specs.declared.settling.Settled.{Settled}
 use Rattle.atl_month.specs.Settling.{is_purse_of, left_of, paid_by, settled_behind, settled_one, short_of, starved_of}
-use Rattle.atl_month.specs.Upkeep.{purse_of, purses_of, settled_alone, settlements, supplied, upkeep, upkeep_at, upkeep_in}
-use Rattle.atl_month.proofs.UpkeepLaws.{upkeep_at_is}
+use Rattle.atl_month.specs.Upkeep.{purse_of, purses_of, settled_alone, settlements, supplied, upkeep, upkeep_at}
+use Rattle.atl_month.proofs.UpkeepLaws.{other_unit, upkeep_at_is}
 use Rattle.atl_instant.specs.Dealing.{dealt}
 
 -- ---- one settlement
 
 abbrev kept : Unit → Settled → Unit
 kept u s = record u { holding = supplied s u.holding }
-
-other_unit : (c : State) (s : Settled) (n : ℕ) → n ≢ s.unit → get (upkeep_at c s).units n ≡ get c.units n
-unfolding upkeep_at
-other_unit c s n apart = by_unit (get c.units s.unit)
-  where
-    by_unit : (o : Option Unit) → get (upkeep_in c s o).units n ≡ get c.units n
-    by_unit None = refl
-    by_unit (Some u) = get-insert_other c.units s.unit n (kept u s) apart
 
 own_unit : (c : State) (s : Settled) (u : Unit) → get c.units s.unit ≡ Some u → get (upkeep_at c s).units s.unit ≡ Some (kept u s)
 own_unit c s u is = ap (λ (d : State). get d.units s.unit) (upkeep_at_is c s u is) ∙ get-insert_same c.units s.unit (kept u s)

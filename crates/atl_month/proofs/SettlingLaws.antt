@@ -1,7 +1,8 @@
 -- The accounts of upkeep, unit by unit.
-use Rattle.std.proofs.Common.{◌≡◌, ◌≢◌, ◌==◌, ◌&&◌, ◌++◌, ℕ, ◌+◌, ◌-◌, ◌*◌, ◌≤◌, min, Bool, true, false, cond, List, [], ◌∷◌, filter, sum_by, Option, unwrap_or, refl, sym, ap, ◌∙◌, arith}
+use Rattle.std.proofs.Common.{◌≡◌, ◌≢◌, ◌==◌, ◌&&◌, ◌++◌, ℕ, ◌+◌, ◌-◌, ◌*◌, ◌≤◌, ◌<◌, min, Bool, true, false, cond, List, [], ◌∷◌, filter, sum_by, Option, unwrap_or, refl, sym, ap, ◌∙◌, mul_comm, arith}
 use Rattle.std.specs.Ordering.{nat_cmp}
 use Rattle.std.specs.FinMap.{FinMap, empty, get, insert, get-empty}
+use Rattle.std.proofs.Math.Nat.{div-lt_iff_lt-mul}
 use Rattle.std.proofs.lemmas.Bool.Decides.{nat_tests}
 use Rattle.std.proofs.lemmas.List.Elements.{filter-append}
 use Rattle.std.proofs.lemmas.List.Sums.{sum_by-append}
@@ -14,7 +15,8 @@ use Rattle.atl_month.specs.declared.accounts.Account.{Account}
 use Rattle.atl_month.specs.declared.settling.Purse.{Purse}
 use Rattle.atl_month.specs.declared.settling.Settled.{Settled}
 use Rattle.atl_month.specs.Accounts.{AccountMap, IsOpen, account_at, account_behind, account_of, counted, no_account, settled_by, with_account}
-use Rattle.atl_month.specs.Settling.{given_among, is_purse_of, left_among, left_of, paid_by, settled_one, short_among, short_of, starved_of}
+use Rattle.atl_instant.specs.Dealing.{dealt}
+use Rattle.atl_month.specs.Settling.{EachCanSpare, given_among, is_purse_of, left_among, left_of, paid_by, settled_one, short_among, short_of, starved_of}
 
 -- ---- an account that is put
 
@@ -194,3 +196,23 @@ module _ (m : ℕ) (all before : List Purse) (p : Purse) (accounts : AccountMap)
 
   pub account_open : IsOpen (account_at accounts p.region p.faction)
   account_open = rw (each p.region p.faction) (record { given = omega arith; covered = omega arith })
+
+-- ---- what is taken is there
+
+-- where no more is missing than so many men cost, no more of them starve
+few_starve : (m men short : ℕ) → 1 ≤ m → short ≤ m * men → starved_of m short ≤ men
+few_starve m men short some most =
+    let rounded : short + (m - 1) < (men + 1) * m = omega (arith, mul_comm m men) in
+    let fewer : starved_of m short < men + 1 = (div-lt_iff_lt-mul some).1 rounded in
+    omega arith
+
+pub can_spare : EachCanSpare
+can_spare m some all before p =
+    let short = short_of m p - dealt (given_among m p.region p.faction all) (short_among m p.region p.faction before) (short_of m p) in
+    record {
+      paid = within (given_among m p.region p.faction all) (left_among m p.region p.faction before) p.money (m * p.men);
+      starved = few_starve m p.men short some (omega arith);
+    }
+  where
+    within : (given before money due : ℕ) → min money due + dealt given before (money - min money due) ≤ money
+    within given before money due = omega arith

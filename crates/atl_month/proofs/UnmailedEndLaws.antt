@@ -1,6 +1,6 @@
 -- What upkeep, season and sweep leave to the units of a faction that sent no mailing.
 use Rattle.std.proofs.Common.{◌≡◌, ◌≢◌, ◌==◌, ◌+◌, ◌-◌, ◌≤◌, ◌<◌, ℕ, Bool, true, false, not, cond, List, [], ◌∷◌, map, filter, sum_by, Option, Some, None, refl, sym, ap, subst, ◌∙◌, inl, inr, arith}
-use Rattle.std.specs.Prelude.{fold, min, if◌then◌else◌}
+use Rattle.std.specs.Prelude.{fold, if◌then◌else◌}
 use Rattle.std.specs.List.{AllByRecursion}
 use Rattle.std.specs.Ordering.{is_eq, nat_cmp}
 use Rattle.std.specs.Cmp.{nat_cmp_total}
@@ -29,7 +29,7 @@ use Rattle.atl_month.specs.declared.settling.Settled.{Settled}
 use Rattle.atl_month.specs.Season.{season_keeps, season_meaning}
 use Rattle.atl_month.specs.Sweep.{sweep_keeps, sweep_meaning}
 use Rattle.atl_month.specs.Unmailed.{SentNone, UnmailedAreLeft}
-use Rattle.atl_month.specs.Upkeep.{days_with, money_paid, settlements, starved_event, starves, supplied, upkeep_at, upkeep_in, upkeep_keeps, upkeep_meaning}
+use Rattle.atl_month.specs.Upkeep.{days_with, settlements, starved_event, starves, supplied, upkeep_at, upkeep_in, upkeep_keeps, upkeep_meaning}
 
 -- ---- upkeep
 
@@ -52,20 +52,17 @@ abbrev supplied_unit : Settled → Unit → Unit
 supplied_unit s u = record u { holding = supplied s u.holding }
 
 abbrev men_left : Settled → Unit → ℕ
-men_left s u = u.holding.men - min s.starved u.holding.men
+men_left s u = u.holding.men - s.starved
 
 abbrev held_by : Settled → Unit → Bool → Held
-held_by s u b = record (if b then u.holding else record u.holding { men = men_left s u; days = days_with (men_left s u) u.holding.men u.holding.days }) { money = u.holding.money - money_paid s u.holding }
+held_by s u b = record (if b then u.holding else record u.holding { men = men_left s u; days = days_with (men_left s u) u.holding.men u.holding.days }) { money = u.holding.money - s.paid }
 
 fewer_by : (s : Settled) (u : Unit) → IsLessBy s.starved u (supplied_unit s u)
 fewer_by s u = by_test (men_left s u == u.holding.men) refl
   where
-    least : (a b d : ℕ) → d ≡ b - min a b → d ≡ b - a
-    least a b d is = omega (arith, is)
-
     by_test : (b : Bool) → (men_left s u == u.holding.men) ≡ b → IsLessBy s.starved u (record u { holding = held_by s u b })
-    by_test true is = record { faction = refl; name = refl; men = least s.starved u.holding.men u.holding.men (sym (is_equal (men_left s u) u.holding.men is)); items = λ i. omega arith }
-    by_test false is = record { faction = refl; name = refl; men = least s.starved u.holding.men (men_left s u) refl; items = λ i. omega arith }
+    by_test true is = record { faction = refl; name = refl; men = sym (is_equal (men_left s u) u.holding.men is); items = λ i. omega arith }
+    by_test false is = record { faction = refl; name = refl; men = refl; items = λ i. omega arith }
 
 -- how many men of a unit starve by some settlements
 abbrev among : ℕ → Settled → ℕ

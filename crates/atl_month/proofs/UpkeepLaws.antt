@@ -1,6 +1,7 @@
 -- Upkeep leaves a campaign well.
-use Rattle.std.proofs.Common.{◌≡◌, ◌==◌, ℕ, suc, ◌+◌, ◌-◌, ◌*◌, ◌/◌, ◌≤◌, ◌<◌, min, Bool, true, false, cond, Option, Some, None, List, [], ◌∷◌, ◌++◌, length, refl, sym, ap, subst, ◌∙◌, arith}
+use Rattle.std.proofs.Common.{◌≡◌, ◌≢◌, ◌==◌, ℕ, suc, ◌+◌, ◌-◌, ◌*◌, ◌/◌, ◌≤◌, ◌<◌, Bool, true, false, cond, Option, Some, None, List, [], ◌∷◌, ◌++◌, length, map, refl, sym, ap, subst, ◌∙◌, arith}
 use Rattle.std.specs.Prelude.{IsTrue, nat_lt, ◌&&◌, ℤ, pos, neg_ℤ, ◌+ℤ◌, fold, if◌then◌else◌}
+use Rattle.std.specs.List.{AllByRecursion}
 use Rattle.std.specs.Ordering.{eq_by_cmp, nat_cmp}
 use Rattle.std.specs.Cmp.{nat_cmp_total}
 use Rattle.std.specs.FinMap.{FinMap, empty, entries, get, get-remove, insert, len-entries, remove}
@@ -23,23 +24,29 @@ use Rattle.atl_state.specs.Deciding.{EachOf}
 use Rattle.atl_state.specs.Good.{Every, IsSteady, guards}
 use Rattle.atl_state.specs.Held.{AreAmounts, Held, amount_of, with_amount_of}
 use Rattle.atl_state.specs.Lending.{lent, with_held}
-use Rattle.atl_state.specs.Limits.{most_days}
+use Rattle.atl_state.specs.Limits.{most_days, most_units}
 use Rattle.atl_state.specs.Marking.{mark_amount}
 use Rattle.atl_state.specs.Marks.{amount_number}
 use Rattle.atl_state.specs.State.{Marked, State, with_amount}
 use Rattle.atl_state.specs.Totals.{Balances, held, total}
+use Rattle.atl_state.proofs.BackLaws.{Rise, entries_rise}
 use Rattle.atl_state.proofs.BookLaws.{IsGrid-with_booked, booked-with_booked, share_of}
 use Rattle.atl_state.proofs.CoverLaws.{marks-amount, marks-trans}
-use Rattle.atl_state.proofs.EveryLaws.{each-from_every, every-empty, every-insert, none_some}
+use Rattle.atl_state.proofs.EveryLaws.{each-from_every, every-empty, every-insert, get-insert_other, none_some}
 use Rattle.atl_state.proofs.HoldingLaws.{MayHold, marks-lent, steady-held, total-held}
 use Rattle.atl_state.proofs.RegionLaws.{steady-amount, total-amount}
-use Rattle.atl_instant.specs.Meaning.{IsNear, LeavesWell, moved_times, moves_only, most_moved}
-use Rattle.atl_instant.proofs.MeaningLaws.{fold_leaves_well, near_twice, well_unchanged, well_within}
+use Rattle.atl_instant.specs.Meaning.{HaveRoom, IsNear, LeavesWell, Moving, moved_times, moves_only, most_moved}
+use Rattle.atl_instant.proofs.MarkLaws.{marks_by}
+use Rattle.atl_instant.proofs.MeaningLaws.{MovesLess, near_twice, room_less, well_within}
 use Rattle.atl_instant.proofs.BookingLaws.{booked-near, within-neg}
+use Rattle.atl_market.specs.PotPhase.{CanInTurn}
+use Rattle.atl_market.proofs.TurnLaws.{first_room, later_room, turns_leave_well}
 use Rattle.atl_month.specs.declared.settling.Purse.{Purse}
 use Rattle.atl_month.specs.declared.settling.Settled.{Settled}
-use Rattle.atl_month.specs.Settling.{settled_behind}
-use Rattle.atl_month.specs.Upkeep.{days_with, men_starved, money_paid, purse_of, purses_of, settlements, supplied, takes_up_to, upkeep, upkeep_at, upkeep_in, with_men_left}
+use Rattle.atl_month.specs.Settling.{CanSpare, settled_behind, settled_one}
+use Rattle.atl_month.specs.Sparing.{CanSettle}
+use Rattle.atl_month.specs.Upkeep.{days_with, purse_of, purses_of, settlements, supplied, takes_up_to, upkeep, upkeep_at, upkeep_in, with_men_left}
+use Rattle.atl_month.proofs.SettlingLaws.{can_spare}
 
 -- ---- what a unit may hold behind it
 
@@ -90,12 +97,9 @@ module _ (w : Planet) (h : Held) (left : ℕ) (fewer : left ≤ h.men) (days : E
       by_men true is = let same : h.men ≡ left = grind (arith, nat_tests) in (same, subst (λ n. Every (IsStudied w n) h.days) same days, refl, refl, refl)
       by_men false is = (refl, days_kept w left h.men fewer (entries h.days) empty (every-empty (IsStudied w left)) (each-from_every (IsStudied w h.men) h.days days), refl, refl, refl)
 
-pub least : (a b : ℕ) → min a b ≤ b
-least a b = omega arith
-
 -- ---- the upkeep of a unit that is there
 
-module _ (w : Planet) (c : State) (s : Settled) (u : Unit) (is : get c.units s.unit ≡ Some u) (steady : IsSteady w c) where
+module _ (w : Planet) (c : State) (s : Settled) (u : Unit) (is : get c.units s.unit ≡ Some u) (spare : CanSpare s u.holding.men u.holding.money) (steady : IsSteady w c) where
   abbrev old : Held
   old = u.holding
 
@@ -103,13 +107,7 @@ module _ (w : Planet) (c : State) (s : Settled) (u : Unit) (is : get c.units s.u
   now = supplied s old
 
   abbrev left : ℕ
-  left = old.men - men_starved s old
-
-  abbrev paid : ℕ
-  paid = money_paid s old
-
-  abbrev starved : ℕ
-  starved = men_starved s old
+  left = old.men - s.starved
 
   studied : Every (IsStudied w old.men) old.days
   studied k days there =
@@ -144,16 +142,16 @@ module _ (w : Planet) (c : State) (s : Settled) (u : Unit) (is : get c.units s.u
   held_back = with_held c s.unit now (Some u)
 
   abbrev paid_off : State
-  paid_off = with_amount held_back Upkeep Money (neg_ℤ (pos paid))
+  paid_off = with_amount held_back Upkeep Money (neg_ℤ (pos s.paid))
 
   abbrev after : State
   after = upkeep_in c s (Some u)
 
   after_steady : IsSteady w after
-  after_steady = steady-amount w paid_off Starved People (neg_ℤ (pos starved)) (steady-amount w held_back Upkeep Money (neg_ℤ (pos paid)) (steady-held w c s.unit u now is may_hold steady))
+  after_steady = steady-amount w paid_off Starved People (neg_ℤ (pos s.starved)) (steady-amount w held_back Upkeep Money (neg_ℤ (pos s.paid)) (steady-held w c s.unit u now is may_hold steady))
 
-  total_after : (t : Thing) → pos (total after t) ≡ (pos (total c t) +ℤ share_of t Money (neg_ℤ (pos paid))) +ℤ share_of t People (neg_ℤ (pos starved))
-  total_after t = total_of t (total-amount paid_off Starved People t (neg_ℤ (pos starved))) (total-amount held_back Upkeep Money t (neg_ℤ (pos paid))) (total-held w c s.unit u now is t)
+  total_after : (t : Thing) → pos (total after t) ≡ (pos (total c t) +ℤ share_of t Money (neg_ℤ (pos s.paid))) +ℤ share_of t People (neg_ℤ (pos s.starved))
+  total_after t = total_of t (total-amount paid_off Starved People t (neg_ℤ (pos s.starved))) (total-amount held_back Upkeep Money t (neg_ℤ (pos s.paid))) (total-held w c s.unit u now is t)
     where
       taken : (x y z a l p : ℕ) → x ≡ y → y ≡ z → z + a ≡ total c Money + l → l ≡ a - p → p ≤ a → pos x ≡ (pos (total c Money) +ℤ neg_ℤ (pos p)) +ℤ pos 0
       taken x y z a l p e f g h k = omega (arith, ints, e, f, g, h, k)
@@ -162,15 +160,15 @@ module _ (w : Planet) (c : State) (s : Settled) (u : Unit) (is : get c.units s.u
       starved_away x y z a l p e f g h k = omega (arith, ints, e, f, g, h, k)
 
       total_of : (t : Thing) → total after t ≡ total paid_off t → total paid_off t ≡ total held_back t → total held_back t + held t old ≡ total c t + held t now
-          → pos (total after t) ≡ (pos (total c t) +ℤ share_of t Money (neg_ℤ (pos paid))) +ℤ share_of t People (neg_ℤ (pos starved))
-      total_of Money a b g = taken _ _ _ old.money now.money paid a b g refl (least s.paid old.money)
-      total_of People a b g = starved_away _ _ _ old.men now.men starved a b g with_less.0 (least s.starved old.men)
+          → pos (total after t) ≡ (pos (total c t) +ℤ share_of t Money (neg_ℤ (pos s.paid))) +ℤ share_of t People (neg_ℤ (pos s.starved))
+      total_of Money a b g = taken _ _ _ old.money now.money s.paid a b g refl spare.paid
+      total_of People a b g = starved_away _ _ _ old.men now.men s.starved a b g with_less.0 spare.starved
       total_of (Item i) a b g =
           let people : (2 + i == 1) ≡ false = grind (arith, nat_tests) in
           let money : (2 + i == 0) ≡ false = grind (arith, nat_tests) in
           ap pos (same _ _ _ _ _ a b g (ap (λ m. amount_of m i) with_less.4))
-          ∙ sym (ap (λ q. (pos (total c (Item i)) +ℤ cond (2 + i == 0) (neg_ℤ (pos paid)) (pos 0)) +ℤ cond q (neg_ℤ (pos starved)) (pos 0)) people
-          ∙ ap (λ q. (pos (total c (Item i)) +ℤ cond q (neg_ℤ (pos paid)) (pos 0)) +ℤ pos 0) money ∙ zeros (total c (Item i)))
+          ∙ sym (ap (λ q. (pos (total c (Item i)) +ℤ cond (2 + i == 0) (neg_ℤ (pos s.paid)) (pos 0)) +ℤ cond q (neg_ℤ (pos s.starved)) (pos 0)) people
+          ∙ ap (λ q. (pos (total c (Item i)) +ℤ cond q (neg_ℤ (pos s.paid)) (pos 0)) +ℤ pos 0) money ∙ zeros (total c (Item i)))
         where
           same : (x y z a l : ℕ) → x ≡ y → y ≡ z → z + a ≡ total c (Item i) + l → l ≡ a → x ≡ total c (Item i)
           same x y z a l e f g h = omega (arith, e, f, g, h)
@@ -179,32 +177,32 @@ module _ (w : Planet) (c : State) (s : Settled) (u : Unit) (is : get c.units s.u
           zeros x = omega (arith, ints)
 
   abbrev one_booked : List (List ℤ)
-  one_booked = with_booked c.books Upkeep Money (neg_ℤ (pos paid))
+  one_booked = with_booked c.books Upkeep Money (neg_ℤ (pos s.paid))
 
   grid : IsGrid (things_of w) c.books
   grid = steady.numbers.books
 
   grid_one : IsGrid (things_of w) one_booked
-  grid_one = IsGrid-with_booked (things_of w) c.books Upkeep Money (neg_ℤ (pos paid)) grid
+  grid_one = IsGrid-with_booked (things_of w) c.books Upkeep Money (neg_ℤ (pos s.paid)) grid
 
   upkeep_balances : Balances c → Balances after
   upkeep_balances before t =
       total_after t
-      ∙ ap (λ z. (z +ℤ share_of t Money (neg_ℤ (pos paid))) +ℤ share_of t People (neg_ℤ (pos starved))) (before t)
-      ∙ ap (λ z. z +ℤ share_of t People (neg_ℤ (pos starved))) (sym (booked-with_booked (things_of w) c.books Upkeep Money (neg_ℤ (pos paid)) grid (omega arith) t))
-      ∙ sym (booked-with_booked (things_of w) one_booked Starved People (neg_ℤ (pos starved)) grid_one (omega arith) t)
+      ∙ ap (λ z. (z +ℤ share_of t Money (neg_ℤ (pos s.paid))) +ℤ share_of t People (neg_ℤ (pos s.starved))) (before t)
+      ∙ ap (λ z. z +ℤ share_of t People (neg_ℤ (pos s.starved))) (sym (booked-with_booked (things_of w) c.books Upkeep Money (neg_ℤ (pos s.paid)) grid (omega arith) t))
+      ∙ sym (booked-with_booked (things_of w) one_booked Starved People (neg_ℤ (pos s.starved)) grid_one (omega arith) t)
 
-  few_paid : paid ≤ most_amount
-  few_paid = omega (arith, least s.paid old.money, (steady.numbers.units s.unit u is).1.money)
+  pub few_paid : s.paid ≤ most_amount
+  few_paid = omega (arith, spare.paid, (steady.numbers.units s.unit u is).1.money)
 
-  few_starved : starved ≤ most_amount
-  few_starved = omega (arith, least s.starved old.men, (steady.numbers.units s.unit u is).1.men)
+  pub few_starved : s.starved ≤ most_amount
+  few_starved = omega (arith, spare.starved, (steady.numbers.units s.unit u is).1.men)
 
   upkeep_near : (e : Entry) (t : Thing) → IsNear (takes_up_to most_amount e t) (amount_in c.books e t) (amount_in after.books e t)
   upkeep_near e t =
       near_twice (moves_only most_amount Upkeep Money e t) (moves_only most_amount Starved People e t) _ _ _
-      (booked-near (things_of w) c.books Upkeep Money (neg_ℤ (pos paid)) most_amount grid (omega arith) (within-neg paid most_amount few_paid) e t)
-      (booked-near (things_of w) one_booked Starved People (neg_ℤ (pos starved)) most_amount grid_one (omega arith) (within-neg starved most_amount few_starved) e t)
+      (booked-near (things_of w) c.books Upkeep Money (neg_ℤ (pos s.paid)) most_amount grid (omega arith) (within-neg s.paid most_amount few_paid) e t)
+      (booked-near (things_of w) one_booked Starved People (neg_ℤ (pos s.starved)) most_amount grid_one (omega arith) (within-neg s.starved most_amount few_starved) e t)
 
   unit_leaves_well : LeavesWell IsSteady (takes_up_to most_amount) w c after
   unit_leaves_well = record {
@@ -216,48 +214,86 @@ module _ (w : Planet) (c : State) (s : Settled) (u : Unit) (is : get c.units s.u
 
 -- ---- the upkeep of all
 
-pub upkeep_at_leaves_well : (w : Planet) (c : State) (s : Settled) → IsSteady w c → LeavesWell IsSteady (takes_up_to most_amount) w c (upkeep_at c s)
+pub upkeep_at_is : (c : State) (s : Settled) (u : Unit) → get c.units s.unit ≡ Some u → upkeep_at c s ≡ upkeep_in c s (Some u)
 unfolding upkeep_at
-upkeep_at_leaves_well w c s steady = by_unit (get c.units s.unit) refl
+upkeep_at_is c s u is = ap (upkeep_in c s) is
+
+pub upkeep_at_leaves_well : (w : Planet) (c : State) (s : Settled) → CanSettle w c s → LeavesWell IsSteady (takes_up_to most_amount) w c (upkeep_at c s)
+upkeep_at_leaves_well w c s can = rw (upkeep_at_is c s can.unit can.there) (unit_leaves_well w c s can.unit can.there can.spare can.steady)
+
+pub other_unit : (c : State) (s : Settled) (n : ℕ) → n ≢ s.unit → get (upkeep_at c s).units n ≡ get c.units n
+unfolding upkeep_at
+other_unit c s n apart = by_unit (get c.units s.unit)
   where
-    by_unit : (o : Option Unit) → get c.units s.unit ≡ o → LeavesWell IsSteady (takes_up_to most_amount) w c (upkeep_in c s o)
-    by_unit None is = well_unchanged (takes_up_to most_amount) w c steady
-    by_unit (Some u) is = unit_leaves_well w c s u is steady
+    by_unit : (o : Option Unit) → get (upkeep_in c s o).units n ≡ get c.units n
+    by_unit None = refl
+    by_unit (Some u) = get-insert_other c.units s.unit n (record u { holding = supplied s u.holding }) apart
+
+-- a unit whose turn is still to come is as it was
+pub each_still : (c : State) (s : Settled) (es : List (ℕ × Unit)) → AllByRecursion (λ e. s.unit < e.0) es → EachOf (λ n u. get c.units n ≡ Some u) es → EachOf (λ n u. get (upkeep_at c s).units n ≡ Some u) es
+each_still c s [] above there = tt
+each_still c s (e ∷ es) above there = (other_unit c s e.0 (λ same. omega (arith, above.0, same)) ∙ there.0, each_still c s es above.1 there.1)
+
+module _ (w : Planet) (some : 1 ≤ w.rules.maintenance) (all : List Purse) where
+  abbrev step_moves : Moving
+  step_moves = takes_up_to most_amount
+
+  abbrev behind : List Purse → List (ℕ × Unit) → List Settled
+  behind before es = settled_behind w.rules.maintenance all before (map purse_of es)
+
+  settled_in_turn : (before : List Purse) (es : List (ℕ × Unit)) (c : State) → Rise es → EachOf (λ n u. get c.units n ≡ Some u) es → IsSteady w c → HaveRoom (moved_times (length (behind before es)) step_moves) c
+      → CanInTurn (CanSettle w) upkeep_at c (behind before es)
+  settled_in_turn before [] c rise there steady room = tt
+  settled_in_turn before ((n, u) ∷ es) c rise there steady room =
+      let s = settled_one w.rules.maintenance all before (purse_of (n, u)) in
+      let rest = behind (before ++ purse_of (n, u) ∷ []) es in
+      let can : CanSettle w c s = record {
+        unit = u;
+        there = there.0;
+        spare = can_spare w.rules.maintenance some all before (purse_of (n, u));
+        steady = steady;
+        room = first_room step_moves c s rest room;
+      } in
+      let well = upkeep_at_leaves_well w c s can in (
+        can,
+        settled_in_turn (before ++ purse_of (n, u) ∷ []) es (upkeep_at c s) rise.1 (each_still c s es rise.0 there.1) well.leaves_it (later_room step_moves w c (upkeep_at c s) s rest well room),
+      )
 
 length-settled : (m : ℕ) (all before rest : List Purse) → length (settled_behind m all before rest) ≡ length rest
 length-settled m all before [] = refl
 length-settled m all before (p ∷ rest) = ap suc (length-settled m all (before ++ p ∷ []) rest)
 
-pub few_settlements : (w : Planet) (c : State) → IsSteady w c → length (settlements w c) ≤ 10000
-few_settlements w c steady = omega (arith, length-settled w.rules.maintenance (purses_of c) [] (purses_of c), length-map (entries c.units) purse_of, len-entries c.units, steady.numbers.few_units)
+module _ (w : Planet) (c : State) (some : 1 ≤ w.rules.maintenance) (steady : IsSteady w c) (room : HaveRoom (takes_up_to most_moved) c) where
+  abbrev list : List Settled
+  list = settlements w c
 
-pub takes_little : (k : ℕ) → k ≤ 10000 → (e : Entry) (t : Thing) → moved_times k (takes_up_to most_amount) e t ≤ takes_up_to most_moved e t
-takes_little k few e t = scaled (amount_number e t == amount_number Upkeep Money) (amount_number e t == amount_number Starved People)
-  where
-    scaled : (a b : Bool) → k * ((if a then most_amount else 0) + (if b then most_amount else 0)) ≤ (if a then most_moved else 0) + (if b then most_moved else 0)
-    scaled true true = omega (arith, few)
-    scaled true false = omega (arith, few)
-    scaled false true = omega (arith, few)
-    scaled false false = omega (arith, few)
+  few : length list ≤ most_units
+  few = omega (arith, length-settled w.rules.maintenance (purses_of c) [] (purses_of c), length-map (entries c.units) purse_of, len-entries c.units, steady.numbers.few_units)
 
-pub upkeep_leaves_well : (w : Planet) (c : State) → IsSteady w c → LeavesWell IsSteady (takes_up_to most_moved) w c (upkeep c (settlements w c))
-upkeep_leaves_well w c steady =
-    let list = settlements w c in
-    well_within (moved_times (length list) (takes_up_to most_amount)) (takes_up_to most_moved) w c (upkeep c list) (takes_little (length list) (few_settlements w c steady))
-    (fold_leaves_well (takes_up_to most_amount) w upkeep_at (upkeep_at_leaves_well w) c list steady)
+  little : MovesLess (moved_times (length list) (takes_up_to most_amount)) (takes_up_to most_moved)
+  little e t = scaled (length list) few (amount_number e t == amount_number Upkeep Money) (amount_number e t == amount_number Starved People)
+    where
+      scaled : (k : ℕ) → k ≤ most_units → (a b : Bool) → k * ((if a then most_amount else 0) + (if b then most_amount else 0)) ≤ (if a then most_moved else 0) + (if b then most_moved else 0)
+      scaled k few true true = omega (arith, few)
+      scaled k few true false = omega (arith, few)
+      scaled k few false true = omega (arith, few)
+      scaled k few false false = omega (arith, few)
+
+  -- each unit can spare what is taken from it when its turn comes
+  pub all_settle : CanInTurn (CanSettle w) upkeep_at c list
+  all_settle =
+      settled_in_turn w some (purses_of c) [] (entries c.units) c (entries_rise c.units) (each-from_every (λ n u. get c.units n ≡ Some u) c.units (λ n u is. is)) steady
+      (room_less (moved_times (length list) (takes_up_to most_amount)) (takes_up_to most_moved) c little room)
+
+  pub upkeep_leaves_well : LeavesWell IsSteady (takes_up_to most_moved) w c (upkeep c list)
+  upkeep_leaves_well =
+      well_within (moved_times (length list) (takes_up_to most_amount)) (takes_up_to most_moved) w c (upkeep c list) little
+      (turns_leave_well (takes_up_to most_amount) w (CanSettle w) upkeep_at (upkeep_at_leaves_well w) c list steady all_settle)
 
 -- ---- the code, step by step
 
-pub upkeep_at_is : (c : State) (s : Settled) (u : Unit) → get c.units s.unit ≡ Some u → upkeep_at c s ≡ upkeep_in c s (Some u)
-unfolding upkeep_at
-upkeep_at_is c s u is = ap (upkeep_in c s) is
-
 pub held_back_is : (c d : Marked) (s : Settled) (u : Unit) → get c.what.units s.unit ≡ Some u → d ≡ lent c s.unit (supplied s u.holding) → d.what ≡ with_held c.what s.unit (supplied s u.holding) (Some u)
 held_back_is c d s u there is = ap (λ (m : Marked). m.what) is ∙ ap (with_held c.what s.unit (supplied s u.holding)) there
-
--- there is a row for money, and one for people
-pub two_rows : (things : ℕ) (books : List (List ℤ)) (e : Entry) (t : Thing) (z : ℤ) → IsGrid things books → 2 ≤ things → 1 < length (with_booked books e t z)
-two_rows things books e t z grid two = omega (arith, (IsGrid-with_booked things books e t z grid).rows, two)
 
 -- what is marked
 pub upkeep_marks : (things : ℕ) (c d e f : Marked) (s : Settled) (h : Held) (x y : ℤ)
@@ -270,6 +306,3 @@ upkeep_marks things c d e f s h x y d_is e_is e_marks f_is f_marks grid two =
     marks-trans c d f (rw d_is (marks-lent c s.unit h))
     (marks-trans d e f (marks_by d e _ e_is e_marks (marks-amount things d Upkeep Money x grid (omega arith)))
     (marks_by e f _ f_is f_marks (marks-amount things e Starved People y e_grid (omega arith))))
-  where
-    marks_by : (a b m : Marked) → b.what ≡ m.what → b.marks ≡ m.marks → MarksChanges a m → MarksChanges a b
-    marks_by a b m what marks h = rw (what, marks) (record { stay = h.stay; covers = h.covers })

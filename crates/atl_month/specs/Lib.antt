@@ -4,6 +4,7 @@ pub mod Swept
 pub mod Settling
 pub mod Accounts
 pub mod Upkeep
+pub mod Sparing
 pub mod Month
 pub mod Sweep
 pub mod Receivers

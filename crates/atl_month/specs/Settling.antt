@@ -66,3 +66,14 @@ settled_behind maintenance all before (purse ∷ rest) = settled_one maintenance
 -- all units, in the order of their numbers
 abbrev pub settled_of : ℕ → List Purse → List Settled
 settled_of maintenance purses = settled_behind maintenance purses [] purses
+
+-- ---- what a unit can spare
+
+-- A unit of so many men and so much money can spare what upkeep takes from it: it pays no more than it has, and no more starve than it has.
+pub record CanSpare (settled : Settled) (men money : ℕ) : Type 0 where
+  pub paid : settled.paid ≤ money
+  pub starved : settled.starved ≤ men
+
+-- each unit can
+abbrev pub EachCanSpare : Type 0
+EachCanSpare = (maintenance : ℕ) → 1 ≤ maintenance → (all before : List Purse) (purse : Purse) → CanSpare (settled_one maintenance all before purse) purse.men purse.money

@@ -1,5 +1,5 @@
 -- The upkeep of a month. See docs/RULES.md, "Upkeep".
-use Rattle.std.specs.Prelude.{◌≡◌, ℕ, nat_lt, pos, neg_ℤ, ◌-◌, ◌*◌, ◌/◌, ◌==◌, not, ◌++◌, min, Bool, List, map, filter, fold, Option, Some, None, if◌then◌else◌, [], ◌∷◌}
+use Rattle.std.specs.Prelude.{◌≡◌, ℕ, nat_lt, pos, neg_ℤ, ◌-◌, ◌*◌, ◌/◌, ◌==◌, not, ◌++◌, Bool, List, map, filter, fold, Option, Some, None, if◌then◌else◌, [], ◌∷◌}
 use Rattle.std.specs.Ordering.{nat_cmp}
 use Rattle.std.specs.FinMap.{FinMap, empty, entries, get}
 use Rattle.atl_tables.specs.Planet.{Planet}
@@ -30,21 +30,17 @@ days_with left men days = fold (λ kept e. with_amount_of kept e.0 (e.1 * left /
 abbrev pub with_men_left : ℕ → Held → Held
 with_men_left left h = if left == h.men then h else record h { men = left; days = days_with left h.men h.days }
 
-abbrev pub money_paid : Settled → Held → ℕ
-money_paid s h = min s.paid h.money
-
-abbrev pub men_starved : Settled → Held → ℕ
-men_starved s h = min s.starved h.men
-
 -- what a unit holds behind it
 abbrev pub supplied : Settled → Held → Held
-supplied s h = record (with_men_left (h.men - men_starved s h) h) { money = h.money - money_paid s h }
+supplied s h = record (with_men_left (h.men - s.starved) h) { money = h.money - s.paid }
 
 -- the campaign behind the upkeep of a unit, which is booked
 abbrev pub upkeep_in : State → Settled → Option Unit → State
 upkeep_in c s None = c
 upkeep_in c s (Some u) =
-    with_amount (with_amount (with_held c s.unit (supplied s u.holding) (Some u)) Upkeep Money (neg_ℤ (pos (money_paid s u.holding)))) Starved People (neg_ℤ (pos (men_starved s u.holding)))
+    let held = with_held c s.unit (supplied s u.holding) (Some u) in
+    let paid = with_amount held Upkeep Money (neg_ℤ (pos s.paid)) in
+    with_amount paid Starved People (neg_ℤ (pos s.starved))
 
 unfoldable pub upkeep_at : State → Settled → State
 upkeep_at c s = upkeep_in c s (get c.units s.unit)

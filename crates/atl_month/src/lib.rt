@@ -14,6 +14,6 @@ mod upkeep;
 pub use close::{close_month, months_have_no_order, phases_move_little};
 pub use orders::OrderPhases;
 pub use season::SeasonPhase;
-pub use settling::{Purse, Settled, settle};
+pub use settling::{Purse, Settled, each_unit_can_spare, settle};
 pub use sweep::SweepPhase;
 pub use upkeep::UpkeepPhase;

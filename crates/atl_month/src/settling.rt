@@ -2,7 +2,7 @@
 ghost use Rattle.std.specs.Prelude.{◌≡◌, ◌≤◌, [], ℕ, All, IfOk};
 ghost use Rattle.atl_tables.specs.Limits.{most_per_head};
 ghost use Rattle.atl_month.specs.Accounts.{IsOpen, account_at, account_behind, account_of, settled_by};
-ghost use Rattle.atl_month.specs.Settling.{settled_of, left_of, short_of, IsPurse};
+ghost use Rattle.atl_month.specs.Settling.{EachCanSpare, IsPurse, left_of, settled_of, short_of};
 
 use crate::accounts::{Account, Accounts, account_of, put_account};
 use atl_tables::Numbered;
@@ -100,3 +100,8 @@ pub fn settle(alloc: Global, maintenance: u32, purses: &[Purse]) -> Result<Vec<S
     }
     Ok(list)
 }
+
+/// What upkeep takes from a unit is there: it pays no more money than it has, and no more men starve than it has.
+pub fn each_unit_can_spare()
+    ensures { EachCanSpare }
+{}

@@ -1,14 +1,15 @@
 //! The upkeep of a month.
-ghost use Rattle.std.specs.Prelude.{◌≡◌, ◌≤◌, ◌<◌, ◌++◌, All, IfOk, ℕ, OnOk, Some, filter, length, map};
+ghost use Rattle.std.specs.Prelude.{◌≡◌, ◌≤◌, ◌++◌, All, IfOk, OnOk, Some, filter, map};
 ghost use Rattle.std.specs.FinMap as finmap;
-ghost use Rattle.atl_tables.specs.Limits.{most_amount};
-ghost use Rattle.atl_state.specs.Books.{IsGrid};
+ghost use Rattle.atl_tables.specs.Planet.{Planet};
 ghost use Rattle.atl_state.specs.Covers.{MarksChanges};
 ghost use Rattle.atl_state.specs.Good.{IsSteady};
 ghost use Rattle.atl_state.specs.Lending.{lent};
 ghost use Rattle.atl_state.specs.declared.records.Unit.{Unit};
-ghost use Rattle.atl_instant.specs.Meaning.{HaveRoom, most_moved, moved_times};
-ghost use Rattle.atl_month.specs.Settling.{IsPurse};
+ghost use Rattle.atl_instant.specs.Meaning.{most_moved};
+ghost use Rattle.atl_market.specs.PotPhase.{CanInTurn};
+ghost use Rattle.atl_month.specs.Settling.{CanSpare, IsPurse};
+ghost use Rattle.atl_month.specs.Sparing.{CanSettle};
 ghost use Rattle.atl_month.specs.Upkeep.{days_with, purses_of, starved_event, starves, supplied, takes_up_to, upkeep, upkeep_at, upkeep_keeps, upkeep_meaning};
 
 use crate::settling::{Purse, Settled, settle};
@@ -61,22 +62,24 @@ fn days_with(alloc: Global, left: u32, holding: &Holding) -> Result<Numbered<u32
 
 /// Takes from a unit's holding what upkeep takes from it.
 fn supply(alloc: Global, settled: &Settled, holding: &mut Holding) -> Result<(), AllocError>
+    requires { CanSpare settled.now holding.old.men holding.old.money }
     ensures { OnOk result (holding.new ≡ supplied settled.now holding.old) }
 {
     let men = holding.men();
     let money = holding.money();
-    let left = men - settled.starved.min(men);
+    let left = men - settled.starved;
     if left != men {
         let days = days_with(alloc, left, holding)?;
         holding.set_men(left);
         holding.set_all_days(days);
     }
-    holding.set_money(money - settled.paid.min(money));
+    holding.set_money(money - settled.paid);
     Ok(())
 }
 
-/// Takes from a unit that is there what upkeep takes from it.
+/// Takes from a unit what upkeep takes from it.
 fn supply_unit(alloc: Global, campaign: &mut Campaign, settled: &Settled) -> Result<(), AllocError>
+    requires { (w : Planet) × CanSettle w campaign.old.what settled.now }
     ensures { OnOk result ((u : Unit) → finmap.get campaign.old.what.units settled.now.unit ≡ Some u → campaign.new ≡ lent campaign.old settled.now.unit (supplied settled.now u.holding)) }
 {
     match campaign.unit_mut(settled.unit) {
@@ -86,33 +89,20 @@ fn supply_unit(alloc: Global, campaign: &mut Campaign, settled: &Settled) -> Res
 }
 
 /// The upkeep of a unit, which is booked.
-#[tactic(auto, unfolding(crate::specs::Upkeep::upkeep_at))]
 fn upkeep_of(alloc: Global, campaign: &mut Campaign, settled: &Settled) -> Result<(), AllocError>
-    requires grid { (things : ℕ) × (2 ≤ things) × IsGrid things campaign.old.what.books }
-    requires room { HaveRoom (takes_up_to most_amount) campaign.old.what }
+    requires { (w : Planet) × CanSettle w campaign.old.what settled.now }
     ensures what { OnOk result (campaign.new.what ≡ upkeep_at campaign.old.what settled.now) }
     ensures marks { OnOk result (MarksChanges campaign.old campaign.new) }
 {
-    let Some(unit) = campaign.unit(settled.unit) else {
-        return Ok(());
-    };
-    let paid = settled.paid.min(unit.holding.money());
-    let starved = settled.starved.min(unit.holding.men());
     supply_unit(alloc, campaign, settled)?;
-    book_taken(campaign, Entry::Upkeep, Thing::Money, paid);
-    book_taken(campaign, Entry::Starved, Thing::People, starved);
+    book_taken(campaign, Entry::Upkeep, Thing::Money, settled.paid);
+    book_taken(campaign, Entry::Starved, Thing::People, settled.starved);
     Ok(())
 }
 
 /// The upkeep of units.
-fn upkeep_of_all(
-    alloc: Global,
-    world: &World,
-    campaign: &mut Campaign,
-    list: &[Settled],
-) -> Result<(), AllocError>
-    requires steady { IsSteady world.now campaign.old.what }
-    requires room { HaveRoom (moved_times (length list.now) (takes_up_to most_amount)) campaign.old.what }
+fn upkeep_of_all(alloc: Global, campaign: &mut Campaign, list: &[Settled]) -> Result<(), AllocError>
+    requires { (w : Planet) × CanInTurn (CanSettle w) upkeep_at campaign.old.what list.now }
     ensures what { OnOk result (campaign.new.what ≡ upkeep campaign.old.what list.now) }
     ensures marks { OnOk result (MarksChanges campaign.old campaign.new) }
 {
@@ -160,7 +150,7 @@ impl Phase for UpkeepPhase {
     ) -> Result<(Campaign, Month), AllocError> {
         let purses = purses_of(alloc, &campaign)?;
         let list = settle(alloc, world.rules().maintenance, &purses)?;
-        upkeep_of_all(alloc, world, &mut campaign, &list)?;
+        upkeep_of_all(alloc, &mut campaign, &list)?;
         tell_starved(&mut month, &list)?;
         Ok((campaign, month))
     }
