@@ -30,7 +30,7 @@ use Rattle.atl_state.proofs.BookLaws.{booked-with_booked, share_of}
 use Rattle.atl_state.proofs.CoverLaws.{marks-amount, marks-region, marks-trans}
 use Rattle.atl_state.proofs.EveryLaws.{each-from_every, get-insert_other}
 use Rattle.atl_state.proofs.HoldingLaws.{marks-lent, total-held}
-use Rattle.atl_state.proofs.RegionLaws.{steady-amount, steady-region, total-amount, total-region}
+use Rattle.atl_state.proofs.RegionLaws.{IsRegion-peasants, steady-amount, steady-region, total-amount, total-region}
 use Rattle.atl_instant.specs.Meaning.{HaveRoom, LeavesWell, Moving, moved_times, most_moved}
 use Rattle.atl_instant.specs.declared.written.Written.{Written}
 use Rattle.atl_instant.proofs.BookingLaws.{booked-near, within-neg}
@@ -93,9 +93,9 @@ module _ (w : Planet) (c : State) (n : ℕ) (u : Unit) (q : Region) (recruits co
     still_early : IsEarly w after
     still_early =
         let before = early-having w c n u more is may (λ g. g) early in
-        let limits = early.steady.numbers.regions u.region q around in
+        let within = early.steady.numbers.regions u.region q around in
         record {
-          steady = steady-amount w left Recruiting Money (neg_ℤ (pos cost)) (steady-region (leave q recruits) peopled u.region q around w (omega (arith, limits.0)) limits.1 before.steady);
+          steady = steady-amount w left Recruiting Money (neg_ℤ (pos cost)) (steady-region (leave q recruits) peopled u.region q around w (IsRegion-peasants q (q.peasants - recruits) (omega (arith, within.peasants)) within) before.steady);
           flags = before.flags;
         }
 

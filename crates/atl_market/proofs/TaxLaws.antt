@@ -22,7 +22,7 @@ use Rattle.atl_state.proofs.BackLaws.{Rise, entries_rise}
 use Rattle.atl_state.proofs.CoverLaws.{marks-region, marks-trans}
 use Rattle.atl_state.proofs.EveryLaws.{each-from_every}
 use Rattle.atl_state.proofs.HoldingLaws.{marks-unit_row, may_hold_money, of_one_faction_kept, steady-held, total-held}
-use Rattle.atl_state.proofs.RegionLaws.{steady-region, total-region}
+use Rattle.atl_state.proofs.RegionLaws.{IsRegion-money, steady-region, total-region}
 use Rattle.atl_instant.specs.Meaning.{LeavesWell, moved_times}
 use Rattle.atl_instant.specs.Staying.{AreNoWorse}
 use Rattle.atl_instant.specs.declared.written.Written.{Written}
@@ -69,10 +69,10 @@ module _ (w : Planet) (c : State) (n : ℕ) (u : Unit) (q : Region) (share : ℕ
     pub tax_leaves_well : u.holding.money + share ≤ holding_limit → IsEarly w c → LeavesWell IsEarly tax_moves w c after
     tax_leaves_well fits early =
         let steady = early.steady in
-        let limits = steady.numbers.regions u.region q around in
+        let within = steady.numbers.regions u.region q around in
         record {
           leaves_it = record {
-            steady = steady-region (drain q share) (richer c n u share) u.region q around w limits.0 (omega (arith, limits.1))
+            steady = steady-region (drain q share) (richer c n u share) u.region q around w (IsRegion-money q (q.money - share) (omega (arith, within.money)) within)
                 (steady-held w c n u (paid c n u share) is (may_hold_money w c n (u.holding.money + share) u is fits steady) steady);
             flags = of_one_faction_kept w c n u (paid c n u share) is (λ v. v.holding.guard) (λ g. g) early.flags;
           };

@@ -25,7 +25,7 @@ use Rattle.atl_state.specs.State.{Marked, State, with_amount, with_peasants, wit
 use Rattle.atl_state.specs.Totals.{Balances, kept, total}
 use Rattle.atl_state.proofs.BookLaws.{IsGrid-with_booked, booked-with_booked, share_of}
 use Rattle.atl_state.proofs.CoverLaws.{marks-amount, marks-region, marks-trans}
-use Rattle.atl_state.proofs.RegionLaws.{region-changed, steady-amount, steady-region, total-amount, total-region}
+use Rattle.atl_state.proofs.RegionLaws.{IsRegion-money, IsRegion-peasants, region-changed, steady-amount, steady-region, total-amount, total-region}
 use Rattle.atl_state.proofs.EveryLaws.{none_some}
 use Rattle.atl_instant.specs.Meaning.{HaveRoom, IsNear, LeavesWell, moved_times, moves_only, most_moved}
 use Rattle.atl_instant.proofs.MeaningLaws.{fold_leaves_well, near_twice, room_behind_one, room_for_one, well_unchanged, well_within}
@@ -67,9 +67,9 @@ module _ (w : Planet) (c : State) (n : ℕ) (r : Region) (born earned : ℕ) (is
 
   growth_steady : r.peasants + born ≤ most_amount → r.money + earned ≤ most_amount → IsSteady w c → IsSteady w (with_growth c n r born earned)
   growth_steady p m old =
-      let within = old.numbers.regions n r is in
+      let grown = IsRegion-peasants r (r.peasants + born) p (old.numbers.regions n r is) in
       steady-amount w counted Income Money (pos earned) (steady-amount w paid Births People (pos born)
-      (steady-region more_money peopled n (more_people r) peopled_there w p m (steady-region more_people c n r is w p within.1 old)))
+      (steady-region more_money peopled n (more_people r) peopled_there w (IsRegion-money (more_people r) (r.money + earned) m grown) (steady-region more_people c n r is w grown old)))
 
   total_grown : (t : Thing) → pos (total (with_growth c n r born earned) t) ≡ (pos (total c t) +ℤ share_of t People (pos born)) +ℤ share_of t Money (pos earned)
   total_grown t =
@@ -167,10 +167,10 @@ season_at_leaves_well w world c (n, word) steady = by_terrain (terrain_of w n) r
     by_region t here (Some r) is =
         let born = births w.rules.growth t.peasant_limit word r.peasants in
         let (peasant_limit, money_limit) = limits_fit w n t world here in
-        let (peasants, money) = steady.numbers.regions n r is in
+        let within = steady.numbers.regions n r is in
         growth_leaves_well w c n r born (income w.rules.income t.money_limit (r.peasants + born) r.money) is
-        (births_fit w.rules.growth t.peasant_limit word r.peasants peasant_limit peasants)
-        (income_fits w.rules.income t.money_limit (r.peasants + born) r.money money_limit money) steady
+        (births_fit w.rules.growth t.peasant_limit word r.peasants peasant_limit within.peasants)
+        (income_fits w.rules.income t.money_limit (r.peasants + born) r.money money_limit within.money) steady
 
     by_terrain : (o : Option Terrain) → terrain_of w n ≡ o → LeavesWell IsSteady (grows_by most_amount) w c (season_in w c n word o (get c.regions n))
     by_terrain None is = same

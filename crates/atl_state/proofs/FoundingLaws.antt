@@ -22,7 +22,6 @@ use Rattle.atl_state.specs.declared.records.Structure.{Structure}
 use Rattle.atl_state.specs.declared.records.Unit.{Unit}
 use Rattle.atl_state.specs.Books.{amount_in, booked, no_amounts, with_booked, IsGrid, IsWithin}
 use Rattle.atl_state.specs.Kept.{AreUnitLists, AreKept}
-use Rattle.atl_tables.specs.Limits.{most_amount}
 use Rattle.atl_tables.specs.Names.{name_ok, pass_ok}
 use Rattle.atl_tables.specs.declared.world.RegionPlan.{RegionPlan}
 use Rattle.atl_orders.specs.Mailing.{IsMailingOf}
@@ -31,7 +30,7 @@ use Rattle.atl_state.specs.Totals.{total, Balances, held, kept}
 use Rattle.atl_state.specs.Founding.{founded_of, founded_region, things_of}
 use Rattle.atl_state.specs.Held.{IsHolding}
 use Rattle.atl_state.specs.State.{numbers_of}
-use Rattle.atl_state.specs.Good.{Every, IsThere, IsActive, AreInRange, AreAmountsWithin, AreNamed, IsPlaced, IsBuilt, AreKnown, IsNumbered, IsOwned, is_land_at, is_ship, IsAboard, guards, IsSteady, IsGood, size_of}
+use Rattle.atl_state.specs.Good.{Every, IsThere, IsActive, IsRegion, AreInRange, AreAmountsWithin, AreNamed, IsPlaced, IsBuilt, AreKnown, IsNumbered, IsOwned, is_land_at, is_ship, IsAboard, guards, IsSteady, IsGood, size_of}
 use Rattle.atl_state.proofs.EveryLaws.{every-empty, every-mapped, there-mapped}
 use Rattle.atl_state.proofs.BookLaws.{booked-with_booked, booked-no_amounts, amount-no_amounts, IsGrid-no_amounts, IsGrid-with_booked, IsWithin-with_booked, share_of}
 
@@ -84,8 +83,8 @@ founded-balances w pass (Item i) =
 none_within : (things : ℕ) (e : Entry) (t : Thing) → IsWithin 0 (amount_in (no_amounts things) e t)
 none_within things e t = rw (amount-no_amounts things e t) record { most = omega (arith, ints); least = omega (arith, ints) }
 
-in_range : (p : RegionPlan) (terrains n : ℕ) → IsRegionPlan terrains n p → ((founded_region p).peasants ≤ most_amount) × ((founded_region p).money ≤ most_amount)
-in_range p terrains n plan = (plan.peasants, plan.money)
+in_range : (p : RegionPlan) (terrains n : ℕ) → IsRegionPlan terrains n p → IsRegion (founded_region p)
+in_range p terrains n plan = record { peasants = plan.peasants; money = plan.money }
 
 numbered_none : {V : Type 0} → IsNumbered (empty {X = V} {R = nat_cmp}) 1
 numbered_none {V} = record { first = get-empty nat_cmp 0; count = ap (λ n. n + 1) (sym (len-empty nat_cmp V)); free = λ n _. get-empty nat_cmp n }
@@ -111,7 +110,7 @@ module _ (w : Planet) (pass : List ℕ) (world : IsWorld w) where
     next_unit_least = omega arith;
     next_unit_most = omega arith;
     factions = every-empty (λ n f. f.number ≡ n);
-    regions = every-mapped founded_region (λ n r. (r.peasants ≤ most_amount) × (r.money ≤ most_amount)) w.regions (λ n p is. in_range p (length w.terrains) n (world.regions n p is));
+    regions = every-mapped founded_region (λ n r. IsRegion r) w.regions (λ n p is. in_range p (length w.terrains) n (world.regions n p is));
     units = every-empty (λ n u. (1 ≤ n) × IsHolding u.holding);
     structures = every-empty (λ n s. (1 ≤ s.done) × (s.done ≤ size_of w s.kind));
     books = IsGrid-founding (things_of w) money people;

@@ -22,7 +22,7 @@ use Rattle.atl_state.specs.declared.parts.StoredBooks.{StoredBooks}
 use Rattle.atl_state.specs.Books.{no_amounts, IsGrid}
 use Rattle.atl_state.specs.Founding.{things_of}
 use Rattle.atl_state.specs.FromRows.{clamped, as_u32, as_u16, is_entry, put_rows, by_number, faction_of, region_of, structure_of, unit_of, with_amount, with_row, put_amounts, head_of, state_of}
-use Rattle.atl_state.specs.Good.{Every, size_of, AreInRange, HaveMen}
+use Rattle.atl_state.specs.Good.{Every, size_of, IsRegion, AreInRange, HaveMen}
 use Rattle.atl_state.specs.Held.{IsHolding}
 use Rattle.atl_state.specs.Limits.{last_month, most_units, last_unit, men_limit, holding_limit, most_structures, entry_count, most_u32}
 use Rattle.atl_state.specs.RowRules.{is_from, head_in_range, faction_in_range, region_in_range, unit_in_range, has_in_range, structure_in_range, books_in_range, books_bound, are_few, people_in_range, numbers_in_range, AreRowsInRange}
@@ -108,10 +108,10 @@ put-grid things (r ∷ rows) books g =
 
 -- ---- the ranges
 
-region_good : (r : StoredRegion) → region_in_range r ≡ true → ((region_of r).peasants ≤ most_amount) × ((region_of r).money ≤ most_amount)
+region_good : (r : StoredRegion) → region_in_range r ≡ true → IsRegion (region_of r)
 region_good r h =
     let parts = and_parts (is_from 0 most_amount r.peasants) (is_from 0 most_amount r.money) h in
-    ((in_range 0 most_amount most_u32 r.peasants (omega arith) parts.0).1, (in_range 0 most_amount most_u32 r.money (omega arith) parts.1).1)
+    record { peasants = (in_range 0 most_amount most_u32 r.peasants (omega arith) parts.0).1; money = (in_range 0 most_amount most_u32 r.money (omega arith) parts.1).1 }
 
 structure_good : (w : Planet) (r : StoredStructure) → structure_in_range w r ≡ true → (1 ≤ (structure_of r).done) × ((structure_of r).done ≤ size_of w (structure_of r).kind)
 structure_good w r h =
@@ -229,7 +229,7 @@ module _ (w : Planet) (p : Parts) (h : AreRowsInRange w p) where
         next_unit_least = unit.0;
         next_unit_most = unit.1;
         factions = by_number-every (λ r. as_u32 r.number) faction_of (λ n f. f.number ≡ n) faction_in_range (λ r good. refl) p.factions ranges.factions;
-        regions = by_number-every (λ r. as_u32 r.number) region_of (λ n r. (r.peasants ≤ most_amount) × (r.money ≤ most_amount)) region_in_range (λ r good. region_good r good) p.regions ranges.regions;
+        regions = by_number-every (λ r. as_u32 r.number) region_of (λ n r. IsRegion r) region_in_range (λ r good. region_good r good) p.regions ranges.regions;
         units = by_number-every (λ r. as_u32 r.number) (unit_of p.has) (λ n u. (1 ≤ n) × IsHolding u.holding) unit_in_range (λ r good. unit_good p.has r ranges.has good) p.units ranges.units;
         structures = by_number-every (λ r. as_u32 r.number) structure_of (λ n s. (1 ≤ s.done) × (s.done ≤ size_of w s.kind)) (structure_in_range w) (λ r good. structure_good w r good) p.structures ranges.structures;
         books = put-grid (things_of w) p.books (no_amounts (things_of w)) (IsGrid-no_amounts (things_of w));

@@ -266,7 +266,7 @@ module _ (w : Planet) (world : IsWorld w) (c : State) (good : IsGood w c) where
 
     regions_said : by_number (λ r. as_u32 r.number) region_of p.regions ≡ c.regions
     regions_said =
-        table_back region_row (λ r. r.number) region_of (λ n r. refl) c.regions regions_whole p.regions regions_listed (λ n r is. let range = good.sound.steady.numbers.regions n r is in region_back n r (amount_small r.peasants range.0) (amount_small r.money range.1))
+        table_back region_row (λ r. r.number) region_of (λ n r. refl) c.regions regions_whole p.regions regions_listed (λ n r is. let range = good.sound.steady.numbers.regions n r is in region_back n r (amount_small r.peasants range.peasants) (amount_small r.money range.money))
 
     structures_said : by_number (λ r. as_u32 r.number) structure_of p.structures ≡ c.structures
     structures_said = table_back structure_row (λ r. r.number) structure_of (λ n s. refl) c.structures structures_whole p.structures structures_listed (λ n s is. structure_back n s (structure_fits n s is))

@@ -154,7 +154,7 @@ module _ (w : Planet) (world : IsWorld w) (c : State) (good : IsGood w c) (p : P
   region_ranges : list_all region_in_range p.regions ≡ true
   region_ranges =
       rows_pass region_row region_in_range c.regions p.regions (row.regions_listed w world c good p rows) (λ n r is.
-      let range = good.sound.steady.numbers.regions n r is in and_true _ _ (from_true 0 most_amount r.peasants (none_less r.peasants) range.0) (from_true 0 most_amount r.money (none_less r.money) range.1))
+      let range = good.sound.steady.numbers.regions n r is in and_true _ _ (from_true 0 most_amount r.peasants (none_less r.peasants) range.peasants) (from_true 0 most_amount r.money (none_less r.money) range.money))
 
   unit_ranges : list_all unit_in_range p.units ≡ true
   unit_ranges =

@@ -18,7 +18,7 @@ use Rattle.atl_state.specs.declared.records.Region.{Region}
 use Rattle.atl_state.specs.declared.records.Unit.{Unit}
 use Rattle.atl_state.specs.Books.{IsGrid, amount_in, entry_place, row_of, thing_place, with_booked}
 use Rattle.atl_state.specs.Founding.{things_of}
-use Rattle.atl_state.specs.Good.{Every, IsThere, AreInRange, AreKnown, IsSteady}
+use Rattle.atl_state.specs.Good.{Every, IsThere, IsRegion, AreInRange, AreKnown, IsSteady}
 use Rattle.atl_state.specs.Marks.{amount_number}
 use Rattle.atl_state.specs.State.{State, region_changed, with_amount}
 use Rattle.atl_state.specs.Totals.{held, kept, total}
@@ -32,7 +32,7 @@ module _ (w : Planet) (c : State) (regions : FinMap nat_cmp Region) (books : Lis
   stocked = record c { regions = regions; books = books }
 
   module _ (few : len regions ≡ len c.regions) (there : (n : ℕ) → IsThere c.regions n ↔ IsThere regions n)
-      (within : Every (λ n r. (r.peasants ≤ most_amount) × (r.money ≤ most_amount)) regions) (grid : IsGrid (things_of w) books) where
+      (within : Every (λ n r. IsRegion r) regions) (grid : IsGrid (things_of w) books) where
     stocked-numbers : AreInRange w c → AreInRange w stocked
     stocked-numbers old = record {
       month = old.month;
@@ -96,16 +96,23 @@ module _ {V : Type 0} where
   pub changed-known : (f : V → V) (m : FinMap nat_cmp V) (n : ℕ) (v : V) → get m n ≡ Some v → changed f m n ≡ insert m n (f v)
   changed-known f m n v is = ap (changed_at f m n) is
 
+-- a region with other peasants, or other money
+pub IsRegion-peasants : (r : Region) (peasants : ℕ) → peasants ≤ most_amount → IsRegion r → IsRegion (record r { peasants = peasants })
+IsRegion-peasants r peasants few old = record { peasants = few; money = old.money }
+
+pub IsRegion-money : (r : Region) (money : ℕ) → money ≤ most_amount → IsRegion r → IsRegion (record r { money = money })
+IsRegion-money r money few old = record { peasants = old.peasants; money = few }
+
 module _ (f : Region → Region) (c : State) (n : ℕ) (r : Region) (is : get c.regions n ≡ Some r) where
   pub region-changed : get (region_changed f c n).regions n ≡ Some (f r)
   region-changed = ap (λ m. get m n) (changed-known f c.regions n r is) ∙ get-insert_same c.regions n (f r)
 
-  pub steady-region : (w : Planet) → (f r).peasants ≤ most_amount → (f r).money ≤ most_amount → IsSteady w c → IsSteady w (region_changed f c n)
-  steady-region w peasants money old =
+  pub steady-region : (w : Planet) → IsRegion (f r) → IsSteady w c → IsSteady w (region_changed f c n)
+  steady-region w within old =
       subst (λ (m : FinMap nat_cmp Region). IsSteady w (record c { regions = m })) (sym (changed-known f c.regions n r is))
       (stocked-steady w c (insert c.regions n (f r)) c.books (same_len c.regions n r (f r) is)
       (λ k. (there-insert c.regions n k (f r), there_again c.regions n k r (f r) is))
-      (every-insert (λ k q. (q.peasants ≤ most_amount) × (q.money ≤ most_amount)) c.regions n (f r) (peasants, money) old.numbers.regions) old.numbers.books old)
+      (every-insert (λ k q. IsRegion q) c.regions n (f r) within old.numbers.regions) old.numbers.books old)
 
   regrouped : (u a b p q : ℕ) → a + p ≡ b + q → (u + a) + p ≡ (u + b) + q
   regrouped u a b p q h = omega arith

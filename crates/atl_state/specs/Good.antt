@@ -13,6 +13,7 @@ use Rattle.atl_state.specs.Limits.{last_month, last_unit, most_days, most_in_joi
 use Rattle.atl_state.specs.declared.books.Entry.{Entry}
 use Rattle.atl_state.specs.declared.books.Thing.{Thing}
 use Rattle.atl_state.specs.declared.records.Faction.{Faction}
+use Rattle.atl_state.specs.declared.records.Region.{Region}
 use Rattle.atl_state.specs.declared.records.Structure.{Structure}
 use Rattle.atl_state.specs.declared.records.Unit.{Unit}
 use Rattle.atl_state.specs.Books.{amount_in, IsGrid, IsWithin}
@@ -43,6 +44,10 @@ size_of w kind = option_map_or (λ k. k.size) (slice_get w.kinds kind) most_size
 abbrev pub amount_bound : State → ℕ
 amount_bound c = most_in_month * (c.month + 1) + most_in_joining * len c.factions
 
+pub record IsRegion (r : Region) : Type 0 where
+  pub peasants : r.peasants ≤ most_amount
+  pub money : r.money ≤ most_amount
+
 -- men from 0
 pub record AreInRange (w : Planet) (c : State) : Type 0 where
   pub month : c.month ≤ last_month
@@ -53,7 +58,7 @@ pub record AreInRange (w : Planet) (c : State) : Type 0 where
   pub next_unit_least : 1 ≤ c.next_unit
   pub next_unit_most : c.next_unit ≤ last_unit + 1
   pub factions : Every (λ n f. f.number ≡ n) c.factions
-  pub regions : Every (λ n r. (r.peasants ≤ most_amount) × (r.money ≤ most_amount)) c.regions
+  pub regions : Every (λ n r. IsRegion r) c.regions
   pub units : Every (λ n u. (1 ≤ n) × IsHolding u.holding) c.units
   pub structures : Every (λ n s. (1 ≤ s.done) × (s.done ≤ size_of w s.kind)) c.structures
   pub books : IsGrid (things_of w) c.books

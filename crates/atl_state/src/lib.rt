@@ -22,6 +22,7 @@ mod units;
 
 pub use books::{Books, Entry, Thing};
 pub use campaign::{Campaign, founded};
+pub use check::CheckFault;
 pub use event::{Event, EventFault, EventVerb, Outcome};
 pub use holding::Holding;
 pub use levels::{carry, goods, level, level_in, level_in_any, load};
@@ -29,6 +30,7 @@ pub use limits::{
     ENTRY_COUNT, FIRST_ITEM, HOLDING_LIMIT, LAST_MONTH, LAST_UNIT, MEN_LIMIT, MOST_DAYS,
     MOST_STRUCTURES, MOST_UNITS,
 };
+pub use parts::Parts;
 pub use records::{Faction, JoinFault, Region, Structure, Unit};
 pub use row_rules::are_distinct;
 pub use terrains::{is_land_at, is_ship, size_of};

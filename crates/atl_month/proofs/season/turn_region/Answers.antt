@@ -9,7 +9,7 @@ grow-requires-clause-peasants c =
     rw c.births-born.ensures
     (births_fit c.rules-rules.result.now.growth terrain.peasant_limit c.args.word region.peasants
     (limits_fit c.args.world.now c.args.number terrain c.rules-rules.ensures.world (sym c.in-Some.ensures.value)).0
-    (c.requires.steady.numbers.regions c.args.number region (sym c.in-Some-region.ensures)).0)
+    (c.requires.steady.numbers.regions c.args.number region (sym c.in-Some-region.ensures)).peasants)
 
 pub grow-requires-clause-money : goal.grow-requires-clause-money
 grow-requires-clause-money c =
@@ -18,4 +18,4 @@ grow-requires-clause-money c =
     rw c.income-earned.ensures
     (income_fits c.rules-rules.result.now.income terrain.money_limit (region.peasants + c.births-born.result) region.money
     (limits_fit c.args.world.now c.args.number terrain c.rules-rules.ensures.world (sym c.in-Some.ensures.value)).1
-    (c.requires.steady.numbers.regions c.args.number region (sym c.in-Some-region.ensures)).1)
+    (c.requires.steady.numbers.regions c.args.number region (sym c.in-Some-region.ensures)).money)
