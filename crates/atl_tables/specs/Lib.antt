@@ -20,6 +20,7 @@ pub mod Neighbours
 pub mod World
 pub mod FaultTexts
 pub mod Lookup
+pub mod ByNumber
 pub mod Sums
 pub mod Lending
 pub mod Groups

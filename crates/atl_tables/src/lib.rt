@@ -1,6 +1,7 @@
 //! The world of a campaign, and the containers that every crate uses.
 #![tactic(auto)]
 
+mod by_number;
 mod direction;
 mod elements;
 mod fault;
