@@ -4,12 +4,11 @@ ghost use Rattle.atl_state.specs.Good.{IsEarly, IsGood};
 ghost use Rattle.atl_phase_tests.specs.Roomy.{IsRoomy};
 
 use anyhow::{Result, bail};
-use atl_state::check::check;
 use atl_state::parts::{
     Parts, StoredBooks, StoredFaction, StoredHas, StoredHead, StoredReport, StoredStructure,
     StoredUnit,
 };
-use atl_state::{Campaign, founded};
+use atl_state::{Campaign, check, founded};
 use atl_tables::{Numbered, Sequence, Text, World};
 use std::alloc::{AllocError, Global};
 

@@ -6,7 +6,7 @@ ghost use Rattle.atl_service.specs.Opened.{of_loading};
 ghost use Rattle.atl_service.specs.Answering.{of_writing};
 
 use atl_orders::FaultyLine;
-use atl_state::check::Rule;
+use atl_state::Rule;
 use atl_store::{CreateFault, StoreFault, WriteFault};
 use atl_tables::{Sequence, Text, WorldFault};
 use sqlite::{Alter, Connection};

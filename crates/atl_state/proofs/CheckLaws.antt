@@ -3,8 +3,8 @@ use Rattle.std.proofs.Common.{◌≡◌, ◌==◌, ℕ, ◌≤◌, ◌<◌, ◌+
 use Rattle.std.specs.Bool.{Decides}
 use Rattle.std.proofs.lemmas.Bool.{and_parts, cases_eq, false≢true}
 use Rattle.atl_tables.specs.Planet.{Planet, IsWorld}
-use Rattle.atl_state.specs.declared.check.Rule.{Rule}
-use Rattle.atl_state.specs.declared.check.Rule.TheVariants.{OneRow, Ranges, Names, Known, Next, Days, Gone, Owners, Water, Guards, Books, Mail}
+use Rattle.atl_state.specs.declared.checking.Rule.{Rule}
+use Rattle.atl_state.specs.declared.checking.Rule.TheVariants.{OneRow, Ranges, Names, Known, Next, Days, Gone, Owners, Water, Guards, Books, Mail}
 use Rattle.atl_state.specs.declared.parts.Parts.{Parts}
 use Rattle.atl_state.specs.Checking.{rule_number, Keeps, KeepsBelow, IsFirstBroken}
 use Rattle.std.specs.List.{list_all}

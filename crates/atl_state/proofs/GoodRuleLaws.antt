@@ -15,10 +15,10 @@ use Rattle.atl_tables.specs.Limits.{most_amount, most_regions}
 use Rattle.atl_tables.specs.Names.{name_ok, pass_ok}
 use Rattle.atl_tables.specs.Planet.{Planet, IsWorld}
 use Rattle.atl_orders.specs.Limits.{last_faction}
-use Rattle.atl_state.specs.declared.check.CheckFault.{CheckFault}
-use Rattle.atl_state.specs.declared.check.CheckFault.TheVariants.{Damaged, Memory}
-use Rattle.atl_state.specs.declared.check.Rule.{Rule}
-use Rattle.atl_state.specs.declared.check.Rule.TheVariants.{OneRow, Ranges, Names, Known, Next, Days, Gone, Owners, Water, Guards, Books, Mail}
+use Rattle.atl_state.specs.declared.checking.CheckFault.{CheckFault}
+use Rattle.atl_state.specs.declared.checking.CheckFault.TheVariants.{Damaged, Memory}
+use Rattle.atl_state.specs.declared.checking.Rule.{Rule}
+use Rattle.atl_state.specs.declared.checking.Rule.TheVariants.{OneRow, Ranges, Names, Known, Next, Days, Gone, Owners, Water, Guards, Books, Mail}
 use Rattle.atl_state.specs.declared.parts.Parts.{Parts}
 use Rattle.atl_state.specs.declared.parts.StoredHead.{StoredHead}
 use Rattle.atl_state.specs.declared.parts.StoredFaction.{StoredFaction}

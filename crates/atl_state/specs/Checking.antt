@@ -2,10 +2,10 @@
 use Rattle.std.specs.Prelude.{◌≡◌, ℕ, ◌<◌, IsTrue, Result, Ok, Err, ⊤}
 use Rattle.std.specs.List.{list_all}
 use Rattle.atl_tables.specs.Planet.{Planet}
-use Rattle.atl_state.specs.declared.check.CheckFault.{CheckFault}
-use Rattle.atl_state.specs.declared.check.CheckFault.TheVariants.{Damaged, Memory}
-use Rattle.atl_state.specs.declared.check.Rule.{Rule}
-use Rattle.atl_state.specs.declared.check.Rule.TheVariants.{OneRow, Ranges, Names, Known, Next, Days, Gone, Owners, Water, Guards, Books, Mail}
+use Rattle.atl_state.specs.declared.checking.CheckFault.{CheckFault}
+use Rattle.atl_state.specs.declared.checking.CheckFault.TheVariants.{Damaged, Memory}
+use Rattle.atl_state.specs.declared.checking.Rule.{Rule}
+use Rattle.atl_state.specs.declared.checking.Rule.TheVariants.{OneRow, Ranges, Names, Known, Next, Days, Gone, Owners, Water, Guards, Books, Mail}
 use Rattle.atl_state.specs.declared.parts.Parts.{Parts}
 use Rattle.atl_state.specs.FromRows.{state_of}
 use Rattle.atl_state.specs.Good.{AreKnown, AreNumbered, AreDays, GoneHaveNone, NoneAreGone, AreOwned, AreAfloat, AreOfOneFaction, guards, IsMail, AreReported, IsGood}

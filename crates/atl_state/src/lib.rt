@@ -4,7 +4,7 @@
 mod assembly;
 pub mod books;
 pub mod campaign;
-pub mod check;
+mod checking;
 pub mod event;
 pub mod holding;
 mod levels;
@@ -22,7 +22,7 @@ mod units;
 
 pub use books::{Books, Entry, Thing};
 pub use campaign::{Campaign, founded};
-pub use check::CheckFault;
+pub use checking::{CheckFault, Rule, check};
 pub use event::{Event, EventFault, EventVerb, Outcome};
 pub use holding::Holding;
 pub use levels::{carry, goods, level, level_in, level_in_any, load};

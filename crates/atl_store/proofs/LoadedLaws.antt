@@ -11,10 +11,10 @@ use Rattle.atl_tables.specs.World.{world_of}
 use Rattle.atl_state.specs.Checking.{Checks, IsFirstBroken}
 use Rattle.atl_state.specs.RowRules.{is_one_head}
 use Rattle.atl_state.specs.State.{Marked}
-use Rattle.atl_state.specs.declared.check.CheckFault.{CheckFault}
-use Rattle.atl_state.specs.declared.check.CheckFault.TheVariants as check
-use Rattle.atl_state.specs.declared.check.Rule.{Rule}
-use Rattle.atl_state.specs.declared.check.Rule.TheVariants.{OneRow, Ranges, Names, Known, Next, Days, Gone, Owners, Water, Guards, Books, Mail}
+use Rattle.atl_state.specs.declared.checking.CheckFault.{CheckFault}
+use Rattle.atl_state.specs.declared.checking.CheckFault.TheVariants as check
+use Rattle.atl_state.specs.declared.checking.Rule.{Rule}
+use Rattle.atl_state.specs.declared.checking.Rule.TheVariants.{OneRow, Ranges, Names, Known, Next, Days, Gone, Owners, Water, Guards, Books, Mail}
 use Rattle.atl_state.specs.declared.parts.Parts.{Parts}
 use Rattle.atl_state.specs.declared.parts.StoredHead.{StoredHead}
 use Rattle.atl_store.specs.Faults.{judged_fault}

@@ -3,8 +3,8 @@ use Rattle.std.specs.Prelude.{ℕ, Option, Some, None, Bool, true, false, if◌t
 use Rattle.sqlite.specs.declared.error.Error.{Error}
 use Rattle.sqlite.specs.declared.error.Error.TheVariants.{SqliteFailure}
 use Rattle.sqlite.specs.declared.error.ErrorCode.TheVariants as code
-use Rattle.atl_state.specs.declared.check.CheckFault.{CheckFault}
-use Rattle.atl_state.specs.declared.check.CheckFault.TheVariants as check
+use Rattle.atl_state.specs.declared.checking.CheckFault.{CheckFault}
+use Rattle.atl_state.specs.declared.checking.CheckFault.TheVariants as check
 use Rattle.atl_store.specs.declared.fault.StoreFault.{StoreFault}
 use Rattle.atl_store.specs.declared.fault.StoreFault.TheVariants as store
 use Rattle.atl_store.specs.declared.fault.WriteFault.{WriteFault}

@@ -14,7 +14,7 @@ use Rattle.atl_tables.specs.World.{world_of}
 use Rattle.atl_state.specs.Checking.{IsChecked}
 use Rattle.atl_state.specs.RowRules.{is_one_head}
 use Rattle.atl_state.specs.State.{Marked}
-use Rattle.atl_state.specs.declared.check.Rule.TheVariants.{OneRow}
+use Rattle.atl_state.specs.declared.checking.Rule.TheVariants.{OneRow}
 use Rattle.atl_state.specs.declared.parts.Parts.{Parts}
 use Rattle.atl_state.specs.declared.parts.StoredBooks.{StoredBooks}
 use Rattle.atl_state.specs.declared.parts.StoredFaction.{StoredFaction}

@@ -13,8 +13,8 @@ use Rattle.atl_state.specs.Checking.{IsFirstBroken}
 use Rattle.atl_state.specs.Good.{IsGood}
 use Rattle.atl_state.specs.Marks.{no_marks}
 use Rattle.atl_state.specs.State.{Marked}
-use Rattle.atl_state.specs.declared.check.Rule.{Rule}
-use Rattle.atl_state.specs.declared.check.Rule.TheVariants.{OneRow, Ranges, Names, Known, Next, Days, Gone, Owners, Water, Guards, Books, Mail}
+use Rattle.atl_state.specs.declared.checking.Rule.{Rule}
+use Rattle.atl_state.specs.declared.checking.Rule.TheVariants.{OneRow, Ranges, Names, Known, Next, Days, Gone, Owners, Water, Guards, Books, Mail}
 use Rattle.atl_state.specs.declared.parts.Parts.{Parts}
 use Rattle.atl_state.specs.declared.parts.StoredBooks.{StoredBooks}
 use Rattle.atl_state.specs.declared.parts.StoredHas.{StoredHas}

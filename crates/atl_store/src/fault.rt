@@ -2,7 +2,7 @@
 ghost use Rattle.std.specs.Prelude.{◌≡◌};
 ghost use Rattle.atl_store.specs.Faults.{read_fault, value_fault, write_fault, create_fault, store_fault, judged_fault, fault_number};
 
-use atl_state::check::{CheckFault, Rule};
+use atl_state::{CheckFault, Rule};
 use sqlite::{Error, ErrorCode};
 use std::alloc::{AllocError, AllocFailed};
 

@@ -11,9 +11,8 @@ mod others;
 mod own;
 
 use crate::fault::StoreFault;
-use atl_state::Campaign;
-use atl_state::check::{Rule, check};
 use atl_state::parts::Parts;
+use atl_state::{Campaign, Rule, check};
 use atl_tables::World;
 use confirmed::confirm;
 use gathered::parts_with;

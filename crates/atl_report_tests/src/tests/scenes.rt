@@ -2,12 +2,11 @@
 ghost use Rattle.std.specs.Prelude.{IfOk};
 ghost use Rattle.atl_state.specs.Good.{IsGood};
 
-use atl_state::check::check;
 use atl_state::parts::{
     Parts, StoredBooks, StoredFaction, StoredHas, StoredHead, StoredRegion, StoredReport,
     StoredStructure, StoredUnit,
 };
-use atl_state::{Campaign, founded};
+use atl_state::{Campaign, check, founded};
 use atl_tables::{Sequence, Text, World};
 use std::alloc::Global;
 use std::test::Fail;

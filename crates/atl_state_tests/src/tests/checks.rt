@@ -1,11 +1,10 @@
 //! Rows that are checked: those of a good campaign, in any order, and rows that break one of the twelve rules.
 use super::compare::{is_count, row_is};
-use atl_state::Campaign;
-use atl_state::check::{CheckFault, check};
 use atl_state::parts::{
     Parts, StoredBooks, StoredFaction, StoredHas, StoredHead, StoredRegion, StoredReport,
     StoredStructure, StoredUnit,
 };
+use atl_state::{Campaign, CheckFault, check};
 use atl_tables::{Sequence, Text, World, read_world};
 use atl_test_worlds::ISLE;
 use std::alloc::Global;

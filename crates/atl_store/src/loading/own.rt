@@ -9,7 +9,7 @@ ghost use Rattle.atl_store.specs.Loading.{RefusesToLoad};
 use crate::fault::{ReadFault, StoreFault};
 use crate::rows::campaign::{StoredCampaign, select_campaign};
 use crate::rows::stored::parse_rows;
-use atl_state::check::Rule;
+use atl_state::Rule;
 use atl_state::parts::StoredHead;
 use atl_tables::{World, WorldFault, read_world};
 use sqlite::{Alter, Connection, Row};

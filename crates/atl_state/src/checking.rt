@@ -3,7 +3,7 @@ ghost use Rattle.std.specs.Prelude.{◌≡◌, true};
 ghost use Rattle.std.specs.Bool.{Decides};
 ghost use Rattle.std.specs.List.{list_all};
 ghost use Rattle.atl_tables.specs.Planet.{IsWorld};
-ghost use Rattle.atl_state.specs.declared.check.Rule.TheVariants as rule;
+ghost use Rattle.atl_state.specs.declared.checking.Rule.TheVariants as rule;
 ghost use Rattle.atl_state.specs.Checking.{rule_number, Keeps, KeepsBelow, Passes, Checks, GivesBack};
 ghost use Rattle.atl_state.specs.FromRows.{state_of};
 ghost use Rattle.atl_state.specs.RowRules.{is_of_unit, is_booked};

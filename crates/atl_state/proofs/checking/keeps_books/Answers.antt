@@ -5,7 +5,7 @@ use Rattle.atl_state.specs.Good.{Every}
 use Rattle.atl_state.specs.State.{State}
 use Rattle.atl_state.specs.Totals.{IsCountable}
 use Rattle.atl_state.proofs.CheckLaws.{few-said, grid-said, items-said}
-use Rattle.atl_state.proofs.check.keeps_books.Goals as goal
+use Rattle.atl_state.proofs.checking.keeps_books.Goals as goal
 
 pub are_balanced-requires-clause-few : goal.are_balanced-requires-clause-few
 are_balanced-requires-clause-few c = subst IsCountable (sym c.requires.what) (few-said c.args.world.now c.args.parts.now c.requires.before)

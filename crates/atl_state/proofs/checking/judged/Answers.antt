@@ -3,9 +3,9 @@ use Rattle.atl_state.specs.Checking.{KeepsBelow}
 use Rattle.atl_state.specs.Good.{IsGood}
 use Rattle.atl_state.specs.Rows.{AreRowsOf}
 use Rattle.atl_state.specs.State.{State}
-use Rattle.atl_state.specs.declared.check.Rule.TheVariants.{Names}
+use Rattle.atl_state.specs.declared.checking.Rule.TheVariants.{Names}
 use Rattle.atl_state.proofs.CheckLaws.{people-said, checked-rows, checked-good}
-use Rattle.atl_state.proofs.check.judged.Goals as goal
+use Rattle.atl_state.proofs.checking.judged.Goals as goal
 
 pub assembled-requires-clause-named : goal.assembled-requires-clause-named
 assembled-requires-clause-named c = let before : KeepsBelow c.args.world.now c.args.parts 4 = c.in_ok-check_rows.ensures in (before Names (omega arith)).texts

@@ -1,7 +1,7 @@
 use Rattle.std.proofs.Common.{sym, subst, ◌∙◌}
 use Rattle.std.proofs.lemmas.Bool.{false≢true}
 use Rattle.atl_state.specs.Good.{IsMail, AreReported}
-use Rattle.atl_state.proofs.check.keeps_mail.Goals as goal
+use Rattle.atl_state.proofs.checking.keeps_mail.Goals as goal
 
 pub returns-then-are_mailings : goal.returns-then-are_mailings
 returns-then-are_mailings c =
