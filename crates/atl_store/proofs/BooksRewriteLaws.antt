@@ -17,7 +17,6 @@ use Rattle.atl_state.specs.Marks.{amount_number, AreOfThings}
 use Rattle.atl_state.specs.State.{Marked}
 use Rattle.atl_state.specs.declared.books.Entry.{Entry}
 use Rattle.atl_state.specs.declared.books.Thing.{Thing}
-use Rattle.atl_store.specs.Sets.{rows_in}
 use Rattle.atl_store.specs.Tables.{books_table}
 use Rattle.atl_store.specs.Shown.{int, books_key, books_row}
 use Rattle.atl_store.specs.Rows.{BooksRowsOf}
@@ -192,8 +191,8 @@ module _ (c : Marked) (e : Entry) (t : Thing) where
     settle_rewrite old new did = rewrites_key is_here (λ r. take 2 r ≡ books_key (entry_place e + 1) (thing_place t)) (Has (amount_lines c.what e t)) (BooksRowsOf c.what.books) key_of of_key
         (λ r here. let is = optional_has (int_eq (amount_in c.what.books e t) (pos 0)) row r here in (ap (take 2) is.1, (e, t, differs_zero (amount_in c.what.books e t) is.0, is.1)))
         (λ r is of.
-            let keys = two_same (entry_place of.0 + 1) (thing_place of.1) (entry_place e + 1) (thing_place t) (ap (take 2) (sym of.3) ∙ key_of r is) in
-            same_place of.0 of.1 of.2 (omega (arith, keys.0)) keys.1 r of.3)
+        let keys = two_same (entry_place of.0 + 1) (thing_place of.1) (entry_place e + 1) (thing_place t) (ap (take 2) (sym of.3) ∙ key_of r is) in
+        same_place of.0 of.1 of.2 (omega (arith, keys.0)) keys.1 r of.3)
         books_table old new did.rows did.others
 
     pub settle_done : (old new : State) → Inside HasTables (Settles c.what e t) old new → Inside HasTables (RewritesAmounts c (is_number (entry_place e)) (is_number (thing_place t))) old new

@@ -1,5 +1,5 @@
 -- What the statements on the table books mean, and what they do.
-use Rattle.std.proofs.Common.{IsTrue, ◌≡◌, ℕ, ℤ, pos, true, List, [], ◌∷◌, codes, Ok, refl, sym, inl, inr, true≢false}
+use Rattle.std.proofs.Common.{◌≡◌, ℕ, ℤ, pos, true, List, [], ◌∷◌, codes, refl, sym, inl, inr, true≢false}
 use Rattle.std.proofs.lemmas.Bool.{and_parts, not-true}
 use Rattle.sqlite_tied.specs.Compute.{everything}
 use Rattle.sqlite.specs.declared.types.Value.TheVariants.{Null}
@@ -8,23 +8,18 @@ use Rattle.sqlite.specs.Listing.{understood}
 use Rattle.sqlite.specs.Order.{Row}
 use Rattle.sqlite.specs.Collation.TheVariants.{Binary}
 use Rattle.sqlite.specs.Schema.{Schema}
-use Rattle.sqlite.specs.State.{State, ExecutesInside}
 use Rattle.sqlite_sql.specs.declared.ops.BinaryOp.TheVariants.{Compare}
 use Rattle.sqlite_sql.specs.declared.ops.CompareOp.TheVariants.{Eq}
 use Rattle.sqlite_value.specs.Keys.{first_key}
 use Rattle.sqlite_schema.specs.declared.schema.Constraint.TheVariants.{Datatype, NotNull}
 use Rattle.sqlite_schema.specs.Rules.{passes}
-use Rattle.sqlite_rules.specs.Lists.{Has}
-use Rattle.atl_store.specs.Tables.{books_table, books_unique, all_tables}
+use Rattle.atl_store.specs.Tables.{books_table, books_unique}
 use Rattle.atl_store.specs.Shown.{books_key, books_row}
-use Rattle.atl_store.specs.Inside.{Inside, HasTables, Puts, Drops}
+use Rattle.atl_store.specs.Inside.{Puts, Drops}
 use Rattle.atl_store.proofs.KeyLaws.{int_by, cons_is}
 use Rattle.atl_store.proofs.KeyedRowLaws.{AreInts, HasKey, IsPutUnder, IsTakeOut, MakesValues, puts_keyed, drops_keyed}
-use Rattle.atl_store.proofs.NumberedLaws.{AlwaysPlain}
+use Rattle.atl_store.proofs.StatementLaws.{AlwaysPlain, DoneBy}
 use Rattle.atl_store.proofs.Terms.{cast_null, cast_int}
-
-ours : Has all_tables books_table
-ours = inr (inr (inr (inr (inr (inr (inr (inr (inl refl))))))))
 
 -- ---- its key: entry and thing
 
@@ -39,9 +34,12 @@ ints_from schema (r ∷ a ∷ b ∷ rest) typed present =
     let p2 = and_parts _ _ p1.1 in
     (int_by a t1.0 (not-true _ p1.0), (int_by b t2.0 (not-true _ p2.0), tt))
 
-has_key : HasKey books_table books_unique
+has_key : HasKey books_table 8 books_unique
 unfolding first_key
 has_key = record {
+  ours = inr (inr (inr (inr (inr (inr (inr (inr (inl refl))))))));
+  place = λ more. refl;
+  plain = λ db. refl;
   ints = ints_from;
   first = λ x. refl;
   unique = λ indexes rows r passed. not-true _ (and_parts _ _ passed).0;
@@ -81,10 +79,8 @@ makes_row entry thing amount = record {
       rw (one.0, two.0, cast_int (pos entry), cast_int (pos thing), cast_int amount) refl;
 }
 
-pub puts_books : (old new : State) (entry thing : ℕ) (amount : ℤ) (count : ℕ) (params : Row) → IsTrue old.in_transaction → ExecutesInside 0 put_books params old new (Ok count) → params ≡ books_row entry thing amount
-    → Inside HasTables (Puts books_table 2 (books_row entry thing amount)) old new
-puts_books old new entry thing amount count =
-    puts_keyed books_table.tree _ _ books_unique 8 ours has_key (λ more. refl) (λ db. refl) put_books 4 3 terms project put_is put_plain old new (books_row entry thing amount) count (makes_row entry thing amount)
+pub puts_books : (entry thing : ℕ) (amount : ℤ) → DoneBy put_books (books_row entry thing amount) (Puts books_table 2 (books_row entry thing amount))
+puts_books entry thing amount = puts_keyed books_table.tree _ _ books_unique 8 has_key put_books 4 3 terms project put_is put_plain (books_row entry thing amount) (makes_row entry thing amount)
 
 -- ---- the row of a key is taken out
 
@@ -102,7 +98,5 @@ drop_plain : AlwaysPlain drop_books
 unfolding understood everything
 drop_plain more indexes = (refl, refl)
 
-pub drops_books : (old new : State) (entry thing : ℕ) (count : ℕ) (params : Row) → IsTrue old.in_transaction → ExecutesInside 0 drop_books params old new (Ok count) → params ≡ books_key entry thing
-    → Inside HasTables (Drops books_table 2 (books_key entry thing)) old new
-drops_books old new entry thing count =
-    drops_keyed books_table.tree _ _ books_unique 8 ours has_key (λ more. refl) (λ db. refl) drop_books of_key drop_is drop_plain books_unique (λ x ints. ints) (λ x. refl) old new (books_key entry thing) count (refl, (refl, tt)) refl (λ x. refl)
+pub drops_books : (entry thing : ℕ) → DoneBy drop_books (books_key entry thing) (Drops books_table 2 (books_key entry thing))
+drops_books entry thing = drops_keyed books_table.tree _ _ books_unique 8 has_key drop_books of_key drop_is drop_plain books_unique (λ x ints. ints) (λ x. refl) (books_key entry thing) (refl, (refl, tt)) refl (λ x. refl)

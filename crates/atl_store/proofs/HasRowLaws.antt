@@ -1,5 +1,5 @@
 -- What the statements on the table has mean, and what they do.
-use Rattle.std.proofs.Common.{IsTrue, ◌≡◌, ℕ, pos, true, List, [], ◌∷◌, codes, Ok, refl, sym, inl, inr, true≢false}
+use Rattle.std.proofs.Common.{◌≡◌, ℕ, pos, true, List, [], ◌∷◌, codes, refl, sym, inl, inr, true≢false}
 use Rattle.std.proofs.lemmas.Bool.{and_parts, not-true}
 use Rattle.sqlite_tied.specs.Compute.{everything}
 use Rattle.sqlite.specs.declared.types.Value.TheVariants.{Null}
@@ -8,23 +8,18 @@ use Rattle.sqlite.specs.Listing.{understood}
 use Rattle.sqlite.specs.Order.{Row}
 use Rattle.sqlite.specs.Collation.TheVariants.{Binary}
 use Rattle.sqlite.specs.Schema.{Schema}
-use Rattle.sqlite.specs.State.{State, ExecutesInside}
 use Rattle.sqlite_sql.specs.declared.ops.BinaryOp.TheVariants.{Compare}
 use Rattle.sqlite_sql.specs.declared.ops.CompareOp.TheVariants.{Eq}
 use Rattle.sqlite_value.specs.Keys.{first_key}
 use Rattle.sqlite_schema.specs.declared.schema.Constraint.TheVariants.{Datatype, NotNull}
 use Rattle.sqlite_schema.specs.Rules.{passes}
-use Rattle.sqlite_rules.specs.Lists.{Has}
-use Rattle.atl_store.specs.Tables.{has_table, has_unique, all_tables}
+use Rattle.atl_store.specs.Tables.{has_table, has_unique}
 use Rattle.atl_store.specs.Shown.{int, has_row}
-use Rattle.atl_store.specs.Inside.{Inside, HasTables, Puts, Drops}
+use Rattle.atl_store.specs.Inside.{Puts, Drops}
 use Rattle.atl_store.proofs.KeyLaws.{int_by, cons_is}
 use Rattle.atl_store.proofs.KeyedRowLaws.{AreInts, HasKey, IsPutUnder, IsTakeOut, MakesValues, puts_keyed, drops_keyed}
-use Rattle.atl_store.proofs.NumberedLaws.{AlwaysPlain}
+use Rattle.atl_store.proofs.StatementLaws.{AlwaysPlain, DoneBy}
 use Rattle.atl_store.proofs.Terms.{cast_null, cast_int}
-
-ours : Has all_tables has_table
-ours = inr (inr (inr (inr (inl refl))))
 
 -- ---- its key: unit, sort and thing
 
@@ -42,9 +37,12 @@ ints_from schema (r ∷ a ∷ b ∷ c ∷ rest) typed present =
     let p3 = and_parts _ _ p2.1 in
     (int_by a t1.0 (not-true _ p1.0), (int_by b t2.0 (not-true _ p2.0), (int_by c t3.0 (not-true _ p3.0), tt)))
 
-has_key : HasKey has_table has_unique
+has_key : HasKey has_table 4 has_unique
 unfolding first_key
 has_key = record {
+  ours = inr (inr (inr (inr (inl refl))));
+  place = λ more. refl;
+  plain = λ db. refl;
   ints = ints_from;
   first = λ x. refl;
   unique = λ indexes rows r passed. not-true _ (and_parts _ _ passed).0;
@@ -85,10 +83,8 @@ makes_row unit sort thing amount = record {
       rw (one.0, two.0, three.0, cast_int (pos unit), cast_int (pos sort), cast_int (pos thing), cast_int (pos amount)) refl;
 }
 
-pub puts_has : (old new : State) (unit sort thing : ℕ) (amount : ℕ) (count : ℕ) (params : Row) → IsTrue old.in_transaction → ExecutesInside 0 put_has params old new (Ok count) → params ≡ has_row unit sort thing amount
-    → Inside HasTables (Puts has_table 3 (has_row unit sort thing amount)) old new
-puts_has old new unit sort thing amount count =
-    puts_keyed has_table.tree _ _ has_unique 4 ours has_key (λ more. refl) (λ db. refl) put_has 5 4 terms project put_is put_plain old new (has_row unit sort thing amount) count (makes_row unit sort thing amount)
+pub puts_has : (unit sort thing amount : ℕ) → DoneBy put_has (has_row unit sort thing amount) (Puts has_table 3 (has_row unit sort thing amount))
+puts_has unit sort thing amount = puts_keyed has_table.tree _ _ has_unique 4 has_key put_has 5 4 terms project put_is put_plain (has_row unit sort thing amount) (makes_row unit sort thing amount)
 
 -- ---- all rows of a unit are taken out
 
@@ -106,7 +102,5 @@ goods_plain : AlwaysPlain drop_goods
 unfolding understood everything
 goods_plain more indexes = (refl, refl)
 
-pub drops_goods : (old new : State) (unit : ℕ) (count : ℕ) (params : Row) → IsTrue old.in_transaction → ExecutesInside 0 drop_goods params old new (Ok count) → params ≡ int unit ∷ []
-    → Inside HasTables (Drops has_table 1 (int unit ∷ [])) old new
-drops_goods old new unit count =
-    drops_keyed has_table.tree _ _ has_unique 4 ours has_key (λ more. refl) (λ db. refl) drop_goods of_unit goods_is goods_plain (1 ∷ []) (λ x ints. (ints.0, tt)) (λ x. refl) old new (int unit ∷ []) count (refl, tt) refl (λ x. refl)
+pub drops_goods : (unit : ℕ) → DoneBy drop_goods (int unit ∷ []) (Drops has_table 1 (int unit ∷ []))
+drops_goods unit = drops_keyed has_table.tree _ _ has_unique 4 has_key drop_goods of_unit goods_is goods_plain (1 ∷ []) (λ x ints. (ints.0, tt)) (λ x. refl) (int unit ∷ []) (refl, tt) refl (λ x. refl)

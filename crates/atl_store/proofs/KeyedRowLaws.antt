@@ -38,8 +38,7 @@ use Rattle.atl_store.proofs.CarryLaws.{nine_among, unlinked, none_share, sound_u
 use Rattle.atl_store.proofs.EditLaws.{delete_query, found_by}
 use Rattle.atl_store.proofs.KeyLaws.{cons_is, unwrapped}
 use Rattle.atl_store.proofs.MakeLaws.{did, upserts_make, loses_make}
-use Rattle.atl_store.proofs.NumberedLaws.{AlwaysPlain}
-use Rattle.atl_store.proofs.StatementLaws.{upserting, removes}
+use Rattle.atl_store.proofs.StatementLaws.{AlwaysPlain, DoneBy, upserting, removes, done_by}
 use Rattle.atl_store.proofs.UpsertLaws.{Upserted, update_query, clause_on, equal_is, is_equal, differ_not}
 
 -- ---- two rows at some places
@@ -69,8 +68,11 @@ agree_same (p ∷ places) x y ints same =
 
 -- ---- the table and its statements
 
--- These places of its rows are the key: whole numbers, shown first, and the only unique ones.
-pub record HasKey (t : Table) (places : List ℕ) : Type 0 where
+-- These places of its rows, a table's at this place, are the key: whole numbers, shown first, and the only unique ones.
+pub record HasKey (t : Table) (at : ℕ) (places : List ℕ) : Type 0 where
+  pub ours : Has all_tables t
+  pub place : (more : List Table) → slice_get (all_tables ++ more) at ≡ Some t
+  pub plain : (db : Trees) → overlay db [] t.tree ≡ db t.tree
   pub ints : (schema : Schema) (x : Row) → passes Datatype schema (λ u. []) t x ≡ true → passes NotNull schema (λ u. []) t x ≡ true → AreInts places x
   pub first : (x : Row) → take (length places) (visible t x) ≡ at_places places x
   pub unique : (indexes : List Index) (rows : List Row) (r : Row) → list_all (λ i. not (guards i t && clashes i.order i.columns rows r)) (all_indexes ++ indexes) ≡ true → list_any (λ y. agree_at places y r && differ (rowid y) (rowid r)) rows ≡ false
@@ -100,19 +102,19 @@ module _ (tree : ℕ) (name : List ℕ) (columns : List Column) (places : List �
   abbrev t : Table
   t = table tree name columns None places (places ∷ []) []
 
-  module _ (ours : Has all_tables t) (key : HasKey t places) (place : (more : List Table) → slice_get (all_tables ++ more) at ≡ Some t) (plain : (db : Trees) → overlay db [] tree ≡ db tree) where
+  module _ (key : HasKey t at places) where
     module _ (more : List Table) (indexes : List Index) (db : Trees) (sound : IsSoundly (nine_and more indexes) db) where
       abbrev schema : Schema
       schema = nine_and more indexes
 
       key_ints : (x : Row) → Has (db tree) x → AreInts places x
-      key_ints x there = key.ints schema x (keeps_at Datatype schema db t x (sound.listed.obeys.rules Datatype) (nine_among more t ours) there) (keeps_at NotNull schema db t x (sound.listed.obeys.rules NotNull) (nine_among more t ours) there)
+      key_ints x there = key.ints schema x (keeps_at Datatype schema db t x (sound.listed.obeys.rules Datatype) (nine_among more t key.ours) there) (keeps_at NotNull schema db t x (sound.listed.obeys.rules NotNull) (nine_among more t key.ours) there)
 
       -- two rows with one key have one rowid
       alone : (x r : Row) → Has (db tree) x → Has (db tree) r → take (length places) (visible t x) ≡ take (length places) (visible t r) → is_eq (value_cmp (rowid x) (rowid r)) ≡ true
       alone x r one two same =
-          let free = key.unique indexes (db tree) r (keeps_at Unique schema db t r (sound.listed.obeys.rules Unique) (nine_among more t ours) two) in
-          let keyed = sound.keyed t ours in
+          let free = key.unique indexes (db tree) r (keeps_at Unique schema db t r (sound.listed.obeys.rules Unique) (nine_among more t key.ours) two) in
+          let keyed = sound.keyed t key.ours in
           let agrees = agree_same places x r (key_ints r two) (sym (key.first x) ∙ same ∙ key.first r) in
           differ_not (rowid x) (rowid r) (all_has _ (db tree) x keyed.ints one) (all_has _ (db tree) r keyed.ints two) (elim (cases_Bool (differ (rowid x) (rowid r))) [
             | inl apart ↦ absurd (true≢false (sym (some_from _ (db tree) x one (and_from _ _ agrees apart)) ∙ free))
@@ -121,9 +123,9 @@ module _ (tree : ℕ) (name : List ℕ) (columns : List Column) (places : List �
 
     -- ---- putting
 
-    puts : (sql : List ℕ) (width hole : ℕ) (terms project : List Term) → IsPutUnder tree at places sql width terms hole project → AlwaysPlain sql → (old new : State) (values : Row) (count : ℕ) → MakesValues t places width terms hole project values
-        → IsTrue old.in_transaction → ExecutesInside 0 sql values old new (Ok count) → Inside HasTables (Puts t (length places) values) old new
-    puts sql width hole terms project means asks old new values count writes inside ran = (
+    puts : (sql : List ℕ) (width hole : ℕ) (terms project : List Term) → IsPutUnder tree at places sql width terms hole project → AlwaysPlain sql → (values : Row) → MakesValues t places width terms hole project values
+        → (old new : State) (count : ℕ) → IsTrue old.in_transaction → ExecutesInside 0 sql values old new (Ok count) → Inside HasTables (Puts t (length places) values) old new
+    puts sql width hole terms project means asks values writes old new count inside ran = (
       ran.1.mode ∙ sym inside,
       λ has.
           let tables = has.nine.tables in
@@ -133,8 +135,8 @@ module _ (tree : ℕ) (name : List ℕ) (columns : List Column) (places : List �
           let none = unlinked tables indexes tree has.nine.free in
           let db = old.now.trees in
           let w = runs_as sql values old new schema has.nine.is _ (means tables indexes) (asks tables indexes) count ran.0 in
-          let keyed = sound.keyed t ours in
-          let up = upserting schema tree name columns None places (places ∷ []) [] at (place tables) none old.step_limit values places hole project plain (statement_of sql (understood schema sql)) terms width (Null ∷ values)
+          let keyed = sound.keyed t key.ours in
+          let up = upserting schema tree name columns None places (places ∷ []) [] at (key.place tables) none old.step_limit values places hole project key.plain (statement_of sql (understood schema sql)) terms width (Null ∷ values)
           db _ keyed (λ r there. writes.aimed (rowid r) _) writes.source (did schema old new _ _ values count has.nine.is w) in
           let number = at_least Chosen (next_rowid (db tree)) in
           let new_row : Row = Int number ∷ values in
@@ -142,9 +144,9 @@ module _ (tree : ℕ) (name : List ℕ) (columns : List Column) (places : List �
           let shown : visible t (cast_row t new_row) ≡ values = ap (visible t) (writes.again number) ∙ writes.shown number in
           let its_key : take (length places) values ≡ at_places places new_row = ap (take (length places)) (sym (writes.shown number)) ∙ key.first new_row in
           let found : (x : Row) → conflicts (Some places) (all_indexes ++ indexes) t new_row x ≡ agree_at places x new_row =
-              λ x. key.hits indexes new_row x ∙ unwrapped _ _ (none_share t (Some places) new_row x indexes (λ i there. has.nine.plain i there t ours)) in
-          let makes = upserts_make schema (nine_among tables) t (length places) none old.step_limit values places hole project plain new_row values old.now new.now
-          (subst (λ n. Upserted schema t none old.step_limit values places hole project plain n db new.now.trees) made up.0)
+          λ x. key.hits indexes new_row x ∙ unwrapped _ _ (none_share t (Some places) new_row x indexes (λ i there. has.nine.plain i there t key.ours)) in
+          let makes = upserts_make schema (nine_among tables) t (length places) none old.step_limit values places hole project key.plain new_row values old.now new.now
+          (subst (λ n. Upserted schema t none old.step_limit values places hole project key.plain n db new.now.trees) made up.0)
           shown
           (λ r there same. writes.changed _ r (sym (key.first r) ∙ same))
           (λ x there. (
@@ -152,21 +154,19 @@ module _ (tree : ℕ) (name : List ℕ) (columns : List Column) (places : List �
             λ same. found x ∙ agree_same places x new_row (writes.ints number) (sym (key.first x) ∙ same ∙ its_key),
           ))
           (λ x r one two same. alone tables indexes db sound x r one two same)
-          ours sound w.sound up.1 in
-          done_with t old.now new.now has ours _ _ (λ did. did) makes,
+          key.ours sound w.sound up.1 in
+          done_with t old.now new.now has key.ours _ _ (λ did. did) makes,
     )
 
-    -- the parameters are shown to be the row
-    pub puts_keyed : (sql : List ℕ) (width hole : ℕ) (terms project : List Term) → IsPutUnder tree at places sql width terms hole project → AlwaysPlain sql → (old new : State) (values : Row) (count : ℕ) → MakesValues t places width terms hole project values
-        → (params : Row) → IsTrue old.in_transaction → ExecutesInside 0 sql params old new (Ok count) → params ≡ values → Inside HasTables (Puts t (length places) values) old new
-    puts_keyed sql width hole terms project means asks old new values count writes params inside h same = puts sql width hole terms project means asks old new values count writes inside (subst (λ p. ExecutesInside 0 sql p old new (Ok count)) same h)
+    pub puts_keyed : (sql : List ℕ) (width hole : ℕ) (terms project : List Term) → IsPutUnder tree at places sql width terms hole project → AlwaysPlain sql → (values : Row) → MakesValues t places width terms hole project values → DoneBy sql values (Puts t (length places) values)
+    puts_keyed sql width hole terms project means asks values writes = done_by sql values (Puts t (length places) values) (puts sql width hole terms project means asks values writes)
 
     -- ---- taking out what has the first columns of the key
 
     drops : (sql : List ℕ) (filter : List Term) → IsTakeOut tree at sql filter → AlwaysPlain sql → (front : List ℕ) → ((x : Row) → AreInts places x → AreInts front x) → ((x : Row) → take (length front) (visible t x) ≡ at_places front x)
-        → (old new : State) (k : Row) (count : ℕ) → AreInts front (Null ∷ k) → at_places front (Null ∷ k) ≡ k → ((x : Row) → list_all (holds (k ∷ x ∷ [])) filter ≡ agree_at front x (Null ∷ k))
-        → IsTrue old.in_transaction → ExecutesInside 0 sql k old new (Ok count) → Inside HasTables (Drops t (length front) k) old new
-    drops sql filter means asks front its_ints first old new k count ints whole finds inside ran = (
+        → (k : Row) → AreInts front (Null ∷ k) → at_places front (Null ∷ k) ≡ k → ((x : Row) → list_all (holds (k ∷ x ∷ [])) filter ≡ agree_at front x (Null ∷ k))
+        → (old new : State) (count : ℕ) → IsTrue old.in_transaction → ExecutesInside 0 sql k old new (Ok count) → Inside HasTables (Drops t (length front) k) old new
+    drops sql filter means asks front its_ints first k ints whole finds old new count inside ran = (
       ran.1.mode ∙ sym inside,
       λ has.
           let tables = has.nine.tables in
@@ -177,20 +177,18 @@ module _ (tree : ℕ) (name : List ℕ) (columns : List Column) (places : List �
           let db = old.now.trees in
           let test : Row → Bool = λ r. list_all (holds (k ∷ r ∷ [])) filter in
           let w = runs_as sql k old new schema has.nine.is _ (means tables indexes) (asks tables indexes) count ran.0 in
-          let keyed = sound.keyed t ours in
-          let out = removes schema tree name columns None places (places ∷ []) [] at (place tables) none old.step_limit k (statement_of sql (understood schema sql)) (record { lets = []; body = delete_query tree filter }) test db _ keyed
-          (λ rows answers. found_by tree filter db (overlay db []) k rows (plain db) (answers.answer Null)) (did schema old new _ _ k count has.nine.is w) in
+          let keyed = sound.keyed t key.ours in
+          let out = removes schema tree name columns None places (places ∷ []) [] at (key.place tables) none old.step_limit k (statement_of sql (understood schema sql)) (record { lets = []; body = delete_query tree filter }) test db _ keyed
+          (λ rows answers. found_by tree filter db (overlay db []) k rows (key.plain db) (answers.answer Null)) (did schema old new _ _ k count has.nine.is w) in
           let makes = loses_make schema (nine_among tables) t (length front) test k old.now new.now out.0
           (λ x there. (
             λ hit. first x ∙ same_at front x (Null ∷ k) (its_ints x (key_ints tables indexes db sound x there)) ints (sym (finds x) ∙ hit) ∙ whole,
             λ same. finds x ∙ agree_same front x (Null ∷ k) ints (sym (first x) ∙ same ∙ sym whole),
           ))
           sound w.sound out.1 in
-          done_with t old.now new.now has ours _ _ (λ did. did) makes,
+          done_with t old.now new.now has key.ours _ _ (λ did. did) makes,
     )
 
-    -- the parameters are shown to be these columns
     pub drops_keyed : (sql : List ℕ) (filter : List Term) → IsTakeOut tree at sql filter → AlwaysPlain sql → (front : List ℕ) → ((x : Row) → AreInts places x → AreInts front x) → ((x : Row) → take (length front) (visible t x) ≡ at_places front x)
-        → (old new : State) (k : Row) (count : ℕ) → AreInts front (Null ∷ k) → at_places front (Null ∷ k) ≡ k → ((x : Row) → list_all (holds (k ∷ x ∷ [])) filter ≡ agree_at front x (Null ∷ k))
-        → (params : Row) → IsTrue old.in_transaction → ExecutesInside 0 sql params old new (Ok count) → params ≡ k → Inside HasTables (Drops t (length front) k) old new
-    drops_keyed sql filter means asks front its_ints first old new k count ints whole finds params inside h same = drops sql filter means asks front its_ints first old new k count ints whole finds inside (subst (λ p. ExecutesInside 0 sql p old new (Ok count)) same h)
+        → (k : Row) → AreInts front (Null ∷ k) → at_places front (Null ∷ k) ≡ k → ((x : Row) → list_all (holds (k ∷ x ∷ [])) filter ≡ agree_at front x (Null ∷ k)) → DoneBy sql k (Drops t (length front) k)
+    drops_keyed sql filter means asks front its_ints first k ints whole finds = done_by sql k (Drops t (length front) k) (drops sql filter means asks front its_ints first k ints whole finds)

@@ -21,12 +21,7 @@ pub mod Terms
 pub mod MakingLaws
 pub mod CreateTexts
 pub mod NumberedLaws
-pub mod FactionRowLaws
-pub mod RegionRowLaws
-pub mod UnitRowLaws
-pub mod StructureRowLaws
-pub mod MailRowLaws
-pub mod ReportRowLaws
+pub mod NumberedRowLaws
 pub mod KeyLaws
 pub mod KeyedRowLaws
 pub mod HasRowLaws

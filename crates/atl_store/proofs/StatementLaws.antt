@@ -1,5 +1,5 @@
 -- What the statements on one table make of a database.
-use Rattle.std.proofs.Common.{◌≡◌, ◌/◌, ℕ, ℤ, Bool, false, List, [], ◌∷◌, ◌++◌, length, slice_get, Option, Some, None, Ok, sym, ap, ◌∙◌, subst}
+use Rattle.std.proofs.Common.{IsTrue, ◌≡◌, ◌/◌, ℕ, ℤ, Bool, false, List, [], ◌∷◌, ◌++◌, length, slice_get, Option, Some, None, Ok, sym, ap, ◌∙◌, subst}
 use Rattle.sqlite_value.specs.Order.{Row, column}
 use Rattle.sqlite_trees.specs.Tree.{Trees, rowid}
 use Rattle.sqlite_sql.specs.Term.{Term}
@@ -17,6 +17,12 @@ use Rattle.sqlite_rules.specs.Edit.{with_rowid}
 use Rattle.sqlite_rules.specs.Action.{works}
 use Rattle.sqlite_rules.specs.declared.error.Rowids.TheVariants.{Chosen}
 use Rattle.sqlite.specs.declared.run.Mode.{Mode}
+use Rattle.sqlite.specs.Listing.{understood}
+use Rattle.sqlite.specs.State.{State, ExecutesInside}
+use Rattle.sqlite.proofs.Callers.{IsPlain}
+use Rattle.sqlite_schema.specs.declared.schema.Index.{Index}
+use Rattle.atl_store.specs.Inside.{Inside, HasTables}
+use Rattle.atl_store.specs.Tables.{nine_and}
 use Rattle.sqlite.specs.Effect.{Database, Answers, value_rows}
 use Rattle.sqlite.specs.Rows.{Written, Task, Then, Gives, TriesEach, Counts, InsertsOr, count_of, nothing, mended, shown}
 use Rattle.sqlite.specs.Does.{Tally, Does, AtPlace, OnRows, Concludes}
@@ -105,3 +111,16 @@ module _ (schema : Schema) (tree : ℕ) (name : List ℕ) (columns : List Column
         let wrote = went did in
         let end = concluded limit params wrote.0 out wrote.2 in
         (subst (Changed (made_up db src) db) (sym end.0) (rows_upsert terms width src db wrote.0 keyed aimed source wrote.1), end.1)
+
+-- ---- statements by their text
+
+-- whatever came behind the nine tables, the statement of this text commits nothing by itself
+abbrev pub AlwaysPlain : List ℕ → Type 0
+AlwaysPlain sql = (more : List Table) (indexes : List Index) → IsPlain (understood (nine_and more indexes) sql)
+
+-- inside a transaction this is done by the statement of this text with these parameters
+abbrev pub DoneBy : List ℕ → Row → (Database → Database → Type 0) → Type 1
+DoneBy sql values What = (old new : State) (count : ℕ) (params : Row) → IsTrue old.in_transaction → ExecutesInside 0 sql params old new (Ok count) → params ≡ values → Inside HasTables What old new
+
+pub done_by : (sql : List ℕ) (values : Row) (What : Database → Database → Type 0) → ((old new : State) (count : ℕ) → IsTrue old.in_transaction → ExecutesInside 0 sql values old new (Ok count) → Inside HasTables What old new) → DoneBy sql values What
+done_by sql values What does old new count params inside h same = does old new count inside (subst (λ p. ExecutesInside 0 sql p old new (Ok count)) same h)

@@ -4,4 +4,4 @@ use Rattle.atl_store.proofs.WriteLaws.{weaker}
 use Rattle.atl_store.proofs.rows.books.drop_books.Goals as goal
 
 pub returns : goal.returns
-returns g c = weaker g.S.Store (λ old new did. drops_books old new c.args.entry c.args.thing did.1 _ did.0 did.2 (search rules)) c.run.ensures
+returns g c = weaker g.S.Store (λ old new did. drops_books c.args.entry c.args.thing old new did.1 _ did.0 did.2 (search rules)) c.run.ensures

@@ -4,4 +4,4 @@ use Rattle.atl_store.proofs.WriteLaws.{weaker}
 use Rattle.atl_store.proofs.rows.books.put_books.Goals as goal
 
 pub returns : goal.returns
-returns g c = weaker g.S.Store (λ old new did. puts_books old new c.args.row.now.entry c.args.row.now.thing _ did.1 _ did.0 did.2 (search rules)) c.run.ensures
+returns g c = weaker g.S.Store (λ old new did. puts_books c.args.row.now.entry c.args.row.now.thing _ old new did.1 _ did.0 did.2 (search rules)) c.run.ensures

@@ -5,4 +5,4 @@ use Rattle.atl_store.proofs.WriteLaws.{weaker}
 use Rattle.atl_store.proofs.rows.has.put_has.Goals as goal
 
 pub returns : goal.returns
-returns g c = weaker g.S.Store (λ old new did. puts_has old new c.args.row.now.unit (sort_number c.args.row.now.sort) c.args.row.now.thing c.args.row.now.amount did.1 _ did.0 did.2 (search rules)) c.run.ensures
+returns g c = weaker g.S.Store (λ old new did. puts_has c.args.row.now.unit (sort_number c.args.row.now.sort) c.args.row.now.thing c.args.row.now.amount old new did.1 _ did.0 did.2 (search rules)) c.run.ensures

@@ -1,0 +1,246 @@
+-- What the statements on the six tables under a number mean, and what they do.
+use Rattle.std.proofs.Common.{ℕ, pos, Bool, if◌then◌else◌, List, [], ◌∷◌, codes, refl, inl, inr}
+use Rattle.sqlite_tied.specs.Compute.{everything}
+use Rattle.sqlite.specs.declared.types.Value.TheVariants.{Text, Blob}
+use Rattle.sqlite.specs.Listing.{understood}
+use Rattle.sqlite.specs.Order.{Row}
+use Rattle.atl_store.specs.Tables.{faction_table, region_table, unit_table, structure_table, mail_table, report_table}
+use Rattle.atl_store.specs.Shown.{int, flag, faction_row, region_row, unit_row, structure_row, mail_row, report_row}
+use Rattle.atl_store.specs.Inside.{Puts, Drops}
+use Rattle.atl_store.proofs.NumberedLaws.{IsNumbered, MakesRow, puts_numbered, drops_numbered}
+use Rattle.atl_store.proofs.StatementLaws.{DoneBy}
+use Rattle.atl_store.proofs.Terms.{cast_null, cast_int}
+
+-- ---- faction
+
+abbrev pub put_faction : List ℕ
+put_faction = codes "INSERT INTO faction (number, joined_as, name, pass, gone) VALUES (?1, ?2, ?3, ?4, ?5) ON CONFLICT (number) DO UPDATE SET joined_as = ?2, name = ?3, pass = ?4, gone = ?5"
+
+abbrev pub drop_faction : List ℕ
+drop_faction = codes "DELETE FROM faction WHERE number = ?1"
+
+faction_statements : IsNumbered faction_table 1 4 put_faction drop_faction
+unfolding understood everything
+faction_statements = record {
+  ours = inr (inl refl);
+  place = λ more. refl;
+  plain = λ db. refl;
+  puts = λ more indexes. refl;
+  puts_plain = λ more indexes. (refl, refl);
+  drops = λ more indexes. refl;
+  drops_plain = λ more indexes. (refl, refl);
+}
+
+abbrev faction_values : List ℕ → List ℕ → List ℕ → Bool → Row
+faction_values joined_as name pass gone = Text joined_as ∷ Text name ∷ Text pass ∷ flag gone ∷ []
+
+faction_made : (number : ℕ) (joined_as name pass : List ℕ) (gone : Bool) → MakesRow faction_table 4 number (faction_values joined_as name pass gone)
+faction_made number joined_as name pass gone = record {
+  source = refl;
+  changed = λ more r. refl;
+  casted = rw (cast_int (pos number), cast_int (if gone then pos 1 else pos 0), cast_null) refl;
+  shown = refl;
+  aimed = λ x more. refl;
+  spared = λ x. refl;
+}
+
+pub puts_faction : (number : ℕ) (joined_as name pass : List ℕ) (gone : Bool) → DoneBy put_faction (faction_row number joined_as name pass gone) (Puts faction_table 1 (faction_row number joined_as name pass gone))
+puts_faction number joined_as name pass gone = puts_numbered faction_table.tree _ _ _ _ 1 4 put_faction drop_faction faction_statements number (faction_values joined_as name pass gone) (faction_made number joined_as name pass gone)
+
+pub drops_faction : (number : ℕ) → DoneBy drop_faction (int number ∷ []) (Drops faction_table 1 (int number ∷ []))
+drops_faction = drops_numbered faction_table.tree _ _ _ _ 1 4 put_faction drop_faction faction_statements
+
+-- ---- region
+
+abbrev pub put_region : List ℕ
+put_region = codes "INSERT INTO region (number, peasants, money) VALUES (?1, ?2, ?3) ON CONFLICT (number) DO UPDATE SET peasants = ?2, money = ?3"
+
+abbrev pub drop_region : List ℕ
+drop_region = codes "DELETE FROM region WHERE number = ?1"
+
+region_statements : IsNumbered region_table 2 2 put_region drop_region
+unfolding understood everything
+region_statements = record {
+  ours = inr (inr (inl refl));
+  place = λ more. refl;
+  plain = λ db. refl;
+  puts = λ more indexes. refl;
+  puts_plain = λ more indexes. (refl, refl);
+  drops = λ more indexes. refl;
+  drops_plain = λ more indexes. (refl, refl);
+}
+
+abbrev region_values : ℕ → ℕ → Row
+region_values peasants money = int peasants ∷ int money ∷ []
+
+region_made : (number peasants money : ℕ) → MakesRow region_table 2 number (region_values peasants money)
+region_made number peasants money = record {
+  source = refl;
+  changed = λ more r. refl;
+  casted = rw (cast_int (pos number), cast_int (pos peasants), cast_int (pos money), cast_null) refl;
+  shown = refl;
+  aimed = λ x more. refl;
+  spared = λ x. refl;
+}
+
+pub puts_region : (number peasants money : ℕ) → DoneBy put_region (region_row number peasants money) (Puts region_table 1 (region_row number peasants money))
+puts_region number peasants money = puts_numbered region_table.tree _ _ _ _ 2 2 put_region drop_region region_statements number (region_values peasants money) (region_made number peasants money)
+
+pub drops_region : (number : ℕ) → DoneBy drop_region (int number ∷ []) (Drops region_table 1 (int number ∷ []))
+drops_region = drops_numbered region_table.tree _ _ _ _ 2 2 put_region drop_region region_statements
+
+-- ---- unit
+
+abbrev pub put_unit : List ℕ
+put_unit = codes "INSERT INTO unit (number, faction, name, region, structure, men, money, guard) VALUES (?1, ?2, ?3, ?4, ?5, ?6, ?7, ?8) ON CONFLICT (number) DO UPDATE SET faction = ?2, name = ?3, region = ?4, structure = ?5, men = ?6, money = ?7, guard = ?8"
+
+abbrev pub drop_unit : List ℕ
+drop_unit = codes "DELETE FROM unit WHERE number = ?1"
+
+unit_statements : IsNumbered unit_table 3 7 put_unit drop_unit
+unfolding understood everything
+unit_statements = record {
+  ours = inr (inr (inr (inl refl)));
+  place = λ more. refl;
+  plain = λ db. refl;
+  puts = λ more indexes. refl;
+  puts_plain = λ more indexes. (refl, refl);
+  drops = λ more indexes. refl;
+  drops_plain = λ more indexes. (refl, refl);
+}
+
+abbrev unit_values : ℕ → List ℕ → ℕ → ℕ → ℕ → ℕ → Bool → Row
+unit_values faction name region structure men money guard = int faction ∷ Text name ∷ int region ∷ int structure ∷ int men ∷ int money ∷ flag guard ∷ []
+
+unit_made : (number faction : ℕ) (name : List ℕ) (region structure men money : ℕ) (guard : Bool) → MakesRow unit_table 7 number (unit_values faction name region structure men money guard)
+unit_made number faction name region structure men money guard = record {
+  source = refl;
+  changed = λ more r. refl;
+  casted = rw (cast_int (pos number), cast_int (pos faction), cast_int (pos region), cast_int (pos structure), cast_int (pos men), cast_int (pos money), cast_int (if guard then pos 1 else pos 0), cast_null) refl;
+  shown = refl;
+  aimed = λ x more. refl;
+  spared = λ x. refl;
+}
+
+pub puts_unit : (number faction : ℕ) (name : List ℕ) (region structure men money : ℕ) (guard : Bool) → DoneBy put_unit (unit_row number faction name region structure men money guard) (Puts unit_table 1 (unit_row number faction name region structure men money guard))
+puts_unit number faction name region structure men money guard = puts_numbered unit_table.tree _ _ _ _ 3 7 put_unit drop_unit unit_statements number (unit_values faction name region structure men money guard) (unit_made number faction name region structure men money guard)
+
+pub drops_unit : (number : ℕ) → DoneBy drop_unit (int number ∷ []) (Drops unit_table 1 (int number ∷ []))
+drops_unit = drops_numbered unit_table.tree _ _ _ _ 3 7 put_unit drop_unit unit_statements
+
+-- ---- structure
+
+abbrev pub put_structure : List ℕ
+put_structure = codes "INSERT INTO structure (number, kind, name, region, done, owner) VALUES (?1, ?2, ?3, ?4, ?5, ?6) ON CONFLICT (number) DO UPDATE SET kind = ?2, name = ?3, region = ?4, done = ?5, owner = ?6"
+
+abbrev pub drop_structure : List ℕ
+drop_structure = codes "DELETE FROM structure WHERE number = ?1"
+
+structure_statements : IsNumbered structure_table 5 5 put_structure drop_structure
+unfolding understood everything
+structure_statements = record {
+  ours = inr (inr (inr (inr (inr (inl refl)))));
+  place = λ more. refl;
+  plain = λ db. refl;
+  puts = λ more indexes. refl;
+  puts_plain = λ more indexes. (refl, refl);
+  drops = λ more indexes. refl;
+  drops_plain = λ more indexes. (refl, refl);
+}
+
+abbrev structure_values : ℕ → List ℕ → ℕ → ℕ → ℕ → Row
+structure_values kind name region done owner = int kind ∷ Text name ∷ int region ∷ int done ∷ int owner ∷ []
+
+structure_made : (number kind : ℕ) (name : List ℕ) (region done owner : ℕ) → MakesRow structure_table 5 number (structure_values kind name region done owner)
+structure_made number kind name region done owner = record {
+  source = refl;
+  changed = λ more r. refl;
+  casted = rw (cast_int (pos number), cast_int (pos kind), cast_int (pos region), cast_int (pos done), cast_int (pos owner), cast_null) refl;
+  shown = refl;
+  aimed = λ x more. refl;
+  spared = λ x. refl;
+}
+
+pub puts_structure : (number kind : ℕ) (name : List ℕ) (region done owner : ℕ) → DoneBy put_structure (structure_row number kind name region done owner) (Puts structure_table 1 (structure_row number kind name region done owner))
+puts_structure number kind name region done owner = puts_numbered structure_table.tree _ _ _ _ 5 5 put_structure drop_structure structure_statements number (structure_values kind name region done owner) (structure_made number kind name region done owner)
+
+pub drops_structure : (number : ℕ) → DoneBy drop_structure (int number ∷ []) (Drops structure_table 1 (int number ∷ []))
+drops_structure = drops_numbered structure_table.tree _ _ _ _ 5 5 put_structure drop_structure structure_statements
+
+-- ---- mail
+
+abbrev pub put_mail : List ℕ
+put_mail = codes "INSERT INTO mail (faction, text) VALUES (?1, ?2) ON CONFLICT (faction) DO UPDATE SET text = ?2"
+
+abbrev pub drop_mail : List ℕ
+drop_mail = codes "DELETE FROM mail WHERE faction = ?1"
+
+mail_statements : IsNumbered mail_table 6 1 put_mail drop_mail
+unfolding understood everything
+mail_statements = record {
+  ours = inr (inr (inr (inr (inr (inr (inl refl))))));
+  place = λ more. refl;
+  plain = λ db. refl;
+  puts = λ more indexes. refl;
+  puts_plain = λ more indexes. (refl, refl);
+  drops = λ more indexes. refl;
+  drops_plain = λ more indexes. (refl, refl);
+}
+
+abbrev mail_values : List ℕ → Row
+mail_values text = Blob text ∷ []
+
+mail_made : (faction : ℕ) (text : List ℕ) → MakesRow mail_table 1 faction (mail_values text)
+mail_made faction text = record {
+  source = refl;
+  changed = λ more r. refl;
+  casted = rw (cast_int (pos faction), cast_null) refl;
+  shown = refl;
+  aimed = λ x more. refl;
+  spared = λ x. refl;
+}
+
+pub puts_mail : (faction : ℕ) (text : List ℕ) → DoneBy put_mail (mail_row faction text) (Puts mail_table 1 (mail_row faction text))
+puts_mail faction text = puts_numbered mail_table.tree _ _ _ _ 6 1 put_mail drop_mail mail_statements faction (mail_values text) (mail_made faction text)
+
+pub drops_mail : (faction : ℕ) → DoneBy drop_mail (int faction ∷ []) (Drops mail_table 1 (int faction ∷ []))
+drops_mail = drops_numbered mail_table.tree _ _ _ _ 6 1 put_mail drop_mail mail_statements
+
+-- ---- report
+
+abbrev pub put_report : List ℕ
+put_report = codes "INSERT INTO report (faction, text) VALUES (?1, ?2) ON CONFLICT (faction) DO UPDATE SET text = ?2"
+
+abbrev pub drop_report : List ℕ
+drop_report = codes "DELETE FROM report WHERE faction = ?1"
+
+report_statements : IsNumbered report_table 7 1 put_report drop_report
+unfolding understood everything
+report_statements = record {
+  ours = inr (inr (inr (inr (inr (inr (inr (inl refl)))))));
+  place = λ more. refl;
+  plain = λ db. refl;
+  puts = λ more indexes. refl;
+  puts_plain = λ more indexes. (refl, refl);
+  drops = λ more indexes. refl;
+  drops_plain = λ more indexes. (refl, refl);
+}
+
+abbrev report_values : List ℕ → Row
+report_values text = Text text ∷ []
+
+report_made : (faction : ℕ) (text : List ℕ) → MakesRow report_table 1 faction (report_values text)
+report_made faction text = record {
+  source = refl;
+  changed = λ more r. refl;
+  casted = rw (cast_int (pos faction), cast_null) refl;
+  shown = refl;
+  aimed = λ x more. refl;
+  spared = λ x. refl;
+}
+
+pub puts_report : (faction : ℕ) (text : List ℕ) → DoneBy put_report (report_row faction text) (Puts report_table 1 (report_row faction text))
+puts_report faction text = puts_numbered report_table.tree _ _ _ _ 7 1 put_report drop_report report_statements faction (report_values text) (report_made faction text)
+
+pub drops_report : (faction : ℕ) → DoneBy drop_report (int faction ∷ []) (Drops report_table 1 (int faction ∷ []))
+drops_report = drops_numbered report_table.tree _ _ _ _ 7 1 put_report drop_report report_statements
