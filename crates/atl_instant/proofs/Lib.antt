@@ -6,6 +6,7 @@ pub mod OrderLaws
 pub mod WrittenLaws
 pub mod FoundLaws
 pub mod MeaningLaws
+pub mod RoomLaws
 pub mod BookingLaws
 pub mod StayingLaws
 pub mod StepLaws

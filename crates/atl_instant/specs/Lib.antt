@@ -1,6 +1,7 @@
 pub mod Course
 pub mod Meaning
 pub mod Terms
+pub mod Room
 pub mod PhaseOrders
 pub mod Collecting
 pub mod Terrains

@@ -1,0 +1,13 @@
+-- Books have room for a phase that moves little.
+use Rattle.std.proofs.Common.{ℕ, ◌≤◌, arith}
+use Rattle.std.specs.Prelude.{ℤ}
+use Rattle.std.proofs.lemmas.Int.{ints}
+use Rattle.atl_state.specs.Books.{IsWithin, amount_in}
+use Rattle.atl_instant.specs.Meaning.{HasRoom, most_moved}
+use Rattle.atl_instant.specs.Room.{OnePhaseHasRoom, roomy_amount}
+
+room : (moved : ℕ) (amount : ℤ) → moved ≤ most_moved → IsWithin roomy_amount amount → HasRoom moved amount
+room moved amount little within = record { above = omega (arith, ints, within.most); below = omega (arith, ints, within.least) }
+
+pub one_phase_has_room : OnePhaseHasRoom
+one_phase_has_room moving c little roomy e t = room (moving e t) (amount_in c.books e t) (little e t) (roomy e t)
