@@ -1,17 +1,17 @@
 -- The regions gathered from a faction's units are those that it sees.
-use Rattle.std.proofs.Common.{◌≡◌, ◌==◌, ℕ, Bool, true, false, cond, ◌&&◌, ◌||◌, nat_eq, nat_lt, List, [], ◌∷◌, filter, Option, Some, None, refl, sym, ap, ◌∙◌, arith}
+use Rattle.std.proofs.Common.{◌≡◌, ◌==◌, ℕ, Bool, true, false, cond, ◌&&◌, ◌||◌, nat_lt, List, [], ◌∷◌, filter, Option, Some, None, refl, sym, ap, ◌∙◌, arith}
 use Rattle.std.specs.declared.cmp.Ordering.TheVariants.{Less, Equal, Greater}
 use Rattle.std.specs.Ordering.{nat_cmp, eq_by_cmp, is_eq, is_lt, ordering_reverse}
-use Rattle.std.specs.Cmp.{nat_cmp_total, unsigned_tied}
+use Rattle.std.specs.Cmp.{nat_cmp_total}
 use Rattle.std.specs.List.{list_any}
 use Rattle.std.specs.FinMap.{FinMap, get, get-entries, get-empty, get-insert, get-from_sorted, find, empty, entries, entries_sorted, entries-from_sorted, from_sorted, is_sorted, same_map, nat_cmp-IsAntisymmetric}
 use Rattle.std.specs.FinMap.Entries.{below_all, where_key, is_sorted-where_key, find-where_key}
 use Rattle.std.proofs.lemmas.Bool.{false≢true, and_parts}
-use Rattle.std.proofs.lemmas.Bool.Decides.{nat_tests}
 use Rattle.std.proofs.lemmas.Cmp.{tied_itself}
 use Rattle.atl_tables.specs.Sums.{numbers_among, numbers_where}
 use Rattle.atl_tables.proofs.SumLaws.{chosen-cons}
 use Rattle.atl_tables.proofs.TrackLaws.{is_true}
+use Rattle.atl_tables.proofs.GeneralLaws.{key_turned}
 use Rattle.atl_state.specs.declared.records.Region.{Region}
 use Rattle.atl_state.specs.declared.records.Unit.{Unit}
 use Rattle.atl_state.specs.State.{State, numbers_of}
@@ -73,17 +73,11 @@ regrouped true false e false h = refl
 regrouped false m e true h = refl
 regrouped false m e false h = refl
 
-same_region : (q r : ℕ) → eq_by_cmp nat_cmp q r ≡ (r == q)
-same_region q r = unsigned_tied q r ∙ turned q r
-  where
-    turned : (q r : ℕ) → nat_eq q r ≡ nat_eq r q
-    turned q r = grind (arith, nat_tests)
-
 -- a region is seen where one of the faction's units watches in it
 seen_by : (c : State) (f q : ℕ) → list_any (λ n. watches_in f q (get c.units n)) (numbers_of f c.units) ≡ sees_region c f q
 seen_by c f q =
     some_where (λ (u : Unit). u.faction == f) (watches_in f q) c.units
-    ∙ ap (λ (t : ℕ × Unit → Bool). list_any t (entries c.units)) (λ i e. regrouped (e.1.faction == f) (nat_lt 0 e.1.holding.men) (eq_by_cmp nat_cmp q e.1.region) (e.1.region == q) (same_region q e.1.region) i)
+    ∙ ap (λ (t : ℕ × Unit → Bool). list_any t (entries c.units)) (λ i e. regrouped (e.1.faction == f) (nat_lt 0 e.1.holding.men) (eq_by_cmp nat_cmp q e.1.region) (e.1.region == q) (key_turned q e.1.region) i)
     ∙ sym (some_where (λ (u : Unit). u.region == q) (is_watching f) c.units)
 
 -- ---- the regions gathered

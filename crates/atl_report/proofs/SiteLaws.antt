@@ -1,21 +1,16 @@
 -- The structures of each region, listed one after another.
-use Rattle.std.proofs.Common.{◌≡◌, ◌==◌, ◌++◌, ℕ, Bool, true, false, cond, nat_eq, List, [], ◌∷◌, Option, Some, unwrap_or, refl, sym, ap, ◌∙◌, arith}
+use Rattle.std.proofs.Common.{◌≡◌, ◌==◌, ◌++◌, ℕ, Bool, true, false, cond, List, [], ◌∷◌, Option, Some, unwrap_or, refl, sym, ap, ◌∙◌, arith}
 use Rattle.std.specs.Ordering.{nat_cmp, eq_by_cmp}
-use Rattle.std.specs.Cmp.{nat_cmp_total, unsigned_tied}
+use Rattle.std.specs.Cmp.{nat_cmp_total}
 use Rattle.std.specs.FinMap.{FinMap, get, get-insert, get-empty, empty}
 use Rattle.std.proofs.lemmas.Bool.Decides.{nat_tests}
 use Rattle.std.proofs.lemmas.List.{append_assoc}
 use Rattle.atl_tables.specs.Sums.{numbers_among}
 use Rattle.atl_tables.proofs.SumLaws.{chosen-cons}
+use Rattle.atl_tables.proofs.GeneralLaws.{key_turned}
 use Rattle.atl_state.specs.declared.records.Structure.{Structure}
 use Rattle.atl_state.specs.Kept.{list_of}
 use Rattle.atl_report.specs.Sites.{with_site}
-
-same_number : (q r : ℕ) → eq_by_cmp nat_cmp q r ≡ (r == q)
-same_number q r = unsigned_tied q r ∙ turned q r
-  where
-    turned : (q r : ℕ) → nat_eq q r ≡ nat_eq r q
-    turned q r = grind (arith, nat_tests)
 
 -- the list of a region once a structure is put at the end of that of another, or of this one
 by_region : (b : Bool) (o : Option (List ℕ)) (listed rest : List ℕ) (n : ℕ) → (b ≡ true → listed ≡ unwrap_or o [])
@@ -34,7 +29,7 @@ pub site_goes_on : (sites : FinMap nat_cmp (List ℕ)) (n : ℕ) (s : Structure)
     ≡ list_of sites region ++ numbers_among (λ (t : Structure). t.region == region) ((n, s) ∷ es)
 site_goes_on sites n s es region =
     ap (λ o. unwrap_or o [] ++ numbers_among (λ (t : Structure). t.region == region) es) (get-insert nat_cmp_total sites s.region (list_of sites s.region ++ (n ∷ [])) region)
-    ∙ ap (λ b. unwrap_or (cond b (Some (list_of sites s.region ++ (n ∷ []))) (get sites region)) [] ++ numbers_among (λ (t : Structure). t.region == region) es) (same_number region s.region)
+    ∙ ap (λ b. unwrap_or (cond b (Some (list_of sites s.region ++ (n ∷ []))) (get sites region)) [] ++ numbers_among (λ (t : Structure). t.region == region) es) (key_turned region s.region)
     ∙ by_region (s.region == region) (get sites region) (list_of sites s.region) (numbers_among (λ (t : Structure). t.region == region) es) n (same_list sites region s.region)
     ∙ ap (λ l. list_of sites region ++ l) (sym (chosen-cons (λ (t : Structure). t.region == region) (n, s) es))
 

@@ -1,12 +1,13 @@
 -- The events of each faction, listed one after another.
-use Rattle.std.proofs.Common.{Result, Ok, Err, ◌≡◌, ◌==◌, ◌++◌, ◌+◌, ◌<◌, ℕ, Bool, true, false, cond, nat_eq, List, [], ◌∷◌, Option, Some, unwrap_or, refl, sym, ap, ◌∙◌, arith, length, get_or, drop}
+use Rattle.std.proofs.Common.{Result, Ok, Err, ◌≡◌, ◌==◌, ◌++◌, ◌+◌, ◌<◌, ℕ, Bool, true, false, cond, List, [], ◌∷◌, Option, Some, unwrap_or, refl, sym, ap, ◌∙◌, arith, length, get_or, drop}
 use Rattle.std.specs.Prelude.{OnOk}
 use Rattle.std.specs.Ordering.{nat_cmp, eq_by_cmp}
-use Rattle.std.specs.Cmp.{nat_cmp_total, unsigned_tied}
+use Rattle.std.specs.Cmp.{nat_cmp_total}
 use Rattle.std.specs.FinMap.{FinMap, get, get-insert, get-empty, empty}
 use Rattle.std.proofs.lemmas.Bool.Decides.{nat_tests}
 use Rattle.std.proofs.lemmas.List.{append_assoc, drop_more}
 use Rattle.atl_tables.specs.Planet.{Planet}
+use Rattle.atl_tables.proofs.GeneralLaws.{key_turned}
 use Rattle.atl_orders.specs.declared.fault.FaultyLine.{FaultyLine}
 use Rattle.atl_state.specs.declared.event.Event.{Event}
 use Rattle.atl_state.specs.State.{State, with_report}
@@ -14,12 +15,6 @@ use Rattle.atl_report.specs.Events.{own_events}
 use Rattle.atl_report.proofs.EventLaws.{only_what_is_seen_is_told}
 use Rattle.atl_service.specs.Closing.{reported_with}
 use Rattle.atl_service.specs.Sorting.{events_of, with_event}
-
-same_number : (q r : ℕ) → eq_by_cmp nat_cmp q r ≡ (r == q)
-same_number q r = unsigned_tied q r ∙ turned q r
-  where
-    turned : (q r : ℕ) → nat_eq q r ≡ nat_eq r q
-    turned q r = grind (arith, nat_tests)
 
 -- the list of a faction once an event is put at the end of that of another, or of this one
 by_faction : (b : Bool) (o : Option (List Event)) (listed rest : List Event) (e : Event) → (b ≡ true → listed ≡ unwrap_or o [])
@@ -37,7 +32,7 @@ event_goes_on : (sorted : FinMap nat_cmp (List Event)) (e : Event) (es : List Ev
     → events_of (with_event sorted e) n ++ own_events n es ≡ events_of sorted n ++ own_events n (e ∷ es)
 event_goes_on sorted e es n =
     ap (λ o. unwrap_or o [] ++ own_events n es) (get-insert nat_cmp_total sorted e.faction (events_of sorted e.faction ++ (e ∷ [])) n)
-    ∙ ap (λ b. unwrap_or (cond b (Some (events_of sorted e.faction ++ (e ∷ []))) (get sorted n)) [] ++ own_events n es) (same_number n e.faction)
+    ∙ ap (λ b. unwrap_or (cond b (Some (events_of sorted e.faction ++ (e ∷ []))) (get sorted n)) [] ++ own_events n es) (key_turned n e.faction)
     ∙ by_faction (e.faction == n) (get sorted n) (events_of sorted e.faction) (own_events n es) e (same_list sorted n e.faction)
 
 -- an event more of these, at this place
