@@ -2,7 +2,7 @@
 ghost use Rattle.std.specs.Prelude.{◌≡◌};
 ghost use Rattle.atl_orders.specs.declared.fault.MailFault.TheVariants.{Memory};
 
-use atl_tables::variant_names;
+use atl_tables::name_of;
 use std::alloc::{AllocError, AllocFailed};
 use std::error::Error;
 use std::fmt;
@@ -34,12 +34,6 @@ pub enum LineFault {
     BadName = 11,
 }
 
-/// The names of the faults, by their numbers.
-const NAMES: [&str; 11] = variant_names!(
-    NoUnit UnknownOrder BadNumber UnknownThing MissingWord BadByte BadAlias NestedForm EndAlone
-    BadDirection BadName
-);
-
 impl LineFault {
     ghost use Rattle.atl_orders.specs.Faulting.{fault_number, fault_name};
 
@@ -54,7 +48,10 @@ impl LineFault {
     pub fn name(self) -> &'static str
         ensures { result.now ≡ fault_name self }
     {
-        NAMES[self as usize - 1]
+        name_of!(
+            self, LineFault: NoUnit UnknownOrder BadNumber UnknownThing MissingWord BadByte
+            BadAlias NestedForm EndAlone BadDirection BadName
+        )
     }
 }
 

@@ -1,4 +1,4 @@
-//! Lists of the variants of an enum, in the order of their numbers.
+//! Lists of the variants of an enum.
 
 /// Some variants of an enum: `variants!(Verb: Name Guard)` is `[Verb::Name, Verb::Guard]`.
 #[macro_export]
@@ -8,10 +8,13 @@ macro_rules! variants {
     };
 }
 
-/// The names of some variants: `variant_names!(NoUnit EndAlone)` is `["NoUnit", "EndAlone"]`.
+/// The name of the variant that a value is, of an enum with these variants: `name_of!(fault, LineFault: NoUnit EndAlone)` is
+/// `"EndAlone"` of `LineFault::EndAlone`.
 #[macro_export]
-macro_rules! variant_names {
-    ($($variant:ident)*) => {
-        [$(stringify!($variant)),*]
+macro_rules! name_of {
+    ($value:expr, $enum:ident: $($variant:ident)*) => {
+        match $value {
+            $($enum::$variant => stringify!($variant),)*
+        }
     };
 }
