@@ -10,55 +10,37 @@ abbrev pub event_keyword : EventVerb → List ℕ
 event_keyword (Order verb) = keyword verb
 event_keyword Upkeep = codes "UPKEEP"
 
+-- each fault by its number and its name
+abbrev pub event_fault : EventFault → ℕ × List ℕ
+event_fault NotYours = (1, codes "NotYours")
+event_fault NotHere = (2, codes "NotHere")
+event_fault NotEnough = (3, codes "NotEnough")
+event_fault NoRoom = (4, codes "NoRoom")
+event_fault Guarded = (5, codes "Guarded")
+event_fault NotOwner = (6, codes "NotOwner")
+event_fault NotInside = (7, codes "NotInside")
+event_fault UnitLimit = (8, codes "UnitLimit")
+event_fault AtSea = (9, codes "AtSea")
+event_fault NoMen = (10, codes "NoMen")
+event_fault WrongNumber = (11, codes "WrongNumber")
+event_fault NotGuarding = (12, codes "NotGuarding")
+event_fault NoSkill = (13, codes "NoSkill")
+event_fault NoMaterial = (14, codes "NoMaterial")
+event_fault Complete = (15, codes "Complete")
+event_fault StructureLimit = (16, codes "StructureLimit")
+event_fault NoWay = (17, codes "NoWay")
+event_fault TooHeavy = (18, codes "TooHeavy")
+event_fault NotComplete = (19, codes "NotComplete")
+event_fault NoCrew = (20, codes "NoCrew")
+event_fault NotLearning = (21, codes "NotLearning")
+event_fault CannotTeach = (22, codes "CannotTeach")
+event_fault NoFee = (23, codes "NoFee")
+
 abbrev pub event_fault_number : EventFault → ℕ
-event_fault_number NotYours = 1
-event_fault_number NotHere = 2
-event_fault_number NotEnough = 3
-event_fault_number NoRoom = 4
-event_fault_number Guarded = 5
-event_fault_number NotOwner = 6
-event_fault_number NotInside = 7
-event_fault_number UnitLimit = 8
-event_fault_number AtSea = 9
-event_fault_number NoMen = 10
-event_fault_number WrongNumber = 11
-event_fault_number NotGuarding = 12
-event_fault_number NoSkill = 13
-event_fault_number NoMaterial = 14
-event_fault_number Complete = 15
-event_fault_number StructureLimit = 16
-event_fault_number NoWay = 17
-event_fault_number TooHeavy = 18
-event_fault_number NotComplete = 19
-event_fault_number NoCrew = 20
-event_fault_number NotLearning = 21
-event_fault_number CannotTeach = 22
-event_fault_number NoFee = 23
+event_fault_number fault = (event_fault fault).0
 
 abbrev pub event_fault_name : EventFault → List ℕ
-event_fault_name NotYours = codes "NotYours"
-event_fault_name NotHere = codes "NotHere"
-event_fault_name NotEnough = codes "NotEnough"
-event_fault_name NoRoom = codes "NoRoom"
-event_fault_name Guarded = codes "Guarded"
-event_fault_name NotOwner = codes "NotOwner"
-event_fault_name NotInside = codes "NotInside"
-event_fault_name UnitLimit = codes "UnitLimit"
-event_fault_name AtSea = codes "AtSea"
-event_fault_name NoMen = codes "NoMen"
-event_fault_name WrongNumber = codes "WrongNumber"
-event_fault_name NotGuarding = codes "NotGuarding"
-event_fault_name NoSkill = codes "NoSkill"
-event_fault_name NoMaterial = codes "NoMaterial"
-event_fault_name Complete = codes "Complete"
-event_fault_name StructureLimit = codes "StructureLimit"
-event_fault_name NoWay = codes "NoWay"
-event_fault_name TooHeavy = codes "TooHeavy"
-event_fault_name NotComplete = codes "NotComplete"
-event_fault_name NoCrew = codes "NoCrew"
-event_fault_name NotLearning = codes "NotLearning"
-event_fault_name CannotTeach = codes "CannotTeach"
-event_fault_name NoFee = codes "NoFee"
+event_fault_name fault = (event_fault fault).1
 
 -- by their numbers
 abbrev pub event_faults : List EventFault

@@ -11,6 +11,7 @@ ghost use Rattle.atl_state.specs.FromRows.{with_amount};
 ghost use Rattle.atl_state.specs.Rows.{amount_at};
 
 use crate::limits::{ENTRY_COUNT, FIRST_ITEM};
+use atl_tables::variants;
 use std::alloc::{AllocError, Global};
 use std::marker::Model;
 
@@ -18,31 +19,31 @@ use std::marker::Model;
 #[derive(Drop, Clone, Copy, Debug, PartialEq, Eq)]
 pub enum Entry {
     /// The money and the peasants that the regions begin with.
-    Founding,
+    Founding = 1,
     /// The money and the man that a faction begins with.
-    Joining,
+    Joining = 2,
     /// The money that comes to the regions in each season.
-    Income,
+    Income = 3,
     /// The money that units earn by work.
-    Wages,
+    Wages = 4,
     /// The money that goes for recruits.
-    Recruiting,
+    Recruiting = 5,
     /// The money that goes for study.
-    Study,
+    Study = 6,
     /// The money that goes for the upkeep of men.
-    Upkeep,
+    Upkeep = 7,
     /// The money and the items of units that are removed, where nobody receives them.
-    Lost,
+    Lost = 8,
     /// The peasants that are born.
-    Births,
+    Births = 9,
     /// The men that starve.
-    Starved,
+    Starved = 10,
     /// The men of a faction that quits.
-    Left,
+    Left = 11,
     /// The items that are produced.
-    Made,
+    Made = 12,
     /// The items that are used for building and producing.
-    Used,
+    Used = 13,
 }
 
 /// Of what amounts are booked.
@@ -58,42 +59,17 @@ pub enum Thing {
 
 impl Entry {
     /// All entries, in the order of their numbers.
-    pub const ALL: [Entry; ENTRY_COUNT] = [
-        Entry::Founding,
-        Entry::Joining,
-        Entry::Income,
-        Entry::Wages,
-        Entry::Recruiting,
-        Entry::Study,
-        Entry::Upkeep,
-        Entry::Lost,
-        Entry::Births,
-        Entry::Starved,
-        Entry::Left,
-        Entry::Made,
-        Entry::Used,
-    ];
+    pub const ALL: [Entry; ENTRY_COUNT] = variants!(
+        Entry: Founding Joining Income Wages Recruiting Study Upkeep Lost Births Starved Left
+        Made Used
+    );
 
     /// The entry's number, from 1.
     pub fn number(self) -> u32
         ensures place { result ≡ entry_place self + 1 }
         ensures small { result ≤ entry_count }
     {
-        match self {
-            Entry::Founding => 1,
-            Entry::Joining => 2,
-            Entry::Income => 3,
-            Entry::Wages => 4,
-            Entry::Recruiting => 5,
-            Entry::Study => 6,
-            Entry::Upkeep => 7,
-            Entry::Lost => 8,
-            Entry::Births => 9,
-            Entry::Starved => 10,
-            Entry::Left => 11,
-            Entry::Made => 12,
-            Entry::Used => 13,
-        }
+        self as u32
     }
 
     /// The place of the entry in a row.

@@ -18,35 +18,37 @@ use crate::rules::{
 };
 use atl_tables::World;
 use std::alloc::Global;
+use std::error::Error;
+use std::fmt;
 
 /// A rule that the rows of a campaign's tables keep. Each is read of rows that keep the rules before it. See
 /// docs/FORMATS.md, "Rules of the tables".
 #[derive(Drop, Clone, Copy, Debug, PartialEq, Eq)]
 pub enum Rule {
     /// There is one row of the campaign's own, whose id and format are 1.
-    OneRow,
+    OneRow = 1,
     /// Keys differ, each number is in its range, and there are not too many rows.
-    Ranges,
+    Ranges = 2,
     /// Names and pass texts keep their rules, and joined names differ.
-    Names,
+    Names = 3,
     /// The regions are the world's, and all that a row names is there.
-    Known,
+    Known = 4,
     /// The numbers that come next are those after the last.
-    Next,
+    Next = 5,
     /// Days of study are from 1 to MOST_DAYS for each man.
-    Days,
+    Days = 6,
     /// The factions that are gone are those without units.
-    Gone,
+    Gone = 7,
     /// A structure is owned by a unit inside, or by nobody where there is none.
-    Owners,
+    Owners = 8,
     /// On water units are inside ships, and structures are complete ships.
-    Water,
+    Water = 9,
     /// At most one faction guards a region.
-    Guards,
+    Guards = 10,
     /// The amounts of the books are of entries and things that are there, and the books balance.
-    Books,
+    Books = 11,
     /// Mail is of factions that are not gone, and every faction has a report.
-    Mail,
+    Mail = 12,
 }
 
 impl Rule {
@@ -54,20 +56,7 @@ impl Rule {
     pub fn number(self) -> u8
         ensures { result ≡ rule_number self }
     {
-        match self {
-            Rule::OneRow => 1,
-            Rule::Ranges => 2,
-            Rule::Names => 3,
-            Rule::Known => 4,
-            Rule::Next => 5,
-            Rule::Days => 6,
-            Rule::Gone => 7,
-            Rule::Owners => 8,
-            Rule::Water => 9,
-            Rule::Guards => 10,
-            Rule::Books => 11,
-            Rule::Mail => 12,
-        }
+        self as u8
     }
 }
 
@@ -76,8 +65,21 @@ impl Rule {
 pub enum CheckFault {
     /// The first rule that the rows break.
     Damaged(Rule),
+    /// There is no memory for it.
     Memory,
 }
+
+/// `Damaged` with the rule's number, as `Damaged 11`, or `Memory`.
+impl fmt::Display for CheckFault {
+    fn fmt<W: fmt::Write>(&self, f: &mut fmt::Formatter<W>) -> fmt::Result {
+        match self {
+            CheckFault::Damaged(rule) => write!(f, "Damaged {}", rule.number()),
+            CheckFault::Memory => write!(f, "Memory"),
+        }
+    }
+}
+
+impl Error for CheckFault {}
 
 /// The rules that are judged before a campaign is made of the rows.
 fn check_rows(alloc: Global, world: &World, parts: &Parts) -> Result<(), CheckFault>

@@ -2,6 +2,9 @@
 ghost use Rattle.std.specs.Prelude.{◌≡◌};
 
 use atl_orders::Verb;
+use atl_tables::{name_of, variants};
+use std::error::Error;
+use std::fmt;
 
 /// What an event tells of.
 #[derive(Drop, Clone, Copy, Debug, PartialEq, Eq)]
@@ -30,79 +33,59 @@ impl EventVerb {
 #[derive(Drop, Clone, Copy, Debug, PartialEq, Eq)]
 pub enum EventFault {
     /// The unit isn't there, or is another faction's.
-    NotYours,
+    NotYours = 1,
     /// The unit or structure isn't in the same region, or not inside the same structure.
-    NotHere,
+    NotHere = 2,
     /// Less is held than the order asks for.
-    NotEnough,
+    NotEnough = 3,
     /// The receiver can't hold so much more.
-    NoRoom,
+    NoRoom = 4,
     /// A unit of another faction guards the region.
-    Guarded,
+    Guarded = 5,
     /// The unit doesn't own the structure that it is inside.
-    NotOwner,
+    NotOwner = 6,
     /// The unit isn't inside a structure of the sort.
-    NotInside,
+    NotInside = 7,
     /// No further unit may be formed.
-    UnitLimit,
+    UnitLimit = 8,
     /// The unit is on water.
-    AtSea,
+    AtSea = 9,
     /// The unit has no men.
-    NoMen,
+    NoMen = 10,
     /// The number isn't that of the unit's faction.
-    WrongNumber,
+    WrongNumber = 11,
     /// The unit doesn't guard.
-    NotGuarding,
+    NotGuarding = 12,
     /// The unit's level is too low, or no skill makes the item.
-    NoSkill,
+    NoSkill = 13,
     /// The unit holds none of the material, or too little of it.
-    NoMaterial,
+    NoMaterial = 14,
     /// The structure is complete.
-    Complete,
+    Complete = 15,
     /// No further structure may be begun.
-    StructureLimit,
+    StructureLimit = 16,
     /// No region lies there that can be entered so.
-    NoWay,
+    NoWay = 17,
     /// What is to be carried is more than can be.
-    TooHeavy,
+    TooHeavy = 18,
     /// The ship isn't complete.
-    NotComplete,
+    NotComplete = 19,
     /// The sailors are too few.
-    NoCrew,
+    NoCrew = 20,
     /// No unit of the list learns in the region.
-    NotLearning,
+    NotLearning = 21,
     /// The teacher's level is above that of no unit that learns.
-    CannotTeach,
+    CannotTeach = 22,
     /// The unit can't pay the fee.
-    NoFee,
+    NoFee = 23,
 }
 
 /// All of them, by their numbers.
-const FAULTS: [EventFault; 23] = [
-    EventFault::NotYours,
-    EventFault::NotHere,
-    EventFault::NotEnough,
-    EventFault::NoRoom,
-    EventFault::Guarded,
-    EventFault::NotOwner,
-    EventFault::NotInside,
-    EventFault::UnitLimit,
-    EventFault::AtSea,
-    EventFault::NoMen,
-    EventFault::WrongNumber,
-    EventFault::NotGuarding,
-    EventFault::NoSkill,
-    EventFault::NoMaterial,
-    EventFault::Complete,
-    EventFault::StructureLimit,
-    EventFault::NoWay,
-    EventFault::TooHeavy,
-    EventFault::NotComplete,
-    EventFault::NoCrew,
-    EventFault::NotLearning,
-    EventFault::CannotTeach,
-    EventFault::NoFee,
-];
+const FAULTS: [EventFault; 23] = variants!(
+    EventFault: NotYours NotHere NotEnough NoRoom Guarded NotOwner NotInside UnitLimit AtSea
+    NoMen WrongNumber NotGuarding NoSkill NoMaterial Complete StructureLimit NoWay TooHeavy
+    NotComplete NoCrew NotLearning CannotTeach NoFee
+);
 
 impl EventFault {
     ghost use Rattle.std.specs.Prelude.{find, ◌==◌};
@@ -112,62 +95,18 @@ impl EventFault {
     pub fn number(self) -> u8
         ensures { result ≡ event_fault_number self }
     {
-        match self {
-            EventFault::NotYours => 1,
-            EventFault::NotHere => 2,
-            EventFault::NotEnough => 3,
-            EventFault::NoRoom => 4,
-            EventFault::Guarded => 5,
-            EventFault::NotOwner => 6,
-            EventFault::NotInside => 7,
-            EventFault::UnitLimit => 8,
-            EventFault::AtSea => 9,
-            EventFault::NoMen => 10,
-            EventFault::WrongNumber => 11,
-            EventFault::NotGuarding => 12,
-            EventFault::NoSkill => 13,
-            EventFault::NoMaterial => 14,
-            EventFault::Complete => 15,
-            EventFault::StructureLimit => 16,
-            EventFault::NoWay => 17,
-            EventFault::TooHeavy => 18,
-            EventFault::NotComplete => 19,
-            EventFault::NoCrew => 20,
-            EventFault::NotLearning => 21,
-            EventFault::CannotTeach => 22,
-            EventFault::NoFee => 23,
-        }
+        self as u8
     }
 
     /// The fault's name, as reports print it.
     pub fn name(self) -> &'static str
         ensures { result.now ≡ event_fault_name self }
     {
-        match self {
-            EventFault::NotYours => "NotYours",
-            EventFault::NotHere => "NotHere",
-            EventFault::NotEnough => "NotEnough",
-            EventFault::NoRoom => "NoRoom",
-            EventFault::Guarded => "Guarded",
-            EventFault::NotOwner => "NotOwner",
-            EventFault::NotInside => "NotInside",
-            EventFault::UnitLimit => "UnitLimit",
-            EventFault::AtSea => "AtSea",
-            EventFault::NoMen => "NoMen",
-            EventFault::WrongNumber => "WrongNumber",
-            EventFault::NotGuarding => "NotGuarding",
-            EventFault::NoSkill => "NoSkill",
-            EventFault::NoMaterial => "NoMaterial",
-            EventFault::Complete => "Complete",
-            EventFault::StructureLimit => "StructureLimit",
-            EventFault::NoWay => "NoWay",
-            EventFault::TooHeavy => "TooHeavy",
-            EventFault::NotComplete => "NotComplete",
-            EventFault::NoCrew => "NoCrew",
-            EventFault::NotLearning => "NotLearning",
-            EventFault::CannotTeach => "CannotTeach",
-            EventFault::NoFee => "NoFee",
-        }
+        name_of!(
+            self, EventFault: NotYours NotHere NotEnough NoRoom Guarded NotOwner NotInside
+            UnitLimit AtSea NoMen WrongNumber NotGuarding NoSkill NoMaterial Complete
+            StructureLimit NoWay TooHeavy NotComplete NoCrew NotLearning CannotTeach NoFee
+        )
     }
 
     /// The fault with this number.
@@ -180,6 +119,15 @@ impl EventFault {
             .find(|fault| fault.number() == number)
     }
 }
+
+/// The number and the name, as `17 NoWay`.
+impl fmt::Display for EventFault {
+    fn fmt<W: fmt::Write>(&self, f: &mut fmt::Formatter<W>) -> fmt::Result {
+        write!(f, "{} {}", self.number(), self.name())
+    }
+}
+
+impl Error for EventFault {}
 
 /// What an order, or a unit's upkeep, came to.
 #[derive(Drop, Clone, Copy, Debug, PartialEq, Eq)]

@@ -1,6 +1,8 @@
 //! What a campaign consists of.
 use crate::holding::Holding;
 use atl_tables::Text;
+use std::error::Error;
+use std::fmt;
 
 /// A player's faction. Names and pass texts keep their rules (docs/RULES.md, "Names and pass texts").
 pub struct Faction {
@@ -85,3 +87,12 @@ pub enum JoinFault {
     /// There is no memory for the faction or its unit.
     Memory,
 }
+
+/// Its name.
+impl fmt::Display for JoinFault {
+    fn fmt<W: fmt::Write>(&self, f: &mut fmt::Formatter<W>) -> fmt::Result {
+        write!(f, "{self:?}")
+    }
+}
+
+impl Error for JoinFault {}

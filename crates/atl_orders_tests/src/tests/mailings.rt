@@ -21,12 +21,7 @@ fn tell_orders(alloc: Global, mailing: &Mailing, told: &mut String) -> Result<()
 /// Adds the faults of a mailing, each behind its line.
 fn tell_faults(alloc: Global, mailing: &Mailing, told: &mut String) -> Result<(), Fail> {
     for faulty in mailing.faults.as_slice().iter() {
-        let fault = format!(in alloc;
-            "{}: {} {};",
-            faulty.line,
-            faulty.fault.number(),
-            faulty.fault.name()
-        )?;
+        let fault = format!(in alloc; "{}: {};", faulty.line, faulty.fault)?;
         told.push_str(&fault)?;
     }
     Ok(())

@@ -62,25 +62,12 @@ pub(crate) fn fault(alloc: Global, text: &str) -> Result<Text, Fail> {
     text_of(alloc, fault.as_ref())
 }
 
+/// What a fault is shown as: its number, name and path.
 fn text_of(alloc: Global, fault: Option<&WorldFault>) -> Result<Text, Fail> {
     match fault {
         None => Ok(Text::from_str(alloc, "none")?),
-        Some(fault) => told(alloc, fault),
+        Some(fault) => Ok(Text::from_string(format!(in alloc; "{fault}")?)),
     }
-}
-
-/// Number, name and path of a fault.
-fn told(alloc: Global, fault: &WorldFault) -> Result<Text, Fail> {
-    let number = fault.number().ok_or("no memory")?;
-    let name = fault.name();
-    let told = match fault.path() {
-        None => format!(in alloc; "{number} {name}")?,
-        Some(path) => {
-            let path = path.as_str();
-            format!(in alloc; "{number} {name} {path}")?
-        }
-    };
-    Ok(Text::from_string(told))
 }
 
 /// The first fault of a text with one piece replaced.
