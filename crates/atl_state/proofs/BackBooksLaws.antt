@@ -13,10 +13,11 @@ use Rattle.atl_state.specs.FromRows.{is_entry, put_amounts}
 use Rattle.atl_state.specs.Limits.{entry_count}
 use Rattle.atl_state.specs.RowRules.{books_key, HaveKeys}
 use Rattle.atl_state.specs.Rows.{is_zero, books_row, amount_at, entry_rows, books_rows}
-use Rattle.atl_state.proofs.BackLaws.{each_permuted, each_back, read_whole, written_whole, apart_keys, filter_apart, append_each, each_appended, InOrder, flat_apart, keys_permuted}
+use Rattle.atl_state.proofs.BackLaws.{each_permuted, each_back, read_whole, written_whole, apart_keys, append_each, each_appended, InOrder, flat_apart, keys_permuted}
 use Rattle.atl_state.proofs.BookLaws.{IsGrid-no_amounts}
 use Rattle.atl_state.proofs.BooksRowLaws.{IsBooked, books_order, cell, cells}
 use Rattle.atl_state.proofs.FromRowLaws.{put-grid}
+use Rattle.atl_state.proofs.GroupLaws.{filter_apart}
 use Rattle.atl_state.proofs.HasLaws.{same}
 
 -- ---- what is so of each of a list that is made of others
@@ -143,7 +144,7 @@ module _ (things : ℕ) where
             (flat_apart (λ a b. same (books_key a) (books_key b)) (cell books e) (λ j k. j < k) (λ t r. r.thing ≡ pos t)
             (λ x y a b l mine yours. apart_keys (books_key a) (books_key b) (λ k. let one = same_size x y (sym mine ∙ k.second ∙ yours) in omega arith))
             (λ t. nonzero_line (λ r. r.thing ≡ pos t) (books_row e t (amount_at books e t)) (λ _. refl))
-            (λ t. filter_apart (λ a b. same (books_key a) (books_key b)) (λ r. not (is_zero r.amount)) (books_row e t (amount_at books e t) ∷ []) (one_line (books_row e t (amount_at books e t)))) (range_with_len 0 (length books)) (range_order 0 (length books)))
+            (λ t. filter_apart (λ r. not (is_zero r.amount)) (λ a b. same (books_key a) (books_key b)) (books_row e t (amount_at books e t) ∷ []) (one_line (books_row e t (amount_at books e t)))) (range_with_len 0 (length books)) (range_order 0 (length books)))
 
     module _ (rows : List StoredBooks) (h : IsPermutation (books_rows books) rows) where
       pub books_keys : HaveKeys books_key rows

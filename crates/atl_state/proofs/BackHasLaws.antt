@@ -15,9 +15,10 @@ use Rattle.atl_state.specs.FromRows.{as_u32, is_of, things_had}
 use Rattle.atl_state.specs.Good.{Every}
 use Rattle.atl_state.specs.RowRules.{has_key, HaveKeys}
 use Rattle.atl_state.specs.Rows.{is_zero, has_row, rows_by, sort_rows, held_rows, has_rows}
-use Rattle.atl_state.proofs.BackLaws.{each_permuted, each_back, read_whole, written_whole, by_number_is, apart_keys, filter_apart, append_each, each_appended, append_apart, flat_apart, entries_rise, rows_apart, keys_permuted}
+use Rattle.atl_state.proofs.BackLaws.{each_permuted, each_back, read_whole, written_whole, by_number_is, apart_keys, append_each, each_appended, append_apart, flat_apart, entries_rise, rows_apart, keys_permuted}
 use Rattle.atl_state.proofs.BackBooksLaws.{flat_each, each_flat}
 use Rattle.atl_state.proofs.EveryLaws.{every-from_each, each-from_every}
+use Rattle.atl_state.proofs.GroupLaws.{filter_apart}
 use Rattle.atl_state.proofs.HasLaws.{IsKeyed, same, things_apart}
 use Rattle.atl_state.proofs.OrderLaws.{rows_found}
 
@@ -59,7 +60,7 @@ module _ (n sort : ℕ) where
 
   sort_apart : (m : FinMap nat_cmp ℕ) → IsDistinct (λ a b. same (has_key a) (has_key b)) (sort_rows n sort (entries m))
   sort_apart m =
-      filter_apart (λ a b. same (has_key a) (has_key b)) (λ r. not (is_zero r.amount)) (rows_by (has_row n sort) (entries m))
+      filter_apart (λ r. not (is_zero r.amount)) (λ a b. same (has_key a) (has_key b)) (rows_by (has_row n sort) (entries m))
       (rows_apart (has_row n sort) (λ a b. same (has_key a) (has_key b)) (λ i k a b l. apart_keys (has_key (has_row n sort i a)) (has_key (has_row n sort k b)) (λ keys. let one = same_size i k keys.third in omega arith)) (entries m) (entries_rise m))
 
 -- ---- the rows of all units

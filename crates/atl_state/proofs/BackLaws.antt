@@ -156,14 +156,6 @@ apart_numbers m n l = apart_keys (one_key (pos m)) (one_key (pos n)) (λ k. let 
 
 -- ---- rows that are listed one after another
 
-pub filter_each : {A : Type 0} (P : A → Type 0) (p : A → Bool) (xs : List A) → AllByRecursion P xs → AllByRecursion P (filter p xs)
-filter_each P p [] h = tt
-filter_each P p (x ∷ xs) h = either (filter_each P p xs h.1) (p x)
-  where
-    either : AllByRecursion P (filter p xs) → (b : Bool) → AllByRecursion P (cond b (x ∷ filter p xs) (filter p xs))
-    either rest true = (h.0, rest)
-    either rest false = rest
-
 pub append_each : {A : Type 0} (P : A → Type 0) (xs ys : List A) → AllByRecursion P xs → AllByRecursion P ys → AllByRecursion P (xs ++ ys)
 append_each P [] ys h k = k
 append_each P (x ∷ xs) ys h k = (h.0, append_each P xs ys h.1 k)
@@ -178,15 +170,6 @@ InOrder Before [] = ⊤
 InOrder Before (x ∷ xs) = AllByRecursion (Before x) xs × InOrder Before xs
 
 module _ {A : Type 0} (e : A → A → Bool) where
-  pub filter_apart : (p : A → Bool) (xs : List A) → IsDistinct e xs → IsDistinct e (filter p xs)
-  unfolding IsDistinct
-  filter_apart p [] d = tt
-  filter_apart p (x ∷ xs) d = either (filter_apart p xs d.1) (p x)
-    where
-      either : IsDistinct e (filter p xs) → (b : Bool) → IsDistinct e (cond b (x ∷ filter p xs) (filter p xs))
-      either rest true = (filter_each (λ y. e x y ≡ false) p xs d.0, rest)
-      either rest false = rest
-
   pub append_apart : (xs ys : List A) → IsDistinct e xs → IsDistinct e ys → AllByRecursion (λ x. AllByRecursion (λ y. e x y ≡ false) ys) xs → IsDistinct e (xs ++ ys)
   unfolding IsDistinct
   append_apart [] ys d f h = f

@@ -15,6 +15,7 @@ use Rattle.atl_state.specs.RowRules.{Key, books_key}
 use Rattle.atl_state.specs.Rows.{is_zero, books_row, amount_at, entry_rows, books_rows}
 use Rattle.atl_state.proofs.BookLaws.{no_row, nothing_in, IsGrid-no_amounts}
 use Rattle.atl_state.proofs.FromRowLaws.{IsGrid-with_amount}
+use Rattle.atl_state.proofs.GroupLaws.{filter_lines}
 use Rattle.atl_state.proofs.HasLaws.{IsWhole, same, ties_itself}
 
 -- ---- lists joined over a range of numbers
@@ -50,15 +51,8 @@ nowhere f h a (suc n) = ap (λ xs. xs ++ flat_map f (range_with_len (a + 1) n)) 
 abbrev pub cell : List (List ℤ) → ℕ → ℕ → List StoredBooks
 cell books entry thing = filter (λ r. not (is_zero r.amount)) (books_row entry thing (amount_at books entry thing) ∷ [])
 
-one_line : {A : Type 0} (b : Bool) (x : A) (xs : List A) → cond b (x ∷ []) [] ++ xs ≡ cond b (x ∷ xs) xs
-one_line true x xs = refl
-one_line false x xs = refl
-
 pub cells : (books : List (List ℤ)) (entry : ℕ) (things : List ℕ) → flat_map (cell books entry) things ≡ filter (λ r. not (is_zero r.amount)) (map (λ thing. books_row entry thing (amount_at books entry thing)) things)
-cells books entry [] = refl
-cells books entry (t ∷ things) =
-    ap (λ xs. cell books entry t ++ xs) (cells books entry things)
-    ∙ one_line (not (is_zero (amount_at books entry t))) (books_row entry t (amount_at books entry t)) (filter (λ r. not (is_zero r.amount)) (map (λ thing. books_row entry thing (amount_at books entry thing)) things))
+cells books entry things = filter_lines (λ r. not (is_zero r.amount)) (λ thing. books_row entry thing (amount_at books entry thing)) things
 
 module _ (things : ℕ) (books : List (List ℤ)) (g : IsGrid things books) (entry thing : ℕ) (z : ℤ) (e : entry < entry_count) (t : thing < things) where
   inside : thing < length books

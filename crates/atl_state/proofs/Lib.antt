@@ -6,6 +6,7 @@ pub mod AssemblyLaws
 pub mod BackLaws
 pub mod BackBooksLaws
 pub mod BackHasLaws
+pub mod GroupLaws
 pub mod GoodRowLaws
 pub mod GoodRuleLaws
 pub mod EntryLaws

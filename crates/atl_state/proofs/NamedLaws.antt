@@ -50,7 +50,7 @@ module _ (m : FinMap nat_cmp Faction) where
   its_name : (r : StoredFaction) (n : ℕ) (f : Faction) → Found r → number r ≡ n → get m n ≡ Some f → r.joined_as ≡ f.joined_as
   its_name r n f found e is = ap (λ (x : Faction). x.joined_as) (some_same (faction_of r) f (sym found ∙ ap (get m) e ∙ is))
 
-  later_differs : (name : List ℕ) (rows : List StoredFaction) (n : ℕ) (f : Faction) → AllByRecursion (λ y. same_text name y ≡ false) (map (λ r. r.joined_as) rows) → AllByRecursion Found rows → HasNumber number faction_of rows n → get m n ≡ Some f
+  later_differs : (name : List ℕ) (rows : List StoredFaction) (n : ℕ) (f : Faction) → AllByRecursion (λ y. same_text name y ≡ false) (map (λ r. r.joined_as) rows) → AllByRecursion Found rows → HasNumber number rows n → get m n ≡ Some f
       → same_text name f.joined_as ≡ false
   later_differs name [] n f d all there is = absurd there
   later_differs name (r ∷ rows) n f d all (inl e) is = ap (same_text name) (sym (its_name r n f all.0 e is)) ∙ d.0
@@ -59,7 +59,7 @@ module _ (m : FinMap nat_cmp Faction) where
   clash : (a b : List ℕ) → a ≡ b → same_text a b ≡ false → ⊥
   clash a b e d = false≢true (sym (ap (same_text a) e ∙ d) ∙ text_itself a)
 
-  one_name : (rows : List StoredFaction) (n k : ℕ) (f g : Faction) → HaveJoined rows → AllByRecursion Found rows → HasNumber number faction_of rows n → HasNumber number faction_of rows k → get m n ≡ Some f → get m k ≡ Some g → f.joined_as ≡ g.joined_as → n ≡ k
+  one_name : (rows : List StoredFaction) (n k : ℕ) (f g : Faction) → HaveJoined rows → AllByRecursion Found rows → HasNumber number rows n → HasNumber number rows k → get m n ≡ Some f → get m k ≡ Some g → f.joined_as ≡ g.joined_as → n ≡ k
   unfolding IsDistinct
   one_name [] n k f g d all a b is at e = absurd a
   one_name (r ∷ rows) n k f g d all (inl x) (inl y) is at e = sym x ∙ y

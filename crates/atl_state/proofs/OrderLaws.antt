@@ -24,6 +24,11 @@ abbrev pub Apart : {R : Type 0} → (R → ℕ) → List R → Type 0
 Apart number [] = ⊤
 Apart number (r ∷ rows) = AllByRecursion (λ s. number s ≢ number r) rows × Apart number rows
 
+-- some row has this number
+abbrev pub HasNumber : {R : Type 0} → (R → ℕ) → List R → ℕ → Type 0
+HasNumber number [] n = ⊥
+HasNumber number (r ∷ rows) n = (number r ≡ n) ⊎ HasNumber number rows n
+
 none_some : {A P : Type 0} (x : A) → Some x ≡ None → P
 none_some x e = cc
 
@@ -144,12 +149,7 @@ module _ {R V : Type 0} (number : R → ℕ) (value : R → V) where
   pub rows_there : (rows : List R) → AllByRecursion (λ r. IsThere (by_number number value rows) (number r)) rows
   rows_there rows = all_there rows empty
 
-  -- some row has this number
-  abbrev pub HasNumber : List R → ℕ → Type 0
-  HasNumber [] n = ⊥
-  HasNumber (r ∷ rows) n = (number r ≡ n) ⊎ HasNumber rows n
-
-  came_from : (rows : List R) (m : FinMap nat_cmp V) (n : ℕ) → IsThere (put_rows number value rows m) n → HasNumber rows n ⊎ IsThere m n
+  came_from : (rows : List R) (m : FinMap nat_cmp V) (n : ℕ) → IsThere (put_rows number value rows m) n → HasNumber number rows n ⊎ IsThere m n
   came_from [] m n h = inr h
   came_from (r ∷ rows) m n h =
       elim (came_from rows (insert m (number r) (value r)) n h) [
@@ -165,7 +165,7 @@ module _ {R V : Type 0} (number : R → ℕ) (value : R → V) where
   nothing_there n h = none_some h.0 (sym h.1 ∙ get-empty nat_cmp n)
 
   -- what stands in the map came with a row
-  pub row_of : (rows : List R) (n : ℕ) → IsThere (by_number number value rows) n → HasNumber rows n
+  pub row_of : (rows : List R) (n : ℕ) → IsThere (by_number number value rows) n → HasNumber number rows n
   row_of rows n h = elim (came_from rows empty n h) [ inl row ↦ row | inr there ↦ nothing_there n there ]
 
   count : (rows : List R) → length {A = ℕ × V} (flat_map (λ r. (number r, value r) ∷ []) rows) ≡ length rows

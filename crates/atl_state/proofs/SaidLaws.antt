@@ -6,7 +6,7 @@ use Rattle.std.specs.List.Sorted.{IsPermutation}
 use Rattle.std.specs.Option.{option_map_or}
 use Rattle.std.specs.Ordering.{nat_cmp}
 use Rattle.std.specs.FinMap.{FinMap, get, entries}
-use Rattle.std.proofs.lemmas.Bool.{and_parts, false≢true}
+use Rattle.std.proofs.lemmas.Bool.{and_parts, false≢true, not-true}
 use Rattle.std.proofs.lemmas.Bool.Decides.{nat_tests}
 use Rattle.std.proofs.lemmas.List.Sorted.{IsPermutation-refl}
 use Rattle.atl_tables.specs.Limits.{most_amount, most_size, last_region}
@@ -32,7 +32,8 @@ use Rattle.atl_state.specs.Rows.{flag, is_zero, rows_by, faction_row, region_row
 use Rattle.atl_state.proofs.AssemblyLaws.{from_range}
 use Rattle.atl_state.proofs.BooksRowLaws.{IsBooked, books_order}
 use Rattle.atl_state.proofs.FromRowLaws.{in_range, from_le, by_number-every, unit_ranges, number_ranges, head_ranges, NumberRanges}
-use Rattle.atl_state.proofs.HasLaws.{IsWhole, IsKeyed, IsExact, IsOfUnits, Has, same, ties_itself, things_apart, has_order}
+use Rattle.atl_state.proofs.GroupLaws.{unkept}
+use Rattle.atl_state.proofs.HasLaws.{IsWhole, IsKeyed, IsExact, IsOfUnits, same, ties_itself, things_apart, has_order}
 use Rattle.atl_state.proofs.OrderLaws.{Apart, Apart-keys, rows_order, rows_there, rows_found, each_row, row_of, HasNumber, each_passes, each_with, each_so}
 
 -- ---- numbers that are read as they are
@@ -105,16 +106,6 @@ one_head (h ∷ other ∷ rows) e r = absurd (false≢true e)
 all_forall : {R : Type 0} (P : ℕ → R → Type 0) (rows : List R) → ((n : ℕ) → AllByRecursion (P n) rows) → AllByRecursion (λ r. (n : ℕ) → P n r) rows
 all_forall P [] h = tt
 all_forall P (r ∷ rows) h = (λ n. (h n).0, all_forall P rows (λ n. (h n).1))
-
-first_kept : (n sort : ℕ) (Q : StoredHas → Type 0) (h : StoredHas) (rows : List StoredHas) (b : Bool) → is_of n sort h ≡ b → AllByRecursion Q (cond b (h ∷ rows) rows) → (is_of n sort h ≡ true → Q h) × AllByRecursion Q rows
-first_kept n sort Q h rows true e all = (λ _. all.0, all.1)
-first_kept n sort Q h rows false e all = (λ of. absurd (false≢true (sym e ∙ of)), all)
-
-unfiltered : (n sort : ℕ) (Q : StoredHas → Type 0) (has : List StoredHas) → AllByRecursion Q (filter (is_of n sort) has) → AllByRecursion (λ h. is_of n sort h ≡ true → Q h) has
-unfiltered n sort Q [] all = tt
-unfiltered n sort Q (h ∷ has) all =
-    let first = first_kept n sort Q h (filter (is_of n sort) has) (is_of n sort h) refl all in
-    (first.0, unfiltered n sort Q has first.1)
 
 some_there : {V : Type 0} (o : Option V) → is_some o ≡ true → (v : V) × (o ≡ Some v)
 some_there None h = absurd (false≢true h)
@@ -319,7 +310,7 @@ module _ (w : Planet) (p : Parts) (k : RowsKeep w p) where
 
   things_there : AllByRecursion (λ h. (n : ℕ) → (sort : ℕ) → is_of n sort h ≡ true → ThingThere n sort h) p.has
   things_there = all_forall (λ n h. (sort : ℕ) → is_of n sort h ≡ true → ThingThere n sort h) p.has (λ n. all_forall (λ sort h. is_of n sort h ≡ true → ThingThere n sort h) p.has (λ sort.
-      unfiltered n sort (ThingThere n sort) p.has (rows_there (λ h. as_u32 h.thing) (λ h. as_u32 h.amount) (filter (is_of n sort) p.has))))
+      unkept (is_of n sort) (ThingThere n sort) p.has (rows_there (λ h. as_u32 h.thing) (λ h. as_u32 h.amount) (filter (is_of n sort) p.has))))
 
   held_units : AllByRecursion (λ h. IsThere units (as_u32 h.unit)) p.has
   unfolding state_of
@@ -365,7 +356,7 @@ module _ (w : Planet) (p : Parts) (k : RowsKeep w p) where
 
   all_found : AllByRecursion (λ h. (n : ℕ) → (sort : ℕ) → is_of n sort h ≡ true → IsFound n sort h) p.has
   all_found = all_forall (λ n h. (sort : ℕ) → is_of n sort h ≡ true → IsFound n sort h) p.has (λ n. all_forall (λ sort h. is_of n sort h ≡ true → IsFound n sort h) p.has (λ sort.
-      unfiltered n sort (IsFound n sort) p.has (rows_found (λ h. as_u32 h.thing) (λ h. as_u32 h.amount) (filter (is_of n sort) p.has) (things_apart n sort p.has all_keyed k.range.keys.has))))
+      unkept (is_of n sort) (IsFound n sort) p.has (rows_found (λ h. as_u32 h.thing) (λ h. as_u32 h.amount) (filter (is_of n sort) p.has) (things_apart n sort p.has all_keyed k.range.keys.has))))
 
   exact_of : (h : StoredHas) → IsThere units (as_u32 h.unit) → SortOf h → ((n : ℕ) → (sort : ℕ) → is_of n sort h ≡ true → IsFound n sort h) → IsWhole h.amount × (is_zero h.amount ≡ false)
   unfolding state_of
@@ -389,13 +380,8 @@ module _ (w : Planet) (p : Parts) (k : RowsKeep w p) where
   all_exact : AllByRecursion IsExact p.has
   all_exact = each_with KeyedPlaced (λ h. (n : ℕ) → (sort : ℕ) → is_of n sort h ≡ true → IsFound n sort h) IsExact exact p.has (each_with IsKeyed Placed KeyedPlaced (λ h a b. (a, b)) p.has all_keyed all_placed) all_found
 
-  numbered : (rows : List StoredUnit) (n : ℕ) → HasNumber (λ r. as_u32 r.number) (unit_of p.has) rows n → Has rows n
-  numbered [] n h = h
-  numbered (r ∷ rows) n (inl e) = inl e
-  numbered (r ∷ rows) n (inr there) = inr (numbered rows n there)
-
   of_units : (h : StoredHas) → Placed h → IsOfUnits p.units h
-  of_units h (there, range) = (numbered p.units (as_u32 h.unit) (row_of (λ r. as_u32 r.number) (unit_of p.has) p.units (as_u32 h.unit) there), turned h (sort_of h range).1)
+  of_units h (there, range) = (row_of (λ r. as_u32 r.number) (unit_of p.has) p.units (as_u32 h.unit) there, turned h (sort_of h range).1)
     where
       turned : (h : StoredHas) → SortOf h → (as_u32 h.sort ≡ 0) ⊎ (as_u32 h.sort ≡ 1)
       turned h (inl skill) = inr skill
@@ -405,9 +391,6 @@ module _ (w : Planet) (p : Parts) (k : RowsKeep w p) where
   has_said = has_order p.has p.units units_apart (each_so Placed (IsOfUnits p.units) of_units p.has all_placed) all_exact k.range.keys.has
 
   -- ---- the books
-  not_false : (b : Bool) → not b ≡ true → b ≡ false
-  not_false true h = sym h
-  not_false false h = refl
 
   below_of : (m n : ℕ) → nat_lt m n ≡ true → m < n
   below_of m n h = grind (arith, nat_tests)
@@ -423,7 +406,7 @@ module _ (w : Planet) (p : Parts) (k : RowsKeep w p) where
         thing = whole_below r.thing (omega arith);
         named = parts.0;
         there = there;
-        some = not_false (is_zero r.amount) (and_parts (not (is_zero r.amount)) (is_within (books_bound p) r.amount) range).0;
+        some = not-true (is_zero r.amount) (and_parts (not (is_zero r.amount)) (is_within (books_bound p) r.amount) range).0;
       }
 
   pub all_booked : AllByRecursion (IsBooked (things_of w)) p.books
