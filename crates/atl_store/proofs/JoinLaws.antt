@@ -3,6 +3,7 @@ use Rattle.std.proofs.Common.{◌≡◌, ◌≢◌, ◌⊎◌, ◌+◌, ◌<◌,
 use Rattle.std.specs.Prelude.{◌+ℤ◌}
 use Rattle.std.specs.Ordering.{nat_cmp}
 use Rattle.std.specs.FinMap.{FinMap, get, insert, empty}
+use Rattle.std.proofs.lemmas.Option.{same_Some}
 use Rattle.std.proofs.lemmas.Bool.{cases_eq}
 use Rattle.std.proofs.lemmas.List.{get_or-set_same, get_or-set_other}
 use Rattle.sqlite.specs.Order.{Row}
@@ -70,12 +71,9 @@ record IsArrival (n : ℕ) (f : Faction) (m : ℕ) (u : Unit) (report : List ℕ
   first : (e : Entry) (t : Thing) → (entry_place e ≢ 1) ⊎ (thing_place t ≢ 0) → amount_in half e t ≡ amount_in before.books e t
   second : (e : Entry) (t : Thing) → (entry_place e ≢ 1) ⊎ (thing_place t ≢ 1) → amount_in after.books e t ≡ amount_in half e t
 
-same_value : {V : Type 0} (a b : V) → Some a ≡ Some b → a ≡ b
-same_value a b e = cc
-
 -- what is found under the number that was inserted is what was inserted
 found_is : {V : Type 0} (m after : FinMap nat_cmp V) (n k : ℕ) (v w : V) → after ≡ insert m n v → k ≡ n → get after k ≡ Some w → v ≡ w
-found_is {V} m after n k v w is same got = same_value v w (sym (get_inserted m n v) ∙ ap (λ (x : FinMap nat_cmp V). get x n) (sym is) ∙ ap (get after) (sym same) ∙ got)
+found_is {V} m after n k v w is same got = same_Some v w (sym (get_inserted m n v) ∙ ap (λ (x : FinMap nat_cmp V). get x n) (sym is) ∙ ap (get after) (sym same) ∙ got)
 
 arrives : (n : ℕ) (f : Faction) (m : ℕ) (u : Unit) (report : List ℕ) (before after : Campaign) → IsFound after n f m u report → IsJoining before n after → IsArrival n f m u report before after
 unfolding joined

@@ -119,13 +119,13 @@ begins_cases (Real x ∷ row) = inl (λ is_so. refl)
 begins_cases (Text x ∷ row) = inl (λ is_so. refl)
 begins_cases (Blob x ∷ row) = inl (λ is_so. refl)
 
-pub begins_either : (f g : ℕ → Bool) (r : Row) → begins (λ n. f n || g n) r ≡ (begins f r || begins g r)
+begins_either : (f g : ℕ → Bool) (r : Row) → begins (λ n. f n || g n) r ≡ (begins f r || begins g r)
 begins_either f g r = elim (begins_cases r) [
   | inl none ↦ none (λ n. f n || g n) ∙ sym (ap (λ b. b || begins g r) (none f) ∙ none g)
   | inr is ↦ subst (λ x. begins (λ n. f n || g n) x ≡ (begins f x || begins g x)) (sym is.2) refl
 ]
 
-pub begins_none : (r : Row) → begins (λ n. false) r ≡ false
+begins_none : (r : Row) → begins (λ n. false) r ≡ false
 begins_none r = elim (begins_cases r) [
   | inl none ↦ none (λ n. false)
   | inr is ↦ subst (λ x. begins (λ n. false) x ≡ false) (sym is.2) refl
@@ -144,15 +144,28 @@ key_begins n (v ∷ row) key =
     ap (λ x. begins (is_number n) (x ∷ row)) value ∙ is_itself n
 
 -- the numbers that are left, and the next one of them
-pub next_number : (n : ℕ) (ns : List ℕ) (r : Row) → begins (is_among (n ∷ ns)) r ≡ (begins (is_number n) r || begins (is_among ns) r)
+next_number : (n : ℕ) (ns : List ℕ) (r : Row) → begins (is_among (n ∷ ns)) r ≡ (begins (is_number n) r || begins (is_among ns) r)
 next_number n ns r = begins_either (is_number n) (is_among ns) r
 
-pub no_number : (ns : List ℕ) → ns ≡ [] → (r : Row) → begins (is_among ns) r ≡ false
+no_number : (ns : List ℕ) → ns ≡ [] → (r : Row) → begins (is_among ns) r ≡ false
 no_number ns none r = ap (λ l. begins (is_among l) r) none ∙ begins_none r
 
 -- all numbers of a set
-pub of_set : (marks : FinSet nat_cmp) (ns : List ℕ) → from_list ns ≡ marks → (r : Row) → begins (is_among ns) r ≡ begins_marked marks r
+of_set : (marks : FinSet nat_cmp) (ns : List ℕ) → from_list ns ≡ marks → (r : Row) → begins (is_among ns) r ≡ begins_marked marks r
 of_set marks ns all r = ap (λ (f : ℕ → Bool). begins f r) (λ i n. (sym (contains-from_list nat_cmp_total ns n) ∙ ap (λ s. contains s n) all) i)
+
+-- ---- the rows of all numbers of a set, one after another
+
+module _ (table : Table) (Wanted : Set) where
+  -- with those of the rest of these numbers rewritten too, those of all are
+  abbrev pub NearingNumbers : List ℕ → List ℕ → Database → Database → Type 0
+  NearingNumbers rest all = Nearing table Wanted (λ r. begins (is_among rest) r) (λ r. begins (is_among all) r)
+
+  pub number_nearer : (n : ℕ) (now rest all : List ℕ) → now ≡ n ∷ rest → (old mid new : State) → Inside HasTables (NearingNumbers now all) old mid → Inside HasTables (Rewrites table (begins (is_number n)) Wanted) mid new → Inside HasTables (NearingNumbers rest all) old new
+  number_nearer n now rest all is = one_nearer table Wanted (λ r. begins (is_number n) r) (λ r. begins (is_among now) r) (λ r. begins (is_among rest) r) (λ r. begins (is_among all) r) (λ r. ap (λ ns. begins (is_among ns) r) is ∙ next_number n rest r)
+
+  pub numbers_rewritten : (marks : FinSet nat_cmp) (rest all : List ℕ) → rest ≡ [] → from_list all ≡ marks → (old new : State) → Inside HasTables (NearingNumbers rest all) old new → Inside HasTables (Rewrites table (begins_marked marks) Wanted) old new
+  numbers_rewritten marks rest all none is = all_rewritten table Wanted (λ r. begins (is_among rest) r) (λ r. begins (is_among all) r) (λ r. begins_marked marks r) (no_number rest none) (of_set marks all is)
 
 -- ---- rows that take the place of those with a key
 

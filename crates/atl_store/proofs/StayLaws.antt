@@ -1,5 +1,6 @@
 -- From what a transaction did to what the store keeps.
-use Rattle.std.proofs.Common.{◌≡◌, ℕ, Bool, true, false, not, cond, List, IsTrue, Result, Ok, Err, OnErr, IfErr, IsErrAnd, refl, sym, ap, ◌∙◌, subst, inl, inr, arith}
+use Rattle.std.proofs.Common.{◌≡◌, ℕ, Bool, true, false, not, cond, List, IsTrue, Result, Ok, Err, IfErr, IsErrAnd, refl, sym, ap, ◌∙◌, subst, inl, inr, arith}
+use Rattle.std.proofs.lemmas.Bool.{not-true}
 use Rattle.sqlite_trees.specs.Tree.{Trees}
 use Rattle.sqlite_trees.specs.declared.store.Store.{Ghosts}
 use Rattle.sqlite.specs.declared.error.Error.{Error}
@@ -72,13 +73,9 @@ leaves_spares old new auto Commits clean off survives is said settled = record {
   same = λ up.
       let back = off.undone up in
       let was = settled said (off.was_open up) in
-      (back.0 ∙ sym was, back.1, off.idle ∙ sym (not_true old.in_transaction (sym is ∙ said)));
+      (back.0 ∙ sym was, back.1, off.idle ∙ sym (not-true old.in_transaction (sym is ∙ said)));
   closes = survives.closes clean;
 }
-  where
-    not_true : (b : Bool) → not b ≡ true → b ≡ false
-    not_true true e = cc
-    not_true false e = refl
 
 -- the fault of a creation that an error of the database ended
 pub fails_for : {S : Type 0} (g : Ghosts S) (text : List ℕ) (c : Campaign) (old new : Held S) (e : Error) → FailsToCreate g text c old new → RefusesToCreate g text c old new (create_fault e)
@@ -110,8 +107,3 @@ commits_spares old new Before Does done before up has settled = (done.does (befo
 
 pub leaves_others : (old new : State) → LeavesOff old new → SparesOthers old new
 leaves_others old new off up has settled = subst (Carries old.now) (sym ((off.undone up).0 ∙ settled)) (carries_none old.now)
-
--- what holds in any case holds where there is an error
-pub on_err : {A E : Type 0} (r : Result A E) (P : Type 0) → P → OnErr r P
-on_err (Ok a) P p = tt
-on_err (Err e) P p = p

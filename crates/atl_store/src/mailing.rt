@@ -9,7 +9,7 @@ ghost use Rattle.atl_store.specs.Arriving.{WritesMail};
 ghost use Rattle.atl_store.specs.Keeps.{Keeps, Stops, IsLater, SparesOthers};
 
 use crate::fault::WriteFault;
-use crate::rows::mail::{MailRow, put_mail};
+use crate::rows::mail::put_mail;
 use sqlite::{Alter, Connection, Error, Transaction};
 
 /// Puts the row of a mail.
@@ -20,8 +20,7 @@ fn put_mailing<S: Alter>(
 ) -> Result<(), Error>
     ensures { Writes S.Store (Inside HasTables (WritesMail faction text.now)) result tx.old.conn tx.new.conn }
 {
-    let row = MailRow { faction, text };
-    put_mail(tx, &row)
+    put_mail(tx, faction, text)
 }
 
 /// The transaction of a mail.

@@ -1,57 +1,59 @@
 //! The table of factions.
-ghost use Rattle.std.specs.Prelude.{◌≡◌, false, [], ◌∷◌};
+ghost use Rattle.std.specs.Prelude.{◌≡◌, false, refl};
 ghost use Rattle.atl_store.specs.Tables.{faction_table};
-ghost use Rattle.atl_store.specs.Shown.{int};
-ghost use Rattle.atl_store.specs.Written.{faction_shown};
-ghost use Rattle.atl_store.specs.Writes.{Writes};
-ghost use Rattle.atl_store.specs.Inside.{Inside, HasTables, Puts, Drops};
+ghost use Rattle.atl_store.specs.Rows.{faction_line};
 ghost use Rattle.atl_store.specs.Selects.{all_factions};
 ghost use Rattle.atl_store.specs.StoredRows.{faction_stored, faction_forms};
 ghost use Rattle.atl_store.specs.Sets.{rows_in};
 ghost use Rattle.atl_store.specs.Reading.{ReadsRows, GivesTable};
 
 use crate::fault::ReadFault;
+use crate::kept::Kept;
 use crate::rows::columns::{integer, letters};
 use crate::rows::stored::{Stored, read_all};
 use crate::statement::run;
 use atl_state::parts::StoredFaction;
+use atl_state::{Campaign, Faction};
+use atl_tables::MarkedNumbers;
 use sqlite::{Alter, Connection, Error, Row, Transaction, params};
 use std::alloc::Global;
 
-/// A faction as its table has it.
-#[derive(Clone, Copy, Debug)]
-pub struct FactionRow<'a> {
-    /// From 1.
-    pub number: u32,
-    /// The name under which it joined, which never changes.
-    pub joined_as: &'a str,
-    /// The name that reports show.
-    pub name: &'a str,
-    /// Its pass text.
-    pub pass: &'a str,
-    /// Whether it is out of the game.
-    pub gone: bool,
-}
+impl Kept for Faction {
+    ghost table = { faction_table };
 
-/// Inserts the row, or changes the one that has its number.
-pub(crate) fn put_faction<S: Alter>(
-    tx: &mut Transaction<'_, S>,
-    row: &FactionRow<'_>,
-) -> Result<(), Error>
-    ensures { Writes S.Store (Inside HasTables (Puts faction_table 1 (faction_shown row.now))) result tx.old.conn tx.new.conn }
-{
-    run(
-        tx,
-        "INSERT INTO faction (number, joined_as, name, pass, gone) VALUES (?1, ?2, ?3, ?4, ?5) ON CONFLICT (number) DO UPDATE SET joined_as = ?2, name = ?3, pass = ?4, gone = ?5",
-        params![row.number, row.joined_as, row.name, row.pass, row.gone],
-    )
-}
+    ghost line = { faction_line };
 
-/// Deletes the row of this number, where there is one.
-pub(crate) fn drop_faction<S: Alter>(tx: &mut Transaction<'_, S>, number: u32) -> Result<(), Error>
-    ensures { Writes S.Store (Inside HasTables (Drops faction_table 1 (int number ∷ []))) result tx.old.conn tx.new.conn }
-{
-    run(tx, "DELETE FROM faction WHERE number = ?1", params![number])
+    ghost numbered = { λ n v. refl };
+
+    ghost values = { λ c. c.factions };
+
+    ghost marks = { λ m. m.factions };
+
+    fn of(campaign: &Campaign, number: u32) -> Option<&Faction> {
+        campaign.faction(number)
+    }
+
+    fn marked(campaign: &Campaign) -> MarkedNumbers<'_> {
+        campaign.marked_factions()
+    }
+
+    fn put<S: Alter>(&self, tx: &mut Transaction<'_, S>, number: u32) -> Result<(), Error> {
+        run(
+            tx,
+            "INSERT INTO faction (number, joined_as, name, pass, gone) VALUES (?1, ?2, ?3, ?4, ?5) ON CONFLICT (number) DO UPDATE SET joined_as = ?2, name = ?3, pass = ?4, gone = ?5",
+            params![
+                number,
+                self.joined_as.as_str(),
+                self.name.as_str(),
+                self.pass.as_str(),
+                self.gone
+            ],
+        )
+    }
+
+    fn take_out<S: Alter>(tx: &mut Transaction<'_, S>, number: u32) -> Result<(), Error> {
+        run(tx, "DELETE FROM faction WHERE number = ?1", params![number])
+    }
 }
 
 impl Stored for StoredFaction {

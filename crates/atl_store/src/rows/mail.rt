@@ -1,51 +1,67 @@
 //! The table of mail.
-ghost use Rattle.std.specs.Prelude.{◌≡◌, false, [], ◌∷◌};
+ghost use Rattle.std.specs.Prelude.{◌≡◌, false, refl};
 ghost use Rattle.atl_store.specs.Tables.{mail_table};
-ghost use Rattle.atl_store.specs.Shown.{int};
-ghost use Rattle.atl_store.specs.Written.{mail_shown};
+ghost use Rattle.atl_store.specs.Shown.{mail_row};
 ghost use Rattle.atl_store.specs.Writes.{Writes};
-ghost use Rattle.atl_store.specs.Inside.{Inside, HasTables, Puts, Drops};
+ghost use Rattle.atl_store.specs.Inside.{Inside, HasTables, Puts};
 ghost use Rattle.atl_store.specs.Selects.{all_mail};
 ghost use Rattle.atl_store.specs.StoredRows.{mail_stored, mail_forms};
 ghost use Rattle.atl_store.specs.Sets.{rows_in};
 ghost use Rattle.atl_store.specs.Reading.{ReadsRows, GivesTable};
 
 use crate::fault::ReadFault;
+use crate::kept::Kept;
 use crate::rows::columns::{bytes, integer};
 use crate::rows::stored::{Stored, read_all};
 use crate::statement::run;
+use atl_state::Campaign;
 use atl_state::parts::StoredMail;
+use atl_tables::{MarkedNumbers, Sequence};
 use sqlite::{Alter, Connection, Error, Row, Transaction, params};
 use std::alloc::Global;
 
-/// The mail of a faction: the mailing that it sent last, as it came.
-#[derive(Clone, Copy, Debug)]
-pub struct MailRow<'a> {
-    /// The number of the faction.
-    pub faction: u32,
-    /// Its bytes.
-    pub text: &'a [u8],
-}
-
-/// Inserts the row, or changes the one that has its faction.
+/// Inserts the mail of a faction, or puts it in the place of the one that it has.
 pub(crate) fn put_mail<S: Alter>(
     tx: &mut Transaction<'_, S>,
-    row: &MailRow<'_>,
+    faction: u32,
+    text: &[u8],
 ) -> Result<(), Error>
-    ensures { Writes S.Store (Inside HasTables (Puts mail_table 1 (mail_shown row.now))) result tx.old.conn tx.new.conn }
+    ensures { Writes S.Store (Inside HasTables (Puts mail_table 1 (mail_row faction text.now))) result tx.old.conn tx.new.conn }
 {
     run(
         tx,
         "INSERT INTO mail (faction, text) VALUES (?1, ?2) ON CONFLICT (faction) DO UPDATE SET text = ?2",
-        params![row.faction, row.text],
+        params![faction, text],
     )
 }
 
-/// Deletes the row of this faction, where there is one.
-pub(crate) fn drop_mail<S: Alter>(tx: &mut Transaction<'_, S>, faction: u32) -> Result<(), Error>
-    ensures { Writes S.Store (Inside HasTables (Drops mail_table 1 (int faction ∷ []))) result tx.old.conn tx.new.conn }
-{
-    run(tx, "DELETE FROM mail WHERE faction = ?1", params![faction])
+/// The mail of a faction.
+impl Kept for Sequence<u8> {
+    ghost table = { mail_table };
+
+    ghost line = { mail_row };
+
+    ghost numbered = { λ n v. refl };
+
+    ghost values = { λ c. c.mail };
+
+    ghost marks = { λ m. m.mail };
+
+    fn of(campaign: &Campaign, number: u32) -> Option<&Sequence<u8>> {
+        campaign.mail_of(number)
+    }
+
+    fn marked(campaign: &Campaign) -> MarkedNumbers<'_> {
+        campaign.marked_mail()
+    }
+
+    fn put<S: Alter>(&self, tx: &mut Transaction<'_, S>, number: u32) -> Result<(), Error> {
+        put_mail(tx, number, self.as_slice())
+    }
+
+    fn take_out<S: Alter>(tx: &mut Transaction<'_, S>, number: u32) -> Result<(), Error> {
+        run(tx, "DELETE FROM mail WHERE faction = ?1", params![number])
+    }
 }
 
 impl Stored for StoredMail {

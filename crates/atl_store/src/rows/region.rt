@@ -1,53 +1,53 @@
 //! The table of regions.
-ghost use Rattle.std.specs.Prelude.{◌≡◌, false, [], ◌∷◌};
+ghost use Rattle.std.specs.Prelude.{◌≡◌, false, refl};
 ghost use Rattle.atl_store.specs.Tables.{region_table};
-ghost use Rattle.atl_store.specs.Shown.{int};
-ghost use Rattle.atl_store.specs.Written.{region_shown};
-ghost use Rattle.atl_store.specs.Writes.{Writes};
-ghost use Rattle.atl_store.specs.Inside.{Inside, HasTables, Puts, Drops};
+ghost use Rattle.atl_store.specs.Rows.{region_line};
 ghost use Rattle.atl_store.specs.Selects.{all_regions};
 ghost use Rattle.atl_store.specs.StoredRows.{region_stored, region_forms};
 ghost use Rattle.atl_store.specs.Sets.{rows_in};
 ghost use Rattle.atl_store.specs.Reading.{ReadsRows, GivesTable};
 
 use crate::fault::ReadFault;
+use crate::kept::Kept;
 use crate::rows::columns::three_integers;
 use crate::rows::stored::{Stored, read_all};
 use crate::statement::run;
 use atl_state::parts::StoredRegion;
+use atl_state::{Campaign, Region};
+use atl_tables::MarkedNumbers;
 use sqlite::{Alter, Connection, Error, Row, Transaction, params};
 use std::alloc::Global;
 
-/// A region as its table has it.
-#[derive(Clone, Copy, Debug)]
-pub struct RegionRow {
-    /// The world's number of it.
-    pub number: u32,
-    /// How many peasants live there.
-    pub peasants: u32,
-    /// The money there, without that of units.
-    pub money: u32,
-}
+impl Kept for Region {
+    ghost table = { region_table };
 
-/// Inserts the row, or changes the one that has its number.
-pub(crate) fn put_region<S: Alter>(
-    tx: &mut Transaction<'_, S>,
-    row: &RegionRow,
-) -> Result<(), Error>
-    ensures { Writes S.Store (Inside HasTables (Puts region_table 1 (region_shown row.now))) result tx.old.conn tx.new.conn }
-{
-    run(
-        tx,
-        "INSERT INTO region (number, peasants, money) VALUES (?1, ?2, ?3) ON CONFLICT (number) DO UPDATE SET peasants = ?2, money = ?3",
-        params![row.number, row.peasants, row.money],
-    )
-}
+    ghost line = { region_line };
 
-/// Deletes the row of this number, where there is one.
-pub(crate) fn drop_region<S: Alter>(tx: &mut Transaction<'_, S>, number: u32) -> Result<(), Error>
-    ensures { Writes S.Store (Inside HasTables (Drops region_table 1 (int number ∷ []))) result tx.old.conn tx.new.conn }
-{
-    run(tx, "DELETE FROM region WHERE number = ?1", params![number])
+    ghost numbered = { λ n v. refl };
+
+    ghost values = { λ c. c.regions };
+
+    ghost marks = { λ m. m.regions };
+
+    fn of(campaign: &Campaign, number: u32) -> Option<&Region> {
+        campaign.region(number)
+    }
+
+    fn marked(campaign: &Campaign) -> MarkedNumbers<'_> {
+        campaign.marked_regions()
+    }
+
+    fn put<S: Alter>(&self, tx: &mut Transaction<'_, S>, number: u32) -> Result<(), Error> {
+        run(
+            tx,
+            "INSERT INTO region (number, peasants, money) VALUES (?1, ?2, ?3) ON CONFLICT (number) DO UPDATE SET peasants = ?2, money = ?3",
+            params![number, self.peasants, self.money],
+        )
+    }
+
+    fn take_out<S: Alter>(tx: &mut Transaction<'_, S>, number: u32) -> Result<(), Error> {
+        run(tx, "DELETE FROM region WHERE number = ?1", params![number])
+    }
 }
 
 impl Stored for StoredRegion {

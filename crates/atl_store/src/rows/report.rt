@@ -1,56 +1,54 @@
 //! The table of reports.
-ghost use Rattle.std.specs.Prelude.{◌≡◌, false, [], ◌∷◌};
+ghost use Rattle.std.specs.Prelude.{◌≡◌, false, refl};
 ghost use Rattle.atl_store.specs.Tables.{report_table};
-ghost use Rattle.atl_store.specs.Shown.{int};
-ghost use Rattle.atl_store.specs.Written.{report_shown};
-ghost use Rattle.atl_store.specs.Writes.{Writes};
-ghost use Rattle.atl_store.specs.Inside.{Inside, HasTables, Puts, Drops};
+ghost use Rattle.atl_store.specs.Shown.{report_row};
 ghost use Rattle.atl_store.specs.Selects.{all_reports};
 ghost use Rattle.atl_store.specs.StoredRows.{report_stored, report_forms};
 ghost use Rattle.atl_store.specs.Sets.{rows_in};
 ghost use Rattle.atl_store.specs.Reading.{ReadsRows, GivesTable};
 
 use crate::fault::ReadFault;
+use crate::kept::Kept;
 use crate::rows::columns::{integer, words};
 use crate::rows::stored::{Stored, read_all};
 use crate::statement::run;
+use atl_state::Campaign;
 use atl_state::parts::StoredReport;
-use atl_tables::Text;
+use atl_tables::{MarkedNumbers, Text};
 use sqlite::{Alter, Connection, Error, Row, Transaction, params};
 use std::alloc::Global;
 
-/// The last report of a faction.
-#[derive(Clone, Copy, Debug)]
-pub struct ReportRow<'a> {
-    /// The number of the faction.
-    pub faction: u32,
-    /// The whole text.
-    pub text: &'a str,
-}
+/// The report of a faction.
+impl Kept for Text {
+    ghost table = { report_table };
 
-/// Inserts the row, or changes the one that has its faction.
-pub(crate) fn put_report<S: Alter>(
-    tx: &mut Transaction<'_, S>,
-    row: &ReportRow<'_>,
-) -> Result<(), Error>
-    ensures { Writes S.Store (Inside HasTables (Puts report_table 1 (report_shown row.now))) result tx.old.conn tx.new.conn }
-{
-    run(
-        tx,
-        "INSERT INTO report (faction, text) VALUES (?1, ?2) ON CONFLICT (faction) DO UPDATE SET text = ?2",
-        params![row.faction, row.text],
-    )
-}
+    ghost line = { report_row };
 
-/// Deletes the row of this faction, where there is one.
-pub(crate) fn drop_report<S: Alter>(tx: &mut Transaction<'_, S>, faction: u32) -> Result<(), Error>
-    ensures { Writes S.Store (Inside HasTables (Drops report_table 1 (int faction ∷ []))) result tx.old.conn tx.new.conn }
-{
-    run(
-        tx,
-        "DELETE FROM report WHERE faction = ?1",
-        params![faction],
-    )
+    ghost numbered = { λ n v. refl };
+
+    ghost values = { λ c. c.reports };
+
+    ghost marks = { λ m. m.reports };
+
+    fn of(campaign: &Campaign, number: u32) -> Option<&Text> {
+        campaign.report(number)
+    }
+
+    fn marked(campaign: &Campaign) -> MarkedNumbers<'_> {
+        campaign.marked_reports()
+    }
+
+    fn put<S: Alter>(&self, tx: &mut Transaction<'_, S>, number: u32) -> Result<(), Error> {
+        run(
+            tx,
+            "INSERT INTO report (faction, text) VALUES (?1, ?2) ON CONFLICT (faction) DO UPDATE SET text = ?2",
+            params![number, self.as_str()],
+        )
+    }
+
+    fn take_out<S: Alter>(tx: &mut Transaction<'_, S>, number: u32) -> Result<(), Error> {
+        run(tx, "DELETE FROM report WHERE faction = ?1", params![number])
+    }
 }
 
 impl Stored for StoredReport {

@@ -1,68 +1,64 @@
 //! The table of structures.
-ghost use Rattle.std.specs.Prelude.{◌≡◌, false, [], ◌∷◌};
+ghost use Rattle.std.specs.Prelude.{◌≡◌, false, refl};
 ghost use Rattle.atl_store.specs.Tables.{structure_table};
-ghost use Rattle.atl_store.specs.Shown.{int};
-ghost use Rattle.atl_store.specs.Written.{structure_shown};
-ghost use Rattle.atl_store.specs.Writes.{Writes};
-ghost use Rattle.atl_store.specs.Inside.{Inside, HasTables, Puts, Drops};
+ghost use Rattle.atl_store.specs.Rows.{structure_line};
 ghost use Rattle.atl_store.specs.Selects.{all_structures};
 ghost use Rattle.atl_store.specs.StoredRows.{structure_stored, structure_forms};
 ghost use Rattle.atl_store.specs.Sets.{rows_in};
 ghost use Rattle.atl_store.specs.Reading.{ReadsRows, GivesTable};
 
 use crate::fault::ReadFault;
+use crate::kept::Kept;
 use crate::rows::columns::{letters, three_integers, two_integers};
 use crate::rows::stored::{Stored, read_all};
 use crate::statement::run;
 use atl_state::parts::StoredStructure;
+use atl_state::{Campaign, Structure};
+use atl_tables::MarkedNumbers;
 use sqlite::{Alter, Connection, Error, Row, Transaction, params};
 use std::alloc::Global;
 
-/// A structure as its table has it.
-#[derive(Clone, Copy, Debug)]
-pub struct StructureRow<'a> {
-    /// From 1.
-    pub number: u32,
-    /// The world's number of its kind.
-    pub kind: u32,
-    /// Its name.
-    pub name: &'a str,
-    /// The world's number of the region that it stands in.
-    pub region: u32,
-    /// How much of its size is built.
-    pub done: u32,
-    /// The number of the unit that owns it, or 0.
-    pub owner: u32,
-}
+impl Kept for Structure {
+    ghost table = { structure_table };
 
-/// Inserts the row, or changes the one that has its number.
-pub(crate) fn put_structure<S: Alter>(
-    tx: &mut Transaction<'_, S>,
-    row: &StructureRow<'_>,
-) -> Result<(), Error>
-    ensures { Writes S.Store (Inside HasTables (Puts structure_table 1 (structure_shown row.now))) result tx.old.conn tx.new.conn }
-{
-    run(
-        tx,
-        "INSERT INTO structure (number, kind, name, region, done, owner) VALUES (?1, ?2, ?3, ?4, ?5, ?6) ON CONFLICT (number) DO UPDATE SET kind = ?2, name = ?3, region = ?4, done = ?5, owner = ?6",
-        params![
-            row.number, row.kind, row.name, row.region, row.done, row.owner
-        ],
-    )
-}
+    ghost line = { structure_line };
 
-/// Deletes the row of this number, where there is one.
-pub(crate) fn drop_structure<S: Alter>(
-    tx: &mut Transaction<'_, S>,
-    number: u32,
-) -> Result<(), Error>
-    ensures { Writes S.Store (Inside HasTables (Drops structure_table 1 (int number ∷ []))) result tx.old.conn tx.new.conn }
-{
-    run(
-        tx,
-        "DELETE FROM structure WHERE number = ?1",
-        params![number],
-    )
+    ghost numbered = { λ n v. refl };
+
+    ghost values = { λ c. c.structures };
+
+    ghost marks = { λ m. m.structures };
+
+    fn of(campaign: &Campaign, number: u32) -> Option<&Structure> {
+        campaign.structure(number)
+    }
+
+    fn marked(campaign: &Campaign) -> MarkedNumbers<'_> {
+        campaign.marked_structures()
+    }
+
+    fn put<S: Alter>(&self, tx: &mut Transaction<'_, S>, number: u32) -> Result<(), Error> {
+        run(
+            tx,
+            "INSERT INTO structure (number, kind, name, region, done, owner) VALUES (?1, ?2, ?3, ?4, ?5, ?6) ON CONFLICT (number) DO UPDATE SET kind = ?2, name = ?3, region = ?4, done = ?5, owner = ?6",
+            params![
+                number,
+                u32::from(self.kind),
+                self.name.as_str(),
+                self.region,
+                self.done,
+                self.owner
+            ],
+        )
+    }
+
+    fn take_out<S: Alter>(tx: &mut Transaction<'_, S>, number: u32) -> Result<(), Error> {
+        run(
+            tx,
+            "DELETE FROM structure WHERE number = ?1",
+            params![number],
+        )
+    }
 }
 
 impl Stored for StoredStructure {

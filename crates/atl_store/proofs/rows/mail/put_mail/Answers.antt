@@ -4,4 +4,4 @@ use Rattle.atl_store.proofs.WriteLaws.{weaker}
 use Rattle.atl_store.proofs.rows.mail.put_mail.Goals as goal
 
 pub returns : goal.returns
-returns g c = weaker g.S.Store (λ old new did. puts_mail c.args.row.now.faction c.args.row.now.text.now old new did.1 _ did.0 did.2 (search rules)) c.run.ensures
+returns g c = weaker g.S.Store (λ old new did. puts_mail c.args.faction c.args.text.now old new did.1 _ did.0 did.2 (search rules)) c.run.ensures

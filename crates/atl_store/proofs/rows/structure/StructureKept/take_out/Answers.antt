@@ -1,7 +1,7 @@
 use Rattle.std.proofs.Common.{rules}
 use Rattle.atl_store.proofs.NumberedRowLaws.{drops_structure}
 use Rattle.atl_store.proofs.WriteLaws.{weaker}
-use Rattle.atl_store.proofs.rows.structure.drop_structure.Goals as goal
+use Rattle.atl_store.proofs.rows.structure.StructureKept.take_out.Goals as goal
 
 pub returns : goal.returns
 returns g c = weaker g.S.Store (λ old new did. drops_structure c.args.number old new did.1 _ did.0 did.2 (search rules)) c.run.ensures

@@ -1,7 +1,0 @@
-use Rattle.std.proofs.Common.{rules}
-use Rattle.atl_store.proofs.NumberedRowLaws.{drops_mail}
-use Rattle.atl_store.proofs.WriteLaws.{weaker}
-use Rattle.atl_store.proofs.rows.mail.drop_mail.Goals as goal
-
-pub returns : goal.returns
-returns g c = weaker g.S.Store (λ old new did. drops_mail c.args.faction old new did.1 _ did.0 did.2 (search rules)) c.run.ensures

@@ -1,0 +1,7 @@
+use Rattle.std.proofs.Common.{rules}
+use Rattle.atl_store.proofs.NumberedRowLaws.{puts_report}
+use Rattle.atl_store.proofs.WriteLaws.{weaker}
+use Rattle.atl_store.proofs.rows.report.TextKept.put.Goals as goal
+
+pub returns : goal.returns
+returns g c = weaker g.S.Store (λ old new did. puts_report c.args.number c.args.self.now old new did.1 _ did.0 did.2 (search rules)) c.run.ensures

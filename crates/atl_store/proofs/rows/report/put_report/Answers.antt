@@ -1,7 +1,0 @@
-use Rattle.std.proofs.Common.{rules}
-use Rattle.atl_store.proofs.NumberedRowLaws.{puts_report}
-use Rattle.atl_store.proofs.WriteLaws.{weaker}
-use Rattle.atl_store.proofs.rows.report.put_report.Goals as goal
-
-pub returns : goal.returns
-returns g c = weaker g.S.Store (λ old new did. puts_report c.args.row.now.faction c.args.row.now.text.now old new did.1 _ did.0 did.2 (search rules)) c.run.ensures

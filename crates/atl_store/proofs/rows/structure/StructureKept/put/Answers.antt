@@ -1,0 +1,7 @@
+use Rattle.std.proofs.Common.{rules}
+use Rattle.atl_store.proofs.NumberedRowLaws.{puts_structure}
+use Rattle.atl_store.proofs.WriteLaws.{weaker}
+use Rattle.atl_store.proofs.rows.structure.StructureKept.put.Goals as goal
+
+pub returns : goal.returns
+returns g c = weaker g.S.Store (λ old new did. puts_structure c.args.number c.args.self.now.kind c.args.self.now.name c.args.self.now.region c.args.self.now.done c.args.self.now.owner old new did.1 _ did.0 did.2 (search rules)) c.run.ensures
