@@ -61,7 +61,7 @@ use Rattle.atl_instant.specs.LostItems.{moving_items}
 -- ---- things and entries
 
 -- how much of a thing an amount of another is
-abbrev part_of : Thing → Thing → ℕ → ℕ
+abbrev pub part_of : Thing → Thing → ℕ → ℕ
 part_of s t amount = cond (thing_place s == thing_place t) amount 0
 
 -- an amount that may be booked under an entry, as a thing that goes
@@ -107,7 +107,7 @@ under_sum e s x y m n = by_test (entry_place e == entry_place (gone_under s))
 
 -- ---- what is booked of some items
 
-abbrev owing_items : List (ℕ × ℕ) → Thing → ℕ
+abbrev pub owing_items : List (ℕ × ℕ) → Thing → ℕ
 owing_items [] s = 0
 owing_items (e ∷ es) s = part_of s (Item e.0) e.1 + owing_items es s
 
@@ -119,15 +119,15 @@ nothing_more : (b : Bool) (x y : ℕ) → b ≡ false → cond b x 0 + y ≡ y
 nothing_more true x y e = cc
 nothing_more false x y e = omega arith
 
-no_money : (es : List (ℕ × ℕ)) → owing_items es Money ≡ 0
+pub no_money : (es : List (ℕ × ℕ)) → owing_items es Money ≡ 0
 no_money [] = refl
 no_money (e ∷ es) = nothing_more (0 == 2 + e.0) e.1 (owing_items es Money) (let apart : (0 == 2 + e.0) ≡ false = grind (arith, nat_tests) in apart) ∙ no_money es
 
-no_people : (es : List (ℕ × ℕ)) → owing_items es People ≡ 0
+pub no_people : (es : List (ℕ × ℕ)) → owing_items es People ≡ 0
 no_people [] = refl
 no_people (e ∷ es) = nothing_more (1 == 2 + e.0) e.1 (owing_items es People) (let apart : (1 == 2 + e.0) ≡ false = grind (arith, nat_tests) in apart) ∙ no_people es
 
-of_item : (j : ℕ) (es : List (ℕ × ℕ)) → is_sorted nat_cmp es ≡ true → owing_items es (Item j) ≡ unwrap_or (find nat_cmp j es) 0
+pub of_item : (j : ℕ) (es : List (ℕ × ℕ)) → is_sorted nat_cmp es ≡ true → owing_items es (Item j) ≡ unwrap_or (find nat_cmp j es) 0
 of_item j [] s = refl
 of_item j (e ∷ es) s =
     let rest = of_item j es (and_parts _ _ s).1 in

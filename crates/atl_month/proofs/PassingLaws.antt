@@ -1,14 +1,15 @@
 -- What a unit without men passes on.
 use Rattle.std.proofs.Common.{◌≡◌, ◌≢◌, ◌==◌, ℕ, ◌+◌, ◌-◌, ◌≤◌, ◌<◌, min, Bool, true, false, cond, List, [], ◌∷◌, length, Option, Some, None, refl, sym, ap, subst, ◌∙◌, arith}
-use Rattle.std.specs.Prelude.{ℤ, pos, neg_ℤ, ◌+ℤ◌, fold, unwrap_or, if◌then◌else◌}
+use Rattle.std.specs.Prelude.{ℤ, pos, neg_ℤ, ◌+ℤ◌, fold}
 use Rattle.std.proofs.lemmas.Int.{ints}
 use Rattle.std.proofs.lemmas.Bool.Decides.{nat_tests}
+use Rattle.std.proofs.lemmas.Option.{same_Some}
 use Rattle.std.specs.declared.cmp.Ordering.TheVariants.{Less, Equal, Greater}
 use Rattle.std.specs.Ordering.{nat_cmp, is_eq}
-use Rattle.std.specs.Cmp.{nat_cmp_total, ranked}
-use Rattle.std.specs.FinMap.{FinMap, get, get-insert, get-remove, insert, nat_cmp-IsAntisymmetric, remove}
+use Rattle.std.specs.Cmp.{ranked}
+use Rattle.std.specs.FinMap.{FinMap, get, insert, nat_cmp-IsAntisymmetric}
 use Rattle.atl_tables.specs.Planet.{Planet}
-use Rattle.atl_state.specs.Books.{IsWithin, amount_in, booked, thing_place}
+use Rattle.atl_state.specs.Books.{amount_in, booked, thing_place}
 use Rattle.atl_state.specs.declared.books.Entry.{Entry}
 use Rattle.atl_state.specs.declared.books.Entry.TheVariants.{Lost}
 use Rattle.atl_state.specs.declared.books.Thing.{Thing}
@@ -27,21 +28,18 @@ use Rattle.atl_state.proofs.EveryLaws.{every-insert, get-insert_other}
 use Rattle.atl_state.proofs.HoldingLaws.{MayHold, may_hold_money, steady-held, total-held}
 use Rattle.atl_state.proofs.RegionLaws.{changed-known, get-insert_same, steady-amount, total-amount}
 use Rattle.atl_instant.specs.Meaning.{IsNear, IsSameMonth, Moving, both_move, moves_only}
-use Rattle.atl_instant.proofs.MeaningLaws.{near_twice}
-use Rattle.atl_instant.proofs.BookingLaws.{booked-near}
+use Rattle.atl_instant.proofs.MeaningLaws.{near_same, near_twice}
+use Rattle.atl_instant.proofs.AmountsLaws.{amount_within, every_amount, set_amount}
+use Rattle.atl_instant.proofs.BookingLaws.{booked-near, within-neg}
+use Rattle.atl_instant.proofs.QuitLaws.{owing_items, part_of}
 use Rattle.atl_instant.specs.LostItems.{moving_items}
 use Rattle.atl_month.specs.Sweep.{IsKept, item_to, money_to, passed_item, passed_money, taken_of, with_lost}
-use Rattle.atl_state.proofs.RemovedLaws.{every-remove}
 
 -- ---- more than is booked
 
 -- there is so much more of a thing than is booked
 abbrev pub Owes : State → Thing → ℕ → Type 0
 Owes c s more = pos (total c s) ≡ booked c.books s +ℤ pos more
-
--- how much of a thing an amount of another is
-abbrev pub part_of : Thing → Thing → ℕ → ℕ
-part_of s t amount = cond (thing_place s == thing_place t) amount 0
 
 -- ---- a unit that keeps all
 
@@ -77,7 +75,7 @@ pub passes-refl : (w : Planet) (n : ℕ) (c : State) → IsSteady w c → Passes
 passes-refl w n c steady = record {
   steady = steady;
   owes = λ s x h. subst (Owes c s) (plain x) h;
-  near = λ e s. record { above = omega (arith, ints); below = omega (arith, ints) };
+  near = λ e s. near_same 0 (amount_in c.books e s);
   same = record { month = refl; reports = refl; count = refl; factions = λ k h. h };
   unit = refl;
   forth = λ m u is. (u, is, kept-refl u);
@@ -106,10 +104,6 @@ passes-trans {o} {p} {i} {j} w n a b c one two = record {
     grouped : (x y z : ℕ) → (x + y) + z ≡ x + (y + z)
     grouped x y z = omega arith
 
--- what is taken from an amount is at most so much
-within-lost : (k n : ℕ) → k ≤ n → IsWithin n (neg_ℤ (pos k))
-within-lost k n l = record { most = omega (arith, ints); least = omega (arith, ints) }
-
 owed : (b : Bool) (taken lost x before after : ℕ) (books : ℤ) → after ≡ before + cond b taken 0 → pos before ≡ books +ℤ pos x
     → pos after ≡ (books +ℤ cond b (neg_ℤ (pos lost)) (pos 0)) +ℤ pos (x + cond b (taken + lost) 0)
 owed true taken lost x before after books e h = omega (arith, ints, e, h)
@@ -128,7 +122,7 @@ module _ (w : Planet) (c : State) (n : ℕ) (t : Thing) (inside : thing_place t 
         ap pos (total-amount c Lost t s (neg_ℤ (pos amount)))
         ∙ owed_all (thing_place s == thing_place t) amount x (total c s) (booked c.books s) h
         ∙ ap (λ z. z +ℤ pos (x + part_of s t amount)) (sym (booked-with_booked (things_of w) c.books Lost t (neg_ℤ (pos amount)) steady.numbers.books inside s));
-    near = booked-near (things_of w) c.books Lost t (neg_ℤ (pos amount)) amount steady.numbers.books inside (within-lost amount amount (omega arith));
+    near = booked-near (things_of w) c.books Lost t (neg_ℤ (pos amount)) amount steady.numbers.books inside (within-neg amount amount (omega arith));
     same = record { month = refl; reports = refl; count = refl; factions = λ k h. h };
     unit = refl;
     forth = λ m u is. (u, is, kept-refl u);
@@ -154,7 +148,7 @@ module _ (w : Planet) (c : State) (n : ℕ) (t : Thing) (inside : thing_place t 
           ap pos (total-amount given Lost t s (neg_ℤ (pos lost)))
           ∙ owed (thing_place s == thing_place t) taken lost x (total c s) (total given s) (booked c.books s) (grown s) e
           ∙ ap (λ z. z +ℤ pos (x + part_of s t (taken + lost))) (sym (booked-with_booked (things_of w) c.books Lost t (neg_ℤ (pos lost)) steady.numbers.books inside s));
-      near = booked-near (things_of w) c.books Lost t (neg_ℤ (pos lost)) (taken + lost) steady.numbers.books inside (within-lost lost (taken + lost) (omega arith));
+      near = booked-near (things_of w) c.books Lost t (neg_ℤ (pos lost)) (taken + lost) steady.numbers.books inside (within-neg lost (taken + lost) (omega arith));
       same = record { month = refl; reports = refl; count = refl; factions = λ m h. h };
       unit = get-insert_other c.units k n (record v { holding = h }) apart;
       forth = λ m u there. new_unit m u there;
@@ -168,39 +162,11 @@ module _ (w : Planet) (c : State) (n : ℕ) (t : Thing) (inside : thing_place t 
               | Equal ↦ λ o.
                   let same : m ≡ k = nat_cmp-IsAntisymmetric m k o in
                   let one : Some v ≡ Some u = sym is ∙ ap (get c.units) (sym same) ∙ there in
-                  (record v { holding = h }, ap (get (insert c.units k (record v { holding = h }))) same ∙ get-insert_same c.units k (record v { holding = h }), subst (λ (p : Option Unit). KeptOr p) one kept)
+                  (record v { holding = h }, ap (get (insert c.units k (record v { holding = h }))) same ∙ get-insert_same c.units k (record v { holding = h }), subst (λ (x : Unit). IsKept x (record v { holding = h })) (same_Some v u one) kept)
               | Greater ↦ λ o. (u, get-insert_other c.units k m (record v { holding = h }) (λ same. let l = ranked m k Greater (sym o) in absurd (omega arith)) ∙ there, kept-refl u)
             ] refl
-          where
-            KeptOr : Option Unit → Type 0
-            KeptOr None = IsKept v v
-            KeptOr (Some y) = IsKept y (record v { holding = h })
 
 -- ---- so much more of an item
-
-pub every_amount : (P : ℕ → ℕ → Type 0) (items : FinMap nat_cmp ℕ) (i amount : ℕ) → (1 ≤ amount → P i amount) → Every P items → Every P (with_amount_of items i amount)
-every_amount P items i amount here old = by_zero (amount == 0) refl
-  where
-    by_zero : (b : Bool) → (amount == 0) ≡ b → Every P (if b then remove items i else insert items i amount)
-    by_zero true is = every-remove items i P old
-    by_zero false is = let some : 1 ≤ amount = grind (arith, nat_tests) in every-insert P items i amount (here some) old
-
-set_amount : (items : FinMap nat_cmp ℕ) (i amount j : ℕ) → amount_of (with_amount_of items i amount) j ≡ cond (is_eq (nat_cmp j i)) amount (amount_of items j)
-set_amount items i amount j = by_zero (amount == 0) refl
-  where
-    put : (b : Bool) → unwrap_or (cond b (Some amount) (get items j)) 0 ≡ cond b amount (amount_of items j)
-    put true = refl
-    put false = refl
-
-    taken : (b : Bool) → 0 ≡ amount → unwrap_or (cond b None (get items j)) 0 ≡ cond b amount (amount_of items j)
-    taken true e = e
-    taken false e = refl
-
-    by_zero : (b : Bool) → (amount == 0) ≡ b → amount_of (if b then remove items i else insert items i amount) j ≡ cond (is_eq (nat_cmp j i)) amount (amount_of items j)
-    by_zero true is =
-        let none : 0 ≡ amount = grind (arith, nat_tests) in
-        ap (λ (o : Option ℕ). unwrap_or o 0) (get-remove nat_cmp_total items i j) ∙ taken (is_eq (nat_cmp j i)) none
-    by_zero false is = ap (λ (o : Option ℕ). unwrap_or o 0) (get-insert nat_cmp_total items i amount j) ∙ put (is_eq (nat_cmp j i))
 
 nothing_added : (b : Bool) (x n : ℕ) → b ≡ false → x ≡ x + cond b n 0
 nothing_added true x n e = cc
@@ -271,13 +237,6 @@ module _ (w : Planet) (c : State) (n k : ℕ) (apart : n ≢ k) (steady : IsStea
   more_item h i n People = nothing_added (1 == 2 + i) h.men n (let e : (1 == 2 + i) ≡ false = grind (arith, nat_tests) in e)
   more_item h i n (Item j) = more_amount h.items i n j
 
-  held_within : (v : Unit) (i : ℕ) → get c.units k ≡ Some v → amount_of v.holding.items i ≤ holding_limit
-  held_within v i is = by_option (get v.holding.items i) refl
-    where
-      by_option : (o : Option ℕ) → get v.holding.items i ≡ o → unwrap_or o 0 ≤ holding_limit
-      by_option None e = omega arith
-      by_option (Some a) e = ((steady.numbers.units k v is).1.items i a e).1
-
   pub pass_item : (i amount : ℕ) → i < length w.items → Passed (Item i) amount (passed_item k c (i, amount))
   unfolding passed_item
   pass_item i amount known = by_unit (get c.units k) refl
@@ -291,7 +250,7 @@ module _ (w : Planet) (c : State) (n k : ℕ) (apart : n ≢ k) (steady : IsStea
           let have = amount_of v.holding.items i in
           let taken = taken_of amount have in
           let items = with_amount_of v.holding.items i (have + taken) in
-          let most = fits amount have (held_within v i is) in
+          let most = fits amount have (amount_within v.holding i (steady.numbers.units k v is).1) in
           let place = steady.known.units k v is in
           let holding = (steady.numbers.units k v is).1 in
           subst (λ a. Passed (Item i) a (with_lost (with_held c k (record v.holding { items = items }) (Some v)) (Item i) (amount - taken))) (whole amount have)
@@ -318,10 +277,6 @@ module _ (w : Planet) (c : State) (n k : ℕ) (apart : n ≢ k) (steady : IsStea
           taken (amount - taken) (more_item v.holding i taken))
 
 -- ---- all that a unit has
-
-abbrev pub owing_items : List (ℕ × ℕ) → Thing → ℕ
-owing_items [] s = 0
-owing_items (e ∷ es) s = part_of s (Item e.0) e.1 + owing_items es s
 
 pub pass_items : (w : Planet) (c : State) (n k : ℕ) → n ≢ k → (es : List (ℕ × ℕ)) → EachOf (λ i a. i < length w.items) es → IsSteady w c
     → PassesOn w n (owing_items es) (moving_items es) c (fold (passed_item k) c es)

@@ -28,6 +28,7 @@ use Rattle.atl_state.proofs.CoverLaws.{marks-amount, marks-region, marks-trans}
 use Rattle.atl_state.proofs.RegionLaws.{IsRegion-money, IsRegion-peasants, region-changed, steady-amount, steady-region, total-amount, total-region}
 use Rattle.atl_state.proofs.EveryLaws.{none_some}
 use Rattle.atl_instant.specs.Meaning.{HaveRoom, IsNear, LeavesWell, moved_times, moves_only, most_moved}
+use Rattle.atl_instant.proofs.MarkLaws.{marks_by}
 use Rattle.atl_instant.proofs.MeaningLaws.{fold_leaves_well, near_twice, room_behind_one, room_for_one, well_unchanged, well_within}
 use Rattle.atl_instant.proofs.BookingLaws.{booked-near, within-pos}
 use Rattle.atl_instant.specs.Terrains.{terrain_of}
@@ -140,9 +141,6 @@ growth_marks things c d e f g n peasants money born earned d_is d_marks e_is e_m
     (marks-trans d e g (marks_by d e _ e_is e_marks (marks-region (λ r. record r { money = money }) d n))
     (marks-trans e f g (marks_by e f _ f_is f_marks (marks-amount things e Births People (pos born) e_grid (omega arith)))
     (marks_by f g _ g_is g_marks (marks-amount things f Income Money (pos earned) f_grid (omega arith)))))
-  where
-    marks_by : (a b m : Marked) → b.what ≡ m.what → b.marks ≡ m.marks → MarksChanges a m → MarksChanges a b
-    marks_by a b m what marks h = rw (what, marks) (record { stay = h.stay; covers = h.covers })
 
 -- ---- the terrains of a world
 

@@ -1,5 +1,5 @@
 -- The accounts of upkeep, unit by unit.
-use Rattle.std.proofs.Common.{◌≡◌, ◌≢◌, ◌==◌, ◌&&◌, ◌++◌, ℕ, ◌+◌, ◌-◌, ◌*◌, ◌≤◌, ◌<◌, min, Bool, true, false, cond, List, [], ◌∷◌, filter, sum_by, Option, unwrap_or, refl, sym, ap, ◌∙◌, mul_comm, arith}
+use Rattle.std.proofs.Common.{◌≡◌, ◌≢◌, ◌==◌, ◌&&◌, ◌++◌, ℕ, ◌+◌, ◌-◌, ◌*◌, ◌≤◌, ◌<◌, min, Bool, true, false, cond, List, [], ◌∷◌, filter, sum_by, Option, unwrap_or, refl, sym, ap, ◌∙◌, mul_comm, add-zero, arith}
 use Rattle.std.specs.Ordering.{nat_cmp}
 use Rattle.std.specs.FinMap.{FinMap, empty, get, insert, get-empty}
 use Rattle.std.proofs.Math.Nat.{div-lt_iff_lt-mul}
@@ -10,6 +10,7 @@ use Rattle.atl_tables.specs.Limits.{most_per_head}
 use Rattle.atl_tables.specs.Groups.{group_of}
 use Rattle.atl_state.specs.Limits.{holding_limit, men_limit}
 use Rattle.atl_state.proofs.EveryLaws.{get-insert_other}
+use Rattle.atl_state.proofs.ListLaws.{same_number}
 use Rattle.atl_state.proofs.RegionLaws.{get-insert_same}
 use Rattle.atl_month.specs.declared.accounts.Account.{Account}
 use Rattle.atl_month.specs.declared.settling.Purse.{Purse}
@@ -88,11 +89,8 @@ each_account P m p a here others s g = by_test (is_purse_of s g p) refl
         rw (at true is, ← region, ← faction) here
     by_test false is = rw (at false is) (others s g is)
 
-true_same : (n : ℕ) → (n == n) ≡ true
-true_same n = grind (arith, nat_tests)
-
 own : (p : Purse) → is_purse_of p.region p.faction p ≡ true
-own p = rw (true_same p.region, true_same p.faction) refl
+own p = rw (same_number p.region, same_number p.faction) refl
 
 -- ---- the units are counted
 
@@ -125,16 +123,10 @@ module _ (m : ℕ) (before : List Purse) (p : Purse) where
   short_own = short_more p.region p.faction ∙ ap (λ b. short_among m p.region p.faction before + cond b (short_of m p) 0) (own p)
 
   left_other : (s g : ℕ) → is_purse_of s g p ≡ false → left_among m s g more ≡ left_among m s g before
-  left_other s g is = left_more s g ∙ ap (λ b. left_among m s g before + cond b (left_of m p) 0) is ∙ nothing (left_among m s g before)
-    where
-      nothing : (n : ℕ) → n + 0 ≡ n
-      nothing n = omega arith
+  left_other s g is = left_more s g ∙ ap (λ b. left_among m s g before + cond b (left_of m p) 0) is ∙ add-zero (left_among m s g before)
 
   short_other : (s g : ℕ) → is_purse_of s g p ≡ false → short_among m s g more ≡ short_among m s g before
-  short_other s g is = short_more s g ∙ ap (λ b. short_among m s g before + cond b (short_of m p) 0) is ∙ nothing (short_among m s g before)
-    where
-      nothing : (n : ℕ) → n + 0 ≡ n
-      nothing n = omega arith
+  short_other s g is = short_more s g ∙ ap (λ b. short_among m s g before + cond b (short_of m p) 0) is ∙ add-zero (short_among m s g before)
 
   none_given : (x y : ℕ) → min 0 x ≡ min 0 y
   none_given x y = omega arith

@@ -3,6 +3,7 @@ use Rattle.std.proofs.Common.{◌≡◌, ◌≢◌, ◌==◌, ◌&&◌, ℕ, suc
 use Rattle.std.specs.Prelude.{pos, fold, if◌then◌else◌}
 use Rattle.std.proofs.lemmas.Bool.Decides.{nat_tests}
 use Rattle.std.proofs.lemmas.Bool.{cases_eq}
+use Rattle.std.proofs.lemmas.Option.{same_Some}
 use Rattle.std.specs.Ordering.{nat_cmp}
 use Rattle.std.specs.FinMap.{FinMap, entries, get, len-entries}
 use Rattle.atl_tables.specs.Planet.{Planet}
@@ -30,10 +31,6 @@ use Rattle.atl_month.proofs.SweepLaws.{others_keep, others_were, swept_leaves_we
 use Rattle.atl_state.specs.Limits.{most_units}
 
 -- ---- one unit
-
-abbrev men_in : Option Unit → Unit → ℕ
-men_in (Some y) z = y.holding.men
-men_in None z = z.holding.men
 
 without : (n : ℕ) → (n == 0) ≡ true → n ≡ 0
 without n t = grind (arith, nat_tests)
@@ -70,7 +67,7 @@ module _ (w : Planet) (c : State) (n : ℕ) (steady : IsSteady w c) where
       all_but_it u is none m x there some =
           others_keep w c n u is none steady m x there (λ own.
           let one : Some x ≡ Some u = sym there ∙ ap (get c.units) own ∙ is in
-          let men = ap (λ o. men_in o x) one in
+          let men = ap (λ (y : Unit). y.holding.men) (same_Some x u one) in
           absurd (omega (arith, men, none, some)))
 
       by_men : (u : Unit) → get c.units n ≡ Some u → (b : Bool) → (u.holding.men == 0) ≡ b → Kept (swept_in c n (Some u))
@@ -98,7 +95,7 @@ module _ (w : Planet) (c : State) (n : ℕ) (steady : IsSteady w c) where
           (λ m v there. (
             λ none own.
                 let one : Some v ≡ Some u = sym there ∙ ap (get c.units) own ∙ is in
-                has_some u.holding.men t (sym (ap (λ o. men_in o v) one) ∙ none),
+                has_some u.holding.men t (sym (ap (λ (y : Unit). y.holding.men) (same_Some v u one)) ∙ none),
             (v, there, kept-refl v),
           ))
 

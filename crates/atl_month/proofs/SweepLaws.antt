@@ -1,13 +1,12 @@
 -- The sweep leaves a campaign well.
-use Rattle.std.proofs.Common.{◌≡◌, ◌≢◌, ◌==◌, ◌&&◌, ℕ, ◌+◌, ◌*◌, ◌≤◌, ◌<◌, not, Bool, true, false, cond, List, [], ◌∷◌, length, Option, Some, None, refl, sym, ap, subst, ◌∙◌, inl, arith}
+use Rattle.std.proofs.Common.{◌≡◌, ◌≢◌, ◌==◌, ◌&&◌, ℕ, ◌+◌, ◌*◌, ◌≤◌, ◌<◌, not, Bool, true, false, cond, List, [], ◌∷◌, length, Option, Some, refl, sym, ap, subst, ◌∙◌, inl, arith}
 use Rattle.std.specs.Prelude.{ℤ, pos, ◌+ℤ◌, nat_lt, unwrap_or, if◌then◌else◌}
 use Rattle.std.proofs.lemmas.Int.{ints}
 use Rattle.std.proofs.lemmas.Bool.Decides.{nat_tests}
 use Rattle.std.proofs.lemmas.Bool.{and_parts}
-use Rattle.std.specs.declared.cmp.Ordering.TheVariants.{Less, Equal, Greater}
-use Rattle.std.specs.Ordering.{nat_cmp, is_eq}
-use Rattle.std.specs.Cmp.{ranked}
-use Rattle.std.specs.FinMap.{FinMap, entries, find, get, get-entries, is_sorted, len, nat_cmp-IsAntisymmetric}
+use Rattle.std.proofs.lemmas.Option.{same_Some}
+use Rattle.std.specs.Ordering.{nat_cmp}
+use Rattle.std.specs.FinMap.{FinMap, entries, get, get-entries, len}
 use Rattle.atl_tables.specs.Planet.{Planet}
 use Rattle.atl_tables.specs.Limits.{most_amount}
 use Rattle.atl_tables.specs.Sums.{numbers_where}
@@ -27,49 +26,18 @@ use Rattle.atl_state.specs.Owners.{first_or_zero, without_unit}
 use Rattle.atl_state.specs.State.{State}
 use Rattle.atl_state.specs.Totals.{Balances, held, total}
 use Rattle.atl_state.proofs.EntryLaws.{entry_small}
-use Rattle.atl_state.proofs.EveryLaws.{each-from_every, not_below, sorted}
+use Rattle.atl_state.proofs.EveryLaws.{each-from_every, sorted}
 use Rattle.atl_instant.specs.Meaning.{IsNear, LeavesWell, Moving, both_move, moves_only}
+use Rattle.atl_instant.proofs.AmountsLaws.{amount_within}
 use Rattle.atl_instant.proofs.MeaningLaws.{near_more}
+use Rattle.atl_instant.proofs.QuitLaws.{no_money, no_people, of_item, owing_items, part_of}
 use Rattle.atl_instant.specs.LostItems.{moving_items}
 use Rattle.atl_month.specs.Sweep.{IsKept, loses_by, passed_money, passed_on, receiver, receives}
 use Rattle.atl_state.proofs.RemovedLaws.{IsListed, get-remove_other, listed_passing, still}
 use Rattle.atl_state.proofs.LeavingLaws.{only_reduced, steady-without, total-without}
-use Rattle.atl_month.proofs.PassingLaws.{Owes, PassesOn, owing_items, part_of, pass_items, pass_money, passes-trans}
+use Rattle.atl_month.proofs.PassingLaws.{Owes, PassesOn, pass_items, pass_money, passes-trans}
 
 -- ---- how much of each thing a unit passes on
-
-no_money : (es : List (ℕ × ℕ)) → owing_items es Money ≡ 0
-no_money [] = refl
-no_money (e ∷ es) = let apart : (0 == 2 + e.0) ≡ false = grind (arith, nat_tests) in ap (λ b. cond b e.1 0 + owing_items es Money) apart ∙ ap (λ n. 0 + n) (no_money es)
-
-no_people : (es : List (ℕ × ℕ)) → owing_items es People ≡ 0
-no_people [] = refl
-no_people (e ∷ es) = let apart : (1 == 2 + e.0) ≡ false = grind (arith, nat_tests) in ap (λ b. cond b e.1 0 + owing_items es People) apart ∙ ap (λ n. 0 + n) (no_people es)
-
-of_item : (j : ℕ) (es : List (ℕ × ℕ)) → is_sorted nat_cmp es ≡ true → owing_items es (Item j) ≡ unwrap_or (find nat_cmp j es) 0
-of_item j [] s = refl
-of_item j (e ∷ es) s =
-    let rest = of_item j es (and_parts _ _ s).1 in
-    elim (nat_cmp j e.0) as (λ o. nat_cmp j e.0 ≡ o → cond (2 + j == 2 + e.0) e.1 0 + owing_items es (Item j) ≡ unwrap_or (cond (is_eq o) (Some e.1) (find nat_cmp j es)) 0) [
-      | Less ↦ λ o. let l = ranked j e.0 Less (sym o) in other (let t : (2 + j == 2 + e.0) ≡ false = grind (arith, nat_tests) in t) rest
-      | Equal ↦ λ o.
-          let same : j ≡ e.0 = nat_cmp-IsAntisymmetric j e.0 o in
-          here (let t : (2 + j == 2 + e.0) ≡ true = grind (arith, nat_tests) in t)
-          (rest ∙ ap (λ k. unwrap_or (find nat_cmp k es) 0) same ∙ ap (λ (p : Option ℕ). unwrap_or p 0) (not_below e.0 es (and_parts _ _ s).0))
-      | Greater ↦ λ o. let l = ranked j e.0 Greater (sym o) in other (let t : (2 + j == 2 + e.0) ≡ false = grind (arith, nat_tests) in t) rest
-    ] refl
-  where
-    other : {n : ℕ} → (2 + j == 2 + e.0) ≡ false → owing_items es (Item j) ≡ n → cond (2 + j == 2 + e.0) e.1 0 + owing_items es (Item j) ≡ n
-    other {n} t rest = ap (λ b. cond b e.1 0 + owing_items es (Item j)) t ∙ nothing (owing_items es (Item j)) ∙ rest
-      where
-        nothing : (x : ℕ) → 0 + x ≡ x
-        nothing x = omega arith
-
-    here : (2 + j == 2 + e.0) ≡ true → owing_items es (Item j) ≡ 0 → cond (2 + j == 2 + e.0) e.1 0 + owing_items es (Item j) ≡ e.1
-    here t none = ap (λ b. cond b e.1 0 + owing_items es (Item j)) t ∙ ap (λ n. e.1 + n) none ∙ plain e.1
-      where
-        plain : (x : ℕ) → x + 0 ≡ x
-        plain x = omega arith
 
 abbrev owing_all : Held → Thing → ℕ
 owing_all h s = part_of s Money h.money + owing_items (entries h.items) s
@@ -161,12 +129,8 @@ module _ (w : Planet) (c : State) (n : ℕ) (u : Unit) (is : get c.units n ≡ S
       let both = and_parts (v.region == region) ((v.faction == faction) && nat_lt 0 v.holding.men) t in
       let men : nat_lt 0 v.holding.men ≡ true = (and_parts (v.faction == faction) (nat_lt 0 v.holding.men) both.1).1 in
       let one : Some v ≡ Some u = sym there ∙ is in
-      without_men v.holding.men (ap (λ o. men_in o v) one ∙ none) men
+      without_men v.holding.men (ap (λ (x : Unit). x.holding.men) (same_Some v u one) ∙ none) men
     where
-      men_in : Option Unit → Unit → ℕ
-      men_in (Some y) z = y.holding.men
-      men_in None z = z.holding.men
-
       without_men : (men : ℕ) → men ≡ 0 → nat_lt 0 men ≡ true → ⊥
       without_men men e t = let some : 1 ≤ men = grind (arith, nat_tests) in absurd (omega (arith, e, some))
 
@@ -193,13 +157,6 @@ module _ (w : Planet) (c : State) (n : ℕ) (u : Unit) (is : get c.units n ≡ S
       let money = pass_money w c n to apart steady u.holding.money in
       passes-trans w n c (passed_money c to u.holding.money) passed money (pass_items w (passed_money c to u.holding.money) n to apart (entries u.holding.items) known money.steady)
 
-  held_within : (i : ℕ) → amount_of u.holding.items i ≤ holding_limit
-  held_within i = by_option (get u.holding.items i) refl
-    where
-      by_option : (o : Option ℕ) → get u.holding.items i ≡ o → unwrap_or o 0 ≤ holding_limit
-      by_option None e = omega arith
-      by_option (Some a) e = ((steady.numbers.units n u is).1.items i a e).1
-
   there_still : get passed.units n ≡ Some u
   there_still = passing.unit ∙ is
 
@@ -225,7 +182,7 @@ module _ (w : Planet) (c : State) (n : ℕ) (u : Unit) (is : get c.units n ≡ S
 
   pub moves_little : (e : Entry) (s : Thing) → moving_all u.holding e s ≤ loses_by most_amount e s
   moves_little e s =
-      less_less (moving_all u.holding e s) (of_lost e (held s u.holding)) (loses_by most_amount e s) (all_moved u.holding none e s) (little_lost u.holding none (steady.numbers.units n u is).1.money held_within e s)
+      less_less (moving_all u.holding e s) (of_lost e (held s u.holding)) (loses_by most_amount e s) (all_moved u.holding none e s) (little_lost u.holding none (steady.numbers.units n u is).1.money (λ i. amount_within u.holding i (steady.numbers.units n u is).1) e s)
 
   pub swept_leaves_well : LeavesWell IsSteady (loses_by most_amount) w c swept
   swept_leaves_well =

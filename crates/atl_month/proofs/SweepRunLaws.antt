@@ -1,7 +1,6 @@
 -- What the code of the sweep marks, and how far it may book.
-use Rattle.std.proofs.Common.{◌≡◌, ◌≢◌, ◌==◌, ℕ, suc, ◌+◌, ◌≤◌, ◌<◌, Bool, true, false, List, ◌∷◌, length, Some, refl, sym, ap, subst, ◌∙◌, arith}
-use Rattle.std.specs.Prelude.{ℤ, pos, neg_ℤ, if◌then◌else◌}
-use Rattle.std.proofs.lemmas.Int.{ints}
+use Rattle.std.proofs.Common.{◌≡◌, ◌≢◌, ◌==◌, ℕ, suc, ◌+◌, ◌≤◌, ◌<◌, Bool, true, false, List, ◌∷◌, length, Some, refl, sym, ap, subst, arith}
+use Rattle.std.specs.Prelude.{pos, neg_ℤ, if◌then◌else◌}
 use Rattle.std.specs.FinMap.{entries, get}
 use Rattle.atl_tables.specs.Planet.{Planet}
 use Rattle.atl_tables.specs.Limits.{most_amount}
@@ -14,7 +13,7 @@ use Rattle.atl_state.specs.declared.books.Thing.TheVariants.{Item, Money}
 use Rattle.atl_state.specs.declared.records.Unit.{Unit}
 use Rattle.atl_state.specs.Good.{IsSteady}
 use Rattle.atl_state.specs.Held.{Held}
-use Rattle.atl_state.specs.Lending.{lent, with_held}
+use Rattle.atl_state.specs.Lending.{lent}
 use Rattle.atl_state.specs.Marking.{mark_amount, mark_faction, mark_unit_row}
 use Rattle.atl_state.specs.Marks.{amount_number}
 use Rattle.atl_state.specs.State.{Marked, State, with_gone, with_money}
@@ -22,17 +21,16 @@ use Rattle.atl_state.proofs.CoverLaws.{marks-amount, marks-trans}
 use Rattle.atl_state.proofs.HoldingLaws.{marks-lent, marks-unit_row}
 use Rattle.atl_state.proofs.ListLaws.{same_number}
 use Rattle.atl_instant.specs.Meaning.{HasRoom, HaveRoom, IsNear, Moving, both_move, moves_only}
-use Rattle.atl_instant.proofs.MeaningLaws.{near_room, room_less}
+use Rattle.atl_instant.proofs.MarkLaws.{marks_by}
+use Rattle.atl_instant.proofs.MeaningLaws.{less_room, near_room, room_less}
+use Rattle.atl_instant.proofs.QuitLaws.{part_of}
 use Rattle.atl_instant.specs.LostItems.{moving_items}
 use Rattle.atl_month.specs.Sweep.{item_to, loses_by, passed_item, passed_money, with_lost}
 use Rattle.atl_state.proofs.GoneLaws.{marks-gone_faction}
-use Rattle.atl_month.proofs.PassingLaws.{PassesOn, part_of, pass_item, pass_money}
+use Rattle.atl_month.proofs.PassingLaws.{PassesOn, pass_item, pass_money}
 use Rattle.atl_month.proofs.SweepLaws.{moves_little, moving_all}
 
 -- ---- marks
-
-marks_by : (a b m : Marked) → b.what ≡ m.what → b.marks ≡ m.marks → MarksChanges a m → MarksChanges a b
-marks_by a b m what marks h = rw (what, marks) (record { stay = h.stay; covers = h.covers })
 
 pub lost_marks : (things amount : ℕ) (c d : Marked) (t : Thing) → IsGrid things c.what.books → thing_place t < things → d.what ≡ with_lost c.what t amount → d.marks ≡ mark_amount c Lost t → MarksChanges c d
 lost_marks things amount c d t grid inside what marks =
@@ -54,19 +52,13 @@ item_marks things lost to item c d e h d_is books e_is e_marks grid inside =
 pub gone_marks : (c d : Marked) (n : ℕ) → d.what ≡ with_gone c.what n → d.marks ≡ mark_faction c n → MarksChanges c d
 gone_marks c d n what marks = marks_by c d (record { what = with_gone c.what n; marks = mark_faction c n }) what marks (marks-gone_faction c n)
 
--- ---- a unit that was lent
-
-pub lent_what : (c d : Marked) (n : ℕ) (u : Unit) (h : Held) → get c.what.units n ≡ Some u → d ≡ lent c n h → d.what ≡ with_held c.what n h (Some u)
-lent_what c d n u h is e = ap (λ (m : Marked). m.what) e ∙ ap (with_held c.what n h) is
+-- ---- an item that is passed on
 
 pub passed_item_is : (c : State) (to item amount : ℕ) (v : Unit) → get c.units to ≡ Some v → item_to c to item amount (Some v) ≡ passed_item to c (item, amount)
 unfolding passed_item
 passed_item_is c to item amount v is = sym (ap (item_to c to item amount) is)
 
 -- ---- room
-
-pub less_room : (j k : ℕ) (a : ℤ) → j ≤ k → HasRoom k a → HasRoom j a
-less_room j k a l room = record { above = omega (arith, ints, room.above); below = omega (arith, ints, room.below) }
 
 pub near_leaves_room : (j k : Moving) (c d : State) → ((e : Entry) (t : Thing) → IsNear (j e t) (amount_in c.books e t) (amount_in d.books e t)) → HaveRoom (both_move j k) c → HaveRoom k d
 near_leaves_room j k c d near room e t = near_room (j e t) (k e t) (amount_in c.books e t) (amount_in d.books e t) (near e t) (room e t)

@@ -2,9 +2,8 @@
 use Rattle.std.proofs.Common.{◌≡◌, ◌≢◌, ◌==◌, ℕ, suc, ◌+◌, ◌-◌, ◌*◌, ◌/◌, ◌≤◌, ◌<◌, Bool, true, false, cond, Option, Some, None, List, [], ◌∷◌, ◌++◌, length, map, refl, sym, ap, subst, ◌∙◌, arith}
 use Rattle.std.specs.Prelude.{IsTrue, nat_lt, ◌&&◌, ℤ, pos, neg_ℤ, ◌+ℤ◌, fold, if◌then◌else◌}
 use Rattle.std.specs.List.{AllByRecursion}
-use Rattle.std.specs.Ordering.{eq_by_cmp, nat_cmp}
-use Rattle.std.specs.Cmp.{nat_cmp_total}
-use Rattle.std.specs.FinMap.{FinMap, empty, entries, get, get-remove, insert, len-entries, remove}
+use Rattle.std.specs.Ordering.{nat_cmp}
+use Rattle.std.specs.FinMap.{FinMap, empty, entries, get, len-entries}
 use Rattle.std.proofs.Math.Nat.{div-le_of_le-mul, mul-le-mul_right}
 use Rattle.std.proofs.lemmas.List.{length-map}
 use Rattle.std.proofs.lemmas.Int.{ints}
@@ -32,12 +31,13 @@ use Rattle.atl_state.specs.Totals.{Balances, held, total}
 use Rattle.atl_state.proofs.BackLaws.{Rise, entries_rise}
 use Rattle.atl_state.proofs.BookLaws.{IsGrid-with_booked, booked-with_booked, share_of}
 use Rattle.atl_state.proofs.CoverLaws.{marks-amount, marks-trans}
-use Rattle.atl_state.proofs.EveryLaws.{each-from_every, every-empty, every-insert, get-insert_other, none_some}
+use Rattle.atl_state.proofs.EveryLaws.{each-from_every, every-empty, get-insert_other}
 use Rattle.atl_state.proofs.HoldingLaws.{MayHold, marks-lent, steady-held, total-held}
 use Rattle.atl_state.proofs.RegionLaws.{steady-amount, total-amount}
 use Rattle.atl_instant.specs.Meaning.{HaveRoom, IsNear, LeavesWell, Moving, moved_times, moves_only, most_moved}
 use Rattle.atl_instant.proofs.MarkLaws.{marks_by}
 use Rattle.atl_instant.proofs.MeaningLaws.{MovesLess, near_twice, room_less, well_within}
+use Rattle.atl_instant.proofs.AmountsLaws.{every_amount}
 use Rattle.atl_instant.proofs.BookingLaws.{booked-near, within-neg}
 use Rattle.atl_market.specs.PotPhase.{CanInTurn}
 use Rattle.atl_market.proofs.TurnLaws.{first_room, later_room, turns_leave_well}
@@ -54,10 +54,6 @@ use Rattle.atl_month.proofs.SettlingLaws.{can_spare}
 abbrev IsStudied : Planet → (men skill days : ℕ) → Type 0
 IsStudied w men skill days = (skill < length w.skills) × (1 ≤ days) × (days ≤ most_days * men)
 
-gone_cond : (P : ℕ → Type 0) (b : Bool) (o : Option ℕ) (x : ℕ) → (o ≡ Some x → P x) → cond b None o ≡ Some x → P x
-gone_cond P true o x old is = none_some x is
-gone_cond P false o x old is = old is
-
 module _ (w : Planet) (left men : ℕ) (fewer : left ≤ men) where
   part : (days : ℕ) → days ≤ most_days * men → days * left / men ≤ most_days * left
   part days most = div-le_of_le-mul men (scaled days most)
@@ -71,19 +67,10 @@ module _ (w : Planet) (left men : ℕ) (fewer : left ≤ men) where
           times : (a b l : ℕ) → a ≤ b → a * l ≤ b * l
           times a b l h = mul-le-mul_right l h
 
-  put_days : (kept : FinMap nat_cmp ℕ) (skill days : ℕ) → Every (IsStudied w left) kept → skill < length w.skills → days ≤ most_days * left → Every (IsStudied w left) (with_amount_of kept skill days)
-  put_days kept skill days old known most = by_zero (days == 0) refl
-    where
-      by_zero : (b : Bool) → (days == 0) ≡ b → Every (IsStudied w left) (if b then remove kept skill else insert kept skill days)
-      by_zero true is = λ n x there. gone_cond (IsStudied w left n) (eq_by_cmp nat_cmp n skill) (get kept n) x (old n x) (sym (get-remove nat_cmp_total kept skill n) ∙ there)
-      by_zero false is =
-          let some : 1 ≤ days = grind (arith, nat_tests) in
-          every-insert (IsStudied w left) kept skill days (known, some, most) old
-
   days_kept : (es : List (ℕ × ℕ)) (kept : FinMap nat_cmp ℕ) → Every (IsStudied w left) kept → EachOf (IsStudied w men) es
       → Every (IsStudied w left) (fold (λ (m : FinMap nat_cmp ℕ) (e : ℕ × ℕ). with_amount_of m e.0 (e.1 * left / men)) kept es)
   days_kept [] kept old each = old
-  days_kept ((skill, days) ∷ es) kept old ((known, some, most), each) = days_kept es (with_amount_of kept skill (days * left / men)) (put_days kept skill (days * left / men) old known (part days most)) each
+  days_kept ((skill, days) ∷ es) kept old ((known, some, most), each) = days_kept es (with_amount_of kept skill (days * left / men)) (every_amount (IsStudied w left) kept skill (days * left / men) (λ enough. (known, enough, part days most)) old) each
 
 -- with fewer men it has their part of the days, and all else as it was
 module _ (w : Planet) (h : Held) (left : ℕ) (fewer : left ≤ h.men) (days : Every (IsStudied w h.men) h.days) where

@@ -5,7 +5,9 @@ use Rattle.atl_state.specs.Books.{amount_in}
 use Rattle.atl_state.specs.Founding.{things_of}
 use Rattle.atl_state.specs.Held.{Held, with_amount_of}
 use Rattle.atl_state.specs.State.{State}
-use Rattle.atl_month.proofs.SweepRunLaws.{item_marks, lent_what, less_room, lost_marks, passed_item_is}
+use Rattle.atl_instant.proofs.MeaningLaws.{less_room}
+use Rattle.atl_instant.proofs.MovingLaws.{lent_what}
+use Rattle.atl_month.proofs.SweepRunLaws.{item_marks, lost_marks, passed_item_is}
 use Rattle.atl_month.proofs.sweep.pass_item.Goals as goal
 
 pub lose-requires-clause-there : goal.lose-requires-clause-there

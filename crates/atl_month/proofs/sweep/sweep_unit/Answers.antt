@@ -7,7 +7,8 @@ use Rattle.atl_state.specs.Books.{amount_in}
 use Rattle.atl_state.proofs.CoverLaws.{marks-trans}
 use Rattle.atl_state.proofs.EveryLaws.{each-from_every}
 use Rattle.atl_state.proofs.LeavingLaws.{marks-without}
-use Rattle.atl_month.proofs.SweepRunLaws.{items_room, less_room, money_steady}
+use Rattle.atl_instant.proofs.MeaningLaws.{less_room}
+use Rattle.atl_month.proofs.SweepRunLaws.{items_room, money_steady}
 use Rattle.atl_month.proofs.sweep.sweep_unit.Goals as goal
 
 pub pass_money-requires-clause-room : goal.pass_money-requires-clause-room
