@@ -1,5 +1,5 @@
 -- What units with their shares draw from pots: a pot holds enough for all of them.
-use Rattle.std.proofs.Common.{◌≡◌, ◌≢◌, ℕ, ◌+◌, ◌<◌, ◌≤◌, ◌==◌, ◌⊎◌, zero, suc, Bool, true, false, cond, List, [], ◌∷◌, length, get_or, map, sum, Option, Some, None, refl, sym, ap, subst, ◌∙◌, inl, inr, arith}
+use Rattle.std.proofs.Common.{◌≡◌, ◌≢◌, ℕ, ◌+◌, ◌<◌, ◌≤◌, ◌==◌, ◌⊎◌, zero, suc, Bool, true, false, cond, List, [], ◌∷◌, length, get_or, map, sum, Some, refl, sym, ap, subst, ◌∙◌, inl, inr, arith}
 use Rattle.std.specs.Prelude.{min, unwrap_or}
 use Rattle.std.specs.declared.cmp.Ordering.TheVariants.{Less}
 use Rattle.std.specs.List.{AllByRecursion}
@@ -17,6 +17,7 @@ use Rattle.atl_state.proofs.BackLaws.{Rise, entries_rise}
 use Rattle.atl_state.proofs.EveryLaws.{each-from_every, get-insert_other}
 use Rattle.atl_state.proofs.ListLaws.{other_number, same_number}
 use Rattle.atl_state.proofs.RegionLaws.{changed-known, get-insert_same}
+use Rattle.atl_market.specs.AtOnce.{stands_in}
 use Rattle.atl_market.specs.Pots.{amount_given, pot_shares, takers_in, wants_in}
 use Rattle.atl_market.proofs.PotLaws.{IsRisen, gives_each_pot, only_takers_get, taker_place, takers_risen}
 
@@ -157,10 +158,6 @@ module _ {K : Type 0} (pots : DrawnPots K) where
         left_over share rest less all h k = omega (arith, h, k)
 
 -- ---- the pots of regions: those draw who stand there
-
-abbrev pub stands_in : ℕ → Option Unit → Bool
-stands_in r None = false
-stands_in r (Some u) = u.region == r
 
 abbrev pub who_stand : FinMap nat_cmp Unit → ℕ → Drawers
 who_stand units r n = stands_in r (get units n)

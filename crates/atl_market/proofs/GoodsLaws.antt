@@ -142,6 +142,9 @@ module _ (w : Planet) (c : State) (n i k : ℕ) where
   pub used_unit : (u : Unit) → get c.units n ≡ Some u → get (with_used c n i k).units n ≡ Some (record u { holding = record u.holding { items = with_amount_of u.holding.items i (amount_of u.holding.items i - k) } })
   used_unit u is = ap (λ (d : State). get d.units n) (used_is u is) ∙ get-insert_same c.units n (record u { holding = record u.holding { items = with_amount_of u.holding.items i (amount_of u.holding.items i - k) } })
 
+  pub made_unit : (u : Unit) → get c.units n ≡ Some u → get (with_made c n i k).units n ≡ Some (record u { holding = record u.holding { items = with_amount_of u.holding.items i (amount_of u.holding.items i + k) } })
+  made_unit u is = ap (λ (d : State). get d.units n) (made_is u is) ∙ get-insert_same c.units n (record u { holding = record u.holding { items = with_amount_of u.holding.items i (amount_of u.holding.items i + k) } })
+
   -- and others
   pub used_others : (m : ℕ) → m ≢ n → get (with_used c n i k).units m ≡ get c.units m
   used_others m apart = by_unit (get c.units n)

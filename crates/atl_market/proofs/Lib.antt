@@ -4,12 +4,12 @@ pub mod TurnLaws
 pub mod WantLaws
 pub mod DrawLaws
 pub mod OrderedLaws
+pub mod AtOnceLaws
 pub mod PurseLaws
 pub mod TaxLaws
 pub mod RecruitLaws
 pub mod WorkLaws
 pub mod WorkOrderLaws
-pub mod PaidLaws
 pub mod UnmailedPotLaws
 pub mod BuildUsedLaws
 pub mod BuildBegunLaws
@@ -19,4 +19,5 @@ pub mod ItemPotLaws
 pub mod MakesLaws
 pub mod GoodsLaws
 pub mod ProduceLaws
+pub mod PaidLaws
 pub mod UnmailedMakeLaws

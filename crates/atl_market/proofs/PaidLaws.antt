@@ -1,61 +1,168 @@
--- All units are paid at once.
-use Rattle.std.proofs.Common.{◌≡◌, ◌≢◌, ℕ, ◌+◌, ◌<◌, Option, Some, None, List, [], ◌∷◌, refl, sym, ap, subst, ◌∙◌, inl, inr, arith}
-use Rattle.std.specs.Prelude.{fold, unwrap_or}
-use Rattle.std.specs.List.{AllByRecursion}
+-- What each payment of a phase with pots makes of a unit and of its region: so all change at once.
+use Rattle.std.proofs.Common.{◌≡◌, ℕ, ◌+◌, ◌-◌, ◌*◌, true, false, Option, Some, None, refl, ap, ◌∙◌, arith}
+use Rattle.std.specs.List.{slice_get}
 use Rattle.std.specs.Ordering.{nat_cmp}
-use Rattle.std.specs.FinMap.{entries, find, get, get-entries}
-use Rattle.std.proofs.lemmas.Bool.{cases_eq}
+use Rattle.std.specs.FinMap.{FinMap, get}
 use Rattle.atl_tables.specs.Planet.{Planet}
+use Rattle.atl_tables.specs.declared.world.Item.{Item}
 use Rattle.atl_state.specs.State.{State}
+use Rattle.atl_state.specs.declared.records.Region.{Region}
 use Rattle.atl_state.specs.declared.records.Unit.{Unit}
-use Rattle.atl_state.proofs.BackLaws.{Rise, entries_rise}
-use Rattle.atl_state.proofs.EveryLaws.{first}
-use Rattle.atl_state.proofs.RegionLaws.{get-insert_same}
-use Rattle.atl_market.proofs.PotLaws.{found_other}
-use Rattle.atl_market.specs.PotPhase.{given_by, shared_out}
-use Rattle.atl_market.specs.Work.{PaysAllAtOnce, earned, with_more_money, work_pots, worked, worked_by}
-use Rattle.atl_market.proofs.WorkLaws.{wages_are, wages_leave_others, worked_is}
+use Rattle.atl_state.proofs.EveryLaws.{get-insert_other}
+use Rattle.atl_state.proofs.RegionLaws.{changed-known, get-insert_same}
+use Rattle.atl_market.specs.AtOnce.{stays}
+use Rattle.atl_market.specs.Goods.{made_to, used_by, with_made, with_used}
+use Rattle.atl_market.specs.Paid.{ProducesAtOnce, RecruitsAtOnce, TaxesAtOnce, WorksAtOnce, maker_by, maker_of, with_less, with_more, with_more_money}
+use Rattle.atl_market.specs.PotPhase.{wants_by}
+use Rattle.atl_market.specs.Produce.{produce_pots, produced, produced_by, produced_of, with_raw_used}
+use Rattle.atl_market.specs.Recruit.{recruit_pots, recruited, recruits_at, with_men}
+use Rattle.atl_market.specs.Tax.{money_at, tax_pots, taxed}
+use Rattle.atl_market.specs.Work.{earned, places_at, work_pots, worked}
+use Rattle.atl_market.proofs.AtOnceLaws.{Pays, all_at_once}
+use Rattle.atl_market.proofs.GoodsLaws.{made_unit, used_unit}
+use Rattle.atl_market.proofs.PotLaws.{only_takers_get, pots_give}
+use Rattle.atl_market.proofs.ProduceLaws.{given_can, produced_others}
+use Rattle.atl_market.proofs.PurseLaws.{others_stay, paid_unit}
+use Rattle.atl_market.proofs.RecruitLaws.{leave, recruited_is, recruited_others, recruited_to, recruits_are}
+use Rattle.atl_market.proofs.TaxLaws.{drain, taxed_is}
+use Rattle.atl_market.proofs.WantLaws.{given_is_wanted}
+use Rattle.atl_market.proofs.WorkLaws.{wages_are, wages_leave_others, wages_paid, worked_is}
+
+less_none : (a : ℕ) → a - 0 ≡ a
+less_none a = omega arith
+
+less_both : (a s t : ℕ) → a - s - t ≡ a - (s + t)
+less_both a s t = omega arith
+
+-- ---- TAX
 
 module _ (w : Planet) where
-  -- a payment changes no other unit
-  others_stay : (c : State) (e : ℕ × ℕ) (n : ℕ) → n ≢ e.0 → get (worked w c e).units n ≡ get c.units n
-  unfolding worked
-  others_stay c e n apart = by_unit (get c.units e.0) refl
+  tax_pays : Pays true (λ d e. taxed d e) (λ n. with_more_money) (λ q taken. record q { money = q.money - taken })
+  tax_pays = record {
+    mine = λ d e u is (q, around). ap (λ (s : State). get s.units e.0) (taxed_is w d e u q is around) ∙ get-insert_same d.units e.0 (paid_unit d e.0 u e.1);
+    others = λ d e u is (q, around) k apart. ap (λ (s : State). get s.units k) (taxed_is w d e u q is around) ∙ others_stay d e.0 u e.1 is k apart;
+    region = λ d e u q is around.
+        ap (λ (s : State). get s.regions u.region) (taxed_is w d e u q is around) ∙ ap (λ m. get m u.region) (changed-known (drain q e.1) d.regions u.region q around)
+        ∙ get-insert_same d.regions u.region (drain q e.1 q);
+    regions = λ d e u is (q, around) k apart.
+        ap (λ (s : State). get s.regions k) (taxed_is w d e u q is around) ∙ ap (λ m. get m k) (changed-known (drain q e.1) d.regions u.region q around)
+        ∙ get-insert_other d.regions u.region k (drain q e.1 q) apart;
+    nothing = λ q. ap (λ m. record q { money = m }) (less_none q.money);
+    twice = λ q s t. ap (λ m. record q { money = m }) (less_both q.money s t);
+  }
+
+pub taxes_at_once : TaxesAtOnce
+taxes_at_once w c os =
+    all_at_once tax_pots w (λ n. with_more_money) (λ q taken. record q { money = q.money - taken }) (tax_pays w) c os
+    (λ n share is. let (want, u, wanted, low, at, region) = only_takers_get (money_at c) (wants_by tax_pots w c os) c n share is in (u, at, region))
+
+-- ---- RECRUIT
+
+module _ (w : Planet) where
+  recruited_then : (d : State) (e : ℕ × ℕ) (u : Unit) (q : Region) → get d.units e.0 ≡ Some u → get d.regions u.region ≡ Some q → recruited w d e ≡ recruited_to d e.0 u q e.1 (e.1 * w.rules.recruit_price)
+  recruited_then d e u q is around = recruited_is w d e u q is around ∙ recruits_are w d e.0 u q e.1 (e.1 * w.rules.recruit_price) is around
+
+  recruit_pays : Pays true (recruited w) (λ n u recruits. record u { holding = with_men u.holding recruits (recruits * w.rules.recruit_price) }) (λ q joined. record q { peasants = q.peasants - joined })
+  recruit_pays = record {
+    mine = λ d e u is (q, around).
+        ap (λ (s : State). get s.units e.0) (recruited_then d e u q is around) ∙ get-insert_same d.units e.0 (record u { holding = with_men u.holding e.1 (e.1 * w.rules.recruit_price) });
+    others = λ d e u is here k apart. recruited_others w d e k apart;
+    region = λ d e u q is around.
+        ap (λ (s : State). get s.regions u.region) (recruited_then d e u q is around) ∙ ap (λ m. get m u.region) (changed-known (leave q e.1) d.regions u.region q around)
+        ∙ get-insert_same d.regions u.region (leave q e.1 q);
+    regions = λ d e u is (q, around) k apart.
+        ap (λ (s : State). get s.regions k) (recruited_then d e u q is around) ∙ ap (λ m. get m k) (changed-known (leave q e.1) d.regions u.region q around)
+        ∙ get-insert_other d.regions u.region k (leave q e.1 q) apart;
+    nothing = λ q. ap (λ p. record q { peasants = p }) (less_none q.peasants);
+    twice = λ q s t. ap (λ p. record q { peasants = p }) (less_both q.peasants s t);
+  }
+
+pub recruits_at_once : RecruitsAtOnce
+recruits_at_once readings w c os =
+    all_at_once (recruit_pots readings) w (λ n u recruits. record u { holding = with_men u.holding recruits (recruits * w.rules.recruit_price) }) (λ q joined. record q { peasants = q.peasants - joined }) (recruit_pays w) c os
+    (λ n share is. let (want, u, wanted, low, at, region) = only_takers_get (recruits_at w c) (wants_by (recruit_pots readings) w c os) c n share is in (u, at, region))
+
+-- ---- WORK
+
+module _ (w : Planet) where
+  worked_then : (d : State) (e : ℕ × ℕ) (u : Unit) (is : get d.units e.0 ≡ Some u) → worked w d e ≡ wages_paid w d e.0 u (earned w u.region e.1) is
+  worked_then d e u is = worked_is w d e u is ∙ wages_are w d e.0 u (earned w u.region e.1) is
+
+  work_pays : Pays false (worked w) (λ n u places. with_more_money u (earned w u.region places)) stays
+  work_pays = record {
+    mine = λ d e u is here. ap (λ (s : State). get s.units e.0) (worked_then d e u is) ∙ get-insert_same d.units e.0 (paid_unit d e.0 u (earned w u.region e.1));
+    others = λ d e u is here k apart. ap (λ (s : State). get s.units k) (worked_then d e u is) ∙ wages_leave_others w d e.0 u (earned w u.region e.1) is k apart;
+    region = λ d e u q is around. ap (λ (s : State). get s.regions u.region) (worked_then d e u is) ∙ around;
+    regions = λ d e u is here k apart. ap (λ (s : State). get s.regions k) (worked_then d e u is);
+    nothing = λ q. refl;
+    twice = λ q s t. refl;
+  }
+
+pub works_at_once : WorksAtOnce
+works_at_once w c os =
+    all_at_once work_pots w (λ n u places. with_more_money u (earned w u.region places)) stays (work_pays w) c os
+    (λ n share is. let (u, o, there, low) = given_is_wanted work_pots w c (pots_give (places_at w) c) os n share is in (u, there, tt))
+
+-- ---- PRODUCE
+
+module _ (asked : FinMap nat_cmp ℕ) (w : Planet) where
+  used_regions : (d : State) (n i amount : ℕ) → (with_used d n i amount).regions ≡ d.regions
+  used_regions d n i amount = by_unit (get d.units n)
     where
-      by_unit : (o : Option Unit) → get c.units e.0 ≡ o → get (worked_by w c e o).units n ≡ get c.units n
-      by_unit None is = refl
-      by_unit (Some u) is = ap (λ (d : State). get d.units n) (wages_are w c e.0 u (earned w u.region e.1) is) ∙ wages_leave_others w c e.0 u (earned w u.region e.1) is n apart
+      by_unit : (o : Option Unit) → (used_by d n i amount o).regions ≡ d.regions
+      by_unit None = refl
+      by_unit (Some u) = refl
 
-  -- and gives this one its wages
-  one_paid : (c : State) (e : ℕ × ℕ) (u : Unit) → get c.units e.0 ≡ Some u → get (worked w c e).units e.0 ≡ Some (with_more_money u (earned w u.region e.1))
-  one_paid c e u is =
-      ap (λ (d : State). get d.units e.0) (worked_is w c e u is ∙ wages_are w c e.0 u (earned w u.region e.1) is)
-      ∙ get-insert_same c.units e.0 (with_more_money u (earned w u.region e.1))
+  made_regions : (d : State) (n i amount : ℕ) → (with_made d n i amount).regions ≡ d.regions
+  made_regions d n i amount = by_unit (get d.units n)
+    where
+      by_unit : (o : Option Unit) → (made_to d n i amount o).regions ≡ d.regions
+      by_unit None = refl
+      by_unit (Some u) = refl
 
-  later_stay : (c : State) (es : List (ℕ × ℕ)) (n : ℕ) → AllByRecursion (λ f. n < f.0) es → get (fold (worked w) c es).units n ≡ get c.units n
-  later_stay c [] n above = refl
-  later_stay c (e ∷ es) n above = later_stay (worked w c e) es n above.1 ∙ others_stay c e n (λ same. absurd (omega (arith, same, above.0)))
+  produced_regions : (d : State) (e : ℕ × ℕ) → (produced asked w d e).regions ≡ d.regions
+  unfolding produced
+  produced_regions d e = by_item (get asked e.0)
+    where
+      by_raw : (i amount : ℕ) (o : Option ℕ) → (with_made (with_raw_used d e.0 amount o) e.0 i e.1).regions ≡ d.regions
+      by_raw i amount None = made_regions d e.0 i e.1
+      by_raw i amount (Some r) = made_regions (with_used d e.0 r amount) e.0 i e.1 ∙ used_regions d e.0 r amount
 
-  nothing_more : (u : Unit) → u ≡ with_more_money u (earned w u.region 0)
-  nothing_more u =
-      let same : u.holding.money ≡ u.holding.money + earned w u.region 0 = omega arith in
-      let itself : u ≡ record u { holding = record u.holding { money = u.holding.money } } = refl in
-      itself ∙ ap (λ money. record u { holding = record u.holding { money = money } }) same
+      by_world : (i : ℕ) (o : Option Item) → (produced_of d e i o).regions ≡ d.regions
+      by_world i None = refl
+      by_world i (Some x) = by_raw i (e.1 * x.raw_count) x.raw
 
-  each_paid : (c : State) (es : List (ℕ × ℕ)) (n : ℕ) (u : Unit) → Rise es → get c.units n ≡ Some u → get (fold (worked w) c es).units n ≡ Some (with_more_money u (earned w u.region (unwrap_or (find nat_cmp n es) 0)))
-  each_paid c [] n u rise is = is ∙ ap Some (nothing_more u)
-  each_paid c (e ∷ es) n u rise is = elim (cases_eq n e.0) [
-    | inl same ↦
-        let there : get c.units e.0 ≡ Some u = ap (get c.units) (sym same) ∙ is in
-        subst (λ k. get (fold (worked w) (worked w c e) es).units k ≡ Some (with_more_money u (earned w u.region (unwrap_or (find nat_cmp k (e ∷ es)) 0)))) (sym same)
-        (later_stay (worked w c e) es e.0 rise.0 ∙ one_paid c e u there ∙ ap (λ o. Some (with_more_money u (earned w u.region (unwrap_or o 0)))) (sym (first e es)))
-    | inr apart ↦
-        each_paid (worked w c e) es n u rise.1 (others_stay c e n apart ∙ is)
-        ∙ ap (λ o. Some (with_more_money u (earned w u.region (unwrap_or o 0)))) (sym (found_other e es n apart))
-  ]
+      by_item : (o : Option ℕ) → (produced_by w d e o).regions ≡ d.regions
+      by_item None = refl
+      by_item (Some i) = by_world i (slice_get w.items i)
 
-pub pays_all_at_once : PaysAllAtOnce
-unfolding shared_out
-pays_all_at_once w c os n u is =
-    let given = given_by work_pots w c os in
-    each_paid w c (entries given) n u (entries_rise given) is ∙ ap (λ o. Some (with_more_money u (earned w u.region (unwrap_or o 0)))) (sym (get-entries given n))
+  produced_unit : (d : State) (e : ℕ × ℕ) (u : Unit) → get d.units e.0 ≡ Some u → get (produced asked w d e).units e.0 ≡ Some (maker_by w u e.1 (get asked e.0))
+  unfolding produced
+  produced_unit d e u is = by_item (get asked e.0)
+    where
+      by_raw : (i amount : ℕ) (o : Option ℕ) → get (with_made (with_raw_used d e.0 amount o) e.0 i e.1).units e.0 ≡ Some (record u { holding = with_more (with_less u.holding o amount) i e.1 })
+      by_raw i amount None = made_unit w d e.0 i e.1 u is
+      by_raw i amount (Some r) = made_unit w (with_used d e.0 r amount) e.0 i e.1 (record u { holding = with_less u.holding (Some r) amount }) (used_unit w d e.0 r amount u is)
+
+      by_world : (i : ℕ) (o : Option Item) → get (produced_of d e i o).units e.0 ≡ Some (maker_of u i e.1 o)
+      by_world i None = is
+      by_world i (Some x) = by_raw i (e.1 * x.raw_count) x.raw
+
+      by_item : (o : Option ℕ) → get (produced_by w d e o).units e.0 ≡ Some (maker_by w u e.1 o)
+      by_item None = is
+      by_item (Some i) = by_world i (slice_get w.items i)
+
+  produce_pays : Pays false (produced asked w) (λ n u made. maker_by w u made (get asked n)) stays
+  produce_pays = record {
+    mine = λ d e u is here. produced_unit d e u is;
+    others = λ d e u is here k apart. produced_others asked w d e k apart;
+    region = λ d e u q is around. ap (λ m. get m u.region) (produced_regions d e) ∙ around;
+    regions = λ d e u is here k apart. ap (λ m. get m k) (produced_regions d e);
+    nothing = λ q. refl;
+    twice = λ q s t. refl;
+  }
+
+pub produces_at_once : ProducesAtOnce
+produces_at_once asked w c os =
+    all_at_once (produce_pots asked) w (λ n u made. maker_by w u made (get asked n)) stays (produce_pays asked w) c os
+    (λ n made is. let (u, there, low) = given_can asked w c os n made is in (u, there, tt))

@@ -217,7 +217,7 @@ module _ (asked : FinMap nat_cmp ℕ) (w : Planet) (c : State) where
   abbrev Makes : ℕ × ℕ → Type 0
   Makes e = (u : Unit) × (get c.units e.0 ≡ Some u) × (e.1 ≤ can_make w u.holding (get asked e.0))
 
-  given_can : (os : List Written) → Every (λ n made. Makes (n, made)) (given_by (produce_pots asked) w c os)
+  pub given_can : (os : List Written) → Every (λ n made. Makes (n, made)) (given_by (produce_pots asked) w c os)
   given_can os n made is =
       let (want, wanted, low) = makes_give asked w c (wants_by (produce_pots asked) w c os) n made is in
       let (u, there, same) = all_wanted empty os (every-empty IsWanted) n want wanted in

@@ -52,13 +52,13 @@ peasants_of q = q.peasants
 
 -- ---- one unit gets its recruits
 
-abbrev leave : Region → ℕ → Region → Region
+abbrev pub leave : Region → ℕ → Region → Region
 leave q recruits r = record r { peasants = q.peasants - recruits }
 
-abbrev joined : State → ℕ → Unit → (recruits cost : ℕ) → State
+abbrev pub joined : State → ℕ → Unit → (recruits cost : ℕ) → State
 joined c n u recruits cost = record c { units = insert c.units n (record u { holding = with_men u.holding recruits cost }) }
 
-abbrev recruited_to : State → ℕ → Unit → Region → (recruits cost : ℕ) → State
+abbrev pub recruited_to : State → ℕ → Unit → Region → (recruits cost : ℕ) → State
 recruited_to c n u q recruits cost = with_amount (region_changed (leave q recruits) (joined c n u recruits cost) u.region) Recruiting Money (neg_ℤ (pos cost))
 
 module _ (w : Planet) (c : State) (n : ℕ) (u : Unit) (q : Region) (recruits cost : ℕ) (is : get c.units n ≡ Some u) (around : get c.regions u.region ≡ Some q) where
@@ -74,7 +74,7 @@ module _ (w : Planet) (c : State) (n : ℕ) (u : Unit) (q : Region) (recruits co
   abbrev left : State
   left = region_changed (leave q recruits) peopled u.region
 
-  recruits_are : with_recruits c n u q recruits cost ≡ after
+  pub recruits_are : with_recruits c n u q recruits cost ≡ after
   recruits_are = ap (λ o. with_amount (with_peasants (with_held c n more o) u.region (q.peasants - recruits)) Recruiting Money (neg_ℤ (pos cost))) is
 
   module _ (fits : u.holding.men + recruits ≤ men_limit) (payable : cost ≤ u.holding.money) (enough : recruits ≤ q.peasants) (early : IsEarly w c) where

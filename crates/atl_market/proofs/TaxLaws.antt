@@ -43,10 +43,10 @@ money_of q = q.money
 
 -- ---- one unit takes its share
 
-abbrev drain : Region → ℕ → Region → Region
+abbrev pub drain : Region → ℕ → Region → Region
 drain q share r = record r { money = q.money - share }
 
-abbrev drained : State → ℕ → Unit → Region → ℕ → State
+abbrev pub drained : State → ℕ → Unit → Region → ℕ → State
 drained c n u q share = region_changed (drain q share) (richer c n u share) u.region
 
 module _ (w : Planet) (c : State) (n : ℕ) (u : Unit) (q : Region) (share : ℕ) (is : get c.units n ≡ Some u) (around : get c.regions u.region ≡ Some q) where
@@ -92,7 +92,7 @@ tax_marks c d e n money region left d_is d_marks e_is e_marks =
 -- ---- one step
 
 module _ (w : Planet) (c : State) (e : ℕ × ℕ) where
-  taxed_is : (u : Unit) (q : Region) → get c.units e.0 ≡ Some u → get c.regions u.region ≡ Some q → taxed c e ≡ drained c e.0 u q e.1
+  pub taxed_is : (u : Unit) (q : Region) → get c.units e.0 ≡ Some u → get c.regions u.region ≡ Some q → taxed c e ≡ drained c e.0 u q e.1
   unfolding taxed
   taxed_is u q is around = ap (taxed_by c e) is ∙ ap (taxed_from c e u) around ∙ tax_is w c e.0 u q e.1 is around
 

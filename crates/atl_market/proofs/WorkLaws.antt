@@ -55,7 +55,7 @@ module _ (w : Planet) (c : State) (n : ℕ) (u : Unit) (money : ℕ) (is : get c
   abbrev given : State
   given = richer c n u money
 
-  abbrev wages_paid : State
+  abbrev pub wages_paid : State
   wages_paid = with_amount given Wages Money (pos money)
 
   pub wages_are : with_wages c n u.holding.money money ≡ wages_paid

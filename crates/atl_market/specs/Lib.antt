@@ -4,6 +4,7 @@ pub mod Asked
 pub mod ItemPots
 pub mod ItemGroups
 pub mod PotPhase
+pub mod AtOnce
 pub mod Unordered
 pub mod Tax
 pub mod Recruit
@@ -15,3 +16,4 @@ pub mod Craft
 pub mod Outputs
 pub mod Produce
 pub mod Making
+pub mod Paid

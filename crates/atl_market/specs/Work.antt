@@ -1,5 +1,5 @@
 -- WORK: the places of each region's terrain are shared among the units that work, and each place pays the wage. See docs/RULES.md, "Work".
-use Rattle.std.specs.Prelude.{◌≡◌, ◌+◌, ◌-◌, ◌*◌, ◌/◌, ◌==◌, ◌&&◌, ◌++◌, ℕ, pos, Bool, true, false, List, [], ◌∷◌, map, filter, min, nat_lt, Option, Some, None, is_some, not, unwrap_or, if◌then◌else◌}
+use Rattle.std.specs.Prelude.{◌+◌, ◌-◌, ◌*◌, ◌/◌, ◌==◌, ◌&&◌, ◌++◌, ℕ, pos, Bool, true, false, List, [], ◌∷◌, map, filter, min, nat_lt, Option, Some, None, is_some, not, if◌then◌else◌}
 use Rattle.std.specs.List.{flat_map}
 use Rattle.std.specs.Option.{option_map_or}
 use Rattle.std.specs.Ordering.{nat_cmp}
@@ -25,7 +25,7 @@ use Rattle.atl_instant.specs.declared.written.Arrangement.TheVariants.{ByUnit}
 use Rattle.atl_instant.specs.declared.written.Written.{Written}
 use Rattle.atl_instant.specs.Steps.{is_of_faction}
 use Rattle.atl_instant.specs.Outcomes.{first_fault}
-use Rattle.atl_market.specs.PotPhase.{PotMeaning, given_by, pots_meaning, shared_out}
+use Rattle.atl_market.specs.PotPhase.{PotMeaning, pots_meaning}
 use Rattle.atl_market.specs.Pots.{pot_shares, with_each}
 use Rattle.atl_instant.specs.Terms.{PhaseTerms}
 
@@ -118,22 +118,6 @@ work_moves most = moves_only most Wages Money
 -- work takes nothing from any unit
 abbrev pub work_keeps : Keeping
 work_keeps w m before after = AreNoWorse before after
-
--- ---- a law
-
--- a unit with more money
-abbrev pub with_more_money : Unit → ℕ → Unit
-with_more_money u money = record u { holding = record u.holding { money = u.holding.money + money } }
-
--- how many places a unit gets
-abbrev pub places_of : Planet → State → List Written → ℕ → ℕ
-places_of w c os n = unwrap_or (get (given_by work_pots w c os) n) 0
-
--- All units are paid at once: each has what it had as the phase began and its wages, and nothing else of it changes.
-abbrev pub PaysAllAtOnce : Type 0
-PaysAllAtOnce =
-    (w : Planet) (c : State) (os : List Written) (n : ℕ) (u : Unit) → get c.units n ≡ Some u →
-    get (shared_out work_pots w c os).units n ≡ Some (with_more_money u (earned w u.region (places_of w c os n)))
 
 abbrev pub work_terms : PhaseTerms
 work_terms = record {

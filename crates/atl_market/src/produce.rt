@@ -7,6 +7,7 @@ ghost use Rattle.atl_instant.specs.Meaning.{most_moved};
 ghost use Rattle.atl_market.specs.Making.{CanProduce};
 ghost use Rattle.atl_market.specs.Pots.{with_each};
 ghost use Rattle.atl_market.specs.Produce.{asked_by, is_produce, item_in, items_asked, produce_keeps, produce_meaning, produce_moves, produce_pots, produced};
+ghost use Rattle.atl_market.specs.Paid.{ProducesAtOnce};
 
 use crate::making::{can_make, make, make_fault};
 use crate::outputs::makes;
@@ -157,3 +158,9 @@ impl Phase for ProducePhase {
         Ok((campaign, month))
     }
 }
+
+/// Does nothing. Its clause is the law that all units produce at once: each has what it made more than as the phase began,
+/// and the raw items that went into it less, and no region changes. See docs/RULES.md, "Producing".
+pub fn units_produce_all_at_once()
+    ensures { ProducesAtOnce }
+{}

@@ -13,6 +13,7 @@ ghost use Rattle.atl_instant.specs.Course.{order_at};
 ghost use Rattle.atl_instant.specs.Meaning.{HaveRoom, most_moved};
 ghost use Rattle.atl_market.specs.Recruit.{asked_in, is_recruit, recruit_keeps, recruit_meaning, recruit_moves, recruit_pots, recruited, recruits_at, with_men};
 ghost use Rattle.atl_market.specs.Payable.{CanRecruit};
+ghost use Rattle.atl_market.specs.Paid.{RecruitsAtOnce};
 
 use crate::pot_phase::{PotPhase, share_out, tell_all};
 use crate::pots::{Pots, pot_shares};
@@ -188,3 +189,9 @@ impl Phase for RecruitPhase {
         Ok((campaign, month))
     }
 }
+
+/// Does nothing. Its clause is the law that all recruits join at once: each unit has its own more and their price less than
+/// as the phase began, and each region those that joined its units less. See docs/RULES.md, "Recruiting".
+pub fn recruits_join_all_at_once()
+    ensures { RecruitsAtOnce }
+{}

@@ -7,6 +7,7 @@ ghost use Rattle.atl_state.specs.Limits.{holding_limit};
 ghost use Rattle.atl_state.specs.State.{with_money, with_region_money};
 ghost use Rattle.atl_market.specs.Tax.{is_tax, money_at, tax_keeps, tax_meaning, tax_moves, tax_pots, taxed};
 ghost use Rattle.atl_market.specs.Payable.{CanTax};
+ghost use Rattle.atl_market.specs.Paid.{TaxesAtOnce};
 
 use crate::pot_phase::{PotPhase, share_out, tell_all};
 use crate::pots::{Pots, pot_shares};
@@ -138,3 +139,9 @@ impl Phase for TaxPhase {
         Ok((campaign, month))
     }
 }
+
+/// Does nothing. Its clause is the law that all units take their shares at once: each has its share more than as the phase
+/// began, and each region what its units took less. See docs/RULES.md, "Tax".
+pub fn tax_pays_all_at_once()
+    ensures { TaxesAtOnce }
+{}

@@ -9,7 +9,8 @@ ghost use Rattle.atl_state.specs.Good.{IsSteady};
 ghost use Rattle.atl_state.specs.Limits.{holding_limit};
 ghost use Rattle.atl_instant.specs.Meaning.{HaveRoom, most_moved};
 ghost use Rattle.atl_instant.specs.Terrains.{terrain_of};
-ghost use Rattle.atl_market.specs.Work.{PaysAllAtOnce, earned, idle_work, is_work, own_lines, places_at, wage_at, with_wages, work_keeps, work_key, work_meaning, work_moves, work_orders, work_pots};
+ghost use Rattle.atl_market.specs.Work.{earned, idle_work, is_work, own_lines, places_at, wage_at, with_wages, work_keeps, work_key, work_meaning, work_moves, work_orders, work_pots};
+ghost use Rattle.atl_market.specs.Paid.{WorksAtOnce};
 ghost use Rattle.atl_market.specs.Payable.{CanWork};
 
 use crate::pot_phase::{PotPhase, share_out, tell_all};
@@ -249,7 +250,7 @@ impl Phase for WorkPhase {
 }
 
 /// Does nothing. Its clause is the law that all units are paid at once: each by what it held and where it stood as the phase
-/// began, and nothing else of a unit changes. See docs/RULES.md, "Work".
+/// began, and nothing else of a unit changes, nor of a region. See docs/RULES.md, "Work".
 pub fn work_pays_all_at_once()
-    ensures { PaysAllAtOnce }
+    ensures { WorksAtOnce }
 {}

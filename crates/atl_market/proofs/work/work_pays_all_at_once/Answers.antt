@@ -2,4 +2,4 @@ use Rattle.atl_market.proofs.PaidLaws as laws
 use Rattle.atl_market.proofs.work.work_pays_all_at_once.Goals as goal
 
 pub returns : goal.returns
-returns c = laws.pays_all_at_once
+returns c = laws.works_at_once

@@ -1,0 +1,142 @@
+-- All pots and all units change at once.
+use Rattle.std.proofs.Common.{◌≡◌, ◌≢◌, ℕ, ◌+◌, ◌<◌, ◌==◌, Bool, true, false, cond, List, [], ◌∷◌, map, filter, sum, Some, refl, sym, ap, subst, ◌∙◌, inl, inr, arith}
+use Rattle.std.specs.Prelude.{⊤, fold}
+use Rattle.std.specs.List.{AllByRecursion}
+use Rattle.std.specs.Ordering.{nat_cmp}
+use Rattle.std.specs.FinMap.{FinMap, entries, find, get, get-entries}
+use Rattle.std.proofs.lemmas.Bool.{cases_eq}
+use Rattle.std.proofs.lemmas.List.Sums.{sum_by-cons}
+use Rattle.atl_tables.specs.Planet.{Planet}
+use Rattle.atl_state.specs.declared.records.Region.{Region}
+use Rattle.atl_state.specs.declared.records.Unit.{Unit}
+use Rattle.atl_state.specs.Good.{IsThere}
+use Rattle.atl_state.specs.State.{State}
+use Rattle.atl_state.proofs.BackLaws.{Rise, entries_rise}
+use Rattle.atl_state.proofs.EveryLaws.{each-from_every, first}
+use Rattle.atl_state.proofs.ListLaws.{other_number, same_number}
+use Rattle.atl_instant.specs.declared.written.Written.{Written}
+use Rattle.atl_market.specs.AtOnce.{PaysAtOnce, paid_unit, stands_in}
+use Rattle.atl_market.specs.PotPhase.{PotMeaning, given_by, shared_out}
+use Rattle.atl_market.proofs.DrawLaws.{AreUntouched, all_pairs, drawn, still, untouched, who_stand}
+use Rattle.atl_market.proofs.PotLaws.{found_other}
+
+no_more : (a : ℕ) → 0 + a ≡ a
+no_more a = omega arith
+
+-- where a payment needs the unit's region: that it is there; else nothing
+abbrev pub Around : Bool → State → Unit → Type 0
+Around true d u = IsThere d.regions u.region
+Around false d u = ⊤
+
+-- what one payment makes of a unit and of its region, and that it changes no other
+pub record Pays (needs : Bool) (step : State → ℕ × ℕ → State) (gets : ℕ → Unit → ℕ → Unit) (gives : Region → ℕ → Region) : Type 0 where
+  pub mine : (d : State) (e : ℕ × ℕ) (u : Unit) → get d.units e.0 ≡ Some u → Around needs d u → get (step d e).units e.0 ≡ Some (gets e.0 u e.1)
+  pub others : (d : State) (e : ℕ × ℕ) (u : Unit) → get d.units e.0 ≡ Some u → Around needs d u → (k : ℕ) → k ≢ e.0 → get (step d e).units k ≡ get d.units k
+  pub region : (d : State) (e : ℕ × ℕ) (u : Unit) (q : Region) → get d.units e.0 ≡ Some u → get d.regions u.region ≡ Some q → get (step d e).regions u.region ≡ Some (gives q e.1)
+  pub regions : (d : State) (e : ℕ × ℕ) (u : Unit) → get d.units e.0 ≡ Some u → Around needs d u → (k : ℕ) → k ≢ u.region → get (step d e).regions k ≡ get d.regions k
+  pub nothing : (q : Region) → gives q 0 ≡ q
+  pub twice : (q : Region) (s t : ℕ) → gives (gives q s) t ≡ gives q (s + t)
+
+module _ {needs : Bool} {step : State → ℕ × ℕ → State} {gets : ℕ → Unit → ℕ → Unit} {gives : Region → ℕ → Region} (pays : Pays needs step gets gives) where
+  -- regions that are there stay there
+  still_around : (d : State) (e : ℕ × ℕ) (u v : Unit) → get d.units e.0 ≡ Some u → Around needs d u → Around needs d v → Around needs (step d e) v
+  still_around d e u v is here there = by_need needs (λ k apart. pays.regions d e u is here k apart) (λ q at. pays.region d e u q is at) there
+    where
+      by_need : (b : Bool) → ((k : ℕ) → k ≢ u.region → get (step d e).regions k ≡ get d.regions k) → ((q : Region) → get d.regions u.region ≡ Some q → get (step d e).regions u.region ≡ Some (gives q e.1)) → Around b d v → Around b (step d e) v
+      by_need false others mine there = tt
+      by_need true others mine (q, at) = elim (cases_eq v.region u.region) [
+        | inl same ↦ (gives q e.1, ap (get (step d e).regions) same ∙ mine q (ap (get d.regions) (sym same) ∙ at))
+        | inr apart ↦ (q, others v.region apart ∙ at)
+      ]
+
+  module _ (c : State) where
+    -- each unit that is paid is there, and its region where that is needed
+    abbrev CanBePaid : State → ℕ × ℕ → Type 0
+    CanBePaid d e = (u : Unit) × (get c.units e.0 ≡ Some u) × Around needs d u
+
+    record AreReady (d : State) (es : List (ℕ × ℕ)) : Type 0 where
+      rise : Rise es
+      same : AreUntouched c d es
+      payable : AllByRecursion (CanBePaid d) es
+
+    payable_still : (d : State) (e : ℕ × ℕ) (u : Unit) (es : List (ℕ × ℕ)) → get d.units e.0 ≡ Some u → Around needs d u → AllByRecursion (CanBePaid d) es → AllByRecursion (CanBePaid (step d e)) es
+    payable_still d e u [] is here all = tt
+    payable_still d e u (f ∷ es) is here ((v, there, around), all) = ((v, there, still_around d e u v is here around), payable_still d e u es is here all)
+
+    ready_still : (d : State) (e : ℕ × ℕ) (es : List (ℕ × ℕ)) (u : Unit) → get d.units e.0 ≡ Some u → Around needs d u → AreReady d (e ∷ es) → AreReady (step d e) es
+    ready_still d e es u is here ready = record {
+      rise = ready.rise.1;
+      same = still c d (step d e) e.0 es (pays.others d e u is here) ready.rise.0 ready.same.1;
+      payable = payable_still d e u es is here ready.payable.1;
+    }
+
+    -- who was paid isn't paid again
+    paid_once : (d : State) (es : List (ℕ × ℕ)) (n : ℕ) → AreReady d es → AllByRecursion (λ e. n < e.0) es → get (fold step d es).units n ≡ get d.units n
+    paid_once d [] n ready above = refl
+    paid_once d (e ∷ es) n ready above =
+        let (u, there, here) = ready.payable.0 in
+        let now : get d.units e.0 ≡ Some u = ready.same.0 ∙ there in
+        paid_once (step d e) es n (ready_still d e es u now here ready) above.1 ∙ pays.others d e u now here n (λ same. absurd (omega (arith, same, above.0)))
+
+    units_paid : (d : State) (es : List (ℕ × ℕ)) → AreReady d es → (n : ℕ) (u : Unit) → get d.units n ≡ Some u → get (fold step d es).units n ≡ Some (paid_unit (gets n) u (find nat_cmp n es))
+    units_paid d [] ready n u is = is
+    units_paid d (e ∷ es) ready n u is =
+        let (v, there, here) = ready.payable.0 in
+        let now : get d.units e.0 ≡ Some v = ready.same.0 ∙ there in
+        let rest = ready_still d e es v now here ready in
+        elim (cases_eq n e.0) [
+          | inl same ↦
+              let one : Some v ≡ Some u = sym now ∙ ap (get d.units) (sym same) ∙ is in
+              let unit : v ≡ u = cc in
+              subst (λ k. get (fold step (step d e) es).units k ≡ Some (paid_unit (gets k) u (find nat_cmp k (e ∷ es)))) (sym same)
+              (paid_once (step d e) es e.0 rest ready.rise.0 ∙ pays.mine d e v now here ∙ ap (λ x. Some (gets e.0 x e.1)) unit ∙ ap (λ o. Some (paid_unit (gets e.0) u o)) (sym (first e es)))
+          | inr apart ↦
+              units_paid (step d e) es rest n u (pays.others d e v now here n apart ∙ is) ∙ ap (λ o. Some (paid_unit (gets n) u o)) (sym (found_other e es n apart))
+        ]
+
+    regions_drained : (d : State) (es : List (ℕ × ℕ)) → AreReady d es → (r : ℕ) (q : Region) → get d.regions r ≡ Some q → get (fold step d es).regions r ≡ Some (gives q (drawn (who_stand c.units r) es))
+    regions_drained d [] ready r q is = is ∙ ap Some (sym (pays.nothing q))
+    regions_drained d (e ∷ es) ready r q is =
+        let (v, there, here) = ready.payable.0 in
+        let now : get d.units e.0 ≡ Some v = ready.same.0 ∙ there in
+        let rest = ready_still d e es v now here ready in
+        elim (cases_eq r v.region) [
+          | inl same ↦
+              let mine : who_stand c.units r e.0 ≡ true = ap (stands_in r) there ∙ ap (λ k. v.region == k) same ∙ same_number v.region in
+              let after : get (step d e).regions r ≡ Some (gives q e.1) = ap (get (step d e).regions) same ∙ pays.region d e v q now (ap (get d.regions) (sym same) ∙ is) in
+              regions_drained (step d e) es rest r (gives q e.1) after ∙ ap Some (pays.twice q e.1 (drawn (who_stand c.units r) es))
+              ∙ sym (ap (λ b. Some (gives q (cond b e.1 0 + drawn (who_stand c.units r) es))) mine)
+          | inr apart ↦
+              let other : who_stand c.units r e.0 ≡ false = ap (stands_in r) there ∙ other_number v.region r (λ same. apart (sym same)) in
+              regions_drained (step d e) es rest r q (pays.regions d e v now here r apart ∙ is) ∙ ap (λ k. Some (gives q k)) (sym (no_more (drawn (who_stand c.units r) es)))
+              ∙ sym (ap (λ b. Some (gives q (cond b e.1 0 + drawn (who_stand c.units r) es))) other)
+        ]
+
+-- what is drawn is all that the units of a region got
+drawn_is : (units : FinMap nat_cmp Unit) (r : ℕ) (es : List (ℕ × ℕ)) → drawn (who_stand units r) es ≡ sum (map (λ e. e.1) (filter (λ e. stands_in r (get units e.0)) es))
+drawn_is units r [] = refl
+drawn_is units r (e ∷ es) = by_test (stands_in r (get units e.0)) (drawn_is units r es)
+  where
+    by_test : (b : Bool) → drawn (who_stand units r) es ≡ sum (map (λ f. f.1) (filter (λ f. stands_in r (get units f.0)) es))
+        → cond b e.1 0 + drawn (who_stand units r) es ≡ sum (map (λ f. f.1) (cond b (e ∷ filter (λ f. stands_in r (get units f.0)) es) (filter (λ f. stands_in r (get units f.0)) es)))
+    by_test true rest = ap (λ k. e.1 + k) rest ∙ sym (sum_by-cons (λ x. x) e.1 (map (λ f. f.1) (filter (λ f. stands_in r (get units f.0)) es)))
+    by_test false rest = no_more (drawn (who_stand units r) es) ∙ rest
+
+-- each unit that gets something is there, and its region where that is needed
+abbrev pub GivesWhoIsThere : Bool → PotMeaning → Planet → State → List Written → Type 0
+GivesWhoIsThere needs p w c os = (n share : ℕ) → get (given_by p w c os) n ≡ Some share → (u : Unit) × (get c.units n ≡ Some u) × Around needs c u
+
+pub all_at_once : {needs : Bool} (p : PotMeaning) (w : Planet) (gets : ℕ → Unit → ℕ → Unit) (gives : Region → ℕ → Region) → Pays needs (p.paid w) gets gives
+    → (c : State) (os : List Written) → GivesWhoIsThere needs p w c os → PaysAtOnce p w gets gives c os
+unfolding shared_out
+all_at_once {needs} p w gets gives pays c os gives_them =
+    let given = given_by p w c os in
+    let ready : AreReady pays c c (entries given) = record {
+      rise = entries_rise given;
+      same = untouched c (entries given);
+      payable = all_pairs (CanBePaid pays c c) (entries given) (each-from_every (λ n share. CanBePaid pays c c (n, share)) given gives_them);
+    } in
+    record {
+      units = λ n u is. units_paid pays c c (entries given) ready n u is ∙ ap (λ o. Some (paid_unit (gets n) u o)) (sym (get-entries given n));
+      regions = λ r q is. regions_drained pays c c (entries given) ready r q is ∙ ap (λ k. Some (gives q k)) (drawn_is c.units r (entries given));
+    }

@@ -1,0 +1,54 @@
+-- What each unit and each region is behind a phase with pots, all at once. See docs/RULES.md, "Pots".
+use Rattle.std.specs.Prelude.{◌+◌, ◌-◌, ◌*◌, ℕ, List, Option, Some, None}
+use Rattle.std.specs.List.{slice_get}
+use Rattle.std.specs.Ordering.{nat_cmp}
+use Rattle.std.specs.FinMap.{FinMap, get}
+use Rattle.atl_tables.specs.Planet.{Planet}
+use Rattle.atl_tables.specs.declared.world.Item.{Item}
+use Rattle.atl_orders.specs.Mailing.{Reading}
+use Rattle.atl_state.specs.declared.records.Unit.{Unit}
+use Rattle.atl_state.specs.Held.{Held, amount_of, with_amount_of}
+use Rattle.atl_state.specs.State.{State}
+use Rattle.atl_instant.specs.declared.written.Written.{Written}
+use Rattle.atl_market.specs.AtOnce.{PaysAtOnce, stays}
+use Rattle.atl_market.specs.Produce.{produce_pots}
+use Rattle.atl_market.specs.Recruit.{recruit_pots, with_men}
+use Rattle.atl_market.specs.Tax.{tax_pots}
+use Rattle.atl_market.specs.Work.{earned, work_pots}
+
+-- a unit with more money
+abbrev pub with_more_money : Unit → ℕ → Unit
+with_more_money u money = record u { holding = record u.holding { money = u.holding.money + money } }
+
+-- TAX: a unit has its share more, and a region all that its units took less
+abbrev pub TaxesAtOnce : Type 0
+TaxesAtOnce = (w : Planet) (c : State) (os : List Written) → PaysAtOnce tax_pots w (λ n. with_more_money) (λ q taken. record q { money = q.money - taken }) c os
+
+-- RECRUIT: a unit has its recruits more and their price less, and a region all that joined its units less
+abbrev pub RecruitsAtOnce : Type 0
+RecruitsAtOnce =
+    (readings : FinMap nat_cmp Reading) (w : Planet) (c : State) (os : List Written) →
+    PaysAtOnce (recruit_pots readings) w (λ n u recruits. record u { holding = with_men u.holding recruits (recruits * w.rules.recruit_price) }) (λ q joined. record q { peasants = q.peasants - joined }) c os
+
+abbrev pub with_less : Held → Option ℕ → (amount : ℕ) → Held
+with_less h None amount = h
+with_less h (Some raw) amount = record h { items = with_amount_of h.items raw (amount_of h.items raw - amount) }
+
+abbrev pub with_more : Held → (item amount : ℕ) → Held
+with_more h item amount = record h { items = with_amount_of h.items item (amount_of h.items item + amount) }
+
+abbrev pub maker_of : Unit → (item made : ℕ) → Option Item → Unit
+maker_of u item made None = u
+maker_of u item made (Some x) = record u { holding = with_more (with_less u.holding x.raw (made * x.raw_count)) item made }
+
+abbrev pub maker_by : Planet → Unit → (made : ℕ) → Option ℕ → Unit
+maker_by w u made None = u
+maker_by w u made (Some item) = maker_of u item made (slice_get w.items item)
+
+-- PRODUCE: a unit has so much more of its item, and as much less of the raw item as goes into it
+abbrev pub ProducesAtOnce : Type 0
+ProducesAtOnce = (asked : FinMap nat_cmp ℕ) (w : Planet) (c : State) (os : List Written) → PaysAtOnce (produce_pots asked) w (λ n u made. maker_by w u made (get asked n)) stays c os
+
+-- WORK: a unit has the wages of its places more
+abbrev pub WorksAtOnce : Type 0
+WorksAtOnce = (w : Planet) (c : State) (os : List Written) → PaysAtOnce work_pots w (λ n u places. with_more_money u (earned w u.region places)) stays c os
