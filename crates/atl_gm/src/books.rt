@@ -33,7 +33,7 @@ impl Subcommand for Books {
         "Prints the books: of each thing all entries, and how much there is";
 
     fn options<'a>(alloc: Global) -> Result<Vec<Arg<'a>>, AllocError> {
-        Ok(vec![in alloc; options::file(alloc, options::DB)]?)
+        Ok(vec![in alloc; options::file(alloc, options::DB, options::DB_HELP)]?)
     }
 
     fn run(rt: &HostRuntime, options: &ArgMatches<'_>) -> Result<(), Failure> {

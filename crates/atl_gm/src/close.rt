@@ -43,10 +43,14 @@ impl Subcommand for Close {
 
     fn options<'a>(alloc: Global) -> Result<Vec<Arg<'a>>, AllocError> {
         Ok(vec![in alloc;
-            options::file(alloc, options::DB),
-            options::number(alloc, options::MONTH),
-            options::text(alloc, options::PASS),
-            options::long_number(alloc, options::SEED),
+            options::file(alloc, options::DB, options::DB_HELP),
+            options::number(
+                alloc,
+                options::MONTH,
+                "The month to close, one above the last that was closed"
+            ),
+            options::text(alloc, options::PASS, "The moderator's pass text"),
+            options::long_number(alloc, options::SEED, options::SEED_HELP),
         ]?)
     }
 

@@ -5,7 +5,6 @@ use sqlite::{Alter, Connection, FileFrom, FileStore, Start, Wary};
 use sqlite_disk::Disk;
 use std::alloc::Global;
 use std::fs;
-use std::io::ErrorKind;
 
 /// What a subcommand does with a campaign, over any store.
 pub trait Work {
@@ -37,12 +36,28 @@ pub enum Opening<'a> {
 fn is_there(rt: &HostRuntime, path: &str) -> Result<bool, Failure> {
     match fs::exists(rt, path) {
         Ok(is_there) => Ok(is_there),
-        Err(error) => match error.kind() {
-            ErrorKind::NotADirectory => Ok(false),
-            ErrorKind::OutOfMemory => Err(Failure::Memory),
-            _ => Err(Failure::Store),
-        },
+        Err(error) => Err(Failure::of_system(error, Failure::Store)),
     }
+}
+
+/// Whether the folder is there that the path leads through.
+fn has_folder(rt: &HostRuntime, path: &str) -> Result<bool, Failure> {
+    match path.rsplit_once('/') {
+        Some((folder, _)) if !folder.is_empty() => is_there(rt, folder),
+        _ => Ok(true),
+    }
+}
+
+/// Refuses a path without a file, so that none is made: there is no campaign, or, where the folder isn't there either, no
+/// database could be opened.
+fn confirm_file(rt: &HostRuntime, path: &str) -> Result<(), Failure> {
+    if is_there(rt, path)? {
+        return Ok(());
+    }
+    if has_folder(rt, path)? {
+        return Err(Failure::NotACampaign);
+    }
+    Err(Failure::Store)
 }
 
 /// Opens the file as a database, or makes it. A file that is made has no sums on its pages, which a `sqlite3` without that
@@ -113,8 +128,8 @@ pub fn work_on<W: Work>(
     opening: Opening<'_>,
     work: &W,
 ) -> Result<W::Done, Failure> {
-    if matches!(&opening, Opening::Kept) && !is_there(rt, path)? {
-        return Err(Failure::NotACampaign);
+    if matches!(&opening, Opening::Kept) {
+        confirm_file(rt, path)?;
     }
     let conn = connected(rt, path, Wary)?;
     let (done, conn) = worked(rt.alloc(), conn, opening, work);

@@ -4,12 +4,15 @@ use atl_tables::WorldFault;
 use sqlite::{Error, ErrorCode};
 use std::alloc::{AllocError, AllocFailed};
 use std::io;
+use std::io::ErrorKind;
 use std::process::ExitCode;
 
 /// Why the program did not do what was asked.
 pub enum Failure {
     /// The words of the command line are bad, or ask for help.
     CommandLine(clap::Error),
+    /// No subcommand of the list was asked for, though the parser of the command line asks for one.
+    NoSubcommand,
     /// An option has no value, though the parser of the command line asks for one.
     NoValue,
     /// A file, or standard input, can't be read as text.
@@ -35,6 +38,7 @@ impl Drop for Failure {
     fn drop(self) {
         match self {
             Failure::CommandLine(_) => {}
+            Failure::NoSubcommand => {}
             Failure::NoValue => {}
             Failure::File => {}
             Failure::World(_) => {}
@@ -46,6 +50,16 @@ impl Drop for Failure {
             Failure::Memory => {}
             Failure::Net => {}
             Failure::Output => {}
+        }
+    }
+}
+
+impl Failure {
+    /// Memory, where the system had none, and else the other failure.
+    pub fn of_system(error: io::Error, other: Failure) -> Failure {
+        match error.kind() {
+            ErrorKind::OutOfMemory => Failure::Memory,
+            _ => other,
         }
     }
 }
@@ -105,6 +119,7 @@ impl Failure {
     pub fn tell<R: Eprint>(self, rt: &R) -> ExitCode {
         let _ = match &self {
             Failure::CommandLine(error) => eprint!(rt; "{error}"),
+            Failure::NoSubcommand => eprintln!(rt; "error: no subcommand was asked for"),
             Failure::NoValue => eprintln!(rt; "error: an option has no value"),
             Failure::File => eprintln!(rt; "file: cannot read"),
             Failure::World(fault) => tell_world_fault(rt, fault),
@@ -121,7 +136,9 @@ impl Failure {
             Failure::Output => Ok(()),
         };
         match self {
-            Failure::CommandLine(_) | Failure::NoValue => ExitCode::from(2),
+            Failure::CommandLine(_) | Failure::NoSubcommand | Failure::NoValue => {
+                ExitCode::from(2)
+            }
             _ => ExitCode::FAILURE,
         }
     }

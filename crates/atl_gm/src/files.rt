@@ -1,14 +1,10 @@
 //! The files that the program reads.
 use crate::failure::Failure;
 use std::alloc::Global;
-use std::io::ErrorKind;
 use std::{fs, io};
 
 fn unread(error: io::Error) -> Failure {
-    if error.kind() == ErrorKind::OutOfMemory {
-        return Failure::Memory;
-    }
-    Failure::File
+    Failure::of_system(error, Failure::File)
 }
 
 /// The text of the file at the path.

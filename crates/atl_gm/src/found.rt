@@ -31,9 +31,17 @@ impl Subcommand for Found {
 
     fn options<'a>(alloc: Global) -> Result<Vec<Arg<'a>>, AllocError> {
         Ok(vec![in alloc;
-            options::file(alloc, options::WORLD),
-            options::file(alloc, options::DB),
-            options::text(alloc, options::PASS),
+            options::file(alloc, options::WORLD, "The file of the world, in TOML"),
+            options::file(
+                alloc,
+                options::DB,
+                "The database file, which is made where none is"
+            ),
+            options::text(
+                alloc,
+                options::PASS,
+                "The moderator's pass text, which closings will ask for"
+            ),
         ]?)
     }
 

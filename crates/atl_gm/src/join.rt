@@ -42,10 +42,14 @@ impl Subcommand for Join {
 
     fn options<'a>(alloc: Global) -> Result<Vec<Arg<'a>>, AllocError> {
         Ok(vec![in alloc;
-            options::file(alloc, options::DB),
-            options::text(alloc, options::NAME),
-            options::text(alloc, options::PASS),
-            options::long_number(alloc, options::SEED),
+            options::file(alloc, options::DB, options::DB_HELP),
+            options::text(alloc, options::NAME, "The name of the faction"),
+            options::text(
+                alloc,
+                options::PASS,
+                "The pass text that the faction will use"
+            ),
+            options::long_number(alloc, options::SEED, options::SEED_HELP),
         ]?)
     }
 

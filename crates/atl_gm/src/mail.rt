@@ -31,10 +31,10 @@ impl Subcommand for Mail {
 
     fn options<'a>(alloc: Global) -> Result<Vec<Arg<'a>>, AllocError> {
         Ok(vec![in alloc;
-            options::file(alloc, options::DB),
-            options::number(alloc, options::FACTION),
-            options::text(alloc, options::PASS),
-            options::file(alloc, options::FILE),
+            options::file(alloc, options::DB, options::DB_HELP),
+            options::number(alloc, options::FACTION, options::FACTION_HELP),
+            options::text(alloc, options::PASS, options::FACTION_PASS_HELP),
+            options::file(alloc, options::FILE, "The file of the mailing"),
         ]?)
     }
 

@@ -54,7 +54,7 @@ fn command_line<'a>(alloc: Global) -> Result<Command<'a>, AllocError> {
 fn dispatch(rt: &HostRuntime, matches: &ArgMatches<'_>) -> Result<(), Failure> {
     match matches.subcommand() {
         Some((name, options)) => All::run(rt, name, options),
-        None => Ok(()),
+        None => Err(Failure::NoSubcommand),
     }
 }
 

@@ -34,36 +34,49 @@ pub const COUNT: &str = "count";
 /// The seed of the dice.
 pub const SEED: &str = "seed";
 
-/// An option whose value is a text.
-pub fn text<'a>(alloc: Global, name: &'a str) -> Arg<'a> {
+/// What the help says of the file of a campaign that stands.
+pub const DB_HELP: &str = "The database file of the campaign";
+
+/// What the help says of the pass text of a faction that has joined.
+pub const FACTION_PASS_HELP: &str = "The pass text that the faction joined with";
+
+/// What the help says of the number of a faction.
+pub const FACTION_HELP: &str = "The number that the faction got as it joined";
+
+/// What the help says of the seed of the dice.
+pub const SEED_HELP: &str = "The number that the campaign's dice come from: keep to the same one";
+
+/// An option whose value is a text, and what the help says of it.
+pub fn text<'a>(alloc: Global, name: &'a str, help: &'a str) -> Arg<'a> {
     Arg::new(alloc, name)
         .long(name)
         .value_name("TEXT")
         .required(true)
+        .help(help)
 }
 
 /// An option whose value is the path of a file.
-pub fn file<'a>(alloc: Global, name: &'a str) -> Arg<'a> {
-    text(alloc, name).value_name("FILE")
+pub fn file<'a>(alloc: Global, name: &'a str, help: &'a str) -> Arg<'a> {
+    text(alloc, name, help).value_name("FILE")
 }
 
 /// An option whose value is a number of 32 bits.
-pub fn number<'a>(alloc: Global, name: &'a str) -> Arg<'a> {
-    text(alloc, name)
+pub fn number<'a>(alloc: Global, name: &'a str, help: &'a str) -> Arg<'a> {
+    text(alloc, name, help)
         .value_name("N")
         .value_parser(value_parser!(u32))
 }
 
 /// An option whose value is the number of a port.
-pub fn port<'a>(alloc: Global, name: &'a str) -> Arg<'a> {
-    text(alloc, name)
+pub fn port<'a>(alloc: Global, name: &'a str, help: &'a str) -> Arg<'a> {
+    text(alloc, name, help)
         .value_name("N")
         .value_parser(value_parser!(u16))
 }
 
 /// An option whose value is a number of 64 bits.
-pub fn long_number<'a>(alloc: Global, name: &'a str) -> Arg<'a> {
-    text(alloc, name)
+pub fn long_number<'a>(alloc: Global, name: &'a str, help: &'a str) -> Arg<'a> {
+    text(alloc, name, help)
         .value_name("N")
         .value_parser(value_parser!(u64))
 }

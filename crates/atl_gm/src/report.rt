@@ -28,9 +28,9 @@ impl Subcommand for Report {
 
     fn options<'a>(alloc: Global) -> Result<Vec<Arg<'a>>, AllocError> {
         Ok(vec![in alloc;
-            options::file(alloc, options::DB),
-            options::number(alloc, options::FACTION),
-            options::text(alloc, options::PASS),
+            options::file(alloc, options::DB, options::DB_HELP),
+            options::number(alloc, options::FACTION, options::FACTION_HELP),
+            options::text(alloc, options::PASS, options::FACTION_PASS_HELP),
         ]?)
     }
 

@@ -9,6 +9,7 @@ use atl_service::Service;
 use clap::{Arg, ArgMatches};
 use sqlite::Alter;
 use std::alloc::{AllocError, Global};
+use std::io;
 use std::net::{Ipv4Addr, TcpListener};
 
 /// So many connections to a port of this machine, with the dice of a seed.
@@ -20,13 +21,18 @@ struct Serving<'a> {
     dice: Dice,
 }
 
+/// Why the port can't be had.
+fn unbound(error: io::Error) -> Failure {
+    Failure::of_system(error, Failure::Net)
+}
+
 impl<'a> Work for Serving<'a> {
     type Done = ();
 
     fn run<S: Alter>(&self, service: &mut Service<S>) -> Result<(), Failure> {
-        let Ok(listener) = TcpListener::bind(self.rt, (Ipv4Addr::LOCALHOST, self.port)) else {
-            return Err(Failure::Net);
-        };
+        let listener = TcpListener::bind(self.rt, (Ipv4Addr::LOCALHOST, self.port)).map_err(
+            unbound,
+        )?;
         match serve_each(self.rt.alloc(), &listener, service, self.count, self.dice) {
             Ok(()) => Ok(()),
             Err(ListenFault::Net) => Err(Failure::Net),
@@ -46,10 +52,14 @@ impl Subcommand for Serve {
 
     fn options<'a>(alloc: Global) -> Result<Vec<Arg<'a>>, AllocError> {
         Ok(vec![in alloc;
-            options::file(alloc, options::DB),
-            options::port(alloc, options::PORT),
-            options::number(alloc, options::COUNT),
-            options::long_number(alloc, options::SEED),
+            options::file(alloc, options::DB, options::DB_HELP),
+            options::port(alloc, options::PORT, "The port at 127.0.0.1 that is served"),
+            options::number(
+                alloc,
+                options::COUNT,
+                "How many connections are served before it ends"
+            ),
+            options::long_number(alloc, options::SEED, options::SEED_HELP),
         ]?)
     }
 

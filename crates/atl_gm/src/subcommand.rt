@@ -20,7 +20,7 @@ pub trait Subcommands {
     /// The command line with these subcommands after its own.
     fn added<'a>(alloc: Global, line: Command<'a>) -> Result<Command<'a>, AllocError>;
 
-    /// Runs the subcommand of this name, if there is one.
+    /// Runs the subcommand of this name. Where there is none, that is a bad command line.
     fn run(rt: &HostRuntime, name: &str, options: &ArgMatches<'_>) -> Result<(), Failure>;
 }
 
@@ -38,7 +38,7 @@ impl Subcommands for () {
     }
 
     fn run(_rt: &HostRuntime, _name: &str, _options: &ArgMatches<'_>) -> Result<(), Failure> {
-        Ok(())
+        Err(Failure::NoSubcommand)
     }
 }
 
