@@ -1,12 +1,13 @@
 #!/usr/bin/env bash
 # Runs the program on worlds, mailings, databases and command lines, many of which it refuses, and compares standard output, standard
-# error and status with what docs/FORMATS.md says. Called without arguments, it takes under a minute once the program is built, and ends
-# with 'program: all as expected'. It wants sqlite3: without that the rows that look into a database by it, or make one with it, are passed
-# over, which is said at the end. The gate runs only the first report that crates/atl_gm stores.
+# error and status with what docs/FORMATS.md says; then it plays what the pages show (tests/pages.sh). Called without arguments, it takes
+# under a minute once the program is built, and ends with 'program: all as expected'. It wants sqlite3: without that the rows that look into
+# a database by it, or make one with it, are passed over, which is said at the end. The gate runs only the first report that crates/atl_gm stores.
 set -u
 here=$(cd "$(dirname "$0")/.." && pwd)
 work=$(mktemp -d)
 trap 'rm -rf "$work"' EXIT
+cd "$work" || exit 1
 out=$work/out err=$work/err
 failed=0
 has_sqlite=
@@ -67,6 +68,10 @@ Exits: none.
 
 # A campaign in memory.
 check 'a first report' 0 "$report" '' trial <"$small"
+check 'a first report beside a region' 0 "${report/none/east 2}" '' trial < <(
+  cat "$small"
+  printf 'east = 2\n[[region]]\nnumber = 2\nname = "Hill"\nterrain = "plain"\npeasants = 300\nmoney = 200\nwest = 1\n'
+)
 check 'no TOML' 1 '' 'world: 1 NotToml' trial <<<'a = = b'
 check 'a text for a number' 1 '' 'world: 3 WrongType rules.growth' trial < <(sed 's/^growth = 0$/growth = "0"/' "$small")
 check 'a key that lacks' 1 '' 'world: 2 Missing rules.growth' trial < <(sed '/^growth = 0$/d' "$small")
@@ -175,30 +180,15 @@ Exits: north 4, west 2.
 - Unit 1 "Unit 1" of faction 1 "Avalon": 1 men.
 * Unit 2 "Unit 2": 1 men, 1000 money.' '' report --db "$work/isle.db" --faction 2 --pass pb
 
-# The two mailings of docs/PLAYER.md: each order, and each fault of a line.
-# mailing_of_page NUMBER: the mailing of this number on the page
-mailing_of_page() {
-  awk -v wanted="$1" '/^    #ATLANTIS/ { n++; on = 1 } on && n == wanted { sub(/^    /, ""); print } /^    #END/ { on = 0 }' "$here/docs/PLAYER.md"
-}
-mailing_of_page 1 >"$mailing"
-check 'each order' 0 '24 orders, 0 faults' '' mail --db "$work/isle.db" --faction 1 --pass pw --file "$mailing"
-mailing_of_page 2 >"$mailing"
-check 'each fault of a line' 0 '1 orders, 11 faults
-line 2: 1 NoUnit
-line 4: 2 UnknownOrder
-line 5: 3 BadNumber
-line 6: 4 UnknownThing
-line 7: 5 MissingWord
-line 8: 6 BadByte
-line 9: 7 BadAlias
-line 12: 8 NestedForm
-line 14: 9 EndAlone
-line 15: 10 BadDirection
-line 16: 11 BadName' '' mail --db "$work/isle.db" --faction 1 --pass pw --file "$mailing"
+# A mailing is kept byte for byte.
+printf 'a club\r\n#ATLANTIS 1\t"x\nUNIT 1 ; \310\000\nWORK' >"$mailing"
+check 'any bytes' 0 '0 orders, 2 faults
+line 3: 6 BadByte
+line 4: 1 NoUnit' '' mail --db "$work/isle.db" --faction 1 --pass pw --file "$mailing"
 if [ -n "$has_sqlite" ]; then
   cp "$work/isle.db" "$work/own.db"
   [ "$(sqlite3 "$work/own.db" 'SELECT hex(text) FROM mail')" = "$(od -An -v -tx1 "$mailing" | tr -d ' \n' | tr a-f A-F)" ] ||
-    fail 'each fault of a line' 'the mailing is not kept byte for byte'
+    fail 'any bytes' 'the mailing is not kept byte for byte'
 fi
 
 # Commands that are refused.
@@ -246,9 +236,19 @@ check 'mail where no file is' 1 '' 'fault: NotACampaign' mail --db "$none" --fac
 check 'a report where no file is' 1 '' 'fault: NotACampaign' report --db "$none" --faction 1 --pass pw
 check 'books where no file is' 1 '' 'fault: NotACampaign' books --db "$none"
 check 'a serving where no file is' 1 '' 'fault: NotACampaign' serve --db "$none" --port 0 --count 0 --seed 0
-check 'a report below a file' 1 '' 'fault: NotACampaign' report --db "$db/none" --faction 1 --pass pw
-[ -z "$(find "$work" -name 'none*')" ] || fail 'a path without a file' 'a file was made'
+check 'a report of an empty path' 1 '' 'fault: NotACampaign' report --db '' --faction 1 --pass pw
+check 'a report below a file' 1 '' 'fault: Store' report --db "$db/none" --faction 1 --pass pw
+check 'a report of a folder that is not there' 1 '' 'fault: Store' report --db "$none/" --faction 1 --pass pw
 check 'a founding in no folder' 1 '' 'fault: Store' found --world "$small" --db "$none/x.db" --pass gm
+check 'a joining in no folder' 1 '' 'fault: Store' join --db "$none/x.db" --name Avalon --pass pw --seed 0
+check 'mail in no folder' 1 '' 'fault: Store' mail --db "$none/x.db" --faction 1 --pass pw --file "$mailing"
+check 'a closing in no folder' 1 '' 'fault: Store' close --db "$none/x.db" --month 1 --pass gm --seed 0
+check 'a report in no folder' 1 '' 'fault: Store' report --db "$none/x/y.db" --faction 1 --pass pw
+check 'books in no folder' 1 '' 'fault: Store' books --db "$none/x.db"
+check 'a serving in no folder' 1 '' 'fault: Store' serve --db "$none/x.db" --port 0 --count 0 --seed 0
+[ -z "$(find "$work" -name 'none*')" ] || fail 'a path without a file' 'a file was made'
+check 'a report where no file is, in this folder' 1 '' 'fault: NotACampaign' report --db none --faction 1 --pass pw
+check 'a report where no file is, in the root' 1 '' 'fault: NotACampaign' report --db /none.db --faction 1 --pass pw
 check 'a folder for a database' 1 '' 'fault: Store' report --db "$work" --faction 1 --pass pw
 echo 'these words are no database, and no program may touch them' >"$work/words"
 cp "$work/words" "$work/words.before"
@@ -272,10 +272,67 @@ if [ -n "$has_sqlite" ]; then
   echo '#ATLANTIS 1' >"$mailing"
   refused 'mail of damage' "$work/damaged.db" 'fault: Damaged 11' mail --db "$work/damaged.db" --faction 1 --pass pw --file "$mailing"
   refused 'a founding in damage' "$work/damaged.db" 'fault: NotEmpty' found --world "$small" --db "$work/damaged.db" --pass gm
-  cp "$db" "$work/unlike.db"
-  sqlite3 "$work/unlike.db" 'CREATE VIEW shown AS SELECT number FROM unit'
-  refused 'a report of a file with a view' "$work/unlike.db" 'fault: Store' report --db "$work/unlike.db" --faction 1 --pass pw
+  while read -r statements; do
+    cp "$db" "$work/unlike.db"
+    sqlite3 "$work/unlike.db" "$statements" >"$out"
+    refused "a report after $statements" "$work/unlike.db" 'fault: Store' report --db "$work/unlike.db" --faction 1 --pass pw
+  done <<'END'
+CREATE VIEW shown AS SELECT number FROM unit
+CREATE TRIGGER joined AFTER INSERT ON unit BEGIN SELECT 1; END
+CREATE UNIQUE INDEX numbers ON unit (number)
+CREATE TABLE note (unit REFERENCES unit (number))
+PRAGMA auto_vacuum = 1; VACUUM
+PRAGMA auto_vacuum = 2; VACUUM
+END
+  while read -r statements; do
+    cp "$db" "$work/like.db"
+    sqlite3 "$work/like.db" "$statements" >"$out"
+    check "a report after $statements" 0 "$report" '' report --db "$work/like.db" --faction 1 --pass pw
+  done <<'END'
+PRAGMA journal_mode = DELETE
+PRAGMA journal_mode = TRUNCATE; PRAGMA user_version = 7
+PRAGMA journal_mode = PERSIST; PRAGMA application_id = 99
+PRAGMA journal_mode = DELETE; PRAGMA page_size = 8192; VACUUM
+PRAGMA secure_delete = 1; PRAGMA schema_version = 100
+CREATE INDEX of_faction ON unit (faction)
+END
+  { echo "PRAGMA encoding = 'UTF-16';" && sqlite3 "$db" .dump; } | sqlite3 "$work/wide.db"
+  refused 'a report of another encoding' "$work/wide.db" 'fault: Store' report --db "$work/wide.db" --faction 1 --pass pw
+  sqlite3 "$work/wide.db" .dump | sqlite3 "$work/narrow.db"
+  check 'a report of the encoding back' 0 "$report" '' report --db "$work/narrow.db" --faction 1 --pass pw
+
+  # A sqlite3 that is killed in a transaction leaves a journal, which the next one brings back into the file.
+  cp "$db" "$work/left.db"
+  { sqlite3 "$work/left.db" >"$out" <<'END'; } 2>/dev/null
+PRAGMA journal_mode = DELETE;
+PRAGMA cache_size = 1;
+BEGIN;
+CREATE TABLE note (words);
+WITH RECURSIVE n (i) AS (SELECT 1 UNION ALL SELECT i + 1 FROM n WHERE i < 999) INSERT INTO note SELECT printf('%999d', i) FROM n;
+.shell kill -KILL $PPID
+END
+  [ -s "$work/left.db-journal" ] || fail 'a journal' 'sqlite3 left none'
+  for words in report books; do
+    [ $words = books ] && options=() || options=(--faction 1 --pass pw)
+    check "$words beside a journal" 1 '' 'fault: Store' $words --db "$work/left.db" "${options[@]}"
+  done
+  [ "$(sqlite3 "$work/left.db" 'SELECT count(*) FROM unit')" = 1 ] || fail 'a journal' 'sqlite3 finds no unit'
+  check 'a report after a journal' 0 "$report" '' report --db "$work/left.db" --faction 1 --pass pw
+  whole "$work/left.db"
 fi
+
+# Where standard output can't be written, the command stands.
+cp "$db" "$work/full.db"
+"$here/gm" join --db "$work/full.db" --name Bree --pass pb --seed 0 >/dev/full 2>"$err"
+[ $? = 1 ] && [ ! -s "$err" ] || fail 'an answer that is not written' "$(cat "$err")"
+check 'a joining without an answer' 1 '' 'refused: 3 NameTaken' join --db "$work/full.db" --name Bree --pass pb --seed 0
+
+# A limit on the size of files: what would go past it is not written, and the program tells so.
+cp "$db" "$work/before"
+(ulimit -f 10 && check 'a joining past a limit' 1 '' 'fault: Store' join --db "$db" --name Bree --pass pb --seed 0 && exit "$failed") || failed=1
+cp "$db" "$work/after"
+[ "$(rows "$work/before")" = "$(rows "$work/after")" ] || fail 'a joining past a limit' 'the rows changed'
+whole "$db"
 
 # Ports. One program holds a port until two connections were served; the first shows that it does.
 port=$((20000 + RANDOM % 20000))
@@ -315,9 +372,19 @@ check 'the greatest number' 1 '' 'refused: 5 NoFaction' report --db "$db" --fact
 check 'a port past its range' 2 '' - serve --db "$db" --port 65536 --count 0 --seed 0
 check 'a seed past its range' 2 '' - join --db "$db" --name Bree --pass pb --seed 18446744073709551616
 check 'a word that is no text' 2 '' - report --db "$db" --faction 1 --pass $'\377'
-check 'help' 2 '' - --help </dev/null
-check 'help of a subcommand' 2 '' - join --help
+for words in help -h --help --version; do
+  check "$words" 2 '' - $words </dev/null
+done
+for name in trial found join mail close report books serve; do
+  check "help of $name" 2 '' - "$name" --help
+  ! grep -q '>  *$' "$err" || fail "help of $name" 'an option is not told in words'
+  cp "$err" "$work/told"
+  check "help of $name in another place" 2 '' "$(cat "$work/told")" help "$name"
+done
 whole "$db"
+
+# What the pages show.
+"$here/tests/pages.sh" || failed=1
 
 [ -n "$has_sqlite" ] || echo 'program: rows that want sqlite3 were passed over'
 [ "$failed" = 0 ] && echo 'program: all as expected'

@@ -1,0 +1,151 @@
+#!/usr/bin/env bash
+# Plays what docs/PLAYER.md, docs/MODERATOR.md and README.md show, each page from its top to its end in a folder of its own with the worlds in
+# it, and compares what the program prints with what the page says. Called without arguments, by tests/program.sh too; it ends with
+# 'pages: all as printed'. A block between fences is played where these words are behind its first fence, and passed over where others are:
+#   join NAME PASS   a faction joins, whose pass text is PASS; the block is the answer
+#   mailing F        the block is mailed for faction F
+#   answer F         the block is the answer to the mailing that was sent last
+#   month N          month N is closed; the block is the answer
+#   report F         the block is the report of faction F
+#   file NAME        the block is the file of that name
+#   console          a line with '$ ' before it is a command, which a backslash at its end carries on in the next line; then comes what it prints
+#   console http     the same, with curl over port 8080, in the place of which another port is taken
+#   console sqlite3  the same, with sqlite3
+# The seed is 3 and the moderator's pass text 'moderator'. The campaign of PLAYER.md is founded beforehand, and so is that of README.md, where
+# Avalon has joined and month 1 is closed before the report. Where curl or sqlite3 isn't there, a page is played up to where it wants it.
+set -u
+here=$(cd "$(dirname "$0")/.." && pwd)
+work=$(mktemp -d)
+trap 'rm -rf "$work"' EXIT
+port=$((20000 + RANDOM % 20000))
+block=$work/block printed=$work/printed answer=$work/answer
+failed=0
+
+# command_of NAME WORD..: makes a command of this name for the pages, which is these words with more behind them
+command_of() {
+  mkdir -p "$work/bin"
+  printf '#!/bin/sh\nexec %s "$@"\n' "$(printf '%q ' "${@:2}")" >"$work/bin/$1"
+  chmod +x "$work/bin/$1"
+}
+command_of gm "$here/gm"
+command_of curl "$(command -v curl)" -s --retry 20 --retry-connrefused --retry-delay 1
+has_curl=$(command -v curl) has_sqlite3=$(command -v sqlite3)
+PATH=$work/bin:$PATH
+
+# stop REASON..: ends the play of the page at the block that is played
+stop() {
+  echo "$page, line $begin: $*"
+  exit 1
+}
+
+# same FILE: the file is as the block says
+same() {
+  cmp -s "$block" "$1" || stop "the program prints something else:"$'\n'"$(diff "$block" "$1")"
+}
+
+# run WORD..: a command of the campaign of the page, which succeeds, and what it prints
+run() {
+  gm "$1" --db club.db "${@:2}" >"$printed" 2>&1 || stop "status $? and $(cat "$printed")"
+}
+
+join() {
+  run join --name "$1" --pass "$2" --seed 3
+  passes+=("$2")
+}
+
+mailing() {
+  cp "$block" mailing.txt
+  run mail --faction "$1" --pass "${passes[$1]}" --file mailing.txt
+  cp "$printed" "$answer"
+}
+
+month() {
+  run close --month "$1" --pass moderator --seed 3
+}
+
+# session: the commands of the block, all in the shell of the page, each with what it prints
+session() {
+  local line text= told=0 output
+  status_before() { return "$told"; }
+  while IFS= read -r line <&3; do
+    [ -n "$text" ] || [ "${line:0:2}" = '$ ' ] || continue
+    printf '%s\n' "$line"
+    text+=$line$'\n'
+    [ "${line: -1}" != \\ ] || continue
+    output=$(mktemp -p "$work")
+    status_before
+    eval "${text:2}" >"$output" 2>&1 </dev/null 3<&- 4<&-
+    told=$?
+    cat "$output"
+    text=
+  done 3<"$block"
+}
+
+# console TOOL: plays the block where the tool is there, and else ends the play of the page
+console() {
+  case ${1:-} in
+    http) [ -n "$has_curl" ] || pass_over curl ;;
+    sqlite3) [ -n "$has_sqlite3" ] || pass_over sqlite3 ;;
+  esac
+  [ "${1:-}" != http ] || sed -i "s/8080/$port/g" "$block"
+  session >"$printed"
+  same "$printed"
+}
+
+pass_over() {
+  echo "pages: without $1 the rest of $page, from line $begin on, was passed over"
+  exit 0
+}
+
+# play WORD..: the block, by the words behind its first fence
+play() {
+  played=$((played + 1))
+  case ${1:-} in
+    join) join "$2" "$3" && same "$printed" ;;
+    mailing) mailing "$2" ;;
+    answer) same "$answer" ;;
+    month) month "$2" && same "$printed" ;;
+    report)
+      [ "$page" != README.md ] || month 1
+      run report --faction "$2" --pass "${passes[$2]}" && same "$printed"
+      ;;
+    file) cp "$block" "$2" ;;
+    console) console "${2:-}" ;;
+    *) played=$((played - 1)) ;;
+  esac
+}
+
+# prepare: what was done before the page begins
+prepare() {
+  case $page in
+    README.md | docs/PLAYER.md) run found --world worlds/isle.toml --pass moderator ;;
+  esac
+  [ "$page" != README.md ] || join Avalon apple
+}
+
+# play_page PAGE: each of its blocks, in a folder of its own
+play_page() {
+  local page=$1 begin=0 inside= line number=0 played=0 passes=(none)
+  mkdir "$work/folder" && cd "$work/folder" && cp -r "$here/worlds" .
+  prepare
+  while IFS= read -r line <&4; do
+    number=$((number + 1))
+    if [ -n "$inside" ] && [ "$line" = '```' ]; then
+      play ${inside:3}
+      inside=
+    elif [ -n "$inside" ]; then
+      printf '%s\n' "$line" >>"$block"
+    elif [ "${line:0:3}" = '```' ]; then
+      begin=$number inside=$line
+      : >"$block"
+    fi
+  done 4<"$here/$page"
+  [ "$played" -gt 0 ] || stop 'no block of the page is played'
+}
+
+for page in README.md docs/PLAYER.md docs/MODERATOR.md; do
+  (play_page "$page") || failed=1
+  rm -rf "$work/folder"
+done
+[ "$failed" = 0 ] && echo 'pages: all as printed'
+exit "$failed"
