@@ -351,6 +351,10 @@ refused 'a port that is taken' "$db" 'fault: Net' serve --db "$db" --port "$port
 knock
 wait "$holder" || fail 'a port that is held' "status $?"
 [ ! -s "$work/held" ] || fail 'a port that is held' 'it printed something'
+if command -v strace >/dev/null; then
+  strace -f -o "$work/trace" -e inject=bind:error=ENOMEM "$here/gm" serve --db "$db" --port 0 --count 0 --seed 0 >"$out" 2>"$err"
+  [ $? = 1 ] && [ "$(cat "$out" "$err")" = 'fault: Memory' ] || fail 'a port without memory' "$(cat "$out" "$err")"
+fi
 check 'no connections' 0 '' '' serve --db "$db" --port 0 --count 0 --seed 0
 whole "$db"
 
@@ -383,7 +387,8 @@ for name in trial found join mail close report books serve; do
 done
 whole "$db"
 
-# What the pages show.
+# What the example and the pages show.
+"$here/examples/first_hour.sh" >"$out" 2>"$err" && [ ! -s "$err" ] || fail 'the first hour' "$(tail -n 3 "$out" "$err")"
 "$here/tests/pages.sh" || failed=1
 
 [ -n "$has_sqlite" ] || echo 'program: rows that want sqlite3 were passed over'
