@@ -1,10 +1,11 @@
 -- The greatest line of each unit, line by line.
-use Rattle.std.proofs.Common.{◌≡◌, ℕ, ◌+◌, ◌<◌, ◌==◌, ◌&&◌, if◌then◌else◌, max, Bool, true, false, cond, List, drop, map, length, get_or, Some, refl, sym, ap, ◌∙◌, arith}
+use Rattle.std.proofs.Common.{◌≡◌, ℕ, ◌+◌, ◌<◌, ◌==◌, ◌&&◌, if◌then◌else◌, max, Bool, true, false, cond, List, drop, map, length, get_or, Some, None, Option, refl, sym, ap, ◌∙◌, arith}
 use Rattle.std.specs.Prelude.{unwrap_or}
-use Rattle.std.specs.Ordering.{nat_cmp, eq_by_cmp}
+use Rattle.std.specs.Ordering.{nat_cmp}
 use Rattle.std.specs.Cmp.{nat_cmp_total, unsigned_ties}
-use Rattle.std.specs.FinMap.{FinMap, get, insert, empty, get-insert, get-empty}
+use Rattle.std.specs.FinMap.{get, insert, empty, get-insert, get-empty}
 use Rattle.std.proofs.lemmas.Bool.Decides.{nat_tests}
+use Rattle.atl_tables.specs.Groups.{group_of}
 use Rattle.atl_orders.specs.declared.mailing.Entry.{Entry}
 use Rattle.atl_orders.specs.declared.order.Order.{Order}
 use Rattle.atl_orders.specs.declared.order.Order.TheVariants as orders
@@ -14,8 +15,8 @@ use Rattle.atl_orders.specs.Orders.{said, verb_of_order}
 use Rattle.atl_state.proofs.KeyLaws.{next_of}
 use Rattle.atl_instant.specs.declared.standing.Slot.{Slot}
 use Rattle.atl_instant.specs.Course.{Aliases}
-use Rattle.atl_instant.specs.PhaseOrders.{unit_of, slot_of, is_slot, last_line, tasks_from}
-use Rattle.atl_instant.specs.Collecting.{line_under}
+use Rattle.atl_instant.specs.PhaseOrders.{unit_of, slot_of, slot_number, is_slot, last_line, tasks_from}
+use Rattle.atl_instant.specs.Collecting.{Lines, line_in, with_line}
 
 -- the verb of an order is that of what it says
 pub verb_of-said : (text : List ℕ) (o : Order Span) → verb_of_order (said text o) ≡ verb_of_order o
@@ -42,58 +43,75 @@ verb_of-said text orders.Work = refl
 same : (u v : ℕ) → (u == v) ≡ true → u ≡ v
 same u v h = grind (arith, nat_tests)
 
-turned : (u v : ℕ) → eq_by_cmp nat_cmp v u ≡ (u == v)
-turned u v = sym (unsigned_ties v u) ∙ flip
-  where
-    flip : (v == u) ≡ (u == v)
-    flip = grind (arith, nat_tests)
+turned : (u v : ℕ) → (u == v) ≡ (v == u)
+turned u v = grind (arith, nat_tests)
 
--- a line that is noted
-noted_at : (lines : FinMap nat_cmp ℕ) (u line unit n : ℕ) → max (line_under (insert lines u (max (line_under lines u) line)) unit) n ≡ max (line_under lines unit) (max (if (u == unit) && true then line else 0) n)
-noted_at lines u line unit n =
-    ap (λ o. max (unwrap_or o 0) n) (get-insert nat_cmp_total lines u (max (line_under lines u) line) unit)
-    ∙ ap (λ b. max (unwrap_or (cond b (Some (max (line_under lines u) line)) (get lines unit)) 0) n) (turned u unit)
-    ∙ elim (u == unit) as (λ b. (u == unit) ≡ b → max (unwrap_or (cond b (Some (max (line_under lines u) line)) (get lines unit)) 0) n ≡ max (line_under lines unit) (max (if b && true then line else 0) n)) [
-      | true ↦ λ e. let here : line_under lines u ≡ line_under lines unit = ap (line_under lines) (same u unit e) in three (line_under lines u) (line_under lines unit) line n here
-      | false ↦ λ _. two (line_under lines unit) n
-    ] refl
-  where
-    three : (a b line n : ℕ) → a ≡ b → max (max a line) n ≡ max b (max line n)
-    three a b line n h = omega arith
+-- the line of a unit in a slot, once a line is noted
+module _ (lines : Lines) (k u line : ℕ) where
+  group_at : (j : ℕ) → group_of (with_line lines k u line) j ≡ (if j == k then insert (group_of lines k) u (max (line_in lines k u) line) else group_of lines j)
+  group_at j =
+      ap (λ o. unwrap_or o empty) (get-insert nat_cmp_total lines k (insert (group_of lines k) u (max (line_in lines k u) line)) j)
+      ∙ ap (λ b. unwrap_or (cond b (Some (insert (group_of lines k) u (max (line_in lines k u) line))) (get lines j)) empty) (sym (unsigned_ties j k))
+      ∙ elim (j == k) as (λ b. unwrap_or (cond b (Some (insert (group_of lines k) u (max (line_in lines k u) line))) (get lines j)) empty ≡ (if b then insert (group_of lines k) u (max (line_in lines k u) line) else group_of lines j)) [
+        | true ↦ refl
+        | false ↦ refl
+      ]
 
-    two : (a n : ℕ) → max a n ≡ max a (max 0 n)
-    two a n = omega arith
+  in_group : (unit n : ℕ) → max (unwrap_or (get (insert (group_of lines k) u (max (line_in lines k u) line)) unit) 0) n ≡ max (line_in lines k unit) (max (if (u == unit) && true then line else 0) n)
+  in_group unit n =
+      ap (λ o. max (unwrap_or o 0) n) (get-insert nat_cmp_total (group_of lines k) u (max (line_in lines k u) line) unit)
+      ∙ ap (λ b. max (unwrap_or (cond b (Some (max (line_in lines k u) line)) (get (group_of lines k) unit)) 0) n) (sym (unsigned_ties unit u) ∙ turned unit u)
+      ∙ elim (u == unit) as (λ b. (u == unit) ≡ b → max (unwrap_or (cond b (Some (max (line_in lines k u) line)) (get (group_of lines k) unit)) 0) n ≡ max (line_in lines k unit) (max (if b && true then line else 0) n)) [
+        | true ↦ λ e. let here : line_in lines k u ≡ line_in lines k unit = ap (line_in lines k) (same u unit e) in three (line_in lines k u) (line_in lines k unit) line n here
+        | false ↦ λ _. two (line_in lines k unit) n
+      ] refl
+    where
+      three : (a b line n : ℕ) → a ≡ b → max (max a line) n ≡ max b (max line n)
+      three a b line n h = omega arith
+
+      two : (a n : ℕ) → max a n ≡ max a (max 0 n)
+      two a n = omega arith
+
+  noted_at : (j unit n : ℕ) → max (line_in (with_line lines k u line) j unit) n ≡ max (line_in lines j unit) (max (if (u == unit) && (j == k) then line else 0) n)
+  noted_at j unit n =
+      ap (λ g. max (unwrap_or (get g unit) 0) n) (group_at j)
+      ∙ elim (j == k) as (λ b. (j == k) ≡ b → max (unwrap_or (get (if b then insert (group_of lines k) u (max (line_in lines k u) line) else group_of lines j) unit) 0) n ≡ max (line_in lines j unit) (max (if (u == unit) && b then line else 0) n)) [
+        | true ↦ λ e. in_group unit n ∙ ap (λ i. max (line_in lines i unit) (max (if (u == unit) && true then line else 0) n)) (sym (same j k e))
+        | false ↦ λ _. other (u == unit) (line_in lines j unit)
+      ] refl
+    where
+      other : (b : Bool) (a : ℕ) → max a n ≡ max a (max (if b && false then line else 0) n)
+      other true a = omega arith
+      other false a = omega arith
 
 module _ (slot : Slot) (aliases : Aliases) (faction : ℕ) (text : List ℕ) where
   abbrev rest_from : ℕ → List Entry → ℕ → ℕ
   rest_from i es unit = last_line slot unit (tasks_from aliases faction i (map (entry_said text) (drop i es)))
 
-  opened : (es : List Entry) (i : ℕ) (e : Entry) (b : Bool) (unit : ℕ) → i < length es → e ≡ get_or es i e → is_slot slot (slot_of (verb_of_order e.order)) ≡ b →
-      rest_from i es unit ≡ max (if (unit_of aliases faction e.target == unit) && b then e.line else 0) (rest_from (i + 1) es unit)
-  opened es i e b unit h is b_is =
+  opened : (es : List Entry) (i : ℕ) (e : Entry) (in_slot : Option Slot) (unit : ℕ) → i < length es → e ≡ get_or es i e → slot_of (verb_of_order e.order) ≡ in_slot →
+      rest_from i es unit ≡ max (if (unit_of aliases faction e.target == unit) && is_slot slot in_slot then e.line else 0) (rest_from (i + 1) es unit)
+  opened es i e in_slot unit h is slot_is =
       ap (λ ds. last_line slot unit (tasks_from aliases faction i (map (entry_said text) ds))) (next_of es i e h is)
-      ∙ ap (λ c. max (if (unit_of aliases faction e.target == unit) && c then e.line else 0) (rest_from (i + 1) es unit)) (ap (λ v. is_slot slot (slot_of v)) (verb_of-said text e.order) ∙ b_is)
+      ∙ ap (λ o. max (if (unit_of aliases faction e.target == unit) && is_slot slot o then e.line else 0) (rest_from (i + 1) es unit)) (ap slot_of (verb_of-said text e.order) ∙ slot_is)
 
-  pub noted : (es : List Entry) (i : ℕ) (e : Entry) (lines : FinMap nat_cmp ℕ) (unit : ℕ) → i < length es → e ≡ get_or es i e → is_slot slot (slot_of (verb_of_order e.order)) ≡ true →
-      max (line_under (insert lines (unit_of aliases faction e.target) (max (line_under lines (unit_of aliases faction e.target)) e.line)) unit) (rest_from (i + 1) es unit) ≡ max (line_under lines unit) (rest_from i es unit)
-  noted es i e lines unit h is b =
-      noted_at lines (unit_of aliases faction e.target) e.line unit (rest_from (i + 1) es unit) ∙ ap (max (line_under lines unit)) (sym (opened es i e true unit h is b))
+  pub noted : (es : List Entry) (i : ℕ) (e : Entry) (lines : Lines) (other : Slot) (unit : ℕ) → i < length es → e ≡ get_or es i e → slot_of (verb_of_order e.order) ≡ Some other →
+      max (line_in (with_line lines (slot_number other) (unit_of aliases faction e.target) e.line) (slot_number slot) unit) (rest_from (i + 1) es unit) ≡ max (line_in lines (slot_number slot) unit) (rest_from i es unit)
+  noted es i e lines other unit h is b =
+      noted_at lines (slot_number other) (unit_of aliases faction e.target) e.line (slot_number slot) unit (rest_from (i + 1) es unit)
+      ∙ ap (max (line_in lines (slot_number slot) unit)) (sym (opened es i e (Some other) unit h is b))
 
   neither : (c : Bool) (line n : ℕ) → max (if c && false then line else 0) n ≡ n
   neither true line n = omega arith
   neither false line n = omega arith
 
-  pub passed : (es : List Entry) (i : ℕ) (e : Entry) (unit : ℕ) → i < length es → e ≡ get_or es i e → is_slot slot (slot_of (verb_of_order e.order)) ≡ false →
-      rest_from (i + 1) es unit ≡ rest_from i es unit
-  passed es i e unit h is b = sym (opened es i e false unit h is b ∙ neither (unit_of aliases faction e.target == unit) e.line (rest_from (i + 1) es unit))
+  pub passed : (es : List Entry) (i : ℕ) (e : Entry) (unit : ℕ) → i < length es → e ≡ get_or es i e → slot_of (verb_of_order e.order) ≡ None → rest_from (i + 1) es unit ≡ rest_from i es unit
+  passed es i e unit h is b = sym (opened es i e None unit h is b ∙ neither (unit_of aliases faction e.target == unit) e.line (rest_from (i + 1) es unit))
 
 -- before the first line
-pub none_noted : (lines : FinMap nat_cmp ℕ) (unit n : ℕ) → lines ≡ empty → max (line_under lines unit) n ≡ n
-none_noted lines unit n h = ap (λ o. max (unwrap_or o 0) n) (ap (λ m. get m unit) h ∙ get-empty nat_cmp unit) ∙ bare n
+pub none_noted : (lines : Lines) (slot unit n : ℕ) → lines ≡ empty → max (line_in lines slot unit) n ≡ n
+none_noted lines slot unit n h =
+    ap (λ g. max (unwrap_or (get g unit) 0) n) (ap (λ m. group_of m slot) h ∙ ap (λ o. unwrap_or o empty) (get-empty nat_cmp slot))
+    ∙ ap (λ o. max (unwrap_or o 0) n) (get-empty nat_cmp unit) ∙ bare n
   where
     bare : (n : ℕ) → max 0 n ≡ n
     bare n = omega arith
-
--- and behind the last
-pub all_noted : (line n : ℕ) → max line 0 ≡ n → line ≡ n
-all_noted line n h = omega arith

@@ -66,11 +66,15 @@ slot_of verbs.Pay = None
 slot_of verbs.Transfer = None
 slot_of verbs.Quit = None
 
+-- No two slots have one number.
+abbrev pub slot_number : Slot → ℕ
+slot_number MonthLong = 0
+slot_number Taxing = 1
+slot_number Recruiting = 2
+
 abbrev pub is_slot : Slot → Option Slot → Bool
-is_slot MonthLong (Some MonthLong) = true
-is_slot Taxing (Some Taxing) = true
-is_slot Recruiting (Some Recruiting) = true
-is_slot slot other = false
+is_slot slot None = false
+is_slot slot (Some other) = slot_number slot == slot_number other
 
 -- the verbs that take the whole month
 abbrev pub is_month_long : Verb → Bool

@@ -10,7 +10,7 @@ ghost use Rattle.atl_instant.specs.Course.{by_faction};
 ghost use Rattle.atl_instant.specs.PhaseOrders.{OrdersAreInMailings, is_month_long, tasks_of, tasks_for, orders_of, written};
 ghost use Rattle.atl_instant.specs.Collecting.{AreByFaction, AreLastLines, all_tasks, key_by};
 
-use crate::standing::{LastLines, Slot, is_slot, slot_of, unit_of};
+use crate::standing::{LastLines, Slot, is_slot, last_lines, slot_of, stands, unit_of};
 use crate::written::{Arrangement, Written};
 use atl_orders::{Mailing, Verb};
 use atl_tables::Numbered;
@@ -54,7 +54,7 @@ fn collect_standing<P: PhaseVerbs>(
         let entry = &entries[place];
         let verb = entry.order.verb();
         let unit = unit_of(aliases, mailing.faction, entry.target);
-        if phase.has(verb) && lines.stands(unit, entry.line, slot_of(verb)) {
+        if phase.has(verb) && stands(lines, unit, entry.line, slot_of(verb)) {
             list.push(Written {
                 unit,
                 line: entry.line,
@@ -77,7 +77,7 @@ fn collect_mailing<P: PhaseVerbs>(
 ) -> Result<(), AllocError>
     ensures { OnOk result (list.new.items ≡ list.old.items ++ map written (tasks_for P.is_of (tasks_of aliases.now mailing.now.faction (reading_of mailing.now)))) }
 {
-    let lines = LastLines::of(alloc, aliases, mailing)?;
+    let lines = last_lines(alloc, aliases, mailing)?;
     collect_standing(phase, aliases, mailing, &lines, list)
 }
 

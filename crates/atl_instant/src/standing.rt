@@ -1,9 +1,8 @@
 //! Which orders of a mailing stand.
-ghost use Rattle.std.specs.Prelude.{◌≡◌, ℕ, IfOk, OnOk, max};
-ghost use Rattle.std.specs.FinMap as map;
+ghost use Rattle.std.specs.Prelude.{◌≡◌, IfOk, OnOk};
 ghost use Rattle.atl_orders.specs.Mailing.{reading_of};
-ghost use Rattle.atl_instant.specs.PhaseOrders.{unit_of, slot_of, is_slot, last_line, tasks_of};
-ghost use Rattle.atl_instant.specs.Collecting.{AreLastLines, line_under, lines_in, stands_by};
+ghost use Rattle.atl_instant.specs.PhaseOrders.{unit_of, slot_of, slot_number, is_slot, tasks_of};
+ghost use Rattle.atl_instant.specs.Collecting.{AreLastLines, line_in, stands_by, with_line};
 
 use crate::month::unit_under;
 use atl_orders::{Mailing, UnitRef, Verb};
@@ -46,15 +45,26 @@ pub(crate) fn slot_of(verb: Verb) -> Option<Slot>
     }
 }
 
+impl Slot {
+    /// The slot's number, from 0 on.
+    fn number(self) -> u32
+        ensures { result ≡ slot_number self }
+    {
+        match self {
+            Slot::MonthLong => 0,
+            Slot::Taxing => 1,
+            Slot::Recruiting => 2,
+        }
+    }
+}
+
 /// Whether a slot is the other.
 pub(crate) fn is_slot(slot: Slot, other: Option<Slot>) -> bool
     ensures { result ≡ is_slot slot other }
 {
-    match (slot, other) {
-        (Slot::MonthLong, Some(Slot::MonthLong)) => true,
-        (Slot::Taxing, Some(Slot::Taxing)) => true,
-        (Slot::Recruiting, Some(Slot::Recruiting)) => true,
-        _ => false,
+    match other {
+        Some(other) => slot.number() == other.number(),
+        None => false,
     }
 }
 
@@ -68,95 +78,57 @@ pub(crate) fn unit_of(aliases: &Numbered<Numbered<u32>>, faction: u32, target: U
     }
 }
 
-/// The line under a unit, or 0.
-fn line_under(lines: &Numbered<u32>, unit: u32) -> u32
-    ensures { result ≡ line_under lines.now unit }
+/// The greatest line of a mailing's orders in each slot, by slot and then by unit.
+pub(crate) type LastLines = Numbered<Numbered<u32>>;
+
+/// The greatest line of a unit's orders in a slot, or 0.
+fn line_in(lines: &LastLines, slot: Slot, unit: u32) -> u32
+    ensures { result ≡ line_in lines.now (slot_number slot) unit }
 {
-    match lines.get(unit) {
+    match lines.get_under(slot.number(), unit) {
         Some(line) => *line,
         None => 0,
     }
 }
 
-/// Notes a line of a unit.
-fn note(lines: &mut Numbered<u32>, unit: u32, line: u32) -> Result<(), AllocError>
-    ensures { OnOk result (lines.new ≡ map.insert lines.old unit (max (line_under lines.old unit) line)) }
+/// Notes a line of a unit's orders in a slot.
+fn note(
+    alloc: Global,
+    lines: &mut LastLines,
+    slot: Slot,
+    unit: u32,
+    line: u32,
+) -> Result<(), AllocError>
+    ensures { OnOk result (lines.new ≡ with_line lines.old (slot_number slot) unit line) }
 {
-    let last = line_under(lines, unit).max(line);
-    lines.insert(unit, last)
+    let last = line_in(lines, slot, unit).max(line);
+    lines.insert_under(alloc, slot.number(), unit, last)
 }
 
-/// The greatest line of the orders in a slot, by unit.
-fn last_lines(
+/// The greatest line of a mailing's orders in each slot, of each unit.
+pub(crate) fn last_lines(
     alloc: Global,
-    slot: Slot,
     aliases: &Numbered<Numbered<u32>>,
     mailing: &Mailing,
-) -> Result<Numbered<u32>, AllocError>
-    ensures { IfOk result (λ lines. (unit : ℕ) → line_under lines unit ≡ last_line slot unit (tasks_of aliases.now mailing.now.faction (reading_of mailing.now))) }
+) -> Result<LastLines, AllocError>
+    ensures { IfOk result (AreLastLines (tasks_of aliases.now mailing.now.faction (reading_of mailing.now))) }
 {
     let mut lines = Numbered::new(alloc);
     for entry in mailing.entries.as_slice() {
-        if is_slot(slot, slot_of(entry.order.verb())) {
+        if let Some(slot) = slot_of(entry.order.verb()) {
             let unit = unit_of(aliases, mailing.faction, entry.target);
-            note(&mut lines, unit, entry.line)?;
+            note(alloc, &mut lines, slot, unit, entry.line)?;
         }
     }
     Ok(lines)
 }
 
-/// The greatest line of a mailing's orders in each slot, by unit.
-pub(crate) struct LastLines {
-    month_long: Numbered<u32>,
-    taxing: Numbered<u32>,
-    recruiting: Numbered<u32>,
-}
-
-impl Drop for LastLines {
-    fn drop(self) {
-        let LastLines {
-            month_long: _,
-            taxing: _,
-            recruiting: _,
-        } = self;
-    }
-}
-
-impl LastLines {
-    pub(crate) fn of(
-        alloc: Global,
-        aliases: &Numbered<Numbered<u32>>,
-        mailing: &Mailing,
-    ) -> Result<LastLines, AllocError>
-        ensures { IfOk result (AreLastLines (tasks_of aliases.now mailing.now.faction (reading_of mailing.now))) }
-    {
-        let month_long = last_lines(alloc, Slot::MonthLong, aliases, mailing)?;
-        let taxing = last_lines(alloc, Slot::Taxing, aliases, mailing)?;
-        let recruiting = last_lines(alloc, Slot::Recruiting, aliases, mailing)?;
-        Ok(LastLines {
-            month_long,
-            taxing,
-            recruiting,
-        })
-    }
-
-    fn in_slot(&self, slot: Slot) -> &Numbered<u32>
-        ensures { result.now ≡ lines_in self.now slot }
-    {
-        match slot {
-            Slot::MonthLong => &self.month_long,
-            Slot::Taxing => &self.taxing,
-            Slot::Recruiting => &self.recruiting,
-        }
-    }
-
-    /// Whether an order stands.
-    pub(crate) fn stands(&self, unit: u32, line: u32, slot: Option<Slot>) -> bool
-        ensures { result ≡ stands_by self.now unit line slot }
-    {
-        match slot {
-            None => true,
-            Some(slot) => line == line_under(self.in_slot(slot), unit),
-        }
+/// Whether an order stands.
+pub(crate) fn stands(lines: &LastLines, unit: u32, line: u32, slot: Option<Slot>) -> bool
+    ensures { result ≡ stands_by lines.now unit line slot }
+{
+    match slot {
+        None => true,
+        Some(slot) => line == line_in(lines, slot, unit),
     }
 }
