@@ -44,7 +44,7 @@ fn write_thing(out: &mut String, world: &World, thing: Thing) -> Result<(), Allo
 fn write_item(out: &mut String, world: &World, item: u16) -> Result<(), AllocError>
     ensures { OnOk result (string_bytes out.new ≡ string_bytes out.old ++ item_name (slice_get world.now.items item)) }
 {
-    match world.items().get(usize::from(item)) {
+    match world.item(item) {
         Some(known) => {
             let name = known.name.as_str();
             write!(out, "item \"{name}\"")

@@ -176,7 +176,7 @@ fn write_structure(
 ) -> Result<(), AllocError>
     ensures { OnOk result (string_bytes out.new ≡ string_bytes out.old ++ structure_line world.now structure.now) }
 {
-    match world.kinds().get(usize::from(structure.kind)) {
+    match world.kind(structure.kind) {
         Some(kind) => write_built(out, structure, kind),
         None => Ok(()),
     }

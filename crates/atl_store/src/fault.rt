@@ -5,6 +5,7 @@ ghost use Rattle.atl_store.specs.Faults.{read_fault, value_fault, write_fault, c
 use atl_state::{CheckFault, Rule};
 use sqlite::{Error, ErrorCode};
 use std::alloc::{AllocError, AllocFailed};
+use std::fmt;
 
 /// Why nothing was written. While the connection is open the tables are as they were; a crash leaves them so, or written.
 #[derive(Drop, Clone, Copy, Debug, PartialEq, Eq)]
@@ -53,6 +54,45 @@ pub enum StoreFault {
     /// There is no memory for it.
     Memory,
 }
+
+/// Its name.
+impl fmt::Display for WriteFault {
+    fn fmt<W: fmt::Write>(&self, f: &mut fmt::Formatter<W>) -> fmt::Result {
+        write!(f, "{self:?}")
+    }
+}
+
+impl std::error::Error for WriteFault {}
+
+/// Its name.
+impl fmt::Display for CreateFault {
+    fn fmt<W: fmt::Write>(&self, f: &mut fmt::Formatter<W>) -> fmt::Result {
+        write!(f, "{self:?}")
+    }
+}
+
+impl std::error::Error for CreateFault {}
+
+/// Its name.
+impl fmt::Display for ReadFault {
+    fn fmt<W: fmt::Write>(&self, f: &mut fmt::Formatter<W>) -> fmt::Result {
+        write!(f, "{self:?}")
+    }
+}
+
+impl std::error::Error for ReadFault {}
+
+/// Its name; of `Damaged` the rule's number, too, as `Damaged 11`.
+impl fmt::Display for StoreFault {
+    fn fmt<W: fmt::Write>(&self, f: &mut fmt::Formatter<W>) -> fmt::Result {
+        match self {
+            StoreFault::Damaged(rule) => write!(f, "Damaged {}", rule.number()),
+            fault => write!(f, "{fault:?}"),
+        }
+    }
+}
+
+impl std::error::Error for StoreFault {}
 
 impl From<Error> for WriteFault {
     ghost from_gives = { λ error fault. fault ≡ write_fault error };
