@@ -3,7 +3,7 @@ use Rattle.std.proofs.Common.{◌≡◌, ◌==◌, ℕ, zero, suc, ◌+◌, ◌�
 use Rattle.std.specs.Prelude.{pos, negsuc, ℤ}
 use Rattle.std.specs.List.{flat_map, range_with_len, AllByRecursion, IsDistinct}
 use Rattle.std.specs.List.Sorted.{IsPermutation}
-use Rattle.std.proofs.lemmas.Bool.{cases_eq, false≢true}
+use Rattle.std.proofs.lemmas.Bool.{cases_eq, false≢true, not-true, not_from_false}
 use Rattle.std.proofs.lemmas.Bool.Decides.{nat_tests}
 use Rattle.std.proofs.lemmas.List.{ext_get_or}
 use Rattle.std.proofs.lemmas.List.Sorted.{IsPermutation-sym, IsPermutation-trans}
@@ -13,22 +13,15 @@ use Rattle.atl_state.specs.FromRows.{is_entry, put_amounts}
 use Rattle.atl_state.specs.Limits.{entry_count}
 use Rattle.atl_state.specs.RowRules.{books_key, HaveKeys}
 use Rattle.atl_state.specs.Rows.{is_zero, books_row, amount_at, entry_rows, books_rows}
-use Rattle.atl_state.proofs.BackLaws.{each_permuted, each_back, read_whole, written_whole, apart_keys, append_each, each_appended, InOrder, flat_apart, keys_permuted}
+use Rattle.atl_state.proofs.BackGroupLaws.{flat_each, each_flat}
+use Rattle.atl_state.proofs.BackLaws.{each_permuted, each_back, read_whole, written_whole, apart_keys, InOrder, flat_apart, keys_permuted}
 use Rattle.atl_state.proofs.BookLaws.{IsGrid-no_amounts}
 use Rattle.atl_state.proofs.BooksRowLaws.{IsBooked, books_order, cell, cells}
 use Rattle.atl_state.proofs.FromRowLaws.{put-grid}
-use Rattle.atl_state.proofs.GroupLaws.{filter_apart}
+use Rattle.atl_state.proofs.GroupLaws.{filter_apart, kept, unkept}
 use Rattle.atl_state.proofs.HasLaws.{same}
 
--- ---- what is so of each of a list that is made of others
-
-pub flat_each : {X A : Type 0} (P : A → Type 0) (f : X → List A) (xs : List X) → AllByRecursion (λ x. AllByRecursion P (f x)) xs → AllByRecursion P (flat_map f xs)
-flat_each P f [] h = tt
-flat_each P f (x ∷ xs) h = append_each P (f x) (flat_map f xs) h.0 (flat_each P f xs h.1)
-
-pub each_flat : {X A : Type 0} (P : A → Type 0) (f : X → List A) (xs : List X) → AllByRecursion P (flat_map f xs) → AllByRecursion (λ x. AllByRecursion P (f x)) xs
-each_flat P f [] h = tt
-each_flat P f (x ∷ xs) h = let both = each_appended P (f x) (flat_map f xs) h in (both.0, each_flat P f xs both.1)
+-- ---- ranges of numbers, and single rows
 
 range_each : (P : ℕ → Type 0) (a n : ℕ) → ((k : ℕ) → a ≤ k → k < a + n → P k) → AllByRecursion P (range_with_len a n)
 range_each P a zero h = tt
@@ -44,14 +37,10 @@ range_order a zero = tt
 range_order a (suc n) = (range_each (λ k. a < k) (a + 1) n (λ k le l. omega arith), range_order (a + 1) n)
 
 nonzero_line : (P : StoredBooks → Type 0) (r : StoredBooks) → (is_zero r.amount ≡ false → P r) → AllByRecursion P (filter (λ r. not (is_zero r.amount)) (r ∷ []))
-nonzero_line P r h = either (is_zero r.amount) h
-  where
-    either : (b : Bool) → (b ≡ false → P r) → AllByRecursion P (cond (not b) (r ∷ []) [])
-    either true h = tt
-    either false h = (h refl, tt)
+nonzero_line P r h = kept (λ r. not (is_zero r.amount)) P (r ∷ []) ((λ some. h (not-true (is_zero r.amount) some)), tt)
 
 line_nonzero : (P : StoredBooks → Type 0) (r : StoredBooks) → is_zero r.amount ≡ false → AllByRecursion P (filter (λ r. not (is_zero r.amount)) (r ∷ [])) → P r
-line_nonzero P r some h = (subst (λ b. AllByRecursion P (cond (not b) (r ∷ []) [])) some h).0
+line_nonzero P r some h = (unkept (λ r. not (is_zero r.amount)) P (r ∷ []) h).0 (not_from_false (is_zero r.amount) some)
 
 module _ (books : List (List ℤ)) where
   entry_cells : (n e : ℕ) → flat_map (cell books e) (range_with_len 0 n) ≡ entry_rows books n e

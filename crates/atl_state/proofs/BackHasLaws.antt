@@ -16,10 +16,9 @@ use Rattle.atl_state.specs.Good.{Every}
 use Rattle.atl_state.specs.RowRules.{has_key, HaveKeys}
 use Rattle.atl_state.specs.Rows.{is_zero, has_row, rows_by, sort_rows, held_rows, has_rows}
 use Rattle.atl_state.proofs.BackLaws.{each_permuted, each_back, read_whole, written_whole, by_number_is, apart_keys, append_each, each_appended, append_apart, flat_apart, entries_rise, rows_apart, keys_permuted}
-use Rattle.atl_state.proofs.BackBooksLaws.{flat_each, each_flat}
+use Rattle.atl_state.proofs.BackGroupLaws.{groups_each, each_group, lines_each, each_line, lines_apart, amounts_back}
 use Rattle.atl_state.proofs.EveryLaws.{every-from_each, each-from_every}
-use Rattle.atl_state.proofs.GroupLaws.{filter_apart}
-use Rattle.atl_state.proofs.HasLaws.{IsKeyed, same, things_apart}
+use Rattle.atl_state.proofs.HasLaws.{IsKeyed, same, same_number, things_apart}
 use Rattle.atl_state.proofs.OrderLaws.{rows_found}
 
 -- what a unit has of a sort: items, or days of study
@@ -30,66 +29,32 @@ goods_of (suc n) u = u.holding.days
 same_size : (m n : ℕ) → pos m ≡ pos n → m ≡ n
 same_size m n e = cc
 
--- ---- the rows of a sort
-
-module _ (n sort : ℕ) where
-  lines_each : (P : StoredHas → Type 0) (es : List (ℕ × ℕ)) → EachOf (λ i a. is_zero (pos a) ≡ false → P (has_row n sort i a)) es → AllByRecursion P (sort_rows n sort es)
-  lines_each P [] h = tt
-  lines_each P (e ∷ es) h = either (is_zero (pos e.1)) h.0 (lines_each P es h.1)
-    where
-      either : (b : Bool) → (b ≡ false → P (has_row n sort e.0 e.1)) → AllByRecursion P (sort_rows n sort es) → AllByRecursion P (cond (not b) (has_row n sort e.0 e.1 ∷ sort_rows n sort es) (sort_rows n sort es))
-      either true first rest = rest
-      either false first rest = (first refl, rest)
-
-  each_line : (P : StoredHas → Type 0) (es : List (ℕ × ℕ)) → AllByRecursion P (sort_rows n sort es) → EachOf (λ i a. is_zero (pos a) ≡ false → P (has_row n sort i a)) es
-  each_line P [] h = tt
-  each_line P (e ∷ es) h = (λ some. (shown some).0, each_line P es (rest (is_zero (pos e.1)) h))
-    where
-      shown : is_zero (pos e.1) ≡ false → AllByRecursion P (has_row n sort e.0 e.1 ∷ sort_rows n sort es)
-      shown some = subst (λ b. AllByRecursion P (cond (not b) (has_row n sort e.0 e.1 ∷ sort_rows n sort es) (sort_rows n sort es))) some h
-
-      rest : (b : Bool) → AllByRecursion P (cond (not b) (has_row n sort e.0 e.1 ∷ sort_rows n sort es) (sort_rows n sort es)) → AllByRecursion P (sort_rows n sort es)
-      rest true all = all
-      rest false all = all.1
-
-  sort_each : (P : StoredHas → Type 0) (m : FinMap nat_cmp ℕ) → Every (λ i a. is_zero (pos a) ≡ false → P (has_row n sort i a)) m → AllByRecursion P (sort_rows n sort (entries m))
-  sort_each P m h = lines_each P (entries m) (each-from_every (λ i a. is_zero (pos a) ≡ false → P (has_row n sort i a)) m h)
-
-  sort_every : (P : StoredHas → Type 0) (m : FinMap nat_cmp ℕ) → AllByRecursion P (sort_rows n sort (entries m)) → Every (λ i a. is_zero (pos a) ≡ false → P (has_row n sort i a)) m
-  sort_every P m h = every-from_each (λ i a. is_zero (pos a) ≡ false → P (has_row n sort i a)) m (each_line P (entries m) h)
-
-  sort_apart : (m : FinMap nat_cmp ℕ) → IsDistinct (λ a b. same (has_key a) (has_key b)) (sort_rows n sort (entries m))
-  sort_apart m =
-      filter_apart (λ r. not (is_zero r.amount)) (λ a b. same (has_key a) (has_key b)) (rows_by (has_row n sort) (entries m))
-      (rows_apart (has_row n sort) (λ a b. same (has_key a) (has_key b)) (λ i k a b l. apart_keys (has_key (has_row n sort i a)) (has_key (has_row n sort k b)) (λ keys. let one = same_size i k keys.third in omega arith)) (entries m) (entries_rise m))
-
 -- ---- the rows of all units
+
+abbrev none : StoredHas → Bool
+none r = is_zero r.amount
+
+abbrev held : ℕ × Unit → List StoredHas
+held e = held_rows e.0 e.1.holding
+
+-- of a unit and a sort no thing has two rows
+sort_apart : (n sort : ℕ) (m : FinMap nat_cmp ℕ) → IsDistinct (λ a b. same (has_key a) (has_key b)) (sort_rows n sort (entries m))
+sort_apart n sort m =
+    lines_apart none (has_row n sort) m (λ a b. same (has_key a) (has_key b)) (λ i k a b l. apart_keys (has_key (has_row n sort i a)) (has_key (has_row n sort k b)) (λ keys. let one = same_size i k keys.third in omega arith))
 
 module _ (units : FinMap nat_cmp Unit) where
   -- what is so of everything that a unit has is so of each row
   pub has_each : (P : StoredHas → Type 0) → Every (λ n u. (s : ℕ) → s < 2 → Every (λ i a. is_zero (pos a) ≡ false → P (has_row n s i a)) (goods_of s u)) units → AllByRecursion P (has_rows (entries units))
-  has_each P h =
-      flat_each P (λ e. held_rows e.0 e.1.holding) (entries units) (of_each (entries units) (each-from_every (λ n u. (s : ℕ) → s < 2 → Every (λ i a. is_zero (pos a) ≡ false → P (has_row n s i a)) (goods_of s u)) units h))
-    where
-      of_each : (es : List (ℕ × Unit)) → EachOf (λ n u. (s : ℕ) → s < 2 → Every (λ i a. is_zero (pos a) ≡ false → P (has_row n s i a)) (goods_of s u)) es → AllByRecursion (λ e. AllByRecursion P (held_rows e.0 e.1.holding)) es
-      of_each [] all = tt
-      of_each (e ∷ es) all =
-          (append_each P (sort_rows e.0 0 (entries e.1.holding.items)) (sort_rows e.0 1 (entries e.1.holding.days)) (sort_each e.0 0 P e.1.holding.items (all.0 0 (omega arith))) (sort_each e.0 1 P e.1.holding.days (all.0 1 (omega arith))), of_each es all.1)
+  has_each P h = groups_each held P units (λ n u is.
+      append_each P (sort_rows n 0 (entries u.holding.items)) (sort_rows n 1 (entries u.holding.days)) (lines_each none (has_row n 0) u.holding.items P (h n u is 0 (omega arith))) (lines_each none (has_row n 1) u.holding.days P (h n u is 1 (omega arith))))
 
   pub each_had : (P : StoredHas → Type 0) → AllByRecursion P (has_rows (entries units)) → Every (λ n u. (s : ℕ) → s < 2 → Every (λ i a. is_zero (pos a) ≡ false → P (has_row n s i a)) (goods_of s u)) units
-  each_had P h =
-      every-from_each (λ n u. (s : ℕ) → s < 2 → Every (λ i a. is_zero (pos a) ≡ false → P (has_row n s i a)) (goods_of s u)) units (each_of (entries units) (each_flat P (λ e. held_rows e.0 e.1.holding) (entries units) h))
+  each_had P h n u is = of_sort (each_appended P (sort_rows n 0 (entries u.holding.items)) (sort_rows n 1 (entries u.holding.days)) (each_group held P units h n u is))
     where
-      of_sort : (n : ℕ) (u : Unit) → AllByRecursion P (sort_rows n 0 (entries u.holding.items)) → AllByRecursion P (sort_rows n 1 (entries u.holding.days)) → (s : ℕ) → s < 2 → Every (λ i a. is_zero (pos a) ≡ false → P (has_row n s i a)) (goods_of s u)
-      of_sort n u items days zero l = sort_every n 0 P u.holding.items items
-      of_sort n u items days (suc zero) l = sort_every n 1 P u.holding.days days
-      of_sort n u items days (suc (suc s)) l = absurd (omega arith)
-
-      each_of : (es : List (ℕ × Unit)) → AllByRecursion (λ e. AllByRecursion P (held_rows e.0 e.1.holding)) es → EachOf (λ n u. (s : ℕ) → s < 2 → Every (λ i a. is_zero (pos a) ≡ false → P (has_row n s i a)) (goods_of s u)) es
-      each_of [] all = tt
-      each_of (e ∷ es) all =
-          let both = each_appended P (sort_rows e.0 0 (entries e.1.holding.items)) (sort_rows e.0 1 (entries e.1.holding.days)) all.0 in
-          (of_sort e.0 e.1 both.0 both.1, each_of es all.1)
+      of_sort : AllByRecursion P (sort_rows n 0 (entries u.holding.items)) × AllByRecursion P (sort_rows n 1 (entries u.holding.days)) → (s : ℕ) → s < 2 → Every (λ i a. is_zero (pos a) ≡ false → P (has_row n s i a)) (goods_of s u)
+      of_sort both zero l = each_line none (has_row n 0) u.holding.items P both.0
+      of_sort both (suc zero) l = each_line none (has_row n 1) u.holding.days P both.1
+      of_sort both (suc (suc s)) l = absurd (omega arith)
 
   sorts_differ : (a : StoredHas) (ys : List StoredHas) → a.sort ≡ pos 0 → AllByRecursion (λ b. b.sort ≡ pos 1) ys → AllByRecursion (λ b. same (has_key a) (has_key b) ≡ false) ys
   sorts_differ a [] item h = tt
@@ -102,13 +67,13 @@ module _ (units : FinMap nat_cmp Unit) where
   held_apart : (n : ℕ) (u : Unit) → IsDistinct (λ a b. same (has_key a) (has_key b)) (held_rows n u.holding)
   held_apart n u =
       append_apart (λ a b. same (has_key a) (has_key b)) (sort_rows n 0 (entries u.holding.items)) (sort_rows n 1 (entries u.holding.days)) (sort_apart n 0 u.holding.items) (sort_apart n 1 u.holding.days)
-      (all_differ (sort_rows n 0 (entries u.holding.items)) (sort_rows n 1 (entries u.holding.days)) (sort_each n 0 (λ r. r.sort ≡ pos 0) u.holding.items (λ i a is some. refl)) (sort_each n 1 (λ r. r.sort ≡ pos 1) u.holding.days (λ i a is some. refl)))
+      (all_differ (sort_rows n 0 (entries u.holding.items)) (sort_rows n 1 (entries u.holding.days)) (lines_each none (has_row n 0) u.holding.items (λ r. r.sort ≡ pos 0) (λ i a is some. refl)) (lines_each none (has_row n 1) u.holding.days (λ r. r.sort ≡ pos 1) (λ i a is some. refl)))
 
   has_apart : IsDistinct (λ a b. same (has_key a) (has_key b)) (has_rows (entries units))
   has_apart =
       flat_apart (λ a b. same (has_key a) (has_key b)) (λ (e : ℕ × Unit). held_rows e.0 e.1.holding) (λ e f. e.0 < f.0) (λ e r. r.unit ≡ pos e.0)
       (λ x y a b l mine yours. apart_keys (has_key a) (has_key b) (λ k. let one = same_size x.0 y.0 (sym mine ∙ k.first ∙ yours) in omega arith))
-      (λ e. append_each (λ r. r.unit ≡ pos e.0) (sort_rows e.0 0 (entries e.1.holding.items)) (sort_rows e.0 1 (entries e.1.holding.days)) (sort_each e.0 0 (λ r. r.unit ≡ pos e.0) e.1.holding.items (λ i a is some. refl)) (sort_each e.0 1 (λ r. r.unit ≡ pos e.0) e.1.holding.days (λ i a is some. refl)))
+      (λ e. append_each (λ r. r.unit ≡ pos e.0) (sort_rows e.0 0 (entries e.1.holding.items)) (sort_rows e.0 1 (entries e.1.holding.days)) (lines_each none (has_row e.0 0) e.1.holding.items (λ r. r.unit ≡ pos e.0) (λ i a is some. refl)) (lines_each none (has_row e.0 1) e.1.holding.days (λ r. r.unit ≡ pos e.0) (λ i a is some. refl)))
       (λ e. held_apart e.0 e.1) (entries units) (entries_rise units)
 
   -- what units have is written and read as it is
@@ -128,9 +93,6 @@ module _ (units : FinMap nat_cmp Unit) where
           thing = written_whole i (had.goods n u there s few i a is).0;
         }))
 
-    equal : (m n : ℕ) → (m == n) ≡ true → m ≡ n
-    equal m n e = grind (arith, nat_tests)
-
     nonzero : (a : ℕ) → 1 ≤ a → is_zero (pos a) ≡ false
     nonzero a l = grind (arith, nat_tests)
 
@@ -144,7 +106,7 @@ module _ (units : FinMap nat_cmp Unit) where
     of_row : (n sort k s i a : ℕ) → k ≤ most_u32 → s < 2 → is_of n sort (has_row k s i a) ≡ true → Of n sort k s
     of_row n sort k s i a few l e =
         let both = and_parts (as_u32 (pos k) == n) (as_u32 (pos s) == sort) e in
-        record { unit = sym (read_whole k few) ∙ equal (as_u32 (pos k)) n both.0; kind = sym (read_whole s (omega arith)) ∙ equal (as_u32 (pos s)) sort both.1 }
+        record { unit = sym (read_whole k few) ∙ same_number (as_u32 (pos k)) n both.0; kind = sym (read_whole s (omega arith)) ∙ same_number (as_u32 (pos s)) sort both.1 }
 
     of_itself : (n s i a : ℕ) → n ≤ most_u32 → s < 2 → is_of n s (has_row n s i a) ≡ true
     of_itself n s i a few l =
@@ -153,44 +115,16 @@ module _ (units : FinMap nat_cmp Unit) where
         ap (λ b. b && (as_u32 (pos s) == s)) unit ∙ kind
 
     module _ (n : ℕ) (u : Unit) (there : get units n ≡ Some u) (sort : ℕ) (few : sort < 2) where
-      abbrev Stands : StoredHas → Type 0
-      Stands r = get (goods_of sort u) (as_u32 r.thing) ≡ Some (as_u32 r.amount)
-
-      abbrev IsFound : StoredHas → Type 0
-      IsFound r = get (things_had n sort rows) (as_u32 r.thing) ≡ Some (as_u32 r.amount)
-
-      stands : AllByRecursion (λ r. is_of n sort r ≡ true → Stands r) rows
-      stands =
-          each_permuted (λ r. is_of n sort r ≡ true → Stands r) (has_rows (entries units)) rows h (has_each (λ r. is_of n sort r ≡ true → Stands r) (λ k v at s l i a is some of.
+      -- what the rows say of a unit is what it has
+      pub goods_back : things_had n sort rows ≡ goods_of sort u
+      goods_back =
+          amounts_back (λ r. as_u32 r.thing) (λ r. as_u32 r.amount) (is_of n sort) (goods_of sort u) (has_rows (entries units)) rows h (things_apart n sort rows all_keyed has_keys)
+          (has_each (λ r. is_of n sort r ≡ true → get (goods_of sort u) (as_u32 r.thing) ≡ Some (as_u32 r.amount)) (λ k v at s l i a is some of.
           let it = of_row n sort k s i a (had.numbers k v at) l of in
           let small = had.goods k v at s l i a is in
           let one = some_same v u (sym at ∙ ap (get units) it.unit ∙ there) in
           ap (get (goods_of sort u)) (read_whole i small.0) ∙ ap (λ x. get (goods_of sort x) i) (sym one) ∙ ap (λ q. get (goods_of q v) i) (sym it.kind) ∙ is ∙ ap (λ x. Some x) (sym (read_whole a small.2))))
-
-      kept : (P : StoredHas → Type 0) (some : List StoredHas) → AllByRecursion (λ r. is_of n sort r ≡ true → P r) some → AllByRecursion P (filter (is_of n sort) some)
-      kept P [] all = tt
-      kept P (r ∷ some) all = either (is_of n sort r) all.0 (kept P some all.1)
-        where
-          either : (b : Bool) → (b ≡ true → P r) → AllByRecursion P (filter (is_of n sort) some) → AllByRecursion P (cond b (r ∷ filter (is_of n sort) some) (filter (is_of n sort) some))
-          either true first rest = (first refl, rest)
-          either false first rest = rest
-
-      unkept : (P : StoredHas → Type 0) (some : List StoredHas) → AllByRecursion P (filter (is_of n sort) some) → AllByRecursion (λ r. is_of n sort r ≡ true → P r) some
-      unkept P [] all = tt
-      unkept P (r ∷ some) all = (λ of. (subst (λ b. AllByRecursion P (cond b (r ∷ filter (is_of n sort) some) (filter (is_of n sort) some))) of all).0, unkept P some (rest (is_of n sort r) all))
-        where
-          rest : (b : Bool) → AllByRecursion P (cond b (r ∷ filter (is_of n sort) some) (filter (is_of n sort) some)) → AllByRecursion P (filter (is_of n sort) some)
-          rest true more = more.1
-          rest false more = more
-
-      found : AllByRecursion (λ r. is_of n sort r ≡ true → IsFound r) (has_rows (entries units))
-      found =
-          each_back (λ r. is_of n sort r ≡ true → IsFound r) (has_rows (entries units)) rows h (unkept IsFound rows (rows_found (λ r. as_u32 r.thing) (λ r. as_u32 r.amount) (filter (is_of n sort) rows) (things_apart n sort rows all_keyed has_keys)))
-
-      -- what the rows say of a unit is what it has
-      pub goods_back : things_had n sort rows ≡ goods_of sort u
-      goods_back =
-          by_number_is (λ r. as_u32 r.thing) (λ r. as_u32 r.amount) (goods_of sort u) (filter (is_of n sort) rows) (kept Stands rows stands) (λ i a is.
+          (λ P all i a is.
           let small = had.goods n u there sort few i a is in
-          let shown = each_had (λ r. is_of n sort r ≡ true → IsFound r) found n u there sort few i a is (nonzero a small.1) (of_itself n sort i a (had.numbers n u there) few) in
-          ap (get (things_had n sort rows)) (sym (read_whole i small.0)) ∙ shown ∙ ap (λ x. Some x) (read_whole a small.2))
+          let shown = each_had (λ r. is_of n sort r ≡ true → P r) all n u there sort few i a is (nonzero a small.1) (of_itself n sort i a (had.numbers n u there) few) in
+          (has_row n sort i a, read_whole i small.0, read_whole a small.2, shown))

@@ -72,7 +72,7 @@ IsHadBy n sort h = IsKeyed h × (is_of n sort h ≡ true)
 pub all_had : (P : StoredHas → Type 0) (n sort : ℕ) (has : List StoredHas) → AllByRecursion P has → AllByRecursion (λ h. P h × (is_of n sort h ≡ true)) (filter (is_of n sort) has)
 all_had P n sort has all = kept (is_of n sort) (λ h. P h × (is_of n sort h ≡ true)) has (each_so P (λ h. is_of n sort h ≡ true → P h × (is_of n sort h ≡ true)) (λ h one of. (one, of)) has all)
 
-same_number : (m n : ℕ) → (m == n) ≡ true → m ≡ n
+pub same_number : (m n : ℕ) → (m == n) ≡ true → m ≡ n
 same_number m n h = grind (arith, nat_tests)
 
 its_unit : (n sort : ℕ) (h : StoredHas) → IsHadBy n sort h → h.unit ≡ pos n

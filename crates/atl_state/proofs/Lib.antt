@@ -4,6 +4,7 @@ pub mod OrderedLaws
 pub mod RisingLaws
 pub mod AssemblyLaws
 pub mod BackLaws
+pub mod BackGroupLaws
 pub mod BackBooksLaws
 pub mod BackHasLaws
 pub mod GroupLaws

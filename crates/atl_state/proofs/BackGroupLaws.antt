@@ -1,0 +1,74 @@
+-- Rows of groups in any order, and the amounts that they say of each group.
+use Rattle.std.proofs.Common.{◌≡◌, ◌<◌, ℕ, List, [], ◌∷◌, Bool, true, false, not, filter, Some, sym, ap, ◌∙◌}
+use Rattle.std.specs.List.{flat_map, AllByRecursion, IsDistinct}
+use Rattle.std.specs.List.Sorted.{IsPermutation}
+use Rattle.std.specs.Ordering.{nat_cmp}
+use Rattle.std.specs.FinMap.{FinMap, get, entries}
+use Rattle.std.proofs.lemmas.Bool.{not-true, not_from_false}
+use Rattle.atl_state.specs.Deciding.{EachOf}
+use Rattle.atl_state.specs.FromRows.{by_number}
+use Rattle.atl_state.specs.Good.{Every}
+use Rattle.atl_state.specs.Rows.{rows_by}
+use Rattle.atl_state.proofs.BackLaws.{each_permuted, each_back, by_number_is, append_each, each_appended, every_row, rows_every, rows_apart, entries_rise}
+use Rattle.atl_state.proofs.EveryLaws.{every-from_each, each-from_every}
+use Rattle.atl_state.proofs.GroupLaws.{filter_apart, kept, unkept}
+use Rattle.atl_state.proofs.OrderLaws.{Apart, rows_found}
+
+-- ---- what is so of each of a list that is made of others
+
+module _ {X R : Type 0} (P : R → Type 0) (f : X → List R) where
+  pub flat_each : (xs : List X) → AllByRecursion (λ x. AllByRecursion P (f x)) xs → AllByRecursion P (flat_map f xs)
+  flat_each [] h = tt
+  flat_each (x ∷ xs) h = append_each P (f x) (flat_map f xs) h.0 (flat_each xs h.1)
+
+  pub each_flat : (xs : List X) → AllByRecursion P (flat_map f xs) → AllByRecursion (λ x. AllByRecursion P (f x)) xs
+  each_flat [] h = tt
+  each_flat (x ∷ xs) h = let both = each_appended P (f x) (flat_map f xs) h in (both.0, each_flat xs both.1)
+
+-- ---- the rows of all groups
+
+module _ {U R : Type 0} (f : ℕ × U → List R) (P : R → Type 0) where
+  of_each : (es : List (ℕ × U)) → EachOf (λ n u. AllByRecursion P (f (n, u))) es → AllByRecursion (λ e. AllByRecursion P (f e)) es
+  of_each [] h = tt
+  of_each (e ∷ es) h = (h.0, of_each es h.1)
+
+  each_of : (es : List (ℕ × U)) → AllByRecursion (λ e. AllByRecursion P (f e)) es → EachOf (λ n u. AllByRecursion P (f (n, u))) es
+  each_of [] h = tt
+  each_of (e ∷ es) h = (h.0, each_of es h.1)
+
+  pub groups_each : (units : FinMap nat_cmp U) → Every (λ n u. AllByRecursion P (f (n, u))) units → AllByRecursion P (flat_map f (entries units))
+  groups_each units h = flat_each P f (entries units) (of_each (entries units) (each-from_every (λ n u. AllByRecursion P (f (n, u))) units h))
+
+  pub each_group : (units : FinMap nat_cmp U) → AllByRecursion P (flat_map f (entries units)) → Every (λ n u. AllByRecursion P (f (n, u))) units
+  each_group units h = every-from_each (λ n u. AllByRecursion P (f (n, u))) units (each_of (entries units) (each_flat P f (entries units) h))
+
+-- ---- the rows of a group: of each amount that is not 0
+
+module _ {R : Type 0} (none : R → Bool) (row : ℕ → ℕ → R) (m : FinMap nat_cmp ℕ) where
+  abbrev lines : List R
+  lines = filter (λ r. not (none r)) (rows_by row (entries m))
+
+  pub lines_each : (P : R → Type 0) → Every (λ i a. none (row i a) ≡ false → P (row i a)) m → AllByRecursion P lines
+  lines_each P h = kept (λ r. not (none r)) P (rows_by row (entries m)) (rows_every row (λ r. not (none r) ≡ true → P r) m (λ i a is some. h i a is (not-true (none (row i a)) some)))
+
+  pub each_line : (P : R → Type 0) → AllByRecursion P lines → Every (λ i a. none (row i a) ≡ false → P (row i a)) m
+  each_line P h i a is some = every_row row (λ r. not (none r) ≡ true → P r) m (unkept (λ r. not (none r)) P (rows_by row (entries m)) h) i a is (not_from_false (none (row i a)) some)
+
+  pub lines_apart : (e : R → R → Bool) → ((i k a b : ℕ) → i < k → e (row i a) (row k b) ≡ false) → IsDistinct e lines
+  lines_apart e apart = filter_apart (λ r. not (none r)) e (rows_by row (entries m)) (rows_apart row e apart (entries m) (entries_rise m))
+
+-- ---- the amounts of a group
+
+module _ {R : Type 0} (thing amount : R → ℕ) (mine : R → Bool) (m : FinMap nat_cmp ℕ) (listed rows : List R) (same : IsPermutation listed rows) where
+  abbrev IsIn : FinMap nat_cmp ℕ → R → Type 0
+  IsIn k r = get k (thing r) ≡ Some (amount r)
+
+  -- where each row of the group is of the map, and each amount of the map has a row of the group, the rows say the map
+  pub amounts_back : Apart thing (filter mine rows) → AllByRecursion (λ r. mine r ≡ true → IsIn m r) listed
+      → ((P : R → Type 0) → AllByRecursion (λ r. mine r ≡ true → P r) listed → Every (λ i a. (r : R) × (thing r ≡ i) × (amount r ≡ a) × P r) m) → by_number thing amount (filter mine rows) ≡ m
+  amounts_back apart of there =
+      let said = by_number thing amount (filter mine rows) in
+      let found = each_back (λ r. mine r ≡ true → IsIn said r) listed rows same (unkept mine (IsIn said) rows (rows_found thing amount (filter mine rows) apart)) in
+      by_number_is thing amount m (filter mine rows) (kept mine (IsIn m) rows (each_permuted (λ r. mine r ≡ true → IsIn m r) listed rows same of)) (λ i a is.
+      let (r, it, number, shown) = there (IsIn said) found i a is in
+      ap (get said) (sym it) ∙ shown ∙ ap (λ x. Some x) number)
