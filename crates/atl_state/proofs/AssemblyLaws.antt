@@ -101,7 +101,7 @@ or_right : (b c : Bool) → b ≡ false → (b || c) ≡ true → c ≡ true
 or_right true c h e = absurd (false≢true (sym h))
 or_right false c h e = e
 
-is_same : (m n : ℕ) → (m == n) ≡ true → m ≡ n
+pub is_same : (m n : ℕ) → (m == n) ≡ true → m ≡ n
 is_same m n h = grind (arith, nat_tests)
 
 good_amount : (n : ℕ) (r : StoredHas) → has_in_range r ≡ true → is_of n 0 r ≡ true → (1 ≤ amount_of r) × (amount_of r ≤ holding_limit)

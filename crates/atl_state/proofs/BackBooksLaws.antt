@@ -14,7 +14,7 @@ use Rattle.atl_state.specs.Limits.{entry_count}
 use Rattle.atl_state.specs.RowRules.{books_key, HaveKeys}
 use Rattle.atl_state.specs.Rows.{is_zero, books_row, amount_at, entry_rows, books_rows}
 use Rattle.atl_state.proofs.BackGroupLaws.{flat_each, each_flat}
-use Rattle.atl_state.proofs.BackLaws.{each_permuted, each_back, read_whole, written_whole, apart_keys, InOrder, flat_apart, keys_permuted}
+use Rattle.atl_state.proofs.BackLaws.{each_permuted, each_back, read_whole, written_whole, apart_keys, InOrder, flat_apart, keys_permuted, same_size}
 use Rattle.atl_state.proofs.BookLaws.{IsGrid-no_amounts}
 use Rattle.atl_state.proofs.BooksRowLaws.{IsBooked, books_order, cell, cells}
 use Rattle.atl_state.proofs.FromRowLaws.{put-grid}
@@ -60,9 +60,6 @@ module _ (books : List (List ℤ)) where
       line_nonzero P (books_row e t (amount_at books e t)) some thing
 
 -- ---- books whose rows are the same are the same
-
-same_size : (m n : ℕ) → pos m ≡ pos n → m ≡ n
-same_size m n e = cc
 
 abbrev Says : List (List ℤ) → StoredBooks → Type 0
 Says books r = (e t : ℕ) → r.entry ≡ pos (e + 1) → r.thing ≡ pos t → amount_at books e t ≡ r.amount

@@ -15,19 +15,17 @@ use Rattle.atl_state.specs.FromRows.{as_u32, is_of, things_had}
 use Rattle.atl_state.specs.Good.{Every}
 use Rattle.atl_state.specs.RowRules.{has_key, HaveKeys}
 use Rattle.atl_state.specs.Rows.{is_zero, has_row, rows_by, sort_rows, held_rows, has_rows}
-use Rattle.atl_state.proofs.BackLaws.{each_permuted, each_back, read_whole, written_whole, by_number_is, apart_keys, append_each, each_appended, append_apart, flat_apart, entries_rise, rows_apart, keys_permuted}
+use Rattle.atl_state.proofs.BackLaws.{each_permuted, each_back, read_whole, written_whole, by_number_is, apart_keys, append_each, each_appended, append_apart, flat_apart, entries_rise, rows_apart, keys_permuted, same_size}
+use Rattle.atl_state.proofs.AssemblyLaws.{is_same}
 use Rattle.atl_state.proofs.BackGroupLaws.{groups_each, each_group, lines_each, each_line, lines_apart, amounts_back}
 use Rattle.atl_state.proofs.EveryLaws.{every-from_each, each-from_every}
-use Rattle.atl_state.proofs.HasLaws.{IsKeyed, same, same_number, things_apart}
+use Rattle.atl_state.proofs.HasLaws.{IsKeyed, same, things_apart}
 use Rattle.atl_state.proofs.OrderLaws.{rows_found}
 
 -- what a unit has of a sort: items, or days of study
 abbrev pub goods_of : ℕ → Unit → FinMap nat_cmp ℕ
 goods_of zero u = u.holding.items
 goods_of (suc n) u = u.holding.days
-
-same_size : (m n : ℕ) → pos m ≡ pos n → m ≡ n
-same_size m n e = cc
 
 -- ---- the rows of all units
 
@@ -106,7 +104,7 @@ module _ (units : FinMap nat_cmp Unit) where
     of_row : (n sort k s i a : ℕ) → k ≤ most_u32 → s < 2 → is_of n sort (has_row k s i a) ≡ true → Of n sort k s
     of_row n sort k s i a few l e =
         let both = and_parts (as_u32 (pos k) == n) (as_u32 (pos s) == sort) e in
-        record { unit = sym (read_whole k few) ∙ same_number (as_u32 (pos k)) n both.0; kind = sym (read_whole s (omega arith)) ∙ same_number (as_u32 (pos s)) sort both.1 }
+        record { unit = sym (read_whole k few) ∙ is_same (as_u32 (pos k)) n both.0; kind = sym (read_whole s (omega arith)) ∙ is_same (as_u32 (pos s)) sort both.1 }
 
     of_itself : (n s i a : ℕ) → n ≤ most_u32 → s < 2 → is_of n s (has_row n s i a) ≡ true
     of_itself n s i a few l =

@@ -148,7 +148,7 @@ same_key a b h =
 pub apart_keys : (a b : Key) → ¬ (SameKey a b) → same a b ≡ false
 apart_keys a b h = elim (same a b) as (λ t. same a b ≡ t → same a b ≡ false) [ true ↦ λ e. absurd (h (same_key a b e)) | false ↦ λ e. e ] refl
 
-same_size : (m n : ℕ) → pos m ≡ pos n → m ≡ n
+pub same_size : (m n : ℕ) → pos m ≡ pos n → m ≡ n
 same_size m n e = cc
 
 pub apart_numbers : (m n : ℕ) → m < n → same (one_key (pos m)) (one_key (pos n)) ≡ false

@@ -13,7 +13,7 @@ use Rattle.atl_tables.proofs.SumLaws.{chosen-cons}
 use Rattle.atl_state.specs.Deciding.{EachOf}
 use Rattle.atl_state.specs.Good.{Every, IsThere}
 
-is_true : (b : Bool) → T b → b ≡ true
+pub is_true : (b : Bool) → T b → b ≡ true
 is_true true h = refl
 is_true false h = absurd h
 

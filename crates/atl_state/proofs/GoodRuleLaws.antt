@@ -6,6 +6,7 @@ use Rattle.std.specs.Ordering.{nat_cmp, eq_by_cmp}
 use Rattle.std.specs.Cmp.{eq_by_cmp_equiv}
 use Rattle.std.specs.Cmp.Lexicographic.{slice_cmp, nat_list_cmp_total}
 use Rattle.std.specs.FinMap.{get, entries, len}
+use Rattle.std.proofs.lemmas.Bool.{not_from_false}
 use Rattle.std.proofs.lemmas.Bool.Decides.{nat_tests}
 use Rattle.std.proofs.lemmas.Int.{ints}
 use Rattle.std.proofs.lemmas.Map.Keys.{IsDistinct-IsPermutation}
@@ -58,9 +59,6 @@ le_true m n h = grind (arith, nat_tests)
 
 lt_true : (m n : ℕ) → m < n → nat_lt m n ≡ true
 lt_true m n h = grind (arith, nat_tests)
-
-not_true : (b : Bool) → b ≡ false → not b ≡ true
-not_true b h = ap not h
 
 flag_in_range : (b : Bool) → is_from 0 1 (flag b) ≡ true
 flag_in_range true = refl
@@ -190,7 +188,7 @@ module _ (w : Planet) (world : IsWorld w) (c : State) (good : IsGood w c) (p : P
       all_pass (books_in_range (amount_bound c)) (λ r. books_in_range (amount_bound c) r ≡ true) (λ r e. e) p.books
       (each_permuted (λ r. books_in_range (amount_bound c) r ≡ true) (books_rows c.books) p.books (row.books_listed w world c good p rows)
       (lines_each c.books (λ r. books_in_range (amount_bound c) r ≡ true) (λ e t el tl some.
-      and_true _ _ (not_true (is_zero (amount_at c.books e t)) some) (within_true (amount_bound c) (amount_at c.books e t) (amounts_within c good.sound.amounts e t el)))))
+      and_true _ _ (not_from_false (is_zero (amount_at c.books e t)) some) (within_true (amount_bound c) (amount_at c.books e t) (amounts_within c good.sound.amounts e t el)))))
 
   book_ranges : list_all (books_in_range (books_bound p)) p.books ≡ true
   book_ranges = ap (λ bound. list_all (books_in_range bound) p.books) bound_said ∙ amounts_in_range

@@ -16,6 +16,7 @@ use Rattle.atl_state.specs.declared.records.Unit.{Unit}
 use Rattle.atl_state.specs.FromRows.{as_u32, is_of, things_had, unit_of, by_number}
 use Rattle.atl_state.specs.RowRules.{Key, key_cmp, has_key}
 use Rattle.atl_state.specs.Rows.{is_zero, has_row, sort_rows, held_rows, has_rows}
+use Rattle.atl_state.proofs.AssemblyLaws.{is_same}
 use Rattle.atl_state.proofs.GroupLaws.{filter_apart, filter_both, filter_each, gathered, kept, lines_order, of_group}
 use Rattle.atl_state.proofs.KeyLaws.{IsDistinct-map, IsDistinct-of_map}
 use Rattle.atl_state.proofs.OrderLaws.{Apart, Apart-keys, HasNumber, each_so, flat_order}
@@ -72,14 +73,11 @@ IsHadBy n sort h = IsKeyed h × (is_of n sort h ≡ true)
 pub all_had : (P : StoredHas → Type 0) (n sort : ℕ) (has : List StoredHas) → AllByRecursion P has → AllByRecursion (λ h. P h × (is_of n sort h ≡ true)) (filter (is_of n sort) has)
 all_had P n sort has all = kept (is_of n sort) (λ h. P h × (is_of n sort h ≡ true)) has (each_so P (λ h. is_of n sort h ≡ true → P h × (is_of n sort h ≡ true)) (λ h one of. (one, of)) has all)
 
-pub same_number : (m n : ℕ) → (m == n) ≡ true → m ≡ n
-same_number m n h = grind (arith, nat_tests)
-
 its_unit : (n sort : ℕ) (h : StoredHas) → IsHadBy n sort h → h.unit ≡ pos n
-its_unit n sort h (exact, of) = exact.unit ∙ ap pos (same_number (as_u32 h.unit) n (and_parts (as_u32 h.unit == n) (as_u32 h.sort == sort) of).0)
+its_unit n sort h (exact, of) = exact.unit ∙ ap pos (is_same (as_u32 h.unit) n (and_parts (as_u32 h.unit == n) (as_u32 h.sort == sort) of).0)
 
 its_sort : (n sort : ℕ) (h : StoredHas) → IsHadBy n sort h → h.sort ≡ pos sort
-its_sort n sort h (exact, of) = exact.sort ∙ ap pos (same_number (as_u32 h.sort) sort (and_parts (as_u32 h.unit == n) (as_u32 h.sort == sort) of).1)
+its_sort n sort h (exact, of) = exact.sort ∙ ap pos (is_same (as_u32 h.sort) sort (and_parts (as_u32 h.unit == n) (as_u32 h.sort == sort) of).1)
 
 same_row : (n sort : ℕ) (h : StoredHas) → IsHadBy n sort h → IsWhole h.amount → has_row n sort (thing_of h) (amount_of h) ≡ h
 same_row n sort h had amount = λ i. record { unit = sym (its_unit n sort h had) i; sort = sym (its_sort n sort h had) i; thing = sym had.0.thing i; amount = sym amount i }

@@ -12,7 +12,7 @@ use Rattle.atl_state.specs.Good.{AreInRange, AreKnown, AreNumbered, AreOfOneFact
 use Rattle.atl_state.specs.Held.{Held, IsHolding}
 use Rattle.atl_state.specs.State.{State}
 use Rattle.atl_state.proofs.EveryLaws.{every-insert, get-insert_other, none_some, there-insert}
-use Rattle.atl_state.proofs.HoldingLaws.{of_one_faction_kept}
+use Rattle.atl_state.proofs.HoldingLaws.{next_kept, numbers_kept, of_one_faction_kept}
 use Rattle.atl_state.proofs.RegionLaws.{get-insert_same, same_len}
 
 -- What a unit of a campaign may hold: within the limits, and of what the world has.
@@ -36,22 +36,6 @@ module _ (w : Planet) (c : State) (n : ℕ) (u : Unit) (h : Held) (is : get c.un
   abbrev supplied : State
   supplied = record c { units = insert c.units n new_unit }
 
-  numbers_kept : IsHolding h → AreInRange w c → AreInRange w supplied
-  numbers_kept limits old = record {
-    month = old.month;
-    few_factions = old.few_factions;
-    few_regions = old.few_regions;
-    few_units = omega (arith, same_len c.units n u new_unit is, old.few_units);
-    few_structures = old.few_structures;
-    next_unit_least = old.next_unit_least;
-    next_unit_most = old.next_unit_most;
-    factions = old.factions;
-    regions = old.regions;
-    units = every-insert (λ k x. (1 ≤ k) × IsHolding x.holding) c.units n new_unit ((old.units n u is).0, limits) old.units;
-    structures = old.structures;
-    books = old.books;
-  }
-
   known_kept : MayHave w h → AreKnown w c → AreKnown w supplied
   known_kept may old = record {
     regions = old.regions;
@@ -61,17 +45,6 @@ module _ (w : Planet) (c : State) (n : ℕ) (u : Unit) (h : Held) (is : get c.un
     structures = λ k s there. let b = old.structures k s there in record { kind = b.kind; region = b.region; owner = λ owned. there-insert c.units n s.owner new_unit (b.owner owned) };
     mail = old.mail;
     reports = old.reports;
-  }
-
-  -- another number than one under which there is no unit
-  free_apart : (k : ℕ) → get c.units k ≡ None → k ≢ n
-  free_apart k free same = none_some u (sym free ∙ ap (get c.units) same ∙ is)
-
-  next_kept : AreNumbered c → AreNumbered supplied
-  next_kept old = record {
-    factions = old.factions;
-    structures = old.structures;
-    units = λ k above. get-insert_other c.units n k new_unit (free_apart k (old.units k above)) ∙ old.units k above;
   }
 
   -- a unit of the structure is still inside it
@@ -95,7 +68,7 @@ module _ (w : Planet) (c : State) (n : ℕ) (u : Unit) (h : Held) (is : get c.un
   -- it is steady where the guards of each region are of one faction
   pub steady-having : MayHave w h → AreOfOneFaction guards supplied → IsSteady w c → IsSteady w supplied
   steady-having may guarded old = record {
-    numbers = numbers_kept may.limits old.numbers;
+    numbers = numbers_kept w c n u h is may.limits old.numbers;
     names = record {
       pass = old.names.pass;
       factions = old.names.factions;
@@ -104,7 +77,7 @@ module _ (w : Planet) (c : State) (n : ℕ) (u : Unit) (h : Held) (is : get c.un
       structures = old.names.structures;
     };
     known = known_kept may old.known;
-    next = next_kept old.next;
+    next = next_kept w c n u h is old.next;
     days = every-insert (λ k x. Every (λ s days. (1 ≤ days) × (days ≤ most_days * x.holding.men)) x.holding.days) c.units n new_unit may.days old.days;
     gone = λ m f there gone. numbers_where-insert_known (λ x. x.faction == m) c.units n u new_unit is refl ∙ old.gone m f there gone;
     owners = owners_kept old.owners;

@@ -48,6 +48,11 @@ may_hold_money w c n money u is most steady =
       guard = λ g. g;
     }
 
+-- the structure of a unit, where it is there
+abbrev pub structure_in : Option Unit → Unit → ℕ
+structure_in (Some y) z = y.structure
+structure_in None z = z.structure
+
 module _ (w : Planet) (c : State) (n : ℕ) (u : Unit) (h : Held) (is : get c.units n ≡ Some u) where
   abbrev new_unit : Unit
   new_unit = record u { holding = h }
@@ -59,7 +64,7 @@ module _ (w : Planet) (c : State) (n : ℕ) (u : Unit) (h : Held) (is : get c.un
   free_apart : (k : ℕ) → get c.units k ≡ None → k ≢ n
   free_apart k free same = none_some u (sym free ∙ ap (get c.units) same ∙ is)
 
-  numbers_kept : IsHolding h → AreInRange w c → AreInRange w supplied
+  pub numbers_kept : IsHolding h → AreInRange w c → AreInRange w supplied
   numbers_kept limits old = record {
     month = old.month;
     few_factions = old.few_factions;
@@ -86,7 +91,7 @@ module _ (w : Planet) (c : State) (n : ℕ) (u : Unit) (h : Held) (is : get c.un
     reports = old.reports;
   }
 
-  next_kept : AreNumbered c → AreNumbered supplied
+  pub next_kept : AreNumbered c → AreNumbered supplied
   next_kept old = record {
     factions = old.factions;
     structures = old.structures;
@@ -107,10 +112,6 @@ module _ (w : Planet) (c : State) (n : ℕ) (u : Unit) (h : Held) (is : get c.un
             (new_unit, ap (get supplied.units) same ∙ get-insert_same c.units n new_unit, sym (ap (λ p. structure_in p x) one) ∙ inside)
         | Greater ↦ λ o. (x, get-insert_other c.units n k new_unit (λ same. let l = ranked k n Greater (sym o) in absurd (omega arith)) ∙ there, inside)
       ] refl
-    where
-      structure_in : Option Unit → Unit → ℕ
-      structure_in (Some y) z = y.structure
-      structure_in None z = z.structure
 
   owners_kept : AreOwned c → AreOwned supplied
   owners_kept old m s there =

@@ -1,6 +1,7 @@
 -- How a campaign changes as a unit leaves it.
 use Rattle.std.proofs.Common.{◌≡◌, ◌≢◌, ◌==◌, ℕ, ◌+◌, ◌≤◌, ◌<◌, Bool, true, false, length, not, List, Option, Some, None, refl, sym, ap, subst, ◌∙◌, arith, true≢false}
 use Rattle.std.specs.Prelude.{option_map, if◌then◌else◌}
+use Rattle.std.proofs.lemmas.Bool.{not-false}
 use Rattle.std.proofs.lemmas.Bool.Decides.{nat_tests}
 use Rattle.std.specs.declared.cmp.Ordering.TheVariants.{Less, Equal, Greater}
 use Rattle.std.specs.Ordering.{nat_cmp}
@@ -21,6 +22,7 @@ use Rattle.atl_state.specs.State.{Marked, State, numbers_inside, structure_chang
 use Rattle.atl_state.specs.Totals.{held, total}
 use Rattle.atl_state.proofs.CoverLaws.{apart_by, marks-refl, marks-trans, put_stays}
 use Rattle.atl_state.proofs.EveryLaws.{every-insert, get-insert_other, none_some}
+use Rattle.atl_state.proofs.HoldingLaws.{structure_in}
 use Rattle.atl_state.proofs.OwnerLaws.{gone-what, taken_none}
 use Rattle.atl_state.proofs.RegionLaws.{changed-known, get-insert_same, same_len}
 use Rattle.atl_state.proofs.RemovedLaws.{IsListed, every-insert_other, every-remove, fewer, first_of, get-remove_other, listed_passing, none_passing, nothing_listed, passing_listed, still, sum_over-remove}
@@ -144,10 +146,6 @@ module _ (w : Planet) (c : State) (n : ℕ) (u : Unit) (is : get c.units n ≡ S
 
   -- ---- who owns the structures
 
-  abbrev structure_in : Option Unit → Unit → ℕ
-  structure_in (Some y) z = y.structure
-  structure_in None z = z.structure
-
   module _ (old : AreOwned c) (low : Every (λ k v. 1 ≤ k) c.units) where
     -- what the unit owns is what it is inside
     owns_own : (k : ℕ) (x : Structure) → get c.structures k ≡ Some x → x.owner ≡ n → u.structure ≡ k
@@ -208,11 +206,7 @@ module _ (w : Planet) (c : State) (n : ℕ) (u : Unit) (is : get c.units n ≡ S
           other_not false a b = cc
 
       is_same : (k : ℕ) → not (k == n) ≡ false → k ≡ n
-      is_same k t = let e : (k == n) ≡ true = flipped (k == n) t in grind (arith, nat_tests)
-        where
-          flipped : (b : Bool) → not b ≡ false → b ≡ true
-          flipped true a = refl
-          flipped false a = cc
+      is_same k t = let e : (k == n) ≡ true = not-false (k == n) t in grind (arith, nat_tests)
 
       inside_test : (v : Unit) (k : ℕ) → (v.structure == k) ≡ true → v.structure ≡ k
       inside_test v k t = grind (arith, nat_tests)

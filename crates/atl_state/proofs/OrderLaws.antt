@@ -17,7 +17,7 @@ use Rattle.atl_state.specs.FromRows.{put_rows, by_number}
 use Rattle.atl_state.specs.Rows.{rows_by}
 use Rattle.atl_state.specs.Good.{Every, IsThere}
 use Rattle.atl_state.proofs.AssemblyLaws.{get_same, get_other}
-use Rattle.atl_state.proofs.EveryLaws.{there-new, there-insert}
+use Rattle.atl_state.proofs.EveryLaws.{none_some, there-new, there-insert}
 
 -- no two rows have one number
 abbrev pub Apart : {R : Type 0} → (R → ℕ) → List R → Type 0
@@ -29,9 +29,6 @@ abbrev pub HasNumber : {R : Type 0} → (R → ℕ) → List R → ℕ → Type 
 HasNumber number [] n = ⊥
 HasNumber number (r ∷ rows) n = (number r ≡ n) ⊎ HasNumber number rows n
 
-none_some : {A P : Type 0} (x : A) → Some x ≡ None → P
-none_some x e = cc
-
 pub exchange : {A : Type 0} (a b c : List A) → IsPermutation (a ++ (b ++ c)) (b ++ (a ++ c))
 exchange a b c =
     subst (λ xs. IsPermutation xs (b ++ (a ++ c))) (append_assoc a b c) (subst (λ ys. IsPermutation ((a ++ b) ++ c) ys) (append_assoc b a c) (IsPermutation-append_left c (a ++ b) (b ++ a) (IsPermutation-append_comm a b)))
@@ -42,7 +39,7 @@ module _ {V A : Type 0} (f : ℕ × V → List A) where
   flat_put k v (e ∷ es) h =
       elim (nat_cmp k e.0) as (λ r. cond (is_eq r) (Some e.1) (find nat_cmp k es) ≡ None → IsPermutation (f (k, v) ++ flat_map f (e ∷ es)) (flat_map f (by_order r ((k, v) ∷ e ∷ es) ((e.0, v) ∷ es) (e ∷ put nat_cmp k v es)))) [
         | Less ↦ λ _. IsPermutation-refl (f (k, v) ++ flat_map f (e ∷ es))
-        | Equal ↦ λ g. none_some e.1 g
+        | Equal ↦ λ g. none_some e.1 (sym g)
         | Greater ↦ λ g.
             IsPermutation-trans (f (k, v) ++ (f e ++ flat_map f es)) (f e ++ (f (k, v) ++ flat_map f es)) (f e ++ flat_map f (put nat_cmp k v es)) (exchange (f (k, v)) (f e) (flat_map f es))
             (IsPermutation-append_right (f e) (f (k, v) ++ flat_map f es) (flat_map f (put nat_cmp k v es)) (flat_put k v es g))
@@ -162,7 +159,7 @@ module _ {R V : Type 0} (number : R → ℕ) (value : R → V) where
       ]
 
   nothing_there : {P : Type 0} (n : ℕ) → IsThere (empty {X = V} {R = nat_cmp}) n → P
-  nothing_there n h = none_some h.0 (sym h.1 ∙ get-empty nat_cmp n)
+  nothing_there n h = none_some h.0 (sym (get-empty nat_cmp n) ∙ h.1)
 
   -- what stands in the map came with a row
   pub row_of : (rows : List R) (n : ℕ) → IsThere (by_number number value rows) n → HasNumber number rows n

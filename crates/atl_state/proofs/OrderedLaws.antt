@@ -12,6 +12,7 @@ use Rattle.atl_tables.specs.Sums.{numbers_where}
 use Rattle.atl_tables.proofs.SumLaws.{chosen-cons, numbers_where-insert_other, put_back, put_over}
 use Rattle.std.specs.List.{remove}
 use Rattle.atl_state.specs.Ordered.{first_above, put_number, take_number}
+use Rattle.atl_state.proofs.EveryLaws.{is_true, none_some}
 
 -- ---- as recursions
 put_step : (t : Bool) (n x : ℕ) (xs : List ℕ) → take (cond (not t) (1 + first_above n xs) 0) (x ∷ xs) ++ n ∷ drop (cond (not t) (1 + first_above n xs) 0) (x ∷ xs) ≡ cond t (n ∷ x ∷ xs) (x ∷ put_number n xs)
@@ -64,13 +65,6 @@ below k q h =
       | Greater ↦ λ e g. absurd (false≢true g)
     ] refl h
 
-is_true : (b : Bool) → T b → b ≡ true
-is_true true h = refl
-is_true false h = absurd h
-
-some_none : {X : Type 0} (x : X) {P : Type 0} → Some x ≡ None → P
-some_none x e = cc
-
 first_holds : (n x : ℕ) (t : Bool) (xs ys : List ℕ) → n < x → put_number n ys ≡ n ∷ ys → put_number n (cond t (x ∷ ys) ys) ≡ n ∷ cond t (x ∷ ys) ys
 first_holds n x true xs ys l h = let e : nat_le n x ≡ true = grind (arith, nat_tests) in put_number-cons n x ys ∙ ap (λ b. cond b (n ∷ x ∷ ys) (x ∷ put_number n ys)) e
 first_holds n x false xs ys l h = h
@@ -102,7 +96,7 @@ module _ {X : Type 0} (p : X → Bool) where
   chosen-put_new k v h (e ∷ es) s g =
       elim (nat_cmp k e.0) as (λ r. nat_cmp k e.0 ≡ r → cond (is_eq r) (Some e.1) (find nat_cmp k es) ≡ None → chosen (by_order r ((k, v) ∷ e ∷ es) ((e.0, v) ∷ es) (e ∷ put nat_cmp k v es)) ≡ put_number k (chosen (e ∷ es))) [
         | Less ↦ λ l _. chosen-cons p (k, v) (e ∷ es) ∙ ap (λ b. cond b (k ∷ chosen (e ∷ es)) (chosen (e ∷ es))) h ∙ sym (put_first k es (and_parts _ _ s).1 e (ranked k e.0 Less (sym l)) (and_parts _ _ s).0)
-        | Equal ↦ λ _ g. some_none e.1 g
+        | Equal ↦ λ _ g. none_some e.1 (sym g)
         | Greater ↦ λ l g. chosen-cons p e (put nat_cmp k v es) ∙ later_step k e.0 (p e.1) (chosen es) (chosen (put nat_cmp k v es)) (ranked k e.0 Greater (sym l)) (chosen-put_new k v h es (and_parts _ _ s).1 g) ∙ ap (put_number k) (sym (chosen-cons p e es))
       ] refl g
 

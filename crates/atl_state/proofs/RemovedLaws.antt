@@ -4,6 +4,7 @@ use Rattle.std.specs.declared.cmp.Ordering.TheVariants.{Less, Equal, Greater}
 use Rattle.std.specs.Ordering.{nat_cmp, is_eq}
 use Rattle.std.specs.Cmp.{nat_cmp_total, ranked}
 use Rattle.std.specs.FinMap.{FinMap, contains_key, entries, get, get-insert, get-remove, insert, len, len-remove, nat_cmp-IsAntisymmetric, remove}
+use Rattle.std.proofs.lemmas.Bool.{false_from_ne_true}
 use Rattle.atl_tables.specs.Sums.{numbers_where, sum_over}
 use Rattle.atl_tables.proofs.SumLaws.{chosen-cons, put_back, sum_over-insert_new}
 use Rattle.atl_state.specs.Deciding.{EachOf}
@@ -126,12 +127,8 @@ module _ {V : Type 0} (p : V → Bool) where
       (v, ap (get m) (sym at) ∙ is, t)
 
   -- where none passes, none is listed
-  not_true : (b : Bool) → (b ≡ true → ⊥) → b ≡ false
-  not_true true h = absurd (h refl)
-  not_true false h = refl
-
   pub none_passing : (m : FinMap nat_cmp V) → numbers_where p m ≡ [] → Every (λ n v. p v ≡ false) m
-  none_passing m none n v is = not_true (p v) (λ t. subst (IsListed n) none (passing_listed m n v is t))
+  none_passing m none n v is = false_from_ne_true (p v) (λ t. subst (IsListed n) none (passing_listed m n v is t))
 
   none_listed : (ns : List ℕ) → ((k : ℕ) → IsListed k ns → ⊥) → ns ≡ []
   none_listed [] h = refl

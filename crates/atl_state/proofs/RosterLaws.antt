@@ -12,7 +12,7 @@ use Rattle.std.proofs.lemmas.Bool.{and_parts, false≢true}
 use Rattle.atl_tables.specs.Sums.{mapped}
 use Rattle.atl_state.specs.declared.records.Unit.{Unit}
 use Rattle.atl_state.specs.UnitPlaces.{AreUnits}
-use Rattle.atl_state.proofs.EveryLaws.{get-mapped}
+use Rattle.atl_state.proofs.EveryLaws.{get-mapped, is_true}
 
 there_either : {V W : Type 0} (f : V → W) (o : Option V) → is_some (option_map f o) ≡ is_some o
 there_either f None = refl
@@ -26,10 +26,6 @@ AreUnits-of units = record {
 }
 
 -- ---- a map whose entries come one after another
-
-is_true : (b : Bool) → T b → b ≡ true
-is_true true h = refl
-is_true false h = absurd h
 
 is_less : (o : Ordering) → is_lt o ≡ true → o ≡ Less
 is_less Less h = refl
