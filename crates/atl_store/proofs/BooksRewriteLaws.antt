@@ -32,7 +32,8 @@ use Rattle.atl_store.proofs.WholeLaws.{inside_weaker}
 
 -- ---- a row that begins with an entry and a thing
 
-account_cases : (r : Row) → ((is_so : ℕ → ℕ → Bool) → accounts is_so r ≡ false) ⊎ ((entry thing : ℕ) × (row : Row) × (r ≡ int (suc entry) ∷ int thing ∷ row))
+account_cases : (r : Row)
+    → ((is_so : ℕ → ℕ → Bool) → accounts is_so r ≡ false) ⊎ ((entry thing : ℕ) × (row : Row) × (r ≡ int (suc entry) ∷ int thing ∷ row))
 account_cases [] = inl (λ is_so. refl)
 account_cases (Null ∷ row) = inl (λ is_so. refl)
 account_cases (Int (pos zero) ∷ row) = inl (λ is_so. refl)
@@ -72,13 +73,15 @@ module _ (marks : FinSet nat_cmp) where
   abbrev marked : ℕ → ℕ → Bool
   marked e t = contains marks (entry_count * t + e)
 
-  pub next_entry : (e : ℕ) (es : List ℕ) (things : ℕ → Bool) (r : Row) → of_amounts marks (is_among (e ∷ es)) things r ≡ (of_amounts marks (is_number e) things r || of_amounts marks (is_among es) things r)
+  pub next_entry : (e : ℕ) (es : List ℕ) (things : ℕ → Bool) (r : Row)
+      → of_amounts marks (is_among (e ∷ es)) things r ≡ (of_amounts marks (is_number e) things r || of_amounts marks (is_among es) things r)
   next_entry e es things r =
       let one : ℕ → ℕ → Bool = λ k t. is_number e k && (things t && marked k t) in
       let rest : ℕ → ℕ → Bool = λ k t. is_among es k && (things t && marked k t) in
       accounts_same (λ k t. is_among (e ∷ es) k && (things t && marked k t)) (λ k t. one k t || rest k t) (λ k t. and-or_distrib_right (is_number e k) (is_among es k) (things t && marked k t)) r ∙ accounts_either one rest r
 
-  pub next_thing : (entries : ℕ → Bool) (t : ℕ) (ts : List ℕ) (r : Row) → of_amounts marks entries (is_among (t ∷ ts)) r ≡ (of_amounts marks entries (is_number t) r || of_amounts marks entries (is_among ts) r)
+  pub next_thing : (entries : ℕ → Bool) (t : ℕ) (ts : List ℕ) (r : Row)
+      → of_amounts marks entries (is_among (t ∷ ts)) r ≡ (of_amounts marks entries (is_number t) r || of_amounts marks entries (is_among ts) r)
   next_thing entries t ts r =
       let one : ℕ → ℕ → Bool = λ e k. entries e && (is_number t k && marked e k) in
       let rest : ℕ → ℕ → Bool = λ e k. entries e && (is_among ts k && marked e k) in
@@ -124,13 +127,15 @@ module _ (marks : FinSet nat_cmp) where
   each_entry : (e : ℕ) → is_among (map entry_place all_entries) e ≡ nat_le (suc e) entry_count
   each_entry e = among_first entry_count e
 
-  pub all_amounts : (things : ℕ) → AreOfThings things marks → (r : Row) → of_amounts marks (is_among (map entry_place all_entries)) (is_among (range_with_len 0 things)) r ≡ amount_marked marks r
+  pub all_amounts : (things : ℕ) → AreOfThings things marks → (r : Row)
+      → of_amounts marks (is_among (map entry_place all_entries)) (is_among (range_with_len 0 things)) r ≡ amount_marked marks r
   all_amounts things few r = accounts_same (λ e t. is_among (map entry_place all_entries) e && (is_among (range_with_len 0 things) t && marked e t)) (is_marked_amount marks) same r
     where
       inside : (e t n : ℕ) → entry_count * t + e < entry_count * n → t < n
       inside e t n h = omega (arith, h)
 
-      same : (e t : ℕ) → (is_among (map entry_place all_entries) e && (is_among (range_with_len 0 things) t && marked e t)) ≡ is_marked_amount marks e t
+      same : (e t : ℕ)
+          → (is_among (map entry_place all_entries) e && (is_among (range_with_len 0 things) t && marked e t)) ≡ is_marked_amount marks e t
       same e t = elim (cases_Bool (marked e t)) [
         | inl is ↦
             let there : is_among (range_with_len 0 things) t ≡ true = in_range 0 things t (omega arith) (omega (arith, inside e t things (few (entry_count * t + e) is))) in
@@ -148,7 +153,8 @@ module _ (c : Marked) (e : Entry) (t : Thing) where
   row = books_row (entry_place e + 1) (thing_place t) (amount_in c.what.books e t)
 
   -- a wanted row at the same places is the row
-  same_place : (f : Entry) (u : Thing) → amount_in c.what.books f u ≢ pos 0 → entry_place f ≡ entry_place e → thing_place u ≡ thing_place t → (r : Row) → r ≡ books_row (entry_place f + 1) (thing_place u) (amount_in c.what.books f u) → Has (amount_lines c.what e t) r
+  same_place : (f : Entry) (u : Thing) → amount_in c.what.books f u ≢ pos 0 → entry_place f ≡ entry_place e → thing_place u ≡ thing_place t
+      → (r : Row) → r ≡ books_row (entry_place f + 1) (thing_place u) (amount_in c.what.books f u) → Has (amount_lines c.what e t) r
   same_place f u some entries things r is =
       let books = c.what.books in
       let same : amount_in books f u ≡ amount_in books e t = ap (λ k. get_or (get_or books k []) (entry_place f) (pos 0)) things ∙ ap (λ k. get_or (get_or books (thing_place t) []) k (pos 0)) entries in
@@ -187,7 +193,8 @@ module _ (c : Marked) (e : Entry) (t : Thing) where
         ap (λ x. is_here (x ∷ w ∷ row)) (first ∙ ap int place) ∙ ap (λ x. is_here (int (suc (entry_place e)) ∷ x ∷ row)) second
         ∙ ap (λ b. b && (is_number (thing_place t) (thing_place t) && contains c.marks.books (amount_number e t))) (is_itself (entry_place e)) ∙ ap (λ b. b && contains c.marks.books (amount_number e t)) (is_itself (thing_place t)) ∙ marked
 
-    settle_rewrite : (old new : Database) → Settles c.what e t old new → RewritesAmounts c (is_number (entry_place e)) (is_number (thing_place t)) old new
+    settle_rewrite : (old new : Database) → Settles c.what e t old new
+        → RewritesAmounts c (is_number (entry_place e)) (is_number (thing_place t)) old new
     settle_rewrite old new did = rewrites_key is_here (λ r. take 2 r ≡ books_key (entry_place e + 1) (thing_place t)) (Has (amount_lines c.what e t)) (BooksRowsOf c.what.books) key_of of_key
         (λ r here. let is = optional_has (int_eq (amount_in c.what.books e t) (pos 0)) row r here in (ap (take 2) is.1, (e, t, differs_zero (amount_in c.what.books e t) is.0, is.1)))
         (λ r is of.
@@ -195,7 +202,8 @@ module _ (c : Marked) (e : Entry) (t : Thing) where
         same_place of.0 of.1 of.2 (omega (arith, keys.0)) keys.1 r of.3)
         books_table old new did.rows did.others
 
-    pub settle_done : (old new : State) → Inside HasTables (Settles c.what e t) old new → Inside HasTables (RewritesAmounts c (is_number (entry_place e)) (is_number (thing_place t))) old new
+    pub settle_done : (old new : State) → Inside HasTables (Settles c.what e t) old new
+        → Inside HasTables (RewritesAmounts c (is_number (entry_place e)) (is_number (thing_place t))) old new
     settle_done old new did = inside_weaker HasTables (Settles c.what e t) (RewritesAmounts c (is_number (entry_place e)) (is_number (thing_place t))) old new (λ has settles. settle_rewrite old.now new.now settles) did
 
 -- ---- one entry after another, and one thing after another
@@ -208,11 +216,15 @@ module _ (c : Marked) where
   abbrev pub NearingEntries : (ℕ → Bool) → List Entry → List Entry → Database → Database → Type 0
   NearingEntries things rest all old new = Nearing books_table wanted (λ r. of_amounts c.marks.books (is_among (map entry_place rest)) things r) (λ r. of_amounts c.marks.books (is_among (map entry_place all)) things r) old new
 
-  pub entry_nearer : (things : ℕ → Bool) (x : Entry) (now rest all : List Entry) → now ≡ x ∷ rest → (old mid new : State) → Inside HasTables (NearingEntries things now all) old mid → Inside HasTables (RewritesAmounts c (is_number (entry_place x)) things) mid new → Inside HasTables (NearingEntries things rest all) old new
+  pub entry_nearer : (things : ℕ → Bool) (x : Entry) (now rest all : List Entry) → now ≡ x ∷ rest → (old mid new : State)
+      → Inside HasTables (NearingEntries things now all) old mid → Inside HasTables (RewritesAmounts c (is_number (entry_place x)) things) mid new
+      → Inside HasTables (NearingEntries things rest all) old new
   entry_nearer things x now rest all is = one_nearer books_table wanted (λ r. of_amounts c.marks.books (is_number (entry_place x)) things r) (λ r. of_amounts c.marks.books (is_among (map entry_place now)) things r) (λ r. of_amounts c.marks.books (is_among (map entry_place rest)) things r) (λ r. of_amounts c.marks.books (is_among (map entry_place all)) things r)
       (λ r. ap (λ es. of_amounts c.marks.books (is_among (map entry_place es)) things r) is ∙ next_entry c.marks.books (entry_place x) (map entry_place rest) things r)
 
-  pub entries_rewritten : (things : ℕ → Bool) (rest all : List Entry) → rest ≡ [] → (old new : State) → Inside HasTables (NearingEntries things rest all) old new → Inside HasTables (RewritesAmounts c (is_among (map entry_place all)) things) old new
+  pub entries_rewritten : (things : ℕ → Bool) (rest all : List Entry) → rest ≡ [] → (old new : State)
+      → Inside HasTables (NearingEntries things rest all) old new
+      → Inside HasTables (RewritesAmounts c (is_among (map entry_place all)) things) old new
   entries_rewritten things rest all none = all_rewritten books_table wanted (λ r. of_amounts c.marks.books (is_among (map entry_place rest)) things r) (λ r. of_amounts c.marks.books (is_among (map entry_place all)) things r) (λ r. of_amounts c.marks.books (is_among (map entry_place all)) things r)
       (no_entry c.marks.books (map entry_place rest) things (ap (map entry_place) none)) (λ r. refl)
 
@@ -220,11 +232,14 @@ module _ (c : Marked) where
   abbrev pub NearingThings : List ℕ → List ℕ → Database → Database → Type 0
   NearingThings rest all old new = Nearing books_table wanted (λ r. of_amounts c.marks.books (is_among (map entry_place all_entries)) (is_among rest) r) (λ r. of_amounts c.marks.books (is_among (map entry_place all_entries)) (is_among all) r) old new
 
-  pub thing_nearer : (t : ℕ) (now rest all : List ℕ) → now ≡ t ∷ rest → (old mid new : State) → Inside HasTables (NearingThings now all) old mid → Inside HasTables (RewritesAmounts c (is_among (map entry_place all_entries)) (is_number t)) mid new → Inside HasTables (NearingThings rest all) old new
+  pub thing_nearer : (t : ℕ) (now rest all : List ℕ) → now ≡ t ∷ rest → (old mid new : State) → Inside HasTables (NearingThings now all) old mid
+      → Inside HasTables (RewritesAmounts c (is_among (map entry_place all_entries)) (is_number t)) mid new
+      → Inside HasTables (NearingThings rest all) old new
   thing_nearer t now rest all is = one_nearer books_table wanted (λ r. of_amounts c.marks.books (is_among (map entry_place all_entries)) (is_number t) r) (λ r. of_amounts c.marks.books (is_among (map entry_place all_entries)) (is_among now) r)
       (λ r. of_amounts c.marks.books (is_among (map entry_place all_entries)) (is_among rest) r) (λ r. of_amounts c.marks.books (is_among (map entry_place all_entries)) (is_among all) r)
       (λ r. ap (λ ts. of_amounts c.marks.books (is_among (map entry_place all_entries)) (is_among ts) r) is ∙ next_thing c.marks.books (is_among (map entry_place all_entries)) t rest r)
 
-  pub things_rewritten : (rest : List ℕ) (count : ℕ) → AreOfThings count c.marks.books → rest ≡ [] → (old new : State) → Inside HasTables (NearingThings rest (range_with_len 0 count)) old new → Inside HasTables (RewritesBooks c) old new
+  pub things_rewritten : (rest : List ℕ) (count : ℕ) → AreOfThings count c.marks.books → rest ≡ [] → (old new : State)
+      → Inside HasTables (NearingThings rest (range_with_len 0 count)) old new → Inside HasTables (RewritesBooks c) old new
   things_rewritten rest count few none = all_rewritten books_table wanted (λ r. of_amounts c.marks.books (is_among (map entry_place all_entries)) (is_among rest) r) (λ r. of_amounts c.marks.books (is_among (map entry_place all_entries)) (is_among (range_with_len 0 count)) r) (λ r. amount_marked c.marks.books r)
       (no_thing c.marks.books (is_among (map entry_place all_entries)) rest none) (all_amounts c.marks.books count few)

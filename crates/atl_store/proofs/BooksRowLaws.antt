@@ -23,7 +23,8 @@ use Rattle.atl_store.proofs.Terms.{cast_null, cast_int}
 
 -- ---- its key: entry and thing
 
-ints_from : (schema : Schema) (x : Row) → passes Datatype schema (λ t. []) books_table x ≡ true → passes NotNull schema (λ t. []) books_table x ≡ true → AreInts books_unique x
+ints_from : (schema : Schema) (x : Row) → passes Datatype schema (λ t. []) books_table x ≡ true → passes NotNull schema (λ t. []) books_table x ≡ true
+    → AreInts books_unique x
 ints_from schema [] typed present = absurd (true≢false (sym present))
 ints_from schema (r ∷ []) typed present = absurd (true≢false (sym present))
 ints_from schema (r ∷ a ∷ []) typed present = absurd (true≢false (sym (and_parts _ _ present).1))

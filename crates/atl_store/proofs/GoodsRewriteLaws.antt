@@ -37,8 +37,10 @@ module _ (units : FinMap nat_cmp Unit) (n : ℕ) where
         subst (λ k. Has (goods_lines k of.1.holding) r) number (subst (Has (goods_lines of.0 of.1.holding)) (sym of.8) (has_goods of.0 of.1.holding of.3 of.4 of.5 (got_entry (things_of of.3 of.1.holding) of.4 of.5 of.6) of.7)),
       )
 
-  pub goods_done : (u : Unit) → get units n ≡ Some u → (old mid new : State) → Inside HasTables (Drops has_table 1 (int n ∷ [])) old mid → Inside HasTables (PutsRows has_table 3 (goods_lines n u.holding)) mid new → Inside HasTables (RewritesGoods units n) old new
+  pub goods_done : (u : Unit) → get units n ≡ Some u → (old mid new : State) → Inside HasTables (Drops has_table 1 (int n ∷ [])) old mid
+      → Inside HasTables (PutsRows has_table 3 (goods_lines n u.holding)) mid new → Inside HasTables (RewritesGoods units n) old new
   goods_done = lines_done has_table 2 unit_lines (HasRowsOf units) units n (λ u. goods_begin n u.holding) (λ u. goods_apart n u.holding) goods_wanted goods_lined
 
-  pub no_goods_done : get units n ≡ None → (old new : State) → Inside HasTables (Drops has_table 1 (int n ∷ [])) old new → Inside HasTables (RewritesGoods units n) old new
+  pub no_goods_done : get units n ≡ None → (old new : State) → Inside HasTables (Drops has_table 1 (int n ∷ [])) old new
+      → Inside HasTables (RewritesGoods units n) old new
   no_goods_done = bare_done has_table 2 unit_lines (HasRowsOf units) units n (λ u. goods_begin n u.holding) (λ u. goods_apart n u.holding) goods_wanted goods_lined

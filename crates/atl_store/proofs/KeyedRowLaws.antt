@@ -75,8 +75,11 @@ pub record HasKey (t : Table) (at : ℕ) (places : List ℕ) : Type 0 where
   pub plain : (db : Trees) → overlay db [] t.tree ≡ db t.tree
   pub ints : (schema : Schema) (x : Row) → passes Datatype schema (λ u. []) t x ≡ true → passes NotNull schema (λ u. []) t x ≡ true → AreInts places x
   pub first : (x : Row) → take (length places) (visible t x) ≡ at_places places x
-  pub unique : (indexes : List Index) (rows : List Row) (r : Row) → list_all (λ i. not (guards i t && clashes i.order i.columns rows r)) (all_indexes ++ indexes) ≡ true → list_any (λ y. agree_at places y r && differ (rowid y) (rowid r)) rows ≡ false
-  pub hits : (indexes : List Index) (new x : Row) → conflicts (Some places) (all_indexes ++ indexes) t new x ≡ (agree_at places x new || list_any (shares (Some places) t new x) indexes)
+  pub unique : (indexes : List Index) (rows : List Row) (r : Row)
+      → list_all (λ i. not (guards i t && clashes i.order i.columns rows r)) (all_indexes ++ indexes) ≡ true
+      → list_any (λ y. agree_at places y r && differ (rowid y) (rowid r)) rows ≡ false
+  pub hits : (indexes : List Index) (new x : Row)
+      → conflicts (Some places) (all_indexes ++ indexes) t new x ≡ (agree_at places x new || list_any (shares (Some places) t new x) indexes)
 
 -- a DELETE from the tree at this place of what this filter finds,
 abbrev pub IsTakeOut : ℕ → ℕ → List ℕ → List Term → Type 0
@@ -95,7 +98,8 @@ pub record MakesValues (t : Table) (places : List ℕ) (width : ℕ) (terms : Li
   pub shown : (n : ℤ) → visible t (Int n ∷ values) ≡ values
   pub ints : (n : ℤ) → AreInts places (Int n ∷ values)
   pub aimed : (x : Value) (more : Row) → column (values ++ x ∷ more) hole ≡ x
-  pub changed : (more r : Row) → at_places places r ≡ take (length places) values → visible t (cast_row t (eval_all project ((values ++ more) ∷ r ∷ []))) ≡ values
+  pub changed : (more r : Row) → at_places places r ≡ take (length places) values
+      → visible t (cast_row t (eval_all project ((values ++ more) ∷ r ∷ []))) ≡ values
 
 -- one of the tables, at this place among them
 module _ (tree : ℕ) (name : List ℕ) (columns : List Column) (places : List ℕ) (at : ℕ) where
@@ -111,7 +115,8 @@ module _ (tree : ℕ) (name : List ℕ) (columns : List Column) (places : List �
       key_ints x there = key.ints schema x (keeps_at Datatype schema db t x (sound.listed.obeys.rules Datatype) (nine_among more t key.ours) there) (keeps_at NotNull schema db t x (sound.listed.obeys.rules NotNull) (nine_among more t key.ours) there)
 
       -- two rows with one key have one rowid
-      alone : (x r : Row) → Has (db tree) x → Has (db tree) r → take (length places) (visible t x) ≡ take (length places) (visible t r) → is_eq (value_cmp (rowid x) (rowid r)) ≡ true
+      alone : (x r : Row) → Has (db tree) x → Has (db tree) r → take (length places) (visible t x) ≡ take (length places) (visible t r)
+          → is_eq (value_cmp (rowid x) (rowid r)) ≡ true
       alone x r one two same =
           let free = key.unique indexes (db tree) r (keeps_at Unique schema db t r (sound.listed.obeys.rules Unique) (nine_among more t key.ours) two) in
           let keyed = sound.keyed t key.ours in
@@ -123,8 +128,10 @@ module _ (tree : ℕ) (name : List ℕ) (columns : List Column) (places : List �
 
     -- ---- putting
 
-    puts : (sql : List ℕ) (width hole : ℕ) (terms project : List Term) → IsPutUnder tree at places sql width terms hole project → AlwaysPlain sql → (values : Row) → MakesValues t places width terms hole project values
-        → (old new : State) (count : ℕ) → IsTrue old.in_transaction → ExecutesInside 0 sql values old new (Ok count) → Inside HasTables (Puts t (length places) values) old new
+    puts : (sql : List ℕ) (width hole : ℕ) (terms project : List Term) → IsPutUnder tree at places sql width terms hole project → AlwaysPlain sql
+        → (values : Row) → MakesValues t places width terms hole project values
+        → (old new : State) (count : ℕ) → IsTrue old.in_transaction → ExecutesInside 0 sql values old new (Ok count)
+        → Inside HasTables (Puts t (length places) values) old new
     puts sql width hole terms project means asks values writes old new count inside ran = (
       ran.1.mode ∙ sym inside,
       λ has.
@@ -158,14 +165,18 @@ module _ (tree : ℕ) (name : List ℕ) (columns : List Column) (places : List �
           done_with t old.now new.now has key.ours _ _ (λ did. did) makes,
     )
 
-    pub puts_keyed : (sql : List ℕ) (width hole : ℕ) (terms project : List Term) → IsPutUnder tree at places sql width terms hole project → AlwaysPlain sql → (values : Row) → MakesValues t places width terms hole project values → DoneBy sql values (Puts t (length places) values)
+    pub puts_keyed : (sql : List ℕ) (width hole : ℕ) (terms project : List Term) → IsPutUnder tree at places sql width terms hole project
+        → AlwaysPlain sql → (values : Row) → MakesValues t places width terms hole project values → DoneBy sql values (Puts t (length places) values)
     puts_keyed sql width hole terms project means asks values writes = done_by sql values (Puts t (length places) values) (puts sql width hole terms project means asks values writes)
 
     -- ---- taking out what has the first columns of the key
 
-    drops : (sql : List ℕ) (filter : List Term) → IsTakeOut tree at sql filter → AlwaysPlain sql → (front : List ℕ) → ((x : Row) → AreInts places x → AreInts front x) → ((x : Row) → take (length front) (visible t x) ≡ at_places front x)
-        → (k : Row) → AreInts front (Null ∷ k) → at_places front (Null ∷ k) ≡ k → ((x : Row) → list_all (holds (k ∷ x ∷ [])) filter ≡ agree_at front x (Null ∷ k))
-        → (old new : State) (count : ℕ) → IsTrue old.in_transaction → ExecutesInside 0 sql k old new (Ok count) → Inside HasTables (Drops t (length front) k) old new
+    drops : (sql : List ℕ) (filter : List Term) → IsTakeOut tree at sql filter → AlwaysPlain sql → (front : List ℕ)
+        → ((x : Row) → AreInts places x → AreInts front x) → ((x : Row) → take (length front) (visible t x) ≡ at_places front x)
+        → (k : Row) → AreInts front (Null ∷ k) → at_places front (Null ∷ k) ≡ k
+        → ((x : Row) → list_all (holds (k ∷ x ∷ [])) filter ≡ agree_at front x (Null ∷ k))
+        → (old new : State) (count : ℕ) → IsTrue old.in_transaction → ExecutesInside 0 sql k old new (Ok count)
+        → Inside HasTables (Drops t (length front) k) old new
     drops sql filter means asks front its_ints first k ints whole finds old new count inside ran = (
       ran.1.mode ∙ sym inside,
       λ has.
@@ -189,6 +200,8 @@ module _ (tree : ℕ) (name : List ℕ) (columns : List Column) (places : List �
           done_with t old.now new.now has key.ours _ _ (λ did. did) makes,
     )
 
-    pub drops_keyed : (sql : List ℕ) (filter : List Term) → IsTakeOut tree at sql filter → AlwaysPlain sql → (front : List ℕ) → ((x : Row) → AreInts places x → AreInts front x) → ((x : Row) → take (length front) (visible t x) ≡ at_places front x)
-        → (k : Row) → AreInts front (Null ∷ k) → at_places front (Null ∷ k) ≡ k → ((x : Row) → list_all (holds (k ∷ x ∷ [])) filter ≡ agree_at front x (Null ∷ k)) → DoneBy sql k (Drops t (length front) k)
+    pub drops_keyed : (sql : List ℕ) (filter : List Term) → IsTakeOut tree at sql filter → AlwaysPlain sql → (front : List ℕ)
+        → ((x : Row) → AreInts places x → AreInts front x) → ((x : Row) → take (length front) (visible t x) ≡ at_places front x)
+        → (k : Row) → AreInts front (Null ∷ k) → at_places front (Null ∷ k) ≡ k
+        → ((x : Row) → list_all (holds (k ∷ x ∷ [])) filter ≡ agree_at front x (Null ∷ k)) → DoneBy sql k (Drops t (length front) k)
     drops_keyed sql filter means asks front its_ints first k ints whole finds = done_by sql k (Drops t (length front) k) (drops sql filter means asks front its_ints first k ints whole finds)

@@ -56,9 +56,11 @@ pub record IsNumbered (t : Table) (at width : ℕ) (put drop : List ℕ) : Type 
   pub ours : Has all_tables t
   pub place : (more : List Table) → slice_get (all_tables ++ more) at ≡ Some t
   pub plain : (db : Trees) → overlay db [] t.tree ≡ db t.tree
-  pub puts : (more : List Table) (indexes : List Index) → command_of (understood (nine_and more indexes) put) ≡ InsertOr at Abort (Values (given_row width) (width + 2)) (clause_on (0 ∷ []) (record { lets = []; body = update_query t.tree (width + 1) (changed_row width) }) ∷ [])
+  pub puts : (more : List Table) (indexes : List Index)
+      → command_of (understood (nine_and more indexes) put) ≡ InsertOr at Abort (Values (given_row width) (width + 2)) (clause_on (0 ∷ []) (record { lets = []; body = update_query t.tree (width + 1) (changed_row width) }) ∷ [])
   pub puts_plain : AlwaysPlain put
-  pub drops : (more : List Table) (indexes : List Index) → command_of (understood (nine_and more indexes) drop) ≡ Delete at (record { lets = []; body = delete_query t.tree has_number })
+  pub drops : (more : List Table) (indexes : List Index)
+      → command_of (understood (nine_and more indexes) drop) ≡ Delete at (record { lets = []; body = delete_query t.tree has_number })
   pub drops_plain : AlwaysPlain drop
 
 -- the row of this number and these values is what the terms make of them, whether it is put or changed
@@ -78,7 +80,8 @@ module _ (tree : ℕ) (name : List ℕ) (number_column : Column) (columns : List
   module _ (is : IsNumbered t at width put drop) where
     -- ---- taking out
 
-    drops : (number : ℕ) (old new : State) (count : ℕ) → IsTrue old.in_transaction → ExecutesInside 0 drop (int number ∷ []) old new (Ok count) → Inside HasTables (Drops t 1 (int number ∷ [])) old new
+    drops : (number : ℕ) (old new : State) (count : ℕ) → IsTrue old.in_transaction → ExecutesInside 0 drop (int number ∷ []) old new (Ok count)
+        → Inside HasTables (Drops t 1 (int number ∷ [])) old new
     drops number old new count inside ran = (
       ran.1.mode ∙ sym inside,
       λ has.
@@ -100,7 +103,8 @@ module _ (tree : ℕ) (name : List ℕ) (number_column : Column) (columns : List
 
     -- ---- putting
 
-    puts : (number : ℕ) (values : Row) → MakesRow t width number values → (old new : State) (count : ℕ) → IsTrue old.in_transaction → ExecutesInside 0 put (int number ∷ values) old new (Ok count) → Inside HasTables (Puts t 1 (int number ∷ values)) old new
+    puts : (number : ℕ) (values : Row) → MakesRow t width number values → (old new : State) (count : ℕ) → IsTrue old.in_transaction
+        → ExecutesInside 0 put (int number ∷ values) old new (Ok count) → Inside HasTables (Puts t 1 (int number ∷ values)) old new
     unfolding first_key
     puts number values writes old new count inside ran = (
       ran.1.mode ∙ sym inside,
@@ -130,5 +134,6 @@ module _ (tree : ℕ) (name : List ℕ) (number_column : Column) (columns : List
           done_with t old.now new.now has is.ours _ _ (λ did. did) makes,
     )
 
-    pub puts_numbered : (number : ℕ) (values : Row) → MakesRow t width number values → DoneBy put (int number ∷ values) (Puts t 1 (int number ∷ values))
+    pub puts_numbered : (number : ℕ) (values : Row) → MakesRow t width number values
+        → DoneBy put (int number ∷ values) (Puts t 1 (int number ∷ values))
     puts_numbered number values writes = done_by put (int number ∷ values) (Puts t 1 (int number ∷ values)) (puts number values writes)

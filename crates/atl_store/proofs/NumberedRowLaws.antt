@@ -44,7 +44,8 @@ faction_made number joined_as name pass gone = record {
   spared = λ x. refl;
 }
 
-pub puts_faction : (number : ℕ) (joined_as name pass : List ℕ) (gone : Bool) → DoneBy put_faction (faction_row number joined_as name pass gone) (Puts faction_table 1 (faction_row number joined_as name pass gone))
+pub puts_faction : (number : ℕ) (joined_as name pass : List ℕ) (gone : Bool)
+    → DoneBy put_faction (faction_row number joined_as name pass gone) (Puts faction_table 1 (faction_row number joined_as name pass gone))
 puts_faction number joined_as name pass gone = puts_numbered faction_table.tree _ _ _ _ 1 4 put_faction drop_faction faction_statements number (faction_values joined_as name pass gone) (faction_made number joined_as name pass gone)
 
 pub drops_faction : (number : ℕ) → DoneBy drop_faction (int number ∷ []) (Drops faction_table 1 (int number ∷ []))
@@ -83,7 +84,8 @@ region_made number peasants money = record {
   spared = λ x. refl;
 }
 
-pub puts_region : (number peasants money : ℕ) → DoneBy put_region (region_row number peasants money) (Puts region_table 1 (region_row number peasants money))
+pub puts_region : (number peasants money : ℕ)
+    → DoneBy put_region (region_row number peasants money) (Puts region_table 1 (region_row number peasants money))
 puts_region number peasants money = puts_numbered region_table.tree _ _ _ _ 2 2 put_region drop_region region_statements number (region_values peasants money) (region_made number peasants money)
 
 pub drops_region : (number : ℕ) → DoneBy drop_region (int number ∷ []) (Drops region_table 1 (int number ∷ []))
@@ -112,7 +114,8 @@ unit_statements = record {
 abbrev unit_values : ℕ → List ℕ → ℕ → ℕ → ℕ → ℕ → Bool → Row
 unit_values faction name region structure men money guard = int faction ∷ Text name ∷ int region ∷ int structure ∷ int men ∷ int money ∷ flag guard ∷ []
 
-unit_made : (number faction : ℕ) (name : List ℕ) (region structure men money : ℕ) (guard : Bool) → MakesRow unit_table 7 number (unit_values faction name region structure men money guard)
+unit_made : (number faction : ℕ) (name : List ℕ) (region structure men money : ℕ) (guard : Bool)
+    → MakesRow unit_table 7 number (unit_values faction name region structure men money guard)
 unit_made number faction name region structure men money guard = record {
   source = refl;
   changed = λ more r. refl;
@@ -122,7 +125,8 @@ unit_made number faction name region structure men money guard = record {
   spared = λ x. refl;
 }
 
-pub puts_unit : (number faction : ℕ) (name : List ℕ) (region structure men money : ℕ) (guard : Bool) → DoneBy put_unit (unit_row number faction name region structure men money guard) (Puts unit_table 1 (unit_row number faction name region structure men money guard))
+pub puts_unit : (number faction : ℕ) (name : List ℕ) (region structure men money : ℕ) (guard : Bool)
+    → DoneBy put_unit (unit_row number faction name region structure men money guard) (Puts unit_table 1 (unit_row number faction name region structure men money guard))
 puts_unit number faction name region structure men money guard = puts_numbered unit_table.tree _ _ _ _ 3 7 put_unit drop_unit unit_statements number (unit_values faction name region structure men money guard) (unit_made number faction name region structure men money guard)
 
 pub drops_unit : (number : ℕ) → DoneBy drop_unit (int number ∷ []) (Drops unit_table 1 (int number ∷ []))
@@ -151,7 +155,8 @@ structure_statements = record {
 abbrev structure_values : ℕ → List ℕ → ℕ → ℕ → ℕ → Row
 structure_values kind name region done owner = int kind ∷ Text name ∷ int region ∷ int done ∷ int owner ∷ []
 
-structure_made : (number kind : ℕ) (name : List ℕ) (region done owner : ℕ) → MakesRow structure_table 5 number (structure_values kind name region done owner)
+structure_made : (number kind : ℕ) (name : List ℕ) (region done owner : ℕ)
+    → MakesRow structure_table 5 number (structure_values kind name region done owner)
 structure_made number kind name region done owner = record {
   source = refl;
   changed = λ more r. refl;
@@ -161,7 +166,8 @@ structure_made number kind name region done owner = record {
   spared = λ x. refl;
 }
 
-pub puts_structure : (number kind : ℕ) (name : List ℕ) (region done owner : ℕ) → DoneBy put_structure (structure_row number kind name region done owner) (Puts structure_table 1 (structure_row number kind name region done owner))
+pub puts_structure : (number kind : ℕ) (name : List ℕ) (region done owner : ℕ)
+    → DoneBy put_structure (structure_row number kind name region done owner) (Puts structure_table 1 (structure_row number kind name region done owner))
 puts_structure number kind name region done owner = puts_numbered structure_table.tree _ _ _ _ 5 5 put_structure drop_structure structure_statements number (structure_values kind name region done owner) (structure_made number kind name region done owner)
 
 pub drops_structure : (number : ℕ) → DoneBy drop_structure (int number ∷ []) (Drops structure_table 1 (int number ∷ []))

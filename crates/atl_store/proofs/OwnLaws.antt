@@ -46,7 +46,9 @@ module _ (own : StoredCampaign) (h : StoredHead) (text : List ℕ) (is : campaig
   same_text = let e = at 7 in cc
 
 -- a row that is as it should be is one that was read so
-pub own_read : (items : List StoredCampaign) (rows : List Row) (h : StoredHead) (text : List ℕ) (w : Planet) → map campaign_stored items ≡ map (first_columns (length campaign_forms)) rows → AreOwnRow rows h text w → (own : StoredCampaign) × IsOwn items own w
+pub own_read : (items : List StoredCampaign) (rows : List Row) (h : StoredHead) (text : List ℕ) (w : Planet)
+    → map campaign_stored items ≡ map (first_columns (length campaign_forms)) rows → AreOwnRow rows h text w
+    → (own : StoredCampaign) × IsOwn items own w
 own_read items rows h text w shown own =
     let one = one_mapped campaign_stored items (own_stored text h) (shown ∙ own.is) in (
       one.0,
@@ -64,7 +66,8 @@ own_typed rows h text w own row there =
     let one = one_mapped (first_columns (length campaign_forms)) rows (own_stored text h) own.is in
     typed row (found row there one.0 one.1 ∙ one.2)
   where
-    found : (row : Row) → Has rows row → (r : Row) → rows ≡ r ∷ [] → first_columns (length campaign_forms) row ≡ first_columns (length campaign_forms) r
+    found : (row : Row) → Has rows row → (r : Row) → rows ≡ r ∷ []
+        → first_columns (length campaign_forms) row ≡ first_columns (length campaign_forms) r
     found row there r is = elim (subst (λ l. Has l row) is there) [
       | inl same ↦ ap (first_columns (length campaign_forms)) same
       | inr none ↦ absurd none
@@ -78,7 +81,8 @@ own_typed rows h text w own row there =
 -- ---- the rows that are shown
 
 -- they were read, and what was read is judged
-pub judged_rows : (items : List StoredCampaign) (rows : List Row) (r : Result (StoredCampaign × Planet) StoreFault) → map campaign_stored items ≡ map (first_columns (length campaign_forms)) rows → JudgesOwn items r → JudgesRows rows r
+pub judged_rows : (items : List StoredCampaign) (rows : List Row) (r : Result (StoredCampaign × Planet) StoreFault)
+    → map campaign_stored items ≡ map (first_columns (length campaign_forms)) rows → JudgesOwn items r → JudgesRows rows r
 judged_rows items rows (Ok both) shown judged = record {
   is = sym shown ∙ ap (map campaign_stored) judged.only;
   id = judged.id;
@@ -103,7 +107,8 @@ judged_rows items rows (Err (Damaged Books)) shown judged = absurd judged
 judged_rows items rows (Err (Damaged Mail)) shown judged = absurd judged
 
 -- they were not, as a value is of another type or for want of memory
-pub unread_rows : (rows : List Row) (fault : ReadFault) → (fault ≡ read.OtherType → ¬ AreTyped campaign_forms rows) → ((fault ≡ read.OtherType → ⊥) → fault ≡ read.Memory) → JudgesRows rows (Err (own_fault fault))
+pub unread_rows : (rows : List Row) (fault : ReadFault) → (fault ≡ read.OtherType → ¬ AreTyped campaign_forms rows)
+    → ((fault ≡ read.OtherType → ⊥) → fault ≡ read.Memory) → JudgesRows rows (Err (own_fault fault))
 unread_rows rows read.OtherType other which = λ h text w own. other refl (own_typed rows h text w own)
 unread_rows rows read.Memory other which = tt
 unread_rows rows read.Store other which = absurd (let e = which (λ e. cc) in cc)
@@ -111,7 +116,8 @@ unread_rows rows read.Refused other which = absurd (let e = which (λ e. cc) in 
 
 module _ {S : Type 0} (g : Ghosts S) (old : Held S) where
   -- the rows are not as they should be
-  pub refuses_own : (rows : List Row) (r : Result (StoredCampaign × Planet) StoreFault) → JudgesRows rows r → Selects g all_campaign old rows → IfErr r (RefusesToLoad g old)
+  pub refuses_own : (rows : List Row) (r : Result (StoredCampaign × Planet) StoreFault) → JudgesRows rows r → Selects g all_campaign old rows
+      → IfErr r (RefusesToLoad g old)
   refuses_own rows (Ok both) judged told = tt
   refuses_own rows (Err Memory) judged told = tt
   refuses_own rows (Err (Damaged OneRow)) judged told = record { rows = rows; selects = told; broken = judged }
@@ -130,7 +136,8 @@ module _ {S : Type 0} (g : Ghosts S) (old : Held S) where
   refuses_own rows (Err (Damaged Mail)) judged told = absurd judged
 
   -- they are the campaign's own row and its world
-  pub own_is : (rows : List Row) (r : Result (StoredCampaign × Planet) StoreFault) → JudgesRows rows r → Selects g all_campaign old rows → IfOk r (λ both. OwnRead g old both.0 both.1)
+  pub own_is : (rows : List Row) (r : Result (StoredCampaign × Planet) StoreFault) → JudgesRows rows r → Selects g all_campaign old rows
+      → IfOk r (λ both. OwnRead g old both.0 both.1)
   own_is rows (Err fault) judged told = tt
   own_is rows (Ok both) judged told = record { rows = rows; selects = told; row = judged; table = λ nine. subst (IsPermutation (rows_in campaign_table (state g old).now.trees)) judged.is (reads_campaign _ _ rows told.1 nine) }
 

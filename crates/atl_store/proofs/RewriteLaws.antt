@@ -52,7 +52,9 @@ module _ (table : Table) (Wanted : Set) where
     },
   )
 
-  pub one_nearer : (step rest next all : Row → Bool) → ((r : Row) → rest r ≡ (step r || next r)) → (old mid new : State) → Inside HasTables (Nearing table Wanted rest all) old mid → Inside HasTables (Rewrites table step Wanted) mid new → Inside HasTables (Nearing table Wanted next all) old new
+  pub one_nearer : (step rest next all : Row → Bool) → ((r : Row) → rest r ≡ (step r || next r)) → (old mid new : State)
+      → Inside HasTables (Nearing table Wanted rest all) old mid → Inside HasTables (Rewrites table step Wanted) mid new
+      → Inside HasTables (Nearing table Wanted next all) old new
   one_nearer step rest next all parts old mid new so_far more = (
     more.0 ∙ so_far.0,
     λ has.
@@ -74,7 +76,8 @@ module _ (table : Table) (Wanted : Set) where
   )
 
   -- nothing is left to rewrite
-  pub all_rewritten : (rest all goal : Row → Bool) → ((r : Row) → rest r ≡ false) → ((r : Row) → all r ≡ goal r) → (old new : State) → Inside HasTables (Nearing table Wanted rest all) old new → Inside HasTables (Rewrites table goal Wanted) old new
+  pub all_rewritten : (rest all goal : Row → Bool) → ((r : Row) → rest r ≡ false) → ((r : Row) → all r ≡ goal r) → (old new : State)
+      → Inside HasTables (Nearing table Wanted rest all) old new → Inside HasTables (Rewrites table goal Wanted) old new
   all_rewritten rest all goal none is old new did = (
     did.0,
     λ has.
@@ -161,10 +164,12 @@ module _ (table : Table) (Wanted : Set) where
   abbrev pub NearingNumbers : List ℕ → List ℕ → Database → Database → Type 0
   NearingNumbers rest all = Nearing table Wanted (λ r. begins (is_among rest) r) (λ r. begins (is_among all) r)
 
-  pub number_nearer : (n : ℕ) (now rest all : List ℕ) → now ≡ n ∷ rest → (old mid new : State) → Inside HasTables (NearingNumbers now all) old mid → Inside HasTables (Rewrites table (begins (is_number n)) Wanted) mid new → Inside HasTables (NearingNumbers rest all) old new
+  pub number_nearer : (n : ℕ) (now rest all : List ℕ) → now ≡ n ∷ rest → (old mid new : State) → Inside HasTables (NearingNumbers now all) old mid
+      → Inside HasTables (Rewrites table (begins (is_number n)) Wanted) mid new → Inside HasTables (NearingNumbers rest all) old new
   number_nearer n now rest all is = one_nearer table Wanted (λ r. begins (is_number n) r) (λ r. begins (is_among now) r) (λ r. begins (is_among rest) r) (λ r. begins (is_among all) r) (λ r. ap (λ ns. begins (is_among ns) r) is ∙ next_number n rest r)
 
-  pub numbers_rewritten : (marks : FinSet nat_cmp) (rest all : List ℕ) → rest ≡ [] → from_list all ≡ marks → (old new : State) → Inside HasTables (NearingNumbers rest all) old new → Inside HasTables (Rewrites table (begins_marked marks) Wanted) old new
+  pub numbers_rewritten : (marks : FinSet nat_cmp) (rest all : List ℕ) → rest ≡ [] → from_list all ≡ marks → (old new : State)
+      → Inside HasTables (NearingNumbers rest all) old new → Inside HasTables (Rewrites table (begins_marked marks) Wanted) old new
   numbers_rewritten marks rest all none is = all_rewritten table Wanted (λ r. begins (is_among rest) r) (λ r. begins (is_among all) r) (λ r. begins_marked marks r) (no_number rest none) (of_set marks all is)
 
 -- ---- rows that take the place of those with a key
@@ -182,7 +187,9 @@ module _ (p : Row → Bool) (Key New Wanted : Set) (found : (r : Row) → p r �
       back true is wanted = inl (olds r is wanted)
       back false is was = inr (was, λ key. true≢false (sym (finds r key) ∙ is))
 
-  pub rewrites_key : (table : Table) (old new : Database) → ((r : Row) → Has (rows_in table new.trees) r ↔ (New r ⊎ (Has (rows_in table old.trees) r × ¬ Key r))) → ((t : Table) → Has all_tables t → t.tree ≢ table.tree → new.trees t.tree ≡ old.trees t.tree) → Rewrites table p Wanted old new
+  pub rewrites_key : (table : Table) (old new : Database)
+      → ((r : Row) → Has (rows_in table new.trees) r ↔ (New r ⊎ (Has (rows_in table old.trees) r × ¬ Key r)))
+      → ((t : Table) → Has all_tables t → t.tree ≢ table.tree → new.trees t.tree ≡ old.trees t.tree) → Rewrites table p Wanted old new
   rewrites_key table old new rows others = record { rows = λ r. let so = in_place (Has (rows_in table old.trees) r) r in (λ h. so.0 ((rows r).0 h), λ h. (rows r).1 (so.1 h)); others = others }
 
 kept_only : {P : Type 0} → ⊥ ⊎ P → P
@@ -211,10 +218,12 @@ module _ {V : Type 0} (table : Table) (line : ℕ → V → Row) (numbered : (n 
       (λ r is of. let w = wanted_at r is of in none-some w.0 (sym none ∙ w.1))
       table old new (λ r. let so = did.rows r in (λ h. inr (so.0 h), λ h. so.1 (kept_only h))) did.others
 
-  pub put_done : (v : V) → get values n ≡ Some v → (old new : State) → Inside HasTables (Puts table 1 (line n v)) old new → Inside HasTables (RewritesNumber table line values n) old new
+  pub put_done : (v : V) → get values n ≡ Some v → (old new : State) → Inside HasTables (Puts table 1 (line n v)) old new
+      → Inside HasTables (RewritesNumber table line values n) old new
   put_done v there old new did = inside_weaker HasTables (Puts table 1 (line n v)) (RewritesNumber table line values n) old new (λ has puts. put_rewrites old.now new.now v there puts) did
 
-  pub drop_done : get values n ≡ None → (old new : State) → Inside HasTables (Drops table 1 (int n ∷ [])) old new → Inside HasTables (RewritesNumber table line values n) old new
+  pub drop_done : get values n ≡ None → (old new : State) → Inside HasTables (Drops table 1 (int n ∷ [])) old new
+      → Inside HasTables (RewritesNumber table line values n) old new
   drop_done none old new did = inside_weaker HasTables (Drops table 1 (int n ∷ [])) (RewritesNumber table line values n) old new (λ has drops. drop_rewrites old.now new.now none drops) did
 
 -- ---- rows that belong to a number, taken out and put anew
@@ -233,7 +242,8 @@ module _ {V : Type 0} (table : Table) (more : ℕ) (lines : ℕ → V → List R
   abbrev RewritesLines : Database → Database → Type 0
   RewritesLines = Rewrites table (begins (is_number n)) Wanted
 
-  lines_rewrite : (old mid new : Database) → Drops table 1 (int n ∷ []) old mid → (v : V) → get values n ≡ Some v → PutsRows table (suc more) (lines n v) mid new → RewritesLines old new
+  lines_rewrite : (old mid new : Database) → Drops table 1 (int n ∷ []) old mid → (v : V) → get values n ≡ Some v
+      → PutsRows table (suc more) (lines n v) mid new → RewritesLines old new
   lines_rewrite old mid new dropped v there did = rewrites_key (begins (is_number n)) (λ r. take 1 r ≡ int n ∷ []) (Has (lines n v)) Wanted (begins_key n) (key_begins n)
       (λ r here. (numbered v r here, wanted v there r here))
       (λ r is of. let line = lined r is of in subst (λ u. Has (lines n u) r) (same_Some line.0 v (sym line.1 ∙ there)) line.2)
@@ -251,11 +261,13 @@ module _ {V : Type 0} (table : Table) (more : ℕ) (lines : ℕ → V → List R
       (λ r is of. let line = lined r is of in none-some line.0 (sym none ∙ line.1))
       table old new (λ r. let so = dropped.rows r in (λ h. inr (so.0 h), λ h. so.1 (kept_only h))) dropped.others
 
-  pub lines_done : (v : V) → get values n ≡ Some v → (old mid new : State) → Inside HasTables (Drops table 1 (int n ∷ [])) old mid → Inside HasTables (PutsRows table (suc more) (lines n v)) mid new → Inside HasTables RewritesLines old new
+  pub lines_done : (v : V) → get values n ≡ Some v → (old mid new : State) → Inside HasTables (Drops table 1 (int n ∷ [])) old mid
+      → Inside HasTables (PutsRows table (suc more) (lines n v)) mid new → Inside HasTables RewritesLines old new
   lines_done v there old mid new one two =
       let drops = Drops table 1 (int n ∷ []) in
       let puts = PutsRows table (suc more) (lines n v) in
       inside_weaker HasTables (Both drops puts) RewritesLines old new (λ has did. lines_rewrite old.now did.0 new.now did.1 v there did.2) (inside_then HasTables drops puts old mid new one two)
 
-  pub bare_done : get values n ≡ None → (old new : State) → Inside HasTables (Drops table 1 (int n ∷ [])) old new → Inside HasTables RewritesLines old new
+  pub bare_done : get values n ≡ None → (old new : State) → Inside HasTables (Drops table 1 (int n ∷ [])) old new
+      → Inside HasTables RewritesLines old new
   bare_done none old new did = inside_weaker HasTables (Drops table 1 (int n ∷ [])) RewritesLines old new (λ has drops. bare_rewrite old.now new.now drops none) did

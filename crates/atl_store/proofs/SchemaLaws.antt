@@ -30,7 +30,8 @@ named name tree table key found r decides =
     subst (λ (d : List ℕ). Decides r (found ≡ record { name = codes "sqlite_autoindex_" ++ (name ++ (codes "_" ++ d)); tree = tree; table = table; columns = key; order = plain; is_unique = true })) (sym (decimal_digit 1 (omega arith))) decides
 
 -- a unique index that is harmless is of none of these tables
-pub spares : (i : Index) (tables : List Table) → i.is_unique ≡ true → ((t : Table) → Has tables t → guards i t ≡ false) → list_any (λ t. i.table == t.tree) tables ≡ false
+pub spares : (i : Index) (tables : List Table) → i.is_unique ≡ true → ((t : Table) → Has tables t → guards i t ≡ false)
+    → list_any (λ t. i.table == t.tree) tables ≡ false
 spares i [] unique spared = refl
 spares i (t ∷ tables) unique spared =
     let first : (i.table == t.tree) ≡ false = rw unique at (spared t (inl refl)) in
@@ -38,7 +39,8 @@ spares i (t ∷ tables) unique spared =
     rw (first, rest) refl
 
 -- an index of another table guards nothing of these
-pub guards_not : (i : Index) (tables : List Table) → list_any (λ t. i.table == t.tree) tables ≡ false → (t : Table) → Has tables t → guards i t ≡ false
+pub guards_not : (i : Index) (tables : List Table) → list_any (λ t. i.table == t.tree) tables ≡ false → (t : Table) → Has tables t
+    → guards i t ≡ false
 guards_not i [] none t there = absurd there
 guards_not i (x ∷ tables) none t (inl same) = ap (λ (u : Table). guards i u) same ∙ and_right i.is_unique _ (or_parts _ _ none).0
 guards_not i (x ∷ tables) none t (inr later) = guards_not i tables (or_parts _ _ none).1 t later
@@ -50,7 +52,8 @@ any_mapped f p [] = refl
 any_mapped f p (x ∷ xs) = ap (λ b. p (f x) || b) (any_mapped f p xs)
 
 -- the first so many trees are those of the first so many tables
-pub our_trees : (tree count : ℕ) → list_any (λ n. tree == n) (take count (map (λ (t : Table). t.tree) all_tables)) ≡ list_any (λ t. tree == t.tree) (take count all_tables)
+pub our_trees : (tree count : ℕ)
+    → list_any (λ n. tree == n) (take count (map (λ (t : Table). t.tree) all_tables)) ≡ list_any (λ t. tree == t.tree) (take count all_tables)
 our_trees tree count = ap (list_any (λ n. tree == n)) (take-map (λ (t : Table). t.tree) count all_tables) ∙ any_mapped (λ (t : Table). t.tree) (λ n. tree == n) (take count all_tables)
 
 -- ---- the whole schema
@@ -78,7 +81,8 @@ module _ (count keys : ℕ) (schema : Schema) where
   no_views begins = ap (λ (s : Schema). s.views) begins.is
 
   -- It begins with fewer of them too, where of the tables between none has a foreign key and the indexes between make nothing of the fewer unique.
-  pub begins_with_fewer : (fewer fewer_keys : ℕ) (tables : List Table) (indexes : List Index) → take count all_tables ≡ take fewer all_tables ++ tables → take keys all_indexes ≡ take fewer_keys all_indexes ++ indexes
+  pub begins_with_fewer : (fewer fewer_keys : ℕ) (tables : List Table) (indexes : List Index)
+      → take count all_tables ≡ take fewer all_tables ++ tables → take keys all_indexes ≡ take fewer_keys all_indexes ++ indexes
       → AllByRecursion (λ t. t.references ≡ []) tables → AllByRecursion (IsHarmless fewer) indexes → Begins count keys schema → Begins fewer fewer_keys schema
   begins_with_fewer fewer fewer_keys tables indexes first first_keys free plain begins = record {
     tables = tables ++ begins.tables;

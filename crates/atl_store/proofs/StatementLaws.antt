@@ -53,13 +53,15 @@ module _ (schema : Schema) (tree : ℕ) (name : List ℕ) (columns : List Column
       → Then (Counts (task limit params t) done.0.trees counter done.1) (λ next. Gives (record done.0 { trees = next })) (Ok w) → w.trees ≡ done.0.trees
   counted limit params db done counter w h = let counts = went h in ap (λ (x : Written). x.trees) (same_value counts.2) ∙ same_value counts.1
 
-  concluded : (limit : Option ℕ) (params : Row) (w : Written) (out : Tally × Database) → Concludes (task limit params t) mode None w (Ok out) → (out.1.trees ≡ w.trees) × (out.1.schema ≡ schema)
+  concluded : (limit : Option ℕ) (params : Row) (w : Written) (out : Tally × Database) → Concludes (task limit params t) mode None w (Ok out)
+      → (out.1.trees ≡ w.trees) × (out.1.schema ≡ schema)
   concluded limit params w out h =
       let tested = went h in
       let shown = went tested.2 in
       (ap (λ (x : Tally × Database). x.1.trees) (same_value shown.2), ap (λ (x : Tally × Database). x.1.schema) (same_value shown.2))
 
-  pub removes : (limit : Option ℕ) (params : Row) (text : List ℕ) (q : Program) (p : Row → Bool) (db : Trees) (out : Tally × Database) → IsKeyed (db tree)
+  pub removes : (limit : Option ℕ) (params : Row) (text : List ℕ) (q : Program) (p : Row → Bool) (db : Trees) (out : Tally × Database)
+      → IsKeyed (db tree)
       → ((rows : List Row) → Answers (record { schema = schema; trees = db }) q params rows → AreFound p (db tree) rows)
       → Does limit mode params (record { schema = schema; trees = db }) text None (Delete at q) (Ok out)
       → Loses schema t p db out.1.trees × (out.1.schema ≡ schema)
@@ -83,7 +85,8 @@ module _ (schema : Schema) (tree : ℕ) (name : List ℕ) (columns : List Column
 
     each_upserts : (src : Row) (top : ℤ) (db : Trees) (done : Written × ℤ) → IsKeyed (db tree)
         → ((r : Row) → Has (db tree) r → column (params ++ rowid r ∷ shown t (made_up db src)) hole ≡ rowid r)
-        → TriesEach (task limit params t) Abort (clause_on target q ∷ []) (src ∷ []) top (nothing db) (Ok done) → Changed (made_up db src) db done.0.trees
+        → TriesEach (task limit params t) Abort (clause_on target q ∷ []) (src ∷ []) top (nothing db) (Ok done)
+        → Changed (made_up db src) db done.0.trees
     each_upserts src top db done keyed aimed h =
         let one = went h in
         let is : done.0.trees ≡ one.0.trees = ap (λ (x : Written × ℤ). x.0.trees) (same_value one.2) in
@@ -122,5 +125,7 @@ AlwaysPlain sql = (more : List Table) (indexes : List Index) → IsPlain (unders
 abbrev pub DoneBy : List ℕ → Row → (Database → Database → Type 0) → Type 1
 DoneBy sql values What = (old new : State) (count : ℕ) (params : Row) → IsTrue old.in_transaction → ExecutesInside 0 sql params old new (Ok count) → params ≡ values → Inside HasTables What old new
 
-pub done_by : (sql : List ℕ) (values : Row) (What : Database → Database → Type 0) → ((old new : State) (count : ℕ) → IsTrue old.in_transaction → ExecutesInside 0 sql values old new (Ok count) → Inside HasTables What old new) → DoneBy sql values What
+pub done_by : (sql : List ℕ) (values : Row) (What : Database → Database → Type 0)
+    → ((old new : State) (count : ℕ) → IsTrue old.in_transaction → ExecutesInside 0 sql values old new (Ok count) → Inside HasTables What old new)
+    → DoneBy sql values What
 done_by sql values What does old new count params inside h same = does old new count inside (subst (λ p. ExecutesInside 0 sql p old new (Ok count)) same h)
