@@ -21,7 +21,8 @@ use Rattle.atl_state.proofs.RegionLaws.{get-insert_same}
 use Rattle.atl_instant.proofs.MappedLaws.{no_entries}
 use Rattle.atl_market.specs.ItemGroups.{Groups, item_shares_in, region_shares, want_put, with_want}
 use Rattle.atl_market.specs.ItemPots.{is_for, item_share, share_for, wants_for}
-use Rattle.atl_market.specs.Pots.{shares_in, takers_in, want_of, with_each}
+use Rattle.atl_market.specs.Pots.{shares_in, takers_in, want_of}
+use Rattle.atl_market.specs.Puts.{with_each}
 use Rattle.atl_market.specs.Share.{shares}
 use Rattle.atl_market.proofs.PotLaws.{Entries, IsApart, IsRisen, as_pairs, found_first, found_head, found_is, found_later, found_other, found_put, found_tail, given_apart, given_is, given_takes, left, pots_give, somewhere, takers_risen}
 

@@ -11,7 +11,7 @@ use Rattle.atl_state.specs.State.{State}
 use Rattle.atl_state.proofs.BackLaws.{Rise, entries_rise}
 use Rattle.atl_state.proofs.EveryLaws.{first, none_some}
 use Rattle.atl_market.specs.Outputs.{gathered, made_by, makes, output_at, output_share}
-use Rattle.atl_market.specs.Pots.{with_each}
+use Rattle.atl_market.specs.Puts.{with_each}
 use Rattle.atl_market.specs.Produce.{produce_pots}
 use Rattle.atl_market.proofs.ItemPotLaws.{items_give}
 use Rattle.atl_market.proofs.PotLaws.{found_other, risen_put}

@@ -15,9 +15,10 @@ use Rattle.atl_state.proofs.EveryLaws.{each-from_every, get-insert_other, none_s
 use Rattle.atl_instant.specs.declared.written.Written.{Written}
 use Rattle.atl_instant.proofs.StayingLaws.{no_worse}
 use Rattle.atl_market.specs.PotPhase.{PotMeaning, fault_at, fault_of, given_by, shared_out, want_at, want_by, wants_by}
-use Rattle.atl_market.specs.Pots.{with_each}
+use Rattle.atl_market.specs.Puts.{with_each}
 use Rattle.atl_market.specs.Unordered.{OthersAreNoWorse, is_ordered}
 use Rattle.atl_market.proofs.DrawLaws.{all_pairs}
+use Rattle.atl_market.proofs.PotLaws.{put_in_turn}
 use Rattle.atl_market.proofs.WantLaws.{GivesToWants, appended_entries}
 
 neither : (a b : Bool) → (a || b) ≡ false → (a ≡ false) × (b ≡ false)
@@ -64,7 +65,7 @@ module _ (p : PotMeaning) (w : Planet) (c : State) (n : ℕ) (u : Unit) (there :
   not_given : GivesToWants p w c → (os : List Written) → is_ordered os n u ≡ false → (share : ℕ) → get (given_by p w c os) n ≡ Some share → ⊥
   not_given gives os none share is =
       let (want, wanted, low) = gives (wants_by p w c os) n share is in
-      none_some want (sym (get-empty nat_cmp n) ∙ sym (unwanted empty os none) ∙ wanted)
+      none_some want (sym (get-empty nat_cmp n) ∙ sym (unwanted empty os none) ∙ ap (λ (m : FinMap nat_cmp ℕ). get m n) (put_in_turn (flat_map (want_by p w c) os)) ∙ wanted)
 
 -- ---- and nothing happens to it
 

@@ -101,7 +101,7 @@ module _ (w : Planet) where
 pub works_at_once : WorksAtOnce
 works_at_once w c os =
     all_at_once work_pots w (λ n u places. with_more_money u (earned w u.region places)) stays (work_pays w) c os
-    (λ n share is. let (u, o, there, low) = given_is_wanted work_pots w c (pots_give (places_at w) c) os n share is in (u, there, tt))
+    (λ n share is. let (u, o, there, own, low) = given_is_wanted work_pots w c (pots_give (places_at w) c) os n share is in (u, there, tt))
 
 -- ---- PRODUCE
 

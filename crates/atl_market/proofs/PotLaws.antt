@@ -1,6 +1,6 @@
 -- Laws of what units get of the pots of their regions.
 use Rattle.std.proofs.Common.{◌≡◌, ◌≢◌, ℕ, ◌<◌, ◌≤◌, ◌==◌, ◌||◌, zero, suc, Bool, true, false, cond, List, [], ◌∷◌, ◌++◌, length, get_or, map, filter, sum, Option, Some, None, is_some, refl, sym, ap, subst, ◌∙◌, arith}
-use Rattle.std.specs.Prelude.{⊤, unwrap_or}
+use Rattle.std.specs.Prelude.{⊤, reverse, unwrap_or}
 use Rattle.std.specs.declared.cmp.Ordering.{Ordering}
 use Rattle.std.specs.declared.cmp.Ordering.TheVariants.{Less, Equal, Greater}
 use Rattle.std.specs.List.{AllByRecursion, flat_map, list_any, zip}
@@ -9,7 +9,7 @@ use Rattle.std.specs.Cmp.{nat_cmp_total, ranked}
 use Rattle.std.specs.FinMap.Entries.{below_all}
 use Rattle.std.specs.FinMap.{FinMap, get, insert, find, empty, entries, keys, from_entries, contains_key-keys, is_sorted, get-entries, get-empty, get-insert, get-from_entries, same_map, nat_cmp-IsAntisymmetric}
 use Rattle.std.proofs.lemmas.Bool.{and_parts, eqb-true, false≢true}
-use Rattle.std.proofs.lemmas.List.{get_or-map, length-map}
+use Rattle.std.proofs.lemmas.List.{reverse-append, get_or-map, length-map}
 use Rattle.std.proofs.lemmas.List.Sums.{fold-append}
 use Rattle.atl_tables.specs.Sums.{numbers_among}
 use Rattle.atl_tables.proofs.MadeLaws.{is_less}
@@ -26,7 +26,8 @@ use Rattle.atl_state.proofs.RegionLaws.{get-insert_same}
 use Rattle.atl_state.proofs.OrderLaws.{each_so}
 use Rattle.atl_market.specs.Asked.{region_at, regions_asked}
 use Rattle.atl_market.specs.Share.{shares}
-use Rattle.atl_market.specs.Pots.{want_of, takers_in, wants_in, shares_in, pot_shares, with_each, share_of, OnlyTakersGet, EachTakerGets, SharesEachPot, GivesEachPot, OtherRegionsDoNotCount}
+use Rattle.atl_market.specs.Pots.{want_of, takers_in, wants_in, shares_in, pot_shares, share_of, OnlyTakersGet, EachTakerGets, SharesEachPot, GivesEachPot, OtherRegionsDoNotCount}
+use Rattle.atl_market.specs.Puts.{with_each}
 use Rattle.atl_market.proofs.ShareLaws.{all_is_given, share_at_most, length-shares}
 
 abbrev pub Entries : Type 0
@@ -149,6 +150,32 @@ rise_apart (e ∷ es) rise = (none_under e.0 es rise.0, rise_apart es rise.1)
 -- entries whose numbers rise, put in turn, are a map of these entries
 pub risen_put : (es : Entries) → Rise es → with_each empty es ≡ from_entries es
 risen_put es rise = same_map nat_cmp_total nat_cmp-IsAntisymmetric _ _ (λ n. found_put es (rise_apart es rise) n ∙ sym (get-from_entries nat_cmp_total es n))
+
+-- whatever the numbers: of two entries with one number the later stands
+abbrev or_else : Option ℕ → Option ℕ → Option ℕ
+or_else None old = old
+or_else (Some s) old = Some s
+
+last_put : (m : FinMap nat_cmp ℕ) (es : Entries) (n : ℕ) → get (with_each m es) n ≡ or_else (find nat_cmp n (reverse es)) (get m n)
+last_put m [] n = refl
+last_put m (e ∷ es) n = last_put (insert m e.0 e.1) es n ∙ by_find (find nat_cmp n (reverse es)) refl ∙ sym (ap (λ fs. or_else (find nat_cmp n fs) (get m n)) (reverse-append (e ∷ []) es))
+  where
+    by_find : (o : Option ℕ) → find nat_cmp n (reverse es) ≡ o → or_else o (get (insert m e.0 e.1) n) ≡ or_else (find nat_cmp n (reverse es ++ e ∷ [])) (get m n)
+    by_find (Some s) is = ap (λ o. or_else o (get m n)) (sym (found_first n (reverse es) (e ∷ []) s is))
+    by_find None is =
+        get-insert nat_cmp_total m e.0 e.1 n ∙ by_test (is_eq (nat_cmp n e.0)) ∙ ap (λ o. or_else o (get m n)) (sym (found_later n (reverse es) (e ∷ []) is))
+      where
+        by_test : (b : Bool) → cond b (Some e.1) (get m n) ≡ or_else (cond b (Some e.1) None) (get m n)
+        by_test true = refl
+        by_test false = refl
+
+pub put_in_turn : (es : Entries) → with_each empty es ≡ from_entries (reverse es)
+put_in_turn es = same_map nat_cmp_total nat_cmp-IsAntisymmetric _ _ (λ n.
+    last_put empty es n ∙ ap (or_else (find nat_cmp n (reverse es))) (get-empty nat_cmp n) ∙ or_none (find nat_cmp n (reverse es)) ∙ sym (get-from_entries nat_cmp_total (reverse es) n))
+  where
+    or_none : (o : Option ℕ) → or_else o None ≡ o
+    or_none None = refl
+    or_none (Some s) = refl
 
 -- ---- entries that regions give, where a number gets one share at most
 

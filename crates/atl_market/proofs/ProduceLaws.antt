@@ -1,9 +1,9 @@
 -- Producing leaves a campaign well.
 use Rattle.std.proofs.Common.{◌≡◌, ◌≢◌, ◌==◌, ℕ, ◌+◌, ◌-◌, ◌*◌, ◌/◌, ◌≤◌, ◌<◌, Bool, true, false, List, [], ◌∷◌, length, Option, Some, None, refl, sym, subst, ◌∙◌, arith}
 use Rattle.std.specs.Prelude.{ℤ, IfSome, fold, min, if◌then◌else◌}
-use Rattle.std.specs.List.{AllByRecursion, flat_map, slice_get}
+use Rattle.std.specs.List.{AllByRecursion, slice_get}
 use Rattle.std.specs.Ordering.{nat_cmp}
-use Rattle.std.specs.FinMap.{FinMap, empty, entries, get}
+use Rattle.std.specs.FinMap.{FinMap, entries, get}
 use Rattle.std.proofs.lemmas.Bool.Decides.{nat_tests}
 use Rattle.std.proofs.lemmas.Option.{slice_get_within}
 use Rattle.std.proofs.Math.Nat.{mul-div-le, mul-le-mul_right, mul_comm}
@@ -13,7 +13,6 @@ use Rattle.atl_state.specs.declared.books.Entry.{Entry}
 use Rattle.atl_state.specs.declared.books.Entry.TheVariants as booked
 use Rattle.atl_state.specs.declared.books.Thing.{Thing}
 use Rattle.atl_state.specs.declared.books.Thing.TheVariants as things
-use Rattle.atl_state.specs.declared.event.EventFault.{EventFault}
 use Rattle.atl_state.specs.declared.records.Unit.{Unit}
 use Rattle.atl_state.specs.Books.{amount_in}
 use Rattle.atl_state.specs.Good.{Every, IsSteady}
@@ -23,15 +22,14 @@ use Rattle.atl_state.specs.Limits.{holding_limit, most_units}
 use Rattle.atl_state.specs.Marks.{amount_number}
 use Rattle.atl_state.specs.State.{State}
 use Rattle.atl_state.proofs.BackLaws.{Rise, entries_rise}
-use Rattle.atl_state.proofs.EveryLaws.{each-from_every, every-empty, none_some}
+use Rattle.atl_state.proofs.EveryLaws.{each-from_every, none_some}
 use Rattle.atl_state.proofs.ListLaws.{same_number}
 use Rattle.atl_instant.specs.Meaning.{HasRoom, HaveRoom, LeavesWell, Moving, both_move, most_moved, moved_times, moves_only}
 use Rattle.atl_instant.specs.declared.written.Written.{Written}
 use Rattle.atl_instant.proofs.AmountsLaws.{amount_within}
 use Rattle.atl_instant.proofs.MeaningLaws.{MovesLess, both_leave_well, less_room, room_behind, room_less, well_unchanged, well_within}
 use Rattle.atl_market.specs.Making.{CanMakeOf, CanProduce, Fits}
-use Rattle.atl_market.specs.PotPhase.{CanInTurn, fault_of, given_by, shared_out, want_at, want_by, wants_by}
-use Rattle.atl_market.specs.Pots.{with_each}
+use Rattle.atl_market.specs.PotPhase.{CanInTurn, given_by, shared_out}
 use Rattle.atl_market.specs.Produce.{produce_moves, produce_pots, produced, produced_by, produced_of, with_raw_used}
 use Rattle.atl_market.specs.Goods.{CanMake, CanUse, with_made, with_used}
 use Rattle.atl_market.specs.Unordered.{OthersAreNoWorse}
@@ -40,7 +38,7 @@ use Rattle.atl_market.proofs.MakesLaws.{makes_give}
 use Rattle.atl_market.proofs.OrderedLaws.{others_no_worse}
 use Rattle.atl_market.proofs.GoodsLaws.{made_others, made_well, no_more, used_others, used_unit, used_well}
 use Rattle.atl_market.proofs.TurnLaws.{first_room, later_room, turns_leave_well}
-use Rattle.atl_market.proofs.WantLaws.{appended_entries, every-with_each, few_given}
+use Rattle.atl_market.proofs.WantLaws.{few_given, given_is_wanted}
 use Rattle.atl_market.specs.Craft.{can_make, can_make_of, up_to_raw}
 
 -- ---- what is moved
@@ -197,31 +195,14 @@ produce_keeps_others asked w c os = others_no_worse (produce_pots asked) w (prod
 -- ---- what a unit makes it can make
 
 module _ (asked : FinMap nat_cmp ℕ) (w : Planet) (c : State) where
-  -- a unit wants what it can make
-  abbrev IsWanted : ℕ → ℕ → Type 0
-  IsWanted n want = (u : Unit) × (get c.units n ≡ Some u) × (want ≡ can_make w u.holding (get asked n))
-
-  wanted_at : (o : Written) (f : Option EventFault) (u : Option Unit) → get c.units o.unit ≡ u → AllByRecursion (λ e. IsWanted e.0 e.1) (want_at (produce_pots asked) w c o f u)
-  wanted_at o (Some f) u is = tt
-  wanted_at o None (Some u) is = ((u, is, refl), tt)
-  wanted_at o None None is = tt
-
-  all_wanted : (m : FinMap nat_cmp ℕ) (os : List Written) → Every IsWanted m → Every IsWanted (with_each m (flat_map (want_by (produce_pots asked) w c) os))
-  all_wanted m [] old = old
-  all_wanted m (o ∷ os) old =
-      subst (Every IsWanted) (sym (appended_entries m (want_by (produce_pots asked) w c o) (flat_map (want_by (produce_pots asked) w c) os)))
-      (all_wanted (with_each m (want_by (produce_pots asked) w c o)) os
-      (every-with_each IsWanted m (want_by (produce_pots asked) w c o) (wanted_at o (fault_of (produce_pots asked) w c o) (get c.units o.unit) refl) old))
-
-  -- and makes that much at most
+  -- a unit makes what it can make at most
   abbrev Makes : ℕ × ℕ → Type 0
   Makes e = (u : Unit) × (get c.units e.0 ≡ Some u) × (e.1 ≤ can_make w u.holding (get asked e.0))
 
   pub given_can : (os : List Written) → Every (λ n made. Makes (n, made)) (given_by (produce_pots asked) w c os)
   given_can os n made is =
-      let (want, wanted, low) = makes_give asked w c (wants_by (produce_pots asked) w c os) n made is in
-      let (u, there, same) = all_wanted empty os (every-empty IsWanted) n want wanted in
-      (u, there, subst (λ k. made ≤ k) same low)
+      let (u, o, there, own, low) = given_is_wanted (produce_pots asked) w c (makes_give asked w c) os n made is in
+      (u, there, subst (λ k. made ≤ can_make w u.holding (get asked k)) own low)
 
 up_to_most : (h : Held) (count : ℕ) (raw : Option ℕ) (most : ℕ) → up_to_raw h count raw most ≤ most
 up_to_most h count None most = omega arith

@@ -246,7 +246,7 @@ module _ (w : Planet) (c : State) where
 
     each_fits : Every (λ n share. CanHave (n, share)) (given_by (recruit_pots readings) w c os)
     each_fits n share is =
-        let (u, o, there, low) = given_is_wanted (recruit_pots readings) w c (pots_give (recruits_at w c) c) os n share is in
+        let (u, o, there, own, low) = given_is_wanted (recruit_pots readings) w c (pots_give (recruits_at w c) c) os n share is in
         (u, there, wanted_fits _ _ u.holding.men share (early.steady.numbers.units n u there).1.men low, wanted_payable _ u.holding.money w.rules.recruit_price _ share low)
 
     part : (all one : ℕ) → all / one ≤ all

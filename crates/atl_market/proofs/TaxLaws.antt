@@ -183,7 +183,7 @@ module _ (w : Planet) (c : State) where
 
     each_fits : Every (λ n share. HasRoomFor (n, share)) (given_by tax_pots w c os)
     each_fits n share is =
-        let (u, o, there, low) = given_is_wanted tax_pots w c (pots_give (money_at c) c) os n share is in
+        let (u, o, there, own, low) = given_is_wanted tax_pots w c (pots_give (money_at c) c) os n share is in
         (u, there, wanted_fits u.holding.money _ share (early.steady.numbers.units n u there).1.money low)
 
     all_enough : HaveEnough pots c shares

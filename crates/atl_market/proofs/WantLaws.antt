@@ -20,8 +20,10 @@ use Rattle.atl_state.proofs.BackLaws.{Rise, entries_rise}
 use Rattle.atl_state.proofs.EveryLaws.{every-empty, every-insert}
 use Rattle.atl_instant.specs.declared.written.Written.{Written}
 use Rattle.atl_instant.proofs.ListedLaws.{find_is}
+use Rattle.atl_market.proofs.PotLaws.{put_in_turn}
 use Rattle.atl_market.specs.PotPhase.{PotMeaning, fault_of, given_by, want_at, want_by, wants_by}
-use Rattle.atl_market.specs.Pots.{AreWants, with_each}
+use Rattle.atl_market.specs.Pots.{AreWants}
+use Rattle.atl_market.specs.Puts.{with_each}
 
 -- who gets something wants that much at least
 abbrev pub GivesToWants : PotMeaning → Planet → State → Type 0
@@ -54,13 +56,13 @@ rise_apart (e ∷ es) h = (others e.0 es h.0, rise_apart es h.1)
     others k (f ∷ es) h = (differs k f.0 h.0, others k es h.1)
 
 module _ (p : PotMeaning) (w : Planet) (c : State) where
-  -- a unit wants so much by some order
+  -- a unit wants so much by some order for it
   abbrev pub IsWanted : ℕ → ℕ → Type 0
-  IsWanted n want = (u : Unit) × (o : Written) × (get c.units n ≡ Some u) × (want ≡ p.want w u o)
+  IsWanted n want = (u : Unit) × (o : Written) × (get c.units n ≡ Some u) × (o.unit ≡ n) × (want ≡ p.want w u o)
 
   wanted_at : (o : Written) (f : Option EventFault) (u : Option Unit) → get c.units o.unit ≡ u → AllByRecursion (λ e. IsWanted e.0 e.1) (want_at p w c o f u)
   wanted_at o (Some f) u is = tt
-  wanted_at o None (Some u) is = ((u, o, is, refl), tt)
+  wanted_at o None (Some u) is = ((u, o, is, refl, refl), tt)
   wanted_at o None None is = tt
 
   all_wanted : (m : FinMap nat_cmp ℕ) (os : List Written) → Every IsWanted m → Every IsWanted (with_each m (flat_map (want_by p w c) os))
@@ -70,15 +72,15 @@ module _ (p : PotMeaning) (w : Planet) (c : State) where
       (all_wanted (with_each m (want_by p w c o)) os (every-with_each IsWanted m (want_by p w c o) (wanted_at o (fault_of p w c o) (get c.units o.unit) refl) old))
 
   pub wants_are_wanted : (os : List Written) → Every IsWanted (wants_by p w c os)
-  wants_are_wanted os = all_wanted empty os (every-empty IsWanted)
+  wants_are_wanted os = subst (Every IsWanted) (put_in_turn (flat_map (want_by p w c) os)) (all_wanted empty os (every-empty IsWanted))
 
   module _ (gives : GivesToWants p w c) where
     -- a unit gets at most what it wants by some order
-    pub given_is_wanted : (os : List Written) → Every (λ n share. (u : Unit) × (o : Written) × (get c.units n ≡ Some u) × (share ≤ p.want w u o)) (given_by p w c os)
+    pub given_is_wanted : (os : List Written) → Every (λ n share. (u : Unit) × (o : Written) × (get c.units n ≡ Some u) × (o.unit ≡ n) × (share ≤ p.want w u o)) (given_by p w c os)
     given_is_wanted os n share is =
         let (want, wanted, low) = gives (wants_by p w c os) n share is in
-        let (u, o, there, same) = wants_are_wanted os n want wanted in
-        (u, o, there, subst (λ k. share ≤ k) same low)
+        let (u, o, there, own, same) = wants_are_wanted os n want wanted in
+        (u, o, there, own, subst (λ k. share ≤ k) same low)
 
     -- no more units get something than there are
     in_units : (os : List Written) (n : ℕ) → is_some (get (given_by p w c os) n) ≡ true → is_some (get c.units n) ≡ true
@@ -86,7 +88,7 @@ module _ (p : PotMeaning) (w : Planet) (c : State) where
       where
         by_share : (o : Option ℕ) → get (given_by p w c os) n ≡ o → is_some o ≡ true → is_some (get c.units n) ≡ true
         by_share None is h = absurd (false≢true h)
-        by_share (Some share) is h = let (u, o, there, low) = given_is_wanted os n share is in ap is_some there
+        by_share (Some share) is h = let (u, o, there, own, low) = given_is_wanted os n share is in ap is_some there
 
     pub few_given : (os : List Written) → length (entries (given_by p w c os)) ≤ len c.units
     few_given os =

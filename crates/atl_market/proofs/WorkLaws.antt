@@ -175,7 +175,7 @@ module _ (w : Planet) where
 
     each_fits : Every (λ n places. HasRoomFor w c (n, places)) (given_by work_pots w c os)
     each_fits n places is =
-        let (u, o, there, low) = given_is_wanted work_pots w c (pots_give (places_at w) c) os n places is in
+        let (u, o, there, own, low) = given_is_wanted work_pots w c (pots_give (places_at w) c) os n places is in
         (u, there, wanted_fits u (terrain_of w u.region) places (steady.numbers.units n u there).1.money low)
 
     few : length shares ≤ most_units

@@ -29,7 +29,7 @@ use Rattle.atl_instant.specs.declared.written.Written.{Written}
 use Rattle.atl_instant.proofs.ListedLaws.{entries-sorted, keyed_order}
 use Rattle.atl_instant.proofs.MappedLaws.{no_entries}
 use Rattle.atl_instant.specs.Steps.{is_of_faction}
-use Rattle.atl_market.specs.Pots.{with_each}
+use Rattle.atl_market.specs.Puts.{with_each}
 use Rattle.atl_market.specs.Work.{all_work, idle_at, idle_work, is_work, long_orders, own_line, own_lines, work_key, work_orders}
 use Rattle.atl_market.proofs.PotLaws.{some_new, still_some}
 use Rattle.atl_market.proofs.WantLaws.{appended_entries}

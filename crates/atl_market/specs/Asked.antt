@@ -5,7 +5,7 @@ use Rattle.std.specs.Ordering.{nat_cmp}
 use Rattle.std.specs.FinMap.{FinMap, empty, entries, get}
 use Rattle.atl_state.specs.State.{State}
 use Rattle.atl_state.specs.declared.records.Unit.{Unit}
-use Rattle.atl_market.specs.Pots.{with_each}
+use Rattle.atl_market.specs.Puts.{with_each}
 
 -- where a unit stands
 abbrev pub region_at : ℕ → Option Unit → List (ℕ × ℕ)

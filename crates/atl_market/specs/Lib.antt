@@ -1,5 +1,6 @@
 pub mod Share
 pub mod Pots
+pub mod Puts
 pub mod Asked
 pub mod ItemPots
 pub mod ItemGroups

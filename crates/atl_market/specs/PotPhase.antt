@@ -1,8 +1,8 @@
 -- A phase in which the units of each region share a pot. Who takes part and what there is to share is read from the campaign as the phase began, and all pots and all units change at once. See docs/RULES.md, "Pots".
-use Rattle.std.specs.Prelude.{⊤, ℕ, ◌==◌, ◌++◌, List, [], ◌∷◌, map, Option, Some, None, unwrap_or, if◌then◌else◌}
+use Rattle.std.specs.Prelude.{⊤, ℕ, ◌==◌, ◌++◌, List, [], ◌∷◌, map, reverse, Option, Some, None, unwrap_or, if◌then◌else◌}
 use Rattle.std.specs.List.{flat_map, fold}
 use Rattle.std.specs.Ordering.{nat_cmp}
-use Rattle.std.specs.FinMap.{FinMap, empty, entries, get}
+use Rattle.std.specs.FinMap.{FinMap, entries, from_entries, get}
 use Rattle.atl_tables.specs.Planet.{Planet}
 use Rattle.atl_state.specs.declared.event.Event.{Event}
 use Rattle.atl_state.specs.declared.event.EventFault.{EventFault}
@@ -16,7 +16,6 @@ use Rattle.atl_state.specs.State.{State}
 use Rattle.atl_instant.specs.Course.{Course}
 use Rattle.atl_instant.specs.declared.written.Written.{Written}
 use Rattle.atl_instant.specs.Meaning.{Meaning}
-use Rattle.atl_market.specs.Pots.{with_each}
 
 pub record PotMeaning : Type 0 where
   -- why a unit doesn't carry out an order of its own faction
@@ -50,9 +49,9 @@ module _ (p : PotMeaning) (w : Planet) (c : State) where
   abbrev pub want_by : Written → List (ℕ × ℕ)
   want_by o = want_at o (fault_of o) (get c.units o.unit)
 
-  -- what the units want by their orders
+  -- By unit, what it wants by its order without fault: by the last, if it had more than one.
   abbrev pub wants_by : List Written → FinMap nat_cmp ℕ
-  wants_by os = with_each empty (flat_map want_by os)
+  wants_by os = from_entries (reverse (flat_map want_by os))
 
   -- what they get
   abbrev pub given_by : List Written → FinMap nat_cmp ℕ

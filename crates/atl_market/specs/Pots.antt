@@ -1,8 +1,8 @@
 -- What units get of the pots of their regions.
 use Rattle.std.specs.Prelude.{◌≡◌, ◌≤◌, ℕ, List, map, filter, sum, min, is_some, unwrap_or, Option, Some}
-use Rattle.std.specs.List.{flat_map, fold, zip}
+use Rattle.std.specs.List.{flat_map, zip}
 use Rattle.std.specs.Ordering.{nat_cmp}
-use Rattle.std.specs.FinMap.{FinMap, get, insert, keys, from_entries}
+use Rattle.std.specs.FinMap.{FinMap, get, keys, from_entries}
 use Rattle.atl_tables.specs.Limits.{most_amount}
 use Rattle.atl_state.specs.Good.{Every, IsThere}
 use Rattle.atl_state.specs.State.{State, numbers_in}
@@ -36,10 +36,6 @@ shares_in pot_of wants units region = zip (takers_in wants units region) (shares
 -- by unit, what it gets of the pot of its region
 unfoldable pub pot_shares : (ℕ → ℕ) → FinMap nat_cmp ℕ → State → FinMap nat_cmp ℕ
 pot_shares pot_of wants c = from_entries (flat_map (shares_in pot_of wants c.units) (keys c.regions))
-
--- a map with these entries put into it in turn
-abbrev pub with_each : FinMap nat_cmp ℕ → List (ℕ × ℕ) → FinMap nat_cmp ℕ
-with_each m entries = fold (λ so_far entry. insert so_far entry.0 entry.1) m entries
 
 -- ---- laws
 

@@ -1,8 +1,8 @@
 -- PRODUCE: units make items, of raw items (specs/Craft) or of what the terrain of their region gives (specs/Outputs). See docs/RULES.md, "Producing".
-use Rattle.std.specs.Prelude.{◌*◌, ℕ, Bool, true, false, List, [], ◌∷◌, map, Option, Some, None, if◌then◌else◌}
+use Rattle.std.specs.Prelude.{◌*◌, ℕ, Bool, true, false, List, [], ◌∷◌, map, reverse, Option, Some, None, if◌then◌else◌}
 use Rattle.std.specs.List.{flat_map, slice_get}
 use Rattle.std.specs.Ordering.{nat_cmp}
-use Rattle.std.specs.FinMap.{FinMap, empty, get, values}
+use Rattle.std.specs.FinMap.{FinMap, from_entries, get, values}
 use Rattle.atl_tables.specs.Planet.{Planet}
 use Rattle.atl_tables.specs.declared.world.Item.{Item}
 use Rattle.atl_orders.specs.declared.order.Order.TheVariants as orders
@@ -19,7 +19,6 @@ use Rattle.atl_instant.specs.PhaseOrders.{orders_of, written}
 use Rattle.atl_instant.specs.declared.written.Arrangement.TheVariants.{ByUnit}
 use Rattle.atl_instant.specs.declared.written.Written.{Written}
 use Rattle.atl_instant.specs.Steps.{is_of_faction}
-use Rattle.atl_market.specs.Pots.{with_each}
 use Rattle.atl_market.specs.PotPhase.{PotMeaning, pots_meaning}
 use Rattle.atl_market.specs.Unordered.{OthersAreNoWorse}
 use Rattle.atl_market.specs.Goods.{with_made, with_used}
@@ -48,9 +47,9 @@ item_entry n (Some i) = (n, i) ∷ []
 abbrev pub asked_by : FinMap nat_cmp Reading → State → Written → List (ℕ × ℕ)
 asked_by readings c o = if is_of_faction o.faction (get c.units o.unit) then item_entry o.unit (item_in (order_at readings o.faction o.place)) else []
 
--- by unit, the item that its own faction tells it to make
+-- By unit, the item that its own faction tells it to make: by the last order, if there were more than one.
 abbrev pub items_asked : FinMap nat_cmp Reading → State → List Written → FinMap nat_cmp ℕ
-items_asked readings c os = with_each empty (flat_map (asked_by readings c) os)
+items_asked readings c os = from_entries (reverse (flat_map (asked_by readings c) os))
 
 -- ---- what changes
 

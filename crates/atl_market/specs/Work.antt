@@ -26,8 +26,9 @@ use Rattle.atl_instant.specs.declared.written.Written.{Written}
 use Rattle.atl_instant.specs.Steps.{is_of_faction}
 use Rattle.atl_instant.specs.Outcomes.{first_fault}
 use Rattle.atl_market.specs.PotPhase.{PotMeaning, pots_meaning}
-use Rattle.atl_market.specs.Pots.{pot_shares, with_each}
+use Rattle.atl_market.specs.Pots.{pot_shares}
 use Rattle.atl_instant.specs.Terms.{PhaseTerms}
+use Rattle.atl_market.specs.Puts.{with_each}
 
 -- ---- who works
 

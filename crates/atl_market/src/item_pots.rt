@@ -6,7 +6,8 @@ ghost use Rattle.atl_tables.specs.Limits.{most_amount};
 ghost use Rattle.atl_market.specs.Asked.{regions_asked};
 ghost use Rattle.atl_market.specs.ItemGroups.{item_shares_in, region_shares, with_want};
 ghost use Rattle.atl_market.specs.ItemPots.{item_share};
-ghost use Rattle.atl_market.specs.Pots.{AreWants, with_each};
+ghost use Rattle.atl_market.specs.Pots.{AreWants};
+ghost use Rattle.atl_market.specs.Puts.{with_each};
 
 use crate::pots::{regions_asked, share_pot};
 use atl_state::Campaign;

@@ -2,7 +2,8 @@
 ghost use Rattle.std.specs.Prelude.{⊤, ℕ, ◌≡◌, map, IfOk};
 ghost use Rattle.std.specs.FinMap as finmap;
 ghost use Rattle.atl_market.specs.Outputs.{gathered, made_by, makes, output_at, output_share};
-ghost use Rattle.atl_market.specs.Pots.{AreWants, with_each};
+ghost use Rattle.atl_market.specs.Pots.{AreWants};
+ghost use Rattle.atl_market.specs.Puts.{with_each};
 
 use crate::item_pots::{ItemPots, item_shares};
 use crate::making::item_of;

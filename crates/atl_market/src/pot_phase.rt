@@ -6,7 +6,8 @@ ghost use Rattle.atl_tables.specs.Planet.{Planet};
 ghost use Rattle.atl_state.specs.Covers.{MarksChanges};
 ghost use Rattle.atl_state.specs.State.{State};
 ghost use Rattle.atl_market.specs.PotPhase.{CanInTurn, PotMeaning, event_of, events_by, fault_of, given_by, shared_out, want_by, wants_by};
-ghost use Rattle.atl_market.specs.Pots.{AreWants, with_each};
+ghost use Rattle.atl_market.specs.Pots.{AreWants};
+ghost use Rattle.atl_market.specs.Puts.{with_each};
 
 use atl_instant::{Month, Written};
 use atl_state::{Campaign, Event, EventFault, Outcome, Unit};

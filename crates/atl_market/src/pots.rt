@@ -4,7 +4,8 @@ ghost use Rattle.std.specs.List.{zip};
 ghost use Rattle.atl_tables.specs.Limits.{most_amount};
 ghost use Rattle.atl_market.specs.Asked.{regions_asked};
 ghost use Rattle.atl_market.specs.Share.{shares};
-ghost use Rattle.atl_market.specs.Pots.{AreWants, EachTakerGets, GivesEachPot, OnlyTakersGet, OtherRegionsDoNotCount, SharesEachPot, pot_shares, shares_in, takers_among, want_of, with_each};
+ghost use Rattle.atl_market.specs.Pots.{AreWants, EachTakerGets, GivesEachPot, OnlyTakersGet, OtherRegionsDoNotCount, SharesEachPot, pot_shares, shares_in, takers_among, want_of};
+ghost use Rattle.atl_market.specs.Puts.{with_each};
 
 use crate::shares::share;
 use atl_state::Campaign;

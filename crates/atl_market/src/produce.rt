@@ -5,7 +5,7 @@ ghost use Rattle.atl_state.specs.Good.{IsSteady};
 ghost use Rattle.atl_instant.specs.Course.{order_at};
 ghost use Rattle.atl_instant.specs.Meaning.{most_moved};
 ghost use Rattle.atl_market.specs.Making.{CanProduce};
-ghost use Rattle.atl_market.specs.Pots.{with_each};
+ghost use Rattle.atl_market.specs.Puts.{with_each};
 ghost use Rattle.atl_market.specs.Produce.{asked_by, is_produce, item_in, items_asked, produce_keeps, produce_meaning, produce_moves, produce_pots, produced};
 ghost use Rattle.atl_market.specs.Paid.{ProducesAtOnce};
 

@@ -2,7 +2,7 @@ use Rattle.std.proofs.Common.{◌≡◌, map}
 use Rattle.std.specs.List.{flat_map}
 use Rattle.std.specs.FinMap.{empty, keys}
 use Rattle.atl_market.specs.ItemGroups.{region_shares}
-use Rattle.atl_market.specs.Pots.{with_each}
+use Rattle.atl_market.specs.Puts.{with_each}
 use Rattle.atl_market.proofs.item_pots.item_shares.Given as goal
 
 abbrev pub invariant-loop-region : goal.invariant-loop-region

@@ -2,7 +2,7 @@ use Rattle.std.proofs.Common.{◌≡◌}
 use Rattle.std.specs.List.{flat_map}
 use Rattle.std.specs.FinMap.{entries}
 use Rattle.atl_market.specs.ItemGroups.{item_shares_in}
-use Rattle.atl_market.specs.Pots.{with_each}
+use Rattle.atl_market.specs.Puts.{with_each}
 use Rattle.atl_market.proofs.item_pots.share_items.Given as goal
 
 abbrev pub invariant-loop-item : goal.invariant-loop-item

@@ -1,7 +1,7 @@
 use Rattle.std.proofs.Common.{◌≡◌, false, is_some, sym, ap, rules}
 use Rattle.std.specs.FinMap.{get}
 use Rattle.atl_market.specs.Asked.{regions_asked}
-use Rattle.atl_market.specs.Pots.{with_each}
+use Rattle.atl_market.specs.Puts.{with_each}
 use Rattle.atl_market.proofs.ItemPotLaws.{nothing_put}
 use Rattle.atl_market.proofs.PotLaws.{none_asked}
 use Rattle.atl_market.proofs.item_pots.share_region.Goals as goal

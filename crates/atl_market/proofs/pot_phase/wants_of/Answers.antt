@@ -1,13 +1,14 @@
-use Rattle.std.proofs.Common.{◌≤◌, ℕ, ap}
+use Rattle.std.proofs.Common.{◌≤◌, ◌∙◌, ℕ, ap}
 use Rattle.std.specs.List.{flat_map}
 use Rattle.atl_tables.specs.Limits.{most_amount}
 use Rattle.atl_state.proofs.EveryLaws.{every-empty}
 use Rattle.atl_market.specs.PotPhase.{want_by}
-use Rattle.atl_market.specs.Pots.{with_each}
+use Rattle.atl_market.specs.Puts.{with_each}
+use Rattle.atl_market.proofs.PotLaws.{put_in_turn}
 use Rattle.atl_market.proofs.pot_phase.wants_of.Goals as goal
 
 pub loop-order-init : goal.loop-order-init
 loop-order-init g c = record {
-  value = ap (λ m. with_each m (flat_map (want_by (g.P.PotPhase.meaning c.args.phase.now) c.args.world.now c.args.campaign.now.what) c.args.orders.now)) c.new-wants.ensures;
+  value = ap (λ m. with_each m (flat_map (want_by (g.P.PotPhase.meaning c.args.phase.now) c.args.world.now c.args.campaign.now.what) c.args.orders.now)) c.new-wants.ensures ∙ put_in_turn (flat_map (want_by (g.P.PotPhase.meaning c.args.phase.now) c.args.world.now c.args.campaign.now.what) c.args.orders.now);
   bound = rw c.new-wants.ensures (every-empty (λ (number want : ℕ). want ≤ most_amount));
 }

@@ -1,7 +1,8 @@
 use Rattle.std.proofs.Common.{◌≡◌, drop}
 use Rattle.std.specs.List.{flat_map}
 use Rattle.atl_market.specs.PotPhase.{want_by, wants_by}
-use Rattle.atl_market.specs.Pots.{AreWants, with_each}
+use Rattle.atl_market.specs.Pots.{AreWants}
+use Rattle.atl_market.specs.Puts.{with_each}
 use Rattle.atl_market.proofs.pot_phase.wants_of.Given as goal
 
 abbrev pub invariant-loop-order : goal.invariant-loop-order

@@ -1,7 +1,8 @@
 use Rattle.std.proofs.Common.{◌≡◌, map}
 use Rattle.std.specs.List.{flat_map}
 use Rattle.std.specs.FinMap.{empty, keys}
-use Rattle.atl_market.specs.Pots.{shares_in, with_each}
+use Rattle.atl_market.specs.Pots.{shares_in}
+use Rattle.atl_market.specs.Puts.{with_each}
 use Rattle.atl_market.proofs.pots.pot_shares.Given as goal
 
 abbrev pub invariant-loop-region : goal.invariant-loop-region

@@ -2,7 +2,7 @@ use Rattle.std.proofs.Common.{◌≡◌}
 use Rattle.std.specs.List.{flat_map}
 use Rattle.std.specs.FinMap.{get}
 use Rattle.atl_market.specs.Asked.{region_at, regions_asked}
-use Rattle.atl_market.specs.Pots.{with_each}
+use Rattle.atl_market.specs.Puts.{with_each}
 use Rattle.atl_market.proofs.pots.regions_asked.Given as goal
 
 abbrev pub invariant-loop-number : goal.invariant-loop-number

@@ -3,7 +3,8 @@ use Rattle.std.specs.List.{zip}
 use Rattle.std.specs.FinMap.{get}
 use Rattle.atl_market.proofs.PotLaws.{none_asked}
 use Rattle.atl_market.specs.Asked.{regions_asked}
-use Rattle.atl_market.specs.Pots.{takers_in, want_of, with_each}
+use Rattle.atl_market.specs.Pots.{takers_in, want_of}
+use Rattle.atl_market.specs.Puts.{with_each}
 use Rattle.atl_market.specs.Share.{shares}
 use Rattle.atl_market.proofs.pots.share_region.Goals as goal
 
