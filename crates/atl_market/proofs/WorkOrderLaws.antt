@@ -1,5 +1,5 @@
 -- The orders of WORK: no two have one key, so those that are collected and sorted are what the map lists.
-use Rattle.std.proofs.Common.{◌≡◌, ℕ, ◌==◌, ◌<◌, ◌&&◌, not, Bool, true, false, cond, List, [], ◌∷◌, map, filter, get_or, is_some, T, Some, refl, sym, ap, subst, ◌∙◌, arith, IsPermutation, flat_map}
+use Rattle.std.proofs.Common.{◌≡◌, ℕ, ◌≢◌, ◌==◌, ◌<◌, ◌&&◌, ◌||◌, ◌++◌, not, Bool, true, false, cond, List, [], ◌∷◌, map, filter, get_or, is_some, T, Some, refl, sym, ap, subst, ◌∙◌, inl, inr, arith, IsPermutation, flat_map}
 use Rattle.std.specs.Prelude.{nat_lt}
 use Rattle.std.specs.declared.cmp.Ordering.{Ordering}
 use Rattle.std.specs.declared.cmp.Ordering.TheVariants.{Less, Equal, Greater}
@@ -9,28 +9,32 @@ use Rattle.std.specs.Cmp.Lexicographic.{slice_cmp, nat_list_cmp_total}
 use Rattle.std.specs.Map.{keys_of}
 use Rattle.std.specs.List.{AllByRecursion, IsDistinct}
 use Rattle.std.specs.List.Sorted.{IsSortedByKey}
-use Rattle.std.specs.FinMap.{FinMap, IsAntisymmetric, empty, entries, entries-insert, entries_sorted, from_entries, get, is_sorted, put, values, slice_cmp-IsAntisymmetric, nat_cmp-IsAntisymmetric}
+use Rattle.std.specs.FinMap.{FinMap, IsAntisymmetric, empty, entries, entries-insert, entries_sorted, from_entries, get, get-empty, insert, is_sorted, put, values, slice_cmp-IsAntisymmetric, nat_cmp-IsAntisymmetric}
 use Rattle.std.specs.FinMap.Entries.{below_all, by_order}
-use Rattle.std.proofs.lemmas.Bool.{and_parts, false_from_ne_true, false≢true, not-true}
+use Rattle.std.proofs.lemmas.Bool.{and_parts, cases_eq, false_from_ne_true, false≢true, not-true}
 use Rattle.std.proofs.lemmas.Bool.Decides.{nat_tests}
 use Rattle.std.proofs.lemmas.List.Sorted.{IsPermutation-map}
 use Rattle.atl_state.specs.Deciding.{EachOf}
 use Rattle.atl_state.specs.State.{State}
 use Rattle.atl_state.specs.declared.records.Unit.{Unit}
 use Rattle.atl_state.proofs.BackLaws.{append_apart, append_each, entries_rise, filter_apart, filter_each, flat_apart}
-use Rattle.atl_state.proofs.EveryLaws.{each-from_every}
+use Rattle.atl_state.proofs.EveryLaws.{each-from_every, get-insert_other}
+use Rattle.atl_state.proofs.ListLaws.{other_number, same_number}
 use Rattle.atl_state.proofs.KeyLaws.{IsDistinct-map}
 use Rattle.atl_state.proofs.OrderLaws.{each_so}
 use Rattle.atl_orders.specs.declared.verb.Verb.TheVariants as verbs
+use Rattle.atl_orders.specs.Orders.{verb_of_order}
 use Rattle.atl_instant.specs.Course.{Course}
-use Rattle.atl_instant.specs.PhaseOrders.{is_month_long, key_of, orders_of, written}
+use Rattle.atl_instant.specs.PhaseOrders.{Task, is_month_long, key_of, orders_of, written}
 use Rattle.atl_instant.specs.declared.written.Arrangement.TheVariants.{ByUnit}
 use Rattle.atl_instant.specs.declared.written.Written.{Written}
 use Rattle.atl_instant.proofs.ListedLaws.{entries-sorted, keyed_order}
-use Rattle.atl_instant.proofs.MappedLaws.{no_entries}
+use Rattle.atl_instant.proofs.MappedLaws.{entries-with_value, no_entries, with_value}
 use Rattle.atl_instant.specs.Steps.{is_of_faction}
 use Rattle.atl_market.specs.Puts.{with_each}
-use Rattle.atl_market.specs.Work.{all_work, idle_at, idle_work, is_work, long_orders, own_line, own_lines, work_key, work_orders}
+use Rattle.atl_market.specs.Idle.{all_idle, all_written, idle_written, own_unit, own_writers, work_key}
+use Rattle.atl_market.specs.Unordered.{is_ordered}
+use Rattle.atl_market.specs.Work.{all_work, idle_at, idle_task, idle_work, is_work, long_tasks, work_orders}
 use Rattle.atl_market.proofs.PotLaws.{some_new, still_some}
 use Rattle.atl_market.proofs.WantLaws.{appended_entries}
 
@@ -88,7 +92,7 @@ keys_tie a b h = slice_cmp-IsAntisymmetric nat_cmp-IsAntisymmetric (work_key a) 
 apart_by : (a b : Written) → (a.unit ≡ b.unit → a.faction ≡ b.faction → ⊥) → same_work a b ≡ false
 apart_by a b differ = false_from_ne_true (same_work a b) (λ h. let e = keys_tie a b h in differ (ap (λ k. get_or k 0 0) e) (ap (λ k. get_or k 2 0) e))
 
-long_apart : (m : Course) → IsDistinct same_work (long_orders m)
+long_apart : (m : Course) → IsDistinct same_work (map written (long_tasks m))
 long_apart m =
     let ts = values (orders_of is_month_long ByUnit m.aliases m.readings) in
     IsDistinct-map written same_work ts (values_apart (slice_cmp nat_cmp) (slice_cmp-IsAntisymmetric nat_cmp-IsAntisymmetric) (key_of ByUnit) nat_list_cmp_total _)
@@ -97,53 +101,53 @@ long_apart m =
 
 module _ (c : State) where
   abbrev IsListed : FinMap nat_cmp ℕ → Written → Type 0
-  IsListed lines o = is_of_faction o.faction (get c.units o.unit) ≡ true → is_some (get lines o.unit) ≡ true
+  IsListed writers o = is_of_faction o.faction (get c.units o.unit) ≡ true → is_some (get writers o.unit) ≡ true
 
-  own_is_listed : (m : FinMap nat_cmp ℕ) (os : List Written) → AllByRecursion (IsListed (with_each m (flat_map (own_line c) os))) os
+  own_is_listed : (m : FinMap nat_cmp ℕ) (os : List Written) → AllByRecursion (IsListed (with_each m (flat_map (own_unit c) os))) os
   own_is_listed m [] = tt
   own_is_listed m (o ∷ os) =
-      let rest = flat_map (own_line c) os in
-      let both = appended_entries m (own_line c o) rest in (
-        (λ own. ap (λ lines. is_some (get lines o.unit)) both ∙ still_some (with_each m (own_line c o)) rest o.unit (ap (λ b. is_some (get (with_each m (cond b ((o.unit, o.line) ∷ []) [])) o.unit)) own ∙ some_new m o.unit o.line)),
-        subst (λ lines. AllByRecursion (IsListed lines) os) (sym both) (own_is_listed (with_each m (own_line c o)) os),
+      let rest = flat_map (own_unit c) os in
+      let both = appended_entries m (own_unit c o) rest in (
+        (λ own. ap (λ writers. is_some (get writers o.unit)) both ∙ still_some (with_each m (own_unit c o)) rest o.unit (ap (λ b. is_some (get (with_each m (cond b ((o.unit, o.faction) ∷ []) [])) o.unit)) own ∙ some_new m o.unit o.faction)),
+        subst (λ writers. AllByRecursion (IsListed writers) os) (sym both) (own_is_listed (with_each m (own_unit c o)) os),
       )
 
   -- ---- the work of units without an order
 
   module _ (os : List Written) where
-    abbrev lines : FinMap nat_cmp ℕ
-    lines = own_lines c os
+    abbrev writers : FinMap nat_cmp ℕ
+    writers = own_writers c os
 
     pub record IsIdle (o : Written) : Type 0 where
       pub unit : Unit
       pub there : get c.units o.unit ≡ Some unit
       pub own : o.faction ≡ unit.faction
-      pub unordered : is_some (get lines o.unit) ≡ false
+      pub unordered : is_some (get writers o.unit) ≡ false
 
     abbrev idle_one : ℕ → Unit → Written
     idle_one n u = record { unit = n; line = 0; faction = u.faction; verb = verbs.Work; place = 0 }
 
-    idle_if : (n : ℕ) (u : Unit) (b : Bool) → (nat_lt 0 u.holding.men && not (is_some (get lines n))) ≡ b → get c.units n ≡ Some u → AllByRecursion IsIdle (cond b (idle_one n u ∷ []) [])
+    idle_if : (n : ℕ) (u : Unit) (b : Bool) → (nat_lt 0 u.holding.men && not (is_some (get writers n))) ≡ b → get c.units n ≡ Some u → AllByRecursion IsIdle (cond b (idle_one n u ∷ []) [])
     idle_if n u true is there = (record { unit = u; there = there; own = refl; unordered = not-true _ (and_parts _ _ is).1 }, tt)
     idle_if n u false is there = tt
 
-    idle_each : (es : List (ℕ × Unit)) → EachOf (λ n u. get c.units n ≡ Some u) es → AllByRecursion IsIdle (flat_map (idle_at lines) es)
+    idle_each : (es : List (ℕ × Unit)) → EachOf (λ n u. get c.units n ≡ Some u) es → AllByRecursion IsIdle (flat_map (idle_written writers) es)
     idle_each [] h = tt
-    idle_each ((n, u) ∷ es) h = append_each IsIdle (idle_at lines (n, u)) (flat_map (idle_at lines) es) (idle_if n u _ refl h.0) (idle_each es h.1)
+    idle_each ((n, u) ∷ es) h = append_each IsIdle (idle_written writers (n, u)) (flat_map (idle_written writers) es) (idle_if n u _ refl h.0) (idle_each es h.1)
 
-    all_idle : AllByRecursion IsIdle (idle_work c os)
-    all_idle = idle_each (entries c.units) (each-from_every (λ n u. get c.units n ≡ Some u) c.units (λ n u is. is))
+    each_idle : AllByRecursion IsIdle (all_idle c os)
+    each_idle = idle_each (entries c.units) (each-from_every (λ n u. get c.units n ≡ Some u) c.units (λ n u is. is))
 
-    of_unit : (e : ℕ × Unit) → AllByRecursion (λ o. o.unit ≡ e.0) (idle_at lines e)
-    of_unit (n, u) = elim (nat_lt 0 u.holding.men && not (is_some (get lines n))) as (λ b. AllByRecursion (λ (o : Written). o.unit ≡ n) (cond b (idle_one n u ∷ []) [])) [ true ↦ (refl, tt) | false ↦ tt ]
+    of_unit : (e : ℕ × Unit) → AllByRecursion (λ o. o.unit ≡ e.0) (idle_written writers e)
+    of_unit (n, u) = elim (nat_lt 0 u.holding.men && not (is_some (get writers n))) as (λ b. AllByRecursion (λ (o : Written). o.unit ≡ n) (cond b (idle_one n u ∷ []) [])) [ true ↦ (refl, tt) | false ↦ tt ]
 
-    just_one : (e : ℕ × Unit) → IsDistinct same_work (idle_at lines e)
+    just_one : (e : ℕ × Unit) → IsDistinct same_work (idle_written writers e)
     unfolding IsDistinct
-    just_one (n, u) = elim (nat_lt 0 u.holding.men && not (is_some (get lines n))) as (λ b. IsDistinct same_work (cond b (idle_one n u ∷ []) [])) [ true ↦ (tt, tt) | false ↦ tt ]
+    just_one (n, u) = elim (nat_lt 0 u.holding.men && not (is_some (get writers n))) as (λ b. IsDistinct same_work (cond b (idle_one n u ∷ []) [])) [ true ↦ (tt, tt) | false ↦ tt ]
 
-    idle_apart : IsDistinct same_work (idle_work c os)
+    idle_apart : IsDistinct same_work (all_idle c os)
     idle_apart =
-        flat_apart same_work (idle_at lines) (λ (e f : ℕ × Unit). e.0 < f.0) (λ e o. o.unit ≡ e.0)
+        flat_apart same_work (idle_written writers) (λ (e f : ℕ × Unit). e.0 < f.0) (λ e o. o.unit ≡ e.0)
         (λ e f a b low mine other. apart_by a b (λ same _. absurd (omega (arith, low, mine, other, same)))) of_unit just_one (entries c.units) (entries_rise c.units)
 
     -- ---- and the written ones
@@ -151,19 +155,19 @@ module _ (c : State) where
     same_faction : (a b : ℕ) → a ≡ b → (a == b) ≡ true
     same_faction a b e = grind (arith, nat_tests)
 
-    written_idle : (o i : Written) → IsListed lines o → IsIdle i → same_work o i ≡ false
+    written_idle : (o i : Written) → IsListed writers o → IsIdle i → same_work o i ≡ false
     written_idle o i listed idle =
         apart_by o i (λ unit faction.
         let there : get c.units o.unit ≡ Some idle.unit = ap (get c.units) unit ∙ idle.there in
         let own : is_of_faction o.faction (get c.units o.unit) ≡ true = ap (is_of_faction o.faction) there ∙ same_faction idle.unit.faction o.faction (sym idle.own ∙ sym faction) in
-        false≢true (sym (ap (λ n. is_some (get lines n)) unit ∙ idle.unordered) ∙ listed own))
+        false≢true (sym (ap (λ n. is_some (get writers n)) unit ∙ idle.unordered) ∙ listed own))
 
-    work_apart : IsDistinct same_work os → IsDistinct same_work (all_work c os)
+    work_apart : IsDistinct same_work os → IsDistinct same_work (all_written c os)
     work_apart apart =
         let chosen = filter (λ (o : Written). is_work o.verb) os in
-        append_apart same_work chosen (idle_work c os) (filter_apart same_work (λ o. is_work o.verb) os apart) idle_apart
-        (each_so (IsListed lines) (λ o. AllByRecursion (λ i. same_work o i ≡ false) (idle_work c os)) (λ o listed. each_so IsIdle (λ i. same_work o i ≡ false) (λ i idle. written_idle o i listed idle) (idle_work c os) all_idle) chosen
-        (filter_each (IsListed lines) (λ o. is_work o.verb) os (own_is_listed empty os)))
+        append_apart same_work chosen (all_idle c os) (filter_apart same_work (λ o. is_work o.verb) os apart) idle_apart
+        (each_so (IsListed writers) (λ o. AllByRecursion (λ i. same_work o i ≡ false) (all_idle c os)) (λ o listed. each_so IsIdle (λ i. same_work o i ≡ false) (λ i idle. written_idle o i listed idle) (all_idle c os) each_idle) chosen
+        (filter_each (IsListed writers) (λ o. is_work o.verb) os (own_is_listed empty os)))
 
 -- ---- as they are collected and sorted, and as the map lists them
 
@@ -178,10 +182,105 @@ unkeyed : (os : List Written) → map (λ e. e.1) (map keyed os) ≡ os
 unkeyed [] = refl
 unkeyed (o ∷ os) = ap (λ ps. o ∷ ps) (unkeyed os)
 
-pub work_sorted : (c : State) (m : Course) (list : List Written) → IsPermutation (all_work c (long_orders m)) list → IsSortedByKey work_key (slice_cmp nat_cmp) list → list ≡ work_orders c m
+-- ---- what is written of the tasks
+
+writes_own : (c : State) (os : List Written) (n : ℕ) (u : Unit) → get c.units n ≡ Some u → (m : FinMap nat_cmp ℕ) → is_some (get (with_each m (flat_map (own_unit c) os)) n) ≡ (is_ordered os n u || is_some (get m n))
+writes_own c [] n u is m = refl
+writes_own c (o ∷ os) n u is m =
+    ap (λ (k : FinMap nat_cmp ℕ). is_some (get k n)) (appended_entries m (own_unit c o) (flat_map (own_unit c) os))
+    ∙ writes_own c os n u is (with_each m (own_unit c o)) ∙ ap (λ b. is_ordered os n u || b) one ∙ swapped (is_ordered os n u) (o.unit == n && o.faction == u.faction) (is_some (get m n))
+  where
+    swapped : (a b d : Bool) → (a || (b || d)) ≡ ((b || a) || d)
+    swapped true true d = refl
+    swapped true false d = refl
+    swapped false true d = refl
+    swapped false false d = refl
+
+    here : o.unit ≡ n → is_of_faction o.faction (get c.units o.unit) ≡ (u.faction == o.faction)
+    here same = ap (λ k. is_of_faction o.faction (get c.units k)) same ∙ ap (is_of_faction o.faction) is
+
+    put_for : (b : Bool) → o.unit ≡ n → is_some (get (with_each m (cond b ((o.unit, o.faction) ∷ []) [])) n) ≡ (b || is_some (get m n))
+    put_for true same = ap (λ k. is_some (get (insert m o.unit o.faction) k)) (sym same) ∙ some_new m o.unit o.faction
+    put_for false same = refl
+
+    put_elsewhere : (b : Bool) → n ≢ o.unit → get (with_each m (cond b ((o.unit, o.faction) ∷ []) [])) n ≡ get m n
+    put_elsewhere true apart = get-insert_other m o.unit n o.faction apart
+    put_elsewhere false apart = refl
+
+    both_ways : (a b : ℕ) → (a == b) ≡ (b == a)
+    both_ways a b = grind (arith, nat_tests)
+
+    one : is_some (get (with_each m (own_unit c o)) n) ≡ ((o.unit == n && o.faction == u.faction) || is_some (get m n))
+    one = elim (cases_eq n o.unit) [
+      | inl same ↦
+          put_for (is_of_faction o.faction (get c.units o.unit)) (sym same) ∙ ap (λ b. b || is_some (get m n)) (here (sym same) ∙ both_ways u.faction o.faction)
+          ∙ sym (ap (λ b. (b && o.faction == u.faction) || is_some (get m n)) (ap (λ k. o.unit == k) same ∙ same_number o.unit))
+      | inr apart ↦
+          ap is_some (put_elsewhere (is_of_faction o.faction (get c.units o.unit)) apart)
+          ∙ sym (ap (λ b. (b && o.faction == u.faction) || is_some (get m n)) (other_number o.unit n (λ same. apart (sym same))))
+    ]
+
+is_writer : (c : State) (os : List Written) (n : ℕ) (u : Unit) → get c.units n ≡ Some u → is_some (get (own_writers c os) n) ≡ is_ordered os n u
+is_writer c os n u is = writes_own c os n u is empty ∙ ap (λ o. is_ordered os n u || is_some o) (get-empty nat_cmp n) ∙ or_false (is_ordered os n u)
+  where
+    or_false : (b : Bool) → (b || false) ≡ b
+    or_false true = refl
+    or_false false = refl
+
+work_written : (ts : List Task) → filter (λ o. is_work o.verb) (map written ts) ≡ map written (filter (λ t. is_work (verb_of_order t.said)) ts)
+work_written [] = refl
+work_written (t ∷ ts) = by_test (is_work (verb_of_order t.said)) (work_written ts)
+  where
+    by_test : (b : Bool) → filter (λ o. is_work o.verb) (map written ts) ≡ map written (filter (λ t. is_work (verb_of_order t.said)) ts)
+        → cond b (written t ∷ filter (λ o. is_work o.verb) (map written ts)) (filter (λ o. is_work o.verb) (map written ts)) ≡ map written (cond b (t ∷ filter (λ t. is_work (verb_of_order t.said)) ts) (filter (λ t. is_work (verb_of_order t.said)) ts))
+    by_test true rest = ap (λ os. written t ∷ os) rest
+    by_test false rest = rest
+
+map_appended : (ts us : List Task) → map written ts ++ map written us ≡ map written (ts ++ us)
+map_appended [] us = refl
+map_appended (t ∷ ts) us = ap (λ os. written t ∷ os) (map_appended ts us)
+
+module _ (c : State) (ts : List Task) where
+  one_idle : (n : ℕ) (u : Unit) → get c.units n ≡ Some u → idle_written (own_writers c (map written ts)) (n, u) ≡ map written (idle_at ts (n, u))
+  one_idle n u is = ap (λ b. cond (nat_lt 0 u.holding.men && not b) (record { unit = n; line = 0; faction = u.faction; verb = verbs.Work; place = 0 } ∷ []) []) (is_writer c (map written ts) n u is) ∙ by_test (nat_lt 0 u.holding.men && not (is_ordered (map written ts) n u))
+    where
+      by_test : (b : Bool) → cond b (record { unit = n; line = 0; faction = u.faction; verb = verbs.Work; place = 0 } ∷ []) [] ≡ map written (cond b (idle_task n u.faction ∷ []) [])
+      by_test true = refl
+      by_test false = refl
+
+  idle_are : (es : List (ℕ × Unit)) → EachOf (λ n u. get c.units n ≡ Some u) es → flat_map (idle_written (own_writers c (map written ts))) es ≡ map written (flat_map (idle_at ts) es)
+  idle_are [] h = refl
+  idle_are (e ∷ es) h =
+      ap (λ os. os ++ flat_map (idle_written (own_writers c (map written ts))) es) (one_idle e.0 e.1 h.0) ∙ ap (λ os. map written (idle_at ts e) ++ os) (idle_are es h.1)
+      ∙ map_appended (idle_at ts e) (flat_map (idle_at ts) es)
+
+  all_are : all_written c (map written ts) ≡ map written (all_work c ts)
+  all_are =
+      let idle = idle_are (entries c.units) (each-from_every (λ n u. get c.units n ≡ Some u) c.units (λ n u is. is)) in
+      ap (λ os. os ++ all_idle c (map written ts)) (work_written ts) ∙ ap (λ os. map written (filter (λ t. is_work (verb_of_order t.said)) ts) ++ os) idle
+      ∙ map_appended (filter (λ t. is_work (verb_of_order t.said)) ts) (idle_work c ts)
+
+abbrev keyed_task : Task → List ℕ × Task
+keyed_task t = (key_of ByUnit t, t)
+
+keyed_written : (ts : List Task) → map keyed (map written ts) ≡ map (with_value (slice_cmp nat_cmp) written) (map keyed_task ts)
+keyed_written [] = refl
+keyed_written (t ∷ ts) = ap (λ es. keyed (written t) ∷ es) (keyed_written ts)
+
+values_written : (es : List (List ℕ × Task)) → map (λ e. e.1) (map (with_value (slice_cmp nat_cmp) written) es) ≡ map written (map (λ e. e.1) es)
+values_written [] = refl
+values_written (e ∷ es) = ap (λ os. written e.1 ∷ os) (values_written es)
+
+by_keys : (ts : List Task) → values (from_entries {R = slice_cmp nat_cmp} (map keyed (map written ts))) ≡ map written (values (from_entries {R = slice_cmp nat_cmp} (map keyed_task ts)))
+by_keys ts =
+    ap (λ es. values (from_entries {R = slice_cmp nat_cmp} es)) (keyed_written ts) ∙ ap (map (λ e. e.1)) (entries-with_value (slice_cmp nat_cmp) written nat_list_cmp_total (map keyed_task ts))
+    ∙ values_written (entries (from_entries (map keyed_task ts)))
+
+pub work_sorted : (c : State) (m : Course) (list : List Written) → IsPermutation (all_written c (map written (long_tasks m))) list → IsSortedByKey work_key (slice_cmp nat_cmp) list → list ≡ work_orders c m
 unfolding work_orders
 work_sorted c m list moved up =
-    let all = all_work c (long_orders m) in
-    let apart = subst (IsDistinct (eq_by_cmp (slice_cmp nat_cmp))) (sym (keys-keyed all)) (IsDistinct-map work_key (eq_by_cmp (slice_cmp nat_cmp)) all (work_apart c (long_orders m) (long_apart m))) in
+    let os = map written (long_tasks m) in
+    let all = all_written c os in
+    let apart = subst (IsDistinct (eq_by_cmp (slice_cmp nat_cmp))) (sym (keys-keyed all)) (IsDistinct-map work_key (eq_by_cmp (slice_cmp nat_cmp)) all (work_apart c os (long_apart m))) in
     let listed = entries-sorted nat_list_cmp_total (slice_cmp-IsAntisymmetric nat_cmp-IsAntisymmetric) (map keyed all) (map keyed list) (IsPermutation-map keyed all list moved) apart (keyed_order (slice_cmp nat_cmp) work_key list up) in
-    sym (unkeyed list) ∙ ap (map (λ e. e.1)) listed
+    sym (unkeyed list) ∙ ap (map (λ e. e.1)) listed ∙ ap (λ ws. values (from_entries {R = slice_cmp nat_cmp} (map keyed ws))) (all_are c (long_tasks m)) ∙ by_keys (all_work c (long_tasks m))

@@ -10,6 +10,7 @@ pub mod Unordered
 pub mod Tax
 pub mod Recruit
 pub mod Work
+pub mod Idle
 pub mod Payable
 pub mod Goods
 pub mod Build

@@ -1,14 +1,16 @@
 -- WORK: the places of each region's terrain are shared among the units that work, and each place pays the wage. See docs/RULES.md, "Work".
-use Rattle.std.specs.Prelude.{◌+◌, ◌-◌, ◌*◌, ◌/◌, ◌==◌, ◌&&◌, ◌++◌, ℕ, pos, Bool, true, false, List, [], ◌∷◌, map, filter, min, nat_lt, Option, Some, None, is_some, not, if◌then◌else◌}
+use Rattle.std.specs.Prelude.{◌+◌, ◌-◌, ◌*◌, ◌/◌, ◌==◌, ◌&&◌, ◌++◌, ℕ, pos, Bool, true, false, List, [], ◌∷◌, map, filter, min, nat_lt, Option, Some, None, not, if◌then◌else◌}
 use Rattle.std.specs.List.{flat_map}
 use Rattle.std.specs.Option.{option_map_or}
 use Rattle.std.specs.Ordering.{nat_cmp}
 use Rattle.std.specs.Cmp.Lexicographic.{slice_cmp}
-use Rattle.std.specs.FinMap.{FinMap, empty, entries, from_entries, get, values}
+use Rattle.std.specs.FinMap.{entries, from_entries, get, values}
 use Rattle.atl_tables.specs.Planet.{Planet}
 use Rattle.atl_tables.specs.declared.world.Terrain.{Terrain}
+use Rattle.atl_orders.specs.declared.order.Order.TheVariants as orders
 use Rattle.atl_orders.specs.declared.verb.Verb.{Verb}
 use Rattle.atl_orders.specs.declared.verb.Verb.TheVariants as verbs
+use Rattle.atl_orders.specs.Orders.{verb_of_order}
 use Rattle.atl_state.specs.declared.books.Entry.TheVariants.{Wages}
 use Rattle.atl_state.specs.declared.books.Thing.TheVariants.{Money}
 use Rattle.atl_state.specs.declared.event.EventFault.{EventFault}
@@ -18,55 +20,44 @@ use Rattle.atl_state.specs.Limits.{holding_limit}
 use Rattle.atl_state.specs.State.{State, with_amount, with_money}
 use Rattle.atl_instant.specs.Course.{Course}
 use Rattle.atl_instant.specs.Meaning.{Keeping, Meaning, Moving, moves_only, most_moved}
-use Rattle.atl_instant.specs.PhaseOrders.{is_month_long, orders_of, written}
+use Rattle.atl_instant.specs.PhaseOrders.{is_month_long, orders_of, written, Task, key_of}
 use Rattle.atl_instant.specs.Staying.{AreNoWorse}
 use Rattle.atl_instant.specs.Terrains.{terrain_of}
 use Rattle.atl_instant.specs.declared.written.Arrangement.TheVariants.{ByUnit}
 use Rattle.atl_instant.specs.declared.written.Written.{Written}
-use Rattle.atl_instant.specs.Steps.{is_of_faction}
 use Rattle.atl_instant.specs.Outcomes.{first_fault}
+use Rattle.atl_market.specs.Unordered.{is_ordered}
 use Rattle.atl_market.specs.PotPhase.{PotMeaning, pots_meaning}
 use Rattle.atl_market.specs.Pots.{pot_shares}
 use Rattle.atl_instant.specs.Terms.{PhaseTerms}
-use Rattle.atl_market.specs.Puts.{with_each}
 
 -- ---- who works
 
 -- the month-long orders of all mailings that stand
-abbrev pub long_orders : Course → List Written
-long_orders m = map written (values (orders_of is_month_long ByUnit m.aliases m.readings))
+abbrev pub long_tasks : Course → List Task
+long_tasks m = values (orders_of is_month_long ByUnit m.aliases m.readings)
 
--- the line of an order, where the unit's own faction wrote it
-abbrev pub own_line : State → Written → List (ℕ × ℕ)
-own_line c o = if is_of_faction o.faction (get c.units o.unit) then (o.unit, o.line) ∷ [] else []
+-- the work of a unit that has none: with line 0, as if its faction had written it
+abbrev pub idle_task : (unit faction : ℕ) → Task
+idle_task unit faction = record { faction = faction; unit = unit; line = 0; place = 0; said = orders.Work }
 
--- by unit, the line of the order that its own faction wrote
-abbrev pub own_lines : State → List Written → FinMap nat_cmp ℕ
-own_lines c os = with_each empty (flat_map (own_line c) os)
+-- a unit with men works where its own faction wrote no month-long order for it
+abbrev pub idle_at : List Task → ℕ × Unit → List Task
+idle_at ts (n, u) = if nat_lt 0 u.holding.men && not (is_ordered (map written ts) n u) then idle_task n u.faction ∷ [] else []
 
--- a unit with men works, with line 0, where it has no order
-abbrev pub idle_at : FinMap nat_cmp ℕ → ℕ × Unit → List Written
-idle_at lines (n, u) =
-    if nat_lt 0 u.holding.men && not (is_some (get lines n)) then record { unit = n; line = 0; faction = u.faction; verb = verbs.Work; place = 0 } ∷ []
-    else []
-
-abbrev pub idle_work : State → List Written → List Written
-idle_work c os = flat_map (idle_at (own_lines c os)) (entries c.units)
+abbrev pub idle_work : State → List Task → List Task
+idle_work c ts = flat_map (idle_at ts) (entries c.units)
 
 abbrev pub is_work : Verb → Bool
 is_work verbs.Work = true
 is_work verb = false
 
-abbrev pub all_work : State → List Written → List Written
-all_work c os = filter (λ o. is_work o.verb) os ++ idle_work c os
+abbrev pub all_work : State → List Task → List Task
+all_work c ts = filter (λ t. is_work (verb_of_order t.said)) ts ++ idle_work c ts
 
--- By unit, line and faction. The place is the last number, as in the orders of every phase, so that no two are the same.
-abbrev pub work_key : Written → List ℕ
-work_key o = o.unit ∷ o.line ∷ o.faction ∷ o.place ∷ []
-
--- The orders of WORK: those that are written, and the work of the units with men whose own faction wrote no month-long order for them.
+-- The orders of WORK, in the order of their keys: those that are written, and the work of the units with men whose own faction wrote no month-long order for them.
 unfoldable pub work_orders : State → Course → List Written
-work_orders c m = values (from_entries {R = slice_cmp nat_cmp} (map (λ o. (work_key o, o)) (all_work c (long_orders m))))
+work_orders c m = map written (values (from_entries {R = slice_cmp nat_cmp} (map (λ t. (key_of ByUnit t, t)) (all_work c (long_tasks m)))))
 
 -- ---- what they earn
 

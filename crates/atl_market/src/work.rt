@@ -9,7 +9,8 @@ ghost use Rattle.atl_state.specs.Good.{IsSteady};
 ghost use Rattle.atl_state.specs.Limits.{holding_limit};
 ghost use Rattle.atl_instant.specs.Meaning.{HaveRoom, most_moved};
 ghost use Rattle.atl_instant.specs.Terrains.{terrain_of};
-ghost use Rattle.atl_market.specs.Work.{earned, idle_work, is_work, own_lines, places_at, wage_at, with_wages, work_keeps, work_key, work_meaning, work_moves, work_orders, work_pots};
+ghost use Rattle.atl_market.specs.Work.{earned, is_work, places_at, wage_at, with_wages, work_keeps, work_meaning, work_moves, work_orders, work_pots};
+ghost use Rattle.atl_market.specs.Idle.{all_idle, own_writers, work_key};
 ghost use Rattle.atl_market.specs.Paid.{WorksAtOnce};
 ghost use Rattle.atl_market.specs.Payable.{CanWork};
 
@@ -25,21 +26,21 @@ use std::alloc::{AllocError, Global};
 #[derive(Drop, Clone, Copy)]
 pub struct WorkPhase;
 
-/// By unit, the line of the order that its own faction wrote.
-fn own_lines(
+/// By unit, the faction that wrote an order for a unit of its own.
+fn own_writers(
     alloc: Global,
     campaign: &Campaign,
     orders: &[Written],
 ) -> Result<Numbered<u32>, AllocError>
-    ensures { IfOk result (λ lines. lines ≡ own_lines campaign.now.what orders.now) }
+    ensures { IfOk result (λ writers. writers ≡ own_writers campaign.now.what orders.now) }
 {
-    let mut lines = Numbered::new(alloc);
+    let mut writers = Numbered::new(alloc);
     for order in orders {
         if is_of_faction(campaign, order.unit, order.faction) {
-            lines.insert(order.unit, order.line)?;
+            writers.insert(order.unit, order.faction)?;
         }
     }
-    Ok(lines)
+    Ok(writers)
 }
 
 fn is_work(verb: Verb) -> bool
@@ -68,11 +69,11 @@ fn add_idle(
     orders: &[Written],
     list: &mut Vec<Written>,
 ) -> Result<(), AllocError>
-    ensures { OnOk result (list.new.items ≡ list.old.items ++ idle_work campaign.now.what orders.now) }
+    ensures { OnOk result (list.new.items ≡ list.old.items ++ all_idle campaign.now.what orders.now) }
 {
-    let lines = own_lines(alloc, campaign, orders)?;
+    let writers = own_writers(alloc, campaign, orders)?;
     for (number, unit) in campaign.units() {
-        if unit.holding.men() > 0 && lines.get(number).is_none() {
+        if unit.holding.men() > 0 && writers.get(number).is_none() {
             list.push(Written {
                 unit: number,
                 line: 0,
@@ -85,7 +86,7 @@ fn add_idle(
     Ok(())
 }
 
-/// Sorts orders by unit, line and faction.
+/// Sorts orders by unit, line and faction, and last by their place.
 fn sort(list: &mut Vec<Written>)
     ensures moved { IsPermutation list.old.items list.new.items }
     ensures sorted { IsSortedByKey work_key (slice_cmp nat_cmp) list.new.items }

@@ -1,6 +1,6 @@
 use Rattle.std.proofs.Common.{rules}
 use Rattle.std.proofs.lemmas.Fn.{always_returns_same}
-use Rattle.atl_market.specs.Work.{work_key}
+use Rattle.atl_market.specs.Idle.{work_key}
 use Rattle.atl_market.proofs.work.sort.Goals as goal
 
 pub returns-clause-sorted : goal.returns-clause-sorted

@@ -1,9 +1,12 @@
 use Rattle.std.proofs.Common.{◌≡◌, IsPermutation, rules, subst}
-use Rattle.atl_market.specs.Work.{all_work, long_orders}
+use Rattle.std.specs.Prelude.{map}
+use Rattle.atl_instant.specs.PhaseOrders.{written}
+use Rattle.atl_market.specs.Idle.{all_written}
+use Rattle.atl_market.specs.Work.{long_tasks}
 use Rattle.atl_market.proofs.WorkOrderLaws.{work_sorted}
 use Rattle.atl_market.proofs.work.work_orders.Goals as goal
 
 pub returns : goal.returns
 returns c =
-    let all : c.add_idle.new.list.items ≡ all_work c.args.campaign.now.what (long_orders c.args.month.now) = search rules in
+    let all : c.add_idle.new.list.items ≡ all_written c.args.campaign.now.what (map written (long_tasks c.args.month.now)) = search rules in
     work_sorted c.args.campaign.now.what c.args.month.now c.sort.new.list.items (subst (λ os. IsPermutation os c.sort.new.list.items) all c.sort.ensures.moved) c.sort.ensures.sorted
