@@ -63,10 +63,14 @@ month() {
   run close --month "$1" --pass moderator --seed 3
 }
 
+# status_before: the status of the command of the session that was run last, so that the next one finds it as $?
+status_before() {
+  return "$told"
+}
+
 # session: the commands of the block, all in the shell of the page, each with what it prints
 session() {
   local line text= told=0 output
-  status_before() { return "$told"; }
   while IFS= read -r line <&3; do
     [ -n "$text" ] || [ "${line:0:2}" = '$ ' ] || continue
     printf '%s\n' "$line"

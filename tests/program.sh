@@ -68,6 +68,7 @@ Exits: none.
 
 # A campaign in memory.
 check 'a first report' 0 "$report" '' trial <"$small"
+cmp -s "$small" "$here/crates/atl_gm/stdin" || fail 'the stored run' 'its world is another'
 check 'a first report beside a region' 0 "${report/none/east 2}" '' trial < <(
   cat "$small"
   printf 'east = 2\n[[region]]\nnumber = 2\nname = "Hill"\nterrain = "plain"\npeasants = 300\nmoney = 200\nwest = 1\n'
