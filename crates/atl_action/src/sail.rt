@@ -7,7 +7,7 @@ ghost use Rattle.atl_state.specs.Good.{IsSteady};
 ghost use Rattle.atl_state.specs.Levels.{load_of};
 ghost use Rattle.atl_state.specs.Owners.{is_owned_by};
 ghost use Rattle.atl_state.specs.State.{with_structure_region};
-ghost use Rattle.atl_instant.specs.Unbooked.{books_nothing, moves_nothing};
+ghost use Rattle.atl_instant.specs.Unbooked.{moves_nothing};
 ghost use Rattle.atl_instant.specs.Steps.{takes_all};
 ghost use Rattle.atl_action.specs.Sail.{IsCarried, capacity, concerns_nobody, crew_needed, crew_of, is_complete_ship, is_sailing, is_way, of_unit, sail, sail_fault, sail_keeps, sail_meaning, sail_step, sailed, sum_inside, taken_along};
 
@@ -249,10 +249,6 @@ impl OrderPhase for SailPhase {
     ghost is_taken = { takes_all };
 
     ghost holds = { IsSteady };
-
-    ghost reserve = { books_nothing };
-
-    ghost moving = { moves_nothing };
 
     ghost concerns = { concerns_nobody };
 

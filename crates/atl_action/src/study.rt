@@ -9,7 +9,7 @@ ghost use Rattle.atl_state.specs.Good.{IsSteady};
 ghost use Rattle.atl_state.specs.Lending.{lent};
 ghost use Rattle.atl_state.specs.Limits.{men_limit};
 ghost use Rattle.atl_instant.specs.Meaning.{HaveRoom};
-ghost use Rattle.atl_instant.specs.Steps.{IsOwnOrder, takes_all};
+ghost use Rattle.atl_instant.specs.Steps.{takes_all};
 ghost use Rattle.atl_instant.specs.Staying.{IsUnchanged};
 ghost use Rattle.atl_action.specs.Learners.{is_studying};
 ghost use Rattle.atl_action.specs.Study.{days_after, is_helpful, studied, study, study_fault, study_moves, study_reserve, study_step, with_study};
@@ -168,8 +168,6 @@ impl OrderPhase for Studying {
     ghost reserve = { study_reserve };
 
     ghost moving = { study_moves };
-
-    ghost concerns = { IsOwnOrder };
 
     ghost spares = { IsUnchanged };
 

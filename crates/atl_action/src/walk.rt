@@ -2,9 +2,7 @@
 ghost use Rattle.std.specs.Prelude.{◌≡◌, IfOk, OnOk};
 ghost use Rattle.atl_state.specs.Covers.{MarksChanges};
 ghost use Rattle.atl_state.specs.Good.{IsSteady};
-ghost use Rattle.atl_instant.specs.Staying.{IsNoWorse};
-ghost use Rattle.atl_instant.specs.Steps.{IsOwnOrder, takes_all};
-ghost use Rattle.atl_instant.specs.Unbooked.{books_nothing, moves_nothing};
+ghost use Rattle.atl_instant.specs.Steps.{takes_all};
 ghost use Rattle.atl_action.specs.Walk.{is_land_there, is_walking, walk, walk_fault, walk_step, walked};
 
 use crate::ways::neighbour;
@@ -91,14 +89,6 @@ impl OrderPhase for MovePhase {
     ghost is_taken = { takes_all };
 
     ghost holds = { IsSteady };
-
-    ghost reserve = { books_nothing };
-
-    ghost moving = { moves_nothing };
-
-    ghost concerns = { IsOwnOrder };
-
-    ghost spares = { IsNoWorse };
 
     fn takes(&self, _: &Order) -> bool {
         true

@@ -9,9 +9,7 @@ ghost use Rattle.atl_state.specs.Lending.{lent, with_held};
 ghost use Rattle.atl_state.specs.declared.records.Unit.{Unit};
 ghost use Rattle.atl_state.specs.Limits.{holding_limit};
 ghost use Rattle.atl_instant.specs.Give.{give, give_fault, give_step, given, held_of, is_giving, with_held_of};
-ghost use Rattle.atl_instant.specs.Staying.{IsNoWorse};
-ghost use Rattle.atl_instant.specs.Steps.{IsOwnOrder, takes_all};
-ghost use Rattle.atl_instant.specs.Unbooked.{books_nothing, moves_nothing};
+ghost use Rattle.atl_instant.specs.Steps.{takes_all};
 
 use crate::month::Month;
 use crate::orders::PhaseVerbs;
@@ -170,14 +168,6 @@ impl OrderPhase for GivePhase {
     ghost is_taken = { takes_all };
 
     ghost holds = { IsEarly };
-
-    ghost reserve = { books_nothing };
-
-    ghost moving = { moves_nothing };
-
-    ghost concerns = { IsOwnOrder };
-
-    ghost spares = { IsNoWorse };
 
     fn takes(&self, _: &Order) -> bool {
         true

@@ -4,8 +4,6 @@ ghost use Rattle.std.specs.FinMap.{get};
 ghost use Rattle.atl_state.specs.Covers.{MarksChanges};
 ghost use Rattle.atl_state.specs.Good.{IsSteady};
 ghost use Rattle.atl_instant.specs.Guard.{guard, guard_concerns, guard_fault, guard_step, guards_against, is_guarded_against, is_guarding, sets_flag};
-ghost use Rattle.atl_instant.specs.Staying.{IsNoWorse};
-ghost use Rattle.atl_instant.specs.Unbooked.{books_nothing, moves_nothing};
 
 use crate::month::Month;
 use crate::orders::PhaseVerbs;
@@ -85,13 +83,7 @@ impl OrderPhase for GuardPhase {
 
     ghost holds = { IsSteady };
 
-    ghost reserve = { books_nothing };
-
-    ghost moving = { moves_nothing };
-
     ghost concerns = { guard_concerns };
-
-    ghost spares = { IsNoWorse };
 
     fn takes(&self, order: &Order) -> bool {
         matches!(order, Order::Guard(true))

@@ -7,8 +7,6 @@ ghost use Rattle.atl_state.specs.State.{with_faction_name, with_guard};
 ghost use Rattle.atl_state.specs.Covers.{MarksChanges};
 ghost use Rattle.atl_state.specs.Good.{IsEarly};
 ghost use Rattle.atl_instant.specs.Name.{is_naming, is_of_sort, name_concerns, name_step, named, structure_fault, structure_named, takes_naming, with_unit_name};
-ghost use Rattle.atl_instant.specs.Staying.{IsNoWorse};
-ghost use Rattle.atl_instant.specs.Unbooked.{books_nothing, moves_nothing};
 
 use crate::inside::structure_of;
 use crate::month::Month;
@@ -155,13 +153,7 @@ impl OrderPhase for NamePhase {
 
     ghost holds = { IsEarly };
 
-    ghost reserve = { books_nothing };
-
-    ghost moving = { moves_nothing };
-
     ghost concerns = { name_concerns };
-
-    ghost spares = { IsNoWorse };
 
     fn takes(&self, order: &Order) -> bool {
         match order {

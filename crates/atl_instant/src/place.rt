@@ -7,9 +7,7 @@ ghost use Rattle.atl_state.specs.Owners.{is_owned_by, with_place};
 ghost use Rattle.atl_state.specs.State.{with_owner};
 ghost use Rattle.atl_instant.specs.Inside.{region_of};
 ghost use Rattle.atl_instant.specs.Place.{entered, entered_other, is_in, is_placing, leave_fault, left, place_step, promote_fault, promoted};
-ghost use Rattle.atl_instant.specs.Staying.{IsNoWorse};
-ghost use Rattle.atl_instant.specs.Steps.{IsOwnOrder, takes_all};
-ghost use Rattle.atl_instant.specs.Unbooked.{books_nothing, moves_nothing};
+ghost use Rattle.atl_instant.specs.Steps.{takes_all};
 
 use crate::inside::{region_of, structure_of};
 use crate::month::Month;
@@ -160,14 +158,6 @@ impl OrderPhase for PlacePhase {
     ghost is_taken = { takes_all };
 
     ghost holds = { IsEarly };
-
-    ghost reserve = { books_nothing };
-
-    ghost moving = { moves_nothing };
-
-    ghost concerns = { IsOwnOrder };
-
-    ghost spares = { IsNoWorse };
 
     fn takes(&self, _order: &Order) -> bool {
         true

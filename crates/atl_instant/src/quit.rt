@@ -10,7 +10,6 @@ ghost use Rattle.atl_state.specs.declared.books.Entry.TheVariants.{Left, Lost};
 ghost use Rattle.atl_state.specs.declared.books.Thing.TheVariants.{Money, People};
 ghost use Rattle.atl_instant.specs.Meaning.{HasRoom, HaveRoom, both_move, moves_only};
 ghost use Rattle.atl_instant.specs.Quit.{gone_under, is_quitting, item_gone, left_at, quit, quit_concerns, quit_fault, quit_keeps, quit_meaning, quit_moves, quit_reserve, quit_step, with_gone_amount};
-ghost use Rattle.atl_instant.specs.Staying.{IsNoWorse};
 ghost use Rattle.atl_instant.specs.LostItems.{moving_items};
 ghost use Rattle.atl_instant.specs.Steps.{takes_all};
 
@@ -174,8 +173,6 @@ impl OrderPhase for QuitPhase {
     ghost moving = { quit_moves };
 
     ghost concerns = { quit_concerns };
-
-    ghost spares = { IsNoWorse };
 
     fn takes(&self, _: &Order) -> bool {
         true

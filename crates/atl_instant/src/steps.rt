@@ -6,7 +6,9 @@ ghost use Rattle.atl_state.specs.Covers.{MarksChanges};
 ghost use Rattle.atl_orders.specs.Bounds.{IsOrderOf};
 ghost use Rattle.atl_instant.specs.Fit.{AreFit};
 ghost use Rattle.atl_instant.specs.Meaning.{Condition, HaveRoom, LeavesWell, Moving};
-ghost use Rattle.atl_instant.specs.Steps.{Concern, IsOrderly, Reserve, Sparing, Step, StepsWell, carried, carried_out, is_of_faction, is_own, one_order, spares_others};
+ghost use Rattle.atl_instant.specs.Staying.{IsNoWorse};
+ghost use Rattle.atl_instant.specs.Unbooked.{books_nothing, moves_nothing};
+ghost use Rattle.atl_instant.specs.Steps.{Concern, IsOrderly, IsOwnOrder, Reserve, Sparing, Step, StepsWell, carried, carried_out, is_of_faction, is_own, one_order, spares_others};
 ghost use Rattle.atl_instant.specs.Carrying.{found_written, task_of};
 
 use crate::month::Month;
@@ -30,16 +32,17 @@ pub trait OrderPhase: PhaseVerbs {
     // What is so of the campaign before each order, and after it.
     ghost holds: { Condition };
 
-    // By how much the amounts of the books may still be moved.
-    ghost reserve: { Reserve };
+    // By how much the amounts of the books may still be moved. Most phases book nothing.
+    ghost reserve: { Reserve } = { books_nothing };
 
     // And by how much in all.
-    ghost moving: { Moving };
+    ghost moving: { Moving } = { moves_nothing };
 
-    // Which units an order concerns, and what stays of the others.
-    ghost concerns: { Concern };
+    // Which units an order concerns, and what stays of the others. With most phases it concerns the unit that it is for, and
+    // the others are no worse off.
+    ghost concerns: { Concern } = { IsOwnOrder };
 
-    ghost spares: { Sparing };
+    ghost spares: { Sparing } = { IsNoWorse };
 
     /// Whether it takes an order of its verbs.
     fn takes(&self, order: &Order) -> bool

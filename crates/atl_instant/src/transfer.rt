@@ -9,9 +9,7 @@ ghost use Rattle.atl_state.specs.Lending.{lent};
 ghost use Rattle.atl_state.specs.Limits.{men_limit, most_days};
 ghost use Rattle.atl_state.specs.declared.records.Unit.{Unit};
 ghost use Rattle.atl_instant.specs.Transfer.{days_going, days_left, days_raised, is_transferring, sent, transfer, transfer_fault, transfer_step, with_days};
-ghost use Rattle.atl_instant.specs.Staying.{IsNoWorse};
-ghost use Rattle.atl_instant.specs.Steps.{IsOwnOrder, takes_all};
-ghost use Rattle.atl_instant.specs.Unbooked.{books_nothing, moves_nothing};
+ghost use Rattle.atl_instant.specs.Steps.{takes_all};
 
 use crate::month::Month;
 use crate::orders::PhaseVerbs;
@@ -219,14 +217,6 @@ impl OrderPhase for TransferPhase {
     ghost is_taken = { takes_all };
 
     ghost holds = { IsEarly };
-
-    ghost reserve = { books_nothing };
-
-    ghost moving = { moves_nothing };
-
-    ghost concerns = { IsOwnOrder };
-
-    ghost spares = { IsNoWorse };
 
     fn takes(&self, _: &Order) -> bool {
         true

@@ -9,8 +9,7 @@ ghost use Rattle.atl_state.specs.Good.{IsSteady};
 ghost use Rattle.atl_state.specs.Limits.{last_unit, most_structures};
 ghost use Rattle.atl_state.specs.declared.records.Unit.{Unit};
 ghost use Rattle.atl_instant.specs.Meaning.{HaveRoom};
-ghost use Rattle.atl_instant.specs.Staying.{IsNoWorse};
-ghost use Rattle.atl_instant.specs.Steps.{IsOwnOrder, takes_all};
+ghost use Rattle.atl_instant.specs.Steps.{takes_all};
 ghost use Rattle.atl_market.specs.Build.{CanBuild, begin, begin_fault, build_keeps, build_meaning, build_moves, build_reserve, build_step, go_on, gone_on, inside_fault, is_building, outside_fault, size_added, sort_of, started, with_new};
 ghost use Rattle.atl_market.specs.Goods.{CanUse};
 
@@ -244,10 +243,6 @@ impl OrderPhase for BuildPhase {
     ghost reserve = { build_reserve };
 
     ghost moving = { build_moves };
-
-    ghost concerns = { IsOwnOrder };
-
-    ghost spares = { IsNoWorse };
 
     fn takes(&self, _: &Order) -> bool {
         true
