@@ -5,37 +5,28 @@ use Rattle.atl_service.specs.declared.command.Refusal.TheVariants.{BadName, BadP
 use Rattle.atl_service.specs.declared.command.Fault.{Fault}
 use Rattle.atl_service.specs.declared.command.Fault.TheVariants.{Memory, Store, Closed}
 
+-- each refusal by its number and its name
+abbrev pub refusal : Refusal → ℕ × List ℕ
+refusal BadName = (1, codes "BadName")
+refusal BadPassText = (2, codes "BadPassText")
+refusal NameTaken = (3, codes "NameTaken")
+refusal Full = (4, codes "Full")
+refusal NoFaction = (5, codes "NoFaction")
+refusal WrongPass = (6, codes "WrongPass")
+refusal Gone = (7, codes "Gone")
+refusal TooLong = (8, codes "TooLong")
+refusal NoHeader = (9, codes "NoHeader")
+refusal BadHeader = (10, codes "BadHeader")
+refusal WrongFaction = (11, codes "WrongFaction")
+refusal WrongMonth = (12, codes "WrongMonth")
+refusal MonthLimit = (13, codes "MonthLimit")
+refusal WrongDice = (14, codes "WrongDice")
+
 abbrev pub number_of : Refusal → ℕ
-number_of BadName = 1
-number_of BadPassText = 2
-number_of NameTaken = 3
-number_of Full = 4
-number_of NoFaction = 5
-number_of WrongPass = 6
-number_of Gone = 7
-number_of TooLong = 8
-number_of NoHeader = 9
-number_of BadHeader = 10
-number_of WrongFaction = 11
-number_of WrongMonth = 12
-number_of MonthLimit = 13
-number_of WrongDice = 14
+number_of why = (refusal why).0
 
 abbrev pub refusal_name : Refusal → List ℕ
-refusal_name BadName = codes "BadName"
-refusal_name BadPassText = codes "BadPassText"
-refusal_name NameTaken = codes "NameTaken"
-refusal_name Full = codes "Full"
-refusal_name NoFaction = codes "NoFaction"
-refusal_name WrongPass = codes "WrongPass"
-refusal_name Gone = codes "Gone"
-refusal_name TooLong = codes "TooLong"
-refusal_name NoHeader = codes "NoHeader"
-refusal_name BadHeader = codes "BadHeader"
-refusal_name WrongFaction = codes "WrongFaction"
-refusal_name WrongMonth = codes "WrongMonth"
-refusal_name MonthLimit = codes "MonthLimit"
-refusal_name WrongDice = codes "WrongDice"
+refusal_name why = (refusal why).1
 
 abbrev pub fault_name : Fault → List ℕ
 fault_name Memory = codes "Memory"

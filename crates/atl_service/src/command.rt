@@ -8,9 +8,11 @@ ghost use Rattle.atl_service.specs.Answering.{of_writing};
 use atl_orders::FaultyLine;
 use atl_state::Rule;
 use atl_store::{CreateFault, StoreFault, WriteFault};
-use atl_tables::{Sequence, Text, WorldFault};
+use atl_tables::{Sequence, Text, WorldFault, name_of};
 use sqlite::{Alter, Connection};
 use std::alloc::AllocError;
+use std::error::Error;
+use std::fmt;
 
 /// What a club asks of its campaign. Names, pass texts and mailings are any bytes. Each command has its rules in a section of
 /// docs/RULES.md.
@@ -82,33 +84,33 @@ impl Drop for Command {
 #[derive(Drop, Clone, Copy, Debug, PartialEq, Eq)]
 pub enum Refusal {
     /// The name breaks the rule of names.
-    BadName,
+    BadName = 1,
     /// The pass text breaks the rule of pass texts.
-    BadPassText,
+    BadPassText = 2,
     /// Some faction ever joined under this name.
-    NameTaken,
+    NameTaken = 3,
     /// No faction, or no unit, more can come.
-    Full,
+    Full = 4,
     /// No faction has this number.
-    NoFaction,
+    NoFaction = 5,
     /// The pass text is another one.
-    WrongPass,
+    WrongPass = 6,
     /// The faction has no unit left.
-    Gone,
+    Gone = 7,
     /// The mailing has more than 65,536 bytes.
-    TooLong,
+    TooLong = 8,
     /// No line of the mailing begins with `#ATLANTIS`.
-    NoHeader,
+    NoHeader = 9,
     /// The first line that does names no faction from 1 to 9,999.
-    BadHeader,
+    BadHeader = 10,
     /// The header names another faction.
-    WrongFaction,
+    WrongFaction = 11,
     /// The month isn't the one after the month last closed.
-    WrongMonth,
+    WrongMonth = 12,
     /// Month 9,999 was closed, and no month can be closed behind it.
-    MonthLimit,
+    MonthLimit = 13,
     /// There isn't one word for each region.
-    WrongDice,
+    WrongDice = 14,
 }
 
 impl Refusal {
@@ -116,46 +118,28 @@ impl Refusal {
     pub fn number(self) -> u8
         ensures { result ≡ number_of self }
     {
-        match self {
-            Refusal::BadName => 1,
-            Refusal::BadPassText => 2,
-            Refusal::NameTaken => 3,
-            Refusal::Full => 4,
-            Refusal::NoFaction => 5,
-            Refusal::WrongPass => 6,
-            Refusal::Gone => 7,
-            Refusal::TooLong => 8,
-            Refusal::NoHeader => 9,
-            Refusal::BadHeader => 10,
-            Refusal::WrongFaction => 11,
-            Refusal::WrongMonth => 12,
-            Refusal::MonthLimit => 13,
-            Refusal::WrongDice => 14,
-        }
+        self as u8
     }
 
     /// The name under which the refusal is told. See docs/FORMATS.md, "Refusals".
     pub fn name(self) -> &'static str
         ensures { result.now ≡ refusal_name self }
     {
-        match self {
-            Refusal::BadName => "BadName",
-            Refusal::BadPassText => "BadPassText",
-            Refusal::NameTaken => "NameTaken",
-            Refusal::Full => "Full",
-            Refusal::NoFaction => "NoFaction",
-            Refusal::WrongPass => "WrongPass",
-            Refusal::Gone => "Gone",
-            Refusal::TooLong => "TooLong",
-            Refusal::NoHeader => "NoHeader",
-            Refusal::BadHeader => "BadHeader",
-            Refusal::WrongFaction => "WrongFaction",
-            Refusal::WrongMonth => "WrongMonth",
-            Refusal::MonthLimit => "MonthLimit",
-            Refusal::WrongDice => "WrongDice",
-        }
+        name_of!(
+            self, Refusal: BadName BadPassText NameTaken Full NoFaction WrongPass Gone TooLong
+            NoHeader BadHeader WrongFaction WrongMonth MonthLimit WrongDice
+        )
     }
 }
+
+/// The number and the name, as `12 WrongMonth`.
+impl fmt::Display for Refusal {
+    fn fmt<W: fmt::Write>(&self, f: &mut fmt::Formatter<W>) -> fmt::Result {
+        write!(f, "{} {}", self.number(), self.name())
+    }
+}
+
+impl Error for Refusal {}
 
 /// Why a command could not be carried out. While the connection is open its tables are as before; a crash leaves them as before
 /// or after the command. See docs/RULES.md, "Refusals and faults".
@@ -181,6 +165,15 @@ impl Fault {
         }
     }
 }
+
+/// Its name.
+impl fmt::Display for Fault {
+    fn fmt<W: fmt::Write>(&self, f: &mut fmt::Formatter<W>) -> fmt::Result {
+        write!(f, "{}", self.name())
+    }
+}
+
+impl Error for Fault {}
 
 impl From<WriteFault> for Fault {
     ghost from_gives = { λ fault told. told ≡ of_writing fault };
@@ -262,6 +255,20 @@ pub enum Cause {
     /// There was no memory.
     Memory,
 }
+
+/// As the program tells it: `world: 8 NoLand`, `refused: 2 BadPassText`, `fault: Damaged 11`, `fault: Store` and so on.
+impl fmt::Display for Cause {
+    fn fmt<W: fmt::Write>(&self, f: &mut fmt::Formatter<W>) -> fmt::Result {
+        match self {
+            Cause::World(fault) => write!(f, "world: {fault}"),
+            Cause::BadPassText => write!(f, "refused: {}", Refusal::BadPassText),
+            Cause::Damaged(rule) => write!(f, "fault: Damaged {}", rule.number()),
+            cause => write!(f, "fault: {cause:?}"),
+        }
+    }
+}
+
+impl Error for Cause {}
 
 impl From<WorldFault> for Cause {
     ghost from_gives = { λ fault cause. cause ≡ of_world fault };
