@@ -1,5 +1,5 @@
 -- The rows of books in any order, and the books that they say.
-use Rattle.std.proofs.Common.{◌≡◌, ◌==◌, ℕ, zero, suc, ◌+◌, ◌≤◌, ◌<◌, ◌&&◌, inl, inr, List, [], ◌∷◌, Bool, true, false, cond, not, filter, length, get_or, nat_le, refl, sym, ap, subst, ◌∙◌, arith}
+use Rattle.std.proofs.Common.{◌≡◌, ◌==◌, ℕ, zero, suc, ◌+◌, ◌≤◌, ◌<◌, ◌&&◌, inl, inr, List, [], ◌∷◌, true, false, not, filter, length, get_or, nat_le, refl, sym, ap, subst, ◌∙◌, arith}
 use Rattle.std.specs.Prelude.{pos, negsuc, ℤ}
 use Rattle.std.specs.List.{flat_map, range_with_len, AllByRecursion, IsDistinct}
 use Rattle.std.specs.List.Sorted.{IsPermutation}

@@ -1,5 +1,5 @@
 -- The rows of what units have in any order, and what they say of each unit.
-use Rattle.std.proofs.Common.{◌≡◌, ◌==◌, ℕ, zero, suc, ◌≤◌, ◌<◌, ◌&&◌, List, [], ◌∷◌, Bool, true, false, cond, not, filter, Some, refl, sym, ap, subst, ◌∙◌, arith}
+use Rattle.std.proofs.Common.{◌≡◌, ◌==◌, ℕ, zero, suc, ◌≤◌, ◌<◌, ◌&&◌, List, [], ◌∷◌, Bool, true, false, Some, refl, sym, ap, ◌∙◌, arith}
 use Rattle.std.specs.Prelude.{pos}
 use Rattle.std.specs.List.{AllByRecursion, IsDistinct}
 use Rattle.std.specs.List.Sorted.{IsPermutation}
@@ -10,17 +10,14 @@ use Rattle.std.proofs.lemmas.Bool.Decides.{nat_tests}
 use Rattle.atl_state.specs.Limits.{most_u32}
 use Rattle.atl_state.specs.declared.parts.StoredHas.{StoredHas}
 use Rattle.atl_state.specs.declared.records.Unit.{Unit}
-use Rattle.atl_state.specs.Deciding.{EachOf}
 use Rattle.atl_state.specs.FromRows.{as_u32, is_of, things_had}
 use Rattle.atl_state.specs.Good.{Every}
 use Rattle.atl_state.specs.RowRules.{has_key, HaveKeys}
-use Rattle.atl_state.specs.Rows.{is_zero, has_row, rows_by, sort_rows, held_rows, has_rows}
-use Rattle.atl_state.proofs.BackLaws.{each_permuted, each_back, read_whole, written_whole, by_number_is, apart_keys, append_each, each_appended, append_apart, flat_apart, entries_rise, rows_apart, keys_permuted, same_size}
+use Rattle.atl_state.specs.Rows.{is_zero, has_row, sort_rows, held_rows, has_rows}
+use Rattle.atl_state.proofs.BackLaws.{each_permuted, read_whole, written_whole, apart_keys, append_each, each_appended, append_apart, flat_apart, entries_rise, keys_permuted, same_size}
 use Rattle.atl_state.proofs.AssemblyLaws.{is_same}
 use Rattle.atl_state.proofs.BackGroupLaws.{groups_each, each_group, lines_each, each_line, lines_apart, amounts_back}
-use Rattle.atl_state.proofs.EveryLaws.{every-from_each, each-from_every}
 use Rattle.atl_state.proofs.HasLaws.{IsKeyed, same, things_apart}
-use Rattle.atl_state.proofs.OrderLaws.{rows_found}
 
 -- what a unit has of a sort: items, or days of study
 abbrev pub goods_of : ℕ → Unit → FinMap nat_cmp ℕ

@@ -1,10 +1,9 @@
 -- Rows of groups, each with a thing and an amount: gathered group by group, and listed from the map of a group's amounts.
-use Rattle.std.proofs.Common.{◌≡◌, ◌≢◌, ◌==◌, ℕ, ◌++◌, ◌&&◌, List, [], ◌∷◌, Bool, true, false, not, cond, map, filter, Some, refl, sym, ap, subst, ◌∙◌, arith, inl, inr, ◌⊎◌}
+use Rattle.std.proofs.Common.{◌≡◌, ◌≢◌, ◌==◌, ℕ, ◌++◌, ◌&&◌, List, [], ◌∷◌, Bool, true, false, not, cond, map, filter, refl, sym, ap, subst, ◌∙◌, arith, inl, inr, ◌⊎◌}
 use Rattle.std.specs.List.{flat_map, AllByRecursion, IsDistinct}
 use Rattle.std.specs.List.Sorted.{IsPermutation}
-use Rattle.std.specs.Ordering.{nat_cmp}
-use Rattle.std.specs.FinMap.{FinMap, get, entries}
-use Rattle.std.proofs.lemmas.Bool.{cases_eq, false≢true, not-true}
+use Rattle.std.specs.FinMap.{entries}
+use Rattle.std.proofs.lemmas.Bool.{cases_eq, false≢true}
 use Rattle.std.proofs.lemmas.Bool.Decides.{nat_tests}
 use Rattle.std.proofs.lemmas.List.Sorted.{IsPermutation-refl, IsPermutation-sym, IsPermutation-trans, IsPermutation-append, IsPermutation-append_right, IsPermutation-filter_both}
 use Rattle.atl_state.specs.FromRows.{by_number}

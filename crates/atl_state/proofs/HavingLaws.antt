@@ -1,5 +1,5 @@
 -- How a campaign changes with what one unit holds, where the unit may come to guard.
-use Rattle.std.proofs.Common.{◌≡◌, ◌≢◌, ◌==◌, ℕ, ◌*◌, ◌≤◌, ◌<◌, true, length, Some, None, refl, sym, ap, ◌∙◌, inl, inr, arith}
+use Rattle.std.proofs.Common.{◌≡◌, ◌≢◌, ◌==◌, ℕ, ◌*◌, ◌≤◌, ◌<◌, true, length, Some, refl, sym, ap, ◌∙◌, inl, inr}
 use Rattle.std.specs.Prelude.{IsTrue, nat_lt}
 use Rattle.std.proofs.lemmas.Bool.{and_parts, cases_eq}
 use Rattle.std.specs.FinMap.{get, insert}
@@ -8,12 +8,12 @@ use Rattle.atl_tables.specs.Planet.{Planet}
 use Rattle.atl_tables.proofs.SumLaws.{numbers_where-insert_known}
 use Rattle.atl_state.specs.Limits.{most_days}
 use Rattle.atl_state.specs.declared.records.Unit.{Unit}
-use Rattle.atl_state.specs.Good.{AreInRange, AreKnown, AreNumbered, AreOfOneFaction, AreOwned, Every, IsEarly, IsPlaced, IsSteady, guards}
+use Rattle.atl_state.specs.Good.{AreKnown, AreOfOneFaction, AreOwned, Every, IsEarly, IsPlaced, IsSteady, guards}
 use Rattle.atl_state.specs.Held.{Held, IsHolding}
 use Rattle.atl_state.specs.State.{State}
-use Rattle.atl_state.proofs.EveryLaws.{every-insert, get-insert_other, none_some, there-insert}
+use Rattle.atl_state.proofs.EveryLaws.{every-insert, get-insert_other, there-insert}
 use Rattle.atl_state.proofs.HoldingLaws.{next_kept, numbers_kept, of_one_faction_kept}
-use Rattle.atl_state.proofs.RegionLaws.{get-insert_same, same_len}
+use Rattle.atl_state.proofs.RegionLaws.{get-insert_same}
 
 -- What a unit of a campaign may hold: within the limits, and of what the world has.
 pub record MayHave (w : Planet) (h : Held) : Type 0 where

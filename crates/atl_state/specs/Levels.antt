@@ -5,6 +5,8 @@ use Rattle.std.specs.Option.{option_map_or}
 use Rattle.std.specs.FinMap.{entries}
 use Rattle.atl_tables.specs.Limits.{last_level}
 use Rattle.atl_tables.specs.Planet.{Planet}
+use Rattle.atl_state.specs.declared.levels.Measure.{Measure}
+use Rattle.atl_state.specs.declared.levels.Measure.TheVariants.{Weight, Carry}
 use Rattle.atl_state.specs.Held.{Held, amount_of}
 use Rattle.atl_state.specs.Limits.{level_days}
 
@@ -40,6 +42,14 @@ weight_of w item = option_map_or (λ x. x.weight) (slice_get w.items item) 0
 
 abbrev pub carry_of : Planet → ℕ → ℕ
 carry_of w item = option_map_or (λ x. x.carry) (slice_get w.items item) 0
+
+-- what one of an item weighs or carries, and the sum of amount times that over the items held
+abbrev pub measure_of : Measure → Planet → ℕ → ℕ
+measure_of Weight w item = weight_of w item
+measure_of Carry w item = carry_of w item
+
+abbrev pub measured_goods : Measure → Planet → Held → ℕ
+measured_goods m w h = sum_by (λ e. e.1 * measure_of m w e.0) (entries h.items)
 
 -- the sum of amount times weight over the items held
 abbrev pub goods_of : Planet → Held → ℕ

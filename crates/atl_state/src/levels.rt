@@ -2,7 +2,7 @@
 ghost use Rattle.std.specs.Prelude.{◌≡◌, ◌≤◌, ◌*◌, nat_le};
 ghost use Rattle.atl_tables.specs.Limits.{last_level, most_items, most_weight};
 ghost use Rattle.atl_state.specs.Limits.{most_u32};
-ghost use Rattle.atl_state.specs.Levels.{days_for, level_in, level_in_any, level_of, weight_of, carry_of, goods_of, carried_by_goods, load_of, carried_by};
+ghost use Rattle.atl_state.specs.Levels.{days_for, level_in, level_in_any, level_of, weight_of, carry_of, goods_of, carried_by_goods, load_of, carried_by, measure_of, measured_goods};
 
 use crate::holding::Holding;
 use crate::limits::LEVEL_DAYS;
@@ -88,17 +88,46 @@ fn times(amount: u32, each: u32) -> u64
     u64::from(amount) * u64::from(each)
 }
 
+/// What is summed over goods.
+#[derive(Drop, Clone, Copy)]
+enum Measure {
+    /// What they weigh.
+    Weight,
+    /// What they carry.
+    Carry,
+}
+
+/// What one of an item weighs or carries.
+fn measured(world: &World, item: u32, of: Measure) -> u32
+    ensures value { result ≡ measure_of of world.now item }
+    ensures small { result ≤ most_weight }
+    ensures far { most_items ≤ item → result ≡ 0 }
+{
+    match of {
+        Measure::Weight => weight(world, item),
+        Measure::Carry => carriage(world, item),
+    }
+}
+
+/// What a unit's goods weigh or carry: the sum of amount times weight, or carry, over the items that it holds.
+fn measured_goods(world: &World, holding: &Holding, of: Measure) -> u64
+    ensures value { result ≡ measured_goods of world.now holding.now }
+    ensures small { result ≤ most_u32 * most_weight * most_items }
+{
+    let mut sum = 0;
+    for (item, amount) in holding.items() {
+        sum += times(*amount, measured(world, item, of));
+    }
+    sum
+}
+
 /// The weight of a unit's goods: the sum of amount times weight over the items that it holds. Money weighs nothing. It
 /// takes no memory. See docs/RULES.md, "Levels and loads".
 pub fn goods(world: &World, holding: &Holding) -> u64
     ensures value { result ≡ goods_of world.now holding.now }
     ensures small { result ≤ most_u32 * most_weight * most_items }
 {
-    let mut sum = 0;
-    for (item, amount) in holding.items() {
-        sum += times(*amount, weight(world, item));
-    }
-    sum
+    measured_goods(world, holding, Measure::Weight)
 }
 
 /// What a unit's goods carry: the sum of amount times carry over the items that it holds.
@@ -106,11 +135,7 @@ fn carried_by_goods(world: &World, holding: &Holding) -> u64
     ensures value { result ≡ carried_by_goods world.now holding.now }
     ensures small { result ≤ most_u32 * most_weight * most_items }
 {
-    let mut sum = 0;
-    for (item, amount) in holding.items() {
-        sum += times(*amount, carriage(world, item));
-    }
-    sum
+    measured_goods(world, holding, Measure::Carry)
 }
 
 /// The weight of a unit: that of its men and of its goods. It takes no memory. See docs/RULES.md, "Levels and loads".

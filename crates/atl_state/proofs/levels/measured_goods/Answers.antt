@@ -3,9 +3,9 @@ use Rattle.std.proofs.lemmas.List.Sums.{sum_by-cons}
 use Rattle.std.specs.FinMap.{entries, entries_sorted}
 use Rattle.atl_tables.proofs.TrackLaws.{is_true}
 use Rattle.atl_tables.proofs.CountLaws.{begins_zero, sorted_rest}
-use Rattle.atl_state.specs.Levels.{weight_of}
+use Rattle.atl_state.specs.Levels.{measure_of}
 use Rattle.atl_state.proofs.LevelLaws.{added, fits_next, no_more}
-use Rattle.atl_state.proofs.levels.goods.Goals as goal
+use Rattle.atl_state.proofs.levels.measured_goods.Goals as goal
 
 pub loop-item-init : goal.loop-item-init
 loop-item-init c =
@@ -23,9 +23,9 @@ loop-item-preserved c =
     let sorted = rw c.in-Some.ensures.steps at c.loop-item.invariant.sorted in
     let low = c.loop-item.invariant.fits in
     let from = rw c.in-Some.ensures.steps at low.3 in
-    let is = c.times-sum.ensures.value ∙ ap (λ n. c.in-Some.amount.now * n) c.weight.ensures.value in
+    let is = c.times-sum.ensures.value ∙ ap (λ n. c.in-Some.amount.now * n) c.measured.ensures.value in
     record {
-      rest = rw is (added c.loop-item.sum _ _ _ _ (sum_by-cons (λ (x : ℕ × ℕ). x.1 * weight_of c.args.world.now x.0) e c.next.new.self) before);
+      rest = rw is (added c.loop-item.sum _ _ _ _ (sum_by-cons (λ (x : ℕ × ℕ). x.1 * measure_of c.args.of c.args.world.now x.0) e c.next.new.self) before);
       sorted = sorted_rest e c.next.new.self sorted;
-      fits = fits_next low.0 c.loop-item.sum c.times-sum.result e c.next.new.self sorted low.1 low.2 from c.times-sum.ensures.small (λ h. c.times-sum.ensures.value ∙ no_more c.in-Some.amount.now c.weight.result (c.weight.ensures.far h));
+      fits = fits_next low.0 c.loop-item.sum c.times-sum.result e c.next.new.self sorted low.1 low.2 from c.times-sum.ensures.small (λ h. c.times-sum.ensures.value ∙ no_more c.in-Some.amount.now c.measured.result (c.measured.ensures.far h));
     }

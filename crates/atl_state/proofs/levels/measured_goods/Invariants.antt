@@ -4,12 +4,12 @@ use Rattle.std.specs.FinMap.{is_sorted}
 use Rattle.atl_tables.specs.Limits.{most_items, most_weight}
 use Rattle.atl_tables.proofs.CountLaws.{BeginsFrom}
 use Rattle.atl_state.specs.Limits.{most_u32}
-use Rattle.atl_state.specs.Levels.{carried_by_goods, carry_of}
-use Rattle.atl_state.proofs.levels.carried_by_goods.Given as goal
+use Rattle.atl_state.specs.Levels.{measure_of, measured_goods}
+use Rattle.atl_state.proofs.levels.measured_goods.Given as goal
 
 abbrev pub invariant-loop-item : goal.invariant-loop-item
 invariant-loop-item l = record {
-  rest : l.sum + sum_by (λ e. e.1 * carry_of l.world e.0) l.item-iterator ≡ carried_by_goods l.world l.holding;
+  rest : l.sum + sum_by (λ e. e.1 * measure_of l.of l.world e.0) l.item-iterator ≡ measured_goods l.of l.world l.holding;
   sorted : is_sorted nat_cmp l.item-iterator ≡ true;
   fits : (low : ℕ) × (low ≤ most_items) × (l.sum ≤ most_u32 * most_weight * low) × BeginsFrom low l.item-iterator;
 }
