@@ -23,18 +23,6 @@ fn connected<D: Disk + Drop>(
     }
 }
 
-/// What a crash leaves of a campaign as it is founded.
-fn crashed<D: Crash + Drop>(
-    alloc: Global,
-    mut conn: Connection<FileStore<D>>,
-) -> Result<Connection<FileStore<D>>, Fail> {
-    found(alloc, &mut conn)?;
-    match reopened(alloc, conn) {
-        Ok(conn) => Ok(conn),
-        Err(_) => Err(Fail::new("what a crash left can't be opened")),
-    }
-}
-
 /// The rows of the campaign that a database holds.
 fn loaded_rows<S: Alter>(alloc: Global, conn: &mut Connection<S>) -> Result<String, Fail> {
     let (_world, campaign) = load(alloc, conn)?;
@@ -52,6 +40,19 @@ fn is_founded<S: Alter>(
     Ok(())
 }
 
+/// Asserts that what a crash leaves of a campaign as it is founded is this campaign.
+fn comes_back<D: Crash + Drop>(
+    rt: &impl Abort,
+    alloc: Global,
+    mut conn: Connection<FileStore<D>>,
+) -> Result<(), Fail> {
+    found(alloc, &mut conn)?;
+    match reopened(alloc, conn) {
+        Ok(mut again) => is_founded(rt, alloc, &mut again),
+        Err(_) => Err(Fail::new("what a crash left can't be opened")),
+    }
+}
+
 #[test]
 fn a_founded_campaign_is_there_after_a_crash(rt: HostRuntime) -> Result<(), Fail> {
     let alloc = rt.alloc();
@@ -59,7 +60,5 @@ fn a_founded_campaign_is_there_after_a_crash(rt: HostRuntime) -> Result<(), Fail
         log: Memory::new(alloc),
         db: Memory::new(alloc),
     };
-    let conn = connected(alloc, files)?;
-    let mut again = crashed(alloc, conn)?;
-    is_founded(&rt, alloc, &mut again)
+    comes_back(&rt, alloc, connected(alloc, files)?)
 }
