@@ -17,7 +17,8 @@ use Rattle.std.proofs.lemmas.List.Sorted.{IsPermutation-map}
 use Rattle.atl_state.specs.Deciding.{EachOf}
 use Rattle.atl_state.specs.State.{State}
 use Rattle.atl_state.specs.declared.records.Unit.{Unit}
-use Rattle.atl_state.proofs.BackLaws.{append_apart, append_each, entries_rise, filter_apart, filter_each, flat_apart}
+use Rattle.atl_state.proofs.BackLaws.{append_apart, append_each, entries_rise, flat_apart}
+use Rattle.atl_state.proofs.GroupLaws.{filter_apart, filter_each}
 use Rattle.atl_state.proofs.EveryLaws.{each-from_every, get-insert_other}
 use Rattle.atl_state.proofs.ListLaws.{other_number, same_number}
 use Rattle.atl_state.proofs.KeyLaws.{IsDistinct-map}
@@ -165,9 +166,9 @@ module _ (c : State) where
     work_apart : IsDistinct same_work os → IsDistinct same_work (all_written c os)
     work_apart apart =
         let chosen = filter (λ (o : Written). is_work o.verb) os in
-        append_apart same_work chosen (all_idle c os) (filter_apart same_work (λ o. is_work o.verb) os apart) idle_apart
+        append_apart same_work chosen (all_idle c os) (filter_apart (λ o. is_work o.verb) same_work os apart) idle_apart
         (each_so (IsListed writers) (λ o. AllByRecursion (λ i. same_work o i ≡ false) (all_idle c os)) (λ o listed. each_so IsIdle (λ i. same_work o i ≡ false) (λ i idle. written_idle o i listed idle) (all_idle c os) each_idle) chosen
-        (filter_each (IsListed writers) (λ o. is_work o.verb) os (own_is_listed empty os)))
+        (filter_each (λ o. is_work o.verb) (IsListed writers) os (own_is_listed empty os)))
 
 -- ---- as they are collected and sorted, and as the map lists them
 

@@ -96,7 +96,9 @@ module _ (m : ℕ) (all : List Purse) where
       rest n u l is =
           let is_lower : nat_lt k n ≡ true = grind (arith, nat_tests, l) in
           let among : lower n ((k, v) ∷ es) ≡ purse_of (k, v) ∷ lower n es = ap (λ b. with_first b (lower_entries n es)) is_lower in
-          is ∙ ap (λ l. Some (kept u (settled_one m all l (purse_of (n, u))))) (append_assoc before (purse_of (k, v) ∷ []) (lower n es) ∙ sym (ap (λ l. before ++ l) among))
+          is
+          ∙ ap (λ l. Some (kept u (settled_one m all l (purse_of (n, u)))))
+          (append_assoc before (purse_of (k, v) ∷ []) (lower n es) ∙ sym (ap (λ l. before ++ l) among))
 
 -- ---- the peers of a unit
 
@@ -134,7 +136,8 @@ lower_purses n (e ∷ es) = either (lower_purses n es) (nat_lt e.0 n)
     lower : List Purse
     lower = filter (λ (p : Purse). nat_lt p.unit n) (map purse_of es)
 
-    either : lower ≡ map purse_of (lower_entries n es) → (b : Bool) → cond b (purse_of e ∷ lower) lower ≡ map purse_of (cond b (e ∷ lower_entries n es) (lower_entries n es))
+    either : lower ≡ map purse_of (lower_entries n es) → (b : Bool)
+        → cond b (purse_of e ∷ lower) lower ≡ map purse_of (cond b (e ∷ lower_entries n es) (lower_entries n es))
     either same true = ap (λ l. purse_of e ∷ l) same
     either same false = same
 
@@ -176,12 +179,14 @@ module _ (w : Planet) (c : State) where
   each_alone [] h = tt
   each_alone ((n, u) ∷ es) h = (
     h.0
-    ∙ ap (λ s. Some (kept u s))
-    (among_peers maintenance (purse_of (n, u)) (purses_of c) (lower maintenance (purses_of c) n (entries c.units)) (λ p. nat_lt p.unit n) (sym (lower_purses n (entries c.units)))),
+        ∙ ap (λ s. Some (kept u s))
+        (among_peers maintenance (purse_of (n, u)) (purses_of c) (lower maintenance (purses_of c) n (entries c.units)) (λ p. nat_lt p.unit n)
+        (sym (lower_purses n (entries c.units)))),
     each_alone es h.1,
   )
 
   pub upkeep_is_of_peers : Every IsAlone c.units
   upkeep_is_of_peers =
       let here = each-from_every (λ n u. get c.units n ≡ Some u) c.units (λ n u is. is) in
-      every-from_each _ c.units (each_alone (entries c.units) (each_settled maintenance (purses_of c) [] (entries c.units) c (entries_rise c.units) here))
+      let settled = each_settled maintenance (purses_of c) [] (entries c.units) c (entries_rise c.units) here in
+      every-from_each _ c.units (each_alone (entries c.units) settled)

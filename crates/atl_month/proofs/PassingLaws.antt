@@ -44,7 +44,8 @@ Owes c s more = pos (total c s) ≡ booked c.books s +ℤ pos more
 -- ---- a unit that keeps all
 
 pub kept-refl : (u : Unit) → IsKept u u
-kept-refl u = record { faction = refl; region = refl; structure = refl; name = refl; men = refl; guard = refl; days = refl; money = omega arith; items = λ i. omega arith }
+kept-refl u =
+    record { faction = refl; region = refl; structure = refl; name = refl; men = refl; guard = refl; days = refl; money = omega arith; items = λ i. omega arith }
 
 pub kept-trans : (u v x : Unit) → IsKept u v → IsKept v x → IsKept u x
 kept-trans u v x one two = record {
@@ -61,7 +62,8 @@ kept-trans u v x one two = record {
 
 -- ---- what passing on does
 
--- What a campaign was, and what it is once something of a unit was passed on: there is so much more of each thing than is booked, so far were the amounts of the books moved, and each unit keeps all.
+-- What a campaign was, and what it is once something of a unit was passed on: there is so much more of each thing than
+-- is booked, so far were the amounts of the books moved, and each unit keeps all.
 pub record PassesOn (w : Planet) (n : ℕ) (owing : Thing → ℕ) (moving : Moving) (c d : State) : Type 0 where
   pub steady : IsSteady w d
   pub owes : (s : Thing) (x : ℕ) → Owes c s x → Owes d s (x + owing s)
@@ -85,7 +87,8 @@ passes-refl w n c steady = record {
     plain : (x : ℕ) → x ≡ x + 0
     plain x = omega arith
 
-pub passes-trans : {o p : Thing → ℕ} {i j : Moving} (w : Planet) (n : ℕ) (a b c : State) → PassesOn w n o i a b → PassesOn w n p j b c → PassesOn w n (λ s. o s + p s) (both_move i j) a c
+pub passes-trans : {o p : Thing → ℕ} {i j : Moving} (w : Planet) (n : ℕ) (a b c : State) → PassesOn w n o i a b → PassesOn w n p j b c
+    → PassesOn w n (λ s. o s + p s) (both_move i j) a c
 passes-trans {o} {p} {i} {j} w n a b c one two = record {
   steady = two.steady;
   owes = λ s x h. subst (Owes c s) (grouped x (o s) (p s)) (two.owes s (x + o s) (one.owes s x h));
@@ -109,7 +112,8 @@ owed : (b : Bool) (taken lost x before after : ℕ) (books : ℤ) → after ≡ 
 owed true taken lost x before after books e h = omega (arith, ints, e, h)
 owed false taken lost x before after books e h = omega (arith, ints, e, h)
 
-owed_all : (b : Bool) (lost x all : ℕ) (books : ℤ) → pos all ≡ books +ℤ pos x → pos all ≡ (books +ℤ cond b (neg_ℤ (pos lost)) (pos 0)) +ℤ pos (x + cond b lost 0)
+owed_all : (b : Bool) (lost x all : ℕ) (books : ℤ) → pos all ≡ books +ℤ pos x
+    → pos all ≡ (books +ℤ cond b (neg_ℤ (pos lost)) (pos 0)) +ℤ pos (x + cond b lost 0)
 owed_all true lost x all books h = omega (arith, ints, h)
 owed_all false lost x all books h = omega (arith, ints, h)
 
@@ -121,7 +125,8 @@ module _ (w : Planet) (c : State) (n : ℕ) (t : Thing) (inside : thing_place t 
     owes = λ s x h.
         ap pos (total-amount c Lost t s (neg_ℤ (pos amount)))
         ∙ owed_all (thing_place s == thing_place t) amount x (total c s) (booked c.books s) h
-        ∙ ap (λ z. z +ℤ pos (x + part_of s t amount)) (sym (booked-with_booked (things_of w) c.books Lost t (neg_ℤ (pos amount)) steady.numbers.books inside s));
+        ∙ ap (λ z. z +ℤ pos (x + part_of s t amount))
+        (sym (booked-with_booked (things_of w) c.books Lost t (neg_ℤ (pos amount)) steady.numbers.books inside s));
     near = booked-near (things_of w) c.books Lost t (neg_ℤ (pos amount)) amount steady.numbers.books inside (within-neg amount amount (omega arith));
     same = record { month = refl; reports = refl; count = refl; factions = λ k h. h };
     unit = refl;
@@ -130,7 +135,8 @@ module _ (w : Planet) (c : State) (n : ℕ) (t : Thing) (inside : thing_place t 
   }
 
   -- an amount of which a unit takes a part
-  module _ (k : ℕ) (v : Unit) (h : Held) (is : get c.units k ≡ Some v) (apart : n ≢ k) (may : MayHold w v h) (kept : IsKept v (record v { holding = h })) (taken lost : ℕ)
+  module _ (k : ℕ) (v : Unit) (h : Held) (is : get c.units k ≡ Some v) (apart : n ≢ k) (may : MayHold w v h)
+      (kept : IsKept v (record v { holding = h })) (taken lost : ℕ)
       (more : (s : Thing) → held s h ≡ held s v.holding + part_of s t taken) where
     abbrev given : State
     given = with_held c k h (Some v)
@@ -147,23 +153,35 @@ module _ (w : Planet) (c : State) (n : ℕ) (t : Thing) (inside : thing_place t 
       owes = λ s x e.
           ap pos (total-amount given Lost t s (neg_ℤ (pos lost)))
           ∙ owed (thing_place s == thing_place t) taken lost x (total c s) (total given s) (booked c.books s) (grown s) e
-          ∙ ap (λ z. z +ℤ pos (x + part_of s t (taken + lost))) (sym (booked-with_booked (things_of w) c.books Lost t (neg_ℤ (pos lost)) steady.numbers.books inside s));
-      near = booked-near (things_of w) c.books Lost t (neg_ℤ (pos lost)) (taken + lost) steady.numbers.books inside (within-neg lost (taken + lost) (omega arith));
+          ∙ ap (λ z. z +ℤ pos (x + part_of s t (taken + lost)))
+          (sym (booked-with_booked (things_of w) c.books Lost t (neg_ℤ (pos lost)) steady.numbers.books inside s));
+      near =
+          booked-near (things_of w) c.books Lost t (neg_ℤ (pos lost)) (taken + lost) steady.numbers.books inside
+          (within-neg lost (taken + lost) (omega arith));
       same = record { month = refl; reports = refl; count = refl; factions = λ m h. h };
       unit = get-insert_other c.units k n (record v { holding = h }) apart;
       forth = λ m u there. new_unit m u there;
-      back = every-insert (λ m x. (u : Unit) × (get c.units m ≡ Some u) × IsKept u x) c.units k (record v { holding = h }) (v, is, kept) (λ m x there. (x, there, kept-refl x));
+      back =
+          every-insert (λ m x. (u : Unit) × (get c.units m ≡ Some u) × IsKept u x) c.units k (record v { holding = h }) (v, is, kept)
+          (λ m x there. (x, there, kept-refl x));
     }
       where
         new_unit : (m : ℕ) (u : Unit) → get c.units m ≡ Some u → (x : Unit) × (get (insert c.units k (record v { holding = h })) m ≡ Some x) × IsKept u x
         new_unit m u there =
             elim (nat_cmp m k) as (λ o. nat_cmp m k ≡ o → (x : Unit) × (get (insert c.units k (record v { holding = h })) m ≡ Some x) × IsKept u x) [
-              | Less ↦ λ o. (u, get-insert_other c.units k m (record v { holding = h }) (λ same. let l = ranked m k Less (sym o) in absurd (omega arith)) ∙ there, kept-refl u)
+              | Less ↦ λ o.
+                  let other : m ≢ k = λ same. let l = ranked m k Less (sym o) in omega arith in
+                  (u, get-insert_other c.units k m (record v { holding = h }) other ∙ there, kept-refl u)
               | Equal ↦ λ o.
                   let same : m ≡ k = nat_cmp-IsAntisymmetric m k o in
-                  let one : Some v ≡ Some u = sym is ∙ ap (get c.units) (sym same) ∙ there in
-                  (record v { holding = h }, ap (get (insert c.units k (record v { holding = h }))) same ∙ get-insert_same c.units k (record v { holding = h }), subst (λ (x : Unit). IsKept x (record v { holding = h })) (same_Some v u one) kept)
-              | Greater ↦ λ o. (u, get-insert_other c.units k m (record v { holding = h }) (λ same. let l = ranked m k Greater (sym o) in absurd (omega arith)) ∙ there, kept-refl u)
+                  let one : Some v ≡ Some u = sym is ∙ ap (get c.units) (sym same) ∙ there in (
+                    record v { holding = h },
+                    ap (get (insert c.units k (record v { holding = h }))) same ∙ get-insert_same c.units k (record v { holding = h }),
+                    subst (λ (x : Unit). IsKept x (record v { holding = h })) (same_Some v u one) kept,
+                  )
+              | Greater ↦ λ o.
+                  let other : m ≢ k = λ same. let l = ranked m k Greater (sym o) in omega arith in
+                  (u, get-insert_other c.units k m (record v { holding = h }) other ∙ there, kept-refl u)
             ] refl
 
 -- ---- so much more of an item
@@ -172,10 +190,12 @@ nothing_added : (b : Bool) (x n : ℕ) → b ≡ false → x ≡ x + cond b n 0
 nothing_added true x n e = cc
 nothing_added false x n e = omega arith
 
-more_amount : (items : FinMap nat_cmp ℕ) (i n j : ℕ) → amount_of (with_amount_of items i (amount_of items i + n)) j ≡ amount_of items j + cond (2 + j == 2 + i) n 0
+more_amount : (items : FinMap nat_cmp ℕ) (i n j : ℕ)
+    → amount_of (with_amount_of items i (amount_of items i + n)) j ≡ amount_of items j + cond (2 + j == 2 + i) n 0
 more_amount items i n j =
     set_amount items i (amount_of items i + n) j
-    ∙ elim (nat_cmp j i) as (λ o. nat_cmp j i ≡ o → cond (is_eq o) (amount_of items i + n) (amount_of items j) ≡ amount_of items j + cond (2 + j == 2 + i) n 0) [
+    ∙ elim (nat_cmp j i)
+    as (λ o. nat_cmp j i ≡ o → cond (is_eq o) (amount_of items i + n) (amount_of items j) ≡ amount_of items j + cond (2 + j == 2 + i) n 0) [
       | Less ↦ λ o. let l = ranked j i Less (sym o) in nothing_added (2 + j == 2 + i) (amount_of items j) n (below l)
       | Equal ↦ λ o. here (nat_cmp-IsAntisymmetric j i o)
       | Greater ↦ λ o. let l = ranked j i Greater (sym o) in nothing_added (2 + j == 2 + i) (amount_of items j) n (above l)
@@ -226,13 +246,16 @@ module _ (w : Planet) (c : State) (n k : ℕ) (apart : n ≢ k) (steady : IsStea
           let money = v.holding.money + taken in
           let h = record v.holding { money = money } in
           let most = (steady.numbers.units k v is).1.money in
-          subst (Passed Money amount) (ap (λ m. with_lost (record c { units = m }) Money (amount - taken)) (sym (changed-known (λ u. record u { holding = record u.holding { money = money } }) c.units k v is)))
+          subst (Passed Money amount)
+          (ap (λ m. with_lost (record c { units = m }) Money (amount - taken))
+          (sym (changed-known (λ u. record u { holding = record u.holding { money = money } }) c.units k v is)))
           (subst (λ a. Passed Money a (with_lost (with_held c k h (Some v)) Money (amount - taken))) (whole amount v.holding.money)
           (part_lost w c n Money (omega arith) steady k v h is apart (may_hold_money w c k money v is (fits amount v.holding.money most) steady)
           (record { faction = refl; region = refl; structure = refl; name = refl; men = refl; guard = refl; days = refl; money = omega arith; items = λ i. omega arith })
           taken (amount - taken) (more_money v.holding taken)))
 
-  more_item : (h : Held) (i n : ℕ) (s : Thing) → held s (record h { items = with_amount_of h.items i (amount_of h.items i + n) }) ≡ held s h + part_of s (Item i) n
+  more_item : (h : Held) (i n : ℕ) (s : Thing)
+      → held s (record h { items = with_amount_of h.items i (amount_of h.items i + n) }) ≡ held s h + part_of s (Item i) n
   more_item h i n Money = nothing_added (0 == 2 + i) h.money n (let e : (0 == 2 + i) ≡ false = grind (arith, nat_tests) in e)
   more_item h i n People = nothing_added (1 == 2 + i) h.men n (let e : (1 == 2 + i) ≡ false = grind (arith, nat_tests) in e)
   more_item h i n (Item j) = more_amount h.items i n j
@@ -253,10 +276,15 @@ module _ (w : Planet) (c : State) (n k : ℕ) (apart : n ≢ k) (steady : IsStea
           let most = fits amount have (amount_within v.holding i (steady.numbers.units k v is).1) in
           let place = steady.known.units k v is in
           let holding = (steady.numbers.units k v is).1 in
-          subst (λ a. Passed (Item i) a (with_lost (with_held c k (record v.holding { items = items }) (Some v)) (Item i) (amount - taken))) (whole amount have)
+          subst (λ a. Passed (Item i) a (with_lost (with_held c k (record v.holding { items = items }) (Some v)) (Item i) (amount - taken)))
+          (whole amount have)
           (part_lost w c n (Item i) inside steady k v (record v.holding { items = items }) is apart
           (record {
-            limits = record { men = holding.men; money = holding.money; items = every_amount (λ j a. (1 ≤ a) × (a ≤ holding_limit)) v.holding.items i (have + taken) (λ some. (some, most)) holding.items };
+            limits = record {
+              men = holding.men;
+              money = holding.money;
+              items = every_amount (λ j a. (1 ≤ a) × (a ≤ holding_limit)) v.holding.items i (have + taken) (λ some. (some, most)) holding.items;
+            };
             name = steady.names.units k v is;
             items = every_amount (λ j a. j < length w.items) v.holding.items i (have + taken) (λ some. known) place.items;
             skills = place.skills;
@@ -283,4 +311,5 @@ pub pass_items : (w : Planet) (c : State) (n k : ℕ) → n ≢ k → (es : List
 pass_items w c n k apart [] known steady = passes-refl w n c steady
 pass_items w c n k apart ((i, a) ∷ es) known steady =
     let one = pass_item w c n k apart steady i a known.0 in
-    passes-trans w n c (passed_item k c (i, a)) (fold (passed_item k) (passed_item k c (i, a)) es) one (pass_items w (passed_item k c (i, a)) n k apart es known.1 one.steady)
+    passes-trans w n c (passed_item k c (i, a)) (fold (passed_item k) (passed_item k c (i, a)) es) one
+    (pass_items w (passed_item k c (i, a)) n k apart es known.1 one.steady)

@@ -56,7 +56,9 @@ module _ (m : AccountMap) (r f : ℕ) (a : Account) where
 
 module _ (amount : Purse → ℕ) (test : Purse → Bool) (xs : List Purse) (p : Purse) where
   pub among_more : sum_by amount (filter test (xs ++ p ∷ [])) ≡ sum_by amount (filter test xs) + cond (test p) (amount p) 0
-  among_more = ap (sum_by amount) (filter-append test xs (p ∷ [])) ∙ sum_by-append amount (filter test xs) (filter test (p ∷ [])) ∙ ap (λ n. sum_by amount (filter test xs) + n) (one (test p))
+  among_more =
+      ap (sum_by amount) (filter-append test xs (p ∷ [])) ∙ sum_by-append amount (filter test xs) (filter test (p ∷ []))
+      ∙ ap (λ n. sum_by amount (filter test xs) + n) (one (test p))
     where
       one : (b : Bool) → sum_by amount (cond b (p ∷ []) []) ≡ cond b (amount p) 0
       one true = omega arith
@@ -70,7 +72,8 @@ account_is a b c d e f g h x y z u = rw (x, y, z, u) refl
 
 -- The account of each unit is so behind a unit's, if that unit's is so, and those of others stay so.
 pub each_account : (P : ℕ → ℕ → Account → Type 0) (m : AccountMap) (p : Purse) (a : Account)
-    → P p.region p.faction a → ((s g : ℕ) → is_purse_of s g p ≡ false → P s g (account_at m s g)) → (s g : ℕ) → P s g (account_at (with_account m p.region p.faction a) s g)
+    → P p.region p.faction a → ((s g : ℕ) → is_purse_of s g p ≡ false → P s g (account_at m s g))
+    → (s g : ℕ) → P s g (account_at (with_account m p.region p.faction a) s g)
 each_account P m p a here others s g = by_test (is_purse_of s g p) refl
   where
     both : (b c : Bool) → (b && c) ≡ true → (b ≡ true) × (c ≡ true)
@@ -131,7 +134,8 @@ module _ (m : ℕ) (before : List Purse) (p : Purse) where
   none_given : (x y : ℕ) → min 0 x ≡ min 0 y
   none_given x y = omega arith
 
-  pub opened_more : (accounts : AccountMap) (a : Account) → ((s g : ℕ) → account_at accounts s g ≡ account_of m before [] s g) → a ≡ counted m p (account_at accounts p.region p.faction)
+  pub opened_more : (accounts : AccountMap) (a : Account) → ((s g : ℕ) → account_at accounts s g ≡ account_of m before [] s g)
+      → a ≡ counted m p (account_at accounts p.region p.faction)
       → (s g : ℕ) → account_at (with_account accounts p.region p.faction a) s g ≡ account_of m more [] s g
   opened_more accounts a each is =
       each_account (λ s g b. b ≡ account_of m more [] s g) accounts p a
@@ -155,7 +159,8 @@ next_dealt before want amount = omega arith
 is_dealt : (before want amount : ℕ) → min (amount - min before amount) want ≡ min (before + want) amount - min before amount
 is_dealt before want amount = omega arith
 
-module _ (m : ℕ) (all before : List Purse) (p : Purse) (accounts : AccountMap) (each : (s g : ℕ) → account_at accounts s g ≡ account_of m all before s g) where
+module _ (m : ℕ) (all before : List Purse) (p : Purse) (accounts : AccountMap)
+    (each : (s g : ℕ) → account_at accounts s g ≡ account_of m all before s g) where
   abbrev now : Account
   now = account_of m all before p.region p.faction
 

@@ -79,7 +79,9 @@ one_moved a t e s = by_number (amount_number e s == amount_number Lost t) refl
         let small = entry_small e in
         let thing : thing_place s ≡ thing_place t = omega arith in
         let entry : entry_place e ≡ 7 = omega arith in
-        at_place (entry_place e == 7) (thing_place s == thing_place t) (let f : (entry_place e == 7) ≡ true = grind (arith, nat_tests) in f) (let g : (thing_place s == thing_place t) ≡ true = grind (arith, nat_tests) in g)
+        let is_lost : (entry_place e == 7) ≡ true = grind (arith, nat_tests) in
+        let is_thing : (thing_place s == thing_place t) ≡ true = grind (arith, nat_tests) in
+        at_place (entry_place e == 7) (thing_place s == thing_place t) is_lost is_thing
     by_number false is = omega arith
 
 lost_sum : (e : Entry) (x y m n : ℕ) → x ≤ of_lost e m → y ≤ of_lost e n → x + y ≤ of_lost e (m + n)
@@ -91,15 +93,19 @@ lost_sum e x y m n = by_test (entry_place e == 7)
 
 items_moved : (es : List (ℕ × ℕ)) (e : Entry) (s : Thing) → moving_items es e s ≤ of_lost e (owing_items es s)
 items_moved [] e s = omega arith
-items_moved (x ∷ xs) e s = lost_sum e (moves_only x.1 Lost (Item x.0) e s) (moving_items xs e s) (part_of s (Item x.0) x.1) (owing_items xs s) (one_moved x.1 (Item x.0) e s) (items_moved xs e s)
+items_moved (x ∷ xs) e s =
+    lost_sum e (moves_only x.1 Lost (Item x.0) e s) (moving_items xs e s) (part_of s (Item x.0) x.1) (owing_items xs s)
+    (one_moved x.1 (Item x.0) e s) (items_moved xs e s)
 
 all_moved : (h : Held) → h.men ≡ 0 → (e : Entry) (s : Thing) → moving_all h e s ≤ of_lost e (held s h)
 all_moved h none e s =
     subst (λ n. moving_all h e s ≤ of_lost e n) (all_owed h none s)
-    (lost_sum e (moves_only h.money Lost Money e s) (moving_items (entries h.items) e s) (part_of s Money h.money) (owing_items (entries h.items) s) (one_moved h.money Money e s) (items_moved (entries h.items) e s))
+    (lost_sum e (moves_only h.money Lost Money e s) (moving_items (entries h.items) e s) (part_of s Money h.money)
+    (owing_items (entries h.items) s) (one_moved h.money Money e s) (items_moved (entries h.items) e s))
 
 -- within what a unit may hold
-little_lost : (h : Held) → h.men ≡ 0 → h.money ≤ holding_limit → ((i : ℕ) → amount_of h.items i ≤ holding_limit) → (e : Entry) (s : Thing) → of_lost e (held s h) ≤ loses_by most_amount e s
+little_lost : (h : Held) → h.men ≡ 0 → h.money ≤ holding_limit → ((i : ℕ) → amount_of h.items i ≤ holding_limit) → (e : Entry) (s : Thing)
+    → of_lost e (held s h) ≤ loses_by most_amount e s
 little_lost h none money items e Money = by_test (entry_place e == 7)
   where
     by_test : (b : Bool) → cond b h.money 0 ≤ (if b && not false then most_amount else 0)
@@ -110,7 +116,9 @@ little_lost h none money items e People = by_test (entry_place e == 7)
     by_test : (b : Bool) → cond b h.men 0 ≤ (if b && not true then most_amount else 0)
     by_test true = omega (arith, none)
     by_test false = omega arith
-little_lost h none money items e (Item j) = let apart : (2 + j == 1) ≡ false = grind (arith, nat_tests) in by_test (entry_place e == 7) (2 + j == 1) apart
+little_lost h none money items e (Item j) =
+    let apart : (2 + j == 1) ≡ false = grind (arith, nat_tests) in
+    by_test (entry_place e == 7) (2 + j == 1) apart
   where
     by_test : (b d : Bool) → d ≡ false → cond b (amount_of h.items j) 0 ≤ (if b && not d then most_amount else 0)
     by_test true false f = items j
@@ -155,7 +163,8 @@ module _ (w : Planet) (c : State) (n : ℕ) (u : Unit) (is : get c.units n ≡ S
   passing =
       let apart = receiver_apart u.region u.faction in
       let money = pass_money w c n to apart steady u.holding.money in
-      passes-trans w n c (passed_money c to u.holding.money) passed money (pass_items w (passed_money c to u.holding.money) n to apart (entries u.holding.items) known money.steady)
+      passes-trans w n c (passed_money c to u.holding.money) passed money
+      (pass_items w (passed_money c to u.holding.money) n to apart (entries u.holding.items) known money.steady)
 
   there_still : get passed.units n ≡ Some u
   there_still = passing.unit ∙ is
@@ -168,7 +177,8 @@ module _ (w : Planet) (c : State) (n : ℕ) (u : Unit) (is : get c.units n ≡ S
       let before : Owes passed s (0 + owing_all u.holding s) = passing.owes s 0 (old s ∙ plain _) in
       let total_is = total-without w passed n u there_still s in
       let only = only_reduced w passed n u there_still in
-      rest (total swept s) (held s u.holding) (total passed s) (owing_all u.holding s) (booked passed.books s) total_is (all_owed u.holding none s) before
+      rest (total swept s) (held s u.holding) (total passed s) (owing_all u.holding s) (booked passed.books s) total_is
+      (all_owed u.holding none s) before
       ∙ ap (λ (books : List (List ℤ)). booked books s) (sym only.books)
     where
       plain : (z : ℤ) → z ≡ z +ℤ pos 0
@@ -182,7 +192,8 @@ module _ (w : Planet) (c : State) (n : ℕ) (u : Unit) (is : get c.units n ≡ S
 
   pub moves_little : (e : Entry) (s : Thing) → moving_all u.holding e s ≤ loses_by most_amount e s
   moves_little e s =
-      less_less (moving_all u.holding e s) (of_lost e (held s u.holding)) (loses_by most_amount e s) (all_moved u.holding none e s) (little_lost u.holding none (steady.numbers.units n u is).1.money (λ i. amount_within u.holding i (steady.numbers.units n u is).1) e s)
+      less_less (moving_all u.holding e s) (of_lost e (held s u.holding)) (loses_by most_amount e s) (all_moved u.holding none e s)
+      (little_lost u.holding none (steady.numbers.units n u is).1.money (λ i. amount_within u.holding i (steady.numbers.units n u is).1) e s)
 
   pub swept_leaves_well : LeavesWell IsSteady (loses_by most_amount) w c swept
   swept_leaves_well =

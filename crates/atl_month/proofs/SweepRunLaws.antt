@@ -32,41 +32,50 @@ use Rattle.atl_month.proofs.SweepLaws.{moves_little, moving_all}
 
 -- ---- marks
 
-pub lost_marks : (things amount : ℕ) (c d : Marked) (t : Thing) → IsGrid things c.what.books → thing_place t < things → d.what ≡ with_lost c.what t amount → d.marks ≡ mark_amount c Lost t → MarksChanges c d
+pub lost_marks : (things amount : ℕ) (c d : Marked) (t : Thing) → IsGrid things c.what.books → thing_place t < things
+    → d.what ≡ with_lost c.what t amount → d.marks ≡ mark_amount c Lost t → MarksChanges c d
 lost_marks things amount c d t grid inside what marks =
-    marks_by c d (record { what = with_lost c.what t amount; marks = mark_amount c Lost t }) what marks (marks-amount things c Lost t (neg_ℤ (pos amount)) grid inside)
+    marks_by c d (record { what = with_lost c.what t amount; marks = mark_amount c Lost t }) what marks
+    (marks-amount things c Lost t (neg_ℤ (pos amount)) grid inside)
 
-pub money_marks : (things money lost to : ℕ) (c d e : Marked) → d.what ≡ with_money c.what to money → d.marks ≡ mark_unit_row c to → e.what ≡ with_lost d.what Money lost → e.marks ≡ mark_amount d Lost Money
+pub money_marks : (things money lost to : ℕ) (c d e : Marked) → d.what ≡ with_money c.what to money → d.marks ≡ mark_unit_row c to
+    → e.what ≡ with_lost d.what Money lost → e.marks ≡ mark_amount d Lost Money
     → IsGrid things c.what.books → 2 ≤ things → MarksChanges c e
 money_marks things money lost to c d e d_is d_marks e_is e_marks grid two =
     let books : d.what.books ≡ c.what.books = ap (λ (s : State). s.books) d_is in
     marks-trans c d e
-    (marks_by c d (record { what = with_money c.what to money; marks = mark_unit_row c to }) d_is d_marks (marks-unit_row (λ u. record u { holding = record u.holding { money = money } }) (λ u. refl) c to))
+    (marks_by c d (record { what = with_money c.what to money; marks = mark_unit_row c to }) d_is d_marks
+    (marks-unit_row (λ u. record u { holding = record u.holding { money = money } }) (λ u. refl) c to))
     (lost_marks things lost d e Money (rw books grid) (omega (arith, two)) e_is e_marks)
 
-pub item_marks : (things lost to item : ℕ) (c d e : Marked) (h : Held) → d ≡ lent c to h → d.what.books ≡ c.what.books → e.what ≡ with_lost d.what (Item item) lost → e.marks ≡ mark_amount d Lost (Item item)
+pub item_marks : (things lost to item : ℕ) (c d e : Marked) (h : Held) → d ≡ lent c to h → d.what.books ≡ c.what.books
+    → e.what ≡ with_lost d.what (Item item) lost → e.marks ≡ mark_amount d Lost (Item item)
     → IsGrid things c.what.books → 2 + item < things → MarksChanges c e
 item_marks things lost to item c d e h d_is books e_is e_marks grid inside =
-    marks-trans c d e (subst (MarksChanges c) (sym d_is) (marks-lent c to h)) (lost_marks things lost d e (Item item) (rw books grid) inside e_is e_marks)
+    marks-trans c d e (subst (MarksChanges c) (sym d_is) (marks-lent c to h))
+    (lost_marks things lost d e (Item item) (rw books grid) inside e_is e_marks)
 
 pub gone_marks : (c d : Marked) (n : ℕ) → d.what ≡ with_gone c.what n → d.marks ≡ mark_faction c n → MarksChanges c d
 gone_marks c d n what marks = marks_by c d (record { what = with_gone c.what n; marks = mark_faction c n }) what marks (marks-gone_faction c n)
 
 -- ---- an item that is passed on
 
-pub passed_item_is : (c : State) (to item amount : ℕ) (v : Unit) → get c.units to ≡ Some v → item_to c to item amount (Some v) ≡ passed_item to c (item, amount)
+pub passed_item_is : (c : State) (to item amount : ℕ) (v : Unit) → get c.units to ≡ Some v
+    → item_to c to item amount (Some v) ≡ passed_item to c (item, amount)
 unfolding passed_item
 passed_item_is c to item amount v is = sym (ap (item_to c to item amount) is)
 
 -- ---- room
 
-pub near_leaves_room : (j k : Moving) (c d : State) → ((e : Entry) (t : Thing) → IsNear (j e t) (amount_in c.books e t) (amount_in d.books e t)) → HaveRoom (both_move j k) c → HaveRoom k d
+pub near_leaves_room : (j k : Moving) (c d : State) → ((e : Entry) (t : Thing) → IsNear (j e t) (amount_in c.books e t) (amount_in d.books e t))
+    → HaveRoom (both_move j k) c → HaveRoom k d
 near_leaves_room j k c d near room e t = near_room (j e t) (k e t) (amount_in c.books e t) (amount_in d.books e t) (near e t) (room e t)
 
 pub first_room : (x : ℕ × ℕ) (xs : List (ℕ × ℕ)) (c : State) → HaveRoom (moving_items (x ∷ xs)) c → HasRoom x.1 (amount_in c.books Lost (Item x.0))
 first_room x xs c room =
     less_room x.1 (moving_items (x ∷ xs) Lost (Item x.0)) (amount_in c.books Lost (Item x.0))
-    (at_least (amount_number Lost (Item x.0) == amount_number Lost (Item x.0)) (moving_items xs Lost (Item x.0)) (same_number (amount_number Lost (Item x.0)))) (room Lost (Item x.0))
+    (at_least (amount_number Lost (Item x.0) == amount_number Lost (Item x.0)) (moving_items xs Lost (Item x.0))
+    (same_number (amount_number Lost (Item x.0)))) (room Lost (Item x.0))
   where
     at_least : (b : Bool) (m : ℕ) → b ≡ true → x.1 ≤ (if b then x.1 else 0) + m
     at_least true m t = omega arith
@@ -76,16 +85,21 @@ another : (n : ℕ) → suc n ≢ n
 another n same = omega (arith, same)
 
 module _ (w : Planet) (c : State) (steady : IsSteady w c) where
-  pub item_passes : (to i amount : ℕ) → i < length w.items → PassesOn w (suc to) (λ s. part_of s (Item i) amount) (moves_only amount Lost (Item i)) c (passed_item to c (i, amount))
+  pub item_passes : (to i amount : ℕ) → i < length w.items
+      → PassesOn w (suc to) (λ s. part_of s (Item i) amount) (moves_only amount Lost (Item i)) c (passed_item to c (i, amount))
   item_passes to i amount known = pass_item w c (suc to) to (another to) steady i amount known
 
-  pub rest_room : (to : ℕ) (x : ℕ × ℕ) (xs : List (ℕ × ℕ)) → x.0 < length w.items → HaveRoom (moving_items (x ∷ xs)) c → HaveRoom (moving_items xs) (passed_item to c x)
-  rest_room to x xs known room = near_leaves_room (moves_only x.1 Lost (Item x.0)) (moving_items xs) c (passed_item to c x) (item_passes to x.0 x.1 known).near room
+  pub rest_room : (to : ℕ) (x : ℕ × ℕ) (xs : List (ℕ × ℕ)) → x.0 < length w.items → HaveRoom (moving_items (x ∷ xs)) c
+      → HaveRoom (moving_items xs) (passed_item to c x)
+  rest_room to x xs known room =
+      near_leaves_room (moves_only x.1 Lost (Item x.0)) (moving_items xs) c (passed_item to c x) (item_passes to x.0 x.1 known).near room
 
   pub money_steady : (to amount : ℕ) → IsSteady w (passed_money c to amount)
   money_steady to amount = (pass_money w c (suc to) to (another to) steady amount).steady
 
-  pub items_room : (n to : ℕ) (u : Unit) → get c.units n ≡ Some u → u.holding.men ≡ 0 → HaveRoom (loses_by most_amount) c → HaveRoom (moving_items (entries u.holding.items)) (passed_money c to u.holding.money)
+  pub items_room : (n to : ℕ) (u : Unit) → get c.units n ≡ Some u → u.holding.men ≡ 0 → HaveRoom (loses_by most_amount) c
+      → HaveRoom (moving_items (entries u.holding.items)) (passed_money c to u.holding.money)
   items_room n to u is none room =
-      near_leaves_room (moves_only u.holding.money Lost Money) (moving_items (entries u.holding.items)) c (passed_money c to u.holding.money) (pass_money w c (suc to) to (another to) steady u.holding.money).near
+      near_leaves_room (moves_only u.holding.money Lost Money) (moving_items (entries u.holding.items)) c (passed_money c to u.holding.money)
+      (pass_money w c (suc to) to (another to) steady u.holding.money).near
       (room_less (moving_all u.holding) (loses_by most_amount) c (moves_little w c n u is none steady) room)

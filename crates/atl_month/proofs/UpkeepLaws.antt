@@ -70,7 +70,9 @@ module _ (w : Planet) (left men : ℕ) (fewer : left ≤ men) where
   days_kept : (es : List (ℕ × ℕ)) (kept : FinMap nat_cmp ℕ) → Every (IsStudied w left) kept → EachOf (IsStudied w men) es
       → Every (IsStudied w left) (fold (λ (m : FinMap nat_cmp ℕ) (e : ℕ × ℕ). with_amount_of m e.0 (e.1 * left / men)) kept es)
   days_kept [] kept old each = old
-  days_kept ((skill, days) ∷ es) kept old ((known, some, most), each) = days_kept es (with_amount_of kept skill (days * left / men)) (every_amount (IsStudied w left) kept skill (days * left / men) (λ enough. (known, enough, part days most)) old) each
+  days_kept ((skill, days) ∷ es) kept old ((known, some, most), each) =
+      let stay = days * left / men in
+      days_kept es (with_amount_of kept skill stay) (every_amount (IsStudied w left) kept skill stay (λ enough. (known, enough, part days most)) old) each
 
 -- with fewer men it has their part of the days, and all else as it was
 module _ (w : Planet) (h : Held) (left : ℕ) (fewer : left ≤ h.men) (days : Every (IsStudied w h.men) h.days) where
@@ -81,12 +83,17 @@ module _ (w : Planet) (h : Held) (left : ℕ) (fewer : left ≤ h.men) (days : E
   less_men = by_men (left == h.men) refl
     where
       by_men : (b : Bool) → (left == h.men) ≡ b → IsWithMen (if b then h else record h { men = left; days = days_with left h.men h.days })
-      by_men true is = let same : h.men ≡ left = grind (arith, nat_tests) in (same, subst (λ n. Every (IsStudied w n) h.days) same days, refl, refl, refl)
-      by_men false is = (refl, days_kept w left h.men fewer (entries h.days) empty (every-empty (IsStudied w left)) (each-from_every (IsStudied w h.men) h.days days), refl, refl, refl)
+      by_men true is =
+          let same : h.men ≡ left = grind (arith, nat_tests) in
+          (same, subst (λ n. Every (IsStudied w n) h.days) same days, refl, refl, refl)
+      by_men false is =
+          let kept = days_kept w left h.men fewer (entries h.days) empty (every-empty (IsStudied w left)) (each-from_every (IsStudied w h.men) h.days days) in
+          (refl, kept, refl, refl, refl)
 
 -- ---- the upkeep of a unit that is there
 
-module _ (w : Planet) (c : State) (s : Settled) (u : Unit) (is : get c.units s.unit ≡ Some u) (spare : CanSpare s u.holding.men u.holding.money) (steady : IsSteady w c) where
+module _ (w : Planet) (c : State) (s : Settled) (u : Unit) (is : get c.units s.unit ≡ Some u) (spare : CanSpare s u.holding.men u.holding.money)
+    (steady : IsSteady w c) where
   abbrev old : Held
   old = u.holding
 
@@ -117,7 +124,11 @@ module _ (w : Planet) (c : State) (s : Settled) (u : Unit) (is : get c.units s.u
       let holding = (steady.numbers.units s.unit u is).1 in
       let (men, days, name, guard, items) = with_less in
       record {
-        limits = record { men = omega (arith, men, holding.men); money = omega (arith, holding.money); items = subst AreAmounts (sym items) holding.items };
+        limits = record {
+          men = omega (arith, men, holding.men);
+          money = omega (arith, holding.money);
+          items = subst AreAmounts (sym items) holding.items;
+        };
         name = subst (λ n. IsTrue (name_ok n)) (sym name) (steady.names.units s.unit u is);
         items = subst (Every (λ i amount. i < length w.items)) (sym items) place.items;
         skills = λ k d there. (days k d there).0;
@@ -135,18 +146,26 @@ module _ (w : Planet) (c : State) (s : Settled) (u : Unit) (is : get c.units s.u
   after = upkeep_in c s (Some u)
 
   after_steady : IsSteady w after
-  after_steady = steady-amount w paid_off Starved People (neg_ℤ (pos s.starved)) (steady-amount w held_back Upkeep Money (neg_ℤ (pos s.paid)) (steady-held w c s.unit u now is may_hold steady))
+  after_steady =
+      steady-amount w paid_off Starved People (neg_ℤ (pos s.starved))
+      (steady-amount w held_back Upkeep Money (neg_ℤ (pos s.paid)) (steady-held w c s.unit u now is may_hold steady))
 
-  total_after : (t : Thing) → pos (total after t) ≡ (pos (total c t) +ℤ share_of t Money (neg_ℤ (pos s.paid))) +ℤ share_of t People (neg_ℤ (pos s.starved))
-  total_after t = total_of t (total-amount paid_off Starved People t (neg_ℤ (pos s.starved))) (total-amount held_back Upkeep Money t (neg_ℤ (pos s.paid))) (total-held w c s.unit u now is t)
+  total_after : (t : Thing)
+      → pos (total after t) ≡ (pos (total c t) +ℤ share_of t Money (neg_ℤ (pos s.paid))) +ℤ share_of t People (neg_ℤ (pos s.starved))
+  total_after t =
+      total_of t (total-amount paid_off Starved People t (neg_ℤ (pos s.starved))) (total-amount held_back Upkeep Money t (neg_ℤ (pos s.paid)))
+      (total-held w c s.unit u now is t)
     where
-      taken : (x y z a l p : ℕ) → x ≡ y → y ≡ z → z + a ≡ total c Money + l → l ≡ a - p → p ≤ a → pos x ≡ (pos (total c Money) +ℤ neg_ℤ (pos p)) +ℤ pos 0
+      taken : (x y z a l p : ℕ) → x ≡ y → y ≡ z → z + a ≡ total c Money + l → l ≡ a - p → p ≤ a
+          → pos x ≡ (pos (total c Money) +ℤ neg_ℤ (pos p)) +ℤ pos 0
       taken x y z a l p e f g h k = omega (arith, ints, e, f, g, h, k)
 
-      starved_away : (x y z a l p : ℕ) → x ≡ y → y ≡ z → z + a ≡ total c People + l → l ≡ a - p → p ≤ a → pos x ≡ (pos (total c People) +ℤ pos 0) +ℤ neg_ℤ (pos p)
+      starved_away : (x y z a l p : ℕ) → x ≡ y → y ≡ z → z + a ≡ total c People + l → l ≡ a - p → p ≤ a
+          → pos x ≡ (pos (total c People) +ℤ pos 0) +ℤ neg_ℤ (pos p)
       starved_away x y z a l p e f g h k = omega (arith, ints, e, f, g, h, k)
 
-      total_of : (t : Thing) → total after t ≡ total paid_off t → total paid_off t ≡ total held_back t → total held_back t + held t old ≡ total c t + held t now
+      total_of : (t : Thing) → total after t ≡ total paid_off t → total paid_off t ≡ total held_back t
+          → total held_back t + held t old ≡ total c t + held t now
           → pos (total after t) ≡ (pos (total c t) +ℤ share_of t Money (neg_ℤ (pos s.paid))) +ℤ share_of t People (neg_ℤ (pos s.starved))
       total_of Money a b g = taken _ _ _ old.money now.money s.paid a b g refl spare.paid
       total_of People a b g = starved_away _ _ _ old.men now.men s.starved a b g with_less.0 spare.starved
@@ -176,7 +195,8 @@ module _ (w : Planet) (c : State) (s : Settled) (u : Unit) (is : get c.units s.u
   upkeep_balances before t =
       total_after t
       ∙ ap (λ z. (z +ℤ share_of t Money (neg_ℤ (pos s.paid))) +ℤ share_of t People (neg_ℤ (pos s.starved))) (before t)
-      ∙ ap (λ z. z +ℤ share_of t People (neg_ℤ (pos s.starved))) (sym (booked-with_booked (things_of w) c.books Upkeep Money (neg_ℤ (pos s.paid)) grid (omega arith) t))
+      ∙ ap (λ z. z +ℤ share_of t People (neg_ℤ (pos s.starved)))
+      (sym (booked-with_booked (things_of w) c.books Upkeep Money (neg_ℤ (pos s.paid)) grid (omega arith) t))
       ∙ sym (booked-with_booked (things_of w) one_booked Starved People (neg_ℤ (pos s.starved)) grid_one (omega arith) t)
 
   pub few_paid : s.paid ≤ most_amount
@@ -188,8 +208,10 @@ module _ (w : Planet) (c : State) (s : Settled) (u : Unit) (is : get c.units s.u
   upkeep_near : (e : Entry) (t : Thing) → IsNear (takes_up_to most_amount e t) (amount_in c.books e t) (amount_in after.books e t)
   upkeep_near e t =
       near_twice (moves_only most_amount Upkeep Money e t) (moves_only most_amount Starved People e t) _ _ _
-      (booked-near (things_of w) c.books Upkeep Money (neg_ℤ (pos s.paid)) most_amount grid (omega arith) (within-neg s.paid most_amount few_paid) e t)
-      (booked-near (things_of w) one_booked Starved People (neg_ℤ (pos s.starved)) most_amount grid_one (omega arith) (within-neg s.starved most_amount few_starved) e t)
+      (booked-near (things_of w) c.books Upkeep Money (neg_ℤ (pos s.paid)) most_amount grid (omega arith)
+      (within-neg s.paid most_amount few_paid) e t)
+      (booked-near (things_of w) one_booked Starved People (neg_ℤ (pos s.starved)) most_amount grid_one (omega arith)
+      (within-neg s.starved most_amount few_starved) e t)
 
   unit_leaves_well : LeavesWell IsSteady (takes_up_to most_amount) w c after
   unit_leaves_well = record {
@@ -205,7 +227,8 @@ pub upkeep_at_is : (c : State) (s : Settled) (u : Unit) → get c.units s.unit �
 unfolding upkeep_at
 upkeep_at_is c s u is = ap (upkeep_in c s) is
 
-pub upkeep_at_leaves_well : (w : Planet) (c : State) (s : Settled) → CanSettle w c s → LeavesWell IsSteady (takes_up_to most_amount) w c (upkeep_at c s)
+pub upkeep_at_leaves_well : (w : Planet) (c : State) (s : Settled) → CanSettle w c s
+    → LeavesWell IsSteady (takes_up_to most_amount) w c (upkeep_at c s)
 upkeep_at_leaves_well w c s can = rw (upkeep_at_is c s can.unit can.there) (unit_leaves_well w c s can.unit can.there can.spare can.steady)
 
 pub other_unit : (c : State) (s : Settled) (n : ℕ) → n ≢ s.unit → get (upkeep_at c s).units n ≡ get c.units n
@@ -217,7 +240,8 @@ other_unit c s n apart = by_unit (get c.units s.unit)
     by_unit (Some u) = get-insert_other c.units s.unit n (record u { holding = supplied s u.holding }) apart
 
 -- a unit whose turn is still to come is as it was
-pub each_still : (c : State) (s : Settled) (es : List (ℕ × Unit)) → AllByRecursion (λ e. s.unit < e.0) es → EachOf (λ n u. get c.units n ≡ Some u) es → EachOf (λ n u. get (upkeep_at c s).units n ≡ Some u) es
+pub each_still : (c : State) (s : Settled) (es : List (ℕ × Unit)) → AllByRecursion (λ e. s.unit < e.0) es
+    → EachOf (λ n u. get c.units n ≡ Some u) es → EachOf (λ n u. get (upkeep_at c s).units n ≡ Some u) es
 each_still c s [] above there = tt
 each_still c s (e ∷ es) above there = (other_unit c s e.0 (λ same. omega (arith, above.0, same)) ∙ there.0, each_still c s es above.1 there.1)
 
@@ -228,8 +252,8 @@ module _ (w : Planet) (some : 1 ≤ w.rules.maintenance) (all : List Purse) wher
   abbrev behind : List Purse → List (ℕ × Unit) → List Settled
   behind before es = settled_behind w.rules.maintenance all before (map purse_of es)
 
-  settled_in_turn : (before : List Purse) (es : List (ℕ × Unit)) (c : State) → Rise es → EachOf (λ n u. get c.units n ≡ Some u) es → IsSteady w c → HaveRoom (moved_times (length (behind before es)) step_moves) c
-      → CanInTurn (CanSettle w) upkeep_at c (behind before es)
+  settled_in_turn : (before : List Purse) (es : List (ℕ × Unit)) (c : State) → Rise es → EachOf (λ n u. get c.units n ≡ Some u) es
+      → IsSteady w c → HaveRoom (moved_times (length (behind before es)) step_moves) c → CanInTurn (CanSettle w) upkeep_at c (behind before es)
   settled_in_turn before [] c rise there steady room = tt
   settled_in_turn before ((n, u) ∷ es) c rise there steady room =
       let s = settled_one w.rules.maintenance all before (purse_of (n, u)) in
@@ -243,7 +267,8 @@ module _ (w : Planet) (some : 1 ≤ w.rules.maintenance) (all : List Purse) wher
       } in
       let well = upkeep_at_leaves_well w c s can in (
         can,
-        settled_in_turn (before ++ purse_of (n, u) ∷ []) es (upkeep_at c s) rise.1 (each_still c s es rise.0 there.1) well.leaves_it (later_room step_moves w c (upkeep_at c s) s rest well room),
+        settled_in_turn (before ++ purse_of (n, u) ∷ []) es (upkeep_at c s) rise.1 (each_still c s es rise.0 there.1) well.leaves_it
+            (later_room step_moves w c (upkeep_at c s) s rest well room),
       )
 
 length-settled : (m : ℕ) (all before rest : List Purse) → length (settled_behind m all before rest) ≡ length rest
@@ -255,12 +280,15 @@ module _ (w : Planet) (c : State) (some : 1 ≤ w.rules.maintenance) (steady : I
   list = settlements w c
 
   few : length list ≤ most_units
-  few = omega (arith, length-settled w.rules.maintenance (purses_of c) [] (purses_of c), length-map (entries c.units) purse_of, len-entries c.units, steady.numbers.few_units)
+  few =
+      let settled = length-settled w.rules.maintenance (purses_of c) [] (purses_of c) in
+      omega (arith, settled, length-map (entries c.units) purse_of, len-entries c.units, steady.numbers.few_units)
 
   little : MovesLess (moved_times (length list) (takes_up_to most_amount)) (takes_up_to most_moved)
   little e t = scaled (length list) few (amount_number e t == amount_number Upkeep Money) (amount_number e t == amount_number Starved People)
     where
-      scaled : (k : ℕ) → k ≤ most_units → (a b : Bool) → k * ((if a then most_amount else 0) + (if b then most_amount else 0)) ≤ (if a then most_moved else 0) + (if b then most_moved else 0)
+      scaled : (k : ℕ) → k ≤ most_units → (a b : Bool)
+          → k * ((if a then most_amount else 0) + (if b then most_amount else 0)) ≤ (if a then most_moved else 0) + (if b then most_moved else 0)
       scaled k few true true = omega (arith, few)
       scaled k few true false = omega (arith, few)
       scaled k few false true = omega (arith, few)
@@ -269,7 +297,8 @@ module _ (w : Planet) (c : State) (some : 1 ≤ w.rules.maintenance) (steady : I
   -- each unit can spare what is taken from it when its turn comes
   pub all_settle : CanInTurn (CanSettle w) upkeep_at c list
   all_settle =
-      settled_in_turn w some (purses_of c) [] (entries c.units) c (entries_rise c.units) (each-from_every (λ n u. get c.units n ≡ Some u) c.units (λ n u is. is)) steady
+      settled_in_turn w some (purses_of c) [] (entries c.units) c (entries_rise c.units)
+      (each-from_every (λ n u. get c.units n ≡ Some u) c.units (λ n u is. is)) steady
       (room_less (moved_times (length list) (takes_up_to most_amount)) (takes_up_to most_moved) c little room)
 
   pub upkeep_leaves_well : LeavesWell IsSteady (takes_up_to most_moved) w c (upkeep c list)
@@ -277,12 +306,8 @@ module _ (w : Planet) (c : State) (some : 1 ≤ w.rules.maintenance) (steady : I
       well_within (moved_times (length list) (takes_up_to most_amount)) (takes_up_to most_moved) w c (upkeep c list) little
       (turns_leave_well (takes_up_to most_amount) w (CanSettle w) upkeep_at (upkeep_at_leaves_well w) c list steady all_settle)
 
--- ---- the code, step by step
+-- ---- what is marked
 
-pub held_back_is : (c d : Marked) (s : Settled) (u : Unit) → get c.what.units s.unit ≡ Some u → d ≡ lent c s.unit (supplied s u.holding) → d.what ≡ with_held c.what s.unit (supplied s u.holding) (Some u)
-held_back_is c d s u there is = ap (λ (m : Marked). m.what) is ∙ ap (with_held c.what s.unit (supplied s u.holding)) there
-
--- what is marked
 pub upkeep_marks : (things : ℕ) (c d e f : Marked) (s : Settled) (h : Held) (x y : ℤ)
     → d ≡ lent c s.unit h → e.what ≡ with_amount d.what Upkeep Money x → e.marks ≡ mark_amount d Upkeep Money
     → f.what ≡ with_amount e.what Starved People y → f.marks ≡ mark_amount e Starved People

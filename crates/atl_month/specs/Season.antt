@@ -24,7 +24,8 @@ income per_peasant limit peasants money = min (peasants * per_peasant) (limit - 
 -- a region with so many births and so much income, which are booked
 abbrev pub with_growth : State → ℕ → Region → (born earned : ℕ) → State
 with_growth c n r born earned =
-    with_amount (with_amount (with_region_money (with_peasants c n (r.peasants + born)) n (r.money + earned)) Births People (pos born)) Income Money (pos earned)
+    let grown = with_region_money (with_peasants c n (r.peasants + born)) n (r.money + earned) in
+    with_amount (with_amount grown Births People (pos born)) Income Money (pos earned)
 
 -- The births come first, and those who are born bring income as well.
 abbrev pub season_in : Planet → State → (n word : ℕ) → Option Terrain → Option Region → State

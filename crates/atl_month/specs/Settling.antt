@@ -61,7 +61,8 @@ settled_one maintenance all before purse =
 
 abbrev pub settled_behind : ℕ → (all before rest : List Purse) → List Settled
 settled_behind maintenance all before [] = []
-settled_behind maintenance all before (purse ∷ rest) = settled_one maintenance all before purse ∷ settled_behind maintenance all (before ++ purse ∷ []) rest
+settled_behind maintenance all before (purse ∷ rest) =
+    settled_one maintenance all before purse ∷ settled_behind maintenance all (before ++ purse ∷ []) rest
 
 -- all units, in the order of their numbers
 abbrev pub settled_of : ℕ → List Purse → List Settled
@@ -69,11 +70,13 @@ settled_of maintenance purses = settled_behind maintenance purses [] purses
 
 -- ---- what a unit can spare
 
--- A unit of so many men and so much money can spare what upkeep takes from it: it pays no more than it has, and no more starve than it has.
+-- A unit of so many men and so much money can spare what upkeep takes: it pays no more than it has, and no more starve.
 pub record CanSpare (settled : Settled) (men money : ℕ) : Type 0 where
   pub paid : settled.paid ≤ money
   pub starved : settled.starved ≤ men
 
 -- each unit can
 abbrev pub EachCanSpare : Type 0
-EachCanSpare = (maintenance : ℕ) → 1 ≤ maintenance → (all before : List Purse) (purse : Purse) → CanSpare (settled_one maintenance all before purse) purse.men purse.money
+EachCanSpare =
+    (maintenance : ℕ) → 1 ≤ maintenance → (all before : List Purse) (purse : Purse) →
+    CanSpare (settled_one maintenance all before purse) purse.men purse.money

@@ -86,7 +86,8 @@ settled_alone w c n u = settled_one w.rules.maintenance (peers_of c u) (filter (
 
 -- It takes from each unit what follows from the units of its faction in its region alone.
 abbrev pub upkeep_keeps : Keeping
-upkeep_keeps w m before after = Every (λ n u. get after.units n ≡ Some (record u { holding = supplied (settled_alone w before n u) u.holding })) before.units
+upkeep_keeps w m before after =
+    Every (λ n u. get after.units n ≡ Some (record u { holding = supplied (settled_alone w before n u) u.holding })) before.units
 
 abbrev pub upkeep_terms : PhaseTerms
 upkeep_terms = record {

@@ -4,7 +4,9 @@ use atl_instant::{mailings_have_no_order, orders_are_in_mailings};
 use atl_market::pots::{each_pot_is_shared, takers_alone_get};
 use atl_market::shares::splitting_keeps_others;
 use atl_market::work_pays_all_at_once;
-use atl_month::months_have_no_order;
+use atl_month::{
+    each_unit_can_spare, months_have_no_order, one_phase_has_room, phases_move_little,
+};
 
 #[test]
 fn laws_are_called() {
@@ -16,4 +18,7 @@ fn laws_are_called() {
     work_pays_all_at_once();
     nobody_is_taught_twice();
     months_have_no_order();
+    phases_move_little();
+    one_phase_has_room();
+    each_unit_can_spare();
 }

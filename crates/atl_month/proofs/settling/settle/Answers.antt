@@ -18,11 +18,14 @@ loop-purse-preserved c =
     let behind : drop i purses ≡ p ∷ drop (i + 1) purses = drop_more purses i _ c.loop-purse-test.true in
     let put : c.put_account.new.accounts ≡ with_account old p.region p.faction account = search rules in
     let is : account ≡ account_behind m (account_at old p.region p.faction) p = search rules in
-    let one : c.settle_one-settled.result ≡ settled_one m purses (take i purses) p = search (rules, settled_is m purses (take i purses) p old c.loop-purse.invariant.each) in
+    let one : c.settle_one-settled.result ≡ settled_one m purses (take i purses) p =
+    search (rules, settled_is m purses (take i purses) p old c.loop-purse.invariant.each) in
     let pushed : c.push.new.self.items ≡ c.loop-purse.list.items ++ c.settle_one-settled.result ∷ [] = search rules in
     record {
       each = λ s g. rw (put, more) (settled_more m purses (take i purses) p old c.loop-purse.invariant.each account is s g);
       rest =
-          rw (pushed, more, one) (append_assoc c.loop-purse.list.items (settled_one m purses (take i purses) p ∷ []) (settled_behind m purses (take i purses ++ p ∷ []) (drop (i + 1) purses)))
+          rw (pushed, more, one)
+          (append_assoc c.loop-purse.list.items (settled_one m purses (take i purses) p ∷ [])
+          (settled_behind m purses (take i purses ++ p ∷ []) (drop (i + 1) purses)))
           ∙ sym (ap (λ xs. c.loop-purse.list.items ++ settled_behind m purses (take i purses) xs) behind) ∙ c.loop-purse.invariant.rest;
     }

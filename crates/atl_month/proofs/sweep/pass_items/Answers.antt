@@ -30,12 +30,15 @@ loop-item-preserved c =
     let after = c.pass_item.new.campaign.what in
     let old = c.loop-item.invariant in
     let behind : drop i list ≡ x ∷ drop (i + 1) list = drop_more list i _ c.loop-item-test.true in
-    let known : EachOf (λ i amount. i < length w.items) (x ∷ drop (i + 1) list) = subst (λ (l : List (ℕ × ℕ)). EachOf (λ i amount. i < length w.items) l) behind old.known in
+    let known : EachOf (λ i amount. i < length w.items) (x ∷ drop (i + 1) list) =
+    subst (λ (l : List (ℕ × ℕ)). EachOf (λ i amount. i < length w.items) l) behind old.known in
     let is : after ≡ passed_item to before x = c.in_ok-pass_item.ensures.what in
     record {
       rest = ap (λ (d : State). fold (passed_item to) d (drop (i + 1) list)) is ∙ sym (ap (fold (passed_item to) before) behind) ∙ old.rest;
       steady = rw is (item_passes w before old.steady to x.0 x.1 known.0).steady;
       known = known.1;
-      room = rw is (rest_room w before old.steady to x (drop (i + 1) list) known.0 (subst (λ (l : List (ℕ × ℕ)). HaveRoom (moving_items l) before) behind old.room));
+      room =
+          rw is (rest_room w before old.steady to x (drop (i + 1) list) known.0
+          (subst (λ (l : List (ℕ × ℕ)). HaveRoom (moving_items l) before) behind old.room));
       marks = marks-trans c.args.campaign.now c.loop-item.campaign c.pass_item.new.campaign old.marks c.in_ok-pass_item.ensures.marks;
     }

@@ -13,10 +13,13 @@ use Rattle.atl_month.proofs.sweep.sweep_unit.Goals as goal
 
 pub pass_money-requires-clause-room : goal.pass_money-requires-clause-room
 pass_money-requires-clause-room c =
-    less_room c.money-money.result most_amount (amount_in c.args.campaign.now.what.books Lost Money) (omega (arith, c.money-money.ensures.value, c.money-money.ensures.fits)) (c.requires.room Lost Money)
+    less_room c.money-money.result most_amount (amount_in c.args.campaign.now.what.books Lost Money)
+    (omega (arith, c.money-money.ensures.value, c.money-money.ensures.fits)) (c.requires.room Lost Money)
 
 pub pass_items-requires-clause-steady : goal.pass_items-requires-clause-steady
-pass_items-requires-clause-steady c = rw c.pass_money.ensures.what (money_steady c.args.world.now c.args.campaign.now.what c.requires.steady c.receiver_in-to.result c.money-money.result)
+pass_items-requires-clause-steady c =
+    rw c.pass_money.ensures.what
+    (money_steady c.args.world.now c.args.campaign.now.what c.requires.steady c.receiver_in-to.result c.money-money.result)
 
 pub pass_items-requires-clause-known : goal.pass_items-requires-clause-known
 pass_items-requires-clause-known c =
@@ -33,7 +36,8 @@ pass_items-requires-clause-room c =
     let there = sym c.in-Some.ensures in
     let list : c.deref.result.now ≡ entries u.holding.items = search rules in
     let none : u.holding.men ≡ 0 = search rules in
-    rw (list, c.pass_money.ensures.what, c.money-money.ensures.value) (items_room w c.args.campaign.now.what c.requires.steady c.args.number c.receiver_in-to.result u there none c.requires.room)
+    rw (list, c.pass_money.ensures.what, c.money-money.ensures.value)
+    (items_room w c.args.campaign.now.what c.requires.steady c.args.number c.receiver_in-to.result u there none c.requires.room)
 
 pub returns-clause-marks : goal.returns-clause-marks
 returns-clause-marks c =

@@ -7,5 +7,7 @@ invariant-loop-settled l = record {
   readings : l.month.readings ≡ l.initial.month.readings;
   aliases : l.month.aliases ≡ l.initial.month.aliases;
   words : l.month.words ≡ l.initial.month.words;
-  rest : l.month.events ++ map starved_event (filter starves (drop l.settled-index l.list)) ≡ l.initial.month.events ++ map starved_event (filter starves l.list);
+  rest :
+      l.month.events ++ map starved_event (filter starves (drop l.settled-index l.list))
+      ≡ l.initial.month.events ++ map starved_event (filter starves l.list);
 }

@@ -10,14 +10,18 @@ use Rattle.atl_state.proofs.BookLaws.{IsGrid-with_booked}
 use Rattle.atl_instant.specs.Meaning.{moves_only}
 use Rattle.atl_instant.proofs.BookingLaws.{booked-room, within-neg}
 use Rattle.atl_instant.proofs.MeaningLaws.{less_room}
+use Rattle.atl_instant.proofs.MovingLaws.{lent_what}
 use Rattle.atl_month.specs.Upkeep.{supplied}
-use Rattle.atl_month.proofs.UpkeepLaws.{few_paid, few_starved, held_back_is, upkeep_at_is, upkeep_marks}
+use Rattle.atl_month.proofs.UpkeepLaws.{few_paid, few_starved, upkeep_at_is, upkeep_marks}
 use Rattle.atl_month.proofs.upkeep.upkeep_of.Goals as goal
 
 pub book_taken-requires-clause-there : goal.book_taken-requires-clause-there
 book_taken-requires-clause-there c =
     let (w, can) = c.requires in
-    let what = held_back_is c.args.campaign.now c.supply_unit.new.campaign c.args.settled.now can.unit can.there (c.in_ok-supply_unit.ensures can.unit can.there) in
+    let s = c.args.settled.now in
+    let u = can.unit in
+    let what = lent_what c.args.campaign.now c.supply_unit.new.campaign s.unit u (supplied s u.holding) can.there
+    (c.in_ok-supply_unit.ensures u can.there) in
     rw (ap (λ (s : State). s.books) what) (omega (arith, can.steady.numbers.books.rows))
 
 pub book_taken-requires-clause-room : goal.book_taken-requires-clause-room
@@ -25,15 +29,18 @@ book_taken-requires-clause-room c =
     let (w, can) = c.requires in
     let s = c.args.settled.now in
     let before = c.args.campaign.now in
-    let what = held_back_is before c.supply_unit.new.campaign s can.unit can.there (c.in_ok-supply_unit.ensures can.unit can.there) in
-    let few = few_paid w before.what s can.unit can.there can.spare can.steady in
+    let u = can.unit in
+    let what = lent_what before c.supply_unit.new.campaign s.unit u (supplied s u.holding) can.there (c.in_ok-supply_unit.ensures u can.there) in
+    let few = few_paid w before.what s u can.there can.spare can.steady in
     rw (ap (λ (s : State). s.books) what) (less_room s.paid most_amount (amount_in before.what.books Upkeep Money) few (can.room Upkeep Money))
 
 pub book_taken-requires-2-clause-there : goal.book_taken-requires-2-clause-there
 book_taken-requires-2-clause-there c =
     let (w, can) = c.requires in
     let s = c.args.settled.now in
-    let what = held_back_is c.args.campaign.now c.supply_unit.new.campaign s can.unit can.there (c.in_ok-supply_unit.ensures can.unit can.there) in
+    let u = can.unit in
+    let what = lent_what c.args.campaign.now c.supply_unit.new.campaign s.unit u (supplied s u.holding) can.there
+    (c.in_ok-supply_unit.ensures u can.there) in
     let grid = IsGrid-with_booked (things_of w) c.args.campaign.now.what.books Upkeep Money (neg_ℤ (pos s.paid)) can.steady.numbers.books in
     rw (ap (λ (s : State). s.books) c.book_taken.ensures.what, ap (λ (s : State). s.books) what) (omega (arith, grid.rows))
 
@@ -42,29 +49,34 @@ book_taken-requires-2-clause-room c =
     let (w, can) = c.requires in
     let s = c.args.settled.now in
     let before = c.args.campaign.now in
-    let what = held_back_is before c.supply_unit.new.campaign s can.unit can.there (c.in_ok-supply_unit.ensures can.unit can.there) in
-    let paid = few_paid w before.what s can.unit can.there can.spare can.steady in
-    let starved = few_starved w before.what s can.unit can.there can.spare can.steady in
+    let u = can.unit in
+    let what = lent_what before c.supply_unit.new.campaign s.unit u (supplied s u.holding) can.there (c.in_ok-supply_unit.ensures u can.there) in
+    let paid = few_paid w before.what s u can.there can.spare can.steady in
+    let starved = few_starved w before.what s u can.there can.spare can.steady in
     let behind = with_booked before.what.books Upkeep Money (neg_ℤ (pos s.paid)) in
     rw (ap (λ (s : State). s.books) c.book_taken.ensures.what, ap (λ (s : State). s.books) what)
     (less_room s.starved most_amount (amount_in behind Starved People) starved
-    (booked-room (things_of w) before.what.books Upkeep Money (neg_ℤ (pos s.paid)) most_amount can.steady.numbers.books (omega arith) (within-neg s.paid most_amount paid) (moves_only most_amount Starved People) can.room Starved People))
+    (booked-room (things_of w) before.what.books Upkeep Money (neg_ℤ (pos s.paid)) most_amount can.steady.numbers.books (omega arith)
+    (within-neg s.paid most_amount paid) (moves_only most_amount Starved People) can.room Starved People))
 
 pub returns-clause-what : goal.returns-clause-what
 returns-clause-what c =
     let (w, can) = c.requires in
     let s = c.args.settled.now in
     let before = c.args.campaign.now in
-    let what = held_back_is before c.supply_unit.new.campaign s can.unit can.there (c.in_ok-supply_unit.ensures can.unit can.there) in
-    rw (c.book_taken-2.ensures.what, c.book_taken.ensures.what, what) (sym (upkeep_at_is before.what s can.unit can.there))
+    let u = can.unit in
+    let what = lent_what before c.supply_unit.new.campaign s.unit u (supplied s u.holding) can.there (c.in_ok-supply_unit.ensures u can.there) in
+    rw (c.book_taken-2.ensures.what, c.book_taken.ensures.what, what) (sym (upkeep_at_is before.what s u can.there))
 
 pub returns-clause-marks : goal.returns-clause-marks
 returns-clause-marks c =
     let (w, can) = c.requires in
     let s = c.args.settled.now in
     let before = c.args.campaign.now in
-    let lent_is = c.in_ok-supply_unit.ensures can.unit can.there in
-    let what = held_back_is before c.supply_unit.new.campaign s can.unit can.there lent_is in
-    upkeep_marks (things_of w) before c.supply_unit.new.campaign c.book_taken.new.campaign c.book_taken-2.new.campaign s (supplied s can.unit.holding) (neg_ℤ (pos s.paid)) (neg_ℤ (pos s.starved))
+    let u = can.unit in
+    let lent_is = c.in_ok-supply_unit.ensures u can.there in
+    let what = lent_what before c.supply_unit.new.campaign s.unit u (supplied s u.holding) can.there lent_is in
+    upkeep_marks (things_of w) before c.supply_unit.new.campaign c.book_taken.new.campaign c.book_taken-2.new.campaign s
+    (supplied s u.holding) (neg_ℤ (pos s.paid)) (neg_ℤ (pos s.starved))
     lent_is c.book_taken.ensures.what c.book_taken.ensures.marks c.book_taken-2.ensures.what c.book_taken-2.ensures.marks
     (rw (ap (λ (d : State). d.books) what) can.steady.numbers.books) (omega arith)
