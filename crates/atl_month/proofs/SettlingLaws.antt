@@ -3,6 +3,7 @@ use Rattle.std.proofs.Common.{◌≡◌, ◌≢◌, ◌==◌, ◌&&◌, ◌++◌
 use Rattle.std.specs.Ordering.{nat_cmp}
 use Rattle.std.specs.FinMap.{FinMap, empty, get, insert, get-empty}
 use Rattle.std.proofs.Math.Nat.{div-lt_iff_lt-mul}
+use Rattle.std.proofs.lemmas.Bool.{and_parts}
 use Rattle.std.proofs.lemmas.Bool.Decides.{nat_tests}
 use Rattle.std.proofs.lemmas.List.Elements.{filter-append}
 use Rattle.std.proofs.lemmas.List.Sums.{sum_by-append}
@@ -76,17 +77,12 @@ pub each_account : (P : ℕ → ℕ → Account → Type 0) (m : AccountMap) (p 
     → (s g : ℕ) → P s g (account_at (with_account m p.region p.faction a) s g)
 each_account P m p a here others s g = by_test (is_purse_of s g p) refl
   where
-    both : (b c : Bool) → (b && c) ≡ true → (b ≡ true) × (c ≡ true)
-    both true true h = (refl, refl)
-    both true false h = cc
-    both false c h = cc
-
     at : (test : Bool) → is_purse_of s g p ≡ test → account_at (with_account m p.region p.faction a) s g ≡ cond test a (account_at m s g)
     at test is = account_put m p.region p.faction a s g ∙ ap (λ b. cond b a (account_at m s g)) is
 
     by_test : (test : Bool) → is_purse_of s g p ≡ test → P s g (account_at (with_account m p.region p.faction a) s g)
     by_test true is =
-        let (first, second) = both (p.region == s) (p.faction == g) is in
+        let (first, second) = and_parts (p.region == s) (p.faction == g) is in
         let region : p.region ≡ s = grind (arith, nat_tests) in
         let faction : p.faction ≡ g = grind (arith, nat_tests) in
         rw (at true is, ← region, ← faction) here

@@ -30,8 +30,8 @@ loop-item-preserved c =
     let after = c.pass_item.new.campaign.what in
     let old = c.loop-item.invariant in
     let behind : drop i list ≡ x ∷ drop (i + 1) list = drop_more list i _ c.loop-item-test.true in
-    let known : EachOf (λ i amount. i < length w.items) (x ∷ drop (i + 1) list) =
-    subst (λ (l : List (ℕ × ℕ)). EachOf (λ i amount. i < length w.items) l) behind old.known in
+    let IsKnown : List (ℕ × ℕ) → Type 0 = EachOf (λ i amount. i < length w.items) in
+    let known : IsKnown (x ∷ drop (i + 1) list) = subst IsKnown behind old.known in
     let is : after ≡ passed_item to before x = c.in_ok-pass_item.ensures.what in
     record {
       rest = ap (λ (d : State). fold (passed_item to) d (drop (i + 1) list)) is ∙ sym (ap (fold (passed_item to) before) behind) ∙ old.rest;

@@ -19,9 +19,9 @@ pub book_taken-requires-clause-there : goal.book_taken-requires-clause-there
 book_taken-requires-clause-there c =
     let (w, can) = c.requires in
     let s = c.args.settled.now in
+    let before = c.args.campaign.now in
     let u = can.unit in
-    let what = lent_what c.args.campaign.now c.supply_unit.new.campaign s.unit u (supplied s u.holding) can.there
-    (c.in_ok-supply_unit.ensures u can.there) in
+    let what = lent_what before c.supply_unit.new.campaign s.unit u (supplied s u.holding) can.there (c.in_ok-supply_unit.ensures u can.there) in
     rw (ap (λ (s : State). s.books) what) (omega (arith, can.steady.numbers.books.rows))
 
 pub book_taken-requires-clause-room : goal.book_taken-requires-clause-room
@@ -38,10 +38,10 @@ pub book_taken-requires-2-clause-there : goal.book_taken-requires-2-clause-there
 book_taken-requires-2-clause-there c =
     let (w, can) = c.requires in
     let s = c.args.settled.now in
+    let before = c.args.campaign.now in
     let u = can.unit in
-    let what = lent_what c.args.campaign.now c.supply_unit.new.campaign s.unit u (supplied s u.holding) can.there
-    (c.in_ok-supply_unit.ensures u can.there) in
-    let grid = IsGrid-with_booked (things_of w) c.args.campaign.now.what.books Upkeep Money (neg_ℤ (pos s.paid)) can.steady.numbers.books in
+    let what = lent_what before c.supply_unit.new.campaign s.unit u (supplied s u.holding) can.there (c.in_ok-supply_unit.ensures u can.there) in
+    let grid = IsGrid-with_booked (things_of w) before.what.books Upkeep Money (neg_ℤ (pos s.paid)) can.steady.numbers.books in
     rw (ap (λ (s : State). s.books) c.book_taken.ensures.what, ap (λ (s : State). s.books) what) (omega (arith, grid.rows))
 
 pub book_taken-requires-2-clause-room : goal.book_taken-requires-2-clause-room
