@@ -13,6 +13,7 @@ use Rattle.std.specs.FinMap.{FinMap, IsAntisymmetric, empty, entries, entries-in
 use Rattle.std.specs.FinMap.Entries.{below_all, by_order}
 use Rattle.std.proofs.lemmas.Bool.{and_parts, cases_eq, false_from_ne_true, false≢true, not-true}
 use Rattle.std.proofs.lemmas.Bool.Decides.{nat_tests}
+use Rattle.std.proofs.lemmas.List.{map-append}
 use Rattle.std.proofs.lemmas.List.Sorted.{IsPermutation-map}
 use Rattle.atl_state.specs.Deciding.{EachOf}
 use Rattle.atl_state.specs.State.{State}
@@ -237,10 +238,6 @@ work_written (t ∷ ts) = by_test (is_work (verb_of_order t.said)) (work_written
     by_test true rest = ap (λ os. written t ∷ os) rest
     by_test false rest = rest
 
-map_appended : (ts us : List Task) → map written ts ++ map written us ≡ map written (ts ++ us)
-map_appended [] us = refl
-map_appended (t ∷ ts) us = ap (λ os. written t ∷ os) (map_appended ts us)
-
 module _ (c : State) (ts : List Task) where
   one_idle : (n : ℕ) (u : Unit) → get c.units n ≡ Some u → idle_written (own_writers c (map written ts)) (n, u) ≡ map written (idle_at ts (n, u))
   one_idle n u is = ap (λ b. cond (nat_lt 0 u.holding.men && not b) (record { unit = n; line = 0; faction = u.faction; verb = verbs.Work; place = 0 } ∷ []) []) (is_writer c (map written ts) n u is) ∙ by_test (nat_lt 0 u.holding.men && not (is_ordered (map written ts) n u))
@@ -253,13 +250,13 @@ module _ (c : State) (ts : List Task) where
   idle_are [] h = refl
   idle_are (e ∷ es) h =
       ap (λ os. os ++ flat_map (idle_written (own_writers c (map written ts))) es) (one_idle e.0 e.1 h.0) ∙ ap (λ os. map written (idle_at ts e) ++ os) (idle_are es h.1)
-      ∙ map_appended (idle_at ts e) (flat_map (idle_at ts) es)
+      ∙ sym (map-append written (idle_at ts e) (flat_map (idle_at ts) es))
 
   all_are : all_written c (map written ts) ≡ map written (all_work c ts)
   all_are =
       let idle = idle_are (entries c.units) (each-from_every (λ n u. get c.units n ≡ Some u) c.units (λ n u is. is)) in
       ap (λ os. os ++ all_idle c (map written ts)) (work_written ts) ∙ ap (λ os. map written (filter (λ t. is_work (verb_of_order t.said)) ts) ++ os) idle
-      ∙ map_appended (filter (λ t. is_work (verb_of_order t.said)) ts) (idle_work c ts)
+      ∙ sym (map-append written (filter (λ t. is_work (verb_of_order t.said)) ts) (idle_work c ts))
 
 abbrev keyed_task : Task → List ℕ × Task
 keyed_task t = (key_of ByUnit t, t)

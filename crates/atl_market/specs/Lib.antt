@@ -7,6 +7,7 @@ pub mod ItemGroups
 pub mod PotPhase
 pub mod AtOnce
 pub mod Unordered
+pub mod Asking
 pub mod Tax
 pub mod Recruit
 pub mod Work

@@ -1,24 +1,21 @@
 -- PRODUCE: units make items, of raw items (specs/Craft) or of what the terrain of their region gives (specs/Outputs). See docs/RULES.md, "Producing".
-use Rattle.std.specs.Prelude.{◌*◌, ℕ, Bool, true, false, List, [], ◌∷◌, map, reverse, Option, Some, None, if◌then◌else◌}
-use Rattle.std.specs.List.{flat_map, slice_get}
+use Rattle.std.specs.Prelude.{◌*◌, ℕ, Bool, true, false, List, map, Option, Some, None}
+use Rattle.std.specs.List.{slice_get}
 use Rattle.std.specs.Ordering.{nat_cmp}
-use Rattle.std.specs.FinMap.{FinMap, from_entries, get, values}
+use Rattle.std.specs.FinMap.{FinMap, get, values}
 use Rattle.atl_tables.specs.Planet.{Planet}
 use Rattle.atl_tables.specs.declared.world.Item.{Item}
-use Rattle.atl_orders.specs.declared.order.Order.TheVariants as orders
 use Rattle.atl_orders.specs.declared.verb.Verb.{Verb}
 use Rattle.atl_orders.specs.declared.verb.Verb.TheVariants as verbs
-use Rattle.atl_orders.specs.Mailing.{Reading}
-use Rattle.atl_orders.specs.Orders.{Said}
 use Rattle.atl_state.specs.declared.books.Entry.TheVariants.{Made, Used}
 use Rattle.atl_state.specs.declared.books.Thing.TheVariants as things
 use Rattle.atl_state.specs.State.{State}
-use Rattle.atl_instant.specs.Course.{Course, order_at}
+use Rattle.atl_instant.specs.Course.{Course}
 use Rattle.atl_instant.specs.Meaning.{Keeping, Meaning, Moving, most_moved}
 use Rattle.atl_instant.specs.PhaseOrders.{orders_of, written}
 use Rattle.atl_instant.specs.declared.written.Arrangement.TheVariants.{ByUnit}
 use Rattle.atl_instant.specs.declared.written.Written.{Written}
-use Rattle.atl_instant.specs.Steps.{is_of_faction}
+use Rattle.atl_market.specs.Asking.{items_asked}
 use Rattle.atl_market.specs.PotPhase.{PotMeaning, pots_meaning}
 use Rattle.atl_market.specs.Unordered.{OthersAreNoWorse}
 use Rattle.atl_market.specs.Goods.{with_made, with_used}
@@ -33,23 +30,6 @@ is_produce verb = false
 -- the orders of PRODUCE that stand
 abbrev pub produce_orders : Course → List Written
 produce_orders m = map written (values (orders_of is_produce ByUnit m.aliases m.readings))
-
--- ---- which unit makes what
-
-abbrev pub item_in : Option Said → Option ℕ
-item_in (Some (orders.Produce i)) = Some i
-item_in other = None
-
-abbrev pub item_entry : ℕ → Option ℕ → List (ℕ × ℕ)
-item_entry n None = []
-item_entry n (Some i) = (n, i) ∷ []
-
-abbrev pub asked_by : FinMap nat_cmp Reading → State → Written → List (ℕ × ℕ)
-asked_by readings c o = if is_of_faction o.faction (get c.units o.unit) then item_entry o.unit (item_in (order_at readings o.faction o.place)) else []
-
--- By unit, the item that its own faction tells it to make: by the last order, if there were more than one.
-abbrev pub items_asked : FinMap nat_cmp Reading → State → List Written → FinMap nat_cmp ℕ
-items_asked readings c os = from_entries (reverse (flat_map (asked_by readings c) os))
 
 -- ---- what changes
 

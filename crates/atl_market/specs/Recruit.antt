@@ -3,11 +3,9 @@ use Rattle.std.specs.Prelude.{◌+◌, ◌-◌, ◌*◌, ◌/◌, ℕ, Bool, tru
 use Rattle.std.specs.Ordering.{nat_cmp}
 use Rattle.std.specs.FinMap.{FinMap, get, values}
 use Rattle.atl_tables.specs.Planet.{Planet}
-use Rattle.atl_orders.specs.declared.order.Order.TheVariants as orders
 use Rattle.atl_orders.specs.declared.verb.Verb.{Verb}
 use Rattle.atl_orders.specs.declared.verb.Verb.TheVariants as verbs
 use Rattle.atl_orders.specs.Mailing.{Reading}
-use Rattle.atl_orders.specs.Orders.{Said}
 use Rattle.atl_state.specs.declared.books.Entry.TheVariants.{Recruiting}
 use Rattle.atl_state.specs.declared.books.Thing.TheVariants.{Money}
 use Rattle.atl_state.specs.declared.event.EventFault.{EventFault}
@@ -25,6 +23,7 @@ use Rattle.atl_instant.specs.declared.written.Arrangement.TheVariants.{ByUnit}
 use Rattle.atl_instant.specs.declared.written.Written.{Written}
 use Rattle.atl_instant.specs.Outcomes.{first_fault}
 use Rattle.atl_market.specs.Pots.{pot_shares}
+use Rattle.atl_market.specs.Asking.{count_in}
 use Rattle.atl_market.specs.PotPhase.{PotMeaning, pots_meaning}
 use Rattle.atl_market.specs.Unordered.{OthersAreNoWorse}
 use Rattle.atl_instant.specs.Terms.{PhaseTerms}
@@ -36,11 +35,6 @@ is_recruit verb = false
 -- the orders of RECRUIT that stand
 abbrev pub recruit_orders : Course → List Written
 recruit_orders m = map written (values (orders_of is_recruit ByUnit m.aliases m.readings))
-
--- how many men an order asks for
-abbrev pub asked_in : Option Said → ℕ
-asked_in (Some (orders.Recruit n)) = n
-asked_in other = 0
 
 -- why a unit recruits nobody
 abbrev pub recruit_fault : Planet → Unit → Option EventFault
@@ -83,7 +77,7 @@ recruited w c e = recruited_by w c e (get c.units e.0)
 abbrev pub recruit_pots : FinMap nat_cmp Reading → PotMeaning
 recruit_pots readings = record {
   fault = λ w u o. recruit_fault w u;
-  want = λ w u o. recruits_wanted w u (asked_in (order_at readings o.faction o.place));
+  want = λ w u o. recruits_wanted w u (count_in (order_at readings o.faction o.place));
   given = λ w c wants. pot_shares (recruits_at w c) wants c;
   told = λ w u recruits. recruits;
   paid = recruited;

@@ -1,19 +1,17 @@
 //! PRODUCE: units make items, of raw items or of what the terrain of their region gives.
-ghost use Rattle.std.specs.Prelude.{◌≡◌, IfOk, OnOk};
 ghost use Rattle.atl_tables.specs.Planet.{IsWorld};
 ghost use Rattle.atl_state.specs.Good.{IsSteady};
-ghost use Rattle.atl_instant.specs.Course.{order_at};
 ghost use Rattle.atl_instant.specs.Meaning.{most_moved};
 ghost use Rattle.atl_market.specs.Making.{CanProduce};
-ghost use Rattle.atl_market.specs.Puts.{with_each};
-ghost use Rattle.atl_market.specs.Produce.{asked_by, is_produce, item_in, items_asked, produce_keeps, produce_meaning, produce_moves, produce_pots, produced};
+ghost use Rattle.atl_market.specs.Produce.{is_produce, produce_keeps, produce_meaning, produce_moves, produce_pots, produced};
 ghost use Rattle.atl_market.specs.Paid.{ProducesAtOnce};
 
+use crate::asking::items_asked;
 use crate::making::{can_make, make, make_fault};
 use crate::outputs::makes;
 use crate::pot_phase::{PotPhase, share_out, tell_all};
-use atl_instant::{Arrangement, Month, Phase, PhaseVerbs, Written, is_of_faction};
-use atl_orders::{Order, Verb};
+use atl_instant::{Arrangement, Month, Phase, PhaseVerbs, Written};
+use atl_orders::Verb;
 use atl_state::{Campaign, EventFault, Unit};
 use atl_tables::{Numbered, World};
 use std::alloc::{AllocError, Global};
@@ -28,50 +26,6 @@ impl PhaseVerbs for ProducePhase {
     fn has(&self, verb: Verb) -> bool {
         matches!(verb, Verb::Produce)
     }
-}
-
-/// The item that an order names.
-fn item_named(month: &Month, order: Written) -> Option<u16>
-    ensures { result ≡ item_in (order_at month.now.readings order.faction order.place) }
-{
-    match month.order(order.faction, order.place) {
-        Some((_, Order::Produce(item))) => Some(*item),
-        _ => None,
-    }
-}
-
-/// Notes the item of an order, where the unit's own faction wrote it.
-fn note_item(
-    campaign: &Campaign,
-    month: &Month,
-    order: Written,
-    asked: &mut Numbered<u16>,
-) -> Result<(), AllocError>
-    ensures { OnOk result (asked.new ≡ with_each asked.old (asked_by month.now.readings campaign.now.what order)) }
-{
-    if is_of_faction(campaign, order.unit, order.faction)
-        && let Some(item) = item_named(month, order)
-    {
-        asked.insert(order.unit, item)?;
-    }
-    Ok(())
-}
-
-/// By unit, the item that its own faction tells it to make.
-#[tactic(auto, using(crate::proofs::WantLaws::appended_entries))]
-fn items_asked(
-    alloc: Global,
-    campaign: &Campaign,
-    month: &Month,
-    orders: &[Written],
-) -> Result<Numbered<u16>, AllocError>
-    ensures { IfOk result (λ asked. asked ≡ items_asked month.now.readings campaign.now.what orders.now) }
-{
-    let mut asked = Numbered::new(alloc);
-    for order in orders {
-        note_item(campaign, month, *order, &mut asked)?;
-    }
-    Ok(asked)
 }
 
 /// Production by the item that each unit is told to make.

@@ -9,16 +9,16 @@ ghost use Rattle.atl_state.specs.Good.{IsEarly};
 ghost use Rattle.atl_state.specs.Lending.{lent};
 ghost use Rattle.atl_state.specs.Limits.{holding_limit, men_limit};
 ghost use Rattle.atl_state.specs.State.{with_amount, with_peasants};
-ghost use Rattle.atl_instant.specs.Course.{order_at};
 ghost use Rattle.atl_instant.specs.Meaning.{HaveRoom, most_moved};
-ghost use Rattle.atl_market.specs.Recruit.{asked_in, is_recruit, recruit_keeps, recruit_meaning, recruit_moves, recruit_pots, recruited, recruits_at, with_men};
+ghost use Rattle.atl_market.specs.Recruit.{is_recruit, recruit_keeps, recruit_meaning, recruit_moves, recruit_pots, recruited, recruits_at, with_men};
 ghost use Rattle.atl_market.specs.Payable.{CanRecruit};
 ghost use Rattle.atl_market.specs.Paid.{RecruitsAtOnce};
 
+use crate::asking::count_named;
 use crate::pot_phase::{PotPhase, share_out, tell_all};
 use crate::pots::{Pots, pot_shares};
 use atl_instant::{Arrangement, Month, Phase, PhaseVerbs, Written, book_taken};
-use atl_orders::{Order, Verb};
+use atl_orders::Verb;
 use atl_state::{Campaign, Entry, EventFault, Holding, MEN_LIMIT, Thing, Unit};
 use atl_tables::{Numbered, World};
 use std::alloc::{AllocError, Global};
@@ -58,16 +58,6 @@ impl<'a> Pots for Recruitable<'a> {
             Some(found) => u64::from(found.peasants / self.world.rules().recruit_fraction),
             None => 0,
         }
-    }
-}
-
-/// How many men an order asks for.
-fn asked(month: &Month, order: Written) -> u32
-    ensures { result ≡ asked_in (order_at month.now.readings order.faction order.place) }
-{
-    match month.order(order.faction, order.place) {
-        Some((_, Order::Recruit(men))) => *men,
-        _ => 0,
     }
 }
 
@@ -124,7 +114,7 @@ impl<'a> PotPhase for MailedRecruiting<'a> {
     fn want(&self, world: &World, unit: &Unit, order: Written) -> u32 {
         let payable = unit.holding.money() / world.rules().recruit_price;
         let room = MEN_LIMIT - unit.holding.men();
-        asked(self.month, order).min(payable.min(room))
+        count_named(self.month, order).min(payable.min(room))
     }
 
     fn given(

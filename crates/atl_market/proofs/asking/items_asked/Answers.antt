@@ -1,9 +1,9 @@
 use Rattle.std.proofs.Common.{◌∙◌, ap}
 use Rattle.std.specs.List.{flat_map}
-use Rattle.atl_market.specs.Produce.{asked_by}
+use Rattle.atl_market.specs.Asking.{asked_by}
 use Rattle.atl_market.specs.Puts.{with_each}
 use Rattle.atl_market.proofs.PotLaws.{put_in_turn}
-use Rattle.atl_market.proofs.produce.items_asked.Goals as goal
+use Rattle.atl_market.proofs.asking.items_asked.Goals as goal
 
 pub loop-order-init : goal.loop-order-init
 loop-order-init c =

@@ -1,0 +1,65 @@
+//! What orders ask for: the item that one names, and the number.
+ghost use Rattle.std.specs.Prelude.{◌≡◌, IfOk, OnOk};
+ghost use Rattle.atl_instant.specs.Course.{order_at};
+ghost use Rattle.atl_market.specs.Asking.{asked_by, count_in, item_in, items_asked};
+ghost use Rattle.atl_market.specs.Puts.{with_each};
+
+use atl_instant::{Month, Written, is_of_faction};
+use atl_orders::Order;
+use atl_state::Campaign;
+use atl_tables::Numbered;
+use std::alloc::{AllocError, Global};
+
+/// How many an order asks for, where it names a number; else 0.
+pub(crate) fn count_named(month: &Month, order: Written) -> u32
+    ensures { result ≡ count_in (order_at month.now.readings order.faction order.place) }
+{
+    match month.order(order.faction, order.place) {
+        Some((_, Order::Recruit(men))) => *men,
+        _ => 0,
+    }
+}
+
+/// The item that an order names, where it names one.
+fn item_named(month: &Month, order: Written) -> Option<u16>
+    ensures { result ≡ item_in (order_at month.now.readings order.faction order.place) }
+{
+    match month.order(order.faction, order.place) {
+        Some((_, Order::Produce(item))) => Some(*item),
+        _ => None,
+    }
+}
+
+/// Notes the item of an order, where the unit's own faction wrote it.
+fn note_item(
+    campaign: &Campaign,
+    month: &Month,
+    order: Written,
+    asked: &mut Numbered<u16>,
+) -> Result<(), AllocError>
+    ensures { OnOk result (asked.new ≡ with_each asked.old (asked_by month.now.readings campaign.now.what order)) }
+{
+    if is_of_faction(campaign, order.unit, order.faction)
+        && let Some(item) = item_named(month, order)
+    {
+        asked.insert(order.unit, item)?;
+    }
+    Ok(())
+}
+
+/// By unit, the item that its own faction asks it for by these orders.
+#[tactic(auto, using(crate::proofs::WantLaws::appended_entries))]
+pub(crate) fn items_asked(
+    alloc: Global,
+    campaign: &Campaign,
+    month: &Month,
+    orders: &[Written],
+) -> Result<Numbered<u16>, AllocError>
+    ensures { IfOk result (λ asked. asked ≡ items_asked month.now.readings campaign.now.what orders.now) }
+{
+    let mut asked = Numbered::new(alloc);
+    for order in orders {
+        note_item(campaign, month, *order, &mut asked)?;
+    }
+    Ok(asked)
+}
