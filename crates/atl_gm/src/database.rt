@@ -32,7 +32,7 @@ pub enum Opening<'a> {
     Kept,
 }
 
-/// Whether a file is at the path.
+/// Whether a file or a folder is at the path.
 fn is_there(rt: &HostRuntime, path: &str) -> Result<bool, Failure> {
     match fs::exists(rt, path) {
         Ok(is_there) => Ok(is_there),
@@ -40,7 +40,7 @@ fn is_there(rt: &HostRuntime, path: &str) -> Result<bool, Failure> {
     }
 }
 
-/// Whether the folder is there that the path leads through.
+/// Whether the folder of the path is there. A path without a `/` is in the folder that the program runs in.
 fn has_folder(rt: &HostRuntime, path: &str) -> Result<bool, Failure> {
     match path.rsplit_once('/') {
         Some((folder, _)) if !folder.is_empty() => is_there(rt, folder),

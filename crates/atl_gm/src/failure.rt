@@ -54,16 +54,6 @@ impl Drop for Failure {
     }
 }
 
-impl Failure {
-    /// Memory, where the system had none, and else the other failure.
-    pub fn of_system(error: io::Error, other: Failure) -> Failure {
-        match error.kind() {
-            ErrorKind::OutOfMemory => Failure::Memory,
-            _ => other,
-        }
-    }
-}
-
 impl From<AllocError> for Failure {
     fn from(_e: AllocError) -> Failure {
         Failure::Memory
@@ -114,6 +104,14 @@ fn tell_world_fault<R: Eprint>(rt: &R, fault: &WorldFault) -> io::Result<()> {
 }
 
 impl Failure {
+    /// Memory, where the system had none, and else the other failure.
+    pub fn of_system(error: io::Error, other: Failure) -> Failure {
+        match error.kind() {
+            ErrorKind::OutOfMemory => Failure::Memory,
+            _ => other,
+        }
+    }
+
     /// Tells the failure in one line, or a bad command line in the words of its parser, and gives the status: 2 for a
     /// bad command line, else 1.
     pub fn tell<R: Eprint>(self, rt: &R) -> ExitCode {

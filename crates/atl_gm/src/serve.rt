@@ -30,9 +30,8 @@ impl<'a> Work for Serving<'a> {
     type Done = ();
 
     fn run<S: Alter>(&self, service: &mut Service<S>) -> Result<(), Failure> {
-        let listener = TcpListener::bind(self.rt, (Ipv4Addr::LOCALHOST, self.port)).map_err(
-            unbound,
-        )?;
+        let address = (Ipv4Addr::LOCALHOST, self.port);
+        let listener = TcpListener::bind(self.rt, address).map_err(unbound)?;
         match serve_each(self.rt.alloc(), &listener, service, self.count, self.dice) {
             Ok(()) => Ok(()),
             Err(ListenFault::Net) => Err(Failure::Net),
