@@ -5,6 +5,7 @@ pub mod SailLaws
 pub mod UnmailedTravelLaws
 pub mod FoundLaws
 pub mod TeachLaws
+pub mod MentionLaws
 pub mod OnceLaws
 pub mod StudyLaws
 pub mod UnmailedLearnLaws

@@ -47,7 +47,7 @@ module _ (c : State) where
 
   module _ (aliases : Aliases) (learning : Learning) (taught : Taught) (f n : ℕ) (refs : List UnitRef) (old : AreTaughtOnce c taught) where
     once_pupils : (u : Unit) (pupils : List ℕ) → AreTaughtOnce c (teach_pupils c learning taught n u pupils).0
-    once_pupils u pupils = by_fault (first_mentions empty (below_of c learning n pupils)) (teach_fault u pupils (below_of c learning n pupils))
+    once_pupils u pupils = by_fault (first_mentions (below_of c learning n pupils)) (teach_fault u pupils (below_of c learning n pupils))
       where
         by_fault : (ns : List ℕ) (o : Option EventFault) → AreTaughtOnce c (unless_taught taught o (lesson c taught (places_each * u.holding.men) ns)).0
         by_fault ns (Some fault) = old

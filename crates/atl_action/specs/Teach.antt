@@ -1,5 +1,5 @@
 -- TEACH: people teach units that are learning. See docs/RULES.md, "Learning".
-use Rattle.std.specs.Prelude.{◌≤◌, ◌++◌, ◌+◌, ◌-◌, ◌*◌, ◌==◌, ◌&&◌, ℕ, min, nat_lt, is_some, Bool, true, false, List, [], ◌∷◌, filter, fold, length, map, sum_by, Option, Some, None, if◌then◌else◌}
+use Rattle.std.specs.Prelude.{◌≤◌, ◌++◌, ◌+◌, ◌-◌, ◌*◌, ◌==◌, ◌&&◌, ℕ, min, nat_lt, not, is_some, Bool, true, false, List, [], ◌∷◌, filter, fold, length, map, sum_by, Option, Some, None, if◌then◌else◌}
 use Rattle.std.specs.Option.{option_map_or}
 use Rattle.std.specs.Ordering.{nat_cmp}
 use Rattle.std.specs.FinMap.{FinMap, empty, get, insert, values}
@@ -63,10 +63,10 @@ pupils_of c aliases learning region faction refs = filter (is_pupil c learning r
 abbrev pub below_of : State → Learning → (teacher : ℕ) → List ℕ → List ℕ
 below_of c learning teacher ns = filter (is_below c learning teacher) ns
 
--- each number at its first mention, but for those that were mentioned before
-abbrev pub first_mentions : (seen : FinMap nat_cmp ℕ) → List ℕ → List ℕ
-first_mentions seen [] = []
-first_mentions seen (n ∷ ns) = if is_some (get seen n) then first_mentions seen ns else n ∷ first_mentions (insert seen n n) ns
+-- each number at its first mention
+abbrev pub first_mentions : List ℕ → List ℕ
+first_mentions [] = []
+first_mentions (n ∷ ns) = n ∷ filter (λ k. not (k == n)) (first_mentions ns)
 
 -- ---- a lesson
 
@@ -103,7 +103,7 @@ unless_taught taught None done = done
 abbrev pub teach_pupils : State → Learning → Taught → (n : ℕ) → Unit → (pupils : List ℕ) → Taught × Outcome
 teach_pupils c learning taught n u pupils =
     let below = below_of c learning n pupils in
-    unless_taught taught (teach_fault u pupils below) (lesson c taught (places_each * u.holding.men) (first_mentions empty below))
+    unless_taught taught (teach_fault u pupils below) (lesson c taught (places_each * u.holding.men) (first_mentions below))
 
 abbrev pub teach_by : State → Aliases → Learning → Taught → (f n : ℕ) → List UnitRef → Option Unit → Taught × Outcome
 teach_by c aliases learning taught f n refs None = unless_taught taught (Some NotYours) (taught, Done 0)

@@ -105,7 +105,7 @@ fn below_of(
 
 /// Each number at its first mention. It takes n log n steps for n mentions.
 fn first_mentions(alloc: Global, numbers: &[u32]) -> Result<Vec<u32>, AllocError>
-    ensures { IfOk result (λ list. list.items ≡ first_mentions map.empty numbers.now) }
+    ensures { IfOk result (λ list. list.items ≡ first_mentions numbers.now) }
 {
     let mut seen = Numbered::new(alloc);
     let mut list = Vec::new(alloc);

@@ -1,7 +1,7 @@
-use Rattle.std.proofs.Common.{◌≡◌, ◌++◌, drop}
-use Rattle.std.specs.FinMap.{empty}
+use Rattle.std.proofs.Common.{◌≡◌, ◌++◌, drop, filter}
 use Rattle.atl_action.specs.Teach.{first_mentions}
+use Rattle.atl_action.proofs.MentionLaws.{is_new}
 use Rattle.atl_action.proofs.teach.first_mentions.Given as goal
 
 abbrev pub invariant-loop-number : goal.invariant-loop-number
-invariant-loop-number l = l.list.items ++ first_mentions l.seen (drop l.number-index l.numbers) ≡ first_mentions empty l.numbers
+invariant-loop-number l = l.list.items ++ filter (is_new l.seen) (first_mentions (drop l.number-index l.numbers)) ≡ first_mentions l.numbers

@@ -1,0 +1,59 @@
+-- Each number at its first mention, as the numbers that were seen are noted.
+use Rattle.std.proofs.Common.{◌≡◌, ◌==◌, ℕ, ◌&&◌, not, Bool, true, false, cond, List, [], ◌∷◌, filter, Some, refl, sym, ap, ◌∙◌, arith}
+use Rattle.std.specs.Prelude.{is_some}
+use Rattle.std.specs.Ordering.{nat_cmp}
+use Rattle.std.specs.Cmp.{nat_cmp_total, unsigned_ties}
+use Rattle.std.specs.FinMap.{FinMap, empty, get, get-empty, get-insert, insert}
+use Rattle.std.proofs.lemmas.Bool.Decides.{nat_tests}
+use Rattle.atl_action.specs.Teach.{first_mentions}
+
+-- whether a number wasn't seen yet
+abbrev pub is_new : FinMap nat_cmp ℕ → ℕ → Bool
+is_new seen k = not (is_some (get seen k))
+
+both_filters : (p q r : ℕ → Bool) → ((k : ℕ) → (q k && p k) ≡ r k) → (ns : List ℕ) → filter p (filter q ns) ≡ filter r ns
+both_filters p q r same [] = refl
+both_filters p q r same (n ∷ ns) = by_test (q n) (same n) (both_filters p q r same ns)
+  where
+    by_test : (b : Bool) → (b && p n) ≡ r n → filter p (filter q ns) ≡ filter r ns → filter p (cond b (n ∷ filter q ns) (filter q ns)) ≡ cond (r n) (n ∷ filter r ns) (filter r ns)
+    by_test true is rest = ap (λ l. cond (p n) (n ∷ l) l) rest ∙ ap (λ b. cond b (n ∷ filter r ns) (filter r ns)) is
+    by_test false is rest = rest ∙ ap (λ b. cond b (n ∷ filter r ns) (filter r ns)) is
+
+-- a number that is noted is new no more
+new_behind : (seen : FinMap nat_cmp ℕ) (n k : ℕ) → (not (k == n) && is_new seen k) ≡ is_new (insert seen n n) k
+new_behind seen n k = by_test (k == n) ∙ sym (ap (λ o. not (is_some o)) (get-insert nat_cmp_total seen n n k ∙ ap (λ b. cond b (Some n) (get seen k)) (sym (unsigned_ties k n))))
+  where
+    by_test : (b : Bool) → (not b && is_new seen k) ≡ not (is_some (cond b (Some n) (get seen k)))
+    by_test true = refl
+    by_test false = refl
+
+-- and one that was seen before is passed over
+new_before : (seen : FinMap nat_cmp ℕ) (n : ℕ) → is_some (get seen n) ≡ true → (k : ℕ) → (not (k == n) && is_new seen k) ≡ is_new seen k
+new_before seen n there k = by_test (k == n) refl
+  where
+    same : (a b : ℕ) → (a == b) ≡ true → a ≡ b
+    same a b is = grind (arith, nat_tests)
+
+    by_test : (b : Bool) → (k == n) ≡ b → (not b && is_new seen k) ≡ is_new seen k
+    by_test true is = sym (ap (λ j. is_new seen j) (same k n is) ∙ ap not there)
+    by_test false is = refl
+
+pub mention : (seen : FinMap nat_cmp ℕ) (n : ℕ) (ns : List ℕ) → is_some (get seen n) ≡ false →
+    filter (is_new seen) (first_mentions (n ∷ ns)) ≡ n ∷ filter (is_new (insert seen n n)) (first_mentions ns)
+mention seen n ns new =
+    ap (λ b. cond (not b) (n ∷ rest) rest) new ∙ ap (λ l. n ∷ l) (both_filters (is_new seen) (λ k. not (k == n)) (is_new (insert seen n n)) (new_behind seen n) (first_mentions ns))
+  where
+    rest : List ℕ
+    rest = filter (is_new seen) (filter (λ k. not (k == n)) (first_mentions ns))
+
+pub mentioned : (seen : FinMap nat_cmp ℕ) (n : ℕ) (ns : List ℕ) → is_some (get seen n) ≡ true → filter (is_new seen) (first_mentions (n ∷ ns)) ≡ filter (is_new seen) (first_mentions ns)
+mentioned seen n ns there =
+    ap (λ b. cond (not b) (n ∷ rest) rest) there ∙ both_filters (is_new seen) (λ k. not (k == n)) (is_new seen) (new_before seen n there) (first_mentions ns)
+  where
+    rest : List ℕ
+    rest = filter (is_new seen) (filter (λ k. not (k == n)) (first_mentions ns))
+
+-- before the first number all are new
+pub all_new : (ns : List ℕ) → filter (is_new empty) ns ≡ ns
+all_new [] = refl
+all_new (n ∷ ns) = ap (λ o. cond (not (is_some o)) (n ∷ filter (is_new empty) ns) (filter (is_new empty) ns)) (get-empty nat_cmp n) ∙ ap (λ l. n ∷ l) (all_new ns)
