@@ -15,7 +15,7 @@ use Rattle.atl_state.proofs.BackLaws.{Rise, entries_rise}
 use Rattle.atl_state.proofs.EveryLaws.{each-from_every, first}
 use Rattle.atl_state.proofs.ListLaws.{other_number, same_number}
 use Rattle.atl_instant.specs.declared.written.Written.{Written}
-use Rattle.atl_market.specs.AtOnce.{PaysAtOnce, paid_unit, stands_in}
+use Rattle.atl_market.specs.AtOnce.{Gets, Gives, PaysAtOnce, paid_unit, stands_in}
 use Rattle.atl_market.specs.PotPhase.{PotMeaning, given_by, shared_out}
 use Rattle.atl_market.proofs.DrawLaws.{AreUntouched, all_pairs, drawn, still, untouched, who_stand}
 use Rattle.atl_market.proofs.PotLaws.{found_other}
@@ -29,7 +29,7 @@ Around true d u = IsThere d.regions u.region
 Around false d u = ⊤
 
 -- what one payment makes of a unit and of its region, and that it changes no other
-pub record Pays (needs : Bool) (step : State → ℕ × ℕ → State) (gets : ℕ → Unit → ℕ → Unit) (gives : Region → ℕ → Region) : Type 0 where
+pub record Pays (needs : Bool) (step : State → ℕ × ℕ → State) (gets : ℕ → Gets) (gives : Gives) : Type 0 where
   pub mine : (d : State) (e : ℕ × ℕ) (u : Unit) → get d.units e.0 ≡ Some u → Around needs d u → get (step d e).units e.0 ≡ Some (gets e.0 u e.1)
   pub others : (d : State) (e : ℕ × ℕ) (u : Unit) → get d.units e.0 ≡ Some u → Around needs d u → (k : ℕ) → k ≢ e.0 → get (step d e).units k ≡ get d.units k
   pub region : (d : State) (e : ℕ × ℕ) (u : Unit) (q : Region) → get d.units e.0 ≡ Some u → get d.regions u.region ≡ Some q → get (step d e).regions u.region ≡ Some (gives q e.1)
@@ -37,7 +37,7 @@ pub record Pays (needs : Bool) (step : State → ℕ × ℕ → State) (gets : �
   pub nothing : (q : Region) → gives q 0 ≡ q
   pub twice : (q : Region) (s t : ℕ) → gives (gives q s) t ≡ gives q (s + t)
 
-module _ {needs : Bool} {step : State → ℕ × ℕ → State} {gets : ℕ → Unit → ℕ → Unit} {gives : Region → ℕ → Region} (pays : Pays needs step gets gives) where
+module _ {needs : Bool} {step : State → ℕ × ℕ → State} {gets : ℕ → Gets} {gives : Gives} (pays : Pays needs step gets gives) where
   -- regions that are there stay there
   still_around : (d : State) (e : ℕ × ℕ) (u v : Unit) → get d.units e.0 ≡ Some u → Around needs d u → Around needs d v → Around needs (step d e) v
   still_around d e u v is here there = by_need needs (λ k apart. pays.regions d e u is here k apart) (λ q at. pays.region d e u q is at) there
@@ -126,7 +126,7 @@ drawn_is units r (e ∷ es) = by_test (stands_in r (get units e.0)) (drawn_is un
 abbrev pub GivesWhoIsThere : Bool → PotMeaning → Planet → State → List Written → Type 0
 GivesWhoIsThere needs p w c os = (n share : ℕ) → get (given_by p w c os) n ≡ Some share → (u : Unit) × (get c.units n ≡ Some u) × Around needs c u
 
-pub all_at_once : {needs : Bool} (p : PotMeaning) (w : Planet) (gets : ℕ → Unit → ℕ → Unit) (gives : Region → ℕ → Region) → Pays needs (p.paid w) gets gives
+pub all_at_once : {needs : Bool} (p : PotMeaning) (w : Planet) (gets : ℕ → Gets) (gives : Gives) → Pays needs (p.paid w) gets gives
     → (c : State) (os : List Written) → GivesWhoIsThere needs p w c os → PaysAtOnce p w gets gives c os
 unfolding shared_out
 all_at_once {needs} p w gets gives pays c os gives_them =

@@ -12,7 +12,7 @@ use Rattle.atl_state.proofs.EveryLaws.{get-insert_other}
 use Rattle.atl_state.proofs.RegionLaws.{changed-known, get-insert_same}
 use Rattle.atl_market.specs.AtOnce.{stays}
 use Rattle.atl_market.specs.Goods.{made_to, used_by, with_made, with_used}
-use Rattle.atl_market.specs.Paid.{ProducesAtOnce, RecruitsAtOnce, TaxesAtOnce, WorksAtOnce, maker_by, maker_of, with_less, with_more, with_more_money}
+use Rattle.atl_market.specs.Paid.{ProducesAtOnce, RecruitsAtOnce, TaxesAtOnce, WorksAtOnce, maker_by, maker_of, with_less, with_less_money, with_less_peasants, with_more, with_more_money, with_recruits}
 use Rattle.atl_market.specs.PotPhase.{wants_by}
 use Rattle.atl_market.specs.Produce.{produce_pots, produced, produced_by, produced_of, with_raw_used}
 use Rattle.atl_market.specs.Recruit.{recruit_pots, recruited, recruits_at, with_men}
@@ -37,7 +37,7 @@ less_both a s t = omega arith
 -- ---- TAX
 
 module _ (w : Planet) where
-  tax_pays : Pays true (λ d e. taxed d e) (λ n. with_more_money) (λ q taken. record q { money = q.money - taken })
+  tax_pays : Pays true (λ d e. taxed d e) (λ n. with_more_money) with_less_money
   tax_pays = record {
     mine = λ d e u is (q, around). ap (λ (s : State). get s.units e.0) (taxed_is w d e u q is around) ∙ get-insert_same d.units e.0 (paid_unit d e.0 u e.1);
     others = λ d e u is (q, around) k apart. ap (λ (s : State). get s.units k) (taxed_is w d e u q is around) ∙ others_stay d e.0 u e.1 is k apart;
@@ -53,7 +53,7 @@ module _ (w : Planet) where
 
 pub taxes_at_once : TaxesAtOnce
 taxes_at_once w c os =
-    all_at_once tax_pots w (λ n. with_more_money) (λ q taken. record q { money = q.money - taken }) (tax_pays w) c os
+    all_at_once tax_pots w (λ n. with_more_money) with_less_money (tax_pays w) c os
     (λ n share is. let (want, u, wanted, low, at, region) = only_takers_get (money_at c) (wants_by tax_pots w c os) c n share is in (u, at, region))
 
 -- ---- RECRUIT
@@ -62,7 +62,7 @@ module _ (w : Planet) where
   recruited_then : (d : State) (e : ℕ × ℕ) (u : Unit) (q : Region) → get d.units e.0 ≡ Some u → get d.regions u.region ≡ Some q → recruited w d e ≡ recruited_to d e.0 u q e.1 (e.1 * w.rules.recruit_price)
   recruited_then d e u q is around = recruited_is w d e u q is around ∙ recruits_are w d e.0 u q e.1 (e.1 * w.rules.recruit_price) is around
 
-  recruit_pays : Pays true (recruited w) (λ n u recruits. record u { holding = with_men u.holding recruits (recruits * w.rules.recruit_price) }) (λ q joined. record q { peasants = q.peasants - joined })
+  recruit_pays : Pays true (recruited w) (λ n. with_recruits w) with_less_peasants
   recruit_pays = record {
     mine = λ d e u is (q, around).
         ap (λ (s : State). get s.units e.0) (recruited_then d e u q is around) ∙ get-insert_same d.units e.0 (record u { holding = with_men u.holding e.1 (e.1 * w.rules.recruit_price) });
@@ -79,7 +79,7 @@ module _ (w : Planet) where
 
 pub recruits_at_once : RecruitsAtOnce
 recruits_at_once readings w c os =
-    all_at_once (recruit_pots readings) w (λ n u recruits. record u { holding = with_men u.holding recruits (recruits * w.rules.recruit_price) }) (λ q joined. record q { peasants = q.peasants - joined }) (recruit_pays w) c os
+    all_at_once (recruit_pots readings) w (λ n. with_recruits w) with_less_peasants (recruit_pays w) c os
     (λ n share is. let (want, u, wanted, low, at, region) = only_takers_get (recruits_at w c) (wants_by (recruit_pots readings) w c os) c n share is in (u, at, region))
 
 -- ---- WORK

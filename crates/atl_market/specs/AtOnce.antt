@@ -18,16 +18,27 @@ stands_in region (Some u) = u.region == region
 abbrev pub given_in : FinMap nat_cmp ℕ → FinMap nat_cmp Unit → (region : ℕ) → ℕ
 given_in given units region = sum (map (λ e. e.1) (filter (λ e. stands_in region (get units e.0)) (entries given)))
 
+-- a unit with a share, and a region without so much
+abbrev pub Gets : Type 0
+Gets = Unit → (share : ℕ) → Unit
+
+abbrev pub Gives : Type 0
+Gives = Region → (given : ℕ) → Region
+
 -- a unit by what it got, if it got something
-abbrev pub paid_unit : (Unit → ℕ → Unit) → Unit → Option ℕ → Unit
+abbrev pub paid_unit : Gets → Unit → Option ℕ → Unit
 paid_unit gets u None = u
 paid_unit gets u (Some share) = gets u share
 
 -- By `gets` a unit follows from what it was and its share, and by `gives` a region from what it was and all that its units got.
-pub record PaysAtOnce (p : PotMeaning) (w : Planet) (gets : ℕ → Unit → ℕ → Unit) (gives : Region → ℕ → Region) (c : State) (os : List Written) : Type 0 where
-  pub units : (n : ℕ) (u : Unit) → get c.units n ≡ Some u → get (shared_out p w c os).units n ≡ Some (paid_unit (gets n) u (get (given_by p w c os) n))
-  pub regions : (r : ℕ) (q : Region) → get c.regions r ≡ Some q → get (shared_out p w c os).regions r ≡ Some (gives q (given_in (given_by p w c os) c.units r))
+pub record PaysAtOnce (p : PotMeaning) (w : Planet) (gets : ℕ → Gets) (gives : Gives) (c : State) (os : List Written) : Type 0 where
+  pub units :
+      (n : ℕ) (u : Unit) → get c.units n ≡ Some u
+      → get (shared_out p w c os).units n ≡ Some (paid_unit (gets n) u (get (given_by p w c os) n))
+  pub regions :
+      (r : ℕ) (q : Region) → get c.regions r ≡ Some q
+      → get (shared_out p w c os).regions r ≡ Some (gives q (given_in (given_by p w c os) c.units r))
 
 -- a region that gives nothing that it has
-abbrev pub stays : Region → ℕ → Region
+abbrev pub stays : Gives
 stays q share = q

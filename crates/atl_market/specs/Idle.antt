@@ -21,7 +21,8 @@ own_writers c os = with_each empty (flat_map (own_unit c) os)
 
 abbrev pub idle_written : FinMap nat_cmp ℕ → ℕ × Unit → List Written
 idle_written writers (n, u) =
-    if nat_lt 0 u.holding.men && not (is_some (get writers n)) then record { unit = n; line = 0; faction = u.faction; verb = verbs.Work; place = 0 } ∷ []
+    if nat_lt 0 u.holding.men && not (is_some (get writers n))
+    then record { unit = n; line = 0; faction = u.faction; verb = verbs.Work; place = 0 } ∷ []
     else []
 
 abbrev pub all_idle : State → List Written → List Written

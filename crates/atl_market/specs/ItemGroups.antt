@@ -20,9 +20,11 @@ abbrev pub with_want : (ℕ → Option ℕ) → FinMap nat_cmp ℕ → Groups �
 with_want item_of wants groups number = want_put groups number (item_of number) (get wants number)
 
 -- the units of a group with their shares of what a region has of its item
-abbrev pub item_shares_in : (pot_of : (item region : ℕ) → ℕ) → FinMap nat_cmp ℕ → (region : ℕ) → ℕ × FinMap nat_cmp ℕ → List (ℕ × ℕ)
-item_shares_in pot_of wants region group = zip (keys group.1) (shares (pot_of group.0 region) (map (want_of wants) (keys group.1)))
+abbrev pub item_shares_in : (pot_of : ℕ → ℕ → ℕ) → FinMap nat_cmp ℕ → (region : ℕ) → ℕ × FinMap nat_cmp ℕ → List (ℕ × ℕ)
+item_shares_in pot_of wants region group =
+    zip (keys group.1) (shares (pot_of group.0 region) (map (want_of wants) (keys group.1)))
 
 -- and those of all items in a region
-abbrev pub region_shares : (ℕ → Option ℕ) → (pot_of : (item region : ℕ) → ℕ) → FinMap nat_cmp ℕ → State → (region : ℕ) → List (ℕ × ℕ)
-region_shares item_of pot_of wants c region = flat_map (item_shares_in pot_of wants region) (entries (fold (with_want item_of wants) empty (numbers_in region c.units)))
+abbrev pub region_shares : (ℕ → Option ℕ) → (pot_of : ℕ → ℕ → ℕ) → FinMap nat_cmp ℕ → State → (region : ℕ) → List (ℕ × ℕ)
+region_shares item_of pot_of wants c region =
+    flat_map (item_shares_in pot_of wants region) (entries (fold (with_want item_of wants) empty (numbers_in region c.units)))

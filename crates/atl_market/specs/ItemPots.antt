@@ -19,6 +19,6 @@ module _ (item_of : ℕ → Option ℕ) where
     share_for number None = None
     share_for number (Some item) = share_of (pot_of item) (wants_for wants item) c number
 
-    -- What a unit, by its number, gets: its share of what its region has of the item that it asks for, which all units there share that ask for it too.
+    -- What a unit, by its number, gets: its share of what its region has of the item that it asks for.
     abbrev pub item_share : ℕ → Option ℕ
     item_share number = share_for number (item_of number)

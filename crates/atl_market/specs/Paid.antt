@@ -10,25 +10,34 @@ use Rattle.atl_state.specs.declared.records.Unit.{Unit}
 use Rattle.atl_state.specs.Held.{Held, amount_of, with_amount_of}
 use Rattle.atl_state.specs.State.{State}
 use Rattle.atl_instant.specs.declared.written.Written.{Written}
-use Rattle.atl_market.specs.AtOnce.{PaysAtOnce, stays}
+use Rattle.atl_market.specs.AtOnce.{Gets, Gives, PaysAtOnce, stays}
 use Rattle.atl_market.specs.Produce.{produce_pots}
 use Rattle.atl_market.specs.Recruit.{recruit_pots, with_men}
 use Rattle.atl_market.specs.Tax.{tax_pots}
 use Rattle.atl_market.specs.Work.{earned, work_pots}
 
 -- a unit with more money
-abbrev pub with_more_money : Unit → ℕ → Unit
+abbrev pub with_more_money : Gets
 with_more_money u money = record u { holding = record u.holding { money = u.holding.money + money } }
+
+abbrev pub with_less_money : Gives
+with_less_money q taken = record q { money = q.money - taken }
 
 -- TAX: a unit has its share more, and a region all that its units took less
 abbrev pub TaxesAtOnce : Type 0
-TaxesAtOnce = (w : Planet) (c : State) (os : List Written) → PaysAtOnce tax_pots w (λ n. with_more_money) (λ q taken. record q { money = q.money - taken }) c os
+TaxesAtOnce = (w : Planet) (c : State) (os : List Written) → PaysAtOnce tax_pots w (λ n. with_more_money) with_less_money c os
+
+abbrev pub with_recruits : Planet → Gets
+with_recruits w u recruits = record u { holding = with_men u.holding recruits (recruits * w.rules.recruit_price) }
+
+abbrev pub with_less_peasants : Gives
+with_less_peasants q joined = record q { peasants = q.peasants - joined }
 
 -- RECRUIT: a unit has its recruits more and their price less, and a region all that joined its units less
 abbrev pub RecruitsAtOnce : Type 0
 RecruitsAtOnce =
-    (readings : FinMap nat_cmp Reading) (w : Planet) (c : State) (os : List Written) →
-    PaysAtOnce (recruit_pots readings) w (λ n u recruits. record u { holding = with_men u.holding recruits (recruits * w.rules.recruit_price) }) (λ q joined. record q { peasants = q.peasants - joined }) c os
+    (readings : FinMap nat_cmp Reading) (w : Planet) (c : State) (os : List Written)
+    → PaysAtOnce (recruit_pots readings) w (λ n. with_recruits w) with_less_peasants c os
 
 abbrev pub with_less : Held → Option ℕ → (amount : ℕ) → Held
 with_less h None amount = h
@@ -47,8 +56,12 @@ maker_by w u made (Some item) = maker_of u item made (slice_get w.items item)
 
 -- PRODUCE: a unit has so much more of its item, and as much less of the raw item as goes into it
 abbrev pub ProducesAtOnce : Type 0
-ProducesAtOnce = (asked : FinMap nat_cmp ℕ) (w : Planet) (c : State) (os : List Written) → PaysAtOnce (produce_pots asked) w (λ n u made. maker_by w u made (get asked n)) stays c os
+ProducesAtOnce =
+    (asked : FinMap nat_cmp ℕ) (w : Planet) (c : State) (os : List Written)
+    → PaysAtOnce (produce_pots asked) w (λ n u made. maker_by w u made (get asked n)) stays c os
 
 -- WORK: a unit has the wages of its places more
 abbrev pub WorksAtOnce : Type 0
-WorksAtOnce = (w : Planet) (c : State) (os : List Written) → PaysAtOnce work_pots w (λ n u places. with_more_money u (earned w u.region places)) stays c os
+WorksAtOnce =
+    (w : Planet) (c : State) (os : List Written)
+    → PaysAtOnce work_pots w (λ n u places. with_more_money u (earned w u.region places)) stays c os

@@ -55,7 +55,7 @@ is_work verb = false
 abbrev pub all_work : State → List Task → List Task
 all_work c ts = filter (λ t. is_work (verb_of_order t.said)) ts ++ idle_work c ts
 
--- The orders of WORK, in the order of their keys: those that are written, and the work of the units with men whose own faction wrote no month-long order for them.
+-- The orders of WORK, in the order of their keys: those that are written, and the work of those who have none.
 unfoldable pub work_orders : State → Course → List Written
 work_orders c m = map written (values (from_entries {R = slice_cmp nat_cmp} (map (λ t. (key_of ByUnit t, t)) (all_work c (long_tasks m)))))
 
