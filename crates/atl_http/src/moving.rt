@@ -6,6 +6,7 @@ ghost use Rattle.atl_http.specs.Moving.{ReadsMore, ComesTo, Receives, WritesMore
 use crate::judging::{behind, judged};
 use crate::request::Outcome;
 use std::alloc::{AllocError, Global};
+use std::fmt;
 use std::io::{Error, ErrorKind, Read, Write};
 
 /// The most reads for one request.
@@ -46,6 +47,18 @@ impl HttpFault {
         }
     }
 }
+
+/// The number and the name, as `1 Cut`; `Memory` has its name alone.
+impl fmt::Display for HttpFault {
+    fn fmt<W: fmt::Write>(&self, f: &mut fmt::Formatter<W>) -> fmt::Result {
+        match self.number() {
+            Some(number) => write!(f, "{number} {self:?}"),
+            None => write!(f, "{self:?}"),
+        }
+    }
+}
+
+impl std::error::Error for HttpFault {}
 
 impl From<AllocError> for HttpFault {
     ghost use Rattle.atl_http.specs.declared.moving.HttpFault.TheVariants.{Memory};

@@ -5,6 +5,8 @@ ghost use Rattle.atl_http.specs.Replies.{problem_name, problem_status};
 use crate::route::Route;
 use http::StatusCode;
 use std::alloc::AllocError;
+use std::error::Error;
+use std::fmt;
 
 /// Why a request is refused before any command is run: the first check that it fails. See docs/FORMATS.md, "HTTP".
 #[derive(Drop, Clone, Copy, Debug, PartialEq, Eq)]
@@ -54,6 +56,15 @@ impl Problem {
         }
     }
 }
+
+/// Its name.
+impl fmt::Display for Problem {
+    fn fmt<W: fmt::Write>(&self, f: &mut fmt::Formatter<W>) -> fmt::Result {
+        write!(f, "{}", self.name())
+    }
+}
+
+impl Error for Problem {}
 
 /// Why there is nothing to go on with: there was no memory, or a check failed.
 #[derive(Drop, Clone, Copy)]
