@@ -1,9 +1,8 @@
 -- The same people in other places: how many units there are, of which factions they are, and what they hold.
 use Rattle.std.proofs.Common.{◌≡◌, ◌==◌, ℕ, ◌+◌, Bool, true, false, Option, Some, None, refl, sym, ap, ◌∙◌, arith}
-use Rattle.std.specs.Prelude.{option_map, pos, ℤ, if◌then◌else◌}
+use Rattle.std.specs.Prelude.{option_map, pos, if◌then◌else◌}
 use Rattle.std.specs.Ordering.{nat_cmp}
 use Rattle.std.specs.FinMap.{FinMap, get, insert, len}
-use Rattle.std.proofs.lemmas.Int.{ints}
 use Rattle.atl_tables.specs.Planet.{Planet}
 use Rattle.atl_tables.specs.Sums.{changed, changed_at, sum_over}
 use Rattle.atl_tables.proofs.SumLaws.{numbers_where-insert_known, sum_over-insert_known}
@@ -18,10 +17,11 @@ use Rattle.atl_state.specs.State.{State, numbers_inside, numbers_of}
 use Rattle.atl_state.specs.Totals.{held, kept, total}
 use Rattle.atl_state.proofs.RegionLaws.{same_len}
 use Rattle.atl_instant.specs.Meaning.{IsSameMonth}
-use Rattle.atl_instant.specs.Steps.{IsDrawn, StepsWell}
+use Rattle.atl_instant.specs.Steps.{StepsWell}
 use Rattle.atl_instant.specs.Unbooked.{books_nothing}
 use Rattle.atl_instant.proofs.StructureLaws.{at_number, get-changed}
 use Rattle.atl_action.proofs.TravelLaws.{IsSameUnit}
+use Rattle.atl_instant.proofs.StepLaws.{not_drawn}
 
 pub record AreSamePeople (before after : FinMap nat_cmp Unit) : Type 0 where
   pub count : len after ≡ len before
@@ -121,13 +121,10 @@ total_people c d people regions t =
     let keep = λ (r : Region). kept t r in
     ap (λ m. sum_over (λ (x : Unit). held t x.holding) d.units + sum_over keep m) regions ∙ ap (λ n. n + sum_over keep c.regions) (people.hold t)
 
-not_drawn : (a b : ℤ) → b ≡ a → IsDrawn 0 0 a b
-not_drawn a b is = record { above = omega (arith, ints, is); below = omega (arith, ints, is) }
-
 pub steady_well : (w : Planet) (c d : State) → IsSteady w d → IsSameMonth c d → d.books ≡ c.books → ((t : Thing) → total d t ≡ total c t) → StepsWell IsSteady books_nothing w c d
 steady_well w c d steady same books totals = record {
   holds_still = steady;
   same_month = same;
   balances = λ old t. ap pos (totals t) ∙ old t ∙ ap (λ b. booked b t) (sym books);
-  drawn = λ e t. not_drawn (amount_in c.books e t) (amount_in d.books e t) (ap (λ b. amount_in b e t) books);
+  drawn = λ e t. not_drawn 0 0 (amount_in c.books e t) (amount_in d.books e t) refl (ap (λ b. amount_in b e t) books);
 }

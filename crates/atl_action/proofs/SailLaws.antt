@@ -5,7 +5,7 @@ use Rattle.std.specs.List.{AllByRecursion, list_any}
 use Rattle.std.specs.Option.{option_map_or}
 use Rattle.std.specs.Ordering.{nat_cmp}
 use Rattle.std.specs.FinMap.{FinMap, get, values}
-use Rattle.std.proofs.lemmas.Bool.{and_parts}
+use Rattle.std.proofs.lemmas.Bool.{and_parts, not-false}
 use Rattle.std.proofs.lemmas.List.Elements.{recursion_from_All}
 use Rattle.std.proofs.lemmas.List.Sums.{sum_by-cons}
 use Rattle.atl_tables.specs.Planet.{Planet}
@@ -43,10 +43,6 @@ use Rattle.atl_action.specs.Sail.{AreCarried, IsCarried, SailsWith, capacity, co
 use Rattle.atl_action.specs.Ways.{is_region, neighbour}
 use Rattle.atl_action.proofs.PeopleLaws.{AreSamePeople, elsewhere, elsewhere_at, elsewhere_inside, elsewhere_people, gone_if, gone_same, guards_stay, people_same, people_twice, steady_well, total_people}
 use Rattle.atl_action.proofs.TravelLaws.{AreTravelled, IsPut, IsSameStructure, steady-travelled, travelled, under}
-
-not_false : (b : Bool) → not b ≡ false → b ≡ true
-not_false true h = refl
-not_false false h = cc
 
 false_true : {P : Type 0} → false ≡ true → P
 false_true e = cc
@@ -343,7 +339,7 @@ region_there w r is = by_plan (get w.regions r) refl is
 
 way_there : (w : Planet) (from : ℕ) (to : Option ℕ) → not (is_way w from to) ≡ false → IsThere w.regions (unwrap_or to 0)
 way_there w from None t = false_true (sym t)
-way_there w from (Some r) t = region_there w r (and_parts (is_region w r) (not (is_land_at w from && is_land_at w r)) (not_false (is_way w from (Some r)) t)).0
+way_there w from (Some r) t = region_there w r (and_parts (is_region w r) (not (is_land_at w from && is_land_at w r)) (not-false (is_way w from (Some r)) t)).0
 
 -- what is so of the campaign as it is, and of that in which a whole ship has gone, is so of the campaign behind the order
 sail_cases : (P : State × Outcome → Type 0) (w : Planet) (c : State) (n : ℕ) (direction : Direction) → ((outcome : Outcome) → P (c, outcome))
@@ -354,7 +350,7 @@ sail_cases P w c n direction same gone_off = by_unit (get c.units n) refl
     by_ship : (u : Unit) → get c.units n ≡ Some u → (to : Option ℕ) (o : Option Structure) → get c.structures u.structure ≡ o → not (is_complete_ship w o) ≡ false → not (is_way w u.region to) ≡ false → P (sailed c u.structure (unwrap_or to 0), Done 0)
     by_ship u here to None at whole way = false_true (sym whole)
     by_ship u here to (Some x) at whole way =
-        let parts = and_parts (is_ship w x) (x.done == size_of w x.kind) (not_false (is_complete_ship w (Some x)) whole) in
+        let parts = and_parts (is_ship w x) (x.done == size_of w x.kind) (not-false (is_complete_ship w (Some x)) whole) in
         gone_off u.structure (unwrap_or to 0) x at parts.0 (is_equal x.done (size_of w x.kind) parts.1) (way_there w u.region to way) (ap structure_in here)
 
     by_fault : (u : Unit) → get c.units n ≡ Some u → (to : Option ℕ) (o : Option EventFault) → sail_fault w c n u (get c.structures u.structure) to ≡ o → P (unless c o (sailed c u.structure (unwrap_or to 0), Done 0))

@@ -4,7 +4,7 @@ use Rattle.std.specs.Prelude.{nat_lt, option_map, unwrap_or, if◌then◌else◌
 use Rattle.std.specs.Option.{option_map_or}
 use Rattle.std.specs.Ordering.{nat_cmp}
 use Rattle.std.specs.FinMap.{FinMap, get, len}
-use Rattle.std.proofs.lemmas.Bool.{cases_eq}
+use Rattle.std.proofs.lemmas.Bool.{cases_eq, not-true, not-false, true≢false}
 use Rattle.atl_tables.specs.Planet.{Planet, is_land}
 use Rattle.atl_tables.specs.declared.world.RegionPlan.{RegionPlan}
 use Rattle.atl_tables.specs.declared.direction.Direction.{Direction}
@@ -35,17 +35,6 @@ use Rattle.atl_action.specs.Walk.{is_land_there, walk, walk_by, walk_fault, walk
 use Rattle.atl_action.specs.Ways.{neighbour}
 use Rattle.atl_action.proofs.PeopleLaws.{AreSamePeople, elsewhere, elsewhere_at, elsewhere_people, gone, gone_if, gone_same, guards_stay, steady_well, total_people}
 use Rattle.atl_action.proofs.TravelLaws.{AreTravelled, IsPut, IsSameStructure, steady-travelled, travelled}
-
-not_true : (b : Bool) → not b ≡ true → b ≡ false
-not_true true h = cc
-not_true false h = refl
-
-not_false : (b : Bool) → not b ≡ false → b ≡ true
-not_false true h = refl
-not_false false h = cc
-
-true_false : {P : Type 0} → true ≡ false → P
-true_false e = cc
 
 false_true : {P : Type 0} → false ≡ true → P
 false_true e = cc
@@ -143,9 +132,9 @@ module _ (w : Planet) (c : State) (n : ℕ) (u : Unit) (to : ℕ) (is : get c.un
           owned = λ some.
               let (listed, other) = first.0 some in
               let (v, at, t) = listed_passing within c.units next listed in
-              (v, away next (is_unequal next n (not_true (next == n) other)) ∙ at, is_equal v.structure old_place t);
+              (v, away next (is_unequal next n (not-true (next == n) other)) ∙ at, is_equal v.structure old_place t);
           ownerless = λ none. every_away (λ m v. v.structure ≢ old_place) (λ zero. some_place (sym zero))
-              (λ m v other at inside. other (is_equal m n (not_false (m == n) (first.1 none m (passing_listed within c.units m v at (equal v.structure old_place inside))))));
+              (λ m v other at inside. other (is_equal m n (not-false (m == n) (first.1 none m (passing_listed within c.units m v at (equal v.structure old_place inside))))));
         }
 
     -- g gives the structures, which are where they were
@@ -162,7 +151,7 @@ module _ (w : Planet) (c : State) (n : ℕ) (u : Unit) (to : ℕ) (is : get c.un
 
       aboard_by : (k : ℕ) (x : Unit) → get c.units k ≡ Some x → (b : Bool) → is_land_at w (gone_if 0 to b x).region ≡ false
           → (s : Structure) × (get structures (gone_if 0 to b x).structure ≡ Some s) × (is_ship w s ≡ true)
-      aboard_by k x there true wet = true_false (sym land ∙ wet)
+      aboard_by k x there true wet = absurd (true≢false (sym land ∙ wet))
       aboard_by k x there false wet =
           let (s, was, ship) = steady.water.units k x there wet in
           (g x.structure s, forth x.structure s was, rw (same x.structure s was).0.kind ship)
@@ -253,7 +242,7 @@ module _ (w : Planet) (c : State) (n : ℕ) (u : Unit) (to : ℕ) (is : get c.un
 -- a region that is there, if it has land, is the one that the unit goes to
 land_to : (w : Planet) (to : Option ℕ) → not (is_land_there w to) ≡ false → is_land_at w (unwrap_or to 0) ≡ true
 land_to w None dry = false_true (sym dry)
-land_to w (Some r) dry = not_false (is_land_at w r) dry
+land_to w (Some r) dry = not-false (is_land_at w r) dry
 
 -- what is so of the campaign as it is, and of that in which the unit has gone, is so of the campaign behind the order
 walk_cases : (P : State → Type 0) (w : Planet) (c : State) (n : ℕ) (direction : Direction) → P c → ((u : Unit) (to : ℕ) → get c.units n ≡ Some u → is_land_at w to ≡ true → P (walked c n to)) → P (walk w c n direction).0

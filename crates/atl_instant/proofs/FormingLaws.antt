@@ -1,5 +1,6 @@
 -- How a campaign changes as a unit forms another.
 use Rattle.std.proofs.Common.{◌≡◌, ◌≢◌, ◌==◌, ◌||◌, ◌*◌, ℕ, ◌+◌, ◌≤◌, ◌<◌, Bool, true, false, cond, Some, None, length, nat_le, nat_lt, refl, sym, ap, ◌∙◌, arith}
+use Rattle.std.proofs.lemmas.Bool.{true≢false}
 use Rattle.std.specs.Prelude.{IsTrue, is_some, option_map, unwrap_or}
 use Rattle.std.specs.Ordering.{nat_cmp}
 use Rattle.std.specs.Cmp.{nat_cmp_total}
@@ -27,9 +28,6 @@ use Rattle.atl_instant.specs.Steps.{StepsWell}
 use Rattle.atl_instant.specs.Unbooked.{books_nothing}
 use Rattle.atl_instant.proofs.UnbookedLaws.{unbooked_well}
 use Rattle.atl_state.proofs.NumberedNameLaws.{unit_name_ok}
-
-true_false : {P : Type 0} → true ≡ false → P
-true_false e = cc
 
 len_new : {V : Type 0} (m : FinMap nat_cmp V) (k : ℕ) (v : V) → get m k ≡ None → len (insert m k v) ≡ len m + 1
 len_new m k v h = len-insert nat_cmp_total m k v ∙ ap (λ o. cond (is_some o) (len m) (len m + 1)) h
@@ -136,8 +134,8 @@ module _ (w : Planet) (c : State) (p : ℕ) (u : Unit) (is : get c.units p ≡ S
   -- who doesn't pass a test changes nothing of those who do
   one_faction_kept : (test : Unit → Bool) → test child ≡ false → AreOfOneFaction test c → AreOfOneFaction test begun
   one_faction_kept test fails one =
-      every-insert (λ n x. Every (λ m y. test x ≡ true → test y ≡ true → x.region ≡ y.region → x.faction ≡ y.faction) units) c.units c.next_unit child (λ m y there e. true_false (sym e ∙ fails))
-      (λ n x there. every-insert (λ m y. test x ≡ true → test y ≡ true → x.region ≡ y.region → x.faction ≡ y.faction) c.units c.next_unit child (λ _ e. true_false (sym e ∙ fails)) (one n x there))
+      every-insert (λ n x. Every (λ m y. test x ≡ true → test y ≡ true → x.region ≡ y.region → x.faction ≡ y.faction) units) c.units c.next_unit child (λ m y there e. absurd (true≢false (sym e ∙ fails)))
+      (λ n x there. every-insert (λ m y. test x ≡ true → test y ≡ true → x.region ≡ y.region → x.faction ≡ y.faction) c.units c.next_unit child (λ _ e. absurd (true≢false (sym e ∙ fails))) (one n x there))
 
   early_begun : is_unit_limit c ≡ false → IsEarly w begun
   early_begun limit = record {
@@ -187,6 +185,6 @@ marks-begun c u = let n = c.what.next_unit in record {
     units = λ k free. ap (option_map bare) (get-insert_other c.what.units n k u (apart_by c.marks.units n k free));
     goods = λ k free. ap goods_under (get-insert_other c.what.units n k u (apart_by c.marks.goods n k free));
     books = λ e t free. refl;
-    row = λ free. true_false free;
+    row = λ free. absurd (true≢false free);
   };
 }

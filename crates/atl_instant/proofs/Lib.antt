@@ -15,6 +15,7 @@ pub mod AmountsLaws
 pub mod MovingLaws
 pub mod GiveLaws
 pub mod TransferLaws
+pub mod DaysLaws
 pub mod GuardingLaws
 pub mod MarkLaws
 pub mod FactionLaws

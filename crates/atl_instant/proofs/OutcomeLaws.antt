@@ -1,6 +1,7 @@
 -- What is so where no fault fits, and of units that no order is for.
 use Rattle.std.proofs.Common.{◌≡◌, ◌≢◌, ◌==◌, ℕ, ◌≤◌, Bool, true, false, not, ◌&&◌, List, ◌∷◌, Some, None, refl, sym, ap, ◌∙◌, arith}
 use Rattle.std.specs.Prelude.{nat_lt}
+use Rattle.std.proofs.lemmas.Bool.{not-false}
 use Rattle.std.proofs.lemmas.Bool.Decides.{nat_tests}
 use Rattle.std.specs.FinMap.{get}
 use Rattle.atl_state.specs.declared.event.EventFault.{EventFault}
@@ -16,11 +17,7 @@ none_fits true fault more is = cc
 none_fits false fault more is = (refl, is)
 
 pub not_apart : (a b : ℕ) → not (a == b) ≡ false → a ≡ b
-not_apart a b is = let same : (a == b) ≡ true = flipped (a == b) is in grind (arith, nat_tests)
-  where
-    flipped : (x : Bool) → not x ≡ false → x ≡ true
-    flipped true e = refl
-    flipped false e = cc
+not_apart a b is = let same : (a == b) ≡ true = not-false (a == b) is in grind (arith, nat_tests)
 
 pub not_less : (a b : ℕ) → nat_lt a b ≡ false → b ≤ a
 not_less a b is = grind (arith, nat_tests)

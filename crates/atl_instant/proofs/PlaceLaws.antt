@@ -1,5 +1,6 @@
 -- LEAVE, ENTER and PROMOTE leave a campaign well, and spare who doesn't order them.
 use Rattle.std.proofs.Common.{◌≡◌, ◌≢◌, ◌==◌, ℕ, Bool, true, false, not, List, [], ◌∷◌, Option, Some, None, refl, sym, ap, subst, ◌∙◌, arith}
+use Rattle.std.proofs.lemmas.Bool.{true≢false}
 use Rattle.std.specs.Prelude.{if◌then◌else◌}
 use Rattle.std.specs.Option.{option_map_or}
 use Rattle.std.specs.FinMap.{get}
@@ -41,9 +42,6 @@ place_other w a c f n text (orders.Enter s) l b d = absurd (b s refl)
 place_other w a c f n text (orders.Promote to) l b d = absurd (d to refl)
 place_other w a c f n text other l b d = refl
 
-true_false : {P : Type 0} → true ≡ false → P
-true_false e = cc
-
 module _ (w : Planet) (c : State) (n : ℕ) (u : Unit) (is : get c.units n ≡ Some u) (early : IsEarly w c) where
   abbrev Well : State → Type 0
   Well d = StepsWell IsEarly books_nothing w c d
@@ -63,7 +61,7 @@ module _ (w : Planet) (c : State) (n : ℕ) (u : Unit) (is : get c.units n ≡ S
   left_place some dry =
       subst (λ r. Well (with_place c n r 0)) (sym region_is)
       (place_well w c n u 0 is early (λ none. is_unequal (inside c n) 0 some (inside_is ∙ none)) (λ not_none. absurd (not_none refl))
-      (λ wet. true_false (sym dry ∙ ap (is_land_at w) region_is ∙ wet)))
+      (λ wet. absurd (true≢false (sym dry ∙ ap (is_land_at w) region_is ∙ wet))))
 
   left_by : (a b : Bool) → (inside c n == 0) ≡ a → is_land_at w (region_of c n) ≡ b → Well (unless c (first_fault ((a, NotInside) ∷ (not b, AtSea) ∷ [])) (with_place c n (region_of c n) 0, Done 0)).0
   left_by true b some dry = unchanged

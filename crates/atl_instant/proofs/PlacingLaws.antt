@@ -1,5 +1,6 @@
 -- How a campaign changes as a unit leaves a structure for another of its region, or for none.
 use Rattle.std.proofs.Common.{◌≡◌, ◌≢◌, ◌==◌, ◌&&◌, ℕ, ◌≤◌, Bool, true, false, not, Option, Some, None, refl, sym, ap, subst, ◌∙◌, arith}
+use Rattle.std.proofs.lemmas.Bool.{not-true, not-false, true≢false}
 use Rattle.std.specs.Prelude.{option_map, if◌then◌else◌}
 use Rattle.std.specs.FinMap.{get}
 use Rattle.atl_tables.specs.Planet.{Planet}
@@ -19,17 +20,6 @@ use Rattle.atl_instant.specs.Unbooked.{books_nothing}
 use Rattle.atl_instant.proofs.RefitLaws.{IsRefit, IsRelabelled, early-refitted, refitted, steady-refitted, total-refitted}
 use Rattle.atl_instant.proofs.StructureLaws.{changed_else, equal, get-handed, handed_is, handed_on, is_equal, is_unequal, len-handed, unequal}
 use Rattle.atl_instant.proofs.UnbookedLaws.{unbooked_well}
-
-not_true : (b : Bool) → not b ≡ true → b ≡ false
-not_true true h = cc
-not_true false h = refl
-
-not_false : (b : Bool) → not b ≡ false → b ≡ true
-not_false true h = refl
-not_false false h = cc
-
-true_false : {P : Type 0} → true ≡ false → P
-true_false e = cc
 
 mapped_twice : (f g : Structure → Structure) (o : Option Structure) → option_map f (option_map g o) ≡ option_map (λ y. f (g y)) o
 mapped_twice f g None = refl
@@ -108,9 +98,9 @@ module _ (w : Planet) (c : State) (n : ℕ) (u : Unit) (s : ℕ) (is : get c.uni
         owned = λ some.
             let (listed, other) = first.0 some in
             let (v, there, t) = listed_passing within c.units next listed in
-            (v, get-insert_other c.units n next moved (is_unequal next n (not_true (next == n) other)) ∙ there, is_equal v.structure old_place t);
+            (v, get-insert_other c.units n next moved (is_unequal next n (not-true (next == n) other)) ∙ there, is_equal v.structure old_place t);
         ownerless = λ none. every-insert_other (λ m v. v.structure ≢ old_place) c.units n moved (λ back. apart (sym back))
-            (λ m v other there here. other (is_equal m n (not_false (m == n) (first.1 none m (passing_listed within c.units m v there (equal v.structure old_place here))))));
+            (λ m v other there here. other (is_equal m n (not-false (m == n) (first.1 none m (passing_listed within c.units m v there (equal v.structure old_place here))))));
       }
 
   -- a structure that keeps its owner
@@ -140,7 +130,7 @@ module _ (w : Planet) (c : State) (n : ℕ) (u : Unit) (s : ℕ) (is : get c.uni
     owned = λ some. (moved, get-insert_same c.units n moved, sym here);
     ownerless = λ none. let least = low n u is in absurd (omega (arith, none, least));
   }
-  entered_owned q y there other here false t = still_owned q y there (not_owner q y there other) (λ none. true_false (sym (equal y.owner 0 none) ∙ t))
+  entered_owned q y there other here false t = still_owned q y there (not_owner q y there other) (λ none. absurd (true≢false (sym (equal y.owner 0 none) ∙ t)))
 
   abbrev given : (a e b : Bool) → Structure → Structure
   given a e b y = let x = if a && e then owned_by next y else y in if b && x.owner == 0 then owned_by n x else x

@@ -1,5 +1,6 @@
 -- What a phase leaves that carries its orders out one by one.
 use Rattle.std.proofs.Common.{suc, zero, ◌≡◌, ℕ, ◌≤◌, Bool, true, false, List, [], ◌∷◌, Option, Some, None, map, refl, sym, subst, ◌∙◌, arith}
+use Rattle.std.proofs.lemmas.Option.{same_Some}
 use Rattle.std.specs.Prelude.{ℤ, fold, OnOk, Result, Ok, Err, option_map, if◌then◌else◌}
 use Rattle.std.specs.List.{All, AllByRecursion, slice_get}
 use Rattle.std.proofs.lemmas.List.Elements.{recursion_from_All}
@@ -31,13 +32,14 @@ use Rattle.atl_instant.proofs.StayingLaws.{no_worse, no_worse_twice}
 use Rattle.atl_instant.proofs.WrittenLaws.{orders_are_in_mailings}
 use Rattle.atl_instant.proofs.FoundLaws.{found_all, found_stays}
 
-Some_same : {X : Type 0} {x y : X} → Some x ≡ Some y → x ≡ y
-Some_same e = cc
-
 -- ---- amounts
 
 pub drawn_same : (r : ℕ) (a : ℤ) → IsDrawn r r a a
 drawn_same r a = record { above = omega (arith, ints); below = omega (arith, ints) }
+
+-- an amount and a reserve that stay
+pub not_drawn : (r s : ℕ) (a b : ℤ) → s ≡ r → b ≡ a → IsDrawn r s a b
+not_drawn r s a b e f = record { above = omega (arith, ints, e, f); below = omega (arith, ints, e, f) }
 
 pub drawn_twice : (r s t : ℕ) (a b c : ℤ) → IsDrawn r s a b → IsDrawn s t b c → IsDrawn r t a c
 drawn_twice r s t a b c one two = record { above = omega (arith, ints, one.above, two.above); below = omega (arith, ints, one.below, two.below) }
@@ -145,7 +147,7 @@ module _ (step : Step) (is_taken : Said → Bool) {holds : Condition} {reserve :
 module _ (w : Planet) where
   fit_at : (es : List EntrySaid) (k : ℕ) (e : EntrySaid) → AllByRecursion (IsEntry w) es → slice_get es k ≡ Some e → IsEntry w e
   fit_at [] k e all is = cc
-  fit_at (x ∷ es) zero e all is = subst (IsEntry w) (Some_same is) all.0
+  fit_at (x ∷ es) zero e all is = subst (IsEntry w) (same_Some _ _ is) all.0
   fit_at (x ∷ es) (suc k) e all is = fit_at es k e all.1 is
 
   entry_fit : (r : Reading) (k : ℕ) (e : EntrySaid) → IsReading w r → slice_get r.entries k ≡ Some e → IsOrderOf w e.said
@@ -164,7 +166,7 @@ module _ (w : Planet) where
     where
       by_entry : (r : Reading) (o : Option EntrySaid) → get readings faction ≡ Some r → slice_get r.entries place ≡ o → option_map (λ e. e.said) o ≡ Some s → IsOrderOf w s
       by_entry r None there at none = cc
-      by_entry r (Some e) there at some = subst (IsOrderOf w) (Some_same some) (entry_fit r place e (fit faction r there) at)
+      by_entry r (Some e) there at some = subst (IsOrderOf w) (same_Some _ _ some) (entry_fit r place e (fit faction r there) at)
 
       by_reading : (o : Option Reading) → get readings faction ≡ o → order_in place o ≡ Some s → IsOrderOf w s
       by_reading None there none = cc

@@ -1,8 +1,7 @@
 -- Steps of phases that book nothing, and that change the unit of the order alone.
-use Rattle.std.proofs.Common.{◌≡◌, ◌≢◌, ◌+◌, ℕ, true, Option, Some, None, refl, sym, ap, ◌∙◌, arith}
-use Rattle.std.specs.Prelude.{pos, ℤ}
+use Rattle.std.proofs.Common.{◌≡◌, ◌≢◌, ◌+◌, ℕ, true, Option, Some, None, refl, sym, ap, ◌∙◌}
+use Rattle.std.specs.Prelude.{pos}
 use Rattle.std.specs.FinMap.{get}
-use Rattle.std.proofs.lemmas.Int.{ints}
 use Rattle.atl_tables.specs.Planet.{Planet}
 use Rattle.atl_tables.specs.Sums.{sum_over}
 use Rattle.atl_state.specs.declared.books.Thing.{Thing}
@@ -15,13 +14,11 @@ use Rattle.atl_state.specs.Totals.{held, kept, total}
 use Rattle.atl_instant.specs.Meaning.{IsSameMonth}
 use Rattle.atl_instant.specs.PhaseOrders.{Task}
 use Rattle.atl_instant.specs.Staying.{IsNoWorse}
-use Rattle.atl_instant.specs.Steps.{IsDrawn, IsOwnOrder, IsSpared, StepsWell, is_of_faction, is_own}
+use Rattle.atl_instant.specs.Steps.{IsOwnOrder, IsSpared, StepsWell, is_of_faction, is_own}
 use Rattle.atl_instant.specs.Unbooked.{books_nothing}
 use Rattle.atl_instant.proofs.StayingLaws.{no_worse}
 use Rattle.atl_instant.proofs.StructureLaws.{is_equal}
-
-not_drawn : (a b : ℤ) → b ≡ a → IsDrawn 0 0 a b
-not_drawn a b is = record { above = omega (arith, ints, is); below = omega (arith, ints, is) }
+use Rattle.atl_instant.proofs.StepLaws.{not_drawn}
 
 -- where books and totals stay
 pub unbooked_well : (w : Planet) (c d : State) → IsEarly w d → IsSameMonth c d → d.books ≡ c.books → ((t : Thing) → total d t ≡ total c t) → StepsWell IsEarly books_nothing w c d
@@ -29,7 +26,7 @@ unbooked_well w c d early same books totals = record {
   holds_still = early;
   same_month = same;
   balances = λ old t. ap pos (totals t) ∙ old t ∙ ap (λ b. booked b t) (sym books);
-  drawn = λ e t. not_drawn (amount_in c.books e t) (amount_in d.books e t) (ap (λ b. amount_in b e t) books);
+  drawn = λ e t. not_drawn 0 0 (amount_in c.books e t) (amount_in d.books e t) refl (ap (λ b. amount_in b e t) books);
 }
 
 -- the same units and regions hold the same

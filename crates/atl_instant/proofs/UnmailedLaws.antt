@@ -1,5 +1,6 @@
 -- What phases leave to the units of a faction that sent no mailing.
 use Rattle.std.proofs.Common.{◌≡◌, ◌≢◌, ◌==◌, ℕ, ◌+◌, ◌-◌, ◌≤◌, ◌<◌, Bool, true, false, List, [], ◌∷◌, ◌++◌, Option, Some, None, refl, sym, ap, subst, ◌∙◌, inl, inr, arith}
+use Rattle.std.proofs.lemmas.Option.{same_Some}
 use Rattle.std.specs.Prelude.{fold, option_map, if◌then◌else◌}
 use Rattle.std.specs.List.{All, AllByRecursion}
 use Rattle.std.specs.Ordering.{nat_cmp}
@@ -32,9 +33,6 @@ use Rattle.atl_instant.specs.declared.written.Arrangement.{Arrangement}
 use Rattle.atl_instant.specs.declared.written.Arrangement.TheVariants.{ByUnit}
 use Rattle.atl_instant.proofs.StructureLaws.{at_number, get-changed}
 use Rattle.atl_instant.proofs.WrittenLaws.{orders_are_in_mailings}
-
-Some_same : {X : Type 0} {x y : X} → Some x ≡ Some y → x ≡ y
-Some_same e = cc
 
 -- ---- phases one after the other
 
@@ -129,7 +127,7 @@ men_changed f stay c d k same n u there =
 pub men_put : (c d : State) (k : ℕ) (v x : Unit) → get c.units k ≡ Some v → HasItsMen v x → d.units ≡ insert c.units k x → HaveTheirMen c d
 men_put c d k v x here stay same n u there = elim (cases_eq n k) [
   | inl own ↦
-      let unit : v ≡ u = Some_same (sym here ∙ ap (get c.units) (sym own) ∙ there) in
+      let unit : v ≡ u = same_Some _ _ (sym here ∙ ap (get c.units) (sym own) ∙ there) in
       record { unit = x; there = ap (λ (m : FinMap nat_cmp Unit). get m n) same ∙ ap (get (insert c.units k x)) own ∙ get-insert_same c.units k x; spared = subst (λ y. HasItsMen y x) unit stay }
   | inr apart ↦
       record { unit = u; there = ap (λ (m : FinMap nat_cmp Unit). get m n) same ∙ get-insert_other c.units k n x apart ∙ there; spared = record { faction = refl; men = refl } }
@@ -174,7 +172,7 @@ module _ {meaning : Meaning} {keeps : Keeping} (readings : (w : Planet) (c : Sta
     left = λ w c m h n u there none.
         let one = men w c m h n u there none in
         let two = items w c m h n u there none in
-        let unit : two.unit ≡ one.unit = Some_same (sym two.there ∙ one.there) in
+        let unit : two.unit ≡ one.unit = same_Some _ _ (sym two.there ∙ one.there) in
         record { unit = one.unit; there = one.there; spared = whole _ _ u one.unit (nobody w c m n) one.spared (subst (HasItsItems u) unit two.spared) };
   }
 

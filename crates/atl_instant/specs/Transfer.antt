@@ -1,5 +1,5 @@
 -- TRANSFER. See docs/RULES.md, "Transferring".
-use Rattle.std.specs.Prelude.{ℕ, ◌+◌, ◌-◌, ◌*◌, ◌/◌, ◌==◌, ◌&&◌, not, nat_lt, Bool, true, false, List, [], ◌∷◌, map, fold, Option, Some, None, if◌then◌else◌}
+use Rattle.std.specs.Prelude.{◌≡◌, ℕ, ◌+◌, ◌-◌, ◌*◌, ◌/◌, ◌==◌, ◌&&◌, not, nat_lt, Bool, true, false, List, [], ◌∷◌, map, fold, Option, Some, None, if◌then◌else◌}
 use Rattle.std.specs.Ordering.{nat_cmp}
 use Rattle.std.specs.FinMap.{FinMap, empty, entries, get}
 use Rattle.atl_orders.specs.declared.order.Order.TheVariants as orders
@@ -52,6 +52,15 @@ with_fewer n h = record h { men = h.men - n; days = days_left n h.men h.days }
 -- n men of another unit more
 abbrev pub with_more : (n : ℕ) → (other h : Held) → Held
 with_more n other h = record h { men = h.men + n; days = with_days h.days (days_raised n other.men other.days h.days) }
+
+-- ---- a law: what both have of a skill, once n men went
+
+pub record HaveDaysOf (n : ℕ) (other h : Held) (skill : ℕ) : Type 0 where
+  pub stay : amount_of (with_fewer n other).days skill ≡ amount_of other.days skill - days_going n other.men (amount_of other.days skill)
+  pub come : amount_of (with_more n other h).days skill ≡ amount_of h.days skill + days_going n other.men (amount_of other.days skill)
+
+abbrev pub DaysGoWithMen : Type 0
+DaysGoWithMen = (n : ℕ) (other h : Held) (skill : ℕ) → HaveDaysOf n other h skill
 
 -- ---- one order
 

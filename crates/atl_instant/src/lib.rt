@@ -35,5 +35,5 @@ pub use place::PlacePhase;
 pub use quit::QuitPhase;
 pub use steps::{OrderPhase, PlainPhase, carry_out_orders, is_of_faction};
 pub use terrain::terrain_of;
-pub use transfer::TransferPhase;
+pub use transfer::{TransferPhase, days_go_with_men};
 pub use written::{Arrangement, Written};

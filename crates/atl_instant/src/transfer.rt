@@ -8,7 +8,7 @@ ghost use Rattle.atl_state.specs.Held.{with_amount_of};
 ghost use Rattle.atl_state.specs.Lending.{lent};
 ghost use Rattle.atl_state.specs.Limits.{men_limit, most_days};
 ghost use Rattle.atl_state.specs.declared.records.Unit.{Unit};
-ghost use Rattle.atl_instant.specs.Transfer.{days_going, days_left, days_raised, is_transferring, sent, transfer, transfer_fault, transfer_step, with_days};
+ghost use Rattle.atl_instant.specs.Transfer.{DaysGoWithMen, days_going, days_left, days_raised, is_transferring, sent, transfer, transfer_fault, transfer_step, with_days};
 ghost use Rattle.atl_instant.specs.Steps.{takes_all};
 
 use crate::month::Month;
@@ -249,3 +249,8 @@ impl PlainPhase for TransferPhase {
 
     fn is_plain(&self) {}
 }
+
+/// Of each skill so many days go from the one unit to the other as go with the men.
+pub fn days_go_with_men()
+    ensures { DaysGoWithMen }
+{}

@@ -1,7 +1,6 @@
 -- A structure is begun by a unit, and more is done of one: what that leaves.
-use Rattle.std.proofs.Common.{◌≡◌, ℕ, ◌≤◌, Bool, true, false, codes, decimal, ◌++◌, Some, refl, sym, ap, ◌∙◌, arith, lit≤}
-use Rattle.std.specs.Prelude.{ℤ, pos, IsTrue, if◌then◌else◌}
-use Rattle.std.proofs.lemmas.Int.{ints}
+use Rattle.std.proofs.Common.{◌≡◌, ℕ, ◌≤◌, Bool, true, false, codes, decimal, ◌++◌, Some, refl, sym, ap, ◌∙◌, lit≤}
+use Rattle.std.specs.Prelude.{pos, IsTrue, if◌then◌else◌}
 use Rattle.std.specs.FinMap.{get}
 use Rattle.atl_tables.specs.Names.{name_ok}
 use Rattle.atl_tables.specs.Planet.{Planet}
@@ -17,13 +16,11 @@ use Rattle.atl_state.specs.Totals.{total}
 use Rattle.atl_state.proofs.BegunLaws.{IsFresh, built, raised, steady_built, steady_raised, total_built, total_raised}
 use Rattle.atl_state.proofs.NumberedNameLaws.{numbered_name_ok}
 use Rattle.atl_instant.specs.Meaning.{IsSameMonth}
-use Rattle.atl_instant.specs.Steps.{IsDrawn, StepsWell}
+use Rattle.atl_instant.specs.Steps.{StepsWell}
 use Rattle.atl_market.specs.Build.{CanBuild, build_reserve, sort_of}
+use Rattle.atl_instant.proofs.StepLaws.{not_drawn}
 
 -- ---- where units hold what they held, and nothing is booked
-
-not_drawn : (r s : ℕ) (a b : ℤ) → s ≡ r → b ≡ a → IsDrawn r s a b
-not_drawn r s a b e f = record { above = omega (arith, ints, e, f); below = omega (arith, ints, e, f) }
 
 pub still_well : (w : Planet) (c d : State) → CanBuild w d → IsSameMonth c d → d.books ≡ c.books → ((t : Thing) → total d t ≡ total c t) → ((e : Entry) (t : Thing) → build_reserve d e t ≡ build_reserve c e t) → StepsWell CanBuild build_reserve w c d
 still_well w c d can same books totals reserves = record {

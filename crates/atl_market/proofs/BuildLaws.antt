@@ -1,5 +1,6 @@
 -- BUILD leaves a campaign well, and spares who doesn't order it.
 use Rattle.std.proofs.Common.{◌≡◌, ◌≢◌, ◌==◌, ℕ, ◌+◌, ◌-◌, ◌*◌, ◌≤◌, ◌<◌, Bool, true, false, not, List, [], ◌∷◌, length, sum_by, Option, Some, None, refl, sym, ap, subst, ◌∙◌, arith}
+use Rattle.std.proofs.lemmas.Bool.{not-false, true≢false}
 use Rattle.std.specs.Prelude.{min, nat_le, nat_lt, if◌then◌else◌}
 use Rattle.std.specs.List.{slice_get}
 use Rattle.std.specs.Option.{option_map_or}
@@ -50,13 +51,6 @@ use Rattle.atl_market.proofs.BuildPlaceLaws.{place_well}
 use Rattle.atl_market.proofs.BuildUsedLaws.{others_stay, used, used_for_well, used_room, user, user_there}
 use Rattle.atl_market.proofs.GoodsLaws.{used_is}
 
-true_false : {P : Type 0} → true ≡ false → P
-true_false e = cc
-
-not_false : (b : Bool) → not b ≡ false → b ≡ true
-not_false true h = refl
-not_false false h = cc
-
 some : (n : ℕ) → (n == 0) ≡ false → 1 ≤ n
 some n is = grind (arith, nat_tests)
 
@@ -85,7 +79,7 @@ can_begin w c u k is =
     let five = none_fits (nat_lt most_structures c.next_structure) StructureLimit [] four.1 in
     record {
       men = some u.holding.men one.0;
-      land = not_false (is_land_at w u.region) two.0;
+      land = not-false (is_land_at w u.region) two.0;
       skill = not_less (level_in u.holding k.skill) k.level three.0;
       material = some (amount_of u.holding.items k.material) four.0;
       room = not_less most_structures c.next_structure five.0;
@@ -193,7 +187,7 @@ module _ (w : Planet) (c : State) (n kind : ℕ) (u : Unit) (k : Kind) (is : get
         let there = user_there w c n k.material size u is in
         let apart = nobody_inside w one new fresh fit.room between.steady n (user w c n k.material size u is) there in
         let three_well =
-        place_well w two n (user w c n k.material size u is) c.next_structure there two_well.holds_still apart (λ some. (new, raised_there w one new fresh fit.room between.steady, refl)) (λ wet. true_false (sym fit.land ∙ wet)) in
+        place_well w two n (user w c n k.material size u is) c.next_structure there two_well.holds_still apart (λ some. (new, raised_there w one new fresh fit.room between.steady, refl)) (λ wet. absurd (true≢false (sym fit.land ∙ wet))) in
         subst (StepsWell CanBuild build_reserve w c) (sym begun_is) (well_twice w c one (from_used one) one_well (well_twice w one two (from_used one) two_well three_well))
 
 -- ---- more of a structure is done

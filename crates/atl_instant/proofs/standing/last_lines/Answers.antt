@@ -1,6 +1,5 @@
-use Rattle.std.proofs.Common.{◌≡◌, ◌+◌, ◌<◌, max, None, Some, sym, ap, ◌∙◌, rules, length, drop, map, get_or}
+use Rattle.std.proofs.Common.{◌≡◌, ◌+◌, ◌<◌, max, sym, ap, ◌∙◌, rules, length, drop, map, get_or}
 use Rattle.atl_orders.specs.Mailing.{entry_said}
-use Rattle.atl_orders.specs.Orders.{verb_of_order}
 use Rattle.atl_instant.specs.PhaseOrders.{slot_number, slot_of, last_line, tasks_from}
 use Rattle.atl_instant.specs.Collecting.{line_in, with_line}
 use Rattle.atl_instant.proofs.StandingLaws as laws
