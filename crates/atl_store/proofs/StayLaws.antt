@@ -1,5 +1,5 @@
 -- From what a transaction did to what the store keeps.
-use Rattle.std.proofs.Common.{◌≡◌, ℕ, Bool, true, false, not, cond, List, IsTrue, Result, Ok, Err, IfErr, IsErrAnd, refl, sym, ap, ◌∙◌, subst, inl, inr, arith}
+use Rattle.std.proofs.Common.{◌≡◌, ℕ, Bool, true, false, not, cond, List, IsTrue, Result, Ok, Err, OnErr, IfErr, IsErrAnd, refl, sym, ap, ◌∙◌, subst, inl, inr, arith}
 use Rattle.std.proofs.lemmas.Bool.{not-true}
 use Rattle.sqlite_trees.specs.Tree.{Trees}
 use Rattle.sqlite_trees.specs.declared.store.Store.{Ghosts}
@@ -107,3 +107,8 @@ commits_spares old new Before Does done before up has settled = (done.does (befo
 
 pub leaves_others : (old new : State) → LeavesOff old new → SparesOthers old new
 leaves_others old new off up has settled = subst (Carries old.now) (sym ((off.undone up).0 ∙ settled)) (carries_none old.now)
+
+-- what holds in any case holds where there is an error
+pub on_err : {A E : Type 0} (r : Result A E) (P : Type 0) → P → OnErr r P
+on_err (Ok a) P p = tt
+on_err (Err e) P p = p

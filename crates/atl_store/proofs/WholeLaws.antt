@@ -1,5 +1,5 @@
 -- One after the other inside a transaction, and a transaction as a whole.
-use Rattle.std.proofs.Common.{◌≡◌, [], false, true, true≢false, IsTrue, Result, Ok, IsErr, OnOk, IfErr, sym, ap, subst, ◌∙◌, inl, inr, arith}
+use Rattle.std.proofs.Common.{◌≡◌, [], false, true, true≢false, IsTrue, Result, Ok, Err, IsErr, OnOk, OnErr, IfErr, sym, ap, subst, ◌∙◌, inl, inr, arith}
 use Rattle.std.specs.Borrow.{MutBor}
 use Rattle.sqlite.specs.declared.error.Error.{Error}
 use Rattle.sqlite.specs.Steps.{FailsToCommit}
@@ -11,7 +11,7 @@ use Rattle.sqlite.proofs.StateLemmas.{survives_then}
 use Rattle.sqlite.proofs.Callers.{survives_begin}
 use Rattle.atl_store.specs.Inside.{HasTables, Done, Inside, Both, Commits, LeavesOff, MayLeave}
 use Rattle.atl_store.specs.Writes.{Writes, Transacts}
-use Rattle.atl_store.proofs.KeepLaws.{on_ok, if_err, on_err}
+use Rattle.atl_store.proofs.KeepLaws.{on_ok, if_err}
 use Rattle.atl_store.proofs.CarryLaws.{carries_then}
 use Rattle.atl_store.proofs.WriteLaws.{not_ok}
 
@@ -55,6 +55,10 @@ module _ {S : Type 0} (g : Ghosts S) (old begun mid end : Held S) (begins : begu
         is_open = shows.is_open;
       }
 
+given_err : {A E P : Type 0} (r : Result A E) → P → OnErr r P
+given_err (Ok a) p = tt
+given_err (Err e) p = p
+
 module _ {S : Type 0} (g : Ghosts S) (old : Held S) (begun mid : MutBor (Held S)) (begins : begun.now ≡ record old { in_transaction = true }) (Before : Database → Type 0) (Does : Database → Database → Type 0) (end : Held S) (over : end.in_transaction ≡ false) where
   rolled_back : KeepsCommit (state g begun.now) (state g mid.now) → IsRolledBack (state g mid.now) (state g end) → LeavesOff (state g old) (state g end)
   rolled_back kept back = record {
@@ -71,7 +75,7 @@ module _ {S : Type 0} (g : Ghosts S) (old : Held S) (begun mid : MutBor (Held S)
       → (HasCleanDisk (state g end) → IsRolledBack (state g mid.now) (state g end)) → Survives (state g mid.now) (state g end) (λ _. ⊥) → Transacts g Before Does r old end
   left_off r failed did back survives = record {
     ok = λ _. not_ok r _ failed;
-    err = λ clean. on_err r _ (rolled_back (did.kept (omega (arith, survives.clean))) (back clean));
+    err = λ clean. given_err r (rolled_back (did.kept (omega (arith, survives.clean))) (back clean));
     crash = survives_then (state g old) (state g mid.now) (state g end) _ _ (MayLeave Before Does (state g old)) (λ _ db none. absurd none) (λ _ db none. absurd none) (survives_begin g old (state g mid.now) _ (rw begins at did.survives)) survives;
     idle = over;
   }

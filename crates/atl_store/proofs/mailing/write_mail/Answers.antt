@@ -2,8 +2,7 @@ use Rattle.sqlite.specs.Held.{state}
 use Rattle.atl_state.specs.State.{with_mail}
 use Rattle.atl_store.specs.Inside.{HasTables}
 use Rattle.atl_store.specs.Arriving.{WritesMail}
-use Rattle.atl_store.proofs.KeepLaws.{on_err}
-use Rattle.atl_store.proofs.StayLaws.{commits_keeps, leaves_stops, commits_spares, leaves_others, later}
+use Rattle.atl_store.proofs.StayLaws.{commits_keeps, leaves_stops, commits_spares, leaves_others, later, on_err}
 use Rattle.atl_store.proofs.mailing.write_mail.Goals as goal
 
 pub returns-clause-ok : goal.returns-clause-ok
