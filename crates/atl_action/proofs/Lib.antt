@@ -3,7 +3,7 @@ pub mod PeopleLaws
 pub mod WalkLaws
 pub mod SailLaws
 pub mod UnmailedTravelLaws
-pub mod FoundLaws
+pub mod LearnerLaws
 pub mod TeachLaws
 pub mod MentionLaws
 pub mod OnceLaws

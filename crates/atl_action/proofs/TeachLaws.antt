@@ -12,7 +12,7 @@ use Rattle.atl_instant.specs.declared.written.Arrangement.TheVariants.{ByUnit}
 use Rattle.atl_instant.specs.declared.written.Written.{Written}
 use Rattle.atl_instant.specs.Dealing.{dealt}
 use Rattle.atl_instant.specs.Carrying.{found_written}
-use Rattle.atl_instant.proofs.FoundLaws.{found_all, found_stays}
+use Rattle.atl_instant.proofs.FoundOrderLaws.{found_all, found_stays}
 use Rattle.atl_action.specs.Learners.{Learning}
 use Rattle.atl_action.specs.Teach.{Taught, is_teaching, lesson_behind, taught_out, teach_order, untaught}
 

@@ -26,7 +26,7 @@ use Rattle.atl_instant.proofs.FormingLaws.{begun_stays, begun_well, room}
 use Rattle.atl_instant.proofs.StepLaws.{well_same}
 use Rattle.atl_instant.proofs.StructureLaws.{is_equal}
 use Rattle.atl_instant.specs.Carrying.{found_said, found_written}
-use Rattle.atl_instant.proofs.FoundLaws.{found_all, found_stays}
+use Rattle.atl_instant.proofs.FoundOrderLaws.{found_all, found_stays}
 
 some_none : {X P : Type 0} (x : X) → Some x ≡ None → P
 some_none x e = cc

@@ -4,7 +4,7 @@ pub mod StandingLaws
 pub mod MappedLaws
 pub mod OrderLaws
 pub mod WrittenLaws
-pub mod FoundLaws
+pub mod FoundOrderLaws
 pub mod MeaningLaws
 pub mod RoomLaws
 pub mod BookingLaws

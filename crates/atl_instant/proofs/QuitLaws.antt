@@ -36,7 +36,7 @@ use Rattle.atl_state.specs.Owners.{without_unit}
 use Rattle.atl_state.specs.State.{Marked, State, numbers_of}
 use Rattle.atl_state.specs.Totals.{Balances, held, total}
 use Rattle.atl_state.proofs.BookLaws.{IsGrid-with_booked, booked-with_booked}
-use Rattle.atl_state.proofs.EntryLaws.{entry_small}
+use Rattle.atl_state.proofs.EveryEntryLaws.{entry_small}
 use Rattle.atl_state.proofs.CoverLaws.{marks-amount}
 use Rattle.atl_state.proofs.ListLaws.{same_number}
 use Rattle.atl_state.proofs.EveryLaws.{each-from_every, not_below, sorted}

@@ -30,7 +30,7 @@ use Rattle.atl_instant.specs.declared.written.Arrangement.TheVariants.{ByUnit}
 use Rattle.atl_instant.proofs.MeaningLaws.{less_room, same_month}
 use Rattle.atl_instant.proofs.StayingLaws.{no_worse, no_worse_twice}
 use Rattle.atl_instant.proofs.WrittenLaws.{orders_are_in_mailings}
-use Rattle.atl_instant.proofs.FoundLaws.{found_all, found_stays}
+use Rattle.atl_instant.proofs.FoundOrderLaws.{found_all, found_stays}
 
 -- ---- amounts
 

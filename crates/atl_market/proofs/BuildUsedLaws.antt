@@ -20,7 +20,7 @@ use Rattle.atl_state.specs.Held.{Held, amount_of, with_amount_of}
 use Rattle.atl_state.specs.Limits.{entry_count}
 use Rattle.atl_state.specs.Marks.{amount_number}
 use Rattle.atl_state.specs.State.{State, with_amount}
-use Rattle.atl_state.proofs.EntryLaws.{entry_small}
+use Rattle.atl_state.proofs.EveryEntryLaws.{entry_small}
 use Rattle.atl_state.proofs.EveryLaws.{get-insert_other}
 use Rattle.atl_state.proofs.RegionLaws.{get-insert_same}
 use Rattle.atl_state.proofs.RemovedLaws.{sum_over-remove}

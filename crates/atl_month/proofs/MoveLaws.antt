@@ -6,7 +6,7 @@ use Rattle.atl_state.specs.declared.books.Entry.{Entry}
 use Rattle.atl_state.specs.declared.books.Thing.{Thing}
 use Rattle.atl_state.specs.declared.books.Thing.TheVariants.{Item, Money, People}
 use Rattle.atl_state.specs.Limits.{most_in_month}
-use Rattle.atl_state.proofs.EntryLaws.{each_entry}
+use Rattle.atl_state.proofs.EveryEntryLaws.{each_entry}
 use Rattle.atl_instant.specs.Meaning.{Moving, most_moved}
 use Rattle.atl_instant.specs.Terms.{EachPhase, MovesItsOwn}
 use Rattle.atl_instant.proofs.MeaningLaws.{MovesLess}

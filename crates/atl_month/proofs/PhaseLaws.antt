@@ -9,7 +9,7 @@ use Rattle.atl_state.specs.declared.books.Thing.TheVariants.{Item, Money, People
 use Rattle.atl_state.specs.Books.{entry_place, thing_place}
 use Rattle.atl_state.specs.Limits.{entry_count}
 use Rattle.atl_state.specs.Marks.{amount_number}
-use Rattle.atl_state.proofs.EntryLaws.{entry_small}
+use Rattle.atl_state.proofs.EveryEntryLaws.{entry_small}
 use Rattle.atl_instant.specs.Meaning.{Moving, both_move, most_moved, moves_only}
 use Rattle.atl_instant.specs.Quit.{quit_terms}
 use Rattle.atl_instant.specs.Terms.{EachPhase, Moved, MovesItsOwn, PhaseTerms, may_move, nothing_moved}

@@ -25,7 +25,7 @@ use Rattle.atl_state.specs.Marks.{amount_number}
 use Rattle.atl_state.specs.Owners.{first_or_zero, without_unit}
 use Rattle.atl_state.specs.State.{State}
 use Rattle.atl_state.specs.Totals.{Balances, held, total}
-use Rattle.atl_state.proofs.EntryLaws.{entry_small}
+use Rattle.atl_state.proofs.EveryEntryLaws.{entry_small}
 use Rattle.atl_state.proofs.EveryLaws.{each-from_every, sorted}
 use Rattle.atl_instant.specs.Meaning.{IsNear, LeavesWell, Moving, both_move, moves_only}
 use Rattle.atl_instant.proofs.AmountsLaws.{amount_within}

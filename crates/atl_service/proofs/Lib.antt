@@ -1,5 +1,5 @@
 pub mod AnswerLaws
-pub mod FoundLaws
+pub mod FoundServiceLaws
 pub mod ListLaws
 pub mod OpenLaws
 pub mod RunLaws

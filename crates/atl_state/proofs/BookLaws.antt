@@ -11,7 +11,7 @@ use Rattle.atl_state.specs.declared.books.Entry.{Entry}
 use Rattle.atl_state.specs.declared.books.Thing.{Thing}
 use Rattle.atl_state.specs.declared.books.Thing.TheVariants.{Money, People, Item}
 use Rattle.atl_state.specs.Books.{entry_place, thing_place, thing_at, row_of, amount_in, with_booked, added_up, booked, no_amounts, IsGrid, IsWithin, IsSmall}
-use Rattle.atl_state.proofs.EntryLaws.{entry_small}
+use Rattle.atl_state.proofs.EveryEntryLaws.{entry_small}
 
 pub place_at : (i : ℕ) → thing_place (thing_at i) ≡ i
 place_at zero = refl

@@ -36,7 +36,7 @@ use Rattle.atl_state.specs.Rows.{flag, rows_by, faction_row, region_row, unit_ro
 use Rattle.atl_state.specs.State.{State, Marked}
 use Rattle.atl_state.specs.Totals.{Balances}
 use Rattle.atl_state.proofs.BookLaws.{place_at}
-use Rattle.atl_state.proofs.EntryLaws.{entry_at}
+use Rattle.atl_state.proofs.EveryEntryLaws.{entry_at}
 use Rattle.atl_state.proofs.BackLaws.{each_permuted, all_pass, read_whole, rows_pass, count_rows}
 use Rattle.atl_state.proofs.BackBooksLaws.{lines_each, books_keys, all_booked}
 use Rattle.atl_state.proofs.BackHasLaws.{has_each, has_keys, goods_of}

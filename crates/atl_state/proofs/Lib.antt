@@ -10,7 +10,7 @@ pub mod BackHasLaws
 pub mod GroupLaws
 pub mod GoodRowLaws
 pub mod GoodRuleLaws
-pub mod EntryLaws
+pub mod EveryEntryLaws
 pub mod BookLaws
 pub mod TotalLaws
 pub mod MadeOf

@@ -1,5 +1,6 @@
 -- Tables that held a campaign hold the one that came of it, once what is marked is written.
-use Rattle.std.proofs.Common.{◌≡◌, ◌+◌, ℕ, ℤ, Bool, true, false, List, Option, Some, None, refl, sym, ap, subst, ◌∙◌}
+use Rattle.std.proofs.Common.{◌≡◌, ◌+◌, ◌<◌, ◌&&◌, ℕ, suc, ℤ, Bool, true, false, List, Option, Some, None, nat_le, refl, sym, ap, subst, ◌∙◌, arith}
+use Rattle.std.proofs.lemmas.Bool.Decides.{nat_tests}
 use Rattle.std.specs.Prelude.{option_map}
 use Rattle.std.specs.Ordering.{nat_cmp}
 use Rattle.std.specs.FinMap.{FinMap, get, get-empty}
@@ -12,7 +13,8 @@ use Rattle.atl_state.specs.Books.{amount_in, entry_place, thing_place}
 use Rattle.atl_state.specs.Marks.{amount_number}
 use Rattle.atl_state.specs.State.{State, Marked}
 use Rattle.atl_state.specs.declared.books.Entry.{Entry}
-use Rattle.atl_state.specs.declared.books.Entry.TheVariants.{Founding, Joining, Income, Wages, Recruiting, Study, Upkeep, Lost, Births, Starved, Left, Made, Used}
+use Rattle.atl_state.specs.Limits.{entry_count}
+use Rattle.atl_state.proofs.EveryEntryLaws.{entry_small}
 use Rattle.atl_state.specs.declared.books.Thing.{Thing}
 use Rattle.atl_state.specs.declared.records.Unit.{Unit}
 use Rattle.atl_store.specs.declared.rows.has.Sort.{Sort}
@@ -92,19 +94,14 @@ goods_follow one other marks r same not_marked of =
 -- ---- amounts
 
 amount_heads : (marks : FinSet nat_cmp) (e : Entry) (t : Thing) (amount : ℤ) → amount_marked marks (books_row (entry_place e + 1) (thing_place t) amount) ≡ contains marks (amount_number e t)
-amount_heads marks Founding t amount = refl
-amount_heads marks Joining t amount = refl
-amount_heads marks Income t amount = refl
-amount_heads marks Wages t amount = refl
-amount_heads marks Recruiting t amount = refl
-amount_heads marks Study t amount = refl
-amount_heads marks Upkeep t amount = refl
-amount_heads marks Lost t amount = refl
-amount_heads marks Births t amount = refl
-amount_heads marks Starved t amount = refl
-amount_heads marks Left t amount = refl
-amount_heads marks Made t amount = refl
-amount_heads marks Used t amount = refl
+amount_heads marks e t amount =
+    ap (λ number. amount_marked marks (books_row number (thing_place t) amount)) (next (entry_place e)) ∙ ap (λ (b : Bool). b && contains marks (amount_number e t)) (there (entry_place e) (entry_small e))
+  where
+    next : (n : ℕ) → n + 1 ≡ suc n
+    next n = omega arith
+
+    there : (n : ℕ) → n < entry_count → nat_le (suc n) entry_count ≡ true
+    there n small = grind (arith, nat_tests, small)
 
 amounts_follow : (one other : List (List ℤ)) (marks : FinSet nat_cmp) (r : Row) → ((e : Entry) (t : Thing) → contains marks (amount_number e t) ≡ false → amount_in other e t ≡ amount_in one e t) → amount_marked marks r ≡ false → BooksRowsOf one r → BooksRowsOf other r
 amounts_follow one other marks r same not_marked of =

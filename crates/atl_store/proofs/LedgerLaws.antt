@@ -1,20 +1,21 @@
 -- The rows of the books.
-use Rattle.std.proofs.Common.{◌≡◌, ◌≢◌, ◌+◌, ◌<◌, ◌≤◌, ◌&&◌, ℕ, zero, suc, ℤ, pos, Bool, true, false, if◌then◌else◌, nat_lt, List, [], ◌∷◌, length, take, get_or, refl, sym, ap, ◌∙◌, subst, inl, inr, arith}
-use Rattle.std.specs.List.{list_all, range_with_len}
+use Rattle.std.proofs.Common.{◌≡◌, ◌≢◌, ◌+◌, ◌<◌, ◌≤◌, ◌&&◌, ℕ, zero, suc, ℤ, pos, Bool, true, false, if◌then◌else◌, nat_lt, List, [], ◌∷◌, length, take, get_or, Some, refl, sym, ap, ◌∙◌, subst, inl, inr, arith}
+use Rattle.std.specs.List.{list_all, range_with_len, slice_get}
 use Rattle.std.specs.Ordering.{int_eq}
 use Rattle.std.proofs.lemmas.Bool.{cases_Bool, cases_lt, and_parts}
 use Rattle.std.proofs.lemmas.Bool.Decides.{nat_tests}
 use Rattle.std.proofs.lemmas.Int.{ints}
 use Rattle.std.proofs.lemmas.List.{get_or_past}
+use Rattle.std.proofs.lemmas.Option.{none-some, same_Some}
 use Rattle.sqlite.specs.Order.{Row}
 use Rattle.sqlite_rules.specs.Lists.{Has}
 use Rattle.sqlite_rules.proofs.ListLemmas.{test_has}
 use Rattle.atl_state.specs.State.{State}
 use Rattle.atl_state.specs.Books.{all_entries, amount_in, entry_place, thing_at, thing_place}
 use Rattle.atl_state.specs.declared.books.Entry.{Entry}
-use Rattle.atl_state.specs.declared.books.Entry.TheVariants.{Founding, Joining, Income, Wages, Recruiting, Study, Upkeep, Lost, Births, Starved, Left, Made, Used}
 use Rattle.atl_state.specs.declared.books.Thing.{Thing}
 use Rattle.atl_state.proofs.BookLaws.{place_at, at_place}
+use Rattle.atl_state.proofs.EveryEntryLaws.{entry_there}
 use Rattle.atl_store.specs.Sets.{Is, puts}
 use Rattle.atl_store.specs.Shown.{books_key, books_row}
 use Rattle.atl_store.specs.Rows.{BooksRowsOf}
@@ -24,20 +25,13 @@ use Rattle.atl_store.proofs.GoodsLaws.{flat_has, has_flat, optional_has, has_opt
 
 -- ---- entries by their places
 
+has_at : {X : Type 0} (xs : List X) (k : ℕ) (x : X) → slice_get xs k ≡ Some x → Has xs x
+has_at [] k x is = absurd (none-some x is)
+has_at (y ∷ ys) zero x is = inl (sym (same_Some y x is))
+has_at (y ∷ ys) (suc k) x is = inr (has_at ys k x is)
+
 pub every_entry : (e : Entry) → Has all_entries e
-every_entry Founding = inl refl
-every_entry Joining = inr (inl refl)
-every_entry Income = inr (inr (inl refl))
-every_entry Wages = inr (inr (inr (inl refl)))
-every_entry Recruiting = inr (inr (inr (inr (inl refl))))
-every_entry Study = inr (inr (inr (inr (inr (inl refl)))))
-every_entry Upkeep = inr (inr (inr (inr (inr (inr (inl refl))))))
-every_entry Lost = inr (inr (inr (inr (inr (inr (inr (inl refl)))))))
-every_entry Births = inr (inr (inr (inr (inr (inr (inr (inr (inl refl))))))))
-every_entry Starved = inr (inr (inr (inr (inr (inr (inr (inr (inr (inl refl)))))))))
-every_entry Left = inr (inr (inr (inr (inr (inr (inr (inr (inr (inr (inl refl))))))))))
-every_entry Made = inr (inr (inr (inr (inr (inr (inr (inr (inr (inr (inr (inl refl)))))))))))
-every_entry Used = inr (inr (inr (inr (inr (inr (inr (inr (inr (inr (inr (inr (inl refl))))))))))))
+every_entry e = has_at all_entries (entry_place e) e (entry_there e)
 
 -- the places of the entries rise
 abbrev are_rising : List Entry → Bool

@@ -3,7 +3,7 @@ use Rattle.std.proofs.lemmas.List.{drop_all}
 use Rattle.std.specs.Prelude.{fold}
 use Rattle.std.specs.FinMap.{empty}
 use Rattle.atl_action.specs.Learners.{with_learner}
-use Rattle.atl_action.proofs.FoundLaws.{learners_found}
+use Rattle.atl_action.proofs.LearnerLaws.{learners_found}
 use Rattle.atl_action.proofs.learners.learners.Goals as goal
 use Rattle.atl_instant.specs.Carrying.{found_written}
 

@@ -3,7 +3,7 @@ use Rattle.atl_state.specs.State.{State, Marked}
 use Rattle.atl_service.specs.Engine.{Stands}
 use Rattle.atl_service.specs.Found.{Founds}
 use Rattle.atl_store.specs.Making.{has_campaign}
-use Rattle.atl_service.proofs.FoundLaws.{spared, founded_stands, founds_on, refused_by_store}
+use Rattle.atl_service.proofs.FoundServiceLaws.{spared, founded_stands, founds_on, refused_by_store}
 use Rattle.atl_service.proofs.service.found.Goals as goal
 
 pub returns-in-Err-clause-err : goal.returns-in-Err-clause-err

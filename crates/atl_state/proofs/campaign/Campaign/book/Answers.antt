@@ -2,7 +2,7 @@ use Rattle.std.proofs.Common.{◌≡◌, ◌<◌, length, refl, ap, ◌∙◌, a
 use Rattle.std.specs.FinSet.{insert}
 use Rattle.atl_state.specs.Kept.{set_from}
 use Rattle.atl_state.specs.Marks.{amount_number}
-use Rattle.atl_state.proofs.EntryLaws.{entry_small}
+use Rattle.atl_state.proofs.EveryEntryLaws.{entry_small}
 use Rattle.atl_state.proofs.FlagLaws.{one_set}
 use Rattle.atl_state.proofs.campaign.Campaign.book.Goals as goal
 

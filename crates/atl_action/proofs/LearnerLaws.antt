@@ -9,7 +9,7 @@ use Rattle.atl_instant.specs.PhaseOrders.{orders_of, written}
 use Rattle.atl_instant.specs.declared.written.Arrangement.TheVariants.{ByUnit}
 use Rattle.atl_instant.specs.Carrying.{found_written}
 use Rattle.atl_action.specs.Learners.{is_studying, learners, with_learner}
-use Rattle.atl_instant.proofs.FoundLaws.{found_all}
+use Rattle.atl_instant.proofs.FoundOrderLaws.{found_all}
 
 pub learners_found : (w : Planet) (c : State) (m : Course) → fold (found_written (with_learner w c) m.readings) empty (map written (values (orders_of is_studying ByUnit m.aliases m.readings))) ≡ learners w c m
 unfolding learners
