@@ -12,6 +12,7 @@ use Rattle.atl_tables.specs.Planet.{Planet}
 use Rattle.atl_tables.specs.Sums.{changed}
 use Rattle.atl_tables.specs.declared.world.RegionPlan.{RegionPlan}
 use Rattle.atl_tables.specs.declared.direction.Direction.{Direction}
+use Rattle.atl_tables.specs.ByNumber.{is_land_at, neighbour, size_of}
 use Rattle.atl_orders.specs.declared.order.Order.TheVariants as orders
 use Rattle.atl_orders.specs.Orders.{Said}
 use Rattle.atl_state.specs.declared.event.EventFault.{EventFault}
@@ -21,7 +22,7 @@ use Rattle.atl_state.specs.declared.event.Outcome.TheVariants.{Done, Fault}
 use Rattle.atl_state.specs.declared.records.Structure.{Structure}
 use Rattle.atl_state.specs.declared.records.Unit.{Unit}
 use Rattle.atl_state.specs.Events.{event_fault_number}
-use Rattle.atl_state.specs.Good.{Every, IsOwned, IsSteady, IsThere, is_land_at, is_ship, size_of}
+use Rattle.atl_state.specs.Good.{Every, IsOwned, IsSteady, IsThere, is_ship}
 use Rattle.atl_state.specs.Held.{Held}
 use Rattle.atl_state.specs.Levels.{load_of}
 use Rattle.atl_state.specs.Owners.{handed, heir, is_owned_by, placed, with_place, with_place_at}
@@ -40,7 +41,7 @@ use Rattle.atl_instant.proofs.StructureLaws.{at_number, changed_else, equal, get
 use Rattle.atl_instant.proofs.StepLaws.{well_same}
 use Rattle.atl_instant.specs.Staying.{IsUnchanged}
 use Rattle.atl_action.specs.Sail.{AreCarried, IsCarried, SailsWith, capacity, concerns_nobody, crew_needed, crew_of, is_complete_ship, is_sailing, is_way, of_unit, sail, sail_by, sail_fault, sail_meaning, sail_said, sail_step, sailed, sum_inside, taken_along}
-use Rattle.atl_action.specs.Ways.{is_region, neighbour}
+use Rattle.atl_action.specs.Ways.{is_region}
 use Rattle.atl_action.proofs.PeopleLaws.{AreSamePeople, elsewhere, elsewhere_at, elsewhere_inside, elsewhere_people, gone_if, gone_same, guards_stay, people_same, people_twice, steady_well, total_people}
 use Rattle.atl_action.proofs.TravelLaws.{AreTravelled, IsPut, IsSameStructure, steady-travelled, travelled, under}
 

@@ -7,6 +7,7 @@ use Rattle.std.proofs.lemmas.Bool.Decides.{nat_tests}
 use Rattle.atl_tables.specs.Planet.{Planet}
 use Rattle.atl_tables.specs.Sums.{sum_over}
 use Rattle.atl_tables.proofs.SumLaws.{sum_over-insert_known}
+use Rattle.atl_tables.specs.ByNumber.{fee_of}
 use Rattle.atl_orders.specs.Bounds.{IsOrderOf}
 use Rattle.atl_orders.specs.declared.order.Order.TheVariants as orders
 use Rattle.atl_orders.specs.Orders.{Said}
@@ -47,7 +48,6 @@ use Rattle.atl_instant.proofs.QuitLaws.{quit_orderly}
 use Rattle.atl_instant.proofs.StepLaws.{well_same}
 use Rattle.atl_instant.proofs.UnbookedLaws.{other_unit}
 use Rattle.atl_instant.specs.Staying.{IsUnchanged}
-use Rattle.atl_action.specs.Learners.{fee_of}
 use Rattle.atl_action.specs.Study.{days_after, is_helpful, studied, study, study_by, study_fault, study_moves, study_reserve, study_said, study_step, with_study}
 use Rattle.atl_action.specs.Teach.{Taught}
 

@@ -5,10 +5,11 @@ use Rattle.std.specs.Ordering.{nat_cmp}
 use Rattle.std.specs.FinMap.{FinMap, get, len}
 use Rattle.atl_tables.specs.Names.{name_ok}
 use Rattle.atl_tables.specs.Planet.{Planet}
+use Rattle.atl_tables.specs.ByNumber.{is_land_at, size_of}
 use Rattle.atl_state.specs.Limits.{most_days}
 use Rattle.atl_state.specs.declared.records.Structure.{Structure}
 use Rattle.atl_state.specs.declared.records.Unit.{Unit}
-use Rattle.atl_state.specs.Good.{AreAfloat, AreInRange, AreKnown, AreNumbered, AreOfOneFaction, Every, IsAboard, IsBuilt, IsOwned, IsPlaced, IsSteady, IsThere, guards, is_land_at, is_ship, size_of}
+use Rattle.atl_state.specs.Good.{AreAfloat, AreInRange, AreKnown, AreNumbered, AreOfOneFaction, Every, IsAboard, IsBuilt, IsOwned, IsPlaced, IsSteady, IsThere, guards, is_ship}
 use Rattle.atl_state.specs.Held.{IsHolding}
 use Rattle.atl_state.specs.State.{State, numbers_of}
 use Rattle.atl_state.proofs.EveryLaws.{none_some}

@@ -3,6 +3,7 @@ use Rattle.std.proofs.Common.{◌≡◌, ◌∷◌, [], List, ◌-◌, ◌*◌, 
 use Rattle.std.specs.Prelude.{fold}
 use Rattle.std.specs.FinMap.{empty, get, values}
 use Rattle.atl_tables.specs.Planet.{Planet}
+use Rattle.atl_tables.specs.ByNumber.{fee_of}
 use Rattle.atl_orders.specs.declared.order.Order.TheVariants as orders
 use Rattle.atl_orders.specs.Orders.{Said}
 use Rattle.atl_state.specs.declared.event.Outcome.TheVariants.{Done}
@@ -16,7 +17,7 @@ use Rattle.atl_instant.specs.Unmailed.{IsLessBy, starved_in}
 use Rattle.atl_instant.specs.declared.written.Arrangement.TheVariants.{ByUnit}
 use Rattle.atl_instant.proofs.UnmailedLaws.{HasItsItems, HaveTheirMen, LeavesUnmailed, SparesMen, carried_leaves, men_put, men_stay, men_unless, own_faction, told_of_order, unmailed_spared}
 use Rattle.atl_instant.specs.Staying.{IsUnchanged}
-use Rattle.atl_action.specs.Learners.{Learning, fee_of, is_studying, learners}
+use Rattle.atl_action.specs.Learners.{Learning, is_studying, learners}
 use Rattle.atl_action.specs.Study.{days_after, is_helpful, learn_keeps, learn_meaning, studied, study, study_by, study_fault, study_said, study_step, with_study}
 use Rattle.atl_action.specs.Teach.{Taught, is_teaching, listed, taught_out, teach, teach_order}
 

@@ -4,6 +4,7 @@ use Rattle.std.specs.Prelude.{fold, unwrap_or}
 use Rattle.std.specs.FinMap.{get}
 use Rattle.atl_tables.specs.Planet.{Planet}
 use Rattle.atl_tables.specs.declared.direction.Direction.{Direction}
+use Rattle.atl_tables.specs.ByNumber.{neighbour}
 use Rattle.atl_orders.specs.declared.order.Order.TheVariants as orders
 use Rattle.atl_orders.specs.Orders.{Said}
 use Rattle.atl_state.specs.declared.event.Outcome.TheVariants.{Done}
@@ -12,7 +13,6 @@ use Rattle.atl_state.specs.Owners.{with_place}
 use Rattle.atl_state.specs.State.{State, numbers_inside, with_guard, with_structure_region}
 use Rattle.atl_action.specs.Sail.{IsCarried, is_sailing, sail, sail_by, sail_fault, sail_keeps, sail_meaning, sail_said, sail_step, sailed, taken_along}
 use Rattle.atl_action.specs.Walk.{is_walking, walk, walk_by, walk_fault, walk_keeps, walk_meaning, walk_said, walk_step, walked}
-use Rattle.atl_action.specs.Ways.{neighbour}
 use Rattle.atl_instant.proofs.UnmailedLaws.{HasItsItems, HaveTheirMen, LeavesUnmailed, SparesMen, carried_leaves, items_of_no_worse, men_in_turn, men_same, men_stay, men_twice, men_unless, own_faction, unmailed_spared}
 use Rattle.atl_instant.proofs.UnmailedStepLaws.{guard_men, place_men}
 use Rattle.atl_instant.specs.Steps.{takes_all}

@@ -8,6 +8,7 @@ use Rattle.std.proofs.lemmas.Bool.{cases_eq, not-true, not-false, true≢false}
 use Rattle.atl_tables.specs.Planet.{Planet, is_land}
 use Rattle.atl_tables.specs.declared.world.RegionPlan.{RegionPlan}
 use Rattle.atl_tables.specs.declared.direction.Direction.{Direction}
+use Rattle.atl_tables.specs.ByNumber.{is_land_at, neighbour}
 use Rattle.atl_orders.specs.declared.order.Order.TheVariants as orders
 use Rattle.atl_orders.specs.Orders.{Said}
 use Rattle.atl_state.specs.declared.event.EventFault.{EventFault}
@@ -15,7 +16,7 @@ use Rattle.atl_state.specs.declared.event.EventFault.TheVariants.{AtSea, NoMen, 
 use Rattle.atl_state.specs.declared.event.Outcome.TheVariants.{Done}
 use Rattle.atl_state.specs.declared.records.Structure.{Structure}
 use Rattle.atl_state.specs.declared.records.Unit.{Unit}
-use Rattle.atl_state.specs.Good.{Every, IsOwned, IsSteady, IsThere, is_land_at, is_ship}
+use Rattle.atl_state.specs.Good.{Every, IsOwned, IsSteady, IsThere, is_ship}
 use Rattle.atl_state.specs.Levels.{carried_by, goods_of}
 use Rattle.atl_state.specs.Owners.{handed, heir, placed, with_place, with_place_at}
 use Rattle.atl_state.specs.State.{State, numbers_inside, with_guard}
@@ -32,7 +33,6 @@ use Rattle.atl_instant.proofs.StructureLaws.{changed_else, equal, get-handed, ha
 use Rattle.atl_instant.proofs.StepLaws.{no_worse_spares, well_same}
 use Rattle.atl_instant.proofs.UnbookedLaws.{other_spared}
 use Rattle.atl_action.specs.Walk.{is_land_there, walk, walk_by, walk_fault, walk_said, walk_step, walked}
-use Rattle.atl_action.specs.Ways.{neighbour}
 use Rattle.atl_action.proofs.PeopleLaws.{AreSamePeople, elsewhere, elsewhere_at, elsewhere_people, gone, gone_if, gone_same, guards_stay, steady_well, total_people}
 use Rattle.atl_action.proofs.TravelLaws.{AreTravelled, IsPut, IsSameStructure, steady-travelled, travelled}
 

@@ -1,9 +1,8 @@
 -- Who is learning, as the phase begins. See docs/RULES.md, "Learning".
 use Rattle.std.specs.Prelude.{◌*◌, ◌==◌, ◌&&◌, ℕ, nat_le, nat_lt, Bool, true, false, fold, Option, Some, None, if◌then◌else◌}
-use Rattle.std.specs.List.{slice_get}
-use Rattle.std.specs.Option.{option_map_or}
 use Rattle.std.specs.Ordering.{nat_cmp}
 use Rattle.std.specs.FinMap.{FinMap, empty, get, insert, values}
+use Rattle.atl_tables.specs.ByNumber.{fee_of}
 use Rattle.atl_tables.specs.Planet.{Planet}
 use Rattle.atl_orders.specs.declared.order.Order.TheVariants as orders
 use Rattle.atl_orders.specs.declared.verb.Verb.{Verb}
@@ -24,10 +23,6 @@ is_studying verb = false
 abbrev pub skill_of : Said → Option ℕ
 skill_of (orders.Study s) = Some s
 skill_of order = None
-
--- what a man pays for a month of study
-abbrev pub fee_of : Planet → (skill : ℕ) → ℕ
-fee_of w s = option_map_or (λ k. k.fee) (slice_get w.skills s) 0
 
 -- people who can pay for it
 abbrev pub can_learn : Planet → (skill : ℕ) → Held → Bool

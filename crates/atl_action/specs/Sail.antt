@@ -5,6 +5,7 @@ use Rattle.std.specs.Option.{option_map_or}
 use Rattle.std.specs.FinMap.{get}
 use Rattle.atl_tables.specs.Planet.{Planet}
 use Rattle.atl_tables.specs.declared.direction.Direction.{Direction}
+use Rattle.atl_tables.specs.ByNumber.{is_land_at, neighbour, size_of}
 use Rattle.atl_orders.specs.declared.order.Order.TheVariants as orders
 use Rattle.atl_orders.specs.declared.verb.Verb.{Verb}
 use Rattle.atl_orders.specs.declared.verb.Verb.TheVariants as verbs
@@ -15,7 +16,7 @@ use Rattle.atl_state.specs.declared.event.Outcome.{Outcome}
 use Rattle.atl_state.specs.declared.event.Outcome.TheVariants.{Done}
 use Rattle.atl_state.specs.declared.records.Structure.{Structure}
 use Rattle.atl_state.specs.declared.records.Unit.{Unit}
-use Rattle.atl_state.specs.Good.{Every, is_land_at, is_ship, size_of}
+use Rattle.atl_state.specs.Good.{Every, is_ship}
 use Rattle.atl_state.specs.Held.{Held, amount_of}
 use Rattle.atl_state.specs.Levels.{level_in_any, load_of}
 use Rattle.atl_state.specs.Owners.{is_owned_by, with_place}
@@ -26,7 +27,7 @@ use Rattle.atl_instant.specs.Outcomes.{first_fault, unless}
 use Rattle.atl_instant.specs.PhaseOrders.{Task}
 use Rattle.atl_instant.specs.Steps.{Concern, IsSpared, Step, carried_out, is_own, spares_others, takes_all}
 use Rattle.atl_instant.specs.Staying.{IsUnchanged}
-use Rattle.atl_action.specs.Ways.{is_region, neighbour}
+use Rattle.atl_action.specs.Ways.{is_region}
 use Rattle.atl_instant.specs.Terms.{PhaseTerms, nothing_moved}
 use Rattle.atl_instant.specs.Unbooked.{moves_nothing}
 

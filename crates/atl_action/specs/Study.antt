@@ -5,6 +5,7 @@ use Rattle.std.specs.Option.{option_map_or}
 use Rattle.std.specs.FinMap.{get}
 use Rattle.atl_tables.specs.Planet.{Planet}
 use Rattle.atl_tables.specs.Sums.{sum_over}
+use Rattle.atl_tables.specs.ByNumber.{fee_of, size_of}
 use Rattle.atl_orders.specs.declared.order.Order.TheVariants as orders
 use Rattle.atl_orders.specs.Orders.{Said}
 use Rattle.atl_state.specs.declared.books.Entry.TheVariants.{Study}
@@ -15,7 +16,6 @@ use Rattle.atl_state.specs.declared.event.Outcome.{Outcome}
 use Rattle.atl_state.specs.declared.event.Outcome.TheVariants.{Done}
 use Rattle.atl_state.specs.declared.records.Structure.{Structure}
 use Rattle.atl_state.specs.declared.records.Unit.{Unit}
-use Rattle.atl_state.specs.Good.{size_of}
 use Rattle.atl_state.specs.Held.{Held, amount_of, with_amount_of}
 use Rattle.atl_state.specs.Lending.{with_held}
 use Rattle.atl_state.specs.Limits.{most_days}
@@ -24,7 +24,7 @@ use Rattle.atl_instant.specs.Meaning.{Keeping, Meaning, Moving, most_moved, move
 use Rattle.atl_instant.specs.Outcomes.{first_fault, unless}
 use Rattle.atl_instant.specs.Steps.{IsOwnOrder, Reserve, Step, carried_out, spares_others, takes_all}
 use Rattle.atl_instant.specs.Staying.{IsUnchanged}
-use Rattle.atl_action.specs.Learners.{fee_of, is_studying, learners}
+use Rattle.atl_action.specs.Learners.{is_studying, learners}
 use Rattle.atl_action.specs.Limits.{helped_days, month_days, taught_days}
 use Rattle.atl_action.specs.Teach.{Taught, taught_out}
 use Rattle.atl_instant.specs.Terms.{PhaseTerms}

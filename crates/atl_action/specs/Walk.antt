@@ -4,6 +4,7 @@ use Rattle.std.specs.Option.{option_map_or}
 use Rattle.std.specs.FinMap.{get}
 use Rattle.atl_tables.specs.Planet.{Planet}
 use Rattle.atl_tables.specs.declared.direction.Direction.{Direction}
+use Rattle.atl_tables.specs.ByNumber.{is_land_at, neighbour}
 use Rattle.atl_orders.specs.declared.order.Order.TheVariants as orders
 use Rattle.atl_orders.specs.declared.verb.Verb.{Verb}
 use Rattle.atl_orders.specs.declared.verb.Verb.TheVariants as verbs
@@ -13,7 +14,6 @@ use Rattle.atl_state.specs.declared.event.EventFault.TheVariants.{AtSea, NoMen, 
 use Rattle.atl_state.specs.declared.event.Outcome.{Outcome}
 use Rattle.atl_state.specs.declared.event.Outcome.TheVariants.{Done}
 use Rattle.atl_state.specs.declared.records.Unit.{Unit}
-use Rattle.atl_state.specs.Good.{is_land_at}
 use Rattle.atl_state.specs.Levels.{carried_by, goods_of}
 use Rattle.atl_state.specs.Owners.{with_place}
 use Rattle.atl_state.specs.State.{State, with_guard}
@@ -21,7 +21,6 @@ use Rattle.atl_instant.specs.Meaning.{Keeping, Meaning}
 use Rattle.atl_instant.specs.Outcomes.{first_fault, unless}
 use Rattle.atl_instant.specs.Staying.{IsNoWorse}
 use Rattle.atl_instant.specs.Steps.{IsOwnOrder, Step, carried_out, spares_others, takes_all}
-use Rattle.atl_action.specs.Ways.{neighbour}
 use Rattle.atl_instant.specs.Terms.{PhaseTerms, nothing_moved}
 use Rattle.atl_instant.specs.Unbooked.{moves_nothing}
 

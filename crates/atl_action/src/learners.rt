@@ -3,7 +3,8 @@ ghost use Rattle.std.specs.Prelude.{◌≡◌, ◌*◌, IfOk, List, OnOk, ℕ};
 ghost use Rattle.std.specs.FinMap as map;
 ghost use Rattle.atl_orders.specs.Orders.{Said, said};
 ghost use Rattle.atl_instant.specs.Carrying.{found_written, task_of};
-ghost use Rattle.atl_action.specs.Learners.{can_learn, fee_of, is_studying, learners, learns, skill_of, with_learner, with_skill};
+ghost use Rattle.atl_action.specs.Learners.{can_learn, is_studying, learners, learns, skill_of, with_learner, with_skill};
+ghost use Rattle.atl_tables.specs.ByNumber.{fee_of};
 
 use atl_instant::{Arrangement, Month, PhaseVerbs, Written};
 use atl_orders::{Order, Verb};
@@ -32,21 +33,11 @@ fn skill_of(what: &Order) -> Option<u16>
     }
 }
 
-/// What a man pays for a month of study.
-fn fee_of(world: &World, skill: u16) -> u32
-    ensures { result ≡ fee_of world.now skill }
-{
-    match world.skills().get(usize::from(skill)) {
-        Some(found) => found.fee,
-        None => 0,
-    }
-}
-
 /// What so many men pay for it.
 pub(crate) fn cost_of(world: &World, skill: u16, men: u32) -> u64
     ensures { result ≡ fee_of world.now skill * men }
 {
-    u64::from(fee_of(world, skill)) * u64::from(men)
+    u64::from(world.fee_of(skill)) * u64::from(men)
 }
 
 /// Whether people can pay for it.

@@ -11,12 +11,10 @@ ghost use Rattle.atl_instant.specs.Unbooked.{moves_nothing};
 ghost use Rattle.atl_instant.specs.Steps.{takes_all};
 ghost use Rattle.atl_action.specs.Sail.{IsCarried, capacity, concerns_nobody, crew_needed, crew_of, is_complete_ship, is_sailing, is_way, of_unit, sail, sail_fault, sail_keeps, sail_meaning, sail_step, sailed, sum_inside, taken_along};
 
-use crate::ways::{is_region, neighbour};
+use crate::ways::is_region;
 use atl_instant::{Month, OrderPhase, Phase, PhaseVerbs, Written, carry_out_orders, failed};
 use atl_orders::{Direction, Mailing, Order, Verb};
-use atl_state::{
-    Campaign, EventFault, Holding, Outcome, Structure, Unit, is_land_at, level_in_any, load,
-};
+use atl_state::{Campaign, EventFault, Holding, Outcome, Structure, Unit, level_in_any, load};
 use atl_tables::{Kind, World};
 use std::alloc::{AllocError, Global};
 
@@ -135,7 +133,7 @@ fn is_way(world: &World, from: u32, to: Option<u32>) -> bool
 {
     match to {
         Some(region) => is_region(world, region)
-            && !(is_land_at(world, from) && is_land_at(world, region)),
+            && !(world.is_land_at(from) && world.is_land_at(region)),
         None => false,
     }
 }
@@ -226,7 +224,7 @@ fn sail(
     let Some(unit) = campaign.unit(number) else {
         return Ok(failed(EventFault::NotYours));
     };
-    let to = neighbour(world, unit.region, direction);
+    let to = world.neighbour(unit.region, direction);
     if let Some(fault) = sail_fault(world, campaign, number, unit, to) {
         return Ok(failed(fault));
     }

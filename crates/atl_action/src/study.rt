@@ -19,9 +19,7 @@ use crate::limits::{HELPED_DAYS, MONTH_DAYS, TAUGHT_DAYS};
 use crate::teach::taught_at;
 use atl_instant::{Month, OrderPhase, PhaseVerbs, Written, book_taken, failed};
 use atl_orders::{Mailing, Order, Verb};
-use atl_state::{
-    Campaign, Entry, EventFault, Holding, MOST_DAYS, Outcome, Structure, Thing, Unit, size_of,
-};
+use atl_state::{Campaign, Entry, EventFault, Holding, MOST_DAYS, Outcome, Structure, Thing, Unit};
 use atl_tables::{Numbered, World};
 use std::alloc::{AllocError, Global};
 
@@ -38,7 +36,7 @@ fn is_helpful(world: &World, skill: u16, structure: Option<&Structure>) -> bool
     let Some(building) = structure else {
         return false;
     };
-    if building.done != size_of(world, building.kind) {
+    if building.done != world.size_of(building.kind) {
         return false;
     }
     match world.kinds().get(usize::from(building.kind)) {

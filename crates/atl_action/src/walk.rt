@@ -5,10 +5,9 @@ ghost use Rattle.atl_state.specs.Good.{IsSteady};
 ghost use Rattle.atl_instant.specs.Steps.{takes_all};
 ghost use Rattle.atl_action.specs.Walk.{is_land_there, is_walking, walk, walk_fault, walk_step, walked};
 
-use crate::ways::neighbour;
 use atl_instant::{Month, OrderPhase, PhaseVerbs, PlainPhase, Written, failed};
 use atl_orders::{Direction, Mailing, Order, Verb};
-use atl_state::{Campaign, EventFault, Outcome, Unit, carry, goods, is_land_at};
+use atl_state::{Campaign, EventFault, Outcome, Unit, carry, goods};
 use atl_tables::World;
 use std::alloc::{AllocError, Global};
 
@@ -21,7 +20,7 @@ fn is_land_there(world: &World, to: Option<u32>) -> bool
     ensures { result ≡ is_land_there world.now to }
 {
     match to {
-        Some(region) => is_land_at(world, region),
+        Some(region) => world.is_land_at(region),
         None => false,
     }
 }
@@ -32,7 +31,7 @@ fn walk_fault(world: &World, unit: &Unit, to: Option<u32>) -> Option<EventFault>
 {
     if unit.holding.men() == 0 {
         Some(EventFault::NoMen)
-    } else if !is_land_at(world, unit.region) {
+    } else if !world.is_land_at(unit.region) {
         Some(EventFault::AtSea)
     } else if !is_land_there(world, to) {
         Some(EventFault::NoWay)
@@ -67,7 +66,7 @@ fn walk(
     let Some(unit) = campaign.unit(number) else {
         return Ok(failed(EventFault::NotYours));
     };
-    let to = neighbour(world, unit.region, direction);
+    let to = world.neighbour(unit.region, direction);
     if let Some(fault) = walk_fault(world, unit, to) {
         return Ok(failed(fault));
     }

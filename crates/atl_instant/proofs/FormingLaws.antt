@@ -9,12 +9,13 @@ use Rattle.std.proofs.lemmas.Bool.Decides.{nat_tests}
 use Rattle.atl_tables.specs.Names.{name_ok}
 use Rattle.atl_tables.specs.Planet.{Planet}
 use Rattle.atl_tables.proofs.SumLaws.{numbers_where-insert_other}
+use Rattle.atl_tables.specs.ByNumber.{is_land_at}
 use Rattle.atl_state.specs.Covers.{MarksChanges, bare, goods_under}
 use Rattle.atl_state.specs.Limits.{holding_limit, last_unit, most_days, most_units}
 use Rattle.atl_state.specs.declared.books.Thing.{Thing}
 use Rattle.atl_state.specs.declared.books.Thing.TheVariants.{Item, Money, People}
 use Rattle.atl_state.specs.declared.records.Unit.{Unit}
-use Rattle.atl_state.specs.Good.{AreAfloat, AreInRange, AreKnown, AreNamed, AreNumbered, AreOfOneFaction, AreOwned, Every, GoneHaveNone, IsAboard, IsEarly, IsPlaced, IsSteady, guards, is_land_at}
+use Rattle.atl_state.specs.Good.{AreAfloat, AreInRange, AreKnown, AreNamed, AreNumbered, AreOfOneFaction, AreOwned, Every, GoneHaveNone, IsAboard, IsEarly, IsPlaced, IsSteady, guards}
 use Rattle.atl_state.specs.Held.{IsHolding}
 use Rattle.atl_state.specs.Marking.{mark_unit_begun}
 use Rattle.atl_state.specs.State.{Marked, State, with_unit_begun}

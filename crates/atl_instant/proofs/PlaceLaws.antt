@@ -5,6 +5,7 @@ use Rattle.std.specs.Prelude.{if◌then◌else◌}
 use Rattle.std.specs.Option.{option_map_or}
 use Rattle.std.specs.FinMap.{get}
 use Rattle.atl_tables.specs.Planet.{Planet}
+use Rattle.atl_tables.specs.ByNumber.{is_land_at}
 use Rattle.atl_orders.specs.declared.order.Order.{Order}
 use Rattle.atl_orders.specs.declared.order.Order.TheVariants as orders
 use Rattle.atl_orders.specs.declared.order.Span.{Span}
@@ -16,7 +17,7 @@ use Rattle.atl_state.specs.declared.event.EventFault.TheVariants.{AtSea, NotHere
 use Rattle.atl_state.specs.declared.event.Outcome.TheVariants.{Done}
 use Rattle.atl_state.specs.declared.records.Structure.{Structure}
 use Rattle.atl_state.specs.declared.records.Unit.{Unit}
-use Rattle.atl_state.specs.Good.{IsEarly, IsOwned, is_land_at}
+use Rattle.atl_state.specs.Good.{IsEarly, IsOwned}
 use Rattle.atl_state.specs.Owners.{is_owned_by, with_place}
 use Rattle.atl_state.specs.State.{State, with_owner}
 use Rattle.atl_state.proofs.LeavingLaws.{owned_by}

@@ -4,9 +4,10 @@ use Rattle.std.proofs.lemmas.Bool.{not-true, not-false, true≢false}
 use Rattle.std.specs.Prelude.{option_map, if◌then◌else◌}
 use Rattle.std.specs.FinMap.{get}
 use Rattle.atl_tables.specs.Planet.{Planet}
+use Rattle.atl_tables.specs.ByNumber.{is_land_at}
 use Rattle.atl_state.specs.declared.records.Structure.{Structure}
 use Rattle.atl_state.specs.declared.records.Unit.{Unit}
-use Rattle.atl_state.specs.Good.{Every, IsEarly, IsOwned, IsSteady, is_land_at, is_ship}
+use Rattle.atl_state.specs.Good.{Every, IsEarly, IsOwned, IsSteady, is_ship}
 use Rattle.atl_state.specs.declared.books.Thing.{Thing}
 use Rattle.atl_state.specs.Owners.{handed, heir, is_owned_by, placed, with_place, with_place_at}
 use Rattle.atl_state.specs.State.{State, numbers_inside, with_owner}

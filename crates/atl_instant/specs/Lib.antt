@@ -4,7 +4,6 @@ pub mod Terms
 pub mod Room
 pub mod PhaseOrders
 pub mod Collecting
-pub mod Terrains
 pub mod Staying
 pub mod Fit
 pub mod Steps

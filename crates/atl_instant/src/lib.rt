@@ -16,7 +16,6 @@ mod place;
 mod quit;
 mod standing;
 mod steps;
-mod terrain;
 mod transfer;
 mod written;
 
@@ -34,6 +33,5 @@ pub use phase::Phase;
 pub use place::PlacePhase;
 pub use quit::QuitPhase;
 pub use steps::{OrderPhase, PlainPhase, carry_out_orders, is_of_faction};
-pub use terrain::terrain_of;
 pub use transfer::{TransferPhase, days_go_with_men};
 pub use written::{Arrangement, Written};

@@ -16,7 +16,7 @@ use crate::outcome::failed;
 use crate::steps::{OrderPhase, PlainPhase};
 use crate::written::Written;
 use atl_orders::{Mailing, Order, Verb};
-use atl_state::{Campaign, EventFault, Outcome, is_land_at};
+use atl_state::{Campaign, EventFault, Outcome};
 use atl_tables::World;
 use std::alloc::{AllocError, Global};
 
@@ -60,7 +60,7 @@ fn leave_fault(world: &World, campaign: &Campaign, unit: u32) -> Option<EventFau
 {
     if structure_of(campaign, unit) == 0 {
         Some(EventFault::NotInside)
-    } else if !is_land_at(world, region_of(campaign, unit)) {
+    } else if !world.is_land_at(region_of(campaign, unit)) {
         Some(EventFault::AtSea)
     } else {
         None

@@ -5,11 +5,11 @@ use Rattle.std.specs.FinMap.{get}
 use Rattle.atl_tables.specs.Names.{name_ok}
 use Rattle.atl_tables.specs.Planet.{Planet}
 use Rattle.atl_tables.specs.declared.world.Kind.{Kind}
+use Rattle.atl_tables.specs.ByNumber.{size_of}
 use Rattle.atl_state.specs.declared.books.Entry.{Entry}
 use Rattle.atl_state.specs.declared.books.Thing.{Thing}
 use Rattle.atl_state.specs.declared.records.Structure.{Structure}
 use Rattle.atl_state.specs.Books.{amount_in, booked}
-use Rattle.atl_state.specs.Good.{size_of}
 use Rattle.atl_state.specs.Limits.{last_unit, most_structures}
 use Rattle.atl_state.specs.State.{State}
 use Rattle.atl_state.specs.Totals.{total}

@@ -13,6 +13,7 @@ use Rattle.atl_tables.specs.Limits.{most_size}
 use Rattle.atl_tables.specs.Planet.{IsKind, Planet}
 use Rattle.atl_tables.specs.Sums.{sum_over}
 use Rattle.atl_tables.specs.declared.world.Kind.{Kind}
+use Rattle.atl_tables.specs.ByNumber.{is_land_at, size_of}
 use Rattle.atl_orders.specs.declared.order.Order.TheVariants as orders
 use Rattle.atl_orders.specs.Orders.{Said}
 use Rattle.atl_state.specs.declared.event.EventFault.{EventFault}
@@ -27,7 +28,7 @@ use Rattle.atl_state.specs.declared.records.Structure.{Structure}
 use Rattle.atl_state.specs.declared.records.Unit.{Unit}
 use Rattle.atl_state.specs.Books.{entry_place}
 use Rattle.atl_state.specs.Deciding.{EachOf}
-use Rattle.atl_state.specs.Good.{IsSteady, is_land_at, size_of}
+use Rattle.atl_state.specs.Good.{IsSteady}
 use Rattle.atl_state.specs.Levels.{level_in}
 use Rattle.atl_state.proofs.BegunLaws.{IsFresh, built, built_is, nobody_inside, raised, raised_there}
 use Rattle.atl_state.specs.Held.{Held, IsHolding, amount_of}

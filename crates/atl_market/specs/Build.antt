@@ -6,6 +6,7 @@ use Rattle.std.specs.FinMap.{get}
 use Rattle.atl_tables.specs.Planet.{IsKind, Planet}
 use Rattle.atl_tables.specs.Sums.{sum_over}
 use Rattle.atl_tables.specs.declared.world.Kind.{Kind}
+use Rattle.atl_tables.specs.ByNumber.{is_land_at}
 use Rattle.atl_orders.specs.declared.order.Order.TheVariants as orders
 use Rattle.atl_orders.specs.declared.verb.Verb.{Verb}
 use Rattle.atl_orders.specs.declared.verb.Verb.TheVariants as verbs
@@ -21,7 +22,7 @@ use Rattle.atl_state.specs.declared.event.Outcome.{Outcome}
 use Rattle.atl_state.specs.declared.event.Outcome.TheVariants.{Done}
 use Rattle.atl_state.specs.declared.records.Structure.{Structure}
 use Rattle.atl_state.specs.declared.records.Unit.{Unit}
-use Rattle.atl_state.specs.Good.{IsSteady, is_land_at}
+use Rattle.atl_state.specs.Good.{IsSteady}
 use Rattle.atl_state.specs.Held.{Held, amount_of}
 use Rattle.atl_state.specs.Levels.{level_in}
 use Rattle.atl_state.specs.Limits.{most_structures}

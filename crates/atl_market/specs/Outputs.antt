@@ -6,8 +6,8 @@ use Rattle.std.specs.Option.{option_map_or}
 use Rattle.std.specs.FinMap.{FinMap, entries, from_entries, get}
 use Rattle.atl_tables.specs.Planet.{Planet}
 use Rattle.atl_tables.specs.declared.world.Item.{Item}
+use Rattle.atl_tables.specs.ByNumber.{terrain_of}
 use Rattle.atl_state.specs.State.{State}
-use Rattle.atl_instant.specs.Terrains.{terrain_of}
 use Rattle.atl_market.specs.ItemPots.{item_share}
 use Rattle.atl_market.specs.Craft.{item_of}
 

@@ -1,5 +1,5 @@
 -- PRODUCE: units make items, of raw items (specs/Craft) or of what the terrain of their region gives (specs/Outputs). See docs/RULES.md, "Producing".
-use Rattle.std.specs.Prelude.{◌*◌, ℕ, Bool, true, false, List, map, Option, Some, None}
+use Rattle.std.specs.Prelude.{◌*◌, ℕ, Bool, true, false, List, map, Option, Some, None, [], ◌∷◌}
 use Rattle.std.specs.List.{slice_get}
 use Rattle.std.specs.Ordering.{nat_cmp}
 use Rattle.std.specs.FinMap.{FinMap, get, values}

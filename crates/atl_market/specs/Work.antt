@@ -7,6 +7,7 @@ use Rattle.std.specs.Cmp.Lexicographic.{slice_cmp}
 use Rattle.std.specs.FinMap.{entries, from_entries, get, values}
 use Rattle.atl_tables.specs.Planet.{Planet}
 use Rattle.atl_tables.specs.declared.world.Terrain.{Terrain}
+use Rattle.atl_tables.specs.ByNumber.{terrain_of}
 use Rattle.atl_orders.specs.declared.order.Order.TheVariants as orders
 use Rattle.atl_orders.specs.declared.verb.Verb.{Verb}
 use Rattle.atl_orders.specs.declared.verb.Verb.TheVariants as verbs
@@ -22,7 +23,6 @@ use Rattle.atl_instant.specs.Course.{Course}
 use Rattle.atl_instant.specs.Meaning.{Keeping, Meaning, Moving, moves_only, most_moved}
 use Rattle.atl_instant.specs.PhaseOrders.{is_month_long, orders_of, written, Task, key_of}
 use Rattle.atl_instant.specs.Staying.{AreNoWorse}
-use Rattle.atl_instant.specs.Terrains.{terrain_of}
 use Rattle.atl_instant.specs.declared.written.Arrangement.TheVariants.{ByUnit}
 use Rattle.atl_instant.specs.declared.written.Written.{Written}
 use Rattle.atl_instant.specs.Outcomes.{first_fault}

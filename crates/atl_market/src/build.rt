@@ -17,7 +17,7 @@ use crate::goods::use_item;
 use atl_instant::{Month, OrderPhase, Phase, PhaseVerbs, Written, carry_out_orders, failed};
 use atl_orders::{Mailing, Order, Verb};
 use atl_state::{
-    Campaign, EventFault, Holding, MOST_STRUCTURES, Outcome, Structure, Unit, is_land_at, level_in,
+    Campaign, EventFault, Holding, MOST_STRUCTURES, Outcome, Structure, Unit, level_in,
 };
 use atl_tables::{Kind, Text, World};
 use std::alloc::{AllocError, Global};
@@ -48,7 +48,7 @@ fn begin_fault(world: &World, campaign: &Campaign, unit: &Unit, kind: &Kind) -> 
 {
     if unit.holding.men() == 0 {
         Some(EventFault::NoMen)
-    } else if !is_land_at(world, unit.region) {
+    } else if !world.is_land_at(unit.region) {
         Some(EventFault::AtSea)
     } else if level_in(&unit.holding, kind.skill) < kind.level {
         Some(EventFault::NoSkill)

@@ -7,7 +7,6 @@ ghost use Rattle.atl_market.specs.Puts.{with_each};
 
 use crate::item_pots::{ItemPots, item_shares};
 use crate::making::item_of;
-use atl_instant::terrain_of;
 use atl_state::Campaign;
 use atl_tables::{Numbered, World};
 use std::alloc::{AllocError, Global};
@@ -40,7 +39,7 @@ impl<'a> ItemPots for Outputs<'a> {
     }
 
     fn pot(&self, item: u32, region: u32) -> u64 {
-        match terrain_of(self.world, region) {
+        match self.world.terrain_of(region) {
             Some(terrain) => match terrain.output.as_slice().get(item as usize) {
                 Some(amount) => u64::from(*amount),
                 None => 0,

@@ -8,7 +8,7 @@ ghost use Rattle.atl_state.specs.Covers.{MarksChanges};
 ghost use Rattle.atl_state.specs.Good.{IsSteady};
 ghost use Rattle.atl_state.specs.Limits.{holding_limit};
 ghost use Rattle.atl_instant.specs.Meaning.{HaveRoom, most_moved};
-ghost use Rattle.atl_instant.specs.Terrains.{terrain_of};
+ghost use Rattle.atl_tables.specs.ByNumber.{terrain_of};
 ghost use Rattle.atl_market.specs.Work.{earned, is_work, places_at, wage_at, with_wages, work_keeps, work_meaning, work_moves, work_orders, work_pots};
 ghost use Rattle.atl_market.specs.Idle.{all_idle, own_writers, work_key};
 ghost use Rattle.atl_market.specs.Paid.{WorksAtOnce};
@@ -16,7 +16,7 @@ ghost use Rattle.atl_market.specs.Payable.{CanWork};
 
 use crate::pot_phase::{PotPhase, share_out, tell_all};
 use crate::pots::{Pots, pot_shares};
-use atl_instant::{Arrangement, Month, MonthLongVerbs, Phase, Written, is_of_faction, terrain_of};
+use atl_instant::{Arrangement, Month, MonthLongVerbs, Phase, Written, is_of_faction};
 use atl_orders::Verb;
 use atl_state::{Campaign, Entry, EventFault, HOLDING_LIMIT, Thing, Unit};
 use atl_tables::{Numbered, World};
@@ -132,7 +132,7 @@ impl<'a> Pots for WorkPlaces<'a> {
     ghost ready = { λ _. ⊤ };
 
     fn pot(&self, region: u32) -> u64 {
-        match terrain_of(self.world, region) {
+        match self.world.terrain_of(region) {
             Some(terrain) => u64::from(terrain.places),
             None => 0,
         }
@@ -143,7 +143,7 @@ impl<'a> Pots for WorkPlaces<'a> {
 fn wage_at(world: &World, region: u32) -> u32
     ensures { result ≡ wage_at world.now region }
 {
-    match terrain_of(world, region) {
+    match world.terrain_of(region) {
         Some(terrain) => terrain.wage,
         None => 0,
     }
@@ -184,7 +184,7 @@ impl PotPhase for WorkPhase {
     }
 
     fn want(&self, world: &World, unit: &Unit, _order: Written) -> u32 {
-        match terrain_of(world, unit.region) {
+        match world.terrain_of(unit.region) {
             Some(terrain) => {
                 let room = HOLDING_LIMIT - unit.holding.money();
                 unit.holding.men().min(room / terrain.wage)

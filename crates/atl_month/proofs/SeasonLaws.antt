@@ -10,6 +10,7 @@ use Rattle.atl_tables.specs.Planet.{Planet, IsWorld}
 use Rattle.atl_tables.specs.Limits.{most_amount, most_regions}
 use Rattle.atl_tables.specs.declared.world.Terrain.{Terrain}
 use Rattle.atl_tables.specs.declared.world.RegionPlan.{RegionPlan}
+use Rattle.atl_tables.specs.ByNumber.{terrain_of}
 use Rattle.atl_state.specs.declared.books.Entry.{Entry}
 use Rattle.atl_state.specs.declared.books.Entry.TheVariants.{Births, Income}
 use Rattle.atl_state.specs.declared.books.Thing.{Thing}
@@ -31,7 +32,6 @@ use Rattle.atl_instant.specs.Meaning.{HaveRoom, IsNear, LeavesWell, moved_times,
 use Rattle.atl_instant.proofs.MarkLaws.{marks_by}
 use Rattle.atl_instant.proofs.MeaningLaws.{fold_leaves_well, near_twice, room_behind_one, room_for_one, well_unchanged, well_within}
 use Rattle.atl_instant.proofs.BookingLaws.{booked-near, within-pos}
-use Rattle.atl_instant.specs.Terrains.{terrain_of}
 use Rattle.atl_month.specs.Season.{births, grows_by, income, season, season_at, season_in, with_growth}
 
 -- ---- how much there is

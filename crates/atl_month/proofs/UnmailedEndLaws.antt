@@ -1,34 +1,25 @@
 -- What upkeep, season and sweep leave to the units of a faction that sent no mailing.
 use Rattle.std.proofs.Common.{◌≡◌, ◌≢◌, ◌==◌, ◌+◌, ◌-◌, ◌≤◌, ◌<◌, ℕ, Bool, true, false, not, cond, List, [], ◌∷◌, map, filter, sum_by, Option, Some, None, refl, sym, ap, subst, ◌∙◌, inl, inr, arith}
 use Rattle.std.specs.Prelude.{fold, if◌then◌else◌}
-use Rattle.std.specs.List.{AllByRecursion}
-use Rattle.std.specs.Ordering.{is_eq, nat_cmp}
-use Rattle.std.specs.Cmp.{nat_cmp_total}
-use Rattle.std.specs.declared.cmp.Ordering.TheVariants.{Less, Equal, Greater}
-use Rattle.std.specs.FinMap.{FinMap, find, get, get-from_entries, nat_cmp-IsAntisymmetric}
+use Rattle.std.specs.Ordering.{nat_cmp}
+use Rattle.std.specs.FinMap.{FinMap, get}
 use Rattle.std.proofs.lemmas.Bool.{cases_eq}
-use Rattle.std.proofs.lemmas.List.Elements.{recursion_from_All}
 use Rattle.std.proofs.lemmas.List.Sums.{sum_by-append, sum_by-cons}
 use Rattle.atl_tables.specs.Planet.{Planet}
-use Rattle.atl_orders.specs.Mailing.{reading_of}
-use Rattle.atl_orders.specs.declared.mailing.Mailing.{Mailing}
 use Rattle.atl_state.specs.declared.event.Event.{Event}
 use Rattle.atl_state.specs.declared.records.Unit.{Unit}
-use Rattle.atl_state.specs.Good.{Every}
 use Rattle.atl_state.specs.Held.{Held}
 use Rattle.atl_state.specs.State.{State}
 use Rattle.atl_state.proofs.EveryLaws.{get-insert_other}
 use Rattle.atl_state.proofs.RegionLaws.{get-insert_same}
-use Rattle.atl_instant.specs.Course.{Course, by_faction}
-use Rattle.atl_instant.specs.Meaning.{Keeping, Meaning}
+use Rattle.atl_instant.specs.Course.{Course}
 use Rattle.atl_instant.specs.Steps.{IsSpared}
-use Rattle.atl_instant.specs.Unmailed.{IsLeft, IsLessBy, starved_in, starved_told}
+use Rattle.atl_instant.specs.Unmailed.{IsLessBy, starved_in, starved_told}
 use Rattle.atl_instant.proofs.StructureLaws.{equal, is_equal, unequal}
-use Rattle.atl_instant.proofs.UnmailedLaws.{ClosesUnmailed, LeavesUnmailed, both_leave, men_same, then_closes, whole_leaves}
+use Rattle.atl_instant.proofs.UnmailedLaws.{ClosesUnmailed, LeavesUnmailed, men_same, whole_leaves}
 use Rattle.atl_month.specs.declared.settling.Settled.{Settled}
 use Rattle.atl_month.specs.Season.{season_keeps, season_meaning}
 use Rattle.atl_month.specs.Sweep.{sweep_keeps, sweep_meaning}
-use Rattle.atl_month.specs.Unmailed.{SentNone, UnmailedAreLeft}
 use Rattle.atl_month.specs.Upkeep.{days_with, settlements, starved_event, starves, supplied, upkeep_at, upkeep_in, upkeep_keeps, upkeep_meaning}
 
 -- ---- upkeep

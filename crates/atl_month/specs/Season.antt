@@ -3,13 +3,13 @@ use Rattle.std.specs.Prelude.{◌≡◌, ℕ, pos, ◌+◌, ◌-◌, ◌*◌, �
 use Rattle.std.specs.FinMap.{entries, get}
 use Rattle.atl_tables.specs.Planet.{Planet}
 use Rattle.atl_tables.specs.declared.world.Terrain.{Terrain}
+use Rattle.atl_tables.specs.ByNumber.{terrain_of}
 use Rattle.atl_state.specs.declared.books.Entry.TheVariants.{Births, Income}
 use Rattle.atl_state.specs.declared.books.Thing.TheVariants.{Money, People}
 use Rattle.atl_state.specs.declared.records.Region.{Region}
 use Rattle.atl_state.specs.State.{State, with_amount, with_peasants, with_region_money}
 use Rattle.atl_instant.specs.Course.{Course}
 use Rattle.atl_instant.specs.Meaning.{Keeping, Moving, both_move, moves_only, most_moved}
-use Rattle.atl_instant.specs.Terrains.{terrain_of}
 use Rattle.atl_month.specs.Limits.{per_hundred}
 use Rattle.atl_instant.specs.Terms.{PhaseTerms}
 

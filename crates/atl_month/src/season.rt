@@ -10,7 +10,7 @@ ghost use Rattle.atl_instant.specs.Meaning.{HaveRoom, most_moved};
 ghost use Rattle.atl_month.specs.Season.{births, grows_by, income, season, season_at, season_keeps, season_meaning, with_growth};
 
 use crate::limits::PER_HUNDRED;
-use atl_instant::{Month, Phase, terrain_of};
+use atl_instant::{Month, Phase};
 use atl_state::{Campaign, Entry, Region, Thing};
 use atl_tables::World;
 use std::alloc::{AllocError, Global};
@@ -62,7 +62,7 @@ fn turn_region(world: &World, campaign: &mut Campaign, number: u32, word: u32)
     ensures what { campaign.new.what ≡ season_at world.now campaign.old.what (number, word) }
     ensures marks { MarksChanges campaign.old campaign.new }
 {
-    let terrain = match terrain_of(world, number) {
+    let terrain = match world.terrain_of(number) {
         Some(terrain) => terrain,
         None => return,
     };

@@ -1,6 +1,6 @@
 -- The structures of each region, listed one after another.
 use Rattle.std.proofs.Common.{◌≡◌, ◌==◌, ◌++◌, ℕ, Bool, true, false, cond, List, [], ◌∷◌, Option, Some, unwrap_or, refl, sym, ap, ◌∙◌, arith}
-use Rattle.std.specs.Ordering.{nat_cmp, eq_by_cmp}
+use Rattle.std.specs.Ordering.{nat_cmp}
 use Rattle.std.specs.Cmp.{nat_cmp_total}
 use Rattle.std.specs.FinMap.{FinMap, get, get-insert, get-empty, empty}
 use Rattle.std.proofs.lemmas.Bool.Decides.{nat_tests}

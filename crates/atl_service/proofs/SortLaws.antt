@@ -1,7 +1,7 @@
 -- The events of each faction, listed one after another.
 use Rattle.std.proofs.Common.{Result, Ok, Err, ◌≡◌, ◌==◌, ◌++◌, ◌+◌, ◌<◌, ℕ, Bool, true, false, cond, List, [], ◌∷◌, Option, Some, unwrap_or, refl, sym, ap, ◌∙◌, arith, length, get_or, drop}
 use Rattle.std.specs.Prelude.{OnOk}
-use Rattle.std.specs.Ordering.{nat_cmp, eq_by_cmp}
+use Rattle.std.specs.Ordering.{nat_cmp}
 use Rattle.std.specs.Cmp.{nat_cmp_total}
 use Rattle.std.specs.FinMap.{FinMap, get, get-insert, get-empty, empty}
 use Rattle.std.proofs.lemmas.Bool.Decides.{nat_tests}

@@ -7,10 +7,11 @@ use Rattle.std.specs.Ordering.{nat_cmp}
 use Rattle.std.specs.FinMap.{FinMap, get, insert, len, len-insert}
 use Rattle.atl_tables.specs.Names.{name_ok}
 use Rattle.atl_tables.specs.Planet.{Planet}
+use Rattle.atl_tables.specs.ByNumber.{is_land_at, size_of}
 use Rattle.atl_state.specs.Covers.{MarksChanges}
 use Rattle.atl_state.specs.declared.books.Thing.{Thing}
 use Rattle.atl_state.specs.declared.records.Structure.{Structure}
-use Rattle.atl_state.specs.Good.{AreAfloat, AreInRange, AreKnown, AreNumbered, AreOwned, Every, IsBuilt, IsOwned, IsSteady, IsThere, is_land_at, is_ship, size_of}
+use Rattle.atl_state.specs.Good.{AreAfloat, AreInRange, AreKnown, AreNumbered, AreOwned, Every, IsBuilt, IsOwned, IsSteady, IsThere, is_ship}
 use Rattle.atl_state.specs.Limits.{most_structures}
 use Rattle.atl_state.specs.Marking.{mark_structure_begun}
 use Rattle.atl_state.specs.State.{Marked, State, with_done, with_structure_begun}

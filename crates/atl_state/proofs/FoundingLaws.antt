@@ -24,13 +24,14 @@ use Rattle.atl_state.specs.Books.{amount_in, booked, no_amounts, with_booked, Is
 use Rattle.atl_state.specs.Kept.{AreUnitLists, AreKept}
 use Rattle.atl_tables.specs.Names.{name_ok, pass_ok}
 use Rattle.atl_tables.specs.declared.world.RegionPlan.{RegionPlan}
+use Rattle.atl_tables.specs.ByNumber.{is_land_at, size_of}
 use Rattle.atl_orders.specs.Mailing.{IsMailingOf}
 use Rattle.atl_state.specs.Limits.{entry_count, most_days}
 use Rattle.atl_state.specs.Totals.{total, Balances, held, kept}
 use Rattle.atl_state.specs.Founding.{founded_of, founded_region, things_of}
 use Rattle.atl_state.specs.Held.{IsHolding}
 use Rattle.atl_state.specs.State.{numbers_of}
-use Rattle.atl_state.specs.Good.{Every, IsThere, IsActive, IsRegion, AreInRange, AreAmountsWithin, AreNamed, IsPlaced, IsBuilt, AreKnown, IsNumbered, IsOwned, is_land_at, is_ship, IsAboard, guards, IsSteady, IsGood, size_of}
+use Rattle.atl_state.specs.Good.{Every, IsThere, IsActive, IsRegion, AreInRange, AreAmountsWithin, AreNamed, IsPlaced, IsBuilt, AreKnown, IsNumbered, IsOwned, is_ship, IsAboard, guards, IsSteady, IsGood}
 use Rattle.atl_state.proofs.EveryLaws.{every-empty, every-mapped, there-mapped}
 use Rattle.atl_state.proofs.BookLaws.{booked-with_booked, booked-no_amounts, amount-no_amounts, IsGrid-no_amounts, IsGrid-with_booked, IsWithin-with_booked, share_of}
 

@@ -10,6 +10,7 @@ use Rattle.std.proofs.lemmas.Bool.Decides.{nat_tests}
 use Rattle.std.proofs.lemmas.List.{get_or-set_same, get_or-set_other, length-set}
 use Rattle.atl_tables.specs.Limits.{most_amount, most_regions}
 use Rattle.atl_tables.specs.Planet.{Planet}
+use Rattle.atl_tables.specs.ByNumber.{size_of}
 use Rattle.atl_orders.specs.Limits.{last_faction}
 use Rattle.atl_state.specs.declared.parts.Parts.{Parts}
 use Rattle.atl_state.specs.declared.parts.StoredHead.{StoredHead}
@@ -22,7 +23,7 @@ use Rattle.atl_state.specs.declared.parts.StoredBooks.{StoredBooks}
 use Rattle.atl_state.specs.Books.{no_amounts, IsGrid}
 use Rattle.atl_state.specs.Founding.{things_of}
 use Rattle.atl_state.specs.FromRows.{clamped, as_u32, as_u16, is_entry, put_rows, by_number, faction_of, region_of, structure_of, unit_of, with_amount, with_row, put_amounts, head_of, state_of}
-use Rattle.atl_state.specs.Good.{Every, size_of, IsRegion, AreInRange, HaveMen}
+use Rattle.atl_state.specs.Good.{Every, IsRegion, AreInRange, HaveMen}
 use Rattle.atl_state.specs.Held.{IsHolding}
 use Rattle.atl_state.specs.Limits.{last_month, most_units, last_unit, men_limit, holding_limit, most_structures, entry_count, most_u32}
 use Rattle.atl_state.specs.RowRules.{is_from, head_in_range, faction_in_range, region_in_range, unit_in_range, has_in_range, structure_in_range, books_in_range, books_bound, are_few, people_in_range, numbers_in_range, AreRowsInRange}

@@ -8,6 +8,7 @@ use Rattle.std.specs.FinMap.{FinMap, get, entries, len}
 use Rattle.std.proofs.lemmas.List.Sorted.{length_permutation}
 use Rattle.atl_tables.specs.Limits.{most_amount, last_region}
 use Rattle.atl_tables.specs.Planet.{Planet, IsWorld}
+use Rattle.atl_tables.specs.ByNumber.{size_of}
 use Rattle.atl_orders.specs.Limits.{last_faction}
 use Rattle.atl_state.specs.declared.parts.Parts.{Parts}
 use Rattle.atl_state.specs.declared.parts.StoredHead.{StoredHead}
@@ -19,7 +20,7 @@ use Rattle.atl_state.specs.declared.records.Unit.{Unit}
 use Rattle.atl_state.specs.Books.{no_amounts}
 use Rattle.atl_state.specs.Founding.{things_of}
 use Rattle.atl_state.specs.FromRows.{as_u32, as_u16, is_set, faction_of, region_of, structure_of, unit_of, by_number, put_amounts, things_had, no_head, head_of, state_of}
-use Rattle.atl_state.specs.Good.{Every, IsThere, IsNumbered, size_of, IsGood}
+use Rattle.atl_state.specs.Good.{Every, IsThere, IsNumbered, IsGood}
 use Rattle.atl_state.specs.Held.{AreAmounts}
 use Rattle.atl_state.specs.Limits.{last_month, last_unit, men_limit, holding_limit, most_structures, most_days, most_u16, most_u32}
 use Rattle.atl_state.specs.RowRules.{one_key, HaveKeys}

@@ -15,6 +15,7 @@ use Rattle.std.proofs.lemmas.Slice.Eq.{bytes_eq-Decides}
 use Rattle.atl_tables.specs.Limits.{most_amount, most_regions}
 use Rattle.atl_tables.specs.Names.{name_ok, pass_ok}
 use Rattle.atl_tables.specs.Planet.{Planet, IsWorld}
+use Rattle.atl_tables.specs.ByNumber.{size_of}
 use Rattle.atl_orders.specs.Limits.{last_faction}
 use Rattle.atl_state.specs.declared.checking.CheckFault.{CheckFault}
 use Rattle.atl_state.specs.declared.checking.CheckFault.TheVariants.{Damaged, Memory}
@@ -29,7 +30,7 @@ use Rattle.atl_state.specs.Checking.{Keeps, Checks, GivesBack}
 use Rattle.atl_state.specs.Deciding.{EachOf, Differ}
 use Rattle.atl_state.specs.Founding.{things_of}
 use Rattle.atl_state.specs.FromRows.{as_u32, faction_of, region_of, structure_of, unit_of, head_of, state_of}
-use Rattle.atl_state.specs.Good.{AreAmountsWithin, AreKnown, AreNumbered, AreDays, GoneHaveNone, NoneAreGone, AreOwned, AreAfloat, AreOfOneFaction, guards, IsMail, AreReported, amount_bound, size_of, IsGood}
+use Rattle.atl_state.specs.Good.{AreAmountsWithin, AreKnown, AreNumbered, AreDays, GoneHaveNone, NoneAreGone, AreOwned, AreAfloat, AreOfOneFaction, guards, IsMail, AreReported, amount_bound, IsGood}
 use Rattle.atl_state.specs.Limits.{entry_count, holding_limit, last_month, last_unit, men_limit, most_in_joining, most_in_month, most_structures, most_units}
 use Rattle.atl_state.specs.RowRules.{is_from, is_one_head, is_within, head_in_range, faction_in_range, region_in_range, unit_in_range, has_in_range, structure_in_range, books_in_range, books_bound, are_few, AreKeyed, AreRowsInRange, faction_named, AreRowsNamed, is_of_unit, is_booked}
 use Rattle.atl_state.specs.Rows.{flag, rows_by, faction_row, region_row, unit_row, structure_row, mail_row, report_row, has_row, has_rows, books_rows, amount_at, is_zero, AreRowsOf}

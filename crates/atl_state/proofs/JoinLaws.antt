@@ -14,6 +14,7 @@ use Rattle.atl_tables.specs.Names.{name_ok, pass_ok}
 use Rattle.atl_tables.specs.Planet.{Planet, IsWorld, land_of, is_land}
 use Rattle.atl_tables.specs.declared.world.RegionPlan.{RegionPlan}
 use Rattle.atl_tables.proofs.SumLaws.{numbers_where-insert_other}
+use Rattle.atl_tables.specs.ByNumber.{is_land_at}
 use Rattle.atl_orders.specs.Limits.{last_faction}
 use Rattle.atl_state.specs.Limits.{most_units, last_unit, most_days, holding_limit}
 use Rattle.atl_state.specs.declared.books.Entry.TheVariants.{Joining}
@@ -26,7 +27,7 @@ use Rattle.atl_state.specs.State.{State, numbers_of}
 use Rattle.atl_state.specs.Books.{booked, with_booked, amount_in, IsGrid, IsSmall}
 use Rattle.atl_state.specs.Totals.{held, total, Balances}
 use Rattle.atl_state.specs.Founding.{things_of}
-use Rattle.atl_state.specs.Good.{Every, AreInRange, AreAmountsWithin, HaveMen, AreNamed, IsPlaced, AreKnown, IsNumbered, AreNumbered, AreDays, GoneHaveNone, NoneAreGone, AreOwned, is_land_at, IsAboard, AreAfloat, guards, AreOfOneFaction, IsMail, IsSteady, IsSound, amount_bound}
+use Rattle.atl_state.specs.Good.{Every, AreInRange, AreAmountsWithin, HaveMen, AreNamed, IsPlaced, AreKnown, IsNumbered, AreNumbered, AreDays, GoneHaveNone, NoneAreGone, AreOwned, IsAboard, AreAfloat, guards, AreOfOneFaction, IsMail, IsSteady, IsSound, amount_bound}
 use Rattle.atl_state.specs.Joining.{joined, new_faction, first_unit, home_of, is_full, name_taken}
 use Rattle.atl_state.specs.Ordered.{put_number, first_above}
 use Rattle.atl_state.proofs.BookLaws.{booked-with_booked, IsGrid-with_booked, IsWithin-with_booked, IsSmall-within, share_of}

@@ -1,12 +1,12 @@
 -- What is true of every campaign that commands reach, and of one within a month. Each record is one of the rules.
 use Rattle.std.specs.Prelude.{◌≡◌, ◌≢◌, ◌≤◌, ◌<◌, ◌+◌, ◌*◌, ◌&&◌, ◌↔◌, ℕ, Bool, [], IsTrue, true, false, nat_lt, length, Some, None}
-use Rattle.std.specs.List.{slice_get}
-use Rattle.std.specs.Option.{option_map_or}
 use Rattle.std.specs.Ordering.{nat_cmp}
 use Rattle.std.specs.FinMap.{FinMap, get, len}
-use Rattle.atl_tables.specs.Limits.{most_amount, most_regions, most_size}
+use Rattle.atl_tables.specs.ByNumber as of_world
+use Rattle.atl_tables.specs.ByNumber.{is_land_at, size_of}
+use Rattle.atl_tables.specs.Limits.{most_amount, most_regions}
 use Rattle.atl_tables.specs.Names.{name_ok, pass_ok}
-use Rattle.atl_tables.specs.Planet.{Planet, is_land}
+use Rattle.atl_tables.specs.Planet.{Planet}
 use Rattle.atl_orders.specs.Limits.{last_faction}
 use Rattle.atl_orders.specs.Mailing.{IsMailingOf}
 use Rattle.atl_state.specs.Limits.{last_month, last_unit, most_days, most_in_joining, most_in_month, most_structures, most_units}
@@ -35,10 +35,6 @@ abbrev pub IsActive : State → ℕ → Type 0
 IsActive c n = (f : Faction) × (get c.factions n ≡ Some f) × (f.gone ≡ false)
 
 -- ---- of numbers: each is in its range, and there are not too many things
-
--- the full size of a kind; where there is no such kind, the largest
-abbrev pub size_of : Planet → ℕ → ℕ
-size_of w kind = option_map_or (λ k. k.size) (slice_get w.kinds kind) most_size
 
 -- no amount of the books is greater in size
 abbrev pub amount_bound : State → ℕ
@@ -137,11 +133,8 @@ AreOwned c = Every (λ n s. IsOwned c n s) c.structures
 
 -- ---- of water: a unit is inside a ship there, and a structure is a complete ship
 
-abbrev pub is_land_at : Planet → ℕ → Bool
-is_land_at w region = option_map_or (is_land w.terrains) (get w.regions region) false
-
 abbrev pub is_ship : Planet → Structure → Bool
-is_ship w s = option_map_or (λ k. k.ship) (slice_get w.kinds s.kind) false
+is_ship w s = of_world.is_ship w s.kind
 
 abbrev pub IsAboard : Planet → State → Unit → Type 0
 IsAboard w c u = (s : Structure) × (get c.structures u.structure ≡ Some s) × (is_ship w s ≡ true)

@@ -16,7 +16,6 @@ pub mod records;
 mod row_rules;
 mod rows;
 mod rules;
-mod terrains;
 mod totals;
 mod units;
 
@@ -33,4 +32,3 @@ pub use limits::{
 pub use parts::Parts;
 pub use records::{Faction, JoinFault, Region, Structure, Unit};
 pub use row_rules::are_distinct;
-pub use terrains::{is_land_at, is_ship, size_of};

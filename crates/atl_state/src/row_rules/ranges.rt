@@ -15,7 +15,6 @@ use crate::parts::{
     Parts, StoredBooks, StoredFaction, StoredHas, StoredHead, StoredRegion, StoredStructure,
     StoredUnit,
 };
-use crate::terrains::size_of;
 use atl_orders::LAST_FACTION;
 use atl_tables::World;
 use atl_tables::limits::{MOST_AMOUNT, MOST_REGIONS};
@@ -60,7 +59,7 @@ fn has_in_range(row: &StoredHas) -> bool
 fn structure_in_range(world: &World, row: &StoredStructure) -> bool
     ensures { result ≡ structure_in_range world.now row.now }
 {
-    let size = size_of(world, as_u16(row.kind));
+    let size = world.size_of(as_u16(row.kind));
     is_from(1, MOST_STRUCTURES, row.number) && is_from(1, size, row.done)
 }
 

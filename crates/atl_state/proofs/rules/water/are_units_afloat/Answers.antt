@@ -1,9 +1,10 @@
 use Rattle.std.proofs.Common.{◌≡◌, ℕ, false, rules}
 use borrow.Author.Tests.{tests}
 use Rattle.atl_tables.specs.Planet.{Planet}
+use Rattle.atl_tables.specs.ByNumber.{is_land_at}
 use Rattle.atl_state.specs.declared.records.Unit.{Unit}
 use Rattle.atl_state.specs.State.{State}
-use Rattle.atl_state.specs.Good.{IsAboard, is_land_at}
+use Rattle.atl_state.specs.Good.{IsAboard}
 use Rattle.atl_state.proofs.RuleLaws.{every_by_all}
 use Rattle.atl_state.proofs.rules.water.are_units_afloat.Goals as goal
 
