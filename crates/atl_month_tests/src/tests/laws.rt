@@ -1,8 +1,11 @@
 //! Calls that only state a law.
 use atl_action::nobody_is_taught_twice;
-use atl_instant::{mailings_have_no_order, orders_are_in_mailings};
+use atl_instant::{days_go_with_men, mailings_have_no_order, orders_are_in_mailings};
 use atl_market::pots::{each_pot_is_shared, takers_alone_get};
+use atl_market::produce::units_produce_all_at_once;
+use atl_market::recruit::recruits_join_all_at_once;
 use atl_market::shares::splitting_keeps_others;
+use atl_market::tax::tax_pays_all_at_once;
 use atl_market::work_pays_all_at_once;
 use atl_month::{
     each_unit_can_spare, months_have_no_order, one_phase_has_room, phases_move_little,
@@ -15,6 +18,10 @@ fn laws_are_called() {
     takers_alone_get();
     each_pot_is_shared();
     splitting_keeps_others();
+    days_go_with_men();
+    tax_pays_all_at_once();
+    recruits_join_all_at_once();
+    units_produce_all_at_once();
     work_pays_all_at_once();
     nobody_is_taught_twice();
     months_have_no_order();
