@@ -4,6 +4,7 @@ pub mod WalkLaws
 pub mod SailLaws
 pub mod UnmailedTravelLaws
 pub mod LearnerLaws
+pub mod LearningLaws
 pub mod TeachLaws
 pub mod MentionLaws
 pub mod OnceLaws

@@ -1,5 +1,6 @@
 -- Who is learning, as the phase begins. See docs/RULES.md, "Learning".
-use Rattle.std.specs.Prelude.{◌*◌, ◌==◌, ◌&&◌, ℕ, nat_le, nat_lt, Bool, true, false, fold, Option, Some, None, if◌then◌else◌}
+use Rattle.std.specs.Prelude.{◌≡◌, ◌*◌, ◌==◌, ◌&&◌, ℕ, nat_le, nat_lt, Bool, true, false, List, fold, Option, Some, None, if◌then◌else◌}
+use Rattle.std.specs.List.{Contains}
 use Rattle.std.specs.Ordering.{nat_cmp}
 use Rattle.std.specs.FinMap.{FinMap, empty, get, insert, values}
 use Rattle.atl_tables.specs.ByNumber.{fee_of}
@@ -9,6 +10,7 @@ use Rattle.atl_orders.specs.declared.verb.Verb.{Verb}
 use Rattle.atl_orders.specs.declared.verb.Verb.TheVariants as verbs
 use Rattle.atl_orders.specs.Orders.{Said}
 use Rattle.atl_state.specs.declared.records.Unit.{Unit}
+use Rattle.atl_state.specs.Good.{IsThere}
 use Rattle.atl_state.specs.Held.{Held}
 use Rattle.atl_state.specs.State.{State}
 use Rattle.atl_instant.specs.Course.{Course}
@@ -45,6 +47,28 @@ with_skill w c learning t (Some s) = if learns w s t.faction (get c.units t.unit
 abbrev pub with_learner : Planet → State → Learning → Task → Learning
 with_learner w c learning t = with_skill w c learning t (skill_of t.said)
 
+-- the orders of STUDY that stand
+abbrev pub study_tasks : Course → List Task
+study_tasks m = values (orders_of is_studying ByUnit m.aliases m.readings)
+
 -- At most one order of STUDY stands for a unit in the mailing of its own faction.
 unfoldable pub learners : Planet → State → Course → Learning
-learners w c m = fold (with_learner w c) empty (values (orders_of is_studying ByUnit m.aliases m.readings))
+learners w c m = fold (with_learner w c) empty (study_tasks m)
+
+-- ---- a law: who is learning
+
+-- By an order of STUDY that stands, of the unit's own faction, it learns this skill: it has men, and money for all of them.
+pub record IsLearning (w : Planet) (c : State) (m : Course) (n skill : ℕ) : Type 0 where
+  pub order : Task
+  pub stands : Contains (study_tasks m) order
+  pub for_unit : order.unit ≡ n
+  pub says : skill_of order.said ≡ Some skill
+  pub can : learns w skill order.faction (get c.units n) ≡ true
+
+-- only those units are learning, and each of them is
+pub record LearnByOrders (w : Planet) (c : State) (m : Course) : Type 0 where
+  pub only : (n skill : ℕ) → get (learners w c m) n ≡ Some skill → IsLearning w c m n skill
+  pub each : (n skill : ℕ) → IsLearning w c m n skill → IsThere (learners w c m) n
+
+abbrev pub UnitsLearnByOrders : Type 0
+UnitsLearnByOrders = (w : Planet) (c : State) (m : Course) → LearnByOrders w c m

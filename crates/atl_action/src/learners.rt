@@ -3,7 +3,7 @@ ghost use Rattle.std.specs.Prelude.{◌≡◌, ◌*◌, IfOk, List, OnOk, ℕ};
 ghost use Rattle.std.specs.FinMap as map;
 ghost use Rattle.atl_orders.specs.Orders.{Said, said};
 ghost use Rattle.atl_instant.specs.Carrying.{found_written, task_of};
-ghost use Rattle.atl_action.specs.Learners.{can_learn, is_studying, learners, learns, skill_of, with_learner, with_skill};
+ghost use Rattle.atl_action.specs.Learners.{UnitsLearnByOrders, can_learn, is_studying, learners, learns, skill_of, with_learner, with_skill};
 ghost use Rattle.atl_tables.specs.ByNumber.{fee_of};
 
 use atl_instant::{Arrangement, Month, PhaseVerbs, Written};
@@ -108,3 +108,9 @@ pub(crate) fn learners(
     }
     Ok(learning)
 }
+
+/// Does nothing. Its clause is the law of who is learning: a unit for which its own faction's order of STUDY stands, and which
+/// has men and the fee for all of them; it learns the skill of such an order. See docs/RULES.md, "Learning".
+pub fn units_learn_by_orders()
+    ensures { UnitsLearnByOrders }
+{}

@@ -11,6 +11,7 @@ mod walk;
 mod ways;
 
 pub use learn::LearnPhase;
+pub use learners::units_learn_by_orders;
 pub use sail::SailPhase;
 pub use teach::nobody_is_taught_twice;
 pub use walk::MovePhase;

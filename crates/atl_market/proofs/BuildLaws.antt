@@ -8,7 +8,7 @@ use Rattle.std.proofs.lemmas.Bool.Decides.{nat_tests}
 use Rattle.std.proofs.lemmas.Option.{slice_get_within}
 use Rattle.std.proofs.lemmas.List.Sums.{sum_by-cons}
 use Rattle.std.proofs.Math.Nat.{mul-le-mul_left, suc-mul}
-use Rattle.std.specs.FinMap.{entries, get, len-entries}
+use Rattle.std.specs.FinMap.{entries, get, len, len-entries}
 use Rattle.atl_tables.specs.Limits.{most_size}
 use Rattle.atl_tables.specs.Planet.{IsKind, Planet}
 use Rattle.atl_tables.specs.Sums.{sum_over}
@@ -28,7 +28,7 @@ use Rattle.atl_state.specs.declared.records.Structure.{Structure}
 use Rattle.atl_state.specs.declared.records.Unit.{Unit}
 use Rattle.atl_state.specs.Books.{entry_place}
 use Rattle.atl_state.specs.Deciding.{EachOf}
-use Rattle.atl_state.specs.Good.{IsSteady}
+use Rattle.atl_state.specs.Good.{IsNumbered, IsSteady}
 use Rattle.atl_state.specs.Levels.{level_in}
 use Rattle.atl_state.proofs.BegunLaws.{IsFresh, built, built_is, nobody_inside, raised, raised_there}
 use Rattle.atl_state.specs.Held.{Held, IsHolding, amount_of}
@@ -45,7 +45,7 @@ use Rattle.atl_instant.proofs.OutcomeLaws.{none_fits, not_less}
 use Rattle.atl_instant.proofs.PlacingLaws.{place_stays}
 use Rattle.atl_instant.proofs.StepLaws.{no_worse_spares, well_same, well_twice}
 use Rattle.atl_instant.proofs.UnbookedLaws.{other_spared}
-use Rattle.atl_market.specs.Build.{CanBuild, begin, begin_by, begin_fault, begin_with, build_moves, build_reserve, build_said, build_step, go_on, go_on_at, go_on_by, go_on_with, gone_on, inside_fault, new_structure, size_added, started, with_new}
+use Rattle.atl_market.specs.Build.{CanBuild, begin, begin_by, begin_fault, begin_with, build_moves, build_reserve, build_said, build_step, go_on, go_on_at, go_on_by, go_on_with, gone_on, inside_fault, is_structure_limit, new_structure, size_added, started, with_new}
 use Rattle.atl_market.specs.Goods.{CanUse}
 use Rattle.atl_market.proofs.BuildBegunLaws.{built_well, raised_well, sort_name_ok}
 use Rattle.atl_market.proofs.BuildPlaceLaws.{place_well}
@@ -58,6 +58,18 @@ some n is = grind (arith, nat_tests)
 more_than : (a b : ℕ) → nat_le a b ≡ false → b < a
 more_than a b is = grind (arith, nat_tests)
 
+-- ---- the structures are as many as numbers are given
+
+pub next_within : (c : State) → IsNumbered c.structures c.next_structure → len c.structures < most_structures → c.next_structure ≤ most_structures
+next_within c numbered room = omega (arith, numbered.count, room)
+
+-- the next number tells whether no further structure can come
+pub limit_by_next : (c : State) → IsNumbered c.structures c.next_structure → nat_lt most_structures c.next_structure ≡ is_structure_limit c
+limit_by_next c numbered = rw numbered.count (by_count most_structures (len c.structures))
+  where
+    by_count : (most count : ℕ) → nat_lt most (count + 1) ≡ nat_le most count
+    by_count most count = grind (arith, nat_tests)
+
 -- ---- where no fault fits
 
 -- a unit that begins a structure of a kind
@@ -66,24 +78,24 @@ pub record CanBegin (w : Planet) (c : State) (u : Unit) (k : Kind) : Type 0 wher
   pub land : is_land_at w u.region ≡ true
   pub skill : k.level ≤ level_in u.holding k.skill
   pub material : 1 ≤ amount_of u.holding.items k.material
-  pub room : c.next_structure ≤ most_structures
+  pub room : len c.structures < most_structures
 
 pub can_begin : (w : Planet) (c : State) (u : Unit) (k : Kind) → begin_fault w c u k ≡ None → CanBegin w c u k
 can_begin w c u k is =
-    let limit = (nat_lt most_structures c.next_structure, StructureLimit) ∷ [] in
+    let limit = (is_structure_limit c, StructureLimit) ∷ [] in
     let material = (amount_of u.holding.items k.material == 0, NoMaterial) ∷ limit in
     let skill = (nat_lt (level_in u.holding k.skill) k.level, NoSkill) ∷ material in
     let one = none_fits (u.holding.men == 0) NoMen ((not (is_land_at w u.region), AtSea) ∷ skill) is in
     let two = none_fits (not (is_land_at w u.region)) AtSea skill one.1 in
     let three = none_fits (nat_lt (level_in u.holding k.skill) k.level) NoSkill material two.1 in
     let four = none_fits (amount_of u.holding.items k.material == 0) NoMaterial limit three.1 in
-    let five = none_fits (nat_lt most_structures c.next_structure) StructureLimit [] four.1 in
+    let five = none_fits (is_structure_limit c) StructureLimit [] four.1 in
     record {
       men = some u.holding.men one.0;
       land = not-false (is_land_at w u.region) two.0;
       skill = not_less (level_in u.holding k.skill) k.level three.0;
       material = some (amount_of u.holding.items k.material) four.0;
-      room = not_less most_structures c.next_structure five.0;
+      room = more_than most_structures (len c.structures) five.0;
     }
 
 -- a unit that goes on with a structure
@@ -160,6 +172,9 @@ module _ (w : Planet) (c : State) (n kind : ℕ) (u : Unit) (k : Kind) (is : get
     good : IsKind (length w.items) (length w.skills) k
     good = can.kinds kind k kind_is
 
+    room : c.next_structure ≤ most_structures
+    room = next_within c can.steady.next.structures fit.room
+
     one_well : StepsWell CanBuild build_reserve w c one
     one_well = used_for_well w c n k.material size u is (size_held k u.holding 0) good.material can
 
@@ -169,7 +184,7 @@ module _ (w : Planet) (c : State) (n kind : ℕ) (u : Unit) (k : Kind) (is : get
     fresh : IsFresh w one new
     fresh = record {
       kind = slice_get_within w.kinds kind k kind_is;
-      name = sort_name_ok k c.next_structure (omega (arith, fit.room));
+      name = sort_name_ok k c.next_structure (omega (arith, room));
       region = (can.steady.known.units n u is).region;
       land = fit.land;
       least = size_some k u.holding 0 fit.men (omega (arith, good.level_least, fit.skill)) fit.material (omega (arith, good.size_least));
@@ -178,17 +193,17 @@ module _ (w : Planet) (c : State) (n kind : ℕ) (u : Unit) (k : Kind) (is : get
     }
 
     two : State
-    two = raised w one new fresh fit.room one_well.holds_still.steady
+    two = raised w one new fresh room one_well.holds_still.steady
 
     begun_well : StepsWell CanBuild build_reserve w c (started c n kind k u.region size)
     unfolding two
     begun_well =
         let between = one_well.holds_still in
-        let two_well = raised_well w one new fresh fit.room between in
+        let two_well = raised_well w one new fresh room between in
         let there = user_there w c n k.material size u is in
-        let apart = nobody_inside w one new fresh fit.room between.steady n (user w c n k.material size u is) there in
+        let apart = nobody_inside w one new fresh room between.steady n (user w c n k.material size u is) there in
         let three_well =
-        place_well w two n (user w c n k.material size u is) c.next_structure there two_well.holds_still apart (λ some. (new, raised_there w one new fresh fit.room between.steady, refl)) (λ wet. absurd (true≢false (sym fit.land ∙ wet))) in
+        place_well w two n (user w c n k.material size u is) c.next_structure there two_well.holds_still apart (λ some. (new, raised_there w one new fresh room between.steady, refl)) (λ wet. absurd (true≢false (sym fit.land ∙ wet))) in
         subst (StepsWell CanBuild build_reserve w c) (sym begun_is) (well_twice w c one (from_used one) one_well (well_twice w one two (from_used one) two_well three_well))
 
 -- ---- more of a structure is done

@@ -4,6 +4,7 @@ pub mod TurnLaws
 pub mod WantLaws
 pub mod DrawLaws
 pub mod OrderedLaws
+pub mod FindingLaws
 pub mod AtOnceLaws
 pub mod PurseLaws
 pub mod TaxLaws

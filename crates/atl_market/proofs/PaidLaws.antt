@@ -78,9 +78,9 @@ module _ (w : Planet) where
   }
 
 pub recruits_at_once : RecruitsAtOnce
-recruits_at_once readings w c os =
-    all_at_once (recruit_pots readings) w (λ n. with_recruits w) with_less_peasants (recruit_pays w) c os
-    (λ n share is. let (want, u, wanted, low, at, region) = only_takers_get (recruits_at w c) (wants_by (recruit_pots readings) w c os) c n share is in (u, at, region))
+recruits_at_once asked w c os =
+    all_at_once (recruit_pots asked) w (λ n. with_recruits w) with_less_peasants (recruit_pays w) c os
+    (λ n share is. let (want, u, wanted, low, at, region) = only_takers_get (recruits_at w c) (wants_by (recruit_pots asked) w c os) c n share is in (u, at, region))
 
 -- ---- WORK
 

@@ -8,7 +8,6 @@ use Rattle.std.proofs.lemmas.Int.{ints}
 use Rattle.std.proofs.lemmas.Bool.Decides.{nat_tests}
 use Rattle.std.proofs.Math.Nat.{div-le_self, mul-div-le, mul-le-mul_right, mul_comm}
 use Rattle.atl_tables.specs.Planet.{Planet}
-use Rattle.atl_orders.specs.Mailing.{Reading}
 use Rattle.atl_state.specs.declared.books.Entry.{Entry}
 use Rattle.atl_state.specs.declared.books.Entry.TheVariants.{Recruiting}
 use Rattle.atl_state.specs.declared.books.Thing.{Thing}
@@ -182,8 +181,8 @@ module _ (w : Planet) (c : State) (e : ℕ × ℕ) where
       by_unit None is = refl
       by_unit (Some u) is = by_region u is (get c.regions u.region)
 
-pub recruit_keeps_others : (readings : FinMap nat_cmp Reading) (w : Planet) (c : State) (os : List Written) → OthersAreNoWorse os c (shared_out (recruit_pots readings) w c os)
-recruit_keeps_others readings w c os = others_no_worse (recruit_pots readings) w (recruited_others w) c (pots_give (recruits_at w c) c) os
+pub recruit_keeps_others : (asked : FinMap nat_cmp ℕ) (w : Planet) (c : State) (os : List Written) → OthersAreNoWorse os c (shared_out (recruit_pots asked) w c os)
+recruit_keeps_others asked w c os = others_no_worse (recruit_pots asked) w (recruited_others w) c (pots_give (recruits_at w c) c) os
 
 -- ---- all steps can be taken
 
@@ -232,21 +231,21 @@ module _ (w : Planet) (c : State) where
         }),
       )
 
-  module _ (early : IsEarly w c) (readings : FinMap nat_cmp Reading) (os : List Written) (room : HaveRoom (recruit_moves most_moved) c) where
+  module _ (early : IsEarly w c) (asked : FinMap nat_cmp ℕ) (os : List Written) (room : HaveRoom (recruit_moves most_moved) c) where
     abbrev shares : List (ℕ × ℕ)
-    shares = entries (given_by (recruit_pots readings) w c os)
+    shares = entries (given_by (recruit_pots asked) w c os)
 
-    wanted_fits : (asked payable men share : ℕ) → men ≤ men_limit → share ≤ min asked (min payable (men_limit - men)) → men + share ≤ men_limit
-    wanted_fits asked payable men share fits low = omega (arith, fits, low)
+    wanted_fits : (count payable men share : ℕ) → men ≤ men_limit → share ≤ min count (min payable (men_limit - men)) → men + share ≤ men_limit
+    wanted_fits count payable men share fits low = omega (arith, fits, low)
 
-    wanted_payable : (asked money price most share : ℕ) → share ≤ min asked (min (money / price) most) → share * price ≤ money
-    wanted_payable asked money price most share low =
+    wanted_payable : (count money price most share : ℕ) → share ≤ min count (min (money / price) most) → share * price ≤ money
+    wanted_payable count money price most share low =
         let few : share ≤ money / price = omega (arith, low) in
         omega (arith, mul-le-mul_right price few, mul-div-le money price, mul_comm (money / price) price)
 
-    each_fits : Every (λ n share. CanHave (n, share)) (given_by (recruit_pots readings) w c os)
+    each_fits : Every (λ n share. CanHave (n, share)) (given_by (recruit_pots asked) w c os)
     each_fits n share is =
-        let (u, o, there, own, low) = given_is_wanted (recruit_pots readings) w c (pots_give (recruits_at w c) c) os n share is in
+        let (u, o, there, own, low) = given_is_wanted (recruit_pots asked) w c (pots_give (recruits_at w c) c) os n share is in
         (u, there, wanted_fits _ _ u.holding.men share (early.steady.numbers.units n u there).1.men low, wanted_payable _ u.holding.money w.rules.recruit_price _ share low)
 
     part : (all one : ℕ) → all / one ≤ all
@@ -258,7 +257,7 @@ module _ (w : Planet) (c : State) where
         omega (arith, few, part q.peasants w.rules.recruit_fraction)
 
     few : length shares ≤ most_units
-    few = omega (arith, few_given (recruit_pots readings) w c (pots_give (recruits_at w c) c) os, early.steady.numbers.few_units)
+    few = omega (arith, few_given (recruit_pots asked) w c (pots_give (recruits_at w c) c) os, early.steady.numbers.few_units)
 
     little : (e : Entry) (t : Thing) → moved_times (length shares) step_moves e t ≤ recruit_moves most_moved e t
     little e t = few_holdings (length shares) few Recruiting Money e t
@@ -266,14 +265,14 @@ module _ (w : Planet) (c : State) where
     pub can_share_out : CanInTurn (CanRecruit w) (recruited w) c shares
     can_share_out = all_can c shares (record {
       early = early;
-      rise = entries_rise (given_by (recruit_pots readings) w c os);
+      rise = entries_rise (given_by (recruit_pots asked) w c os);
       same = untouched c shares;
-      fits = all_pairs CanHave shares (each-from_every (λ n share. CanHave (n, share)) (given_by (recruit_pots readings) w c os) each_fits);
+      fits = all_pairs CanHave shares (each-from_every (λ n share. CanHave (n, share)) (given_by (recruit_pots asked) w c os) each_fits);
       enough = all_enough;
       room = room_less (moved_times (length shares) step_moves) (recruit_moves most_moved) c little room;
     })
 
-    pub all_recruits_leave_well : LeavesWell IsEarly (recruit_moves most_moved) w c (shared_out (recruit_pots readings) w c os)
+    pub all_recruits_leave_well : LeavesWell IsEarly (recruit_moves most_moved) w c (shared_out (recruit_pots asked) w c os)
     unfolding shared_out
     all_recruits_leave_well =
         well_within (moved_times (length shares) step_moves) (recruit_moves most_moved) w c (fold (recruited w) c shares) little

@@ -20,7 +20,7 @@ use Rattle.atl_instant.proofs.UnmailedStepLaws.{place_men}
 use Rattle.atl_instant.specs.Steps.{takes_all}
 use Rattle.atl_market.specs.Build.{begin, begin_by, begin_fault, begin_with, build_keeps, build_meaning, build_said, build_step, go_on, go_on_at, go_on_by, go_on_with, gone_on, inside_fault, is_building, outside_fault, size_added, started, with_new}
 use Rattle.atl_market.specs.Goods.{made_to, used_by, with_made, with_used}
-use Rattle.atl_market.specs.Asking.{items_asked}
+use Rattle.atl_market.specs.Asking.{asked_of, item_in}
 use Rattle.atl_market.specs.PotPhase.{PotMeaning}
 use Rattle.atl_market.specs.Produce as produce
 use Rattle.atl_market.proofs.UnmailedPotLaws.{others_items, paid_men, shared_leave}
@@ -117,10 +117,10 @@ produced_men asked w c e = by_item (get asked e.0)
     by_item (Some i) = by_kind i (slice_get w.items i)
 
 abbrev as_asked : State → Course → PotMeaning
-as_asked c m = produce.produce_pots (items_asked m.readings c (produce.produce_orders m))
+as_asked c m = produce.produce_pots (asked_of item_in c (produce.produce_tasks m))
 
 pub produce_leaves : LeavesUnmailed produce.produce_meaning produce.produce_keeps
 produce_leaves =
     shared_leave as_asked (λ c m. produce.produce_orders m)
-    (paid_men as_asked (λ c m. produce.produce_orders m) (λ w c m. produced_men (items_asked m.readings c (produce.produce_orders m)) w))
+    (paid_men as_asked (λ c m. produce.produce_orders m) (λ w c m. produced_men (asked_of item_in c (produce.produce_tasks m)) w))
     (λ w c d m. others_items produce.is_produce m c d)

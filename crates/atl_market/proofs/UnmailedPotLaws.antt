@@ -22,7 +22,8 @@ use Rattle.atl_instant.specs.declared.written.Written.{Written}
 use Rattle.atl_instant.proofs.StructureLaws.{unequal}
 use Rattle.atl_instant.proofs.UnmailedLaws.{HasItsItems, HasItsMen, HaveTheirMen, LeavesUnmailed, UnmailedAre, items_of_no_worse, men_changed, men_in_turn, men_stay, none_ordered, whole_leaves}
 use Rattle.atl_market.specs.PotPhase.{PotMeaning, event_of, events_by, given_by, pots_meaning, shared_out}
-use Rattle.atl_market.specs.Recruit.{is_recruit, recruit_keeps, recruit_meaning, recruit_orders, recruit_pots, recruits_at}
+use Rattle.atl_market.specs.Asking.{asked_of, count_in}
+use Rattle.atl_market.specs.Recruit.{is_recruit, recruit_keeps, recruit_meaning, recruit_orders, recruit_pots, recruit_tasks, recruits_at}
 use Rattle.atl_market.specs.Tax.{tax_keeps, tax_meaning, tax_orders, tax_pots, taxed, taxed_by, taxed_from}
 use Rattle.atl_market.specs.Unordered.{OthersAreNoWorse, is_ordered}
 use Rattle.atl_market.specs.Work.{earned, work_keeps, work_meaning, work_orders, work_pots, worked, worked_by}
@@ -127,11 +128,11 @@ module _ (is_of : Verb → Bool) (m : Course) where
 
 pub recruit_leaves : LeavesUnmailed recruit_meaning recruit_keeps
 recruit_leaves =
-    shared_leave (λ c m. recruit_pots m.readings) (λ c m. recruit_orders m)
+    shared_leave (λ c m. recruit_pots (asked_of count_in c (recruit_tasks m))) (λ c m. recruit_orders m)
     (λ w c m n u there none.
     record {
       unit = u;
-      there = unordered_stays (recruit_pots m.readings) w (recruited_others w) c (pots_give (recruits_at w c) c) (recruit_orders m) n u there (unordered is_recruit m n u none) ∙ there;
+      there = unordered_stays (recruit_pots (asked_of count_in c (recruit_tasks m))) w (recruited_others w) c (pots_give (recruits_at w c) c) (recruit_orders m) n u there (unordered is_recruit m n u none) ∙ there;
       spared = record { faction = refl; men = refl };
     })
     (λ w c d m. others_items is_recruit m c d)

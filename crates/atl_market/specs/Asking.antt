@@ -1,33 +1,32 @@
--- What orders ask for: the item that one names, and the number.
+-- What orders ask for: the item that one names, or the number.
 use Rattle.std.specs.Prelude.{ℕ, List, [], ◌∷◌, reverse, Option, Some, None, if◌then◌else◌}
 use Rattle.std.specs.List.{flat_map}
 use Rattle.std.specs.Ordering.{nat_cmp}
-use Rattle.std.specs.FinMap.{FinMap, from_entries, get}
+use Rattle.std.specs.FinMap.{FinMap, from_entries}
 use Rattle.atl_orders.specs.declared.order.Order.TheVariants as orders
-use Rattle.atl_orders.specs.Mailing.{Reading}
 use Rattle.atl_orders.specs.Orders.{Said}
 use Rattle.atl_state.specs.State.{State}
-use Rattle.atl_instant.specs.Course.{order_at}
-use Rattle.atl_instant.specs.Steps.{is_of_faction}
-use Rattle.atl_instant.specs.declared.written.Written.{Written}
+use Rattle.atl_instant.specs.PhaseOrders.{Task}
+use Rattle.atl_instant.specs.Steps.{is_own}
 
 -- the item that an order names, where it names one
-abbrev pub item_in : Option Said → Option ℕ
-item_in (Some (orders.Produce i)) = Some i
+abbrev pub item_in : Said → Option ℕ
+item_in (orders.Produce i) = Some i
 item_in other = None
 
 -- how many an order asks for, where it names a number
-abbrev pub count_in : Option Said → ℕ
-count_in (Some (orders.Recruit n)) = n
-count_in other = 0
+abbrev pub count_in : Said → Option ℕ
+count_in (orders.Recruit n) = Some n
+count_in other = None
 
-abbrev pub item_entry : ℕ → Option ℕ → List (ℕ × ℕ)
-item_entry n None = []
-item_entry n (Some i) = (n, i) ∷ []
+abbrev pub entry_of : (n : ℕ) → Option ℕ → List (ℕ × ℕ)
+entry_of n None = []
+entry_of n (Some what) = (n, what) ∷ []
 
-abbrev pub asked_by : FinMap nat_cmp Reading → State → Written → List (ℕ × ℕ)
-asked_by readings c o = if is_of_faction o.faction (get c.units o.unit) then item_entry o.unit (item_in (order_at readings o.faction o.place)) else []
+-- the unit of an order of its own faction, with what the order asks it for
+abbrev pub asked_by : (Said → Option ℕ) → State → Task → List (ℕ × ℕ)
+asked_by asks c t = if is_own c t then entry_of t.unit (asks t.said) else []
 
--- By unit, the item that its own faction asks it for by these orders: by the last, if there were more than one.
-abbrev pub items_asked : FinMap nat_cmp Reading → State → List Written → FinMap nat_cmp ℕ
-items_asked readings c os = from_entries (reverse (flat_map (asked_by readings c) os))
+-- By unit, what its own faction asks it for by these orders: by the last, if there were more than one.
+abbrev pub asked_of : (Said → Option ℕ) → State → List Task → FinMap nat_cmp ℕ
+asked_of asks c ts = from_entries (reverse (flat_map (asked_by asks c) ts))

@@ -2,7 +2,7 @@
 use Rattle.std.specs.Prelude.{◌≡◌, length, ◌++◌, ℕ, ◌+◌, ◌-◌, ◌*◌, ◌==◌, min, nat_le, nat_lt, not, Bool, true, false, List, [], ◌∷◌, codes, Option, Some, None, if◌then◌else◌}
 use Rattle.std.specs.Fmt.{decimal}
 use Rattle.std.specs.List.{slice_get}
-use Rattle.std.specs.FinMap.{get}
+use Rattle.std.specs.FinMap.{get, len}
 use Rattle.atl_tables.specs.Planet.{IsKind, Planet}
 use Rattle.atl_tables.specs.Sums.{sum_over}
 use Rattle.atl_tables.specs.declared.world.Kind.{Kind}
@@ -47,6 +47,10 @@ size_added k h done = min (min (h.men * level_in h k.skill) (amount_of h.items k
 
 -- ---- BUILD kind
 
+-- no further structure can come: 10,000 stand
+abbrev pub is_structure_limit : State → Bool
+is_structure_limit c = nat_le most_structures (len c.structures)
+
 -- NoMen, AtSea, NoSkill, NoMaterial, StructureLimit
 abbrev pub begin_fault : Planet → State → Unit → Kind → Option EventFault
 begin_fault w c u k = first_fault (
@@ -54,7 +58,7 @@ begin_fault w c u k = first_fault (
     ∷ (not (is_land_at w u.region), AtSea)
     ∷ (nat_lt (level_in u.holding k.skill) k.level, NoSkill)
     ∷ (amount_of u.holding.items k.material == 0, NoMaterial)
-    ∷ (nat_lt most_structures c.next_structure, StructureLimit)
+    ∷ (is_structure_limit c, StructureLimit)
     ∷ [])
 
 abbrev pub sort_of : Kind → List ℕ

@@ -8,6 +8,7 @@ pub mod PotPhase
 pub mod AtOnce
 pub mod Unordered
 pub mod Asking
+pub mod Finding
 pub mod Tax
 pub mod Recruit
 pub mod Work

@@ -5,7 +5,6 @@ use Rattle.std.specs.Ordering.{nat_cmp}
 use Rattle.std.specs.FinMap.{FinMap, get}
 use Rattle.atl_tables.specs.Planet.{Planet}
 use Rattle.atl_tables.specs.declared.world.Item.{Item}
-use Rattle.atl_orders.specs.Mailing.{Reading}
 use Rattle.atl_state.specs.declared.records.Unit.{Unit}
 use Rattle.atl_state.specs.Held.{Held, amount_of, with_amount_of}
 use Rattle.atl_state.specs.State.{State}
@@ -36,8 +35,8 @@ with_less_peasants q joined = record q { peasants = q.peasants - joined }
 -- RECRUIT: a unit has its recruits more and their price less, and a region all that joined its units less
 abbrev pub RecruitsAtOnce : Type 0
 RecruitsAtOnce =
-    (readings : FinMap nat_cmp Reading) (w : Planet) (c : State) (os : List Written)
-    → PaysAtOnce (recruit_pots readings) w (λ n. with_recruits w) with_less_peasants c os
+    (asked : FinMap nat_cmp ℕ) (w : Planet) (c : State) (os : List Written)
+    → PaysAtOnce (recruit_pots asked) w (λ n. with_recruits w) with_less_peasants c os
 
 abbrev pub with_less : Held → Option ℕ → (amount : ℕ) → Held
 with_less h None amount = h

@@ -12,10 +12,10 @@ use Rattle.atl_state.specs.declared.books.Thing.TheVariants as things
 use Rattle.atl_state.specs.State.{State}
 use Rattle.atl_instant.specs.Course.{Course}
 use Rattle.atl_instant.specs.Meaning.{Keeping, Meaning, Moving, most_moved}
-use Rattle.atl_instant.specs.PhaseOrders.{orders_of, written}
+use Rattle.atl_instant.specs.PhaseOrders.{Task, orders_of, written}
 use Rattle.atl_instant.specs.declared.written.Arrangement.TheVariants.{ByUnit}
 use Rattle.atl_instant.specs.declared.written.Written.{Written}
-use Rattle.atl_market.specs.Asking.{items_asked}
+use Rattle.atl_market.specs.Asking.{asked_of, item_in}
 use Rattle.atl_market.specs.PotPhase.{PotMeaning, pots_meaning}
 use Rattle.atl_market.specs.Unordered.{OthersAreNoWorse}
 use Rattle.atl_market.specs.Goods.{with_made, with_used}
@@ -28,8 +28,11 @@ is_produce verbs.Produce = true
 is_produce verb = false
 
 -- the orders of PRODUCE that stand
+abbrev pub produce_tasks : Course → List Task
+produce_tasks m = values (orders_of is_produce ByUnit m.aliases m.readings)
+
 abbrev pub produce_orders : Course → List Written
-produce_orders m = map written (values (orders_of is_produce ByUnit m.aliases m.readings))
+produce_orders m = map written (produce_tasks m)
 
 -- ---- what changes
 
@@ -61,7 +64,7 @@ produce_pots asked = record {
 }
 
 abbrev pub produce_meaning : Meaning
-produce_meaning = pots_meaning (λ c m. produce_pots (items_asked m.readings c (produce_orders m))) (λ c m. produce_orders m)
+produce_meaning = pots_meaning (λ c m. produce_pots (asked_of item_in c (produce_tasks m))) (λ c m. produce_orders m)
 
 -- what is made and what is used is of items
 abbrev pub produce_moves : ℕ → Moving

@@ -5,25 +5,24 @@ use Rattle.std.specs.FinMap.{FinMap, get, values}
 use Rattle.atl_tables.specs.Planet.{Planet}
 use Rattle.atl_orders.specs.declared.verb.Verb.{Verb}
 use Rattle.atl_orders.specs.declared.verb.Verb.TheVariants as verbs
-use Rattle.atl_orders.specs.Mailing.{Reading}
 use Rattle.atl_state.specs.declared.books.Entry.TheVariants.{Recruiting}
 use Rattle.atl_state.specs.declared.books.Thing.TheVariants.{Money}
 use Rattle.atl_state.specs.declared.event.EventFault.{EventFault}
 use Rattle.atl_state.specs.declared.event.EventFault.TheVariants.{NotEnough}
 use Rattle.atl_state.specs.declared.records.Region.{Region}
 use Rattle.atl_state.specs.declared.records.Unit.{Unit}
-use Rattle.atl_state.specs.Held.{Held}
+use Rattle.atl_state.specs.Held.{Held, amount_of}
 use Rattle.atl_state.specs.Lending.{with_holding}
 use Rattle.atl_state.specs.Limits.{men_limit}
 use Rattle.atl_state.specs.State.{State, with_amount, with_peasants}
-use Rattle.atl_instant.specs.Course.{Course, order_at}
+use Rattle.atl_instant.specs.Course.{Course}
 use Rattle.atl_instant.specs.Meaning.{Keeping, Meaning, Moving, moves_only, most_moved}
-use Rattle.atl_instant.specs.PhaseOrders.{orders_of, written}
+use Rattle.atl_instant.specs.PhaseOrders.{Task, orders_of, written}
 use Rattle.atl_instant.specs.declared.written.Arrangement.TheVariants.{ByUnit}
 use Rattle.atl_instant.specs.declared.written.Written.{Written}
 use Rattle.atl_instant.specs.Outcomes.{first_fault}
 use Rattle.atl_market.specs.Pots.{pot_shares}
-use Rattle.atl_market.specs.Asking.{count_in}
+use Rattle.atl_market.specs.Asking.{asked_of, count_in}
 use Rattle.atl_market.specs.PotPhase.{PotMeaning, pots_meaning}
 use Rattle.atl_market.specs.Unordered.{OthersAreNoWorse}
 use Rattle.atl_instant.specs.Terms.{PhaseTerms}
@@ -33,8 +32,11 @@ is_recruit verbs.Recruit = true
 is_recruit verb = false
 
 -- the orders of RECRUIT that stand
+abbrev pub recruit_tasks : Course → List Task
+recruit_tasks m = values (orders_of is_recruit ByUnit m.aliases m.readings)
+
 abbrev pub recruit_orders : Course → List Written
-recruit_orders m = map written (values (orders_of is_recruit ByUnit m.aliases m.readings))
+recruit_orders m = map written (recruit_tasks m)
 
 -- why a unit recruits nobody
 abbrev pub recruit_fault : Planet → Unit → Option EventFault
@@ -73,18 +75,18 @@ recruited_by w c e (Some u) = recruited_from w c e u (get c.regions u.region)
 unfoldable pub recruited : Planet → State → ℕ × ℕ → State
 recruited w c e = recruited_by w c e (get c.units e.0)
 
--- By what the mailings say. A unit is told how many recruits it got.
-abbrev pub recruit_pots : FinMap nat_cmp Reading → PotMeaning
-recruit_pots readings = record {
+-- By how many each unit is told to recruit. A unit is told how many recruits it got.
+abbrev pub recruit_pots : FinMap nat_cmp ℕ → PotMeaning
+recruit_pots asked = record {
   fault = λ w u o. recruit_fault w u;
-  want = λ w u o. recruits_wanted w u (count_in (order_at readings o.faction o.place));
+  want = λ w u o. recruits_wanted w u (amount_of asked o.unit);
   given = λ w c wants. pot_shares (recruits_at w c) wants c;
   told = λ w u recruits. recruits;
   paid = recruited;
 }
 
 abbrev pub recruit_meaning : Meaning
-recruit_meaning = pots_meaning (λ c m. recruit_pots m.readings) (λ c m. recruit_orders m)
+recruit_meaning = pots_meaning (λ c m. recruit_pots (asked_of count_in c (recruit_tasks m))) (λ c m. recruit_orders m)
 
 -- what is paid for recruits is of money
 abbrev pub recruit_moves : ℕ → Moving

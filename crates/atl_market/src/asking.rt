@@ -1,7 +1,8 @@
-//! What orders ask for: the item that one names, and the number.
+//! How the orders of a month are searched for what they ask for: the item that one names, or the number.
 ghost use Rattle.std.specs.Prelude.{◌≡◌, IfOk, OnOk};
 ghost use Rattle.atl_instant.specs.Course.{order_at};
-ghost use Rattle.atl_market.specs.Asking.{asked_by, count_in, item_in, items_asked};
+ghost use Rattle.atl_market.specs.Asking.{count_in, item_in};
+ghost use Rattle.atl_market.specs.Finding.{found_by, found_in, found_of};
 ghost use Rattle.atl_market.specs.Puts.{with_each};
 
 use atl_instant::{Month, Written, is_of_faction};
@@ -10,24 +11,41 @@ use atl_state::Campaign;
 use atl_tables::Numbered;
 use std::alloc::{AllocError, Global};
 
-/// How many an order asks for, where it names a number; else 0.
-pub(crate) fn count_named(month: &Month, order: Written) -> u32
-    ensures { result ≡ count_in (order_at month.now.readings order.faction order.place) }
+/// How many an order asks for, where it names a number.
+fn count_named(month: &Month, order: Written) -> Option<u32>
+    ensures { result ≡ found_in count_in (order_at month.now.readings order.faction order.place) }
 {
     match month.order(order.faction, order.place) {
-        Some((_, Order::Recruit(men))) => *men,
-        _ => 0,
+        Some((_, Order::Recruit(men))) => Some(*men),
+        _ => None,
     }
 }
 
 /// The item that an order names, where it names one.
 fn item_named(month: &Month, order: Written) -> Option<u16>
-    ensures { result ≡ item_in (order_at month.now.readings order.faction order.place) }
+    ensures { result ≡ found_in item_in (order_at month.now.readings order.faction order.place) }
 {
     match month.order(order.faction, order.place) {
         Some((_, Order::Produce(item))) => Some(*item),
         _ => None,
     }
+}
+
+/// Notes how many an order asks for, where the unit's own faction wrote it.
+fn note_count(
+    campaign: &Campaign,
+    month: &Month,
+    order: Written,
+    asked: &mut Numbered<u32>,
+) -> Result<(), AllocError>
+    ensures { OnOk result (asked.new ≡ with_each asked.old (found_by count_in month.now.readings campaign.now.what order)) }
+{
+    if is_of_faction(campaign, order.unit, order.faction)
+        && let Some(count) = count_named(month, order)
+    {
+        asked.insert(order.unit, count)?;
+    }
+    Ok(())
 }
 
 /// Notes the item of an order, where the unit's own faction wrote it.
@@ -37,7 +55,7 @@ fn note_item(
     order: Written,
     asked: &mut Numbered<u16>,
 ) -> Result<(), AllocError>
-    ensures { OnOk result (asked.new ≡ with_each asked.old (asked_by month.now.readings campaign.now.what order)) }
+    ensures { OnOk result (asked.new ≡ with_each asked.old (found_by item_in month.now.readings campaign.now.what order)) }
 {
     if is_of_faction(campaign, order.unit, order.faction)
         && let Some(item) = item_named(month, order)
@@ -47,15 +65,32 @@ fn note_item(
     Ok(())
 }
 
+/// By unit, how many its own faction asks it for by these orders.
+#[tactic(auto, using(crate::proofs::WantLaws::appended_entries))]
+pub(crate) fn counts_found(
+    alloc: Global,
+    campaign: &Campaign,
+    month: &Month,
+    orders: &[Written],
+) -> Result<Numbered<u32>, AllocError>
+    ensures { IfOk result (λ asked. asked ≡ found_of count_in month.now.readings campaign.now.what orders.now) }
+{
+    let mut asked = Numbered::new(alloc);
+    for order in orders {
+        note_count(campaign, month, *order, &mut asked)?;
+    }
+    Ok(asked)
+}
+
 /// By unit, the item that its own faction asks it for by these orders.
 #[tactic(auto, using(crate::proofs::WantLaws::appended_entries))]
-pub(crate) fn items_asked(
+pub(crate) fn items_found(
     alloc: Global,
     campaign: &Campaign,
     month: &Month,
     orders: &[Written],
 ) -> Result<Numbered<u16>, AllocError>
-    ensures { IfOk result (λ asked. asked ≡ items_asked month.now.readings campaign.now.what orders.now) }
+    ensures { IfOk result (λ asked. asked ≡ found_of item_in month.now.readings campaign.now.what orders.now) }
 {
     let mut asked = Numbered::new(alloc);
     for order in orders {

@@ -5,12 +5,12 @@ ghost use Rattle.std.specs.Fmt.{decimal};
 ghost use Rattle.std.specs.List.{slice_get};
 ghost use Rattle.std.specs.Option.{option_copied};
 ghost use Rattle.atl_state.specs.Covers.{MarksChanges};
-ghost use Rattle.atl_state.specs.Good.{IsSteady};
+ghost use Rattle.atl_state.specs.Good.{IsNumbered, IsSteady};
 ghost use Rattle.atl_state.specs.Limits.{last_unit, most_structures};
 ghost use Rattle.atl_state.specs.declared.records.Unit.{Unit};
 ghost use Rattle.atl_instant.specs.Meaning.{HaveRoom};
 ghost use Rattle.atl_instant.specs.Steps.{takes_all};
-ghost use Rattle.atl_market.specs.Build.{CanBuild, begin, begin_fault, build_keeps, build_meaning, build_moves, build_reserve, build_step, go_on, gone_on, inside_fault, is_building, outside_fault, size_added, sort_of, started, with_new};
+ghost use Rattle.atl_market.specs.Build.{CanBuild, begin, begin_fault, build_keeps, build_meaning, build_moves, build_reserve, build_step, go_on, gone_on, inside_fault, is_building, is_structure_limit, outside_fault, size_added, sort_of, started, with_new};
 ghost use Rattle.atl_market.specs.Goods.{CanUse};
 
 use crate::goods::use_item;
@@ -42,8 +42,18 @@ fn size_added(kind: &Kind, holding: &Holding, done: u32) -> u32
     work.min(material).min(kind.size.saturating_sub(done))
 }
 
+/// Whether no further structure can come: the structures are numbered from 1 without a gap, so that the next number tells
+/// how many stand.
+fn is_structure_limit(campaign: &Campaign) -> bool
+    requires { IsNumbered campaign.now.what.structures campaign.now.what.next_structure }
+    ensures { result ≡ is_structure_limit campaign.now.what }
+{
+    campaign.next_structure() > MOST_STRUCTURES
+}
+
 /// Why a unit doesn't begin a structure of a kind.
 fn begin_fault(world: &World, campaign: &Campaign, unit: &Unit, kind: &Kind) -> Option<EventFault>
+    requires { IsNumbered campaign.now.what.structures campaign.now.what.next_structure }
     ensures { result ≡ begin_fault world.now campaign.now.what unit.now kind.now }
 {
     if unit.holding.men() == 0 {
@@ -54,7 +64,7 @@ fn begin_fault(world: &World, campaign: &Campaign, unit: &Unit, kind: &Kind) -> 
         Some(EventFault::NoSkill)
     } else if unit.holding.amount(u32::from(kind.material)) == 0 {
         Some(EventFault::NoMaterial)
-    } else if campaign.next_structure() > MOST_STRUCTURES {
+    } else if is_structure_limit(campaign) {
         Some(EventFault::StructureLimit)
     } else {
         None

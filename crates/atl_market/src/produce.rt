@@ -1,12 +1,14 @@
 //! PRODUCE: units make items, of raw items or of what the terrain of their region gives.
+ghost use Rattle.std.specs.Prelude.{◌≡◌, IfOk};
 ghost use Rattle.atl_tables.specs.Planet.{IsWorld};
 ghost use Rattle.atl_state.specs.Good.{IsSteady};
 ghost use Rattle.atl_instant.specs.Meaning.{most_moved};
 ghost use Rattle.atl_market.specs.Making.{CanProduce};
-ghost use Rattle.atl_market.specs.Produce.{is_produce, produce_keeps, produce_meaning, produce_moves, produce_pots, produced};
+ghost use Rattle.atl_market.specs.Asking.{asked_of, item_in};
+ghost use Rattle.atl_market.specs.Produce.{is_produce, produce_keeps, produce_meaning, produce_moves, produce_orders, produce_pots, produce_tasks, produced};
 ghost use Rattle.atl_market.specs.Paid.{ProducesAtOnce};
 
-use crate::asking::items_asked;
+use crate::asking::items_found;
 use crate::making::{can_make, make, make_fault};
 use crate::outputs::makes;
 use crate::pot_phase::{PotPhase, share_out, tell_all};
@@ -76,6 +78,20 @@ impl<'a> PotPhase for MailedProducing<'a> {
             None => Ok(()),
         }
     }
+}
+
+/// By unit, the item that its own faction tells it to make by the orders of a month.
+fn items_asked(
+    alloc: Global,
+    campaign: &Campaign,
+    month: &Month,
+    orders: &[Written],
+) -> Result<Numbered<u16>, AllocError>
+    requires { orders.now ≡ produce_orders month.now }
+    ensures { IfOk result (λ asked. asked ≡ asked_of item_in campaign.now.what (produce_tasks month.now)) }
+{
+    let asked = items_found(alloc, campaign, month, orders)?;
+    Ok(asked)
 }
 
 /// Does nothing. Its clause is what is so of every world.

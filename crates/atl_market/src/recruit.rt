@@ -1,5 +1,5 @@
 //! RECRUIT: peasants of a region join its units, at a price.
-ghost use Rattle.std.specs.Prelude.{ℕ, pos, neg_ℤ, ◌≡◌, ◌≤◌, ◌+◌, ◌*◌, Some};
+ghost use Rattle.std.specs.Prelude.{ℕ, pos, neg_ℤ, ◌≡◌, ◌≤◌, ◌+◌, ◌*◌, IfOk, Some};
 ghost use Rattle.std.specs.FinMap as finmap;
 ghost use Rattle.atl_state.specs.declared.books.Entry.TheVariants.{Recruiting};
 ghost use Rattle.atl_state.specs.declared.books.Thing.TheVariants.{Money};
@@ -10,11 +10,12 @@ ghost use Rattle.atl_state.specs.Lending.{lent};
 ghost use Rattle.atl_state.specs.Limits.{holding_limit, men_limit};
 ghost use Rattle.atl_state.specs.State.{with_amount, with_peasants};
 ghost use Rattle.atl_instant.specs.Meaning.{HaveRoom, most_moved};
-ghost use Rattle.atl_market.specs.Recruit.{is_recruit, recruit_keeps, recruit_meaning, recruit_moves, recruit_pots, recruited, recruits_at, with_men};
+ghost use Rattle.atl_market.specs.Asking.{asked_of, count_in};
+ghost use Rattle.atl_market.specs.Recruit.{is_recruit, recruit_keeps, recruit_meaning, recruit_moves, recruit_orders, recruit_pots, recruit_tasks, recruited, recruits_at, with_men};
 ghost use Rattle.atl_market.specs.Payable.{CanRecruit};
 ghost use Rattle.atl_market.specs.Paid.{RecruitsAtOnce};
 
-use crate::asking::count_named;
+use crate::asking::counts_found;
 use crate::pot_phase::{PotPhase, share_out, tell_all};
 use crate::pots::{Pots, pot_shares};
 use atl_instant::{Arrangement, Month, Phase, PhaseVerbs, Written, book_taken};
@@ -35,10 +36,10 @@ impl PhaseVerbs for RecruitPhase {
     }
 }
 
-/// Recruiting by the orders of a month.
+/// Recruiting by how many each unit is told to recruit.
 #[derive(Drop, Clone, Copy)]
 struct MailedRecruiting<'a> {
-    month: &'a Month,
+    asked: &'a Numbered<u32>,
 }
 
 /// How many peasants can be recruited in the regions.
@@ -97,7 +98,7 @@ fn leave_region(campaign: &mut Campaign, region: u32, peasants: u32, cost: u32)
 }
 
 impl<'a> PotPhase for MailedRecruiting<'a> {
-    ghost meaning = { λ p. recruit_pots p.month.now.readings };
+    ghost meaning = { λ p. recruit_pots p.asked.now };
 
     ghost needs = { λ _. IsEarly };
 
@@ -114,7 +115,8 @@ impl<'a> PotPhase for MailedRecruiting<'a> {
     fn want(&self, world: &World, unit: &Unit, order: Written) -> u32 {
         let payable = unit.holding.money() / world.rules().recruit_price;
         let room = MEN_LIMIT - unit.holding.men();
-        count_named(self.month, order).min(payable.min(room))
+        let asked = self.asked.get(order.unit).copied().unwrap_or(0);
+        asked.min(payable.min(room))
     }
 
     fn given(
@@ -154,6 +156,20 @@ impl<'a> PotPhase for MailedRecruiting<'a> {
     }
 }
 
+/// By unit, how many its own faction tells it to recruit by the orders of a month.
+fn men_asked(
+    alloc: Global,
+    campaign: &Campaign,
+    month: &Month,
+    orders: &[Written],
+) -> Result<Numbered<u32>, AllocError>
+    requires { orders.now ≡ recruit_orders month.now }
+    ensures { IfOk result (λ asked. asked ≡ asked_of count_in campaign.now.what (recruit_tasks month.now)) }
+{
+    let asked = counts_found(alloc, campaign, month, orders)?;
+    Ok(asked)
+}
+
 impl Phase for RecruitPhase {
     ghost meaning = { recruit_meaning };
 
@@ -173,7 +189,8 @@ impl Phase for RecruitPhase {
         mut month: Month,
     ) -> Result<(Campaign, Month), AllocError> {
         let orders = month.orders(alloc, self, Arrangement::ByUnit)?;
-        let recruiting = MailedRecruiting { month: &month };
+        let asked = men_asked(alloc, &campaign, &month, &orders)?;
+        let recruiting = MailedRecruiting { asked: &asked };
         let events = share_out(alloc, &recruiting, world, &mut campaign, &orders)?;
         tell_all(&mut month, &events)?;
         Ok((campaign, month))

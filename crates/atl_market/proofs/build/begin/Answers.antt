@@ -1,7 +1,7 @@
 use Rattle.std.proofs.Common.{◌≡◌, None, Some, sym}
 use Rattle.std.specs.List.{slice_get}
 use Rattle.atl_market.specs.Build.{begin_fault, size_added}
-use Rattle.atl_market.proofs.BuildLaws.{begin_done, can_use, size_held}
+use Rattle.atl_market.proofs.BuildLaws.{begin_done, can_begin, can_use, next_within, size_held}
 use Rattle.atl_market.proofs.build.begin.Goals as goal
 
 pub start-requires-clause-uses : goal.start-requires-clause-uses
@@ -12,6 +12,14 @@ start-requires-clause-uses c =
     let kind_is : slice_get w.kinds c.args.kind ≡ Some k = sym c.in-Some-kind_of.ensures in
     rw c.size_added-size.ensures
     (can_use w c.args.campaign.now.what c.args.number k.material (size_added k u.holding 0) u (sym c.in-Some.ensures) (size_held k u.holding 0) (c.requires.can.kinds c.args.kind k kind_is).material c.requires.can c.requires.room)
+
+pub begin_fault-requires : goal.begin_fault-requires
+begin_fault-requires c = c.requires.can.steady.next.structures
+
+pub start-requires-clause-room : goal.start-requires-clause-room
+start-requires-clause-room c =
+    let none : begin_fault c.args.world.now c.args.campaign.now.what c.in-Some.unit.now c.in-Some-kind_of.found.now ≡ None = sym c.in_default-begin_fault.ensures in
+    next_within c.args.campaign.now.what c.requires.can.steady.next.structures (can_begin c.args.world.now c.args.campaign.now.what c.in-Some.unit.now c.in-Some-kind_of.found.now none).room
 
 pub returns-clause-what : goal.returns-clause-what
 returns-clause-what c =

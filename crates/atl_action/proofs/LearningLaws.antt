@@ -1,0 +1,87 @@
+-- Who is learning: those whom an order of STUDY that stands has learn.
+use Rattle.std.proofs.Common.{◌≡◌, ℕ, Bool, true, false, cond, List, [], ◌∷◌, Option, Some, None, refl, sym, ap, subst, ◌∙◌}
+use Rattle.std.specs.Prelude.{fold, if◌then◌else◌}
+use Rattle.std.specs.List.{AllByRecursion, Contains}
+use Rattle.std.specs.Ordering.{nat_cmp, eq_by_cmp}
+use Rattle.std.specs.Cmp.{nat_cmp_total}
+use Rattle.std.specs.FinMap.{empty, get, get-insert, insert}
+use Rattle.std.proofs.lemmas.List.Elements.{All-contains, All-contains_itself, All-from_recursion, recursion_from_All}
+use Rattle.atl_tables.specs.Planet.{Planet}
+use Rattle.atl_state.specs.Good.{Every, IsThere}
+use Rattle.atl_state.specs.State.{State}
+use Rattle.atl_state.proofs.EveryLaws.{every-empty, every-insert}
+use Rattle.atl_state.proofs.RegionLaws.{get-insert_same}
+use Rattle.atl_instant.specs.Course.{Course}
+use Rattle.atl_instant.specs.PhaseOrders.{Task}
+use Rattle.atl_action.specs.Learners.{IsLearning, Learning, UnitsLearnByOrders, learners, learns, skill_of, study_tasks, with_learner, with_skill}
+
+module _ (w : Planet) (c : State) where
+  -- what is so of a unit and a skill wherever an order has it learn that
+  abbrev IfLearns : (ℕ → ℕ → Type 0) → Task → Type 0
+  IfLearns P t = (s : ℕ) → skill_of t.said ≡ Some s → learns w s t.faction (get c.units t.unit) ≡ true → P t.unit s
+
+  only_one : (P : ℕ → ℕ → Type 0) (t : Task) (learning : Learning) → IfLearns P t → Every P learning → Every P (with_learner w c learning t)
+  only_one P t learning so old = by_skill (skill_of t.said) refl
+    where
+      by_test : (s : ℕ) → skill_of t.said ≡ Some s → (b : Bool) → learns w s t.faction (get c.units t.unit) ≡ b → Every P (if b then insert learning t.unit s else learning)
+      by_test s says true can = every-insert P learning t.unit s (so s says can) old
+      by_test s says false can = old
+
+      by_skill : (o : Option ℕ) → skill_of t.said ≡ o → Every P (with_skill w c learning t o)
+      by_skill None says = old
+      by_skill (Some s) says = by_test s says (learns w s t.faction (get c.units t.unit)) refl
+
+  only_all : (P : ℕ → ℕ → Type 0) (ts : List Task) (learning : Learning) → AllByRecursion (IfLearns P) ts → Every P learning → Every P (fold (with_learner w c) learning ts)
+  only_all P [] learning so old = old
+  only_all P (t ∷ ts) learning so old = only_all P ts (with_learner w c learning t) so.1 (only_one P t learning so.0 old)
+
+  -- who is learning stays so
+  there-insert : (learning : Learning) (k s n : ℕ) → IsThere learning n → IsThere (insert learning k s) n
+  there-insert learning k s n (x, there) = by_test (eq_by_cmp nat_cmp n k) refl
+    where
+      by_test : (b : Bool) → eq_by_cmp nat_cmp n k ≡ b → IsThere (insert learning k s) n
+      by_test true is = (s, get-insert nat_cmp_total learning k s n ∙ ap (λ b. cond b (Some s) (get learning n)) is)
+      by_test false is = (x, get-insert nat_cmp_total learning k s n ∙ ap (λ b. cond b (Some s) (get learning n)) is ∙ there)
+
+  kept_one : (t : Task) (learning : Learning) (n : ℕ) → IsThere learning n → IsThere (with_learner w c learning t) n
+  kept_one t learning n there = by_skill (skill_of t.said)
+    where
+      by_test : (s : ℕ) (b : Bool) → IsThere (if b then insert learning t.unit s else learning) n
+      by_test s true = there-insert learning t.unit s n there
+      by_test s false = there
+
+      by_skill : (o : Option ℕ) → IsThere (with_skill w c learning t o) n
+      by_skill None = there
+      by_skill (Some s) = by_test s (learns w s t.faction (get c.units t.unit))
+
+  kept : (ts : List Task) (learning : Learning) (n : ℕ) → IsThere learning n → IsThere (fold (with_learner w c) learning ts) n
+  kept [] learning n there = there
+  kept (t ∷ ts) learning n there = kept ts (with_learner w c learning t) n (kept_one t learning n there)
+
+  added : (t : Task) (learning : Learning) → IfLearns (λ n s. IsThere (with_learner w c learning t) n) t
+  added t learning s says can =
+      subst (λ o. IsThere (with_skill w c learning t o) t.unit) (sym says)
+      (subst (λ b. IsThere (if b then insert learning t.unit s else learning) t.unit) (sym can) (s, get-insert_same learning t.unit s))
+
+  each_all : (ts : List Task) (learning : Learning) → AllByRecursion (IfLearns (λ n s. IsThere (fold (with_learner w c) learning ts) n)) ts
+  each_all [] learning = tt
+  each_all (t ∷ ts) learning =
+      let next = with_learner w c learning t in
+      ((λ s says can. kept ts next t.unit (added t learning s says can)), each_all ts next)
+
+-- by each of the orders that stand
+each_so : (w : Planet) (c : State) (m : Course) (ts : List Task) → AllByRecursion (Contains (study_tasks m)) ts → AllByRecursion (IfLearns w c (IsLearning w c m)) ts
+each_so w c m [] among = tt
+each_so w c m (t ∷ ts) among = ((λ s says can. record { order = t; stands = among.0; for_unit = refl; says = says; can = can }), each_so w c m ts among.1)
+
+pub units_learn_by_orders : UnitsLearnByOrders
+unfolding learners
+units_learn_by_orders w c m =
+    let ts = study_tasks m in
+    let stays : ℕ → ℕ → Type 0 = (λ k s. IsThere (fold (with_learner w c) empty ts) k) in
+    record {
+      only = only_all w c (IsLearning w c m) ts empty (each_so w c m ts (recursion_from_All (Contains ts) ts (All-contains_itself ts))) (every-empty (IsLearning w c m));
+      each = λ n s is.
+          let here = All-contains (IfLearns w c stays) ts is.order (All-from_recursion (IfLearns w c stays) ts (each_all w c ts empty)) is.stands in
+          subst (IsThere (fold (with_learner w c) empty ts)) is.for_unit (here s is.says (subst (λ k. learns w s is.order.faction (get c.units k) ≡ true) (sym is.for_unit) is.can));
+    }

@@ -1,0 +1,12 @@
+use Rattle.std.proofs.Common.{◌∙◌, ap}
+use Rattle.std.specs.List.{flat_map}
+use Rattle.atl_market.specs.Asking.{count_in}
+use Rattle.atl_market.specs.Finding.{found_by}
+use Rattle.atl_market.specs.Puts.{with_each}
+use Rattle.atl_market.proofs.PotLaws.{put_in_turn}
+use Rattle.atl_market.proofs.asking.counts_found.Goals as goal
+
+pub loop-order-init : goal.loop-order-init
+loop-order-init c =
+    ap (λ m. with_each m (flat_map (found_by count_in c.args.month.now.readings c.args.campaign.now.what) c.args.orders.now)) c.new-asked.ensures
+    ∙ put_in_turn (flat_map (found_by count_in c.args.month.now.readings c.args.campaign.now.what) c.args.orders.now)
