@@ -1,7 +1,7 @@
 -- Laws of heads.
-use Rattle.std.proofs.Common.{◌≡◌, ℕ, ◌≤◌, ◌<◌, ◌+◌, List, ◌++◌, length, take, drop, min, sym, ap, ◌∙◌, subst, inl, inr, refl, arith}
+use Rattle.std.proofs.Common.{◌≡◌, ℕ, ◌≤◌, ◌<◌, ◌+◌, List, [], ◌∷◌, ◌++◌, length, take, drop, min, sym, ap, ◌∙◌, subst, inl, inr, refl, arith}
 use Rattle.std.specs.Prelude.{Result, Ok, Err, IfOk}
-use Rattle.std.proofs.lemmas.List.{append_assoc, take-append-drop, drop-append-le, length-take, length-map, take_min}
+use Rattle.std.proofs.lemmas.List.{append_assoc, append-nil, take-append-drop, drop-append-le, length-take, length-map, take_min}
 use Rattle.std.proofs.Math.Seq.{take-length}
 use Rattle.httparse.specs.Grammar.{RequestHead, print_request, ReadsRequest, HasNoRequest, MayBecomeRequest}
 use Rattle.httparse.specs.Spans.{RequestExceeds, RequestOverflows, IsRequestAt, IsRequestOf, IsRequestWithin, span_bytes, header_bytes, name_and_value}
@@ -9,11 +9,14 @@ use Rattle.httparse.specs.declared.spans.HeaderSpan.{HeaderSpan}
 use Rattle.httparse.specs.declared.spans.RequestSpans.{RequestSpans}
 use Rattle.httparse.proofs.GrammarLemmas.{ReadsRequest-append}
 use Rattle.atl_http.specs.declared.problem.Problem.TheVariants.{BadRequest}
-use Rattle.atl_http.specs.declared.request.Verdict.{Verdict}
+use Rattle.atl_http.specs.declared.problem.Problem.{Problem}
+use Rattle.atl_http.specs.declared.route.Route.{Route}
+use Rattle.atl_http.specs.declared.request.SoFar.{SoFar}
+use Rattle.atl_http.specs.declared.request.SoFar.TheVariants.{Lacks, Ends}
 use Rattle.atl_http.specs.declared.request.Verdict.TheVariants.{More, Refused}
 use Rattle.atl_http.specs.Checks.{head_checks, ended, verdict_of}
-use Rattle.atl_http.specs.Finding.{seen}
-use Rattle.atl_http.specs.Heads.{most_head, most_fields, HasHead, IsRefused, IsUnfinished, Judges, whole, too_long, refused, unfinished}
+use Rattle.atl_http.specs.Finding.{seen, EndsAs}
+use Rattle.atl_http.specs.Heads.{most_head, most_fields, HasHead, IsRefused, IsUnfinished, Judges, whole, too_long, refused, unfinished, ComesTo, verdict_by}
 
 -- the bytes of a head at most, and then the others
 front_and_rest : (input : List ℕ) → take most_head input ++ drop most_head input ≡ input
@@ -47,8 +50,12 @@ whole_head input headers spans head lies at room =
       fields = few_fields front headers spans head at room;
     }
 
-pub verdict_is : (input : List ℕ) (headers : List HeaderSpan) (spans : RequestSpans) (head : RequestHead) → IsRequestAt (take most_head input) headers spans head → ended (head_checks spans.version (span_bytes (take most_head input) spans.method) (span_bytes (take most_head input) spans.path) (seen (take most_head input) (take spans.headers headers))) (drop spans.len input) ≡ verdict_of head (drop spans.len input)
-verdict_is input headers spans head at = rw (at.version, at.method, at.path, at.fields) refl
+-- more bytes stand behind it
+pub head_stays : (input more : List ℕ) (head : RequestHead) (rest : List ℕ) → HasHead input head rest → HasHead (input ++ more) head (rest ++ more)
+head_stays input more head rest h = record { reads = ReadsRequest-append input head rest more h.reads; bytes = h.bytes; fields = h.fields }
+
+verdict_is : (input : List ℕ) (headers : List HeaderSpan) (spans : RequestSpans) (head : RequestHead) (rest : List ℕ) → IsRequestAt (take most_head input) headers spans head → ended (head_checks spans.version (span_bytes (take most_head input) spans.method) (span_bytes (take most_head input) spans.path) (seen (take most_head input) (take spans.headers headers))) rest ≡ verdict_of head rest
+verdict_is input headers spans head rest at = rw (at.version, at.method, at.path, at.fields) refl
 
 -- ---- a head that isn't one
 
@@ -76,8 +83,12 @@ short_front input h none goes_on =
 
 -- ---- what the parser tells of the front
 
-pub judges_whole : (input front method target rest : List ℕ) (headers fields : List HeaderSpan) (spans : RequestSpans) (verdict : Verdict) → front ≡ take most_head input → IsRequestWithin front headers spans × IsRequestOf front headers spans → length headers ≡ most_fields → method ≡ span_bytes front spans.method → target ≡ span_bytes front spans.path → fields ≡ take spans.headers headers → rest ≡ drop spans.len input → verdict ≡ ended (head_checks spans.version method target (seen front fields)) rest → Judges input verdict
-judges_whole input front method target rest headers fields spans verdict e (lies, (head, at)) room method_is target_is fields_are rest_is is =
+-- a head was found, of these checks, and these bytes behind it
+abbrev Finds : (input rest : List ℕ) → Result (Route × ℕ × List ℕ) Problem → Type 0
+Finds input rest checks = (head : RequestHead) × HasHead input head rest × ((behind : List ℕ) → ended checks behind ≡ verdict_of head behind)
+
+pub finds_head : (input front method target rest : List ℕ) (headers fields : List HeaderSpan) (spans : RequestSpans) → front ≡ take most_head input → IsRequestWithin front headers spans × IsRequestOf front headers spans → length headers ≡ most_fields → method ≡ span_bytes front spans.method → target ≡ span_bytes front spans.path → fields ≡ take spans.headers headers → rest ≡ drop spans.len input → Finds input rest (head_checks spans.version method target (seen front fields))
+finds_head input front method target rest headers fields spans e (lies, (head, at)) room method_is target_is fields_are rest_is =
     let at_front : IsRequestAt (take most_head input) headers spans head = subst (λ l. IsRequestAt l headers spans head) e at in
     let lies_front : IsRequestWithin (take most_head input) headers spans = subst (λ l. IsRequestWithin l headers spans) e lies in
     let checked : head_checks spans.version method target (seen front fields) ≡ head_checks spans.version (span_bytes (take most_head input) spans.method) (span_bytes (take most_head input) spans.path) (seen (take most_head input) (take spans.headers headers)) =
@@ -85,16 +96,25 @@ judges_whole input front method target rest headers fields spans verdict e (lies
     ∙ ap (λ t. head_checks spans.version (span_bytes front spans.method) t (seen front fields)) target_is
     ∙ ap (λ fs. head_checks spans.version (span_bytes front spans.method) (span_bytes front spans.path) (seen front fs)) fields_are
     ∙ ap (λ l. head_checks spans.version (span_bytes l spans.method) (span_bytes l spans.path) (seen l (take spans.headers headers))) e in
-    let parts_are : ended (head_checks spans.version method target (seen front fields)) rest ≡ ended (head_checks spans.version (span_bytes (take most_head input) spans.method) (span_bytes (take most_head input) spans.path) (seen (take most_head input) (take spans.headers headers))) (drop spans.len input) =
-    ap (λ r. ended r rest) checked
-    ∙ ap (λ l. ended (head_checks spans.version (span_bytes (take most_head input) spans.method) (span_bytes (take most_head input) spans.path) (seen (take most_head input) (take spans.headers headers))) l) rest_is in
-    whole head (drop spans.len input) (whole_head input headers spans head lies_front at_front room) (is ∙ parts_are ∙ verdict_is input headers spans head at_front)
+    (head, subst (λ l. HasHead input head l) (sym rest_is) (whole_head input headers spans head lies_front at_front room), λ behind. ap (λ c. ended c behind) checked ∙ verdict_is input headers spans head behind at_front)
+
+pub comes_whole : (input rest : List ℕ) (checks : Result (Route × ℕ × List ℕ) Problem) (told : SoFar) → Finds input rest checks → EndsAs checks rest told → ComesTo input told
+comes_whole input rest checks (Ends outcome) (head, has, same) e = whole head rest has (e ∙ same rest)
+comes_whole input rest checks (Lacks count) (head, has, same) (some, short) = (some, λ more few. whole head (rest ++ more) (head_stays input more head rest has) (sym (short more few) ∙ same (rest ++ more)))
 
 pub judges_refused : (input front : List ℕ) → front ≡ take most_head input → IsRefused front → Judges input (Refused BadRequest)
 judges_refused input front e h = refused (front_refused input (subst IsRefused e h)) refl
 
-pub judges_more : (input front : List ℕ) → front ≡ take most_head input → length input < most_head → HasNoRequest front × MayBecomeRequest front → Judges input More
+judges_more : (input front : List ℕ) → front ≡ take most_head input → length input < most_head → HasNoRequest front × MayBecomeRequest front → Judges input More
 judges_more input front e h (none, goes_on) = unfinished (short_front input h (subst HasNoRequest e none) (subst MayBecomeRequest e goes_on)) refl
+
+-- with no byte more nothing changes
+short_by_one : (input : List ℕ) → Judges input More → (more : List ℕ) → length more < 1 → Judges (input ++ more) More
+short_by_one input h [] few = subst (λ l. Judges l More) (sym (append-nil input)) h
+short_by_one input h (x ∷ more) few = absurd (omega (arith, few))
+
+pub lacks_one : (input front : List ℕ) → front ≡ take most_head input → length input < most_head → HasNoRequest front × MayBecomeRequest front → ComesTo input (Lacks 1)
+lacks_one input front e h unfinished_front = (omega arith, short_by_one input (judges_more input front e h unfinished_front))
 
 pub judges_too_long : (input front : List ℕ) → front ≡ take most_head input → most_head ≤ length input → HasNoRequest front × MayBecomeRequest front → Judges input (Refused BadRequest)
 judges_too_long input front e h unfinished_front = too_long (h, subst HasNoRequest e unfinished_front.0) refl
@@ -102,3 +122,8 @@ judges_too_long input front e h unfinished_front = too_long (h, subst HasNoReque
 pub if_ok : {T E : Type 0} {P Q : T → Type 0} (r : Result T E) → ((x : T) → P x → Q x) → IfOk r P → IfOk r Q
 if_ok (Ok x) f h = f x h
 if_ok (Err e) f h = tt
+
+-- what is lacking is more than nothing
+pub judges_by : (input : List ℕ) (told : SoFar) → ComesTo input told → Judges input (verdict_by told)
+judges_by input (Ends outcome) h = h
+judges_by input (Lacks count) (some, short) = subst (λ l. Judges l More) (append-nil input) (short [] some)

@@ -1,14 +1,15 @@
 -- Laws of what was read and written so far.
-use Rattle.std.proofs.Common.{◌≡◌, ℕ, ◌+◌, ◌≤◌, List, [], ◌++◌, length, take, drop, Option, Some, None, sym, ap, ◌∙◌, subst, inr, arith}
+use Rattle.std.proofs.Common.{◌≡◌, ℕ, ◌+◌, ◌-◌, ◌≤◌, ◌<◌, List, [], ◌++◌, length, take, drop, Option, Some, None, sym, ap, ◌∙◌, subst, inr, arith}
 use Rattle.std.specs.Io.KnownBytes.{Keeps, Appends, Consumes}
-use Rattle.std.proofs.lemmas.List.{append_assoc, append-nil}
+use Rattle.std.proofs.lemmas.List.{append_assoc, append-nil, length-append}
 use Rattle.std.specs.Prelude.{Ok, Err}
 use Rattle.atl_http.specs.declared.moving.HttpFault.{HttpFault}
 use Rattle.atl_http.specs.declared.moving.HttpFault.TheVariants.{Cut, ReadFault, WriteFault, Memory}
 use Rattle.atl_http.specs.declared.request.Verdict.TheVariants.{More}
-use Rattle.atl_http.specs.Heads.{Judges, IsReadSoFar}
-use Rattle.atl_http.specs.declared.request.Outcome.{Outcome}
-use Rattle.atl_http.specs.Moving.{ReadsMore, ComesTo, Receives}
+use Rattle.atl_http.specs.Heads.{Judges, IsReadSoFar, IsShortBy, ComesTo}
+use Rattle.atl_http.specs.declared.request.SoFar.{SoFar}
+use Rattle.atl_http.specs.declared.request.SoFar.TheVariants.{Lacks}
+use Rattle.atl_http.specs.Moving.{ReadsMore, Receives}
 use Rattle.std.proofs.Math.Seq.{take-add, take-length}
 
 -- what was read, and then a piece
@@ -72,8 +73,8 @@ stopped before between after seen new ReadFault h judged (kept, same) =
 stopped before between after seen new WriteFault h judged none = absurd none
 stopped before between after seen new Memory h judged done = tt
 
-pub went_on : (before between after : Option (List ℕ)) (seen new : List ℕ) (done : Unit {0}) → Consumes before between seen → ReadsMore between after seen new (Ok done) → Consumes before after new
-went_on before between after seen new done h (piece, few, more, same) = subst (λ l. Consumes before after l) (sym same) (consumes_more before between after seen piece h more)
+pub went_on : (before between after : Option (List ℕ)) (seen new : List ℕ) (count : ℕ) → Consumes before between seen → ReadsMore between after seen new (Ok count) → Consumes before after new
+went_on before between after seen new count h (piece, is, few, more, same) = subst (λ l. Consumes before after l) (sym same) (consumes_more before between after seen piece h more)
 
 -- nothing was read
 pub consumes_nothing : (before : Option (List ℕ)) (seen : List ℕ) → seen ≡ [] → Consumes before before seen
@@ -81,9 +82,23 @@ consumes_nothing None seen e = tt
 consumes_nothing (Some xs) seen e = ap (λ l. l ++ xs) (sym e)
 
 -- what was seen is read so far, if the bytes before the last piece were no whole request
-pub read_so_far : (between after : Option (List ℕ)) (seen new : List ℕ) (done : Unit {0}) → Judges seen More → ReadsMore between after seen new (Ok done) → IsReadSoFar new
-read_so_far between after seen new done h (piece, few, more, same) = inr (seen, piece, same, few, h)
+pub read_so_far : (between after : Option (List ℕ)) (seen new : List ℕ) (count : ℕ) → Judges seen More → ReadsMore between after seen new (Ok count) → IsReadSoFar new
+read_so_far between after seen new count h (piece, is, few, more, same) = inr (seen, piece, same, omega (arith, is, few), h)
 
--- what has come is no whole request
-pub no_outcome : (seen items : List ℕ) (told : Option Outcome) → seen ≡ items → told ≡ None → ComesTo seen told → Judges items More
-no_outcome seen items told e f h = subst (λ l. Judges l More) e (subst (ComesTo seen) f h)
+-- ---- what is lacking
+
+-- the bytes that have come lack so many, at least one
+pub lacks : (seen items : List ℕ) (told : SoFar) (count : ℕ) → seen ≡ items → told ≡ Lacks count → ComesTo seen told → ComesTo items (Lacks count)
+lacks seen items told count e f h = subst (λ l. ComesTo l (Lacks count)) e (subst (ComesTo seen) f h)
+
+pub no_outcome : (items : List ℕ) (count : ℕ) → ComesTo items (Lacks count) → Judges items More
+no_outcome items count (some, short) = subst (λ l. Judges l More) (append-nil items) (short [] some)
+
+-- a piece came, and is lacking no more
+pub short_by_less : (between after : Option (List ℕ)) (seen new : List ℕ) (lacking count : ℕ) → ComesTo seen (Lacks lacking) → ReadsMore between after seen new (Ok count) → IsShortBy new (lacking - count)
+short_by_less between after seen new lacking count (some, short) (piece, is, few, came, same) more fewer =
+    let together : length (piece ++ more) < lacking = (let k = length-append piece more in omega (arith, k, is, fewer)) in
+    subst (λ l. Judges l More) (sym (append_assoc seen piece more) ∙ ap (λ l. l ++ more) (sym same)) (short (piece ++ more) together)
+
+pub short_still : (seen items : List ℕ) (count : ℕ) → seen ≡ items → IsShortBy items count → IsShortBy seen count
+short_still seen items count e short = subst (λ l. IsShortBy l count) (sym e) short

@@ -13,12 +13,9 @@ use Rattle.atl_http.specs.declared.request.Verdict.TheVariants.{More}
 use Rattle.atl_http.specs.Checks.{ended, told, request_of, verdict_of, head_checks}
 use Rattle.atl_http.specs.Fields.{fields_of}
 use Rattle.atl_http.specs.Heads.{most_head, HasHead, IsRefused, IsTooLong, Judges, whole, too_long, refused, unfinished, IsFinal}
-use Rattle.atl_http.proofs.HeadLaws.{refused_stays}
+use Rattle.atl_http.proofs.HeadLaws.{head_stays, refused_stays}
 
 -- ---- more bytes
-
-pub head_stays : (input more : List ℕ) (head : RequestHead) (rest : List ℕ) → HasHead input head rest → HasHead (input ++ more) head (rest ++ more)
-head_stays input more head rest h = record { reads = ReadsRequest-append input head rest more h.reads; bytes = h.bytes; fields = h.fields }
 
 -- a body that is whole stays what it is
 ended_at : (short : Bool) (route : Route) (size : ℕ) (pass rest more : List ℕ) → nat_lt (length rest) size ≡ short → IsFinal (cond short More (told (request_of route pass (take size rest)))) → cond (nat_lt (length (rest ++ more)) size) More (told (request_of route pass (take size (rest ++ more)))) ≡ cond short More (told (request_of route pass (take size rest)))

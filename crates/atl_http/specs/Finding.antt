@@ -1,12 +1,17 @@
 -- For proofs alone: what was found of the values of a name, and what a list of fields is seen as.
-use Rattle.std.specs.Prelude.{◌≡◌, ℕ, List, [], ◌∷◌, length, map, Result, Ok, Err, ⊤}
+use Rattle.std.specs.Prelude.{◌≡◌, ◌<◌, ℕ, List, [], ◌∷◌, ◌++◌, length, map, Result, Ok, Err, ⊤}
 use Rattle.httparse.specs.declared.spans.Span.{Span}
 use Rattle.httparse.specs.declared.spans.HeaderSpan.{HeaderSpan}
 use Rattle.httparse.specs.Spans.{span_bytes, header_bytes, IsWithin, IsRequestWithin, IsRequestOf}
 use Rattle.httparse.specs.Grammar.{HasNoRequest, MayBecomeRequest}
 use Rattle.atl_http.specs.declared.judging.Front.{Front}
 use Rattle.atl_http.specs.declared.judging.Front.TheVariants.{Whole, Partial, Refused}
-use Rattle.atl_http.specs.Heads.{IsRefused}
+use Rattle.atl_http.specs.Checks.{ended}
+use Rattle.atl_http.specs.Heads.{IsRefused, final}
+use Rattle.atl_http.specs.declared.route.Route.{Route}
+use Rattle.atl_http.specs.declared.request.SoFar.{SoFar}
+use Rattle.atl_http.specs.declared.request.SoFar.TheVariants.{Lacks, Ends}
+use Rattle.atl_http.specs.declared.request.Verdict.TheVariants.{More}
 use Rattle.atl_http.specs.declared.fields.Found.{Found}
 use Rattle.atl_http.specs.declared.fields.Found.TheVariants.{Nowhere, Once, Several}
 use Rattle.atl_http.specs.declared.problem.Problem.{Problem}
@@ -38,6 +43,11 @@ Fails (Failed problem) read = read ≡ Err problem
 abbrev pub Gives : {X Y : Type 0} → (X → Y) → Result X Stopped → Result Y Problem → Type 0
 Gives view (Ok x) read = read ≡ Ok (view x)
 Gives view (Err e) read = Fails e read
+
+-- what a head of these checks comes to with the bytes behind it, or how many more it lacks
+abbrev pub EndsAs : Result (Route × ℕ × List ℕ) Problem → (rest : List ℕ) → SoFar → Type 0
+EndsAs checks rest (Lacks count) = (0 < count) × ((more : List ℕ) → length more < count → ended checks (rest ++ more) ≡ More)
+EndsAs checks rest (Ends outcome) = final outcome ≡ ended checks rest
 
 -- what is told of a head at the front of the input
 abbrev pub TellsFront : List ℕ → List HeaderSpan → Front → Type 0

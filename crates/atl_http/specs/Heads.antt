@@ -7,6 +7,8 @@ use Rattle.atl_http.specs.declared.request.Verdict.{Verdict}
 use Rattle.atl_http.specs.declared.request.Verdict.TheVariants.{More, Refused, Asks}
 use Rattle.atl_http.specs.declared.request.Outcome.{Outcome}
 use Rattle.atl_http.specs.declared.request.Outcome.TheVariants as outcome
+use Rattle.atl_http.specs.declared.request.SoFar.{SoFar}
+use Rattle.atl_http.specs.declared.request.SoFar.TheVariants as so_far
 use Rattle.atl_http.specs.Checks.{verdict_of}
 
 -- the most bytes of a head, its empty line among them
@@ -54,6 +56,19 @@ IsFinal (Asks asked) = ⊤
 abbrev pub final : Outcome → Verdict
 final (outcome.Refused problem) = Refused problem
 final (outcome.Asks asked) = Asks asked
+
+-- fewer bytes more than so many don't make the request whole
+abbrev pub IsShortBy : (seen : List ℕ) → (count : ℕ) → Type 0
+IsShortBy seen count = (more : List ℕ) → length more < count → Judges (seen ++ more) More
+
+-- what the bytes come to, or by how many their request is short
+abbrev pub ComesTo : (seen : List ℕ) → SoFar → Type 0
+ComesTo seen (so_far.Lacks count) = (0 < count) × IsShortBy seen count
+ComesTo seen (so_far.Ends outcome) = Judges seen (final outcome)
+
+abbrev pub verdict_by : SoFar → Verdict
+verdict_by (so_far.Lacks count) = More
+verdict_by (so_far.Ends outcome) = final outcome
 
 -- the most bytes that one read takes
 abbrev pub most_at_once : ℕ

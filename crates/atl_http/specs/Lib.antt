@@ -7,6 +7,7 @@ pub mod Heads
 pub mod Replies
 pub mod Answered
 pub mod Serving
+pub mod Calls
 pub mod Moving
 pub mod Listening
 pub mod Finding

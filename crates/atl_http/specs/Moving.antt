@@ -8,8 +8,6 @@ use Rattle.atl_http.specs.declared.dice.Dice.{Dice}
 use Rattle.atl_http.specs.declared.message.Message.{Message}
 use Rattle.atl_http.specs.declared.moving.HttpFault.{HttpFault}
 use Rattle.atl_http.specs.declared.moving.HttpFault.TheVariants.{Cut, ReadFault, WriteFault, Memory}
-use Rattle.atl_http.specs.declared.moving.Written.{Written}
-use Rattle.atl_http.specs.declared.moving.Written.TheVariants.{Taken, Interrupted, Failed}
 use Rattle.atl_http.specs.declared.request.Outcome.{Outcome}
 use Rattle.atl_http.specs.declared.request.Verdict.TheVariants.{More}
 use Rattle.atl_http.specs.Heads.{Judges, IsReadSoFar, final, most_at_once}
@@ -18,18 +16,13 @@ use Rattle.atl_http.specs.Serving.{Told}
 
 -- ---- reading
 
--- one more piece was read behind what had come, or nothing was
-abbrev pub ReadsMore : (before after : Option (List ℕ)) → (old new : List ℕ) → Result (Unit {0}) HttpFault → Type 0
-ReadsMore before after old new (Ok done) = (piece : List ℕ) × (length piece ≤ most_at_once) × Consumes before after piece × (new ≡ old ++ piece)
+-- so many bytes more were read behind what had come, or nothing was
+abbrev pub ReadsMore : (before after : Option (List ℕ)) → (old new : List ℕ) → Result ℕ HttpFault → Type 0
+ReadsMore before after old new (Ok count) = (piece : List ℕ) × (length piece ≡ count) × (count ≤ most_at_once) × Consumes before after piece × (new ≡ old ++ piece)
 ReadsMore before after old new (Err Cut) = Keeps before after × IsAtEnd after × (new ≡ old)
 ReadsMore before after old new (Err ReadFault) = Keeps before after × (new ≡ old)
 ReadsMore before after old new (Err WriteFault) = ⊥
 ReadsMore before after old new (Err Memory) = ⊤
-
--- what the bytes come to, or that their request isn't whole
-abbrev pub ComesTo : (seen : List ℕ) → Option Outcome → Type 0
-ComesTo seen None = Judges seen More
-ComesTo seen (Some outcome) = Judges seen (final outcome)
 
 -- a request was read, with all that was seen of it
 abbrev pub Receives : (before after : Option (List ℕ)) → (seen : List ℕ) → Result Outcome HttpFault → Type 0
@@ -45,18 +38,12 @@ Receives before after seen (Err Memory) = ⊤
 abbrev pub Says : Reply → Message → Type 0
 Says reply message = (message.status ≡ reply.status) × (string_bytes message.bytes ≡ bytes_of reply)
 
--- a front of the rest was written, or nothing
-abbrev pub WritesMore : (before after : Option (List ℕ)) → (rest : List ℕ) → Written → Type 0
-WritesMore before after rest (Taken count) = (0 < count) × (count ≤ length rest) × Appends before after (take count rest)
-WritesMore before after rest Interrupted = Appends before after []
-WritesMore before after rest Failed = Appends before after []
-
--- all bytes were written, or a front of them
+-- all bytes were written, or a front of them that isn't all
 abbrev pub Sends : (before after : Option (List ℕ)) → (bytes : List ℕ) → Result (Unit {0}) HttpFault → Type 0
 Sends before after bytes (Ok done) = Appends before after bytes
 Sends before after bytes (Err Cut) = ⊥
 Sends before after bytes (Err ReadFault) = ⊥
-Sends before after bytes (Err WriteFault) = (count : ℕ) × Appends before after (take count bytes)
+Sends before after bytes (Err WriteFault) = (count : ℕ) × (count < length bytes) × Appends before after (take count bytes)
 Sends before after bytes (Err Memory) = ⊥
 
 -- a request was told of, unless there was no memory; a command may have been run then

@@ -1,5 +1,5 @@
 -- What serving one request may answer and leave.
-use Rattle.std.specs.Prelude.{◌≡◌, ◌+◌, ◌⊎◌, ℕ, List, take, Option, Some, None, Result, Ok, Err}
+use Rattle.std.specs.Prelude.{◌≡◌, ◌+◌, ◌<◌, ◌⊎◌, ℕ, List, length, take, Option, Some, None, Result, Ok, Err}
 use Rattle.std.specs.FinMap.{len}
 use Rattle.std.specs.Io.KnownBytes.{Keeps, Appends, Consumes, IsAtEnd}
 use Rattle.sqlite_trees.specs.declared.store.Store.{Ghosts}
@@ -68,9 +68,9 @@ Serves g dice before after old (Err Cut) new =
 -- the reads failed before the request was whole
 Serves g dice before after old (Err ReadFault) new =
     (seen : List ℕ) × Consumes before.left after.left seen × Judges seen More × Keeps before.held after.held × (new ≡ old)
--- the writes failed
+-- the writes failed before the reply was whole
 Serves g dice before after old (Err WriteFault) new =
-    (seen : List ℕ) × (reply : Reply) × Consumes before.left after.left seen × RepliesTo g dice old seen reply new × (count : ℕ) × Appends before.held after.held (take count (bytes_of reply))
+    (seen : List ℕ) × (reply : Reply) × Consumes before.left after.left seen × RepliesTo g dice old seen reply new × (count : ℕ) × (count < length (bytes_of reply)) × Appends before.held after.held (take count (bytes_of reply))
 -- there was no memory for the request, or none for its reply
 Serves g dice before after old (Err Memory) new =
     Keeps before.held after.held

@@ -1,13 +1,13 @@
 //! What the bytes that have come of a request come to.
 ghost use Rattle.std.specs.Prelude.{◌≡◌, ◌≤◌, All, IfOk, length, take, drop};
 ghost use Rattle.httparse.specs.Spans.{IsHeaderWithin, IsRequestWithin, IsRequestOf};
-ghost use Rattle.atl_http.specs.Checks.{ended, head_checks};
-ghost use Rattle.atl_http.specs.Heads.{most_head, most_fields, Judges};
-ghost use Rattle.atl_http.specs.Finding.{seen, TellsFront};
+ghost use Rattle.atl_http.specs.Checks.{head_checks};
+ghost use Rattle.atl_http.specs.Heads.{most_head, most_fields, Judges, ComesTo};
+ghost use Rattle.atl_http.specs.Finding.{seen, EndsAs, TellsFront};
 
 use crate::checks::{head_checks, request_of};
 use crate::problem::{Problem, Stopped};
-use crate::request::Verdict;
+use crate::request::{Outcome, SoFar, Verdict};
 use httparse::Status;
 use httparse::spans::{EMPTY_HEADER_SPAN, HeaderSpan, RequestSpans, parse_request};
 use std::alloc::{AllocError, Global};
@@ -18,8 +18,9 @@ const MOST_HEAD: usize = 8_192;
 /// The most fields of a head.
 const MOST_FIELDS: usize = 32;
 
-/// What a whole head comes to, with the bytes behind it. AllocError without memory for the routes or for what is asked.
-fn verdict(
+/// What a whole head comes to with the bytes behind it, or how many more it lacks. AllocError without memory for the routes or
+/// for what is asked.
+fn ended(
     alloc: Global,
     minor: u8,
     method: &[u8],
@@ -27,23 +28,23 @@ fn verdict(
     bytes: &[u8],
     fields: &[HeaderSpan],
     rest: &[u8],
-) -> Result<Verdict, AllocError>
+) -> Result<SoFar, AllocError>
     requires { All (IsHeaderWithin (length bytes.now)) fields.now }
-    ensures { IfOk result (λ verdict. verdict ≡ ended (head_checks minor method.now target.now (seen bytes.now fields.now)) rest.now) }
+    ensures { IfOk result (EndsAs (head_checks minor method.now target.now (seen bytes.now fields.now)) rest.now) }
 {
     let wanted = match head_checks(alloc, minor, method, target, bytes, fields) {
         Ok(wanted) => wanted,
         Err(Stopped::Memory) => return Err(AllocError),
-        Err(Stopped::Failed(problem)) => return Ok(Verdict::Refused(problem)),
+        Err(Stopped::Failed(problem)) => return Ok(SoFar::Ends(Outcome::Refused(problem))),
     };
     if rest.len() < wanted.size {
-        return Ok(Verdict::More);
+        return Ok(SoFar::Lacks(wanted.size - rest.len()));
     }
     let body = &rest[..wanted.size];
     match request_of(alloc, wanted.route, wanted.pass, body) {
-        Ok(request) => Ok(Verdict::Asks(request)),
+        Ok(request) => Ok(SoFar::Ends(Outcome::Asks(request))),
         Err(Stopped::Memory) => Err(AllocError),
-        Err(Stopped::Failed(problem)) => Ok(Verdict::Refused(problem)),
+        Err(Stopped::Failed(problem)) => Ok(SoFar::Ends(Outcome::Refused(problem))),
     }
 }
 
@@ -101,32 +102,41 @@ fn judged_whole(
     front: &[u8],
     fields: &[HeaderSpan],
     head: &RequestSpans,
-) -> Result<Verdict, AllocError>
+) -> Result<SoFar, AllocError>
     requires front { front.now ≡ take most_head seen.now }
     requires within { length front.now ≤ length seen.now }
     requires room { length fields.now ≡ most_fields }
     requires tells { IsRequestWithin front.now fields.now head.now × IsRequestOf front.now fields.now head.now }
-    ensures { IfOk result (Judges seen.now) }
+    ensures { IfOk result (ComesTo seen.now) }
 {
     let method = head.method.of(front);
     let target = head.path.of(front);
     let fields = first_fields(fields, head.headers);
     let rest = behind(seen, head.len);
-    verdict(alloc, head.version, method, target, front, fields, rest)
+    ended(alloc, head.version, method, target, front, fields, rest)
 }
 
 /// What the bytes come to, with room for the fields of their head.
-fn judged_in(alloc: Global, seen: &[u8], fields: &mut [HeaderSpan]) -> Result<Verdict, AllocError>
+fn judged_in(alloc: Global, seen: &[u8], fields: &mut [HeaderSpan]) -> Result<SoFar, AllocError>
     requires { length fields.old ≡ most_fields }
-    ensures { IfOk result (Judges seen.now) }
+    ensures { IfOk result (ComesTo seen.now) }
 {
     let front = front_of(seen);
     match read_front(front, fields) {
         Front::Whole(head) => judged_whole(alloc, seen, front, fields, &head),
-        Front::Partial if seen.len() < MOST_HEAD => Ok(Verdict::More),
-        Front::Partial => Ok(Verdict::Refused(Problem::BadRequest)),
-        Front::Refused => Ok(Verdict::Refused(Problem::BadRequest)),
+        Front::Partial if seen.len() < MOST_HEAD => Ok(SoFar::Lacks(1)),
+        Front::Partial => Ok(SoFar::Ends(Outcome::Refused(Problem::BadRequest))),
+        Front::Refused => Ok(SoFar::Ends(Outcome::Refused(Problem::BadRequest))),
     }
+}
+
+/// What the bytes that have come of a request come to, or how many more it lacks: one more of a head that isn't whole, and of a body
+/// that isn't, all that are missing. AllocError as of `judged`.
+pub fn judged_so_far(alloc: Global, seen: &[u8]) -> Result<SoFar, AllocError>
+    ensures { IfOk result (ComesTo seen.now) }
+{
+    let mut fields = [EMPTY_HEADER_SPAN; MOST_FIELDS];
+    judged_in(alloc, seen, &mut fields)
 }
 
 /// What the bytes that have come of a request come to. AllocError without memory for the routes or for what is asked. See
@@ -134,6 +144,5 @@ fn judged_in(alloc: Global, seen: &[u8], fields: &mut [HeaderSpan]) -> Result<Ve
 pub fn judged(alloc: Global, seen: &[u8]) -> Result<Verdict, AllocError>
     ensures { IfOk result (Judges seen.now) }
 {
-    let mut fields = [EMPTY_HEADER_SPAN; MOST_FIELDS];
-    judged_in(alloc, seen, &mut fields)
+    Ok(judged_so_far(alloc, seen)?.verdict())
 }

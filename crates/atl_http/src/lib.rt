@@ -2,6 +2,7 @@
 #![tactic(auto)]
 
 mod answering;
+pub mod calls;
 mod checks;
 pub mod dice;
 mod fields;

@@ -1,19 +1,15 @@
 //! Reading a request in pieces, and writing a reply.
-ghost use Rattle.std.specs.Prelude.{◌≡◌, [], length, IfOk};
-ghost use Rattle.atl_http.specs.Heads.{most_at_once};
-ghost use Rattle.atl_http.specs.Moving.{ReadsMore, ComesTo, Receives, WritesMore, Sends};
+ghost use Rattle.std.specs.Prelude.{◌≡◌, ◌≤◌, ◌+◌, [], length, IfOk, OnOk};
+ghost use Rattle.atl_http.specs.Heads.{most_at_once, IsShortBy, ComesTo};
+ghost use Rattle.atl_http.specs.Calls.{most_reads, no_reads, GoesOn, EndsReading, no_writes, EndsWriting};
+ghost use Rattle.atl_http.specs.Moving.{ReadsMore, Receives, Sends};
 
-use crate::judging::{behind, judged};
-use crate::request::Outcome;
+use crate::calls::{Came, MOST_INTERRUPTED, MOST_READS, Reads, Writes, Written};
+use crate::judging::{behind, judged_so_far};
+use crate::request::{Outcome, SoFar};
 use std::alloc::{AllocError, Global};
 use std::fmt;
-use std::io::{Error, ErrorKind, Read, Write};
-
-/// The most reads for one request.
-const MOST_READS: u32 = 1_000_000;
-
-/// The most writes of one reply that may be interrupted.
-const MOST_INTERRUPTED: u32 = 1_000_000;
+use std::io::{Read, Write};
 
 /// The most bytes that one read takes.
 const MOST_AT_ONCE: usize = 8_192;
@@ -70,61 +66,47 @@ impl From<AllocError> for HttpFault {
     }
 }
 
-/// Whether an error only says that the call was interrupted.
-fn is_interrupted(error: &Error) -> bool {
-    error.kind() == ErrorKind::Interrupted
-}
-
-/// Reads once, and puts what came behind what has come. A read that is interrupted brings nothing.
-fn read_more<R: Read>(reader: &mut R, room: &mut [u8], seen: &mut Vec<u8>) -> Result<(), HttpFault>
-    requires { length room.old ≡ most_at_once }
-    ensures { ReadsMore (R.remaining reader.old) (R.remaining reader.new) seen.old.items seen.new.items result }
+/// Reads once, puts what came behind what has come, and tells how many bytes that were: none where the read was interrupted. Cut at
+/// the end of the input, ReadFault where the read fails or 1,000,000 were done before, Memory without memory for what came.
+fn read_more<R: Read>(
+    reader: &mut R,
+    reads: &mut Reads,
+    room: &mut [u8],
+    seen: &mut Vec<u8>,
+) -> Result<usize, HttpFault>
+    requires room { length room.old ≡ most_at_once }
+    requires few { reads.old.count ≤ most_reads }
+    requires goes_on { GoesOn reads.old.last }
+    ensures more { ReadsMore (R.remaining reader.old) (R.remaining reader.new) seen.old.items seen.new.items result }
+    ensures ends { EndsReading reads.new result }
+    ensures counts { OnOk result (reads.new.count ≡ reads.old.count + 1) }
 {
-    match reader.read(room) {
-        Ok(0) => Err(HttpFault::Cut),
-        Ok(count) => match seen.extend_from_slice(&room[..count]) {
-            Ok(()) => Ok(()),
-            Err(_) => Err(HttpFault::Memory),
-        },
-        Err(error) if is_interrupted(&error) => Ok(()),
-        Err(_) => Err(HttpFault::ReadFault),
+    if reads.count() == MOST_READS {
+        return Err(HttpFault::ReadFault);
     }
-}
-
-/// What became of one write.
-#[derive(Drop, Clone, Copy)]
-pub enum Written {
-    /// So many bytes were taken, at least one.
-    Taken(usize),
-    Interrupted,
-    /// The write failed, or took no byte.
-    Failed,
-}
-
-/// Writes once.
-#[tactic(auto, using(crate::proofs::MovingLaws::kept_appends))]
-fn write_more<W: Write>(writer: &mut W, rest: &[u8]) -> Written
-    ensures { WritesMore (W.contents writer.old) (W.contents writer.new) rest.now result }
-{
-    match writer.write(rest) {
-        Ok(0) => Written::Failed,
-        Ok(count) => Written::Taken(count),
-        Err(error) if is_interrupted(&error) => Written::Interrupted,
-        Err(_) => Written::Failed,
+    match reads.read(reader, room) {
+        Came::Piece(count) => {
+            seen.extend_from_slice(&room[..count])?;
+            Ok(count)
+        }
+        Came::Interrupted => Ok(0),
+        Came::End => Err(HttpFault::Cut),
+        Came::Failed => Err(HttpFault::ReadFault),
     }
 }
 
 /// Writes all bytes. WriteFault where a write fails or takes no byte, or 1,000,000 writes were interrupted: then a front of them is
 /// written.
-pub fn send<W: Write>(writer: &mut W, bytes: &[u8]) -> Result<(), HttpFault>
-    ensures { Sends (W.contents writer.old) (W.contents writer.new) bytes.now result }
+pub fn send<W: Write>(writer: &mut W, writes: &mut Writes, bytes: &[u8]) -> Result<(), HttpFault>
+    requires { writes.old ≡ no_writes }
+    ensures sends { Sends (W.contents writer.old) (W.contents writer.new) bytes.now result }
+    ensures ends { EndsWriting writes.new result }
 {
     let mut sent = 0;
-    let mut patience = MOST_INTERRUPTED;
     while sent < bytes.len() {
-        match write_more(writer, behind(bytes, sent)) {
+        match writes.write(writer, behind(bytes, sent)) {
             Written::Taken(count) => sent += count,
-            Written::Interrupted if 1 < patience => patience -= 1,
+            Written::Interrupted if writes.interrupted() < MOST_INTERRUPTED => {}
             Written::Interrupted | Written::Failed => return Err(HttpFault::WriteFault),
         }
     }
@@ -140,36 +122,41 @@ fn room(alloc: Global) -> Result<Vec<u8>, AllocError>
     Ok(room)
 }
 
-/// What the request comes to by the bytes that have come; None where it isn't whole.
-fn outcome_of(alloc: Global, seen: &[u8]) -> Result<Option<Outcome>, AllocError>
+/// What the bytes that have come come to: judged anew only where no more are known to be lacking.
+fn judged_if_due(alloc: Global, seen: &[u8], lacking: usize) -> Result<SoFar, AllocError>
+    requires { IsShortBy seen.now lacking }
     ensures { IfOk result (ComesTo seen.now) }
 {
-    Ok(judged(alloc, seen)?.outcome())
+    if 0 < lacking {
+        return Ok(SoFar::Lacks(lacking));
+    }
+    judged_so_far(alloc, seen)
 }
 
 /// Reads until the request is whole or refused, and leaves in `seen` all that was read.
 fn receive_in<R: Read>(
     alloc: Global,
     reader: &mut R,
+    reads: &mut Reads,
     room: &mut [u8],
     seen: &mut Vec<u8>,
 ) -> Result<Outcome, HttpFault>
     requires room { length room.old ≡ most_at_once }
     requires empty { seen.old.items ≡ [] }
-    ensures { Receives (R.remaining reader.old) (R.remaining reader.new) seen.new.items result }
+    requires fresh { reads.old ≡ no_reads }
+    ensures receives { Receives (R.remaining reader.old) (R.remaining reader.new) seen.new.items result }
+    ensures ends { EndsReading reads.new result }
 {
-    for _ in 0..MOST_READS {
-        if let Some(outcome) = outcome_of(alloc, seen)? {
-            return Ok(outcome);
+    let mut lacking = 0;
+    loop {
+        match judged_if_due(alloc, seen, lacking)? {
+            SoFar::Ends(outcome) => return Ok(outcome),
+            SoFar::Lacks(count) => lacking = count,
         }
-        match read_more(reader, room, seen) {
-            Ok(()) => {}
+        match read_more(reader, reads, room, seen) {
+            Ok(count) => lacking = lacking.saturating_sub(count),
             Err(fault) => return Err(fault),
         }
-    }
-    match outcome_of(alloc, seen)? {
-        Some(outcome) => Ok(outcome),
-        None => Err(HttpFault::ReadFault),
     }
 }
 
@@ -178,11 +165,14 @@ fn receive_in<R: Read>(
 pub fn receive<R: Read>(
     alloc: Global,
     reader: &mut R,
+    reads: &mut Reads,
     seen: &mut Vec<u8>,
 ) -> Result<Outcome, HttpFault>
-    requires { seen.old.items ≡ [] }
-    ensures { Receives (R.remaining reader.old) (R.remaining reader.new) seen.new.items result }
+    requires empty { seen.old.items ≡ [] }
+    requires fresh { reads.old ≡ no_reads }
+    ensures receives { Receives (R.remaining reader.old) (R.remaining reader.new) seen.new.items result }
+    ensures ends { EndsReading reads.new result }
 {
     let mut room = room(alloc)?;
-    receive_in(alloc, reader, &mut room, seen)
+    receive_in(alloc, reader, reads, &mut room, seen)
 }

@@ -1,5 +1,5 @@
 //! Requests.
-ghost use Rattle.std.specs.Prelude.{◌≡◌, IfOk, MatchOption};
+ghost use Rattle.std.specs.Prelude.{◌≡◌, IfOk};
 
 use crate::dice::Dice;
 use crate::problem::Problem;
@@ -112,18 +112,25 @@ pub enum Outcome {
     Asks(Request),
 }
 
-impl Verdict {
-    ghost use Rattle.atl_http.specs.declared.request.Verdict.TheVariants.{More};
-    ghost use Rattle.atl_http.specs.Heads.{final};
+/// What the bytes that have come of a request come to, or how many more it lacks.
+#[derive(Drop)]
+pub enum SoFar {
+    /// The request isn't whole, and won't be with fewer bytes more than so many, at least one.
+    Lacks(usize),
+    Ends(Outcome),
+}
 
-    /// What the request comes to; None where it isn't whole.
-    pub fn outcome(self) -> Option<Outcome>
-        ensures { MatchOption result (self ≡ More) (λ outcome. self ≡ final outcome) }
+impl SoFar {
+    ghost use Rattle.atl_http.specs.Heads.{verdict_by};
+
+    /// What the bytes come to.
+    pub fn verdict(self) -> Verdict
+        ensures { result ≡ verdict_by self }
     {
         match self {
-            Verdict::More => None,
-            Verdict::Refused(problem) => Some(Outcome::Refused(problem)),
-            Verdict::Asks(request) => Some(Outcome::Asks(request)),
+            SoFar::Lacks(_) => Verdict::More,
+            SoFar::Ends(Outcome::Refused(problem)) => Verdict::Refused(problem),
+            SoFar::Ends(Outcome::Asks(request)) => Verdict::Asks(request),
         }
     }
 }

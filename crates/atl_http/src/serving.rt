@@ -4,8 +4,10 @@ ghost use Rattle.std.specs.FinMap.{len};
 ghost use Rattle.atl_service.specs.Runs.{Runs};
 ghost use Rattle.atl_http.specs.Serving.{command_in, Serves};
 ghost use Rattle.atl_http.specs.Moving.{Tells};
+ghost use Rattle.atl_http.specs.Calls.{no_reads, no_writes, EndsBy};
 
 use crate::answering::answer_message;
+use crate::calls::{Reads, Writes};
 use crate::dice::Dice;
 use crate::message::{Message, problem_message};
 use crate::moving::{HttpFault, receive, send};
@@ -53,6 +55,36 @@ fn tell<S: Alter>(
     }
 }
 
+/// Reads one request, judges it, runs the command that it asks for, and writes the reply, as `serve_one` does; the reads and the writes
+/// are counted.
+pub fn serve_counted<R: Read, W: Write, S: Alter>(
+    alloc: Global,
+    reader: &mut R,
+    reads: &mut Reads,
+    writer: &mut W,
+    writes: &mut Writes,
+    service: &mut Service<S>,
+    dice: Dice,
+) -> Result<u16, HttpFault>
+    requires no_reads { reads.old ≡ no_reads }
+    requires no_writes { writes.old ≡ no_writes }
+    ensures serves { Serves S.Store dice (record { left = R.remaining reader.old; held = W.contents writer.old }) (record { left = R.remaining reader.new; held = W.contents writer.new }) service.old result service.new }
+    ensures ends { EndsBy reads.new writes.new result }
+{
+    let mut seen = Vec::new(alloc);
+    let outcome = match receive(alloc, reader, reads, &mut seen) {
+        Ok(outcome) => outcome,
+        Err(fault) => return Err(fault),
+    };
+    let Ok(message) = tell(alloc, service, dice, outcome) else {
+        return Err(HttpFault::Memory);
+    };
+    match send(writer, writes, message.bytes.as_bytes()) {
+        Ok(()) => Ok(message.status),
+        Err(fault) => Err(fault),
+    }
+}
+
 /// Reads one request, judges it, runs the command that it asks for, and writes the reply, of which it gives the status. The
 /// words of a joining and of a closing are those of the dice. Once the request is whole or refused nothing more is read. It ends after
 /// at most 1,000,000 reads, and as many writes that are interrupted. A fault tells why there is no reply, or a part alone. See docs/FORMATS.md, "HTTP".
@@ -65,16 +97,15 @@ pub fn serve_one<R: Read, W: Write, S: Alter>(
 ) -> Result<u16, HttpFault>
     ensures { Serves S.Store dice (record { left = R.remaining reader.old; held = W.contents writer.old }) (record { left = R.remaining reader.new; held = W.contents writer.new }) service.old result service.new }
 {
-    let mut seen = Vec::new(alloc);
-    let outcome = match receive(alloc, reader, &mut seen) {
-        Ok(outcome) => outcome,
-        Err(fault) => return Err(fault),
-    };
-    let Ok(message) = tell(alloc, service, dice, outcome) else {
-        return Err(HttpFault::Memory);
-    };
-    match send(writer, message.bytes.as_bytes()) {
-        Ok(()) => Ok(message.status),
-        Err(fault) => Err(fault),
-    }
+    let mut reads = Reads::none();
+    let mut writes = Writes::none();
+    serve_counted(
+        alloc,
+        reader,
+        &mut reads,
+        writer,
+        &mut writes,
+        service,
+        dice,
+    )
 }
