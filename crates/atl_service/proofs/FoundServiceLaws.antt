@@ -74,5 +74,5 @@ module _ {S : Type 0} (g : Ghosts S) where
 
     pub refused_by_store : (fault : CreateFault) → RefusesToCreate g text c old new fault → RefusesFounding g old text pass (of_creation fault) new
     refused_by_store NotEmpty refused = record { cause = ((w, made.world), made.pass_is_good, refused.0); leaves = refused.1; later = later }
-    refused_by_store Store fails = record { cause = ((w, made.world), made.pass_is_good, fails.fresh); leaves = failed fails; later = later }
-    refused_by_store Memory fails = record { cause = tt; leaves = failed fails; later = later }
+    refused_by_store Store refused = record { cause = ((w, made.world), made.pass_is_good, refused.0.fresh); leaves = failed refused.0; later = later }
+    refused_by_store Memory refused = record { cause = tt; leaves = failed refused.0; later = later }

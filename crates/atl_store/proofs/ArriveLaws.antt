@@ -1,5 +1,6 @@
 -- From what the statements did to what the tables hold: one entry of a map, one amount of the books.
 use Rattle.std.proofs.Common.{◌≡◌, ◌≢◌, ◌⊎◌, ◌+◌, ℕ, ℤ, pos, false, cond, List, [], ◌∷◌, take, get_or, Some, None, Less, Equal, Greater, refl, sym, ap, ◌∙◌, subst, inl, inr, arith}
+use Rattle.std.specs.Prelude.{◌↔◌}
 use Rattle.std.specs.Ordering.{nat_cmp, is_eq, int_eq}
 use Rattle.std.specs.Cmp.{nat_cmp_total}
 use Rattle.std.specs.FinMap.{FinMap, get, insert, empty, get-insert, get-empty, nat_cmp-IsAntisymmetric}
@@ -14,12 +15,12 @@ use Rattle.atl_state.specs.declared.books.Entry.{Entry}
 use Rattle.atl_state.specs.declared.books.Thing.{Thing}
 use Rattle.atl_state.specs.declared.records.Unit.{Unit}
 use Rattle.atl_store.specs.declared.rows.has.Sort.{Sort}
-use Rattle.atl_store.specs.Sets.{Is, put, rows_in}
+use Rattle.atl_store.specs.Sets.{Set, Is, put}
 use Rattle.atl_store.specs.Tables.{books_table}
 use Rattle.atl_store.specs.Shown.{int, books_key, books_row}
 use Rattle.atl_store.specs.Rows.{RowsOf, HasRowsOf, BooksRowsOf, things_of}
 use Rattle.atl_store.specs.Lines.{amount_lines}
-use Rattle.atl_store.specs.Arriving.{Settles}
+use Rattle.atl_store.specs.Arriving.{settled, Settles}
 use Rattle.atl_store.proofs.EntryLaws.{same_number}
 use Rattle.atl_store.proofs.GoodsLaws.{optional_has, has_optional}
 use Rattle.atl_store.proofs.LedgerLaws.{two_same, differs_zero, is_differing, amount_is}
@@ -89,12 +90,12 @@ module _ (c : Campaign) (e : Entry) (t : Thing) where
   abbrev row : Row
   row = books_row (entry_place e + 1) (thing_place t) (amount_in c.books e t)
 
-  -- the rows of the books A are those of the books B then, which differ in this amount alone
-  pub settled_rows : (A B : List (List ℤ)) (a b : Database) → Settles c e t a b → amount_in B e t ≡ amount_in c.books e t
+  -- the rows of the books A, with this amount settled, are those of the books B, which differ in it alone
+  pub settled_rows : (A B : List (List ℤ)) (S : Set) → amount_in B e t ≡ amount_in c.books e t
       → ((f : Entry) (u : Thing) → (entry_place f ≢ entry_place e) ⊎ (thing_place u ≢ thing_place t) → amount_in B f u ≡ amount_in A f u)
-      → Is (rows_in books_table a.trees) (BooksRowsOf A) → Is (rows_in books_table b.trees) (BooksRowsOf B)
-  settled_rows A B a b did here beside was r = (
-    λ there. elim ((did.rows r).0 there) [
+      → ((r : Row) → S r ↔ BooksRowsOf A r) → (r : Row) → settled c e t S r ↔ BooksRowsOf B r
+  settled_rows A B S here beside was r = (
+    λ there. elim there [
       | inl new ↦
           let is = optional_has (int_eq (amount_in c.books e t) (pos 0)) row r new in
           (e, t, λ none. differs_zero (amount_in c.books e t) is.0 (sym here ∙ none), is.1 ∙ ap (books_row (entry_place e + 1) (thing_place t)) (sym here))
@@ -103,7 +104,7 @@ module _ (c : Campaign) (e : Entry) (t : Thing) where
           let same = beside old.0 old.1 (apart old.0 old.1 (λ q. kept.1 (ap (take 2) old.3 ∙ q))) in
           (old.0, old.1, λ none. old.2 (sym same ∙ none), old.3 ∙ ap (books_row (entry_place old.0 + 1) (thing_place old.1)) (sym same))
     ],
-    λ of. (did.rows r).1 (elim (cases_eq (entry_place of.0) (entry_place e)) [
+    λ of. elim (cases_eq (entry_place of.0) (entry_place e)) [
       | inl entries ↦ elim (cases_eq (thing_place of.1) (thing_place t)) [
         | inl things ↦
             let same : amount_in B of.0 of.1 ≡ amount_in c.books e t = ap (λ k. get_or (get_or B k []) (entry_place of.0) (pos 0)) things ∙ ap (λ k. get_or (get_or B (thing_place t) []) k (pos 0)) entries ∙ here in
@@ -112,7 +113,7 @@ module _ (c : Campaign) (e : Entry) (t : Thing) where
         | inr things ↦ inr (kept_row of.0 of.1 of.2 of.3 (inr things))
       ]
       | inr entries ↦ inr (kept_row of.0 of.1 of.2 of.3 (inl entries))
-    ]),
+    ],
   )
     where
       apart : (f : Entry) (u : Thing) → ◌≢◌ {A = Row} (books_key (entry_place f + 1) (thing_place u)) (books_key (entry_place e + 1) (thing_place t)) → (entry_place f ≢ entry_place e) ⊎ (thing_place u ≢ thing_place t)
@@ -122,7 +123,7 @@ module _ (c : Campaign) (e : Entry) (t : Thing) where
       ]
 
       kept_row : (f : Entry) (u : Thing) → amount_in B f u ≢ pos 0 → r ≡ books_row (entry_place f + 1) (thing_place u) (amount_in B f u) → (entry_place f ≢ entry_place e) ⊎ (thing_place u ≢ thing_place t)
-          → Has (rows_in books_table a.trees) r × (take 2 r ≢ books_key (entry_place e + 1) (thing_place t))
+          → S r × (take 2 r ≢ books_key (entry_place e + 1) (thing_place t))
       kept_row f u some is far = (
         (was r).1 (f, u, λ none. some (beside f u far ∙ none), is ∙ ap (books_row (entry_place f + 1) (thing_place u)) (beside f u far)),
         λ q.

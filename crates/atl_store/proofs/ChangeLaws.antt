@@ -1,12 +1,13 @@
--- Tables that held a campaign hold the one that came of it, once what is marked is written.
+-- Tables that hold what is not marked of a campaign hold it all, once what is marked is written.
 use Rattle.std.proofs.Common.{◌≡◌, ◌+◌, ◌<◌, ◌&&◌, ℕ, suc, ℤ, Bool, true, false, List, Option, Some, None, nat_le, refl, sym, ap, subst, ◌∙◌, arith}
 use Rattle.std.proofs.lemmas.Bool.Decides.{nat_tests}
-use Rattle.std.specs.Prelude.{option_map}
+use Rattle.std.specs.Prelude.{◌↔◌, option_map}
 use Rattle.std.specs.Ordering.{nat_cmp}
 use Rattle.std.specs.FinMap.{FinMap, get, get-empty}
 use Rattle.std.specs.FinSet.{FinSet, contains}
 use Rattle.sqlite.specs.Effect.{Database}
 use Rattle.sqlite.specs.Order.{Row}
+use Rattle.sqlite_trees.specs.Tree.{Trees}
 use Rattle.sqlite_rules.specs.Lists.{Has}
 use Rattle.atl_state.specs.Covers.{SameBut, Covers, bare, goods_under, own_row}
 use Rattle.atl_state.specs.Books.{amount_in, entry_place, thing_place}
@@ -21,23 +22,28 @@ use Rattle.atl_store.specs.declared.rows.has.Sort.{Sort}
 use Rattle.atl_store.specs.declared.rows.has.Sort.TheVariants.{Item, Skill}
 use Rattle.atl_store.specs.Sets.{Is, rows_in}
 use Rattle.atl_store.specs.Tables.{campaign_table}
-use Rattle.atl_store.specs.Shown.{head_row, mail_row, report_row, books_row}
-use Rattle.atl_store.specs.Rows.{RowsOf, HasRowsOf, BooksRowsOf, head_of, campaign_line, faction_line, region_line, unit_line, structure_line, things_of, Holds}
-use Rattle.atl_store.specs.Changing.{begins_marked, amount_marked, Chosen, rewritten, head_after, WritesChanges}
+use Rattle.atl_store.specs.Shown.{Head, head_row, mail_row, report_row, books_row}
+use Rattle.atl_store.specs.Rows.{RowsOf, HasRowsOf, BooksRowsOf, head_of, faction_line, region_line, unit_line, structure_line, things_of, Holds}
+use Rattle.atl_store.specs.Changing.{begins_marked, amount_marked, Chosen, rewritten, head_after, WritesChanges, HoldsUnmarked}
 
--- ---- a table whose unmarked rows are the same in both campaigns
+-- ---- a table whose unmarked rows are the campaign's
 
-pub held_by : (is_marked : Row → Bool) (Before After : Row → Type 0) (old new : List Row) → ((r : Row) → is_marked r ≡ false → Before r → After r) → ((r : Row) → is_marked r ≡ false → After r → Before r)
-    → Is old Before → Is new (rewritten is_marked After (Has old)) → Is new After
-held_by is_marked Before After old new ahead back was now r = (λ there. from (is_marked r) refl ((now r).0 there), λ of. (now r).1 (to (is_marked r) refl of))
+-- once the marked ones are written it has all
+all_held : (is_marked : Row → Bool) (After : Row → Type 0) (old new : List Row) → ((r : Row) → is_marked r ≡ false → Has old r ↔ After r) → Is new (rewritten is_marked After (Has old)) → Is new After
+all_held is_marked After old new rest now r = (λ there. from (is_marked r) refl ((now r).0 there), λ of. (now r).1 (to (is_marked r) refl of))
   where
     from : (b : Bool) → is_marked r ≡ b → Chosen b (After r) (Has old r) → After r
     from true is h = h
-    from false is h = ahead r is ((was r).0 h)
+    from false is h = (rest r is).0 h
 
     to : (b : Bool) → is_marked r ≡ b → After r → Chosen b (After r) (Has old r)
     to true is of = of
-    to false is of = (was r).1 (back r is of)
+    to false is of = (rest r is).1 of
+
+-- it had those of the campaign before, where the two differ only under marked keys
+rest_of : (is_marked : Row → Bool) (Before After : Row → Type 0) (old : List Row) → ((r : Row) → is_marked r ≡ false → Before r → After r) → ((r : Row) → is_marked r ≡ false → After r → Before r) → Is old Before
+    → (r : Row) → is_marked r ≡ false → Has old r ↔ After r
+rest_of is_marked Before After old ahead back was r is = (λ there. ahead r is ((was r).0 there), λ of. (was r).1 (back r is of))
 
 -- ---- one row for each number
 
@@ -52,14 +58,17 @@ module _ {V : Type 0} (line : ℕ → V → Row) (marks : FinSet nat_cmp) (heads
   follow : (one other : FinMap nat_cmp V) (r : Row) → begins_marked marks r ≡ false → Follows one other → RowsOf line one r → RowsOf line other r
   follow one other r not_marked follows of = let found = follows of.0 of.1 (unmarked of.0 of.1 r of.3 not_marked) of.2 in (of.0, found.0, found.1, of.3 ∙ sym found.2)
 
-  pub holds_numbered : (before after : FinMap nat_cmp V) (old new : List Row) → Follows before after → Follows after before → Is old (RowsOf line before) → Is new (rewritten (begins_marked marks) (RowsOf line after) (Has old)) → Is new (RowsOf line after)
-  holds_numbered before after old new ahead back = held_by (begins_marked marks) (RowsOf line before) (RowsOf line after) old new (λ r is. follow before after r is ahead) (λ r is. follow after before r is back)
+  rest_numbered : (before after : FinMap nat_cmp V) (old : List Row) → Follows before after → Follows after before → Is old (RowsOf line before) → (r : Row) → begins_marked marks r ≡ false → Has old r ↔ RowsOf line after r
+  rest_numbered before after old ahead back = rest_of (begins_marked marks) (RowsOf line before) (RowsOf line after) old (λ r is. follow before after r is ahead) (λ r is. follow after before r is back)
 
-  pub same_follows : (before after : FinMap nat_cmp V) → SameBut marks before after → Follows before after
+  same_follows : (before after : FinMap nat_cmp V) → SameBut marks before after → Follows before after
   same_follows before after same n v not_marked there = (v, same n not_marked ∙ there, refl)
 
-  pub same_followed : (before after : FinMap nat_cmp V) → SameBut marks before after → Follows after before
+  same_followed : (before after : FinMap nat_cmp V) → SameBut marks before after → Follows after before
   same_followed before after same n v not_marked there = (v, sym (same n not_marked) ∙ there, refl)
+
+  rest_same : (before after : FinMap nat_cmp V) (old : List Row) → SameBut marks before after → Is old (RowsOf line before) → (r : Row) → begins_marked marks r ≡ false → Has old r ↔ RowsOf line after r
+  rest_same before after old same = rest_numbered before after old (same_follows before after same) (same_followed before after same)
 
 -- ---- units, whose goods stand elsewhere
 
@@ -110,30 +119,51 @@ amounts_follow one other marks r same not_marked of =
 
 -- ---- the campaign's own row
 
-line_of : List ℕ → ℕ × (List ℕ × (ℕ × (ℕ × ℕ))) → Row
-line_of text row = head_row (record { month = row.0; pass = row.1.0; next_faction = row.1.1.0; next_unit = row.1.1.1.0; next_structure = row.1.1.1.1 }) text
+abbrev head_in : ℕ × (List ℕ × (ℕ × (ℕ × ℕ))) → Head
+head_in row = record { month = row.0; pass = row.1.0; next_faction = row.1.1.0; next_unit = row.1.1.1.0; next_structure = row.1.1.1.1 }
 
-head_held : (b : Bool) (text : List ℕ) (before after : State) → (b ≡ false → own_row after ≡ own_row before) → head_row (head_after b after (head_of before)) text ≡ campaign_line text after
-unfolding line_of
-head_held true text before after same = refl
-head_held false text before after same = ap (line_of text) (sym (same refl))
+head_held : (b : Bool) (before after : State) → (b ≡ false → own_row after ≡ own_row before) → head_after b after (head_of before) ≡ head_of after
+head_held true before after same = refl
+head_held false before after same = ap head_in (sym (same refl))
 
 -- ---- the whole
 
-pub changes_held : (c : Marked) (old new : Database) → WritesChanges c old new → (text : List ℕ) (before : State) → Covers c.marks before c.what → Holds old.trees text before → Holds new.trees text c.what
-changes_held c old new changes text before covers held =
+-- whatever stands under marked keys
+pub unmarked_held : (c : Marked) (old new : Database) → WritesChanges c old new → (text : List ℕ) → HoldsUnmarked old.trees text c → Holds new.trees text c.what
+unmarked_held c old new changes text rest =
+    let m = c.marks in
+    let did = changes rest.before text rest.campaign in
+    record {
+      campaign = subst (λ (h : Head). Is (rows_in campaign_table new.trees) (λ r. r ≡ head_row h text)) rest.head did.campaign;
+      factions = all_held (begins_marked m.factions) _ _ _ rest.factions did.factions;
+      regions = all_held (begins_marked m.regions) _ _ _ rest.regions did.regions;
+      units = all_held (begins_marked m.units) _ _ _ rest.units did.units;
+      has = all_held (begins_marked m.goods) _ _ _ rest.has did.has;
+      structures = all_held (begins_marked m.structures) _ _ _ rest.structures did.structures;
+      mail = all_held (begins_marked m.mail) _ _ _ rest.mail did.mail;
+      reports = all_held (begins_marked m.reports) _ _ _ rest.reports did.reports;
+      books = all_held (amount_marked m.books) _ _ _ rest.books did.books;
+    }
+
+-- tables that hold a campaign from which only this differs
+pub covers_unmarked : (c : Marked) (db : Trees) (text : List ℕ) (before : State) → Covers c.marks before c.what → Holds db text before → HoldsUnmarked db text c
+covers_unmarked c db text before covers held =
     let m = c.marks in
     let after = c.what in
-    let did = changes (head_of before) text held.campaign in
     record {
-      campaign = subst (λ (row : Row). Is (rows_in campaign_table new.trees) (λ r. r ≡ row)) (head_held m.row text before after covers.row) did.campaign;
-      factions = holds_numbered faction_line m.factions (λ n v. refl) before.factions after.factions _ _ (same_follows faction_line m.factions (λ n v. refl) before.factions after.factions covers.factions) (same_followed faction_line m.factions (λ n v. refl) before.factions after.factions covers.factions) held.factions did.factions;
-      regions = holds_numbered region_line m.regions (λ n v. refl) before.regions after.regions _ _ (same_follows region_line m.regions (λ n v. refl) before.regions after.regions covers.regions) (same_followed region_line m.regions (λ n v. refl) before.regions after.regions covers.regions) held.regions did.regions;
-      units = holds_numbered unit_line m.units (λ n v. refl) before.units after.units _ _
-          (λ n v not_marked there. bare_same n (get before.units n) (get after.units n) v (covers.units n not_marked) there) (λ n v not_marked there. bare_same n (get after.units n) (get before.units n) v (sym (covers.units n not_marked)) there) held.units did.units;
-      has = held_by (begins_marked m.goods) (HasRowsOf before.units) (HasRowsOf after.units) _ _ (λ r is. goods_follow before.units after.units m.goods r covers.goods is) (λ r is. goods_follow after.units before.units m.goods r (λ n not_marked. sym (covers.goods n not_marked)) is) held.has did.has;
-      structures = holds_numbered structure_line m.structures (λ n v. refl) before.structures after.structures _ _ (same_follows structure_line m.structures (λ n v. refl) before.structures after.structures covers.structures) (same_followed structure_line m.structures (λ n v. refl) before.structures after.structures covers.structures) held.structures did.structures;
-      mail = holds_numbered mail_row m.mail (λ n v. refl) before.mail after.mail _ _ (same_follows mail_row m.mail (λ n v. refl) before.mail after.mail covers.mail) (same_followed mail_row m.mail (λ n v. refl) before.mail after.mail covers.mail) held.mail did.mail;
-      reports = holds_numbered report_row m.reports (λ n v. refl) before.reports after.reports _ _ (same_follows report_row m.reports (λ n v. refl) before.reports after.reports covers.reports) (same_followed report_row m.reports (λ n v. refl) before.reports after.reports covers.reports) held.reports did.reports;
-      books = held_by (amount_marked m.books) (BooksRowsOf before.books) (BooksRowsOf after.books) _ _ (λ r is. amounts_follow before.books after.books m.books r covers.books is) (λ r is. amounts_follow after.books before.books m.books r (λ e t not_marked. sym (covers.books e t not_marked)) is) held.books did.books;
+      before = head_of before;
+      campaign = held.campaign;
+      head = head_held m.row before after covers.row;
+      factions = rest_same faction_line m.factions (λ n v. refl) before.factions after.factions _ covers.factions held.factions;
+      regions = rest_same region_line m.regions (λ n v. refl) before.regions after.regions _ covers.regions held.regions;
+      units = rest_numbered unit_line m.units (λ n v. refl) before.units after.units _
+          (λ n v not_marked there. bare_same n (get before.units n) (get after.units n) v (covers.units n not_marked) there) (λ n v not_marked there. bare_same n (get after.units n) (get before.units n) v (sym (covers.units n not_marked)) there) held.units;
+      has = rest_of (begins_marked m.goods) (HasRowsOf before.units) (HasRowsOf after.units) _ (λ r is. goods_follow before.units after.units m.goods r covers.goods is) (λ r is. goods_follow after.units before.units m.goods r (λ n not_marked. sym (covers.goods n not_marked)) is) held.has;
+      structures = rest_same structure_line m.structures (λ n v. refl) before.structures after.structures _ covers.structures held.structures;
+      mail = rest_same mail_row m.mail (λ n v. refl) before.mail after.mail _ covers.mail held.mail;
+      reports = rest_same report_row m.reports (λ n v. refl) before.reports after.reports _ covers.reports held.reports;
+      books = rest_of (amount_marked m.books) (BooksRowsOf before.books) (BooksRowsOf after.books) _ (λ r is. amounts_follow before.books after.books m.books r covers.books is) (λ r is. amounts_follow after.books before.books m.books r (λ e t not_marked. sym (covers.books e t not_marked)) is) held.books;
     }
+
+pub changes_held : (c : Marked) (old new : Database) → WritesChanges c old new → (text : List ℕ) (before : State) → Covers c.marks before c.what → Holds old.trees text before → Holds new.trees text c.what
+changes_held c old new changes text before covers held = unmarked_held c old new changes text (covers_unmarked c old.trees text before covers held)

@@ -1,13 +1,21 @@
 -- A query outside a transaction, which commits nothing and changes nothing.
-use Rattle.std.proofs.Common.{◌≡◌, ℕ, List, [], Option, Some, None, sym, ◌∙◌, subst, inl, inr}
+use Rattle.std.proofs.Common.{◌≡◌, ℕ, Bool, true, false, cond, List, [], Result, Ok, Err, IfErr, IsErrAnd, Option, Some, None, refl, sym, ◌∙◌, subst, inl, inr}
 use Rattle.sqlite_schema.specs.declared.command.Returning.{Returning}
 use Rattle.sqlite.specs.declared.error.Error.{Error}
+use Rattle.sqlite_trees.specs.declared.store.Store.{Ghosts}
+use Rattle.sqlite.specs.Held.{Held, state}
 use Rattle.sqlite.specs.Listing.{understood}
 use Rattle.sqlite.specs.Order.{Row}
 use Rattle.sqlite.specs.State.{State, HasCleanDisk, Survives, CommitsShowing, Shown, ShowsRows, FailsToQuery, FailsToShow, IsNotRun, IsUnchanged, IsRolledBack}
 use Rattle.sqlite.proofs.Callers.{IsPlain, never_commits}
 use Rattle.sqlite.proofs.StateLemmas.{survives_weaker}
-use Rattle.atl_store.specs.Gathering.{Stays, IsSettled}
+use Rattle.atl_store.specs.Gathering.{IsSettled, FailsToConfirm}
+use Rattle.atl_store.specs.Faults.{is_memory, store_fault}
+use Rattle.atl_store.specs.Loading.{Stays}
+use Rattle.atl_store.specs.Selects.{all_campaign}
+use Rattle.atl_store.specs.Tables.{HasNine}
+use Rattle.atl_store.specs.declared.fault.StoreFault.{StoreFault}
+use Rattle.atl_store.specs.declared.fault.StoreFault.TheVariants as store
 
 module _ (sql : List ℕ) (old new : State) (plain : IsPlain (understood old.now.schema sql)) where
   pub commits_none : Survives old new (CommitsShowing sql [] old) → Survives old new (λ _. ⊥)
@@ -36,3 +44,13 @@ module _ (sql : List ℕ) (old new : State) (plain : IsPlain (understood old.now
   refused_stays settled clean e (inl (inl h)) = unchanged_stays h.1
   refused_stays settled clean e (inl (inr h)) = rolled_stays settled clean h.3
   refused_stays settled clean e (inr h) = unchanged_stays (fails_stay h.0 _ e h.0.returning (subst IsPlain h.1.is plain).0 h.2)
+
+-- the campaign's own row can't be asked for once more
+module _ {S : Type 0} (g : Ghosts S) (old during : Held S) (nine : HasNine old.schema) (e : Error) (failed : FailsToQuery all_campaign [] (state g old) (state g during) e) where
+  told_by : (memory : Bool) → is_memory e ≡ memory → FailsToConfirm g old (cond memory store.Memory store.Store)
+  told_by true is = (nine, (during, e, failed, is))
+  told_by false is = inr (nine, (during, e, failed, is))
+
+  pub unconfirmed : {A : Type 0} (r : Result A StoreFault) → IsErrAnd r (λ told. told ≡ store_fault e) → IfErr r (FailsToConfirm g old)
+  unconfirmed (Ok a) told = tt
+  unconfirmed (Err f) told = subst (FailsToConfirm g old) (sym told) (told_by (is_memory e) refl)

@@ -1,5 +1,5 @@
 -- Readings one after another, each of the tables as they were before the first.
-use Rattle.std.proofs.Common.{◌≡◌, ℕ, List, [], true, false, IsTrue, Option, Some, None, Result, Ok, Err, IfOk, IsErrAnd, IsPermutation, map, refl, sym, ap, ◌∙◌, subst, inl, arith}
+use Rattle.std.proofs.Common.{◌≡◌, ◌≢◌, ◌⊎◌, ◌++◌, ℕ, List, [], ◌∷◌, true, false, IsTrue, Option, Some, None, Result, Ok, Err, IfOk, IfErr, IsErrAnd, IsPermutation, map, refl, sym, ap, ◌∙◌, subst, inl, inr, arith}
 use Rattle.std.specs.Option.{option_zip}
 use Rattle.std.specs.declared.vec.Vec.{Vec}
 use Rattle.sqlite_trees.specs.declared.store.Store.{Ghosts}
@@ -10,16 +10,18 @@ use Rattle.sqlite.specs.Held.{Held, state}
 use Rattle.sqlite.specs.Order.{Row}
 use Rattle.sqlite.specs.State.{State, HasCleanDisk, Survives, Shown, ShowsRows}
 use Rattle.sqlite_rules.specs.Lists.{Has}
-use Rattle.atl_store.specs.Gathering.{Stays, IsSettled, Leaves, kept_of, Fails, Found, AreRows, AreTwo, AreThree, OthersRead, AreOthers, ReadsSome}
-use Rattle.atl_store.specs.Loading.{other_selects}
-use Rattle.atl_store.specs.Reading.{ReadsRows, GivesTable, Rests, placed_rows_in}
+use Rattle.sqlite_rules.proofs.ListLemmas.{has_left, has_right, has_either}
+use Rattle.atl_store.specs.Gathering.{IsSettled, kept_of, Found, AnswersOne, FailsToRead, AreRows, AreTwo, AreThree, OthersRead, AreOthers, ReadsSome}
+use Rattle.atl_store.specs.Loading.{Stays, Leaves, Tells, AreTold, AreToldTyped, HasOtherType, RefusesOne}
+use Rattle.atl_store.specs.Reading.{ReadsRows, GivesTable, Rests, Selects, RefusesToSelect, placed_rows_in}
 use Rattle.atl_store.specs.Sets.{rows_in}
 use Rattle.atl_store.specs.StoredRows.{faction_stored, region_stored, unit_stored, structure_stored, mail_stored, report_stored, has_stored, books_stored}
-use Rattle.atl_store.specs.Stored.{Form}
+use Rattle.atl_store.specs.Stored.{Form, AreTyped}
 use Rattle.atl_store.specs.Tables.{faction_table, region_table, unit_table, has_table, structure_table, mail_table, report_table, books_table, HasNine}
 use Rattle.atl_store.specs.declared.fault.ReadFault.{ReadFault}
 use Rattle.atl_store.specs.declared.fault.ReadFault.TheVariants as read
 use Rattle.atl_store.specs.declared.fault.StoreFault.{StoreFault}
+use Rattle.atl_store.specs.declared.fault.StoreFault.TheVariants.{Store, Damaged, NotACampaign, Memory}
 use Rattle.atl_store.proofs.KeepLaws.{survives_more}
 
 shows_open : (old new : State) (sql : List ℕ) (c : _) (row : Row) (rows : List Row) (what : Option Returning) → ShowsRows old new sql c row rows what → IsTrue old.is_open
@@ -34,8 +36,34 @@ shown_open sql old new rows h = shows_open old new sql h.0 _ rows h.0.returning 
 same_kept : {A : Type 0} {a b : Option A} → ◌≡◌ {A = Result (Option A) StoreFault} (Ok a) (Ok b) → a ≡ b
 same_kept is = cc
 
+same_fault : {A : Type 0} {a b : StoreFault} → ◌≡◌ {A = Result A StoreFault} (Err a) (Err b) → a ≡ b
+same_fault is = cc
+
+not_store : read.Store ≢ read.OtherType
+not_store is = cc
+
+not_refused : read.Refused ≢ read.OtherType
+not_refused is = cc
+
+store_no_memory : read.Store ≢ read.Memory
+store_no_memory is = cc
+
+refused_no_memory : read.Refused ≢ read.Memory
+refused_no_memory is = cc
+
 survives_start : (s : State) → Survives s s (λ _. ⊥)
 survives_start s = record { clean = omega arith; shield = λ k. k; counts = omega arith; limit = refl; closes = λ clean up. inl up; crash = λ clean db may. inl may }
+
+-- what is so of each of two lists is so of both behind each other
+each_of_both : {X : Type 0} (P : X → Type 0) (xs ys : List X) → ((x : X) → Has xs x → P x) → ((x : X) → Has ys x → P x) → (x : X) → Has (xs ++ ys) x → P x
+each_of_both P xs ys first second x there = elim (has_either xs ys x there) [
+  | inl one ↦ first x one
+  | inr one ↦ second x one
+]
+
+each_of_one : {X : Type 0} (P : X → Type 0) (x : X) → P x → (y : X) → Has (x ∷ []) y → P y
+each_of_one P x p y (inl same) = subst P (sym same) p
+each_of_one P x p y (inr none) = absurd none
 
 module _ {S : Type 0} (g : Ghosts S) where
   pub leaves_none : (old : Held S) → old.in_transaction ≡ false → Leaves g old old
@@ -70,92 +98,92 @@ module _ {S : Type 0} (g : Ghosts S) where
     same = λ up. let back = rests.same up in (back.0 ∙ sym (settled clean (rests.was_open up)), back.1);
   }
 
-  module _ {A Z : Type 0} (sql : List ℕ) (forms : List Form) (shown : A → Row) (r : Result (Vec A Z) ReadFault) (old mid new : Held S) (settled : IsSettled (state g old)) (before : Leaves g old mid) (reads : ReadsRows g sql mid forms shown r new) where
-    was_clean : HasCleanDisk (state g new) → HasCleanDisk (state g mid)
-    was_clean clean = omega (arith, reads.survives.clean)
+  -- ---- one table
 
-    pub leaves_reading : Leaves g old new
-    leaves_reading = leaves_then old mid new before (record {
-      stays = λ clean. rests_stays (state g mid) (state g new) (settled_then old mid settled before) (was_clean clean) (reads.rests clean);
-      survives = reads.survives;
-      idle = reads.idle;
-    })
+  module _ {A : Type 0} (sql : List ℕ) (forms : List Form) (shown : A → Row) (in_table : Trees → List Row) (old new : Held S) (settled : IsSettled (state g old)) (idle : old.in_transaction ≡ false) where
+    abbrev this_select : List (List ℕ × List Form)
+    this_select = (sql, forms) ∷ []
 
-    -- the tables that were asked are those before the first
-    same_now : HasCleanDisk (state g new) → IsTrue (state g mid).is_open → (state g mid).now ≡ (state g old).now
-    same_now clean up = ((before.stays (was_clean clean)).same up).0
+    tells : (rows : List Row) → Selects g sql old rows → Tells g old sql rows
+    tells rows told = record { before = record old { in_transaction = true }; during = told.0; same = refl; shown = told.1 }
 
-    nine_then : HasCleanDisk (state g new) → IsTrue (state g mid).is_open → HasNine old.schema → HasNine mid.schema
-    nine_then clean up nine = subst HasNine (sym (ap (λ (d : Database). d.schema) (same_now clean up))) nine
+    selects_open : (rows : List Row) → Selects g sql old rows → IsTrue (state g old).is_open
+    selects_open rows told = shown_open sql _ _ rows told.1
 
-    found_as : (in_table : Trees → List Row) → Has other_selects (sql, forms) → HasCleanDisk (state g new) → GivesTable g in_table shown r mid new → (o : Option (Vec A Z)) → kept_of r ≡ Ok o → Found g old (λ all. AreRows g old in_table shown all.items) o
-    found_as in_table one clean gives o is = by_result r reads gives o is
-      where
-        by_result : (r : Result (Vec A Z) ReadFault) → ReadsRows g sql mid forms shown r new → GivesTable g in_table shown r mid new → (o : Option (Vec A Z)) → kept_of r ≡ Ok o → Found g old (λ all. AreRows g old in_table shown all.items) o
-        by_result (Ok all) reads gives o is =
-            let told = reads.rows clean in
-            let up = shown_open sql _ _ told.0 told.1.1 in
-            subst (Found g old (λ all. AreRows g old in_table shown all.items)) (same_kept is) (λ nine.
-            subst (λ (d : Database). IsPermutation (in_table d.trees) (map shown all.items)) (same_now clean up) (gives clean (nine_then clean up nine)))
-        by_result (Err read.OtherType) reads gives o is =
-            let told = reads.other clean refl in
-            let up = shown_open sql _ _ told.0 told.1.1 in
-            subst (Found g old (λ all. AreRows g old in_table shown all.items)) (same_kept is) (record {
-              select = (sql, forms);
-              one = one;
-              rows = told.0;
-              told = record { before = record mid { in_transaction = true }; during = told.1.0; same = same_now clean up; shown = told.1.1 };
-              other = told.2;
-            })
-        by_result (Err read.Memory) reads gives o is = absurd (let k = is in cc)
-        by_result (Err read.Store) reads gives o is = absurd (let k = is in cc)
-        by_result (Err read.Refused) reads gives o is = absurd (let k = is in cc)
+    found_one : {Z : Type 0} (r : Result (Vec A Z) ReadFault) → ReadsRows g sql old forms shown r new → GivesTable g in_table shown r old new → HasCleanDisk (state g new) → IfOk (kept_of r) (Found g old this_select (λ all. AreRows g old in_table shown all.items))
+    found_one (Ok all) reads gives clean =
+        let told = reads.rows clean in
+        (each_of_one (λ s. (rows : List Row) × Tells g old s.0 rows × AreTyped s.1 rows) (sql, forms) (told.0, tells told.0 told.1, told.3), gives clean)
+    found_one (Err read.OtherType) reads gives clean =
+        let told = reads.other clean refl in
+        record {
+          all = each_of_one (λ s. (rows : List Row) × Tells g old s.0 rows) (sql, forms) (told.0, tells told.0 told.1);
+          select = (sql, forms);
+          one = inl refl;
+          rows = told.0;
+          told = tells told.0 told.1;
+          other = told.2;
+        }
+    found_one (Err read.Memory) reads gives clean = tt
+    found_one (Err read.Store) reads gives clean = tt
+    found_one (Err read.Refused) reads gives clean = tt
 
-    -- what was kept of a reading
-    pub found_reading : (in_table : Trees → List Row) → Has other_selects (sql, forms) → GivesTable g in_table shown r mid new → (kept : Result (Option (Vec A Z)) StoreFault) (o : Option (Vec A Z)) → kept ≡ kept_of r → kept ≡ Ok o
-        → HasCleanDisk (state g new) → Found g old (λ all. AreRows g old in_table shown all.items) o
-    found_reading in_table one gives kept o is was clean = found_as in_table one clean gives o (sym is ∙ was)
+    open_one : {Z : Type 0} (r : Result (Vec A Z) ReadFault) → ReadsRows g sql old forms shown r new → HasCleanDisk (state g new) → IfOk (kept_of r) (λ _. IsTrue (state g old).is_open)
+    open_one (Ok all) reads clean = let told = reads.rows clean in selects_open told.0 told.1
+    open_one (Err read.OtherType) reads clean = let told = reads.other clean refl in selects_open told.0 told.1
+    open_one (Err read.Memory) reads clean = tt
+    open_one (Err read.Store) reads clean = tt
+    open_one (Err read.Refused) reads clean = tt
 
-    open_as : HasCleanDisk (state g new) → (o : Option (Vec A Z)) → kept_of r ≡ Ok o → IsTrue (state g mid).is_open
-    open_as clean o is = by_result r reads o is
-      where
-        by_result : (r : Result (Vec A Z) ReadFault) → ReadsRows g sql mid forms shown r new → (o : Option (Vec A Z)) → kept_of r ≡ Ok o → IsTrue (state g mid).is_open
-        by_result (Ok all) reads o is = let told = reads.rows clean in shown_open sql _ _ told.0 told.1.1
-        by_result (Err read.OtherType) reads o is = let told = reads.other clean refl in shown_open sql _ _ told.0 told.1.1
-        by_result (Err read.Memory) reads o is = absurd (let k = is in cc)
-        by_result (Err read.Store) reads o is = absurd (let k = is in cc)
-        by_result (Err read.Refused) reads o is = absurd (let k = is in cc)
+    refuses : (fault : ReadFault) → RefusesToSelect g sql old fault → RefusesOne g old this_select fault
+    refuses fault refused = record { select = (sql, forms); one = inl refl; before = old; leaves = leaves_none old idle; refused = refused }
 
-    -- what was answered was asked of an open connection
-    pub open_reading : (kept : Result (Option (Vec A Z)) StoreFault) (o : Option (Vec A Z)) → kept ≡ kept_of r → kept ≡ Ok o → HasCleanDisk (state g new) → IsTrue (state g mid).is_open
-    open_reading kept o is was clean = open_as clean o (sym is ∙ was)
+    wants : RefusesToSelect g sql old read.Memory ⊎ ((rows : List Row) × Selects g sql old rows) → FailsToRead g old this_select Memory
+    wants (inl refused) = inl (refuses read.Memory refused)
+    wants (inr told) = inr (record { select = (sql, forms); one = inl refl; before = old; leaves = leaves_none old idle; rows = told.0; answered = told.1 })
 
-  pub found_both : {A B : Type 0} (P : A → Type 0) (Q : B → Type 0) (old : Held S) (a : Option A) (b : Option B) → Found g old P a → Found g old Q b → Found g old (λ x. P x.0 × Q x.1) (option_zip a b)
-  found_both P Q old (Some a) (Some b) p q = (p, q)
-  found_both P Q old (Some a) None p q = q
-  found_both P Q old None b p q = p
+    fails_one : {Z : Type 0} (r : Result (Vec A Z) ReadFault) → ReadsRows g sql old forms shown r new → HasCleanDisk (state g new) → IfErr (kept_of r) (FailsToRead g old this_select)
+    fails_one (Ok all) reads clean = tt
+    fails_one (Err read.OtherType) reads clean = tt
+    fails_one (Err read.Memory) reads clean = wants (reads.memory clean refl)
+    fails_one (Err read.Store) reads clean = inl (refuses read.Store (reads.refused clean not_store store_no_memory))
+    fails_one (Err read.Refused) reads clean = inr (refuses read.Refused (reads.refused clean not_refused refused_no_memory))
 
-  -- what one stage found behind another
-  found_weaker : {A : Type 0} (P Q : A → Type 0) (old mid : Held S) (o : Option A) → (state g mid).now ≡ (state g old).now → ((a : A) → P a → Q a) → Found g mid P o → Found g old Q o
-  found_weaker P Q old mid (Some a) same weaker found = weaker a found
-  found_weaker P Q old mid None same weaker found = record {
-    select = found.select;
-    one = found.one;
-    rows = found.rows;
-    told = record { before = found.told.before; during = found.told.during; same = found.told.same ∙ same; shown = found.told.shown };
-    other = found.other;
-  }
+    -- what was kept of its reading
+    pub reads_one : {Z : Type 0} (r : Result (Vec A Z) ReadFault) → ReadsRows g sql old forms shown r new → GivesTable g in_table shown r old new → (kept : Result (Option (Vec A Z)) StoreFault) → kept ≡ kept_of r
+        → ReadsSome g old this_select (λ all. AreRows g old in_table shown all.items) kept new
+    reads_one r reads gives kept is = record {
+      was_open = λ clean. subst (λ k. IfOk k (λ _. IsTrue (state g old).is_open)) (sym is) (open_one r reads clean);
+      found = λ clean. subst (λ k. IfOk k (Found g old this_select (λ all. AreRows g old in_table shown all.items))) (sym is) (found_one r reads gives clean);
+      fails = λ clean. subst (λ k. IfErr k (FailsToRead g old this_select)) (sym is) (fails_one r reads clean);
+      leaves = record {
+        stays = λ clean. rests_stays (state g old) (state g new) settled (omega (arith, reads.survives.clean, clean)) (reads.rests clean);
+        survives = reads.survives;
+        idle = reads.idle;
+      };
+    }
 
-  -- a stage that begins where another ended
-  module _ {A : Type 0} (old mid new : Held S) (before : Leaves g old mid) (P Q : A → Type 0) (r : Result (Option A) StoreFault) (reads : ReadsSome g mid P r new) (o : Option A) (was : r ≡ Ok o) where
-    pub found_behind : ((state g mid).now ≡ (state g old).now → (a : A) → P a → Q a) → HasCleanDisk (state g new) → Found g old Q o
-    found_behind weaker clean =
-        let up = subst (λ r. IfOk r (λ _. IsTrue (state g mid).is_open)) was (reads.was_open clean) in
-        let same = ((before.stays (omega (arith, reads.leaves.survives.clean, clean))).same up).0 in
-        found_weaker P Q old mid o same (weaker same) (subst (λ r. IfOk r (Found g mid P)) was (reads.found clean))
+  -- ---- two stages, of which the second begins where the first ended
 
   module _ (old mid : Held S) (same : (state g mid).now ≡ (state g old).now) where
-    rows_behind : {A : Type 0} (in_table : Trees → List Row) (shown : A → Row) (rows : List A) → AreRows g mid in_table shown rows → AreRows g old in_table shown rows
+    told_then : (sql : List ℕ) (rows : List Row) → Tells g mid sql rows → Tells g old sql rows
+    told_then sql rows told = record { before = told.before; during = told.during; same = told.same ∙ same; shown = told.shown }
+
+    all_told_then : (selects : List (List ℕ × List Form)) → AreTold g mid selects → AreTold g old selects
+    all_told_then selects all select one = let told = all select one in (told.0, told_then select.0 told.0 told.1)
+
+    found_then : {A : Type 0} (selects : List (List ℕ × List Form)) (P Q : A → Type 0) (o : Option A) → ((a : A) → P a → Q a) → Found g mid selects P o → Found g old selects Q o
+    found_then selects P Q (Some a) weaker found = (λ select one. let told = found.0 select one in (told.0, told_then select.0 told.0 told.1, told.2), weaker a found.1)
+    found_then selects P Q None weaker found = record {
+      all = all_told_then selects found.all;
+      select = found.select;
+      one = found.one;
+      rows = found.rows;
+      told = told_then found.select.0 found.rows found.told;
+      other = found.other;
+    }
+
+    pub rows_behind : {A : Type 0} (in_table : Trees → List Row) (shown : A → Row) (rows : List A) → AreRows g mid in_table shown rows → AreRows g old in_table shown rows
     rows_behind in_table shown rows are nine =
         subst (λ (d : Database). IsPermutation (in_table d.trees) (map shown rows)) same (are (subst HasNine (sym (ap (λ (d : Database). d.schema) same)) nine))
 
@@ -175,7 +203,105 @@ module _ {S : Type 0} (g : Ghosts S) where
       three_behind (rows_in structure_table) structure_stored (rows_in mail_table) mail_stored (placed_rows_in books_table) books_stored read.1 are.1,
     )
 
-  -- a stage that ends with a fault
-  pub fails_with : {A : Type 0} (P : A → Type 0) (old new : Held S) (fault : StoreFault) (r : Result (Option A) StoreFault) → IsErrAnd r (λ told. told ≡ fault) → Fails fault → Leaves g old new → ReadsSome g old P r new
-  fails_with P old new fault (Ok o) told fails leaves = absurd told
-  fails_with P old new fault (Err f) told fails leaves = record { was_open = λ _. tt; found = λ _. tt; fails = subst Fails (sym told) fails; leaves = leaves }
+  refuses_then : (old mid : Held S) → Leaves g old mid → (selects : List (List ℕ × List Form)) (fault : ReadFault) → RefusesOne g mid selects fault → RefusesOne g old selects fault
+  refuses_then old mid first selects fault refused = record {
+    select = refused.select;
+    one = refused.one;
+    before = refused.before;
+    leaves = leaves_then old mid refused.before first refused.leaves;
+    refused = refused.refused;
+  }
+
+  answers_then : (old mid : Held S) → Leaves g old mid → (selects : List (List ℕ × List Form)) → AnswersOne g mid selects → AnswersOne g old selects
+  answers_then old mid first selects answers = record {
+    select = answers.select;
+    one = answers.one;
+    before = answers.before;
+    leaves = leaves_then old mid answers.before first answers.leaves;
+    rows = answers.rows;
+    answered = answers.answered;
+  }
+
+  -- a fault of a later reading
+  pub fails_then : (old mid : Held S) → Leaves g old mid → (selects : List (List ℕ × List Form)) (fault : StoreFault) → FailsToRead g mid selects fault → FailsToRead g old selects fault
+  fails_then old mid first selects Store (inl refused) = inl (refuses_then old mid first selects read.Store refused)
+  fails_then old mid first selects Store (inr refused) = inr (refuses_then old mid first selects read.Refused refused)
+  fails_then old mid first selects (Damaged rule) fails = fails
+  fails_then old mid first selects NotACampaign fails = fails
+  fails_then old mid first selects Memory (inl refused) = inl (refuses_then old mid first selects read.Memory refused)
+  fails_then old mid first selects Memory (inr answers) = inr (answers_then old mid first selects answers)
+
+  module _ (old : Held S) (few more : List (List ℕ × List Form)) (within : (select : List ℕ × List Form) → Has few select → Has more select) where
+    refuses_within : (fault : ReadFault) → RefusesOne g old few fault → RefusesOne g old more fault
+    refuses_within fault refused = record { select = refused.select; one = within refused.select refused.one; before = refused.before; leaves = refused.leaves; refused = refused.refused }
+
+    answers_within : AnswersOne g old few → AnswersOne g old more
+    answers_within answers = record { select = answers.select; one = within answers.select answers.one; before = answers.before; leaves = answers.leaves; rows = answers.rows; answered = answers.answered }
+
+    fails_within : (fault : StoreFault) → FailsToRead g old few fault → FailsToRead g old more fault
+    fails_within Store (inl refused) = inl (refuses_within read.Store refused)
+    fails_within Store (inr refused) = inr (refuses_within read.Refused refused)
+    fails_within (Damaged rule) fails = fails
+    fails_within NotACampaign fails = fails
+    fails_within Memory (inl refused) = inl (refuses_within read.Memory refused)
+    fails_within Memory (inr answers) = inr (answers_within answers)
+
+    other_within : AreTold g old more → HasOtherType g old few → HasOtherType g old more
+    other_within all other = record { all = all; select = other.select; one = within other.select other.one; rows = other.rows; told = other.told; other = other.other }
+
+  told_of : (old : Held S) (selects : List (List ℕ × List Form)) → AreToldTyped g old selects → AreTold g old selects
+  told_of old selects typed select one = let told = typed select one in (told.0, told.1)
+
+  found_both : {A B : Type 0} (xs ys : List (List ℕ × List Form)) (P : A → Type 0) (Q : B → Type 0) (old : Held S) (a : Option A) (b : Option B) → Found g old xs P a → Found g old ys Q b → Found g old (xs ++ ys) (λ x. P x.0 × Q x.1) (option_zip a b)
+  found_both xs ys P Q old (Some a) (Some b) p q = (each_of_both (λ s. (rows : List Row) × Tells g old s.0 rows × AreTyped s.1 rows) xs ys p.0 q.0, (p.1, q.1))
+  found_both xs ys P Q old (Some a) None p q = other_within old ys (xs ++ ys) (has_right xs ys) (each_of_both (λ s. (rows : List Row) × Tells g old s.0 rows) xs ys (told_of old xs p.0) q.all) q
+  found_both xs ys P Q old None (Some b) p q = other_within old xs (xs ++ ys) (has_left xs ys) (each_of_both (λ s. (rows : List Row) × Tells g old s.0 rows) xs ys p.all (told_of old ys q.0)) p
+  found_both xs ys P Q old None None p q = other_within old xs (xs ++ ys) (has_left xs ys) (each_of_both (λ s. (rows : List Row) × Tells g old s.0 rows) xs ys p.all q.all) p
+
+  -- what a stage found that begins where another ended
+  pub found_behind : {A : Type 0} (old mid new : Held S) → Leaves g old mid → (selects : List (List ℕ × List Form)) (P Q : A → Type 0) (r : Result (Option A) StoreFault) → ReadsSome g mid selects P r new → (o : Option A) → r ≡ Ok o
+      → ((state g mid).now ≡ (state g old).now → (a : A) → P a → Q a) → HasCleanDisk (state g new) → Found g old selects Q o
+  found_behind old mid new before selects P Q r reads o was weaker clean =
+      let up = subst (λ r. IfOk r (λ _. IsTrue (state g mid).is_open)) was (reads.was_open clean) in
+      let same = ((before.stays (omega (arith, reads.leaves.survives.clean, clean))).same up).0 in
+      found_then old mid same selects P Q o (weaker same) (subst (λ r. IfOk r (Found g mid selects P)) was (reads.found clean))
+
+  -- the first stage ends with a fault
+  pub first_fails : {A B : Type 0} (xs ys : List (List ℕ × List Form)) (P : A → Type 0) (Q : B → Type 0) (old new : Held S) (fault : StoreFault) (one : Result (Option A) StoreFault) (r : Result (Option B) StoreFault)
+      → ReadsSome g old xs P one new → one ≡ Err fault → IsErrAnd r (λ told. told ≡ fault) → ReadsSome g old (xs ++ ys) Q r new
+  first_fails xs ys P Q old new fault one (Ok o) first was told = absurd told
+  first_fails xs ys P Q old new fault one (Err f) first was told = record {
+    was_open = λ _. tt;
+    found = λ _. tt;
+    fails = λ clean. subst (FailsToRead g old (xs ++ ys)) (sym told) (fails_within old xs (xs ++ ys) (has_left xs ys) fault (subst (λ r. IfErr r (FailsToRead g old xs)) was (first.fails clean)));
+    leaves = first.leaves;
+  }
+
+  -- where the second one begins
+  module _ {A B : Type 0} (xs ys : List (List ℕ × List Form)) (P : A → Type 0) (Q Q2 : B → Type 0) (old mid new : Held S) (one : Result (Option A) StoreFault) (two : Result (Option B) StoreFault)
+      (first : ReadsSome g old xs P one mid) (second : ReadsSome g mid ys Q two new) (a : Option A) (was_first : one ≡ Ok a) where
+    pub second_fails : {C : Type 0} (R : C → Type 0) (fault : StoreFault) (r : Result (Option C) StoreFault) → two ≡ Err fault → IsErrAnd r (λ told. told ≡ fault) → ReadsSome g old (xs ++ ys) R r new
+    second_fails R fault (Ok o) was told = absurd told
+    second_fails R fault (Err f) was told = record {
+      was_open = λ _. tt;
+      found = λ _. tt;
+      fails = λ clean.
+          subst (FailsToRead g old (xs ++ ys)) (sym told)
+          (fails_within old ys (xs ++ ys) (has_right xs ys) fault (fails_then old mid first.leaves ys fault (subst (λ r. IfErr r (FailsToRead g mid ys)) was (second.fails clean))));
+      leaves = leaves_then old mid new first.leaves second.leaves;
+    }
+
+    -- both are read
+    pub reads_both : (b : Option B) → two ≡ Ok b → ((state g mid).now ≡ (state g old).now → (b : B) → Q b → Q2 b) → (o : Option (A × B)) → o ≡ option_zip a b → ReadsSome g old (xs ++ ys) (λ x. P x.0 × Q2 x.1) (Ok o) new
+    reads_both b was weaker o is = record {
+      was_open = λ clean. subst (λ r. IfOk r (λ _. IsTrue (state g old).is_open)) was_first (first.was_open (clean_mid clean));
+      found = λ clean.
+          subst (Found g old (xs ++ ys) _) (sym is) (found_both xs ys P Q2 old a b
+          (subst (λ r. IfOk r (Found g old xs P)) was_first (first.found (clean_mid clean)))
+          (found_behind old mid new first.leaves ys Q Q2 two second b was weaker clean));
+      fails = λ _. tt;
+      leaves = leaves_then old mid new first.leaves second.leaves;
+    }
+      where
+        clean_mid : HasCleanDisk (state g new) → HasCleanDisk (state g mid)
+        clean_mid clean = omega (arith, second.leaves.survives.clean, clean)

@@ -1,5 +1,5 @@
 -- A joining is written, and a mail: what the tables hold then.
-use Rattle.std.proofs.Common.{◌≡◌, ◌≢◌, ◌⊎◌, ◌+◌, ◌<◌, ℕ, ℤ, pos, List, [], length, get_or, set, Some, None, refl, sym, ap, ◌∙◌, subst, inl, inr, take, arith}
+use Rattle.std.proofs.Common.{◌≡◌, ◌≢◌, ◌⊎◌, ◌+◌, ◌<◌, ℕ, ℤ, pos, List, [], length, map, get_or, set, Some, None, refl, sym, ap, ◌∙◌, subst, inl, inr, take, arith}
 use Rattle.std.specs.Prelude.{◌+ℤ◌}
 use Rattle.std.specs.Ordering.{nat_cmp}
 use Rattle.std.specs.FinMap.{FinMap, get, insert, empty}
@@ -11,7 +11,7 @@ use Rattle.sqlite.specs.Table.{Table}
 use Rattle.sqlite.specs.Effect.{Database}
 use Rattle.sqlite.specs.State.{State}
 use Rattle.sqlite_rules.specs.Lists.{Has}
-use Rattle.atl_state.specs.State.{State as Campaign}
+use Rattle.atl_state.specs.State.{State as Campaign, with_mail}
 use Rattle.atl_state.specs.Books.{amount_in, row_of, with_booked, entry_place, thing_place, IsGrid}
 use Rattle.atl_state.specs.Founding.{things_of as count_of}
 use Rattle.atl_state.specs.Joining.{joined, new_faction, first_unit}
@@ -24,14 +24,14 @@ use Rattle.atl_state.specs.declared.records.Unit.{Unit}
 use Rattle.atl_state.proofs.BookLaws.{IsGrid-with_booked}
 use Rattle.atl_store.specs.declared.rows.has.Sort.{Sort}
 use Rattle.atl_store.specs.declared.rows.has.Sort.TheVariants.{Item, Skill}
-use Rattle.atl_store.specs.Sets.{Is, Set, put, rows_in}
+use Rattle.atl_store.specs.Sets.{Is, Set, put, visible, rows_in}
 use Rattle.atl_store.specs.Tables.{campaign_table, faction_table, region_table, unit_table, has_table, structure_table, mail_table, report_table, books_table, all_tables}
-use Rattle.atl_store.specs.Shown.{mail_row, report_row}
+use Rattle.atl_store.specs.Shown.{Head, head_row, mail_row, report_row}
 use Rattle.atl_store.specs.Rows.{head_of, campaign_line, faction_line, region_line, unit_line, structure_line, RowsOf, HasRowsOf, BooksRowsOf, things_of, Holds}
 use Rattle.atl_store.specs.PutsHead.{PutsHead}
 use Rattle.atl_store.specs.Inside.{Inside, HasTables, Both, Puts}
 use Rattle.atl_store.specs.Keeps.{IsJoining}
-use Rattle.atl_store.specs.Arriving.{IsFound, Settles, WritesJoin, WritesMail}
+use Rattle.atl_store.specs.Arriving.{IsFound, settled, Settles, HasPut, WritesJoin, WritesMail}
 use Rattle.atl_store.proofs.FillLaws.{stays_is}
 use Rattle.atl_store.proofs.ArriveLaws.{get_inserted, put_rows, no_goods, settled_rows}
 use Rattle.atl_store.proofs.WholeLaws.{inside_then, inside_weaker}
@@ -118,7 +118,7 @@ arrives n f m u report before after found joining =
 
 -- ---- the statements of a joining
 
-put_head : (rows news : List Row) (text : List ℕ) (before after : Campaign) → Is rows (λ r. r ≡ campaign_line text before) → Is news (put 1 (campaign_line text after) (Has rows)) → Is news (λ r. r ≡ campaign_line text after)
+put_head : (rows news : List Row) (text : List ℕ) (before after : Head) → Is rows (λ r. r ≡ head_row before text) → Is news (put 1 (head_row after text) (Has rows)) → Is news (λ r. r ≡ head_row after text)
 put_head rows news text before after was made r = (
   λ there. elim ((made r).0 there) [ inl same ↦ same | inr kept ↦ absurd (kept.1 (ap (take 1) ((was r).0 kept.0))) ],
   λ same. (made r).1 (inl same),
@@ -130,78 +130,82 @@ Enrolls n f m u after world = Both (PutsHead (head_of after) world) (Both (Puts 
 abbrev Reports : ℕ → List ℕ → Campaign → Database → Database → Type 0
 Reports n report after = Both (Puts report_table 1 (report_row n report)) (Both (Settles after Joining Money) (Settles after Joining People))
 
-module _ (n : ℕ) (f : Faction) (m : ℕ) (u : Unit) (report : List ℕ) (after : Campaign) (world : List ℕ) (a j : Database) (enrolls : Both (PutsHead (head_of after) world) (Both (Puts faction_table 1 (faction_line n f)) (Puts unit_table 1 (unit_line m u))) a j) where
-  enrolled : (text : List ℕ) (before : Campaign) → IsArrival n f m u report before after → Holds a.trees text before
-      → Is (rows_in campaign_table j.trees) (λ r. r ≡ campaign_line text after) × Is (rows_in faction_table j.trees) (RowsOf faction_line after.factions) × Is (rows_in unit_table j.trees) (RowsOf unit_line after.units)
-      × ((t : Table) → Has all_tables t → t.tree ≢ 0 → t.tree ≢ 1 → t.tree ≢ 4 → j.trees t.tree ≡ a.trees t.tree)
-  enrolled text before arrival holds =
-      let b = enrolls.0 in
-      let d = enrolls.2.0 in
-      let one = enrolls.1.again (head_of before) text holds.campaign in
-      let two = enrolls.2.1 in
-      let three = enrolls.2.2 in
-      let head = put_head (rows_in campaign_table a.trees) (rows_in campaign_table b.trees) text before after holds.campaign one.rows in
-      let factions = put_rows faction_line (λ k v. refl) (rows_in faction_table b.trees) (rows_in faction_table d.trees) before.factions n f
-      (stays_is faction_table (RowsOf faction_line before.factions) a b (one.others faction_table (inr (inl refl)) (λ e. absurd (omega (arith, e)))) holds.factions) two.rows in
-      let units = put_rows unit_line (λ k v. refl) (rows_in unit_table d.trees) (rows_in unit_table j.trees) before.units m u
-      (stays_is unit_table (RowsOf unit_line before.units) b d (two.others unit_table (inr (inr (inr (inl refl)))) (λ e. absurd (omega (arith, e))))
-      (stays_is unit_table (RowsOf unit_line before.units) a b (one.others unit_table (inr (inr (inr (inl refl)))) (λ e. absurd (omega (arith, e)))) holds.units)) three.rows in (
-        stays_is campaign_table (λ r. r ≡ campaign_line text after) d j (three.others campaign_table (inl refl) (λ e. absurd (omega (arith, e))))
-            (stays_is campaign_table (λ r. r ≡ campaign_line text after) b d (two.others campaign_table (inl refl) (λ e. absurd (omega (arith, e)))) head),
-        subst (λ (x : FinMap nat_cmp Faction). Is (rows_in faction_table j.trees) (RowsOf faction_line x)) (sym arrival.factions)
-            (stays_is faction_table (RowsOf faction_line (insert before.factions n f)) d j (three.others faction_table (inr (inl refl)) (λ e. absurd (omega (arith, e)))) factions),
-        subst (λ (x : FinMap nat_cmp Unit). Is (rows_in unit_table j.trees) (RowsOf unit_line x)) (sym arrival.units) units,
-        λ t listed not_head not_faction not_unit. three.others t listed not_unit ∙ two.others t listed not_faction ∙ one.others t listed not_head,
-      )
+-- what came of the rows of a table that the steps before and after left alone
+rows_moved : (t : Table) (F : List Row → Set) (a b c d : Database) → b.trees t.tree ≡ a.trees t.tree → d.trees t.tree ≡ c.trees t.tree → Is (rows_in t c.trees) (F (rows_in t b.trees)) → Is (rows_in t d.trees) (F (rows_in t a.trees))
+rows_moved t F a b c d first last is = subst (λ rows. Is rows (F (rows_in t a.trees))) (sym (ap (map (visible t)) last)) (subst (λ rows. Is (rows_in t c.trees) (F rows)) (ap (map (visible t)) first) is)
 
-module _ (n : ℕ) (f : Faction) (m : ℕ) (u : Unit) (report : List ℕ) (after : Campaign) (a j : Database) (reports : Both (Puts report_table 1 (report_row n report)) (Both (Settles after Joining Money) (Settles after Joining People)) a j) where
-  reported : (before : Campaign) → IsArrival n f m u report before after → Is (rows_in report_table a.trees) (RowsOf report_row before.reports) → Is (rows_in books_table a.trees) (BooksRowsOf before.books)
-      → Is (rows_in report_table j.trees) (RowsOf report_row after.reports) × Is (rows_in books_table j.trees) (BooksRowsOf after.books) × ((t : Table) → Has all_tables t → t.tree ≢ 9 → t.tree ≢ 10 → j.trees t.tree ≡ a.trees t.tree)
-  reported before arrival was_reports was_books =
-      let b = reports.0 in
-      let d = reports.2.0 in
-      let one = reports.1 in
-      let two = reports.2.1 in
-      let three = reports.2.2 in
-      let report_listed = inr (inr (inr (inr (inr (inr (inr (inl refl))))))) in
-      let books_listed = inr (inr (inr (inr (inr (inr (inr (inr (inl refl)))))))) in
-      let texts = put_rows report_row (λ k v. refl) (rows_in report_table a.trees) (rows_in report_table b.trees) before.reports n report was_reports one.rows in
-      let money = settled_rows after Joining Money before.books arrival.half b d two arrival.money arrival.first
-      (stays_is books_table (BooksRowsOf before.books) a b (one.others books_table books_listed (λ e. absurd (omega (arith, e)))) was_books) in
-      let people = settled_rows after Joining People arrival.half after.books d j three refl arrival.second money in (
-        subst (λ (x : FinMap nat_cmp (List ℕ)). Is (rows_in report_table j.trees) (RowsOf report_row x)) (sym arrival.reports)
-            (stays_is report_table (RowsOf report_row (insert before.reports n report)) d j (three.others report_table report_listed (λ e. absurd (omega (arith, e))))
-            (stays_is report_table (RowsOf report_row (insert before.reports n report)) b d (two.others report_table report_listed (λ e. absurd (omega (arith, e)))) texts)),
-        people,
-        λ t listed not_report not_books. three.others t listed not_books ∙ two.others t listed not_books ∙ one.others t listed not_report,
-      )
+settled_on : (c : Campaign) (e : Entry) (t : Thing) (rows news : List Row) (S : Set) → Is rows S → Is news (settled c e t (Has rows)) → Is news (settled c e t S)
+settled_on c e t rows news S was is r = (
+  λ there. elim ((is r).0 there) [ inl new ↦ inl new | inr kept ↦ inr ((was r).0 kept.0, kept.1) ],
+  λ h. (is r).1 (elim h [ inl new ↦ inl new | inr kept ↦ inr ((was r).1 kept.0, kept.1) ]),
+)
 
-writes_join : (n : ℕ) (f : Faction) (m : ℕ) (u : Unit) (report : List ℕ) (after : Campaign) (world : List ℕ) (a b d : Database) → IsFound after n f m u report → Enrolls n f m u after world a b → Reports n report after b d → WritesJoin n after a d
-writes_join n f m u report after world a b d found enrolls reports text before joining holds =
-    let arrival = arrives n f m u report before after found joining in
-    let one = enrolled n f m u report after world a b enrolls text before arrival holds in
-    let moved : (t : Table) → Has all_tables t → t.tree ≢ 0 → t.tree ≢ 1 → t.tree ≢ 4 → b.trees t.tree ≡ a.trees t.tree = one.3 in
-    let two = reported n f m u report after b d reports before arrival
-    (stays_is report_table (RowsOf report_row before.reports) a b (moved report_table (inr (inr (inr (inr (inr (inr (inr (inl refl)))))))) (λ e. absurd (omega (arith, e))) (λ e. absurd (omega (arith, e))) (λ e. absurd (omega (arith, e)))) holds.reports)
-    (stays_is books_table (BooksRowsOf before.books) a b (moved books_table (inr (inr (inr (inr (inr (inr (inr (inr (inl refl))))))))) (λ e. absurd (omega (arith, e))) (λ e. absurd (omega (arith, e))) (λ e. absurd (omega (arith, e)))) holds.books) in
-    let later : (t : Table) → Has all_tables t → t.tree ≢ 9 → t.tree ≢ 10 → d.trees t.tree ≡ b.trees t.tree = two.2 in
-    let kept : (t : Table) (S : Set) → Has all_tables t → t.tree ≢ 0 → t.tree ≢ 1 → t.tree ≢ 4 → t.tree ≢ 9 → t.tree ≢ 10 → Is (rows_in t a.trees) S → Is (rows_in t d.trees) S =
-    λ t S listed h0 h1 h4 h9 h10 is. stays_is t S b d (later t listed h9 h10) (stays_is t S a b (moved t listed h0 h1 h4) is) in
-    record {
-      campaign = stays_is campaign_table (λ r. r ≡ campaign_line text after) b d (later campaign_table (inl refl) (λ e. absurd (omega (arith, e))) (λ e. absurd (omega (arith, e)))) one.0;
-      factions = stays_is faction_table (RowsOf faction_line after.factions) b d (later faction_table (inr (inl refl)) (λ e. absurd (omega (arith, e))) (λ e. absurd (omega (arith, e)))) one.1;
-      regions = subst (λ m. Is (rows_in region_table d.trees) (RowsOf region_line m)) (sym arrival.regions) (kept region_table (RowsOf region_line before.regions) (inr (inr (inl refl)))
-          (λ e. absurd (omega (arith, e))) (λ e. absurd (omega (arith, e))) (λ e. absurd (omega (arith, e))) (λ e. absurd (omega (arith, e))) (λ e. absurd (omega (arith, e))) holds.regions);
-      units = stays_is unit_table (RowsOf unit_line after.units) b d (later unit_table (inr (inr (inr (inl refl)))) (λ e. absurd (omega (arith, e))) (λ e. absurd (omega (arith, e)))) one.2;
-      has = subst (λ m. Is (rows_in has_table d.trees) (HasRowsOf m)) (sym arrival.units) (no_goods (rows_in has_table d.trees) before.units m u arrival.fresh arrival.bare (kept has_table (HasRowsOf before.units) (inr (inr (inr (inr (inl refl)))))
-          (λ e. absurd (omega (arith, e))) (λ e. absurd (omega (arith, e))) (λ e. absurd (omega (arith, e))) (λ e. absurd (omega (arith, e))) (λ e. absurd (omega (arith, e))) holds.has));
-      structures = subst (λ m. Is (rows_in structure_table d.trees) (RowsOf structure_line m)) (sym arrival.structures) (kept structure_table (RowsOf structure_line before.structures) (inr (inr (inr (inr (inr (inl refl))))))
-          (λ e. absurd (omega (arith, e))) (λ e. absurd (omega (arith, e))) (λ e. absurd (omega (arith, e))) (λ e. absurd (omega (arith, e))) (λ e. absurd (omega (arith, e))) holds.structures);
-      mail = subst (λ m. Is (rows_in mail_table d.trees) (RowsOf mail_row m)) (sym arrival.mail) (kept mail_table (RowsOf mail_row before.mail) (inr (inr (inr (inr (inr (inr (inl refl)))))))
-          (λ e. absurd (omega (arith, e))) (λ e. absurd (omega (arith, e))) (λ e. absurd (omega (arith, e))) (λ e. absurd (omega (arith, e))) (λ e. absurd (omega (arith, e))) holds.mail);
-      reports = two.0;
-      books = two.1;
-    }
+module _ (n : ℕ) (f : Faction) (m : ℕ) (u : Unit) (report : List ℕ) (after : Campaign) (found : IsFound after n f m u report) where
+  joins : (world : List ℕ) (a b d : Database) → Enrolls n f m u after world a b → Reports n report after b d → WritesJoin n after a d
+  joins world a b d enrolls reports before text was =
+      let x = enrolls.0 in
+      let y = enrolls.2.0 in
+      let z = reports.0 in
+      let w = reports.2.0 in
+      let head = enrolls.1.again before text was in
+      let member = enrolls.2.1 in
+      let unit = enrolls.2.2 in
+      let welcome = reports.1 in
+      let money = reports.2.1 in
+      let people = reports.2.2 in
+      let report_listed : Has all_tables report_table = inr (inr (inr (inr (inr (inr (inr (inl refl))))))) in
+      let books_listed : Has all_tables books_table = inr (inr (inr (inr (inr (inr (inr (inr (inl refl)))))))) in
+      let to_books : (t : Table) → Has all_tables t → t.tree ≢ 0 → t.tree ≢ 1 → t.tree ≢ 4 → b.trees t.tree ≡ a.trees t.tree = λ t listed h0 h1 h4. unit.others t listed h4 ∙ member.others t listed h1 ∙ head.others t listed h0 in
+      let from_books : (t : Table) → Has all_tables t → t.tree ≢ 9 → t.tree ≢ 10 → d.trees t.tree ≡ b.trees t.tree = λ t listed h9 h10. people.others t listed h10 ∙ money.others t listed h10 ∙ welcome.others t listed h9 in
+      let alone : (t : Table) → Has all_tables t → t.tree ≢ 0 → t.tree ≢ 1 → t.tree ≢ 4 → t.tree ≢ 9 → t.tree ≢ 10 → d.trees t.tree ≡ a.trees t.tree = λ t listed h0 h1 h4 h9 h10. from_books t listed h9 h10 ∙ to_books t listed h0 h1 h4 in
+      record {
+        campaign = stays_is campaign_table (λ r. r ≡ campaign_line text after) x d
+            (from_books campaign_table (inl refl) (λ e. absurd (omega (arith, e))) (λ e. absurd (omega (arith, e))) ∙ unit.others campaign_table (inl refl) (λ e. absurd (omega (arith, e))) ∙ member.others campaign_table (inl refl) (λ e. absurd (omega (arith, e))))
+            (put_head (rows_in campaign_table a.trees) (rows_in campaign_table x.trees) text before (head_of after) was head.rows);
+        member = λ g is. subst (λ (row : Faction). HasPut faction_table (faction_line n row) a d) (same_Some f g (sym found.faction_is ∙ is))
+            (rows_moved faction_table (λ rows. put 1 (faction_line n f) (Has rows)) a x y d (head.others faction_table (inr (inl refl)) (λ e. absurd (omega (arith, e))))
+            (from_books faction_table (inr (inl refl)) (λ e. absurd (omega (arith, e))) (λ e. absurd (omega (arith, e))) ∙ unit.others faction_table (inr (inl refl)) (λ e. absurd (omega (arith, e)))) member.rows);
+        unit = λ place v at is.
+            let here : m ≡ place = omega (arith, at, found.place_is) in
+            let row : unit_line m u ≡ unit_line place v = ap (λ k. unit_line k u) here ∙ ap (unit_line place) (same_Some u v (sym found.unit_is ∙ ap (get after.units) here ∙ is)) in
+            subst (λ (l : Row). HasPut unit_table l a d) row
+            (rows_moved unit_table (λ rows. put 1 (unit_line m u) (Has rows)) a y b d
+            (member.others unit_table (inr (inr (inr (inl refl)))) (λ e. absurd (omega (arith, e))) ∙ head.others unit_table (inr (inr (inr (inl refl)))) (λ e. absurd (omega (arith, e))))
+            (from_books unit_table (inr (inr (inr (inl refl)))) (λ e. absurd (omega (arith, e))) (λ e. absurd (omega (arith, e)))) unit.rows);
+        report = λ told is. subst (λ (l : List ℕ). HasPut report_table (report_row n l) a d) (same_Some report told (sym found.report_is ∙ is))
+            (rows_moved report_table (λ rows. put 1 (report_row n report) (Has rows)) a b z d (to_books report_table report_listed (λ e. absurd (omega (arith, e))) (λ e. absurd (omega (arith, e))) (λ e. absurd (omega (arith, e))))
+            (people.others report_table report_listed (λ e. absurd (omega (arith, e))) ∙ money.others report_table report_listed (λ e. absurd (omega (arith, e)))) welcome.rows);
+        books = settled_on after Joining People (rows_in books_table w.trees) (rows_in books_table d.trees) (settled after Joining Money (Has (rows_in books_table a.trees)))
+            (rows_moved books_table (λ rows. settled after Joining Money (Has rows)) a z w w
+            (welcome.others books_table books_listed (λ e. absurd (omega (arith, e))) ∙ to_books books_table books_listed (λ e. absurd (omega (arith, e))) (λ e. absurd (omega (arith, e))) (λ e. absurd (omega (arith, e)))) refl money.rows)
+            people.rows;
+        others = λ t listed. elim listed [
+          | inl is ↦ subst (λ (t : Table). d.trees t.tree ≡ a.trees t.tree) (sym is) (alone region_table (inr (inr (inl refl))) (λ e. absurd (omega (arith, e))) (λ e. absurd (omega (arith, e))) (λ e. absurd (omega (arith, e))) (λ e. absurd (omega (arith, e))) (λ e. absurd (omega (arith, e))))
+          | inr (inl is) ↦ subst (λ (t : Table). d.trees t.tree ≡ a.trees t.tree) (sym is) (alone has_table (inr (inr (inr (inr (inl refl))))) (λ e. absurd (omega (arith, e))) (λ e. absurd (omega (arith, e))) (λ e. absurd (omega (arith, e))) (λ e. absurd (omega (arith, e))) (λ e. absurd (omega (arith, e))))
+          | inr (inr (inl is)) ↦ subst (λ (t : Table). d.trees t.tree ≡ a.trees t.tree) (sym is) (alone structure_table (inr (inr (inr (inr (inr (inl refl)))))) (λ e. absurd (omega (arith, e))) (λ e. absurd (omega (arith, e))) (λ e. absurd (omega (arith, e))) (λ e. absurd (omega (arith, e))) (λ e. absurd (omega (arith, e))))
+          | inr (inr (inr (inl is))) ↦ subst (λ (t : Table). d.trees t.tree ≡ a.trees t.tree) (sym is) (alone mail_table (inr (inr (inr (inr (inr (inr (inl refl))))))) (λ e. absurd (omega (arith, e))) (λ e. absurd (omega (arith, e))) (λ e. absurd (omega (arith, e))) (λ e. absurd (omega (arith, e))) (λ e. absurd (omega (arith, e))))
+          | inr (inr (inr (inr none))) ↦ absurd none
+        ];
+      }
+
+  -- tables that held the campaign before the joining hold the one after it
+  pub join_held : (a d : Database) → WritesJoin n after a d → (text : List ℕ) (before : Campaign) → IsJoining before n after → Holds a.trees text before → Holds d.trees text after
+  join_held a d did text before joining holds =
+      let arrival = arrives n f m u report before after found joining in
+      let enters = did (head_of before) text holds.campaign in
+      let money = settled_rows after Joining Money before.books arrival.half (Has (rows_in books_table a.trees)) arrival.money arrival.first holds.books in
+      let people = settled_rows after Joining People arrival.half after.books (settled after Joining Money (Has (rows_in books_table a.trees))) refl arrival.second money in
+      record {
+        campaign = enters.campaign;
+        factions = subst (λ (x : FinMap nat_cmp Faction). Is (rows_in faction_table d.trees) (RowsOf faction_line x)) (sym arrival.factions) (put_rows faction_line (λ k v. refl) (rows_in faction_table a.trees) (rows_in faction_table d.trees) before.factions n f holds.factions (enters.member f found.faction_is));
+        regions = subst (λ x. Is (rows_in region_table d.trees) (RowsOf region_line x)) (sym arrival.regions) (stays_is region_table (RowsOf region_line before.regions) a d (enters.others region_table (inl refl)) holds.regions);
+        units = subst (λ (x : FinMap nat_cmp Unit). Is (rows_in unit_table d.trees) (RowsOf unit_line x)) (sym arrival.units) (put_rows unit_line (λ k v. refl) (rows_in unit_table a.trees) (rows_in unit_table d.trees) before.units m u holds.units (enters.unit m u found.place_is found.unit_is));
+        has = subst (λ x. Is (rows_in has_table d.trees) (HasRowsOf x)) (sym arrival.units) (no_goods (rows_in has_table d.trees) before.units m u arrival.fresh arrival.bare (stays_is has_table (HasRowsOf before.units) a d (enters.others has_table (inr (inl refl))) holds.has));
+        structures = subst (λ x. Is (rows_in structure_table d.trees) (RowsOf structure_line x)) (sym arrival.structures) (stays_is structure_table (RowsOf structure_line before.structures) a d (enters.others structure_table (inr (inr (inl refl)))) holds.structures);
+        mail = subst (λ x. Is (rows_in mail_table d.trees) (RowsOf mail_row x)) (sym arrival.mail) (stays_is mail_table (RowsOf mail_row before.mail) a d (enters.others mail_table (inr (inr (inr (inl refl))))) holds.mail);
+        reports = subst (λ (x : FinMap nat_cmp (List ℕ)). Is (rows_in report_table d.trees) (RowsOf report_row x)) (sym arrival.reports) (put_rows report_row (λ k v. refl) (rows_in report_table a.trees) (rows_in report_table d.trees) before.reports n report holds.reports (enters.report report found.report_is));
+        books = λ r. (λ there. (people r).0 ((enters.books r).0 there), λ of. (enters.books r).1 ((people r).1 of));
+      }
 
 pub enrolling_done : (n : ℕ) (f : Faction) (m : ℕ) (u : Unit) (after : Campaign) (world : List ℕ) (start one two three : State) → Inside HasTables (PutsHead (head_of after) world) start one → Inside HasTables (Puts faction_table 1 (faction_line n f)) one two
     → Inside HasTables (Puts unit_table 1 (unit_line m u)) two three → Inside HasTables (Both (PutsHead (head_of after) world) (Both (Puts faction_table 1 (faction_line n f)) (Puts unit_table 1 (unit_line m u)))) start three
@@ -221,13 +225,14 @@ pub joining_done : (n : ℕ) (f : Faction) (m : ℕ) (u : Unit) (report : List �
     → Inside HasTables (Both (PutsHead (head_of after) world) (Both (Puts faction_table 1 (faction_line n f)) (Puts unit_table 1 (unit_line m u)))) start one
     → Inside HasTables (Both (Puts report_table 1 (report_row n report)) (Both (Settles after Joining Money) (Settles after Joining People))) one two → Inside HasTables (WritesJoin n after) start two
 joining_done n f m u report after world start one two found first second =
-    inside_weaker HasTables (Both (Enrolls n f m u after world) (Reports n report after)) (WritesJoin n after) start two (λ has did. writes_join n f m u report after world start.now did.0 two.now found did.1 did.2)
+    inside_weaker HasTables (Both (Enrolls n f m u after world) (Reports n report after)) (WritesJoin n after) start two (λ has did. joins n f m u report after found world start.now did.0 two.now did.1 did.2)
     (inside_then HasTables (Enrolls n f m u after world) (Reports n report after) start one two first second)
 
 -- ---- a mail
 
-writes_mail : (faction : ℕ) (mail : List ℕ) (a b : Database) → Puts mail_table 1 (mail_row faction mail) a b → WritesMail faction mail a b
-writes_mail faction mail a b did text before holds = record {
+-- tables that held a campaign hold it with this mail
+pub mail_held : (faction : ℕ) (mail : List ℕ) (a b : Database) → WritesMail faction mail a b → (text : List ℕ) (before : Campaign) → Holds a.trees text before → Holds b.trees text (with_mail before faction mail)
+mail_held faction mail a b did text before holds = record {
   campaign = stays_is campaign_table (λ r. r ≡ campaign_line text before) a b (did.others campaign_table (inl refl) (λ e. absurd (omega (arith, e)))) holds.campaign;
   factions = stays_is faction_table (RowsOf faction_line before.factions) a b (did.others faction_table (inr (inl refl)) (λ e. absurd (omega (arith, e)))) holds.factions;
   regions = stays_is region_table (RowsOf region_line before.regions) a b (did.others region_table (inr (inr (inl refl))) (λ e. absurd (omega (arith, e)))) holds.regions;
@@ -238,6 +243,3 @@ writes_mail faction mail a b did text before holds = record {
   reports = stays_is report_table (RowsOf report_row before.reports) a b (did.others report_table (inr (inr (inr (inr (inr (inr (inr (inl refl)))))))) (λ e. absurd (omega (arith, e)))) holds.reports;
   books = stays_is books_table (BooksRowsOf before.books) a b (did.others books_table (inr (inr (inr (inr (inr (inr (inr (inr (inl refl))))))))) (λ e. absurd (omega (arith, e)))) holds.books;
 }
-
-pub mailing_done : (faction : ℕ) (mail : List ℕ) (start one : State) → Inside HasTables (Puts mail_table 1 (mail_row faction mail)) start one → Inside HasTables (WritesMail faction mail) start one
-mailing_done faction mail start one did = inside_weaker HasTables (Puts mail_table 1 (mail_row faction mail)) (WritesMail faction mail) start one (λ has. writes_mail faction mail start.now one.now) did

@@ -39,7 +39,7 @@ use Rattle.atl_store.specs.StoredRows.{faction_stored, region_stored, unit_store
 use Rattle.atl_store.specs.Tables.{campaign_table, faction_table, region_table, unit_table, has_table, structure_table, mail_table, report_table, books_table, all_tables}
 use Rattle.atl_store.proofs.EntryLaws.{below_has, less_apart, in_order}
 use Rattle.atl_store.proofs.ListLaws.{map_has}
-use Rattle.atl_store.proofs.LoadLaws.{keyed_by}
+use Rattle.atl_store.proofs.LoadLaws.{keyed_by, keyed_shown}
 
 -- ---- rows by a number that each of them has in a column
 
@@ -63,6 +63,19 @@ module _ {A : Type 0} (shown : A → Row) (number : A → ℤ) (at : ℕ) (is : 
   -- f shows a row, with its rowid in this column
   keyed_numbers : (f : Row → Row) (tree : List Row) (read : List A) → ((r : Row) → column (f r) at ≡ rowid r) → IsPermutation (map f tree) (map shown read) → IsDistinct int_eq (map number read) → IsKeyed tree
   keyed_numbers f tree read rowid_is in_table apart = keyed_by f at tree (map shown read) rowid_is in_table (record { apart = columns_apart read apart; ints = are_ints read })
+
+  each_number_apart : (a : A) (xs : List A) → AllByRecursion (λ r. is_eq (value_cmp (column (shown a) at) (column r at)) ≡ false) (map shown xs) → AllByRecursion (λ n. int_eq (number a) n ≡ false) (map number xs)
+  each_number_apart a [] all = tt
+  each_number_apart a (x ∷ xs) all = (sym (same_test a x) ∙ all.0, each_number_apart a xs all.1)
+
+  numbers_apart : (xs : List A) → IsDistinct (λ a b. is_eq (value_cmp (column a at) (column b at))) (map shown xs) → IsDistinct int_eq (map number xs)
+  unfolding IsDistinct
+  numbers_apart [] apart = tt
+  numbers_apart (x ∷ xs) apart = (each_number_apart x xs apart.0, numbers_apart xs apart.1)
+
+  -- and back from a tree whose rowids differ
+  keyed_apart : (f : Row → Row) (tree : List Row) (read : List A) → ((r : Row) → column (f r) at ≡ rowid r) → IsPermutation (map f tree) (map shown read) → IsKeyed tree → IsDistinct int_eq (map number read)
+  keyed_apart f tree read rowid_is in_table keyed = numbers_apart read (keyed_shown f at tree (map shown read) rowid_is in_table keyed)
 
 -- ---- rows that are made of the entries of a map
 
@@ -116,6 +129,12 @@ has_keyed db placed same apart = keyed_numbers has_stored (λ s. s.rowid) 4 (λ 
 
 pub books_keyed : (db : Trees) (placed : List (Placed StoredBooks)) → IsPermutation (placed_rows_in books_table db) (map books_stored placed) → IsDistinct int_eq (map (λ s. s.rowid) placed) → IsKeyed (db books_table.tree)
 books_keyed db placed same apart = keyed_numbers books_stored (λ s. s.rowid) 3 (λ s. refl) (λ r. visible books_table r ++ rowid r ∷ []) (db books_table.tree) placed (λ r. refl) same apart
+
+pub has_apart : (db : Trees) (placed : List (Placed StoredHas)) → IsPermutation (placed_rows_in has_table db) (map has_stored placed) → IsKeyed (db has_table.tree) → IsDistinct int_eq (map (λ s. s.rowid) placed)
+has_apart db placed same keyed = keyed_apart has_stored (λ s. s.rowid) 4 (λ s. refl) (λ r. visible has_table r ++ rowid r ∷ []) (db has_table.tree) placed (λ r. refl) same keyed
+
+pub books_apart : (db : Trees) (placed : List (Placed StoredBooks)) → IsPermutation (placed_rows_in books_table db) (map books_stored placed) → IsKeyed (db books_table.tree) → IsDistinct int_eq (map (λ s. s.rowid) placed)
+books_apart db placed same keyed = keyed_apart books_stored (λ s. s.rowid) 3 (λ s. refl) (λ r. visible books_table r ++ rowid r ∷ []) (db books_table.tree) placed (λ r. refl) same keyed
 
 -- ---- all nine
 

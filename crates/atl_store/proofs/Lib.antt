@@ -11,6 +11,7 @@ pub mod GoodsRewriteLaws
 pub mod BooksRewriteLaws
 pub mod RewriteAllLaws
 pub mod KeepLaws
+pub mod CauseLaws
 pub mod WriteLaws
 pub mod ReadLaws
 pub mod CreateLaws
@@ -49,3 +50,4 @@ pub mod KeyedLaws
 pub mod LoadedLaws
 pub mod ListedLaws
 pub mod ReopenLaws
+pub mod AlikeLaws

@@ -44,6 +44,23 @@ flips at a b = ap is_eq (value_cmp_total.antisymm (column a at) (column b at)) �
     reversed Equal = refl
     reversed Greater = refl
 
+mapped_all : (f : Row → Row) (P Q : Row → Type 0) (rows : List Row) → ((r : Row) → Q r → P (f r)) → AllByRecursion Q rows → AllByRecursion P (map f rows)
+mapped_all f P Q [] so all = tt
+mapped_all f P Q (r ∷ rows) so all = (so r all.0, mapped_all f P Q rows so all.1)
+
+mapped_distinct : (f : Row → Row) (at : ℕ) (rows : List Row) → ((r : Row) → column (f r) at ≡ rowid r) → IsAscending (λ a b. is_eq (value_cmp (rowid a) (rowid b)) ≡ false) rows
+    → IsDistinct (λ a b. is_eq (value_cmp (column a at) (column b at))) (map f rows)
+unfolding IsDistinct
+mapped_distinct f at [] is apart = tt
+mapped_distinct f at (r ∷ rows) is apart = (
+  mapped_all f _ _ rows (λ x h. ap (λ v. is_eq (value_cmp v (column (f x) at))) (is r) ∙ ap (λ v. is_eq (value_cmp (rowid r) v)) (is x) ∙ h) apart.0,
+  mapped_distinct f at rows is apart.1,
+)
+
+-- rows that differ in their rowids are shown with different ones
+pub keyed_shown : (f : Row → Row) (at : ℕ) (tree shown : List Row) → ((r : Row) → column (f r) at ≡ rowid r) → IsPermutation (map f tree) shown → IsKeyed tree → IsDistinct (λ a b. is_eq (value_cmp (column a at) (column b at))) shown
+keyed_shown f at tree shown is same keyed = IsDistinct-IsPermutation _ (flips at) (map f tree) shown same (mapped_distinct f at tree is keyed.apart)
+
 -- f shows a row, with its rowid in this column, and these are all rows that it shows
 pub keyed_by : (f : Row → Row) (at : ℕ) (tree shown : List Row) → ((r : Row) → column (f r) at ≡ rowid r) → IsPermutation (map f tree) shown → HaveKeys at shown → IsKeyed tree
 keyed_by f at tree shown is same have =

@@ -1,5 +1,6 @@
 -- From the rows that were read to the campaign that is loaded.
-use Rattle.std.proofs.Common.{◌≡◌, List, [], ◌∷◌, Bool, true, false, not, pos, IsTrue, Result, Ok, Err, IfErr, IsErrAnd, arith, refl, sym, ap, ◌∙◌, subst, inr, string_bytes}
+use Rattle.std.proofs.Common.{◌≡◌, List, [], ◌∷◌, Bool, true, false, not, pos, IsTrue, Result, Ok, Err, IfErr, IsErrAnd, ◌⊎◌, Some, inl, arith, refl, sym, ap, ◌∙◌, subst, inr, string_bytes}
+use Rattle.std.proofs.lemmas.Bool.{cases_Bool}
 use Rattle.sqlite_catalog.specs.Listing.{IsSound}
 use Rattle.sqlite_trees.specs.Tree.{Trees}
 use Rattle.sqlite_trees.specs.declared.store.Store.{Ghosts}
@@ -18,16 +19,18 @@ use Rattle.atl_state.specs.declared.checking.Rule.TheVariants.{OneRow, Ranges, N
 use Rattle.atl_state.specs.declared.parts.Parts.{Parts}
 use Rattle.atl_state.specs.declared.parts.StoredHead.{StoredHead}
 use Rattle.atl_store.specs.Faults.{judged_fault}
-use Rattle.atl_store.specs.Gathering.{IsSettled, Leaves, Fails, OwnRead, OthersRead, AreOthers, IsMadeOf, HavePlaces, Gathered, IsConfirmed, IsLoaded}
+use Rattle.atl_store.specs.Gathering.{IsSettled, Lacks, Found, FailsToRead, FailsToConfirm, AreApart, OwnRead, OthersRead, AreOthers, IsMadeOf, HavePlaces, Gathered, IsConfirmed, IsLoaded}
 use Rattle.atl_store.specs.Inside.{HasTables}
 use Rattle.atl_store.specs.Keeps.{Keeps, Stores}
-use Rattle.atl_store.specs.Loading.{HaveRows, KeepsOneRow, BreaksRule, IsDamaged, RefusesToLoad, Loads, LeavesAlone}
+use Rattle.atl_store.specs.Loading.{HaveRows, KeepsOneRow, BreaksRule, IsDamaged, RefusesToLoad, Loads, LeavesAlone, Leaves, AreMade, AreToldTyped, WantsMemory, FailedMeanwhile, RefusesAgain, other_selects}
+use Rattle.atl_store.specs.Selects.{all_campaign}
 use Rattle.atl_store.specs.Rows.{Holds}
 use Rattle.atl_store.specs.Tables.{HasNine}
 use Rattle.atl_store.specs.declared.fault.StoreFault.{StoreFault}
 use Rattle.atl_store.specs.declared.fault.StoreFault.TheVariants.{Store, Damaged, NotACampaign, Memory}
 use Rattle.atl_store.specs.declared.rows.campaign.StoredCampaign.{StoredCampaign}
-use Rattle.atl_store.proofs.KeyedLaws.{rows_keyed, has_keyed, books_keyed, has_unplaced, books_unplaced}
+use Rattle.atl_store.proofs.KeyedLaws.{rows_keyed, has_keyed, books_keyed, has_apart, books_apart, has_unplaced, books_unplaced}
+use Rattle.atl_store.proofs.GatherLaws.{shown_open, fails_then}
 use Rattle.atl_store.proofs.PartsLaws.{rows_hold}
 use Rattle.atl_store.proofs.WorldTextLaws.{world_text_is}
 
@@ -72,20 +75,28 @@ module _ {S : Type 0} (g : Ghosts S) where
     books_apart = made.books_apart;
   }
 
-  pub gathered_with : {Z : Type 0} (old : Held S) (own : StoredCampaign) (w : Planet) (read : OthersRead Z) (p : Parts) → OwnRead g old own w → AreOthers g old read → IsMadeOf own.head read p → Gathered g old w p
-  gathered_with old own w read p row others made = record {
+  pub gathered_with : {Z : Type 0} (old : Held S) (own : StoredCampaign) (w : Planet) (read : OthersRead Z) (p : Parts) → OwnRead g old own w → Found g old other_selects (AreOthers g old) (Some read) → IsMadeOf own.head read p → Gathered g old w p
+  gathered_with old own w read p row found made = record {
     one = own_kept old own w row;
     head = one_head own.head p.campaign row.row.id row.row.format (ap (λ (p : Parts). p.campaign) made.is);
     text = string_bytes own.world;
     world = row.row.world;
-    rows = made_rows old own w read p row others made;
-    places = made_places old own.head read p others made;
+    typed = found.0;
+    rows = made_rows old own w read p row found.1 made;
+    places = made_places old own.head read p found.1 made;
   }
 
   -- ---- what the check of the rows refuses
 
+  -- the tables are made as those of a campaign
+  are_made : (old : Held S) (w : Planet) (p : Parts) → Gathered g old w p → HasNine old.schema → AreMade g old
+  are_made old w p all nine =
+      let places = all.places nine in
+      let db = (state g old).now.trees in
+      record { nine = nine; has_keyed = has_keyed db places.has_placed places.has places.has_apart; books_keyed = books_keyed db places.books_placed places.books places.books_apart }
+
   breaks : (old : Held S) (w : Planet) (p : Parts) → Gathered g old w p → HasNine old.schema → (rule : Rule) → IsFirstBroken w p rule → BreaksRule g old rule
-  breaks old w p all nine rule first = record { world = w; text = all.text; is_world = all.world; parts = p; rows = all.rows nine; first = first }
+  breaks old w p all nine rule first = record { made = are_made old w p all nine; world = w; text = all.text; is_world = all.world; parts = p; rows = all.rows nine; first = first }
 
   damaged : (old : Held S) (w : Planet) (p : Parts) → Gathered g old w p → HasNine old.schema → (rule : Rule) → IsFirstBroken w p rule → IsDamaged g old rule
   damaged old w p all nine OneRow first = absurd (first.broken all.head)
@@ -101,16 +112,66 @@ module _ {S : Type 0} (g : Ghosts S) where
   damaged old w p all nine Books first = breaks old w p all nine Books first
   damaged old w p all nine Mail first = breaks old w p all nine Mail first
 
-  pub judged_damaged : (old : Held S) (w : Planet) (p : Parts) → Gathered g old w p → HasNine old.schema → (fault : CheckFault) → Checks w p (Err fault) → RefusesToLoad g old (judged_fault fault)
-  judged_damaged old w p all nine (check.Damaged rule) first = damaged old w p all nine rule first
-  judged_damaged old w p all nine check.Memory none = tt
+  -- behind the first rule a growth may be refused anywhere
+  wants_memory : (old : Held S) → old.in_transaction ≡ false → KeepsOneRow g old → WantsMemory g old
+  wants_memory old idle kept = (idle, inr (kept.rows, kept.selects))
 
-  -- behind the first rule
-  pub fails_refuse : (old : Held S) (fault : StoreFault) → KeepsOneRow g old → Fails fault → RefusesToLoad g old fault
-  fails_refuse old Store kept fails = inr (inr kept)
-  fails_refuse old (Damaged rule) kept fails = absurd fails
-  fails_refuse old NotACampaign kept fails = absurd fails
-  fails_refuse old Memory kept fails = tt
+  pub judged_damaged : (old : Held S) → old.in_transaction ≡ false → (w : Planet) (p : Parts) → Gathered g old w p → HasNine old.schema → (fault : CheckFault) → Checks w p (Err fault) → RefusesToLoad g old (judged_fault fault)
+  judged_damaged old idle w p all nine (check.Damaged rule) first = damaged old w p all nine rule first
+  judged_damaged old idle w p all nine check.Memory none = wants_memory old idle all.one
+
+  -- ---- what else is refused behind the first rule
+
+  -- another table isn't read
+  pub unread_refuses : (old mid : Held S) → old.in_transaction ≡ false → KeepsOneRow g old → Leaves g old mid → (fault : StoreFault) → FailsToRead g mid other_selects fault → RefusesToLoad g old fault
+  unread_refuses old mid idle kept first fault fails = refused fault (fails_then g old mid first other_selects fault fails)
+    where
+      refused : (fault : StoreFault) → FailsToRead g old other_selects fault → RefusesToLoad g old fault
+      refused Store fails = inr (inr (kept, inl fails))
+      refused (Damaged rule) fails = absurd fails
+      refused NotACampaign fails = absurd fails
+      refused Memory fails = wants_memory old idle kept
+
+  -- tables that are so made have no two rows of has, or of books, at one place
+  made_apart : {Z : Type 0} (old : Held S) (read : OthersRead Z) → AreOthers g old read → AreMade g old → AreApart read.0.1.1.items × AreApart read.1.1.items
+  made_apart old read others made =
+      let db = (state g old).now.trees in
+      (has_apart db read.0.1.1.items (others.0.1.1 made.nine) made.has_keyed, books_apart db read.1.1.items (others.1.1 made.nine) made.books_keyed)
+
+  -- the rows are not put together
+  pub unmade_refuses : {Z : Type 0} (old : Held S) → old.in_transaction ≡ false → KeepsOneRow g old → (read : OthersRead Z) → Found g old other_selects (AreOthers g old) (Some read)
+      → (fault : StoreFault) → Lacks (AreApart read.0.1.1.items × AreApart read.1.1.items) fault → RefusesToLoad g old fault
+  unmade_refuses old idle kept read found Store lacks = inr (inr (kept, inr (found.0, inl (λ made. lacks (made_apart old read found.1 made)))))
+  unmade_refuses old idle kept read found (Damaged rule) lacks = absurd lacks
+  unmade_refuses old idle kept read found NotACampaign lacks = absurd lacks
+  unmade_refuses old idle kept read found Memory lacks = wants_memory old idle kept
+
+  -- the tables are not confirmed
+  module _ (old mid : Held S) (kept : KeepsOneRow g old) (first : Leaves g old mid) (clean : HasCleanDisk (state g mid)) where
+    was_open : IsTrue (state g old).is_open
+    was_open = shown_open all_campaign _ _ kept.rows kept.selects.1
+
+    shut_failed : (state g mid).is_open ≡ false → FailedMeanwhile g old
+    shut_failed shut = record {
+      after = mid;
+      leaves = first;
+      failed = elim (first.survives.closes clean was_open) [ inl up ↦ absurd (let k = sym up ∙ shut in cc) | inr more ↦ more ];
+    }
+
+    -- the schema is another one, or the connection is shut
+    other_schema : ¬ HasNine mid.schema → (¬ AreMade g old) ⊎ (FailedMeanwhile g old ⊎ RefusesAgain g old false)
+    other_schema other = elim (cases_Bool (state g mid).is_open) [
+      | inl up ↦ inl (λ made. other (subst (λ (d : Database). HasNine d.schema) (sym ((first.stays clean).same up).0) made.nine))
+      | inr shut ↦ inr (inl (shut_failed shut))
+    ]
+
+    pub unconfirmed_refuses : old.in_transaction ≡ false → AreToldTyped g old other_selects → (fault : StoreFault) → FailsToConfirm g mid fault → RefusesToLoad g old fault
+    unconfirmed_refuses idle typed Store (inl other) = inr (inr (kept, inr (typed, other_schema other)))
+    unconfirmed_refuses idle typed Store (inr again) =
+        inr (inr (kept, inr (typed, inr (inr (record { before = mid; leaves = first; during = again.1.0; error = again.1.1; refused = again.1.2; memory_is = again.1.3 })))))
+    unconfirmed_refuses idle typed (Damaged rule) fails = absurd fails
+    unconfirmed_refuses idle typed NotACampaign fails = absurd fails
+    unconfirmed_refuses idle typed Memory fails = wants_memory old idle kept
 
   -- a fault that was handed on
   pub told_as : {A : Type 0} (P : StoreFault → Type 0) (fault : StoreFault) (r : Result A StoreFault) → IsErrAnd r (λ told. told ≡ fault) → P fault → IfErr r P

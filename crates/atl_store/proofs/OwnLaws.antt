@@ -1,5 +1,5 @@
 -- Why the campaign's own row is refused.
-use Rattle.std.proofs.Common.{◌≡◌, ℕ, List, [], ◌∷◌, map, length, Result, Ok, Err, IfOk, IfErr, IsPermutation, refl, sym, ap, ◌∙◌, subst, inl, inr, string_bytes}
+use Rattle.std.proofs.Common.{◌≡◌, ℕ, false, List, [], ◌∷◌, map, length, Result, Ok, Err, IfOk, IfErr, IsPermutation, refl, sym, ap, ◌∙◌, subst, inl, inr, string_bytes}
 use Rattle.std.proofs.lemmas.Str.{IsUtf8-string_bytes}
 use Rattle.sqlite.specs.Held.{Held, state}
 use Rattle.sqlite.specs.Order.{Row, column}
@@ -116,24 +116,24 @@ unread_rows rows read.Refused other which = absurd (let e = which (λ e. cc) in 
 
 module _ {S : Type 0} (g : Ghosts S) (old : Held S) where
   -- the rows are not as they should be
-  pub refuses_own : (rows : List Row) (r : Result (StoredCampaign × Planet) StoreFault) → JudgesRows rows r → Selects g all_campaign old rows
+  pub refuses_own : old.in_transaction ≡ false → (rows : List Row) (r : Result (StoredCampaign × Planet) StoreFault) → JudgesRows rows r → Selects g all_campaign old rows
       → IfErr r (RefusesToLoad g old)
-  refuses_own rows (Ok both) judged told = tt
-  refuses_own rows (Err Memory) judged told = tt
-  refuses_own rows (Err (Damaged OneRow)) judged told = record { rows = rows; selects = told; broken = judged }
-  refuses_own rows (Err Store) judged told = absurd judged
-  refuses_own rows (Err NotACampaign) judged told = absurd judged
-  refuses_own rows (Err (Damaged Ranges)) judged told = absurd judged
-  refuses_own rows (Err (Damaged Names)) judged told = absurd judged
-  refuses_own rows (Err (Damaged Known)) judged told = absurd judged
-  refuses_own rows (Err (Damaged Next)) judged told = absurd judged
-  refuses_own rows (Err (Damaged Days)) judged told = absurd judged
-  refuses_own rows (Err (Damaged Gone)) judged told = absurd judged
-  refuses_own rows (Err (Damaged Owners)) judged told = absurd judged
-  refuses_own rows (Err (Damaged Water)) judged told = absurd judged
-  refuses_own rows (Err (Damaged Guards)) judged told = absurd judged
-  refuses_own rows (Err (Damaged Books)) judged told = absurd judged
-  refuses_own rows (Err (Damaged Mail)) judged told = absurd judged
+  refuses_own idle rows (Ok both) judged told = tt
+  refuses_own idle rows (Err Memory) judged told = (idle, inr (rows, told))
+  refuses_own idle rows (Err (Damaged OneRow)) judged told = record { rows = rows; selects = told; broken = judged }
+  refuses_own idle rows (Err Store) judged told = absurd judged
+  refuses_own idle rows (Err NotACampaign) judged told = absurd judged
+  refuses_own idle rows (Err (Damaged Ranges)) judged told = absurd judged
+  refuses_own idle rows (Err (Damaged Names)) judged told = absurd judged
+  refuses_own idle rows (Err (Damaged Known)) judged told = absurd judged
+  refuses_own idle rows (Err (Damaged Next)) judged told = absurd judged
+  refuses_own idle rows (Err (Damaged Days)) judged told = absurd judged
+  refuses_own idle rows (Err (Damaged Gone)) judged told = absurd judged
+  refuses_own idle rows (Err (Damaged Owners)) judged told = absurd judged
+  refuses_own idle rows (Err (Damaged Water)) judged told = absurd judged
+  refuses_own idle rows (Err (Damaged Guards)) judged told = absurd judged
+  refuses_own idle rows (Err (Damaged Books)) judged told = absurd judged
+  refuses_own idle rows (Err (Damaged Mail)) judged told = absurd judged
 
   -- they are the campaign's own row and its world
   pub own_is : (rows : List Row) (r : Result (StoredCampaign × Planet) StoreFault) → JudgesRows rows r → Selects g all_campaign old rows
@@ -142,8 +142,8 @@ module _ {S : Type 0} (g : Ghosts S) (old : Held S) where
   own_is rows (Ok both) judged told = record { rows = rows; selects = told; row = judged; table = λ nine. subst (IsPermutation (rows_in campaign_table (state g old).now.trees)) judged.is (reads_campaign _ _ rows told.1 nine) }
 
   -- they could not be asked for
-  pub unasked_own : (fault : ReadFault) → RefusesToSelect g all_campaign old fault → RefusesToLoad g old (own_fault fault)
-  unasked_own read.Store refused = inr (inl refused)
-  unasked_own read.Memory refused = tt
-  unasked_own read.Refused refused = refused
-  unasked_own read.OtherType refused = absurd (never_other g all_campaign old read.OtherType refused refl)
+  pub unasked_own : old.in_transaction ≡ false → (fault : ReadFault) → RefusesToSelect g all_campaign old fault → RefusesToLoad g old (own_fault fault)
+  unasked_own idle read.Store refused = inr (inl refused)
+  unasked_own idle read.Memory refused = (idle, inl refused)
+  unasked_own idle read.Refused refused = refused
+  unasked_own idle read.OtherType refused = absurd (never_other g all_campaign old read.OtherType refused refl)

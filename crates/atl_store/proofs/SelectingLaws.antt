@@ -104,6 +104,10 @@ not_other e same = by_memory (is_memory e) (is_failure e) same
 pub never_other : {S : Type 0} (g : Ghosts S) (sql : List ℕ) (old : Held S) (fault : ReadFault) → RefusesToSelect g sql old fault → fault ≡ OtherType → ⊥
 never_other g sql old fault told same = not_other told.1 (sym told.3 ∙ same)
 
+if_both : {A E : Type 0} (P Q : A → Type 0) (r : Result A E) → IfOk r P → IfOk r Q → IfOk r (λ a. P a × Q a)
+if_both P Q (Ok a) p q = (p, q)
+if_both P Q (Err e) p q = tt
+
 module _ {S A Z : Type 0} (g : Ghosts S) (sql : List ℕ) (old new : Held S) (forms : List Form) (shown : A → Row) where
   -- the SELECT was refused
   pub unasked : {Y : Type 0} (fault : ReadFault) (r : Result (Vec A Z) ReadFault) → Asks g sql old {Z = Y} (Err fault) new → IsErrAnd r (λ told. told ≡ fault) → ReadsRows g sql old forms shown r new
@@ -112,6 +116,7 @@ module _ {S A Z : Type 0} (g : Ghosts S) (sql : List ℕ) (old new : Held S) (fo
     rows = λ _. tt;
     other = λ clean same. absurd (never_other g sql old told (subst (RefusesToSelect g sql old) (sym is) (asks.refused clean)) same);
     refused = λ clean _ _. subst (RefusesToSelect g sql old) (sym is) (asks.refused clean);
+    memory = λ clean same. inl (subst (RefusesToSelect g sql old) (sym is ∙ same) (asks.refused clean));
     rests = asks.rests;
     survives = asks.survives;
     idle = asks.idle;
@@ -119,11 +124,12 @@ module _ {S A Z : Type 0} (g : Ghosts S) (sql : List ℕ) (old new : Held S) (fo
 
   -- it was answered, and its rows were read
   pub parsed : {Y : Type 0} (rows : Vec Row Y) (lent : List Row) (r : Result (Vec A Z) ReadFault) → Asks g sql old (Ok rows) new → lent ≡ rows.items
-      → IfOk r (λ all. map shown all.items ≡ map (first_columns (length forms)) lent) → IfErr r (λ fault. fault ≡ OtherType → ¬ AreTyped forms lent) → IfErr r (λ fault. fault ≢ OtherType → fault ≡ Memory) → ReadsRows g sql old forms shown r new
-  parsed rows lent r asks same ok other which = record {
-    rows = λ clean. if_ok r (λ all told. (rows.items, asks.rows clean, told ∙ ap (map (first_columns (length forms))) same)) ok;
+      → IfOk r (λ all. map shown all.items ≡ map (first_columns (length forms)) lent) → IfOk r (λ _. AreTyped forms lent) → IfErr r (λ fault. fault ≡ OtherType → ¬ AreTyped forms lent) → IfErr r (λ fault. fault ≢ OtherType → fault ≡ Memory) → ReadsRows g sql old forms shown r new
+  parsed rows lent r asks same ok typed other which = record {
+    rows = λ clean. if_ok r (λ all told. (rows.items, asks.rows clean, told.0 ∙ ap (map (first_columns (length forms))) same, subst (λ l. AreTyped forms l) same told.1)) (if_both _ _ r ok typed);
     other = λ clean. if_err r (λ fault told is. (rows.items, asks.rows clean, subst (λ l. ¬ AreTyped forms l) same (told is))) other;
     refused = λ clean. if_err r (λ fault told no never. absurd (never (told no))) which;
+    memory = λ clean. if_err r (λ fault told is. inr (rows.items, asks.rows clean)) which;
     rests = asks.rests;
     survives = asks.survives;
     idle = asks.idle;

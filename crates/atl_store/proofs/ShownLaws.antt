@@ -1,10 +1,14 @@
 -- From the rows that a SELECT answers to the rows that are read of them.
-use Rattle.std.proofs.Common.{◌≡◌, ◌<◌, ℕ, true, false, not, IsTrue, if◌then◌else◌, List, [], ◌∷◌, map, length, get_or, ap, ◌∙◌, refl, subst}
+use Rattle.std.proofs.Common.{◌≡◌, ◌<◌, ℕ, ℤ, IsUtf8, true, false, not, IsTrue, if◌then◌else◌, List, [], ◌∷◌, ◌++◌, ◌+◌, map, length, get_or, take, ap, ◌∙◌, refl, sym, subst, inl, inr}
 use Rattle.std.specs.List.Sorted.{IsPermutation}
 use Rattle.std.proofs.lemmas.List.Sorted.{IsPermutation-map}
-use Rattle.sqlite.specs.Order.{Row}
+use Rattle.sqlite.specs.Order.{Row, column}
+use Rattle.sqlite.specs.declared.types.Value.TheVariants.{Int, Text}
+use Rattle.atl_store.specs.StoredRows.{head_forms, campaign_forms, report_forms}
+use Rattle.std.proofs.lemmas.List.{take_more, map-append}
 use Rattle.sqlite.specs.declared.error.Error.{Error}
-use Rattle.sqlite_rules.proofs.ListLemmas.{has_at}
+use Rattle.sqlite_rules.specs.Lists.{Has}
+use Rattle.sqlite_rules.proofs.ListLemmas.{has_at, has_either}
 use Rattle.atl_store.specs.Faults.{is_memory, value_fault}
 use Rattle.atl_store.specs.Stored.{Form, IsTyped, AreTyped}
 use Rattle.atl_store.specs.declared.fault.ReadFault.TheVariants.{Memory, OtherType}
@@ -26,3 +30,28 @@ other_only e is = elim (is_memory e) as (λ b. (if b then Memory else OtherType)
 
 pub refuses_row : (forms : List Form) (rows : List Row) (at : ℕ) (row : Row) (e : Error) → at < length rows → row ≡ get_or rows at row → (IsTrue (not (is_memory e)) → ¬ IsTyped forms row) → value_fault e ≡ OtherType → ¬ AreTyped forms rows
 refuses_row forms rows at row e within is refused told typed = refused (other_only e told) (typed row (has_at rows at row within is))
+
+-- the rows before a row are typed, and it is
+typed_more : (forms : List Form) (rows more : List Row) (row : Row) → more ≡ rows ++ row ∷ [] → AreTyped forms rows → IsTyped forms row → AreTyped forms more
+typed_more forms rows more row is before typed r there = elim (has_either rows (row ∷ []) r (subst (λ l. Has l r) is there)) [
+  | inl one ↦ before r one
+  | inr last ↦ elim last [ inl same ↦ subst (IsTyped forms) (sym same) typed | inr none ↦ absurd none ]
+]
+
+pub typed_next : (forms : List Form) (rows : List Row) (at : ℕ) (row : Row) → at < length rows → row ≡ get_or rows at row → AreTyped forms (take at rows) → IsTyped forms row → AreTyped forms (take (at + 1) rows)
+typed_next forms rows at row within is = typed_more forms (take at rows) (take (at + 1) rows) row (take_more rows at row within ∙ ap (λ r. take at rows ++ r ∷ []) (sym is))
+
+-- what was read so far, and one more row
+pub mapped_next : {A : Type 0} (shown : A → Row) (cut : Row → Row) (all more : List A) (a : A) (rows : List Row) (at : ℕ) (row : Row) → at < length rows → row ≡ get_or rows at row → more ≡ all ++ a ∷ [] → map shown all ≡ map cut (take at rows) → shown a ≡ cut row
+    → map shown more ≡ map cut (take (at + 1) rows)
+mapped_next shown cut all more a rows at row within is more_is same one =
+    ap (map shown) more_is ∙ map-append shown all (a ∷ []) ∙ ap (λ l. l ++ shown a ∷ []) same ∙ ap (λ r. map cut (take at rows) ++ r ∷ []) (one ∙ ap cut is)
+    ∙ sym (map-append cut (take at rows) (get_or rows at row ∷ [])) ∙ ap (map cut) (sym (take_more rows at row within))
+
+-- ---- rows with a text of UTF-8
+
+pub report_typed : (row : Row) (n : ℤ) (text : List ℕ) → column row 0 ≡ Int n → column row 1 ≡ Text text → IsUtf8 text → IsTyped report_forms row
+report_typed row n text first second utf8 = ((n, first), ((text, second, utf8), tt))
+
+pub campaign_typed : (row : Row) (text : List ℕ) → IsTyped head_forms row → column row 7 ≡ Text text → IsUtf8 text → IsTyped campaign_forms row
+campaign_typed row text head last utf8 = (head.0, (head.1.0, (head.1.1.0, (head.1.1.1.0, (head.1.1.1.1.0, (head.1.1.1.1.1.0, (head.1.1.1.1.1.1.0, ((text, last, utf8), tt))))))))

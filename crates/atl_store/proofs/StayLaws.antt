@@ -1,6 +1,5 @@
 -- From what a transaction did to what the store keeps.
-use Rattle.std.proofs.Common.{◌≡◌, ℕ, Bool, true, false, not, cond, List, IsTrue, Result, Ok, Err, OnErr, IfErr, IsErrAnd, refl, sym, ap, ◌∙◌, subst, inl, inr, arith}
-use Rattle.std.proofs.lemmas.Bool.{not-true}
+use Rattle.std.proofs.Common.{◌≡◌, ◌≢◌, ℕ, Bool, true, false, cond, List, IsTrue, Result, Ok, Err, OnErr, IfErr, IsErrAnd, refl, sym, ap, ◌∙◌, subst, inl, inr, arith}
 use Rattle.sqlite_trees.specs.Tree.{Trees}
 use Rattle.sqlite_trees.specs.declared.store.Store.{Ghosts}
 use Rattle.sqlite.specs.declared.error.Error.{Error}
@@ -11,9 +10,9 @@ use Rattle.sqlite.specs.Effect.{Database}
 use Rattle.sqlite.specs.State.{State, HasCleanDisk, Survives}
 use Rattle.atl_state.specs.State.{State as Campaign}
 use Rattle.atl_store.specs.Rows.{Holds}
-use Rattle.atl_store.specs.Inside.{HasTables, Carries, IsBlank, Commits, LeavesOff, MayLeave}
-use Rattle.atl_store.specs.Filling.{WritesFounding}
-use Rattle.atl_store.specs.Keeps.{Stores, Keeps, IsLater, FailsToCreate, RefusesToCreate, Stops, Spares, SparesOthers, MayFound}
+use Rattle.atl_store.specs.Inside.{HasTables, Carries, Commits, LeavesOff, MayLeave}
+use Rattle.atl_store.specs.Keeps.{Stores, Keeps, IsLater, IsReady, FailsToCreate, BreaksOff, RefusesToCreate, Stops, Spares, SparesOthers, MayFound}
+use Rattle.atl_store.specs.Causes.{Gives, IsTold}
 use Rattle.atl_store.specs.Faults.{is_memory, create_fault}
 use Rattle.atl_store.specs.declared.fault.CreateFault.{CreateFault}
 use Rattle.atl_store.specs.declared.fault.CreateFault.TheVariants as create
@@ -60,34 +59,46 @@ module _ (old new : State) (text : List ℕ) (settled : (db : Trees) → IsTrue 
     ];
   }
 
--- what a crash after a founding leaves, where there was no table before
-pub may_found : (old new : State) (text : List ℕ) (c : Campaign) → IsBlank old.now → HasCleanDisk new → Survives old new (MayLeave IsBlank (WritesFounding text c) old) → MayFound old text c new
-may_found old new text c blank clean survives db may = elim (survives.crash clean db may) [
+-- what a crash leaves after a transaction that puts the campaign into tables of this sort
+pub may_found : (old new : State) (text : List ℕ) (c : Campaign) (Before : Database → Type 0) (Does : Database → Database → Type 0) → Before old.now → ((db : Database) → Does old.now db → Holds db.trees text c) → HasCleanDisk new
+    → Survives old new (MayLeave Before Does old) → MayFound old text c new
+may_found old new text c Before Does before holds clean survives db may = elim (survives.crash clean db may) [
   | inl was ↦ inl was
-  | inr made ↦ let did = made.1 blank in inr (subst (λ t. Stores t text c) (sym made.2) (stored made.0 text c did.tables did.does))
+  | inr made ↦ let did = made.1 before in inr (subst (λ t. Stores t text c) (sym made.2) (stored made.0 text c did.tables (holds made.0 did.does)))
 ]
 
--- what a founding that left off has spared, where the connection said that it was in no transaction
-pub leaves_spares : (old new : State) (auto : Bool) (Commits : Trees → Type 0) → HasCleanDisk new → LeavesOff old new → Survives old new Commits → auto ≡ not old.in_transaction → IsTrue auto → (IsTrue auto → IsTrue old.is_open → old.now ≡ old.committed) → Spares old new
-leaves_spares old new auto Commits clean off survives is said settled = record {
+-- what a founding that left off has spared, where the connection was in no transaction
+pub leaves_spares : (old new : State) (Commits : Trees → Type 0) → HasCleanDisk new → LeavesOff old new → Survives old new Commits → old.in_transaction ≡ false → (IsTrue old.is_open → old.now ≡ old.committed) → Spares old new
+leaves_spares old new Commits clean off survives idle settled = record {
   same = λ up.
       let back = off.undone up in
-      let was = settled said (off.was_open up) in
-      (back.0 ∙ sym was, back.1, off.idle ∙ sym (not-true old.in_transaction (sym is ∙ said)));
+      let was = settled (off.was_open up) in
+      (back.0 ∙ sym was, back.1, off.idle ∙ sym idle);
   closes = survives.closes clean;
 }
 
 -- the fault of a creation that an error of the database ended
-pub fails_for : {S : Type 0} (g : Ghosts S) (text : List ℕ) (c : Campaign) (old new : Held S) (e : Error) → FailsToCreate g text c old new → RefusesToCreate g text c old new (create_fault e)
-fails_for g text c old new e fails = go (is_memory e)
-  where
-    go : (b : Bool) → RefusesToCreate g text c old new (cond b create.Memory create.Store)
-    go true = fails
-    go false = fails
+module _ {S : Type 0} (g : Ghosts S) (text : List ℕ) (c : Campaign) (old new : Held S) (ready : IsReady (state g old)) (fails : FailsToCreate g text c old new) where
+  refused_as : (fault : CreateFault) → fault ≢ create.NotEmpty → BreaksOff g old new fault → RefusesToCreate g text c old new fault
+  refused_as create.NotEmpty other breaks = absurd (other refl)
+  refused_as create.Store other breaks = (fails, inr breaks)
+  refused_as create.Memory other breaks = (fails, breaks)
 
-pub refused_with : {S : Type 0} (g : Ghosts S) (text : List ℕ) (c : Campaign) (old new : Held S) (e : Error) (r : Result (Unit {0}) CreateFault) → IsErrAnd r (λ f. f ≡ create_fault e) → FailsToCreate g text c old new → IfErr r (RefusesToCreate g text c old new)
-refused_with g text c old new e (Ok a) told fails = tt
-refused_with g text c old new e (Err f) told fails = subst (RefusesToCreate g text c old new) (sym told) (fails_for g text c old new e fails)
+  tells_more : (e : Error) → create_fault e ≢ create.NotEmpty
+  tells_more e = go (is_memory e)
+    where
+      go : (b : Bool) → cond b create.Memory create.Store ≢ create.NotEmpty
+      go true same = absurd cc
+      go false same = absurd cc
+
+  pub refused_with : (e : Error) (r : Result (Unit {0}) CreateFault) → IsErrAnd r (λ f. f ≡ create_fault e) → (HasCleanDisk (state g new) → Gives g e old new) → IfErr r (RefusesToCreate g text c old new)
+  refused_with e (Ok a) told gave = tt
+  refused_with e (Err f) told gave = refused_as f (λ none. tells_more e (sym told ∙ none)) (record { ready = ready; told = λ clean. (e, told, gave clean) })
+
+-- the fault of a writing that an error of the database ended
+pub told_by : {S F A : Type 0} (g : Ghosts S) (fault_of : Error → F) (old new : Held S) (e : Error) (r : Result A F) → IsErrAnd r (λ f. f ≡ fault_of e) → Gives g e old new → IfErr r (IsTold g fault_of old new)
+told_by g fault_of old new e (Ok a) told gave = tt
+told_by g fault_of old new e (Err f) told gave = (e, told, gave)
 
 -- no table campaign is there, as the connection's schema shows
 pub not_there : {S : Type 0} (g : Ghosts S) (conn : Held S) (schema : Schema) (found : Bool) → schema ≡ (state g conn).now.schema → found ≡ has_campaign schema → found ≡ false → has_campaign conn.schema ≡ false
@@ -98,7 +109,7 @@ pub spares_itself : (s : State) → Spares s s
 spares_itself s = record { same = λ up. (refl, refl, refl); closes = λ up. inl up }
 
 pub later : (old new : State) (Commits : Trees → Type 0) → Survives old new Commits → IsLater old new
-later old new Commits survives = record { clean = λ clean. omega (arith, survives.clean); counts = survives.counts }
+later old new Commits survives = record { clean = λ clean. omega (arith, survives.clean); counts = survives.counts; shield = survives.shield }
 
 -- ---- other tables
 

@@ -1,5 +1,5 @@
 -- One after the other inside a transaction, and a transaction as a whole.
-use Rattle.std.proofs.Common.{◌≡◌, [], false, true, true≢false, IsTrue, Result, Ok, Err, IsErr, OnOk, OnErr, IfErr, sym, ap, subst, ◌∙◌, inl, inr, arith}
+use Rattle.std.proofs.Common.{◌≡◌, [], false, true, true≢false, IsTrue, Result, Ok, Err, OnOk, OnErr, IfErr, sym, ap, subst, ◌∙◌, inl, inr, arith}
 use Rattle.std.specs.Borrow.{MutBor}
 use Rattle.sqlite.specs.declared.error.Error.{Error}
 use Rattle.sqlite.specs.Steps.{FailsToCommit}
@@ -12,8 +12,9 @@ use Rattle.sqlite.proofs.Callers.{survives_begin}
 use Rattle.atl_store.specs.Inside.{HasTables, Done, Inside, Both, Commits, LeavesOff, MayLeave}
 use Rattle.atl_store.specs.Writes.{Writes, Transacts}
 use Rattle.atl_store.proofs.KeepLaws.{on_ok, if_err}
+use Rattle.atl_store.proofs.CauseLaws.{gives, gives_after, gives_until, gives_begun, errs_as}
 use Rattle.atl_store.proofs.CarryLaws.{carries_then}
-use Rattle.atl_store.proofs.WriteLaws.{not_ok}
+use Rattle.atl_store.proofs.WriteLaws.{not_ok, HandsOn}
 
 pub inside_then : (Before : Database → Type 0) (First Second : Database → Database → Type 0) (a b c : State) → Inside Before First a b → Inside HasTables Second b c → Inside Before (Both First Second) a c
 inside_then Before First Second a b c one two = (
@@ -70,18 +71,22 @@ module _ {S : Type 0} (g : Ghosts S) (old : Held S) (begun mid : MutBor (Held S)
     idle = over;
   }
 
+  inside_begun : IsTrue (state g begun.now).in_transaction
+  inside_begun = ap (λ (h : Held S). h.in_transaction) begins
+
   -- the step inside failed, and the transaction is let go
-  pub left_off : {Inner : State → State → Type 0} {A E B F : Type 0} (r : Result A E) {p : Result B F} → IsErr r → Writes g Inner p begun mid
+  pub left_off : {Inner : State → State → Type 0} {A B : Type 0} (r : Result A Error) {e : Error} → HandsOn e r → Writes g Inner {A = B} (Err e) begun mid
       → (HasCleanDisk (state g end) → IsRolledBack (state g mid.now) (state g end)) → Survives (state g mid.now) (state g end) (λ _. ⊥) → Transacts g Before Does r old end
-  left_off r failed did back survives = record {
-    ok = λ _. not_ok r _ failed;
+  left_off r {e = e} failed did back survives = record {
+    ok = λ _. not_ok r _ failed.0;
     err = λ clean. given_err r (rolled_back (did.kept (omega (arith, survives.clean))) (back clean));
+    told = λ clean. errs_as _ r e failed.1 (gives_begun g e old begun.now end begins (gives_until g e begun.now mid.now end survives.counts (did.told (omega (arith, survives.clean)) inside_begun)));
     crash = survives_then (state g old) (state g mid.now) (state g end) _ _ (MayLeave Before Does (state g old)) (λ _ db none. absurd none) (λ _ db none. absurd none) (survives_begin g old (state g mid.now) _ (rw begins at did.survives)) survives;
     idle = over;
   }
 
   -- the step inside was done, and its end is that of the commit
-  pub committed : {A B F : Type 0} {b : B} (r : Result A Error) → Writes g (Inside Before Does) {E = F} (Ok b) begun mid
+  pub committed : {A B : Type 0} {b : B} (r : Result A Error) → Writes g (Inside Before Does) (Ok b) begun mid
       → (HasCleanDisk (state g end) → OnOk r (IsTrue (state g mid.now).in_transaction × Shows (state g mid.now) (state g end) (state g mid.now).now (state g mid.now).now false × KeepsCounts (state g mid.now) (state g end) × ((state g end).marks ≡ [])))
       → (HasCleanDisk (state g end) → IfErr r (FailsToCommit (state g mid.now) (state g end))) → Survives (state g mid.now) (state g end) (λ db. db ≡ (state g mid.now).now.trees) → Transacts g Before Does r old end
   committed r did done fails survives = record {
@@ -90,6 +95,9 @@ module _ {S : Type 0} (g : Ghosts S) (old : Held S) (begun mid : MutBor (Held S)
         let before : HasCleanDisk (state g mid.now) = omega (arith, survives.clean) in
         let inside : (state g mid.now).in_transaction ≡ true = (did.does before).0 ∙ ap (λ (h : Held S). h.in_transaction) begins in
         if_err r (λ e failed. elim failed [ inl fails ↦ rolled_back (did.kept before) fails.3 | inr late ↦ absurd (true≢false (sym inside ∙ late.1)) ]) (fails clean);
+    told = λ clean.
+        let before : HasCleanDisk (state g mid.now) = omega (arith, survives.clean) in
+        if_err r (λ e failed. gives_begun g e old begun.now end begins (gives_after g e begun.now mid.now end before (did.kept before) did.survives survives.counts (gives g e mid.now end (inr failed)))) (fails clean);
     crash = crash_after g old begun.now mid.now end begins Before Does did.survives did.does survives;
     idle = over;
   }

@@ -1,5 +1,5 @@
 -- One statement inside a transaction, and one step after another.
-use Rattle.std.proofs.Common.{◌≡◌, ℕ, List, false, IsTrue, Result, Ok, Err, IsErr, OnOk, refl, sym, ◌∙◌, subst, inl, inr, arith}
+use Rattle.std.proofs.Common.{◌≡◌, ℕ, List, false, IsTrue, Result, Ok, Err, IsErr, IsErrAnd, OnOk, refl, sym, ◌∙◌, subst, inl, inr, arith}
 use Rattle.std.specs.Borrow.{MutBor}
 use Rattle.std.proofs.lemmas.Bool.{cases_Bool}
 use Rattle.sqlite_trees.specs.declared.store.Store.{Ghosts}
@@ -11,16 +11,21 @@ use Rattle.sqlite.specs.Order.{Row}
 use Rattle.sqlite.specs.State.{State, HasCleanDisk, Survives, KeepsCommit, ExecutesInside}
 use Rattle.sqlite.proofs.InsideLemmas.{inside_keeps}
 use Rattle.atl_store.specs.Writes.{Writes, Runs}
-use Rattle.atl_store.proofs.KeepLaws.{survives_more, keeps_more, on_ok}
+use Rattle.atl_store.proofs.CauseLaws.{gives, gives_after, errs_as}
+use Rattle.atl_store.proofs.KeepLaws.{survives_more, keeps_more, on_ok, if_err}
 
 -- with an error nothing has to be done
 pub not_ok : {A E : Type 0} (r : Result A E) (P : Type 0) → IsErr r → OnOk r P
 not_ok (Ok a) P failed = absurd cc
 not_ok (Err e) P failed = tt
 
+-- the error of a step is handed on as it is
+abbrev pub HandsOn : {A : Type 0} → Error → Result A Error → Type 0
+HandsOn e r = IsErr r × IsErrAnd r (λ f. f ≡ e)
+
 -- this is done so far
 abbrev pub SoFar : {S : Type 0} → Ghosts S → (State → State → Type 0) → MutBor (Held S) → MutBor (Held S) → Type 0
-SoFar g Does old new = Writes g Does {A = Unit {0}} {E = Error} (Ok (tt {0})) old new
+SoFar g Does old new = Writes g Does {A = Unit {0}} (Ok (tt {0})) old new
 
 given : {A E P : Type 0} (r : Result A E) → P → OnOk r P
 given (Ok a) p = p
@@ -28,6 +33,10 @@ given (Err e) p = tt
 
 survives_start : (s : State) → Survives s s (λ _. ⊥)
 survives_start s = record { clean = omega arith; shield = λ h. h; counts = omega arith; limit = refl; closes = λ clean up. inl up; crash = λ clean db may. inl may }
+
+-- of a step that says nothing of what it does
+abbrev Any : State → State → Type 0
+Any old new = Unit {0}
 
 module _ {S : Type 0} (g : Ghosts S) where
   -- ---- one statement
@@ -45,93 +54,111 @@ module _ {S : Type 0} (g : Ghosts S) where
       | inr outside ↦ subst (λ (h : Held S). KeepsCommit (state g old.now) (state g h)) (sym (ended outside).1) (record { was_open = λ up. up; committed = λ _. refl })
     ]
 
-    pub fails : {A E : Type 0} (Does : State → State → Type 0) (e : Error) (result : Result A E) → Ended (Err e) → Ran (Err e) → IsErr result → Writes g Does result old new
-    fails Does e result ended ran failed = record { same_reference = same; does = λ _. not_ok result _ failed; kept = keeps (Err e) ended ran; survives = survives }
+    pub fails : {A : Type 0} (Does : State → State → Type 0) (e : Error) (result : Result A Error) → Ended (Err e) → Ran (Err e) → HandsOn e result → Writes g Does result old new
+    fails Does e result ended ran failed = record {
+      same_reference = same;
+      does = λ _. not_ok result _ failed.0;
+      goes_on = λ _. not_ok result _ failed.0;
+      told = λ clean inside. errs_as _ result e failed.1 (gives g e old.now new.now (inl (sql, params, ran clean inside)));
+      kept = keeps (Err e) ended ran;
+      survives = survives;
+    }
 
-    pub runs : {A E : Type 0} (count : ℕ) (a : A) → Ended (Ok count) → Ran (Ok count) → Writes g (Runs sql params) {E = E} (Ok a) old new
+    pub runs : {A : Type 0} (count : ℕ) (a : A) → Ended (Ok count) → Ran (Ok count) → Writes g (Runs sql params) (Ok a) old new
     runs count a ended ran = record {
       same_reference = same;
       does = λ clean. elim (cases_Bool (state g old.now).in_transaction) [
         | inl inside ↦ (inside, count, ran clean inside)
         | inr outside ↦ absurd (let e = (ended outside).0 in cc)
       ];
+      goes_on = λ clean. elim (cases_Bool (state g old.now).in_transaction) [
+        | inl inside ↦ (ran clean inside).1.mode ∙ sym inside
+        | inr outside ↦ absurd (let e = (ended outside).0 in cc)
+      ];
+      told = λ clean inside. tt;
       kept = keeps (Ok count) ended ran;
       survives = survives;
     }
 
   -- ---- one step after another
 
+  -- what is done, said otherwise
+  pub weaker : {First Does : State → State → Type 0} {A : Type 0} {r : Result A Error} {a b : MutBor (Held S)} → ((old new : State) → First old new → Does old new) → Writes g First r a b → Writes g Does r a b
+  weaker {r = r} less one = record { same_reference = one.same_reference; does = λ clean. on_ok r (less _ _) (one.does clean); goes_on = one.goes_on; told = one.told; kept = one.kept; survives = one.survives }
+
+  -- it gives what its second step gives
+  pub two_steps : {First Second Does : State → State → Type 0} {A X : Type 0} {x : X} {r : Result A Error} {a b c : MutBor (Held S)}
+      → ((old mid new : State) → First old mid → Second mid new → Does old new) → Writes g First (Ok x) a b → Writes g Second r b c → Writes g Does r a c
+  two_steps {r = r} {a = a} {b = b} {c = c} both one two =
+      let before : HasCleanDisk (state g c.now) → HasCleanDisk (state g b.now) = λ clean. omega (arith, two.survives.clean) in
+      record {
+        same_reference = two.same_reference ∙ one.same_reference;
+        does = λ clean. on_ok r (both _ _ _ (one.does (before clean))) (two.does clean);
+        goes_on = λ clean. on_ok r (λ same. same ∙ one.goes_on (before clean)) (two.goes_on clean);
+        told = λ clean inside. if_err r (λ e. gives_after g e a.now b.now c.now (before clean) (one.kept (before clean)) one.survives two.survives.counts) (two.told clean (subst IsTrue (sym (one.goes_on (before clean))) inside));
+        kept = keeps_more _ _ _ two.survives one.kept two.kept;
+        survives = survives_more _ _ _ one.survives two.survives;
+      }
+
   -- it stops at its first step
-  pub stops : {First Does : State → State → Type 0} {A E X Y : Type 0} {r : Result A E} {p : Result X Y} {a b : MutBor (Held S)} → Writes g First p a b → IsErr r → Writes g Does r a b
-  stops {r = r} one failed = record { same_reference = one.same_reference; does = λ _. not_ok r _ failed; kept = one.kept; survives = one.survives }
+  pub stops : {First Does : State → State → Type 0} {A X : Type 0} {e : Error} {r : Result A Error} {a b : MutBor (Held S)} → Writes g First {A = X} (Err e) a b → HandsOn e r → Writes g Does r a b
+  stops {e = e} {r = r} one failed = record {
+    same_reference = one.same_reference;
+    does = λ _. not_ok r _ failed.0;
+    goes_on = λ _. not_ok r _ failed.0;
+    told = λ clean inside. errs_as _ r e failed.1 (one.told clean inside);
+    kept = one.kept;
+    survives = one.survives;
+  }
 
-  module _ {First Second Does : State → State → Type 0} {A E X Y : Type 0} {r : Result A E} {a b c : MutBor (Held S)} where
-    -- it stops at its second step
-    pub stops_second : {Z W : Type 0} {p : Result X Y} {q : Result Z W} → Writes g First p a b → Writes g Second q b c → IsErr r → Writes g Does r a c
-    stops_second one two failed = record {
-      same_reference = two.same_reference ∙ one.same_reference;
-      does = λ _. not_ok r _ failed;
-      kept = keeps_more _ _ _ two.survives one.kept two.kept;
-      survives = survives_more _ _ _ one.survives two.survives;
-    }
+  -- it stops at its second step
+  pub stops_second : {First Second Does : State → State → Type 0} {A X Z : Type 0} {x : X} {e : Error} {r : Result A Error} {a b c : MutBor (Held S)}
+      → Writes g First (Ok x) a b → Writes g Second {A = Z} (Err e) b c → HandsOn e r → Writes g Does r a c
+  stops_second {e = e} one two failed = stops (two_steps {Does = Any} {r = Err e} (λ old mid new first second. tt) one two) failed
 
-    -- it gives what its second step gives
-    pub two_steps : {x : X} → ((old mid new : State) → First old mid → Second mid new → Does old new) → Writes g First {E = Y} (Ok x) a b → Writes g Second r b c → Writes g Does r a c
-    two_steps both one two = record {
-      same_reference = two.same_reference ∙ one.same_reference;
-      does = λ clean. on_ok r (both _ _ _ (one.does (omega (arith, two.survives.clean)))) (two.does clean);
-      kept = keeps_more _ _ _ two.survives one.kept two.kept;
-      survives = survives_more _ _ _ one.survives two.survives;
-    }
+  -- it stops at its third step
+  pub stops_third : {First Second Third Does : State → State → Type 0} {A X Y Z : Type 0} {x : X} {y : Y} {e : Error} {r : Result A Error} {a b c d : MutBor (Held S)}
+      → Writes g First (Ok x) a b → Writes g Second (Ok y) b c → Writes g Third {A = Z} (Err e) c d → HandsOn e r → Writes g Does r a d
+  stops_third {y = y} one two three failed = stops_second (two_steps {Does = Any} {r = Ok y} (λ old mid new first second. tt) one two) three failed
 
-  module _ {First Second Third Does : State → State → Type 0} {A E X Y Z W : Type 0} {r : Result A E} {a b c d : MutBor (Held S)} where
-    -- it stops at its third step
-    pub stops_third : {D F : Type 0} {p : Result X Y} {q : Result Z W} {t : Result D F} → Writes g First p a b → Writes g Second q b c → Writes g Third t c d → IsErr r → Writes g Does r a d
-    stops_third one two three failed = record {
-      same_reference = three.same_reference ∙ two.same_reference ∙ one.same_reference;
-      does = λ _. not_ok r _ failed;
-      kept = keeps_more _ _ _ three.survives (keeps_more _ _ _ two.survives one.kept two.kept) three.kept;
-      survives = survives_more _ _ _ (survives_more _ _ _ one.survives two.survives) three.survives;
-    }
-
-    -- it gives what its third step gives
-    pub three_steps : {x : X} {z : Z} → ((old one two new : State) → First old one → Second one two → Third two new → Does old new) → Writes g First {E = Y} (Ok x) a b → Writes g Second {E = W} (Ok z) b c → Writes g Third r c d → Writes g Does r a d
-    three_steps all one two three = record {
-      same_reference = three.same_reference ∙ two.same_reference ∙ one.same_reference;
-      does = λ clean.
-          let before : HasCleanDisk (state g c.now) = omega (arith, three.survives.clean) in
-          on_ok r (all _ _ _ _ (one.does (omega (arith, before, two.survives.clean))) (two.does before)) (three.does clean);
-      kept = keeps_more _ _ _ three.survives (keeps_more _ _ _ two.survives one.kept two.kept) three.kept;
-      survives = survives_more _ _ _ (survives_more _ _ _ one.survives two.survives) three.survives;
-    }
+  -- it gives what its third step gives
+  pub three_steps : {First Second Third Does : State → State → Type 0} {A X Y : Type 0} {x : X} {y : Y} {r : Result A Error} {a b c d : MutBor (Held S)}
+      → ((old one two new : State) → First old one → Second one two → Third two new → Does old new) → Writes g First (Ok x) a b → Writes g Second (Ok y) b c → Writes g Third r c d → Writes g Does r a d
+  three_steps {y = y} {r = r} {c = c} all one two three =
+      let whole = two_steps {Does = Any} {r = r} (λ old mid new first second. tt) (two_steps {Does = Any} {r = Ok y} (λ old mid new first second. tt) one two) three in
+      record {
+        same_reference = whole.same_reference;
+        does = λ clean.
+            let before : HasCleanDisk (state g c.now) = omega (arith, three.survives.clean) in
+            on_ok r (all _ _ _ _ (one.does (omega (arith, before, two.survives.clean))) (two.does before)) (three.does clean);
+        goes_on = whole.goes_on;
+        told = whole.told;
+        kept = whole.kept;
+        survives = whole.survives;
+      }
 
   -- it gives what its fourth step gives
-  pub four_steps : {First Second Third Fourth Does : State → State → Type 0} {A E U V W X Y Z : Type 0} {r : Result A E} {a b c d e : MutBor (Held S)} {x : X} {y : Y} {z : Z}
+  pub four_steps : {First Second Third Fourth Does : State → State → Type 0} {A X Y Z : Type 0} {x : X} {y : Y} {z : Z} {r : Result A Error} {a b c d e : MutBor (Held S)}
       → ((old one two three new : State) → First old one → Second one two → Third two three → Fourth three new → Does old new)
-      → Writes g First {E = U} (Ok x) a b → Writes g Second {E = V} (Ok y) b c → Writes g Third {E = W} (Ok z) c d → Writes g Fourth r d e → Writes g Does r a e
-  four_steps {r = r} {c = c} {d = d} all one two three four = record {
-    same_reference = four.same_reference ∙ three.same_reference ∙ two.same_reference ∙ one.same_reference;
-    does = λ clean.
-        let before : HasCleanDisk (state g d.now) = omega (arith, four.survives.clean) in
-        let first : HasCleanDisk (state g c.now) = omega (arith, before, three.survives.clean) in
-        on_ok r (all _ _ _ _ _ (one.does (omega (arith, first, two.survives.clean))) (two.does first) (three.does before)) (four.does clean);
-    kept = keeps_more _ _ _ four.survives (keeps_more _ _ _ three.survives (keeps_more _ _ _ two.survives one.kept two.kept) three.kept) four.kept;
-    survives = survives_more _ _ _ (survives_more _ _ _ (survives_more _ _ _ one.survives two.survives) three.survives) four.survives;
-  }
+      → Writes g First (Ok x) a b → Writes g Second (Ok y) b c → Writes g Third (Ok z) c d → Writes g Fourth r d e → Writes g Does r a e
+  four_steps {z = z} {r = r} {c = c} {d = d} all one two three four =
+      let whole = two_steps {Does = Any} {r = r} (λ old mid new first second. tt) (three_steps {Does = Any} {r = Ok z} (λ old mid next new first second third. tt) one two three) four in
+      record {
+        same_reference = whole.same_reference;
+        does = λ clean.
+            let before : HasCleanDisk (state g d.now) = omega (arith, four.survives.clean) in
+            let first : HasCleanDisk (state g c.now) = omega (arith, before, three.survives.clean) in
+            on_ok r (all _ _ _ _ _ (one.does (omega (arith, first, two.survives.clean))) (two.does first) (three.does before)) (four.does clean);
+        goes_on = whole.goes_on;
+        told = whole.told;
+        kept = whole.kept;
+        survives = whole.survives;
+      }
 
   -- one step more
-  pub goes_on : {First Second Does : State → State → Type 0} {E : Type 0} {u : Unit {0}} {a b c : MutBor (Held S)} → ((old mid new : State) → First old mid → Second mid new → Does old new) → SoFar g First a b → Writes g Second {E = E} (Ok u) b c → SoFar g Does a c
-  goes_on both so_far more = record {
-    same_reference = more.same_reference ∙ so_far.same_reference;
-    does = λ clean. both _ _ _ (so_far.does (omega (arith, more.survives.clean))) (more.does clean);
-    kept = keeps_more _ _ _ more.survives so_far.kept more.kept;
-    survives = survives_more _ _ _ so_far.survives more.survives;
-  }
+  pub goes_on : {First Second Does : State → State → Type 0} {u : Unit {0}} {a b c : MutBor (Held S)} → ((old mid new : State) → First old mid → Second mid new → Does old new) → SoFar g First a b → Writes g Second (Ok u) b c → SoFar g Does a c
+  goes_on both so_far more = two_steps both so_far more
 
   -- nothing is done yet
-  pub begins : {Does : State → State → Type 0} {A E : Type 0} {r : Result A E} {a : MutBor (Held S)} → ((s : State) → Does s s) → Writes g Does r a a
-  begins {r = r} none = record { same_reference = refl; does = λ _. given r (none _); kept = λ _. record { was_open = λ up. up; committed = λ _. refl }; survives = survives_start _ }
-
-  -- what is done, said otherwise
-  pub weaker : {First Does : State → State → Type 0} {A E : Type 0} {r : Result A E} {a b : MutBor (Held S)} → ((old new : State) → First old new → Does old new) → Writes g First r a b → Writes g Does r a b
-  weaker {r = r} less one = record { same_reference = one.same_reference; does = λ clean. on_ok r (less _ _) (one.does clean); kept = one.kept; survives = one.survives }
+  pub begins : {Does : State → State → Type 0} {A : Type 0} {a : A} {b : MutBor (Held S)} → ((s : State) → Does s s) → Writes g Does (Ok a) b b
+  begins none = record { same_reference = refl; does = λ _. none _; goes_on = λ _. refl; told = λ clean inside. tt; kept = λ _. record { was_open = λ up. up; committed = λ _. refl }; survives = survives_start _ }

@@ -1,21 +1,24 @@
 -- What the writing of a joining and of a mail does.
-use Rattle.std.specs.Prelude.{◌≡◌, ◌≢◌, ◌⊎◌, ◌+◌, ◌-◌, ◌≤◌, ℕ, List, Some, IsSome, length, take}
+use Rattle.std.specs.Prelude.{◌≡◌, ◌≢◌, ◌⊎◌, ◌+◌, ◌-◌, ◌≤◌, ℕ, List, [], ◌∷◌, Some, IsSome, length, take}
 use Rattle.std.specs.FinMap.{get}
 use Rattle.sqlite.specs.Effect.{Database}
+use Rattle.sqlite.specs.Order.{Row}
+use Rattle.sqlite.specs.Table.{Table}
 use Rattle.sqlite_rules.specs.Lists.{Has}
-use Rattle.atl_state.specs.State.{State, with_mail}
+use Rattle.atl_state.specs.State.{State}
 use Rattle.atl_state.specs.Books.{entry_place, thing_place}
 use Rattle.atl_state.specs.declared.books.Entry.{Entry}
+use Rattle.atl_state.specs.declared.books.Entry.TheVariants.{Joining}
 use Rattle.atl_state.specs.declared.books.Thing.{Thing}
+use Rattle.atl_state.specs.declared.books.Thing.TheVariants.{Money, People}
 use Rattle.atl_state.specs.declared.records.Faction.{Faction}
 use Rattle.atl_state.specs.declared.records.Unit.{Unit}
-use Rattle.atl_store.specs.Sets.{rows_in}
-use Rattle.atl_store.specs.Inside.{Alters}
-use Rattle.atl_store.specs.Tables.{books_table}
-use Rattle.atl_store.specs.Shown.{books_key}
+use Rattle.atl_store.specs.Sets.{Set, Is, put, rows_in}
+use Rattle.atl_store.specs.Inside.{Alters, Puts}
+use Rattle.atl_store.specs.Tables.{campaign_table, faction_table, region_table, unit_table, has_table, structure_table, mail_table, report_table, books_table}
+use Rattle.atl_store.specs.Shown.{Head, head_row, mail_row, report_row, books_key}
 use Rattle.atl_store.specs.Lines.{amount_lines}
-use Rattle.atl_store.specs.Rows.{Holds}
-use Rattle.atl_store.specs.Keeps.{IsJoining}
+use Rattle.atl_store.specs.Rows.{campaign_line, faction_line, unit_line}
 
 -- a faction is there with its report, a unit came last, and the books have places for money and people
 pub record HasArrival (c : State) (number : ℕ) : Type 0 where
@@ -33,14 +36,31 @@ pub record IsFound (c : State) (number : ℕ) (faction : Faction) (place : ℕ) 
   pub report_is : get c.reports number ≡ Some report
   pub things : 2 ≤ length c.books
 
--- the amount of a thing under an entry has its row, or none where it is 0, and every other row and table is as it was
+-- the amount of a thing under an entry has its row, or none where it is 0, and every other row of the books is as it was
+abbrev pub settled : State → Entry → Thing → Set → Set
+settled c entry thing S r = Has (amount_lines c entry thing) r ⊎ (S r × (take 2 r ≢ books_key (entry_place entry + 1) (thing_place thing)))
+
+-- and so is every other table
 abbrev pub Settles : State → Entry → Thing → Database → Database → Type 0
-Settles c entry thing old new = Alters books_table (λ r. Has (amount_lines c entry thing) r ⊎ (Has (rows_in books_table old.trees) r × (take 2 r ≢ books_key (entry_place entry + 1) (thing_place thing)))) old new
+Settles c entry thing old new = Alters books_table (settled c entry thing (Has (rows_in books_table old.trees))) old new
 
--- tables that held the campaign before a joining hold the one after it
+-- the row stands in the place of the one that has its number, and every other row of the table is as it was
+abbrev pub HasPut : Table → Row → Database → Database → Type 0
+HasPut table row old new = Is (rows_in table new.trees) (put 1 row (Has (rows_in table old.trees)))
+
+-- What a joining writes, whatever the tables hold: the campaign's own row with the world text that it had, the faction, the unit that came last, the faction's report, and what joining booked.
+pub record Enters (faction : ℕ) (after : State) (text : List ℕ) (old new : Database) : Type 0 where
+  pub campaign : Is (rows_in campaign_table new.trees) (λ r. r ≡ campaign_line text after)
+  pub member : (f : Faction) → get after.factions faction ≡ Some f → HasPut faction_table (faction_line faction f) old new
+  pub unit : (place : ℕ) (u : Unit) → after.next_unit ≡ place + 1 → get after.units place ≡ Some u → HasPut unit_table (unit_line place u) old new
+  pub report : (report : List ℕ) → get after.reports faction ≡ Some report → HasPut report_table (report_row faction report) old new
+  pub books : Is (rows_in books_table new.trees) (settled after Joining People (settled after Joining Money (Has (rows_in books_table old.trees))))
+  pub others : (t : Table) → Has (region_table ∷ has_table ∷ structure_table ∷ mail_table ∷ []) t → new.trees t.tree ≡ old.trees t.tree
+
+-- a joining is written, whatever the campaign's own row said
 abbrev pub WritesJoin : ℕ → State → Database → Database → Type 0
-WritesJoin faction after old new = (text : List ℕ) (before : State) → IsJoining before faction after → Holds old.trees text before → Holds new.trees text after
+WritesJoin faction after old new = (before : Head) (text : List ℕ) → Is (rows_in campaign_table old.trees) (λ r. r ≡ head_row before text) → Enters faction after text old new
 
--- tables that held a campaign hold it with this mail
+-- a mail is put in the place of an older one of its faction, and every other row and table is as it was
 abbrev pub WritesMail : ℕ → List ℕ → Database → Database → Type 0
-WritesMail faction mail old new = (text : List ℕ) (before : State) → Holds old.trees text before → Holds new.trees text (with_mail before faction mail)
+WritesMail faction mail old new = Puts mail_table 1 (mail_row faction mail) old new

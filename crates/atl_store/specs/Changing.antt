@@ -1,10 +1,11 @@
 -- What the writing of a campaign's changes does: a row whose key is marked is the campaign's afterwards, and every other row is as it was.
-use Rattle.std.specs.Prelude.{◌≡◌, ◌+◌, ◌*◌, ◌&&◌, ℕ, Bool, true, false, pos, suc, nat_le, List, ◌∷◌}
+use Rattle.std.specs.Prelude.{◌≡◌, ◌+◌, ◌*◌, ◌&&◌, ◌↔◌, ℕ, Bool, true, false, pos, suc, nat_le, List, ◌∷◌}
 use Rattle.std.specs.Ordering.{nat_cmp}
 use Rattle.std.specs.FinSet.{FinSet, contains}
 use Rattle.sqlite.specs.declared.types.Value.TheVariants.{Int}
 use Rattle.sqlite.specs.Effect.{Database}
 use Rattle.sqlite.specs.Order.{Row}
+use Rattle.sqlite_trees.specs.Tree.{Trees}
 use Rattle.sqlite.specs.Table.{Table}
 use Rattle.sqlite_rules.specs.Lists.{Has}
 use Rattle.atl_state.specs.Limits.{entry_count}
@@ -66,3 +67,23 @@ pub record WritesMarked (c : Marked) (before : Head) (text : List ℕ) (old new 
 -- whatever the campaign's own row said
 abbrev pub WritesChanges : Marked → Database → Database → Type 0
 WritesChanges c old new = (before : Head) (text : List ℕ) → Is (rows_in campaign_table old.trees) (λ r. r ≡ head_row before text) → WritesMarked c before text old new
+
+-- ---- tables that hold what is not marked of a campaign
+
+-- the table's rows with a key that isn't marked are exactly those that are wanted, whatever stands under marked keys
+abbrev pub HasUnmarked : Table → (Row → Bool) → Set → Trees → Type 0
+HasUnmarked table is_marked Wanted trees = (r : Row) → is_marked r ≡ false → Has (rows_in table trees) r ↔ Wanted r
+
+-- The campaign's own row has this world text and, unless it is marked, says what the campaign's says; the rows of all that is not marked are exactly the campaign's.
+pub record HoldsUnmarked (trees : Trees) (text : List ℕ) (c : Marked) : Type 0 where
+  pub before : Head
+  pub campaign : Is (rows_in campaign_table trees) (λ r. r ≡ head_row before text)
+  pub head : head_after c.marks.row c.what before ≡ head_of c.what
+  pub factions : HasUnmarked faction_table (begins_marked c.marks.factions) (RowsOf faction_line c.what.factions) trees
+  pub regions : HasUnmarked region_table (begins_marked c.marks.regions) (RowsOf region_line c.what.regions) trees
+  pub units : HasUnmarked unit_table (begins_marked c.marks.units) (RowsOf unit_line c.what.units) trees
+  pub has : HasUnmarked has_table (begins_marked c.marks.goods) (HasRowsOf c.what.units) trees
+  pub structures : HasUnmarked structure_table (begins_marked c.marks.structures) (RowsOf structure_line c.what.structures) trees
+  pub mail : HasUnmarked mail_table (begins_marked c.marks.mail) (RowsOf mail_row c.what.mail) trees
+  pub reports : HasUnmarked report_table (begins_marked c.marks.reports) (RowsOf report_row c.what.reports) trees
+  pub books : HasUnmarked books_table (amount_marked c.marks.books) (BooksRowsOf c.what.books) trees

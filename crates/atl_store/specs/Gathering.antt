@@ -1,11 +1,13 @@
 -- For proofs alone: how far loading has come.
-use Rattle.std.specs.Prelude.{◌≡◌, ◌≢◌, ℕ, List, [], ◌∷◌, false, IsTrue, IsPermutation, map, pos, Option, Some, None, Result, Ok, Err, IfOk, IfErr, ⊤, string_bytes}
+use Rattle.std.specs.Prelude.{◌≡◌, ◌≢◌, ℕ, List, [], ◌∷◌, Bool, false, true, ◌⊎◌, IsTrue, IsPermutation, map, pos, Option, Some, None, Result, Ok, Err, IfOk, IfErr, ⊤, string_bytes}
 use Rattle.std.specs.List.{IsDistinct}
 use Rattle.std.specs.Ordering.{eq_by_cmp, int_cmp}
 use Rattle.std.specs.declared.vec.Vec.{Vec}
+use Rattle.sqlite.specs.declared.error.Error.{Error}
 use Rattle.sqlite.specs.Held.{Held, state}
 use Rattle.sqlite.specs.Order.{Row}
-use Rattle.sqlite.specs.State.{State, HasCleanDisk, Survives}
+use Rattle.sqlite.specs.State.{State, HasCleanDisk, FailsToQuery}
+use Rattle.sqlite_rules.specs.Lists.{Has}
 use Rattle.sqlite_catalog.specs.Listing.{IsSound}
 use Rattle.sqlite_trees.specs.Tree.{Trees}
 use Rattle.sqlite_trees.specs.declared.store.Store.{Ghosts}
@@ -25,11 +27,13 @@ use Rattle.atl_state.specs.declared.parts.StoredRegion.{StoredRegion}
 use Rattle.atl_state.specs.declared.parts.StoredReport.{StoredReport}
 use Rattle.atl_state.specs.declared.parts.StoredStructure.{StoredStructure}
 use Rattle.atl_state.specs.declared.parts.StoredUnit.{StoredUnit}
-use Rattle.atl_store.specs.Loading.{HaveRows, AreOwnRow, HasOtherType, KeepsOneRow}
+use Rattle.atl_store.specs.Faults.{is_memory}
+use Rattle.atl_store.specs.Loading.{HaveRows, AreOwnRow, HasOtherType, KeepsOneRow, other_selects, Leaves, AreToldTyped, RefusesOne}
 use Rattle.atl_store.specs.Reading.{Selects, placed_rows_in}
-use Rattle.atl_store.specs.Selects.{all_campaign}
+use Rattle.atl_store.specs.Selects.{all_campaign, all_factions, all_regions, all_units, all_has, all_structures, all_mail, all_reports, all_books}
 use Rattle.atl_store.specs.Sets.{rows_in}
-use Rattle.atl_store.specs.StoredRows.{campaign_stored, faction_stored, region_stored, unit_stored, structure_stored, mail_stored, report_stored, has_stored, books_stored}
+use Rattle.atl_store.specs.StoredRows.{campaign_stored, faction_stored, region_stored, unit_stored, structure_stored, mail_stored, report_stored, has_stored, books_stored, faction_forms, region_forms, unit_forms, structure_forms, mail_forms, report_forms, has_forms, books_forms}
+use Rattle.atl_store.specs.Stored.{Form}
 use Rattle.atl_store.specs.Tables.{campaign_table, faction_table, region_table, unit_table, has_table, structure_table, mail_table, report_table, books_table, HasNine}
 use Rattle.atl_store.specs.declared.fault.ReadFault.{ReadFault}
 use Rattle.atl_store.specs.declared.fault.ReadFault.TheVariants as read
@@ -40,19 +44,9 @@ use Rattle.atl_store.specs.declared.rows.stored.Placed.{Placed}
 
 -- ---- what a step leaves
 
--- while the connection is open, its tables are those of the one before
-pub record Stays (old new : State) : Type 0 where
-  pub was_open : IsTrue new.is_open → IsTrue old.is_open
-  pub same : IsTrue new.is_open → (new.now ≡ old.now) × (new.committed ≡ old.committed)
-
 -- while it is open, the tables are those of the last commit
 abbrev pub IsSettled : State → Type 0
 IsSettled s = HasCleanDisk s → IsTrue s.is_open → s.now ≡ s.committed
-
-pub record Leaves {S : Type 0} (g : Ghosts S) (old new : Held S) : Type 0 where
-  pub stays : HasCleanDisk (state g new) → Stays (state g old) (state g new)
-  pub survives : Survives (state g old) (state g new) (λ _. ⊥)
-  pub idle : new.in_transaction ≡ false
 
 -- ---- which fault is told
 
@@ -71,12 +65,12 @@ kept_of (Err read.Refused) = Err Store
 kept_of (Err read.Memory) = Err Memory
 kept_of (Err read.OtherType) = Ok None
 
--- a fault that says nothing of the rows
-abbrev pub Fails : StoreFault → Type 0
-Fails Store = ⊤
-Fails (Damaged rule) = ⊥
-Fails NotACampaign = ⊥
-Fails Memory = ⊤
+-- of a step that is made where this is so: Store where it isn't, and want of memory
+abbrev pub Lacks : Type 0 → StoreFault → Type 0
+Lacks P Store = ¬ P
+Lacks P (Damaged rule) = ⊥
+Lacks P NotACampaign = ⊥
+Lacks P Memory = ⊤
 
 -- ---- the campaign's own row
 
@@ -112,6 +106,16 @@ JudgesRows rows (Err Memory) = ⊤
 JudgesRows rows (Err (Damaged OneRow)) = (h : StoredHead) (text : List ℕ) (w : Planet) → ¬ AreOwnRow rows h text w
 JudgesRows rows (Err fault) = ⊥
 
+-- the SELECTs of the other tables, in the order in which they are asked
+abbrev pub place_selects : List (List ℕ × List Form)
+place_selects = (all_factions, faction_forms) ∷ (all_regions, region_forms) ∷ (all_reports, report_forms) ∷ []
+
+abbrev pub people_selects : List (List ℕ × List Form)
+people_selects = (all_units, unit_forms) ∷ (all_has, has_forms) ∷ []
+
+abbrev pub work_selects : List (List ℕ × List Form)
+work_selects = (all_structures, structure_forms) ∷ (all_mail, mail_forms) ∷ (all_books, books_forms) ∷ []
+
 -- what was read of the eight tables
 abbrev pub OthersRead : Type 0 → Type 0
 OthersRead Z = (((Vec StoredFaction Z × Vec StoredRegion Z) × Vec StoredReport Z) × (Vec StoredUnit Z × Vec (Placed StoredHas) Z)) × ((Vec StoredStructure Z × Vec StoredMail Z) × Vec (Placed StoredBooks) Z)
@@ -126,10 +130,26 @@ module _ {S : Type 0} (g : Ghosts S) (old : Held S) where
 
   -- ---- the other tables
 
-  -- what was read of them is so, or a value is of another type
-  abbrev pub Found : {A : Type 0} → (A → Type 0) → Option A → Type 0
-  Found P None = HasOtherType g old
-  Found P (Some a) = P a
+  -- each of these SELECTs is answered: what was read is typed and is so, or a value is of another type
+  abbrev pub Found : {A : Type 0} → List (List ℕ × List Form) → (A → Type 0) → Option A → Type 0
+  Found selects P None = HasOtherType g old selects
+  Found selects P (Some a) = AreToldTyped g old selects × P a
+
+  -- one of them is answered after other readings
+  pub record AnswersOne (selects : List (List ℕ × List Form)) : Type 0 where
+    pub select : List ℕ × List Form
+    pub one : Has selects select
+    pub before : Held S
+    pub leaves : Leaves g old before
+    pub rows : List Row
+    pub answered : Selects g select.0 before rows
+
+  -- Store where one of them is refused for another cause than memory, Memory where one is refused for want of it, or answered
+  abbrev pub FailsToRead : List (List ℕ × List Form) → StoreFault → Type 0
+  FailsToRead selects Store = RefusesOne g old selects read.Store ⊎ RefusesOne g old selects read.Refused
+  FailsToRead selects (Damaged rule) = ⊥
+  FailsToRead selects NotACampaign = ⊥
+  FailsToRead selects Memory = RefusesOne g old selects read.Memory ⊎ AnswersOne selects
 
   -- these are all rows of a table
   abbrev pub AreRows : {A : Type 0} → (Trees → List Row) → (A → Row) → List A → Type 0
@@ -149,11 +169,24 @@ module _ {S : Type 0} (g : Ghosts S) (old : Held S) where
       × AreTwo (rows_in unit_table) unit_stored (placed_rows_in has_table) has_stored read.0.1)
       × AreThree (rows_in structure_table) structure_stored (rows_in mail_table) mail_stored (placed_rows_in books_table) books_stored read.1
 
-  pub record ReadsSome {A : Type 0} (P : A → Type 0) (result : Result (Option A) StoreFault) (new : Held S) : Type 0 where
+  pub record ReadsSome {A : Type 0} (selects : List (List ℕ × List Form)) (P : A → Type 0) (result : Result (Option A) StoreFault) (new : Held S) : Type 0 where
     pub was_open : HasCleanDisk (state g new) → IfOk result (λ _. IsTrue (state g old).is_open)
-    pub found : HasCleanDisk (state g new) → IfOk result (Found P)
-    pub fails : IfErr result Fails
+    pub found : HasCleanDisk (state g new) → IfOk result (Found selects P)
+    pub fails : HasCleanDisk (state g new) → IfErr result (FailsToRead selects)
     pub leaves : Leaves g old new
+
+  -- ---- the schema
+
+  -- the campaign's own row is asked for once more, and refused for want of memory or not
+  abbrev pub IsRefusedAgain : Bool → Type 0
+  IsRefusedAgain memory = (during : Held S) × (e : Error) × FailsToQuery all_campaign [] (state g old) (state g during) e × (is_memory e ≡ memory)
+
+  -- Store where the schema is another one, else what is told of that SELECT
+  abbrev pub FailsToConfirm : StoreFault → Type 0
+  FailsToConfirm Store = (¬ HasNine old.schema) ⊎ (HasNine old.schema × IsRefusedAgain false)
+  FailsToConfirm (Damaged rule) = ⊥
+  FailsToConfirm NotACampaign = ⊥
+  FailsToConfirm Memory = HasNine old.schema × IsRefusedAgain true
 
 -- no two rows are kept at one place
 abbrev pub AreApart : {A : Type 0} → List (Placed A) → Type 0
@@ -198,6 +231,7 @@ pub record Gathered {S : Type 0} (g : Ghosts S) (old : Held S) (w : Planet) (p :
   pub head : IsTrue (is_one_head p.campaign)
   pub text : List ℕ
   pub world : world_of text ≡ Ok w
+  pub typed : AreToldTyped g old other_selects
   pub rows : HasNine old.schema → HaveRows (state g old).now.trees text p
   pub places : HasNine old.schema → HavePlaces (state g old).now.trees p
 

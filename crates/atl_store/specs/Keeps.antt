@@ -11,9 +11,11 @@ use Rattle.atl_state.specs.State.{State as Campaign, with_report}
 use Rattle.atl_state.specs.Joining.{joined}
 use Rattle.atl_state.specs.Good.{IsGood}
 use Rattle.atl_store.specs.Tables.{HasNine, IsSoundly}
-use Rattle.atl_store.specs.Inside.{HasTables, Carries}
+use Rattle.atl_store.specs.Inside.{HasTables, Carries, IsBlank}
 use Rattle.atl_store.specs.Making.{has_campaign}
 use Rattle.atl_store.specs.Rows.{Holds}
+use Rattle.atl_store.specs.Faults.{create_fault}
+use Rattle.atl_store.specs.Causes.{IsTold}
 use Rattle.atl_store.specs.declared.fault.CreateFault.{CreateFault}
 use Rattle.atl_store.specs.declared.fault.CreateFault.TheVariants.{NotEmpty, Store, Memory}
 
@@ -44,10 +46,11 @@ pub record Stops (faults : ℕ) (s : State) (text : List ℕ) (before after : Ca
   pub closes : IsTrue s.is_open ⊎ MoreFaults faults s.faults
   pub crash : (db : Trees) → s.may_leave db → Stores db text before ⊎ Stores db text after
 
--- The same connection later: no failure of its disk is forgotten.
+-- The same connection later: no failure of its disk is forgotten, and reads that were tested are tested still.
 pub record IsLater (old new : State) : Type 0 where
   pub clean : HasCleanDisk new → HasCleanDisk old
   pub counts : old.faults ≤ new.faults
+  pub shield : old.IsShielded → new.IsShielded
 
 -- What other tables hold beside the nine is as it was, while the connection is open.
 abbrev pub SparesOthers : State → State → Type 0
@@ -76,11 +79,20 @@ pub record FailsToCreate {S : Type 0} (g : Ghosts S) (text : List ℕ) (c : Camp
   pub tables : HasCleanDisk (state g new) → Spares (state g old) (state g new)
   pub crash : HasCleanDisk (state g new) → MayFound (state g old) text c (state g new)
 
--- Where a table campaign is there, nothing at all is changed.
+-- the database has no table, index or view, and the connection is in no transaction
+abbrev pub IsReady : State → Type 0
+IsReady s = IsBlank s.now × (s.in_transaction ≡ false)
+
+-- A creation was begun, and this fault tells the error of a call that ended it.
+pub record BreaksOff {S : Type 0} (g : Ghosts S) (old new : Held S) (fault : CreateFault) : Type 0 where
+  pub ready : IsReady (state g old)
+  pub told : HasCleanDisk (state g new) → IsTold g create_fault old new fault
+
+-- Where a table campaign is there, or the connection isn't ready, nothing at all is changed.
 abbrev pub RefusesToCreate : {S : Type 0} → Ghosts S → List ℕ → Campaign → Held S → Held S → CreateFault → Type 0
 RefusesToCreate g text c old new NotEmpty = IsTrue (has_campaign old.schema) × (new ≡ old)
-RefusesToCreate g text c old new Store = FailsToCreate g text c old new
-RefusesToCreate g text c old new Memory = FailsToCreate g text c old new
+RefusesToCreate g text c old new Store = FailsToCreate g text c old new × (((¬ IsReady (state g old)) × (new ≡ old)) ⊎ BreaksOff g old new Store)
+RefusesToCreate g text c old new Memory = FailsToCreate g text c old new × BreaksOff g old new Memory
 
 -- ---- writing
 

@@ -7,6 +7,7 @@ pub mod Shown
 pub mod PutsHead
 pub mod Written
 pub mod Faults
+pub mod Causes
 pub mod Stored
 pub mod Selects
 pub mod Reading
@@ -22,3 +23,4 @@ pub mod Changing
 pub mod Reopening
 pub mod Rewriting
 pub mod WorldText
+pub mod Alike

@@ -1,9 +1,11 @@
 -- What loading a campaign from its tables may answer and leave.
-use Rattle.std.specs.Prelude.{◌≡◌, ◌⊎◌, ◌++◌, ℕ, List, [], ◌∷◌, length, map, pos, true, IsPermutation, IsUtf8, Ok, ⊤}
+use Rattle.std.specs.Prelude.{◌≡◌, ◌⊎◌, ◌++◌, ℕ, Bool, List, [], ◌∷◌, length, map, pos, true, false, IsTrue, IsPermutation, IsUtf8, Ok}
+use Rattle.sqlite.specs.declared.error.Error.{Error}
 use Rattle.sqlite.specs.declared.types.Value.TheVariants.{Int, Text}
 use Rattle.sqlite.specs.Held.{Held, state}
 use Rattle.sqlite.specs.Order.{Row}
-use Rattle.sqlite.specs.State.{HasCleanDisk, Shown, Survives}
+use Rattle.sqlite.specs.State.{State, HasCleanDisk, Shown, Survives, FailsToQuery}
+use Rattle.sqlite_disk.specs.Disk.{MoreFaults}
 use Rattle.sqlite_rules.specs.Lists.{Has}
 use Rattle.sqlite_trees.specs.Tree.{Trees}
 use Rattle.sqlite_trees.specs.declared.store.Store.{Ghosts}
@@ -19,14 +21,16 @@ use Rattle.atl_state.specs.declared.parts.Parts.{Parts}
 use Rattle.atl_state.specs.declared.parts.StoredBooks.{StoredBooks}
 use Rattle.atl_state.specs.declared.parts.StoredHas.{StoredHas}
 use Rattle.atl_state.specs.declared.parts.StoredHead.{StoredHead}
+use Rattle.atl_store.specs.Faults.{is_memory}
 use Rattle.atl_store.specs.Keeps.{HoldsCampaign, Spares}
 use Rattle.atl_store.specs.Reading.{Selects, RefusesToSelect}
 use Rattle.atl_store.specs.Selects.{all_campaign, all_factions, all_regions, all_units, all_has, all_structures, all_mail, all_reports, all_books}
-use Rattle.atl_store.specs.Sets.{rows_in}
+use Rattle.atl_store.specs.Sets.{rows_in, IsKeyed}
 use Rattle.atl_store.specs.Stored.{Form, first_columns, AreTyped}
 use Rattle.atl_store.specs.StoredRows.{head_stored, faction_stored, region_stored, unit_stored, structure_stored, mail_stored, report_stored, campaign_forms, faction_forms, region_forms, unit_forms, has_forms, structure_forms, mail_forms, report_forms, books_forms}
-use Rattle.atl_store.specs.Tables.{campaign_table, faction_table, region_table, unit_table, has_table, structure_table, mail_table, report_table, books_table}
+use Rattle.atl_store.specs.Tables.{campaign_table, faction_table, region_table, unit_table, has_table, structure_table, mail_table, report_table, books_table, HasNine}
 use Rattle.atl_store.specs.WorldText.{world_text}
+use Rattle.atl_store.specs.declared.fault.ReadFault.{ReadFault}
 use Rattle.atl_store.specs.declared.fault.ReadFault.TheVariants as read
 use Rattle.atl_store.specs.declared.fault.StoreFault.{StoreFault}
 use Rattle.atl_store.specs.declared.fault.StoreFault.TheVariants.{Store, Damaged, NotACampaign, Memory}
@@ -64,12 +68,23 @@ pub record AreOwnRow (rows : List Row) (h : StoredHead) (text : List ℕ) (w : P
   pub utf8 : IsUtf8 text
   pub world : world_of text ≡ Ok w
 
--- ---- values of another type
+-- ---- the other tables
 
 -- the SELECTs of the other eight tables, each with what its columns are read as
 abbrev pub other_selects : List (List ℕ × List Form)
 other_selects =
-    (all_factions, faction_forms) ∷ (all_regions, region_forms) ∷ (all_units, unit_forms) ∷ (all_has, has_forms) ∷ (all_structures, structure_forms) ∷ (all_mail, mail_forms) ∷ (all_reports, report_forms) ∷ (all_books, books_forms) ∷ []
+    (all_factions, faction_forms) ∷ (all_regions, region_forms) ∷ (all_reports, report_forms) ∷ (all_units, unit_forms) ∷ (all_has, has_forms) ∷ (all_structures, structure_forms) ∷ (all_mail, mail_forms) ∷ (all_books, books_forms) ∷ []
+
+-- while the connection is open, its tables are those of the one before
+pub record Stays (old new : State) : Type 0 where
+  pub was_open : IsTrue new.is_open → IsTrue old.is_open
+  pub same : IsTrue new.is_open → (new.now ≡ old.now) × (new.committed ≡ old.committed)
+
+-- the connection after readings, in no transaction
+pub record Leaves {S : Type 0} (g : Ghosts S) (old new : Held S) : Type 0 where
+  pub stays : HasCleanDisk (state g new) → Stays (state g old) (state g new)
+  pub survives : Survives (state g old) (state g new) (λ _. ⊥)
+  pub idle : new.in_transaction ≡ false
 
 module _ {S : Type 0} (g : Ghosts S) (old : Held S) where
   -- asked of these tables, a SELECT shows these rows
@@ -79,16 +94,43 @@ module _ {S : Type 0} (g : Ghosts S) (old : Held S) where
     pub same : (state g before).now ≡ (state g old).now
     pub shown : Shown sql [] (state g before) (state g during) rows
 
-  -- a table but the campaign's own has a value of another type than its column is read as
-  pub record HasOtherType : Type 0 where
-    pub select : List ℕ × List Form
-    pub one : Has other_selects select
-    pub rows : List Row
-    pub told : Tells select.0 rows
-    pub other : ¬ AreTyped select.1 rows
+  module _ (selects : List (List ℕ × List Form)) where
+    -- each of them is answered
+    abbrev pub AreTold : Type 0
+    AreTold = (select : List ℕ × List Form) → Has selects select → (rows : List Row) × Tells select.0 rows
 
-  -- The tables keep the first rule, and of the rows that they have this is the first rule that is broken.
+    -- each is answered, and each value is of the type that its column is read as
+    abbrev pub AreToldTyped : Type 0
+    AreToldTyped = (select : List ℕ × List Form) → Has selects select → (rows : List Row) × Tells select.0 rows × AreTyped select.1 rows
+
+    -- each is answered, and in one answer a value is of another type
+    pub record HasOtherType : Type 0 where
+      pub all : AreTold
+      pub select : List ℕ × List Form
+      pub one : Has selects select
+      pub rows : List Row
+      pub told : Tells select.0 rows
+      pub other : ¬ AreTyped select.1 rows
+
+    -- one of them is refused after other readings, and this is told of it
+    pub record RefusesOne (fault : ReadFault) : Type 0 where
+      pub select : List ℕ × List Form
+      pub one : Has selects select
+      pub before : Held S
+      pub leaves : Leaves g old before
+      pub refused : RefusesToSelect g select.0 before fault
+
+  -- ---- the tables, and their rows
+
+  -- They are the nine tables, and no two rows of has, or of books, are kept at one place.
+  pub record AreMade : Type 0 where
+    pub nine : HasNine old.schema
+    pub has_keyed : IsKeyed ((state g old).now.trees has_table.tree)
+    pub books_keyed : IsKeyed ((state g old).now.trees books_table.tree)
+
+  -- The tables are made so, they keep the first rule, and of the rows that they have this is the first rule that is broken.
   pub record BreaksRule (rule : Rule) : Type 0 where
+    pub made : AreMade
     pub world : Planet
     pub text : List ℕ
     pub is_world : world_of text ≡ Ok world
@@ -114,7 +156,7 @@ module _ {S : Type 0} (g : Ghosts S) (old : Held S) where
   -- the first rule that is broken
   abbrev pub IsDamaged : Rule → Type 0
   IsDamaged OneRow = BreaksOneRow
-  IsDamaged Ranges = (KeepsOneRow × HasOtherType) ⊎ BreaksRule Ranges
+  IsDamaged Ranges = (KeepsOneRow × HasOtherType other_selects) ⊎ BreaksRule Ranges
   IsDamaged Names = BreaksRule Names
   IsDamaged Known = BreaksRule Known
   IsDamaged Next = BreaksRule Next
@@ -126,15 +168,44 @@ module _ {S : Type 0} (g : Ghosts S) (old : Held S) where
   IsDamaged Books = BreaksRule Books
   IsDamaged Mail = BreaksRule Mail
 
-  -- Store is told in a transaction, where the SELECT of the campaign's own row is refused for the disk, for size or for steps, or once that row keeps the first rule.
+  -- ---- Store and Memory
+
+  -- one of the other tables can't be read, for another cause than memory
+  abbrev pub CannotRead : Type 0
+  CannotRead = RefusesOne other_selects read.Store ⊎ RefusesOne other_selects read.Refused
+
+  -- the disk failed as the tables were read
+  pub record FailedMeanwhile : Type 0 where
+    pub after : Held S
+    pub leaves : Leaves g old after
+    pub failed : MoreFaults (state g old).faults (state g after).faults
+
+  -- the campaign's own row, asked for once more after other readings, is refused for want of memory or not
+  pub record RefusesAgain (memory : Bool) : Type 0 where
+    pub before : Held S
+    pub leaves : Leaves g old before
+    pub during : Held S
+    pub error : Error
+    pub refused : FailsToQuery all_campaign [] (state g before) (state g during) error
+    pub memory_is : is_memory error ≡ memory
+
+  -- all is read and each value is of its type, but the tables are made otherwise, or the disk fails before they are known to be a campaign's
+  abbrev pub CannotConfirm : Type 0
+  CannotConfirm = AreToldTyped other_selects × ((¬ AreMade) ⊎ (FailedMeanwhile ⊎ RefusesAgain false))
+
+  -- Store is told in a transaction, where the SELECT of the campaign's own row is refused for the disk, for size or for steps, or, once that row keeps the first rule, where another table can't be read or the tables can't be confirmed.
   abbrev pub FailsToLoad : Type 0
-  FailsToLoad = (old.in_transaction ≡ true) ⊎ (RefusesToSelect g all_campaign old read.Store ⊎ KeepsOneRow)
+  FailsToLoad = (old.in_transaction ≡ true) ⊎ (RefusesToSelect g all_campaign old read.Store ⊎ (KeepsOneRow × (CannotRead ⊎ CannotConfirm)))
+
+  -- Memory is told in no transaction, where that SELECT is refused for want of memory or is answered: what is behind it may want memory anywhere.
+  abbrev pub WantsMemory : Type 0
+  WantsMemory = (old.in_transaction ≡ false) × (RefusesToSelect g all_campaign old read.Memory ⊎ ((rows : List Row) × Selects g all_campaign old rows))
 
   abbrev pub RefusesToLoad : StoreFault → Type 0
   RefusesToLoad Store = FailsToLoad
   RefusesToLoad (Damaged rule) = IsDamaged rule
   RefusesToLoad NotACampaign = RefusesToSelect g all_campaign old read.Refused
-  RefusesToLoad Memory = ⊤
+  RefusesToLoad Memory = WantsMemory
 
   -- The connection holds the good campaign, of which nothing is marked, and a text of its world.
   pub record Loads (new : Held S) (w : Planet) (c : Marked) : Type 0 where

@@ -1,19 +1,25 @@
 -- What one step of a transaction does.
-use Rattle.std.specs.Prelude.{◌≡◌, ℕ, List, false, IsTrue, Result, Ok, OnOk, OnErr}
+use Rattle.std.specs.Prelude.{◌≡◌, ℕ, List, false, IsTrue, Result, Ok, IfErr, OnOk, OnErr}
 use Rattle.std.specs.Borrow.{MutBor}
 use Rattle.sqlite_trees.specs.declared.store.Store.{Ghosts}
+use Rattle.sqlite.specs.declared.error.Error.{Error}
 use Rattle.sqlite.specs.Held.{Held, state}
 use Rattle.sqlite.specs.Effect.{Database}
 use Rattle.sqlite.specs.Order.{Row}
 use Rattle.sqlite.specs.State.{State, HasCleanDisk, Survives, KeepsCommit, ExecutesInside}
 use Rattle.atl_store.specs.Inside.{Commits, LeavesOff, MayLeave}
+use Rattle.atl_store.specs.Causes.{Gives}
 
 -- A step inside a transaction, which stays on the connection that it is on.
-pub record Writes {S : Type 0} (g : Ghosts S) (Does : State → State → Type 0) {A E : Type 0} (result : Result A E) (old new : MutBor (Held S)) : Type 0 where
+pub record Writes {S : Type 0} (g : Ghosts S) (Does : State → State → Type 0) {A : Type 0} (result : Result A Error) (old new : MutBor (Held S)) : Type 0 where
   -- The transaction is on the same connection.
   pub same_reference : new.ghost_name ≡ old.ghost_name
   -- With Ok it has done this, on a disk that is clean.
   pub does : HasCleanDisk (state g new.now) → OnOk result (Does (state g old.now) (state g new.now))
+  -- With Ok the transaction goes on.
+  pub goes_on : HasCleanDisk (state g new.now) → OnOk result ((state g new.now).in_transaction ≡ (state g old.now).in_transaction)
+  -- Its error is one that a call gave, where the transaction was going on.
+  pub told : HasCleanDisk (state g new.now) → IsTrue (state g old.now).in_transaction → IfErr result (λ e. Gives g e old.now new.now)
   -- It has committed nothing.
   pub kept : HasCleanDisk (state g new.now) → KeepsCommit (state g old.now) (state g new.now)
   -- A crash leaves only what it could have left before.
@@ -24,11 +30,13 @@ abbrev pub Runs : List ℕ → Row → State → State → Type 0
 Runs sql params old new = IsTrue old.in_transaction × (count : ℕ) × ExecutesInside 0 sql params old new (Ok count)
 
 -- A transaction as a whole, on a connection that is in none before it.
-pub record Transacts {S : Type 0} (g : Ghosts S) (Before : Database → Type 0) (Does : Database → Database → Type 0) {A E : Type 0} (result : Result A E) (old new : Held S) : Type 0 where
+pub record Transacts {S : Type 0} (g : Ghosts S) (Before : Database → Type 0) (Does : Database → Database → Type 0) {A : Type 0} (result : Result A Error) (old new : Held S) : Type 0 where
   -- With Ok it has done this, on a disk that is clean, and it is committed.
   pub ok : HasCleanDisk (state g new) → OnOk result (Commits Before Does (state g old) (state g new))
   -- With an error it has done nothing.
   pub err : HasCleanDisk (state g new) → OnErr result (LeavesOff (state g old) (state g new))
+  -- Its error is one that a statement gave, or the commit.
+  pub told : HasCleanDisk (state g new) → IfErr result (λ e. Gives g e old new)
   -- A crash leaves what it could have left before, or what is done.
   pub crash : Survives (state g old) (state g new) (MayLeave Before Does (state g old))
   -- The transaction is over.

@@ -1,16 +1,18 @@
 //! What changed of a campaign is written into its tables.
-ghost use Rattle.std.specs.Prelude.{◌≡◌, ◌≤◌, false, List, ℕ, OnOk, OnErr, length};
+ghost use Rattle.std.specs.Prelude.{◌≡◌, ◌≤◌, false, List, ℕ, IfErr, OnOk, OnErr, length};
 ghost use Rattle.sqlite.specs.Held.{state};
 ghost use Rattle.sqlite.specs.State.{HasCleanDisk};
 ghost use Rattle.atl_state.specs.Covers.{Covers};
 ghost use Rattle.atl_state.specs.Limits.{most_things};
 ghost use Rattle.atl_state.specs.Marks.{no_marks};
 ghost use Rattle.atl_state.specs.State.{State};
-ghost use Rattle.atl_store.specs.Changing.{WritesChanges};
+ghost use Rattle.atl_store.specs.Causes.{IsTold};
+ghost use Rattle.atl_store.specs.Changing.{WritesChanges, HoldsUnmarked};
+ghost use Rattle.atl_store.specs.Faults.{write_fault};
 ghost use Rattle.atl_store.specs.Rewriting.{RewritesPlayers, RewritesPlaces, RewritesPeople};
 ghost use Rattle.atl_store.specs.Writes.{Writes, Transacts};
-ghost use Rattle.atl_store.specs.Inside.{Inside, HasTables};
-ghost use Rattle.atl_store.specs.Keeps.{Keeps, Stops, IsLater, SparesOthers};
+ghost use Rattle.atl_store.specs.Inside.{Inside, HasTables, LeavesOff};
+ghost use Rattle.atl_store.specs.Keeps.{Keeps, Stops, IsLater, MayFound, SparesOthers};
 
 use crate::fault::WriteFault;
 use crate::goods::rewrite_marked_goods;
@@ -70,10 +72,11 @@ fn write_marked<S: Alter>(conn: &mut Connection<S>, campaign: &Campaign) -> Resu
     tx.commit()
 }
 
-/// Writes what is marked of a campaign into a store that holds the campaign from which only this differs, in one
-/// transaction: rows of what is there are put, those of what is gone are deleted, and no other row is touched. With Ok the
-/// store holds the campaign, and nothing of it is marked. Store or Memory: the store holds the one before while the
-/// connection is open, a crash leaves the one before or this one, and the marks stay. See docs/FORMATS.md, "Tables".
+/// Writes what is marked of a campaign into a store that holds all of it that isn't marked, whatever else stands under
+/// marked keys, in one transaction: rows of what is there are put, those of what is gone are deleted, and no other row is
+/// touched. With Ok the store holds the campaign, and nothing of it is marked. Memory where the database says that it has
+/// none, Store where it gives another error; then the tables are as before while the connection is open, a crash leaves
+/// them so or with the campaign, and the marks stay. See docs/FORMATS.md, "Tables".
 pub fn write_changes<S: Alter>(
     conn: &mut Connection<S>,
     campaign: &mut Campaign,
@@ -83,6 +86,10 @@ pub fn write_changes<S: Alter>(
     ensures ok { HasCleanDisk (state S.Store conn.new) → OnOk result ((text : List ℕ) (before : State) → Keeps (state S.Store conn.old) text before → Covers campaign.old.marks before campaign.old.what → Keeps (state S.Store conn.new) text campaign.old.what) }
     ensures err { HasCleanDisk (state S.Store conn.new) → OnErr result ((text : List ℕ) (before : State) → Keeps (state S.Store conn.old) text before → Covers campaign.old.marks before campaign.old.what → Stops (state S.Store conn.old).faults (state S.Store conn.new) text before campaign.old.what) }
     ensures marked { HasCleanDisk (state S.Store conn.new) → OnOk result (HasTables (state S.Store conn.old).now → WritesChanges campaign.old (state S.Store conn.old).now (state S.Store conn.new).now) }
+    ensures unmarked { HasCleanDisk (state S.Store conn.new) → OnOk result ((text : List ℕ) → HasTables (state S.Store conn.old).now → HoldsUnmarked (state S.Store conn.old).now.trees text campaign.old → Keeps (state S.Store conn.new) text campaign.old.what) }
+    ensures crash { HasCleanDisk (state S.Store conn.new) → OnErr result ((text : List ℕ) → HasTables (state S.Store conn.old).now → HoldsUnmarked (state S.Store conn.old).now.trees text campaign.old → MayFound (state S.Store conn.old) text campaign.old.what (state S.Store conn.new)) }
+    ensures left { HasCleanDisk (state S.Store conn.new) → OnErr result (LeavesOff (state S.Store conn.old) (state S.Store conn.new)) }
+    ensures told { HasCleanDisk (state S.Store conn.new) → IfErr result (IsTold S.Store write_fault conn.old conn.new) }
     ensures done { OnOk result (campaign.new ≡ record campaign.old { marks = no_marks }) }
     ensures undone { OnErr result (campaign.new ≡ campaign.old) }
     ensures later { IsLater (state S.Store conn.old) (state S.Store conn.new) }

@@ -1,5 +1,5 @@
 //! A whole campaign is written into a new store.
-ghost use Rattle.std.specs.Prelude.{◌≡◌, ◌≤◌, false, OnOk, OnErr, IfErr, length};
+ghost use Rattle.std.specs.Prelude.{◌≡◌, ◌≤◌, false, IsTrue, OnOk, OnErr, IfErr, length};
 ghost use Rattle.std.specs.Bool.{Decides};
 ghost use Rattle.sqlite.specs.Held.{state};
 ghost use Rattle.atl_store.specs.Tables.{no_tables};
@@ -9,7 +9,7 @@ ghost use Rattle.atl_store.specs.Writes.{Writes, Transacts};
 ghost use Rattle.atl_store.specs.Inside.{Inside, HasTables, IsBlank};
 ghost use Rattle.atl_store.specs.Making.{has_campaign};
 ghost use Rattle.atl_store.specs.Filling.{FillsPlayers, FillsPlaces, FillsPeople, WritesFounding};
-ghost use Rattle.atl_store.specs.Keeps.{Creates, RefusesToCreate, IsLater};
+ghost use Rattle.atl_store.specs.Keeps.{Creates, IsReady, RefusesToCreate, IsLater};
 
 use crate::fault::CreateFault;
 use crate::goods::put_all_goods;
@@ -100,11 +100,20 @@ fn is_blank(schema: &Schema) -> bool
         && schema.views.as_slice().is_empty()
 }
 
+/// Whether the database has no table, index or view and the connection is in no transaction.
+fn is_ready<S: Alter>(conn: &Connection<S>) -> bool
+    ensures ready { Decides result (IsReady (state S.Store conn.now)) }
+    ensures settled { IsTrue result → IsTrue (state S.Store conn.now).is_open → (state S.Store conn.now).now ≡ (state S.Store conn.now).committed }
+{
+    is_blank(conn.schema()) && conn.is_autocommit()
+}
+
 /// Makes the nine tables and writes the whole campaign with its world text, in one transaction. With Ok the connection
-/// holds the campaign, of which nothing is marked any more, and no table `campaign` was there. NotEmpty: a table `campaign`
-/// is there, and nothing is changed. Store: the connection is in a transaction, the database has other tables, or it
-/// refuses. After Store and Memory the tables are as they were while the connection is open, and a crash leaves what it
-/// left before or the campaign. After any fault the marks are as they were. See docs/FORMATS.md, "Tables".
+/// holds the campaign, of which nothing is marked any more, and no table `campaign` was there. NotEmpty: a table
+/// `campaign` is there, and nothing is changed. Store: the connection is in a transaction or the database has other
+/// tables, and nothing is changed; or the database gives an error that is not want of memory. Memory: it says that it
+/// has none. After both the tables are as they were while the connection is open, and a crash leaves what it left
+/// before or the campaign. After any fault the marks are as they were. See docs/FORMATS.md, "Tables".
 pub fn create<S: Alter>(
     conn: &mut Connection<S>,
     world_text: &str,
@@ -120,7 +129,7 @@ pub fn create<S: Alter>(
     if is_there(conn.schema()) {
         return Err(CreateFault::NotEmpty);
     }
-    if !is_blank(conn.schema()) || !conn.is_autocommit() {
+    if !is_ready(conn) {
         return Err(CreateFault::Store);
     }
     write_founding(conn, world_text, campaign)?;

@@ -1,5 +1,5 @@
 //! A joining is written into the tables of the campaign.
-ghost use Rattle.std.specs.Prelude.{◌≡◌, ◌≤◌, [], false, List, ℕ, OnOk, OnErr, length};
+ghost use Rattle.std.specs.Prelude.{◌≡◌, ◌≤◌, [], false, List, ℕ, IfErr, OnOk, OnErr, length};
 ghost use Rattle.sqlite.specs.Held.{state};
 ghost use Rattle.sqlite.specs.State.{HasCleanDisk};
 ghost use Rattle.atl_state.specs.State.{State};
@@ -9,8 +9,10 @@ ghost use Rattle.atl_store.specs.Tables.{faction_table, unit_table, report_table
 ghost use Rattle.atl_store.specs.Shown.{report_row};
 ghost use Rattle.atl_store.specs.Rows.{head_of, faction_line, unit_line};
 ghost use Rattle.atl_store.specs.PutsHead.{PutsHead};
+ghost use Rattle.atl_store.specs.Causes.{IsTold};
+ghost use Rattle.atl_store.specs.Faults.{write_fault};
 ghost use Rattle.atl_store.specs.Writes.{Writes, Transacts};
-ghost use Rattle.atl_store.specs.Inside.{Inside, HasTables, Both, Puts};
+ghost use Rattle.atl_store.specs.Inside.{Inside, HasTables, Both, Puts, LeavesOff};
 ghost use Rattle.atl_store.specs.Arriving.{HasArrival, IsFound, Settles, WritesJoin};
 ghost use Rattle.atl_store.specs.Keeps.{Keeps, Stops, IsLater, SparesOthers, IsJoining};
 
@@ -105,8 +107,9 @@ fn write_joining<S: Alter>(
 
 /// Writes a joining into a store that holds the campaign before it, in one transaction: the campaign's own row, the
 /// faction, its unit and its report, and what joining booked. The campaign is the one after the joining, with the
-/// faction's first report stored. With Ok the store holds it. Store or Memory: the store holds the one before while the
-/// connection is open, and a crash leaves the one before or the one after. See docs/FORMATS.md, "Tables".
+/// faction's first report stored. With Ok the store holds it, and no other row is touched. Memory where the database says
+/// that it has none, Store where it gives another error; then the store holds the campaign before while the connection is
+/// open, and a crash leaves the one before or the one after. See docs/FORMATS.md, "Tables".
 pub fn write_join<S: Alter>(
     conn: &mut Connection<S>,
     campaign: &Campaign,
@@ -116,6 +119,9 @@ pub fn write_join<S: Alter>(
     requires arrived { HasArrival campaign.now.what faction }
     ensures ok { HasCleanDisk (state S.Store conn.new) → OnOk result ((text : List ℕ) (before : State) → Keeps (state S.Store conn.old) text before → IsJoining before faction campaign.now.what → Keeps (state S.Store conn.new) text campaign.now.what) }
     ensures err { HasCleanDisk (state S.Store conn.new) → OnErr result ((text : List ℕ) (before : State) → Keeps (state S.Store conn.old) text before → IsJoining before faction campaign.now.what → Stops (state S.Store conn.old).faults (state S.Store conn.new) text before campaign.now.what) }
+    ensures own { HasCleanDisk (state S.Store conn.new) → OnOk result (HasTables (state S.Store conn.old).now → WritesJoin faction campaign.now.what (state S.Store conn.old).now (state S.Store conn.new).now) }
+    ensures left { HasCleanDisk (state S.Store conn.new) → OnErr result (LeavesOff (state S.Store conn.old) (state S.Store conn.new)) }
+    ensures told { HasCleanDisk (state S.Store conn.new) → IfErr result (IsTold S.Store write_fault conn.old conn.new) }
     ensures later { IsLater (state S.Store conn.old) (state S.Store conn.new) }
     ensures others { HasCleanDisk (state S.Store conn.new) → SparesOthers (state S.Store conn.old) (state S.Store conn.new) }
     ensures idle { conn.new.in_transaction ≡ false }

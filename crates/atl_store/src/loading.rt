@@ -2,8 +2,8 @@
 ghost use Rattle.std.specs.Prelude.{◌≡◌, false, IfOk, IfErr};
 ghost use Rattle.sqlite.specs.Held.{state};
 ghost use Rattle.sqlite.specs.State.{HasCleanDisk};
-ghost use Rattle.atl_store.specs.Gathering.{IsSettled, Leaves, Gathered, IsLoaded};
-ghost use Rattle.atl_store.specs.Loading.{Loads, RefusesToLoad, LeavesAlone};
+ghost use Rattle.atl_store.specs.Gathering.{IsSettled, Gathered, IsLoaded};
+ghost use Rattle.atl_store.specs.Loading.{Leaves, Loads, RefusesToLoad, LeavesAlone};
 
 mod confirmed;
 mod gathered;

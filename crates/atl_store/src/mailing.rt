@@ -1,27 +1,18 @@
 //! A mail is written into the tables of the campaign.
-ghost use Rattle.std.specs.Prelude.{◌≡◌, false, List, ℕ, OnOk, OnErr};
+ghost use Rattle.std.specs.Prelude.{◌≡◌, false, List, ℕ, IfErr, OnOk, OnErr};
 ghost use Rattle.sqlite.specs.Held.{state};
 ghost use Rattle.sqlite.specs.State.{HasCleanDisk};
 ghost use Rattle.atl_state.specs.State.{State, with_mail};
-ghost use Rattle.atl_store.specs.Writes.{Writes, Transacts};
-ghost use Rattle.atl_store.specs.Inside.{Inside, HasTables};
+ghost use Rattle.atl_store.specs.Causes.{IsTold};
+ghost use Rattle.atl_store.specs.Faults.{write_fault};
+ghost use Rattle.atl_store.specs.Writes.{Transacts};
+ghost use Rattle.atl_store.specs.Inside.{HasTables, LeavesOff};
 ghost use Rattle.atl_store.specs.Arriving.{WritesMail};
 ghost use Rattle.atl_store.specs.Keeps.{Keeps, Stops, IsLater, SparesOthers};
 
 use crate::fault::WriteFault;
 use crate::rows::mail::put_mail;
-use sqlite::{Alter, Connection, Error, Transaction};
-
-/// Puts the row of a mail.
-fn put_mailing<S: Alter>(
-    tx: &mut Transaction<'_, S>,
-    faction: u32,
-    text: &[u8],
-) -> Result<(), Error>
-    ensures { Writes S.Store (Inside HasTables (WritesMail faction text.now)) result tx.old.conn tx.new.conn }
-{
-    put_mail(tx, faction, text)
-}
+use sqlite::{Alter, Connection, Error};
 
 /// The transaction of a mail.
 fn write_mailing<S: Alter>(conn: &mut Connection<S>, faction: u32, text: &[u8]) -> Result<(), Error>
@@ -29,13 +20,14 @@ fn write_mailing<S: Alter>(conn: &mut Connection<S>, faction: u32, text: &[u8]) 
     ensures { Transacts S.Store HasTables (WritesMail faction text.now) result conn.old conn.new }
 {
     let mut tx = conn.transaction();
-    put_mailing(&mut tx, faction, text)?;
+    put_mail(&mut tx, faction, text)?;
     tx.commit()
 }
 
 /// Writes the mail of a faction into a store that holds a campaign, in the place of an older one, in one transaction. With
-/// Ok the store holds the campaign with this mail. Store or Memory: it holds the one before while the connection is open,
-/// and a crash leaves the one before or the one after. See docs/FORMATS.md, "Tables".
+/// Ok the store holds the campaign with this mail, and no other row is touched. Memory where the database says that it
+/// has none, Store where it gives another error; then the store holds the campaign before while the connection is open, and
+/// a crash leaves the one before or the one after. See docs/FORMATS.md, "Tables".
 pub fn write_mail<S: Alter>(
     conn: &mut Connection<S>,
     faction: u32,
@@ -44,6 +36,9 @@ pub fn write_mail<S: Alter>(
     requires { conn.old.in_transaction ≡ false }
     ensures ok { HasCleanDisk (state S.Store conn.new) → OnOk result ((world : List ℕ) (before : State) → Keeps (state S.Store conn.old) world before → Keeps (state S.Store conn.new) world (with_mail before faction text.now)) }
     ensures err { HasCleanDisk (state S.Store conn.new) → OnErr result ((world : List ℕ) (before : State) → Keeps (state S.Store conn.old) world before → Stops (state S.Store conn.old).faults (state S.Store conn.new) world before (with_mail before faction text.now)) }
+    ensures own { HasCleanDisk (state S.Store conn.new) → OnOk result (HasTables (state S.Store conn.old).now → WritesMail faction text.now (state S.Store conn.old).now (state S.Store conn.new).now) }
+    ensures left { HasCleanDisk (state S.Store conn.new) → OnErr result (LeavesOff (state S.Store conn.old) (state S.Store conn.new)) }
+    ensures told { HasCleanDisk (state S.Store conn.new) → IfErr result (IsTold S.Store write_fault conn.old conn.new) }
     ensures later { IsLater (state S.Store conn.old) (state S.Store conn.new) }
     ensures others { HasCleanDisk (state S.Store conn.new) → SparesOthers (state S.Store conn.old) (state S.Store conn.new) }
     ensures idle { conn.new.in_transaction ≡ false }

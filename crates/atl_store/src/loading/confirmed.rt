@@ -2,7 +2,8 @@
 ghost use Rattle.std.specs.Prelude.{◌≡◌, false, OnOk, IfErr};
 ghost use Rattle.sqlite.specs.Held.{state};
 ghost use Rattle.sqlite.specs.State.{HasCleanDisk};
-ghost use Rattle.atl_store.specs.Gathering.{IsSettled, Leaves, Fails, IsConfirmed};
+ghost use Rattle.atl_store.specs.Gathering.{IsSettled, FailsToConfirm, IsConfirmed};
+ghost use Rattle.atl_store.specs.Loading.{Leaves};
 
 use crate::fault::StoreFault;
 use crate::schema::has_nine;
@@ -14,7 +15,7 @@ pub(crate) fn confirm<S: Alter>(conn: &mut Connection<S>) -> Result<(), StoreFau
     requires idle { conn.old.in_transaction ≡ false }
     requires settled { IsSettled (state S.Store conn.old) }
     ensures ok { HasCleanDisk (state S.Store conn.new) → OnOk result (IsConfirmed (state S.Store conn.old) (state S.Store conn.new)) }
-    ensures fails { IfErr result Fails }
+    ensures fails { HasCleanDisk (state S.Store conn.new) → IfErr result (FailsToConfirm S.Store conn.old) }
     ensures leaves { Leaves S.Store conn.old conn.new }
 {
     if !has_nine(conn.schema()) {

@@ -1,7 +1,8 @@
 //! The rows of the tables, as they are judged.
-ghost use Rattle.std.specs.Prelude.{◌≡◌, map, IfOk, IfErr};
+ghost use Rattle.std.specs.Prelude.{◌≡◌, map, Ok, Err, if◌then◌else◌, IfOk, IfErr};
 ghost use Rattle.std.specs.Bool.{Decides};
-ghost use Rattle.atl_store.specs.Gathering.{Fails, AreApart, IsMadeOf};
+ghost use Rattle.atl_store.specs.declared.fault.StoreFault.TheVariants.{Store};
+ghost use Rattle.atl_store.specs.Gathering.{Lacks, AreApart, IsMadeOf};
 
 use crate::fault::StoreFault;
 use crate::loading::others::Others;
@@ -41,14 +42,23 @@ fn unplaced<T: Drop>(alloc: Global, placed: Vec<Placed<T>>) -> Result<Sequence<T
     Ok(rows)
 }
 
+/// Store, where two rows are kept at one place.
+fn told_apart(are_apart: bool) -> Result<(), StoreFault>
+    ensures { result ≡ (if are_apart then Ok tt else Err Store) }
+{
+    if are_apart {
+        Ok(())
+    } else {
+        Err(StoreFault::Store)
+    }
+}
+
 /// The rows without their places, which have to differ.
 fn rows_apart<T: Drop>(alloc: Global, placed: Vec<Placed<T>>) -> Result<Sequence<T>, StoreFault>
     ensures ok { IfOk result (λ rows. (rows ≡ map (λ s. s.row) placed.items) × AreApart placed.items) }
-    ensures fails { IfErr result Fails }
+    ensures fails { IfErr result (Lacks (AreApart placed.items)) }
 {
-    if !are_apart(alloc, &placed)? {
-        return Err(StoreFault::Store);
-    }
+    told_apart(are_apart(alloc, &placed)?)?;
     let rows = unplaced(alloc, placed)?;
     Ok(rows)
 }
@@ -60,7 +70,7 @@ pub(crate) fn parts_with(
     others: Others,
 ) -> Result<Parts, StoreFault>
     ensures ok { IfOk result (λ parts. IsMadeOf head others parts) }
-    ensures fails { IfErr result Fails }
+    ensures fails { IfErr result (Lacks (AreApart others.0.1.1.items × AreApart others.1.1.items)) }
 {
     let ((((factions, regions), reports), (units, has)), ((structures, mail), books)) = others;
     let has = rows_apart(alloc, has)?;

@@ -2,7 +2,8 @@
 //! only where none of them fails to be read.
 ghost use Rattle.std.specs.Prelude.{◌≡◌, false};
 ghost use Rattle.sqlite.specs.Held.{state};
-ghost use Rattle.atl_store.specs.Gathering.{IsSettled, kept_of, AreTwo, AreThree, AreOthers, ReadsSome};
+ghost use Rattle.atl_store.specs.Gathering.{IsSettled, kept_of, place_selects, people_selects, work_selects, AreTwo, AreThree, AreOthers, ReadsSome};
+ghost use Rattle.atl_store.specs.Loading.{other_selects};
 ghost use Rattle.atl_store.specs.Reading.{placed_rows_in};
 ghost use Rattle.atl_store.specs.Sets.{rows_in};
 ghost use Rattle.atl_store.specs.StoredRows.{faction_stored, region_stored, unit_stored, structure_stored, mail_stored, report_stored, has_stored, books_stored};
@@ -58,7 +59,7 @@ fn read_people<S: Alter>(
 ) -> Result<Option<People>, StoreFault>
     requires idle { conn.old.in_transaction ≡ false }
     requires settled { IsSettled (state S.Store conn.old) }
-    ensures { ReadsSome S.Store conn.old (AreTwo S.Store conn.old (rows_in unit_table) unit_stored (placed_rows_in has_table) has_stored) result conn.new }
+    ensures { ReadsSome S.Store conn.old people_selects (AreTwo S.Store conn.old (rows_in unit_table) unit_stored (placed_rows_in has_table) has_stored) result conn.new }
 {
     let units = kept(read_units(alloc, conn))?;
     let has = kept(read_has(alloc, conn))?;
@@ -71,7 +72,7 @@ fn read_places<S: Alter>(
 ) -> Result<Option<Places>, StoreFault>
     requires idle { conn.old.in_transaction ≡ false }
     requires settled { IsSettled (state S.Store conn.old) }
-    ensures { ReadsSome S.Store conn.old (AreThree S.Store conn.old (rows_in faction_table) faction_stored (rows_in region_table) region_stored (rows_in report_table) report_stored) result conn.new }
+    ensures { ReadsSome S.Store conn.old place_selects (AreThree S.Store conn.old (rows_in faction_table) faction_stored (rows_in region_table) region_stored (rows_in report_table) report_stored) result conn.new }
 {
     let factions = kept(read_factions(alloc, conn))?;
     let regions = kept(read_regions(alloc, conn))?;
@@ -85,7 +86,7 @@ fn read_works<S: Alter>(
 ) -> Result<Option<Works>, StoreFault>
     requires idle { conn.old.in_transaction ≡ false }
     requires settled { IsSettled (state S.Store conn.old) }
-    ensures { ReadsSome S.Store conn.old (AreThree S.Store conn.old (rows_in structure_table) structure_stored (rows_in mail_table) mail_stored (placed_rows_in books_table) books_stored) result conn.new }
+    ensures { ReadsSome S.Store conn.old work_selects (AreThree S.Store conn.old (rows_in structure_table) structure_stored (rows_in mail_table) mail_stored (placed_rows_in books_table) books_stored) result conn.new }
 {
     let structures = kept(read_structures(alloc, conn))?;
     let mail = kept(read_mail(alloc, conn))?;
@@ -100,7 +101,7 @@ pub(crate) fn read_others<S: Alter>(
 ) -> Result<Option<Others>, StoreFault>
     requires idle { conn.old.in_transaction ≡ false }
     requires settled { IsSettled (state S.Store conn.old) }
-    ensures { ReadsSome S.Store conn.old (AreOthers S.Store conn.old) result conn.new }
+    ensures { ReadsSome S.Store conn.old other_selects (AreOthers S.Store conn.old) result conn.new }
 {
     let places = read_places(alloc, conn)?;
     let people = read_people(alloc, conn)?;

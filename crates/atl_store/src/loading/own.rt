@@ -3,8 +3,8 @@ ghost use Rattle.std.specs.Prelude.{◌≡◌, false, pos, IfOk, IfErr};
 ghost use Rattle.std.specs.Bool.{Decides};
 ghost use Rattle.sqlite.specs.Held.{state};
 ghost use Rattle.sqlite.specs.State.{HasCleanDisk};
-ghost use Rattle.atl_store.specs.Gathering.{IsSettled, Leaves, own_fault, only_of, ReadsWorld, JudgesOwn, JudgesRows, OwnRead};
-ghost use Rattle.atl_store.specs.Loading.{RefusesToLoad};
+ghost use Rattle.atl_store.specs.Gathering.{IsSettled, own_fault, only_of, ReadsWorld, JudgesOwn, JudgesRows, OwnRead};
+ghost use Rattle.atl_store.specs.Loading.{Leaves, RefusesToLoad};
 
 use crate::fault::{ReadFault, StoreFault};
 use crate::rows::campaign::{StoredCampaign, select_campaign};

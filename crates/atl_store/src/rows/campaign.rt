@@ -85,6 +85,7 @@ impl StoredCampaign {
 /// The row but for its world text.
 fn head(alloc: Global, row: &Row) -> Result<StoredHead, Error>
     ensures ok { IfOk result (λ head. head_stored head ≡ first_columns 7 row.now) }
+    ensures typed { IfOk result (λ _. IsTyped head_forms row.now) }
     ensures other { IfErr result (λ e. IsTrue (not (is_memory e)) → ¬ IsTyped head_forms row.now) }
 {
     let (id, format, month) = three_integers(row, 0)?;

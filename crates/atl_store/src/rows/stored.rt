@@ -19,6 +19,7 @@ pub(crate) trait Stored: Drop + Sized {
 
     fn from_row(alloc: Global, row: &Row) -> Result<Self, Error>
         ensures ok { IfOk result (λ stored. shown stored ≡ first_columns (length forms) row.now) }
+        ensures typed { IfOk result (λ _. IsTyped forms row.now) }
         ensures other { IfErr result (λ e. IsTrue (not (is_memory e)) → ¬ IsTyped forms row.now) };
 }
 
@@ -33,6 +34,7 @@ pub struct Placed<T> {
 /// Each row of an answer.
 pub(crate) fn parse_rows<T: Stored>(alloc: Global, rows: &[Row]) -> Result<Vec<T>, ReadFault>
     ensures ok { IfOk result (λ all. map T.shown all.items ≡ map (first_columns (length T.forms)) rows.now) }
+    ensures typed { IfOk result (λ _. AreTyped T.forms rows.now) }
     ensures other { IfErr result (λ fault. fault ≡ OtherType → ¬ AreTyped T.forms rows.now) }
     ensures which { IfErr result (λ fault. fault ≢ OtherType → fault ≡ Memory) }
 {

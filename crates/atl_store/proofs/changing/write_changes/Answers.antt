@@ -1,8 +1,9 @@
 use Rattle.sqlite.specs.Held.{state}
 use Rattle.atl_store.specs.Changing.{WritesChanges}
+use Rattle.atl_store.specs.Faults.{write_fault}
 use Rattle.atl_store.specs.Inside.{HasTables}
-use Rattle.atl_store.proofs.ChangeLaws.{changes_held}
-use Rattle.atl_store.proofs.StayLaws.{commits_keeps, leaves_stops, commits_spares, leaves_others, later, on_err}
+use Rattle.atl_store.proofs.ChangeLaws.{changes_held, unmarked_held}
+use Rattle.atl_store.proofs.StayLaws.{commits_keeps, leaves_stops, may_found, commits_spares, leaves_others, later, on_err, told_by}
 use Rattle.atl_store.proofs.changing.write_changes.Goals as goal
 
 pub returns-clause-ok : goal.returns-clause-ok
@@ -35,3 +36,23 @@ returns-clause-later g c = later (state g.S.Store c.args.conn.now) (state g.S.St
 
 pub returns-in_err-write_marked-clause-later : goal.returns-in_err-write_marked-clause-later
 returns-in_err-write_marked-clause-later g c = later (state g.S.Store c.args.conn.now) (state g.S.Store c.write_marked.new.conn) _ c.write_marked.ensures.crash
+
+pub returns-clause-unmarked : goal.returns-clause-unmarked
+returns-clause-unmarked g c clean text tables rest =
+    let old = state g.S.Store c.args.conn.now in
+    let new = state g.S.Store c.write_marked.new.conn in
+    let campaign = c.args.campaign.now in
+    commits_keeps old new text (λ db up. g.met.S.Store.settled c.write_marked.new.conn.store db up) HasTables (WritesChanges campaign) campaign.what (c.in_ok-write_marked.ensures.ok clean) tables
+    (λ did. unmarked_held campaign old.now new.now did text rest)
+
+pub returns-in_err-write_marked-clause-told : goal.returns-in_err-write_marked-clause-told
+returns-in_err-write_marked-clause-told g c clean = told_by g.S.Store write_fault c.args.conn.now c.write_marked.new.conn _ c.from_residual.result c.from_residual.ensures.1 (c.in_err-write_marked.ensures.told clean)
+
+pub returns-in_err-write_marked-clause-left : goal.returns-in_err-write_marked-clause-left
+returns-in_err-write_marked-clause-left g c clean = on_err c.from_residual.result _ (c.in_err-write_marked.ensures.err clean)
+
+pub returns-in_err-write_marked-clause-crash : goal.returns-in_err-write_marked-clause-crash
+returns-in_err-write_marked-clause-crash g c clean = on_err c.from_residual.result _ (λ text tables rest.
+    let old = state g.S.Store c.args.conn.now in
+    let campaign = c.args.campaign.now in
+    may_found old (state g.S.Store c.write_marked.new.conn) text campaign.what HasTables (WritesChanges campaign) tables (λ db did. unmarked_held campaign old.now db did text rest) clean c.write_marked.ensures.crash)

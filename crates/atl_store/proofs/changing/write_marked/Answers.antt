@@ -13,5 +13,5 @@ returns g c =
 pub returns-in_err-rewrite_all : goal.returns-in_err-rewrite_all
 returns-in_err-rewrite_all g c =
     let whole = left_off g.S.Store c.args.conn.now c.transaction-tx.result.conn c.rewrite_all.new.tx.conn c.transaction-tx.ensures.begun HasTables (WritesChanges c.args.campaign.now) c.drop-tx.new.self.0 c.drop-tx.ensures.ended c.from_residual.result
-    c.from_residual.ensures.0 c.rewrite_all.ensures c.drop-tx.ensures.undone c.drop-tx.ensures.survives in
+    c.from_residual.ensures c.in_err-rewrite_all.ensures c.drop-tx.ensures.undone c.drop-tx.ensures.survives in
     search (rules, whole)

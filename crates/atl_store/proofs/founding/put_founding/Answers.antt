@@ -6,10 +6,10 @@ pub returns : goal.returns
 returns g c = four_steps g.S.Store (founding_done c.args.campaign.now.what c.args.text.now) c.in_ok-create_tables.ensures c.in_ok-put_players.ensures c.in_ok-put_places.ensures c.put_people.ensures
 
 pub returns-in_err-create_tables : goal.returns-in_err-create_tables
-returns-in_err-create_tables g c = stops g.S.Store c.create_tables.ensures c.from_residual.ensures.0
+returns-in_err-create_tables g c = stops g.S.Store c.in_err-create_tables.ensures c.from_residual.ensures
 
 pub returns-in_err-put_players : goal.returns-in_err-put_players
-returns-in_err-put_players g c = stops_second g.S.Store c.in_ok-create_tables.ensures c.put_players.ensures c.from_residual-in_err-put_players.ensures.0
+returns-in_err-put_players g c = stops_second g.S.Store c.in_ok-create_tables.ensures c.in_err-put_players.ensures c.from_residual-in_err-put_players.ensures
 
 pub returns-in_err-put_places : goal.returns-in_err-put_places
-returns-in_err-put_places g c = stops_third g.S.Store c.in_ok-create_tables.ensures c.in_ok-put_players.ensures c.put_places.ensures c.from_residual-in_err-put_places.ensures.0
+returns-in_err-put_places g c = stops_third g.S.Store c.in_ok-create_tables.ensures c.in_ok-put_players.ensures c.in_err-put_places.ensures c.from_residual-in_err-put_places.ensures

@@ -11,7 +11,7 @@ returns g c = three_steps g.S.Store (λ old one two new units goods mail. people
     c.in_ok-put_each.ensures c.in_ok-put_all_goods.ensures c.put_each-2.ensures
 
 pub returns-in_err-put_each : goal.returns-in_err-put_each
-returns-in_err-put_each g c = stops g.S.Store c.put_each.ensures c.from_residual.ensures.0
+returns-in_err-put_each g c = stops g.S.Store c.in_err-put_each.ensures c.from_residual.ensures
 
 pub returns-in_err-put_all_goods : goal.returns-in_err-put_all_goods
-returns-in_err-put_all_goods g c = stops_second g.S.Store c.in_ok-put_each.ensures c.put_all_goods.ensures c.from_residual-in_err-put_all_goods.ensures.0
+returns-in_err-put_all_goods g c = stops_second g.S.Store c.in_ok-put_each.ensures c.in_err-put_all_goods.ensures c.from_residual-in_err-put_all_goods.ensures

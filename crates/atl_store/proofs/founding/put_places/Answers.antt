@@ -10,7 +10,7 @@ returns g c = three_steps g.S.Store (λ old one two new regions structures books
     c.in_ok-put_each.ensures c.in_ok-put_each-2.ensures c.put_all_books.ensures
 
 pub returns-in_err-put_each : goal.returns-in_err-put_each
-returns-in_err-put_each g c = stops g.S.Store c.put_each.ensures c.from_residual.ensures.0
+returns-in_err-put_each g c = stops g.S.Store c.in_err-put_each.ensures c.from_residual.ensures
 
 pub returns-in_err-put_each-2 : goal.returns-in_err-put_each-2
-returns-in_err-put_each-2 g c = stops_second g.S.Store c.in_ok-put_each.ensures c.put_each-2.ensures c.from_residual-in_err-put_each-2.ensures.0
+returns-in_err-put_each-2 g c = stops_second g.S.Store c.in_ok-put_each.ensures c.in_err-put_each-2.ensures c.from_residual-in_err-put_each-2.ensures

@@ -11,7 +11,7 @@ returns g c = three_steps g.S.Store (λ old one two new head factions reports. p
     c.in_ok-put_head.ensures c.in_ok-put_each.ensures c.put_each-2.ensures
 
 pub returns-in_err-put_head : goal.returns-in_err-put_head
-returns-in_err-put_head g c = stops g.S.Store c.put_head.ensures c.from_residual.ensures.0
+returns-in_err-put_head g c = stops g.S.Store c.in_err-put_head.ensures c.from_residual.ensures
 
 pub returns-in_err-put_each : goal.returns-in_err-put_each
-returns-in_err-put_each g c = stops_second g.S.Store c.in_ok-put_head.ensures c.put_each.ensures c.from_residual-in_err-put_each.ensures.0
+returns-in_err-put_each g c = stops_second g.S.Store c.in_ok-put_head.ensures c.in_err-put_each.ensures c.from_residual-in_err-put_each.ensures

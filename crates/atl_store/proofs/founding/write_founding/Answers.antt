@@ -13,5 +13,5 @@ returns g c =
 pub returns-in_err-put_founding : goal.returns-in_err-put_founding
 returns-in_err-put_founding g c =
     let whole = left_off g.S.Store c.args.conn.now c.transaction-tx.result.conn c.put_founding.new.tx.conn c.transaction-tx.ensures.begun IsBlank (WritesFounding c.args.text.now c.args.campaign.now.what) c.drop-tx.new.self.0 c.drop-tx.ensures.ended c.from_residual.result
-    c.from_residual.ensures.0 c.put_founding.ensures c.drop-tx.ensures.undone c.drop-tx.ensures.survives in
+    c.from_residual.ensures c.in_err-put_founding.ensures c.drop-tx.ensures.undone c.drop-tx.ensures.survives in
     search (rules, whole)

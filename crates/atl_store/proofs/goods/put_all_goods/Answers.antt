@@ -17,7 +17,7 @@ loop-number-preserved g c =
     c.loop-number.invariant c.in_ok-put_goods.ensures
 
 pub returns-in_err-put_goods : goal.returns-in_err-put_goods
-returns-in_err-put_goods g c = stops_second g.S.Store c.loop-number.invariant c.put_goods.ensures c.from_residual.ensures.0
+returns-in_err-put_goods g c = stops_second g.S.Store c.loop-number.invariant c.in_err-put_goods.ensures c.from_residual.ensures
 
 pub returns : goal.returns
 returns g c = weaker g.S.Store (all_put has_table 3 _ _ (ap all_goods_lines c.in-None.ensures.steps.0)) c.loop-number.invariant

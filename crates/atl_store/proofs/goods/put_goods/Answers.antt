@@ -18,4 +18,4 @@ returns g c =
     c.in_ok-put_sort.ensures c.put_sort-2.ensures
 
 pub returns-in_err-put_sort : goal.returns-in_err-put_sort
-returns-in_err-put_sort g c = stops g.S.Store c.put_sort.ensures c.from_residual.ensures.0
+returns-in_err-put_sort g c = stops g.S.Store c.in_err-put_sort.ensures c.from_residual.ensures

@@ -19,7 +19,7 @@ loop-thing-preserved g c =
     c.loop-thing.invariant c.in_ok-put_thing.ensures
 
 pub returns-in_err-put_thing : goal.returns-in_err-put_thing
-returns-in_err-put_thing g c = stops_second g.S.Store c.loop-thing.invariant c.put_thing.ensures c.from_residual.ensures.0
+returns-in_err-put_thing g c = stops_second g.S.Store c.loop-thing.invariant c.in_err-put_thing.ensures c.from_residual.ensures
 
 pub returns : goal.returns
 returns g c = weaker g.S.Store (all_put has_table 3 _ _ (ap (sort_lines c.args.unit c.args.sort) c.in-None.ensures.steps.0)) c.loop-thing.invariant

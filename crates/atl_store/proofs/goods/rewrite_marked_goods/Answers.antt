@@ -15,7 +15,7 @@ loop-number-preserved g c =
     goes_on g.S.Store (number_nearer has_table wanted c.in-Some.number c.loop-number.number-iterator c.next.new.self c.into_iter-number-iterator.result c.in-Some.ensures.steps) c.loop-number.invariant c.in_ok-rewrite_goods.ensures
 
 pub returns-in_err-rewrite_goods : goal.returns-in_err-rewrite_goods
-returns-in_err-rewrite_goods g c = stops_second g.S.Store c.loop-number.invariant c.rewrite_goods.ensures c.from_residual.ensures.0
+returns-in_err-rewrite_goods g c = stops_second g.S.Store c.loop-number.invariant c.in_err-rewrite_goods.ensures c.from_residual.ensures
 
 pub returns : goal.returns
 returns g c =

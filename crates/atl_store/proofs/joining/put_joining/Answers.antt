@@ -8,4 +8,4 @@ returns g c = two_steps g.S.Store (λ old mid new. joining_done c.args.arrival.n
     c.in_ok-put_newcomer.ensures c.put_welcome.ensures
 
 pub returns-in_err-put_newcomer : goal.returns-in_err-put_newcomer
-returns-in_err-put_newcomer g c = stops g.S.Store c.put_newcomer.ensures c.from_residual.ensures.0
+returns-in_err-put_newcomer g c = stops g.S.Store c.in_err-put_newcomer.ensures c.from_residual.ensures

@@ -8,7 +8,7 @@ returns g c = three_steps g.S.Store (enrolling_done c.args.arrival.now.number c.
     c.in_ok-put_head.ensures c.in_ok-put.ensures c.put-2.ensures
 
 pub returns-in_err-put_head : goal.returns-in_err-put_head
-returns-in_err-put_head g c = stops g.S.Store c.put_head.ensures c.from_residual.ensures.0
+returns-in_err-put_head g c = stops g.S.Store c.in_err-put_head.ensures c.from_residual.ensures
 
 pub returns-in_err-put : goal.returns-in_err-put
-returns-in_err-put g c = stops_second g.S.Store c.in_ok-put_head.ensures c.put.ensures c.from_residual-in_err-put.ensures.0
+returns-in_err-put g c = stops_second g.S.Store c.in_ok-put_head.ensures c.in_err-put.ensures c.from_residual-in_err-put.ensures

@@ -7,7 +7,7 @@ returns g c = three_steps g.S.Store (reporting_done c.args.arrival.now.number c.
     c.in_ok-put.ensures c.in_ok-settle_amount.ensures c.settle_amount-2.ensures
 
 pub returns-in_err-put : goal.returns-in_err-put
-returns-in_err-put g c = stops g.S.Store c.put.ensures c.from_residual.ensures.0
+returns-in_err-put g c = stops g.S.Store c.in_err-put.ensures c.from_residual.ensures
 
 pub returns-in_err-settle_amount : goal.returns-in_err-settle_amount
-returns-in_err-settle_amount g c = stops_second g.S.Store c.in_ok-put.ensures c.settle_amount.ensures c.from_residual-in_err-settle_amount.ensures.0
+returns-in_err-settle_amount g c = stops_second g.S.Store c.in_ok-put.ensures c.in_err-settle_amount.ensures c.from_residual-in_err-settle_amount.ensures

@@ -2,8 +2,10 @@ use Rattle.std.proofs.Common.{subst, sym}
 use Rattle.sqlite.specs.Held.{state}
 use Rattle.atl_store.specs.Inside.{HasTables}
 use Rattle.atl_store.specs.Arriving.{WritesJoin}
+use Rattle.atl_store.specs.Faults.{write_fault}
 use Rattle.atl_store.specs.Keeps.{IsJoining}
-use Rattle.atl_store.proofs.StayLaws.{commits_keeps, leaves_stops, commits_spares, leaves_others, later, on_err}
+use Rattle.atl_store.proofs.JoinLaws.{join_held}
+use Rattle.atl_store.proofs.StayLaws.{commits_keeps, leaves_stops, commits_spares, leaves_others, later, on_err, told_by}
 use Rattle.atl_store.proofs.joining.write_join.Goals as goal
 
 pub returns-clause-ok : goal.returns-clause-ok
@@ -13,7 +15,7 @@ returns-clause-ok g c clean text before keeps joining =
     let after = c.args.campaign.now.what in
     let joins = subst (λ n. IsJoining before n after) (sym c.arrival_of-arrival.ensures.number) joining in
     commits_keeps old new text (λ db up. g.met.S.Store.settled c.write_joining.new.conn.store db up) HasTables (WritesJoin c.arrival_of-arrival.result.number after) after (c.in_ok-write_joining.ensures.ok clean) keeps.tables
-    (λ did. did text before joins keeps.rows)
+    (λ did. join_held _ _ _ _ _ after c.arrival_of-arrival.ensures.found old.now new.now did text before joins keeps.rows)
 
 pub returns-in_err-write_joining-clause-err : goal.returns-in_err-write_joining-clause-err
 returns-in_err-write_joining-clause-err g c clean = on_err c.from_residual.result _ (λ text before keeps joining.
@@ -22,7 +24,7 @@ returns-in_err-write_joining-clause-err g c clean = on_err c.from_residual.resul
     let after = c.args.campaign.now.what in
     let joins = subst (λ n. IsJoining before n after) (sym c.arrival_of-arrival.ensures.number) joining in
     leaves_stops old new text (λ db up. g.met.S.Store.settled c.write_joining.new.conn.store db up) (WritesJoin c.arrival_of-arrival.result.number after) before after clean (c.in_err-write_joining.ensures.err clean) c.write_joining.ensures.crash keeps
-    (λ db did. did text before joins keeps.rows))
+    (λ db did. join_held _ _ _ _ _ after c.arrival_of-arrival.ensures.found old.now db did text before joins keeps.rows))
 
 pub returns-clause-others : goal.returns-clause-others
 returns-clause-others g c clean = commits_spares (state g.S.Store c.args.conn.now) (state g.S.Store c.write_joining.new.conn) HasTables (WritesJoin c.arrival_of-arrival.result.number c.args.campaign.now.what) (c.in_ok-write_joining.ensures.ok clean) (λ has. has)
@@ -35,3 +37,15 @@ returns-clause-later g c = later (state g.S.Store c.args.conn.now) (state g.S.St
 
 pub returns-in_err-write_joining-clause-later : goal.returns-in_err-write_joining-clause-later
 returns-in_err-write_joining-clause-later g c = later (state g.S.Store c.args.conn.now) (state g.S.Store c.write_joining.new.conn) _ c.write_joining.ensures.crash
+
+pub returns-clause-own : goal.returns-clause-own
+returns-clause-own g c clean tables =
+    let old = state g.S.Store c.args.conn.now in
+    let new = state g.S.Store c.write_joining.new.conn in
+    subst (λ n. WritesJoin n c.args.campaign.now.what old.now new.now) c.arrival_of-arrival.ensures.number ((c.in_ok-write_joining.ensures.ok clean).does tables).does
+
+pub returns-in_err-write_joining-clause-told : goal.returns-in_err-write_joining-clause-told
+returns-in_err-write_joining-clause-told g c clean = told_by g.S.Store write_fault c.args.conn.now c.write_joining.new.conn _ c.from_residual.result c.from_residual.ensures.1 (c.in_err-write_joining.ensures.told clean)
+
+pub returns-in_err-write_joining-clause-left : goal.returns-in_err-write_joining-clause-left
+returns-in_err-write_joining-clause-left g c clean = on_err c.from_residual.result _ (c.in_err-write_joining.ensures.err clean)

@@ -13,5 +13,5 @@ returns g c =
 pub returns-in_err-put_joining : goal.returns-in_err-put_joining
 returns-in_err-put_joining g c =
     let whole = left_off g.S.Store c.args.conn.now c.transaction-tx.result.conn c.put_joining.new.tx.conn c.transaction-tx.ensures.begun HasTables (WritesJoin c.args.arrival.now.number c.args.campaign.now.what) c.drop-tx.new.self.0 c.drop-tx.ensures.ended c.from_residual.result
-    c.from_residual.ensures.0 c.put_joining.ensures c.drop-tx.ensures.undone c.drop-tx.ensures.survives in
+    c.from_residual.ensures c.in_err-put_joining.ensures c.drop-tx.ensures.undone c.drop-tx.ensures.survives in
     search (rules, whole)

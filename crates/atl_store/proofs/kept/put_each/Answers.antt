@@ -18,7 +18,7 @@ loop-number-preserved g c =
     c.loop-number.invariant c.in_ok-put.ensures
 
 pub returns-in_err-put : goal.returns-in_err-put
-returns-in_err-put g c = stops_second g.S.Store c.loop-number.invariant c.put.ensures c.from_residual.ensures.0
+returns-in_err-put g c = stops_second g.S.Store c.loop-number.invariant c.in_err-put.ensures c.from_residual.ensures
 
 pub returns : goal.returns
 returns g c = weaker g.S.Store (all_put g.V.Kept.table 1 _ _ (ap (lines_of g.V.Kept.line) c.in-None.ensures.steps.0)) c.loop-number.invariant

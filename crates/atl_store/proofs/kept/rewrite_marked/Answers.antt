@@ -14,7 +14,7 @@ loop-number-preserved g c =
     goes_on g.S.Store (number_nearer g.V.Kept.table wanted c.in-Some.number c.loop-number.number-iterator c.next.new.self c.into_iter-number-iterator.result c.in-Some.ensures.steps) c.loop-number.invariant c.in_ok-rewrite.ensures
 
 pub returns-in_err-rewrite : goal.returns-in_err-rewrite
-returns-in_err-rewrite g c = stops_second g.S.Store c.loop-number.invariant c.rewrite.ensures c.from_residual.ensures.0
+returns-in_err-rewrite g c = stops_second g.S.Store c.loop-number.invariant c.in_err-rewrite.ensures c.from_residual.ensures
 
 pub returns : goal.returns
 returns g c =

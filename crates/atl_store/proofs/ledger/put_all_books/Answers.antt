@@ -31,4 +31,4 @@ returns g c =
     weaker g.S.Store (all_put books_table 2 _ _ (ap (λ n. things_lines c.args.campaign.now.what (range_with_len c.loop-number.number n)) none)) c.loop-number.invariant
 
 pub returns-in_err-put_entries : goal.returns-in_err-put_entries
-returns-in_err-put_entries g c = stops_second g.S.Store c.loop-number.invariant c.put_entries.ensures c.from_residual.ensures.0
+returns-in_err-put_entries g c = stops_second g.S.Store c.loop-number.invariant c.in_err-put_entries.ensures c.from_residual.ensures

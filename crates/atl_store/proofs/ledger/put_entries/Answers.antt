@@ -20,7 +20,7 @@ loop-entry-preserved g c =
     c.loop-entry.invariant c.in_ok-put_amount.ensures
 
 pub returns-in_err-put_amount : goal.returns-in_err-put_amount
-returns-in_err-put_amount g c = stops_second g.S.Store c.loop-entry.invariant c.put_amount.ensures c.from_residual.ensures.0
+returns-in_err-put_amount g c = stops_second g.S.Store c.loop-entry.invariant c.in_err-put_amount.ensures c.from_residual.ensures
 
 pub returns : goal.returns
 returns g c = weaker g.S.Store (all_put books_table 2 _ _ (at_drop_all (entries_lines c.args.campaign.now.what c.args.thing) c.args.entries.now c.loop-entry.entry-index c.loop-entry-test.false)) c.loop-entry.invariant

@@ -18,7 +18,7 @@ loop-entry-preserved g c =
     goes_on g.S.Store (entry_nearer c.args.campaign.now (is_number (thing_place c.args.thing)) _ (drop i entries) (drop (i + 1) entries) entries (drop_more entries i _ (omega (arith, c.loop-entry-test.true)))) c.loop-entry.invariant c.in_ok-rewrite_amount.ensures
 
 pub returns-in_err-rewrite_amount : goal.returns-in_err-rewrite_amount
-returns-in_err-rewrite_amount g c = stops_second g.S.Store c.loop-entry.invariant c.rewrite_amount.ensures c.from_residual.ensures.0
+returns-in_err-rewrite_amount g c = stops_second g.S.Store c.loop-entry.invariant c.in_err-rewrite_amount.ensures c.from_residual.ensures
 
 pub returns : goal.returns
 returns g c =

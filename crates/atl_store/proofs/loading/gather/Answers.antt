@@ -1,25 +1,31 @@
-use Rattle.std.proofs.Common.{subst, inl, arith, IfErr}
+use Rattle.std.proofs.Common.{subst, inl, arith, IfErr, Some, None}
 use Rattle.sqlite.specs.Held.{state}
 use Rattle.sqlite.specs.State.{HasCleanDisk}
-use Rattle.atl_store.specs.Gathering.{Fails, Found, AreOthers, IsMadeOf}
-use Rattle.atl_store.specs.Loading.{RefusesToLoad}
+use Rattle.atl_store.specs.Gathering.{Found, FailsToRead, AreOthers, IsMadeOf}
+use Rattle.atl_store.specs.Loading.{RefusesToLoad, other_selects}
 use Rattle.atl_store.proofs.GatherLaws.{found_behind, others_behind}
-use Rattle.atl_store.proofs.LoadedLaws.{own_kept, gathered_with, fails_refuse, told_as}
+use Rattle.atl_store.proofs.LoadedLaws.{own_kept, gathered_with, unread_refuses, unmade_refuses, told_as}
 use Rattle.atl_store.proofs.loading.gather.Goals as goal
 
 pub returns-in_err-others-clause-err : goal.returns-in_err-others-clause-err
 returns-in_err-others-clause-err g c clean =
     let old = c.args.conn.now in
-    let after_own : HasCleanDisk (state g.S.Store c.read_own.new.conn) = omega (arith, c.read_others.ensures.leaves.survives.clean, clean) in
+    let mid = c.read_own.new.conn in
+    let after_own : HasCleanDisk (state g.S.Store mid) = omega (arith, c.read_others.ensures.leaves.survives.clean, clean) in
     told_as g.S.Store (RefusesToLoad g.S.Store old) c.in_err-others.field-0.0 c.from_residual-in_err-others.result c.from_residual-in_err-others.ensures.1
-    (fails_refuse g.S.Store old c.in_err-others.field-0.0 (own_kept g.S.Store old c.in_ok-own.own c.in_ok-own.world (c.in_ok-own.ensures.ok after_own)) (subst (λ r. IfErr r Fails) c.in_err-others.was c.read_others.ensures.fails))
+    (unread_refuses g.S.Store old mid c.requires.idle (own_kept g.S.Store old c.in_ok-own.own c.in_ok-own.world (c.in_ok-own.ensures.ok after_own)) c.read_own.ensures.leaves c.in_err-others.field-0.0
+    (subst (λ r. IfErr r (FailsToRead g.S.Store mid other_selects)) c.in_err-others.was (c.read_others.ensures.fails clean)))
 
 pub returns-in_err-parts-clause-err : goal.returns-in_err-parts-clause-err
 returns-in_err-parts-clause-err g c clean =
     let old = c.args.conn.now in
-    let after_own : HasCleanDisk (state g.S.Store c.read_own.new.conn) = omega (arith, c.read_others.ensures.leaves.survives.clean, clean) in
+    let mid = c.read_own.new.conn in
+    let after_own : HasCleanDisk (state g.S.Store mid) = omega (arith, c.read_others.ensures.leaves.survives.clean, clean) in
     told_as g.S.Store (RefusesToLoad g.S.Store old) c.in_err-parts.field-0.0 c.from_residual-in_err-parts.result c.from_residual-in_err-parts.ensures.1
-    (fails_refuse g.S.Store old c.in_err-parts.field-0.0 (own_kept g.S.Store old c.in_ok-own.own c.in_ok-own.world (c.in_ok-own.ensures.ok after_own)) c.in_err-parts.ensures.fails)
+    (unmade_refuses g.S.Store old c.requires.idle (own_kept g.S.Store old c.in_ok-own.own c.in_ok-own.world (c.in_ok-own.ensures.ok after_own)) c.in-Some.others
+    (subst (Found g.S.Store old other_selects (AreOthers g.S.Store old)) c.in-Some.is (found_behind g.S.Store old mid c.read_others.new.conn c.read_own.ensures.leaves other_selects _ _ c.read_others.result c.read_others.ensures c.in_ok-others.field-0 c.in_ok-others.was
+    (λ same read are. others_behind g.S.Store old mid same read are) clean))
+    c.in_err-parts.field-0.0 c.in_err-parts.ensures.fails)
 
 pub returns-in_default-clause-err : goal.returns-in_default-clause-err
 returns-in_default-clause-err g c clean =
@@ -28,7 +34,7 @@ returns-in_default-clause-err g c clean =
     let after_own : HasCleanDisk (state g.S.Store mid) = omega (arith, c.read_others.ensures.leaves.survives.clean, clean) in
     inl (
       own_kept g.S.Store old c.in_ok-own.own c.in_ok-own.world (c.in_ok-own.ensures.ok after_own),
-      subst (Found g.S.Store old (AreOthers g.S.Store old)) c.in_default.is (found_behind g.S.Store old mid c.read_others.new.conn c.read_own.ensures.leaves _ _ c.read_others.result c.read_others.ensures c.in_ok-others.field-0 c.in_ok-others.was
+      subst (Found g.S.Store old other_selects (AreOthers g.S.Store old)) c.in_default.is (found_behind g.S.Store old mid c.read_others.new.conn c.read_own.ensures.leaves other_selects _ _ c.read_others.result c.read_others.ensures c.in_ok-others.field-0 c.in_ok-others.was
           (λ same read are. others_behind g.S.Store old mid same read are) clean),
     )
 
@@ -38,6 +44,6 @@ returns-clause-ok g c clean =
     let mid = c.read_own.new.conn in
     let after_own : HasCleanDisk (state g.S.Store mid) = omega (arith, c.read_others.ensures.leaves.survives.clean, clean) in
     gathered_with g.S.Store old c.in_ok-own.own c.in_ok-own.world c.in-Some.others c.in_ok-parts.parts (c.in_ok-own.ensures.ok after_own)
-    (subst (Found g.S.Store old (AreOthers g.S.Store old)) c.in-Some.is (found_behind g.S.Store old mid c.read_others.new.conn c.read_own.ensures.leaves _ _ c.read_others.result c.read_others.ensures c.in_ok-others.field-0 c.in_ok-others.was
+    (subst (Found g.S.Store old other_selects (AreOthers g.S.Store old)) c.in-Some.is (found_behind g.S.Store old mid c.read_others.new.conn c.read_own.ensures.leaves other_selects _ _ c.read_others.result c.read_others.ensures c.in_ok-others.field-0 c.in_ok-others.was
     (λ same read are. others_behind g.S.Store old mid same read are) clean))
     (subst (λ head. IsMadeOf head c.in-Some.others c.in_ok-parts.parts) c.into_head.ensures c.in_ok-parts.ensures.ok)

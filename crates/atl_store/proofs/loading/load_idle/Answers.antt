@@ -3,14 +3,17 @@ use Rattle.sqlite.specs.Held.{state}
 use Rattle.sqlite.specs.State.{HasCleanDisk}
 use Rattle.atl_store.specs.Loading.{RefusesToLoad}
 use Rattle.atl_store.proofs.GatherLaws.{leaves_then}
-use Rattle.atl_store.proofs.LoadedLaws.{fails_refuse, judged_damaged, told_as, confirmed_behind}
+use Rattle.atl_store.proofs.LoadedLaws.{unconfirmed_refuses, judged_damaged, told_as, confirmed_behind}
 use Rattle.atl_store.proofs.loading.load_idle.Goals as goal
 
 pub returns-in_err-confirm-clause-err : goal.returns-in_err-confirm-clause-err
 returns-in_err-confirm-clause-err g c clean =
     let old = c.args.conn.now in
+    let mid = c.gather.new.conn in
+    let clean_mid : HasCleanDisk (state g.S.Store mid) = omega (arith, c.confirm.ensures.leaves.survives.clean, clean) in
+    let gathered = c.in_ok-world.ensures.ok clean_mid in
     told_as g.S.Store (RefusesToLoad g.S.Store old) c.in_err-confirm.field-0.0 c.from_residual-in_err-confirm.result c.from_residual-in_err-confirm.ensures.1
-    (fails_refuse g.S.Store old c.in_err-confirm.field-0.0 (c.in_ok-world.ensures.ok (omega (arith, c.confirm.ensures.leaves.survives.clean, clean))).one c.in_err-confirm.ensures.fails)
+    (unconfirmed_refuses g.S.Store old mid gathered.one c.gather.ensures.leaves clean_mid c.requires.idle gathered.typed c.in_err-confirm.field-0.0 (c.in_err-confirm.ensures.fails clean))
 
 pub returns-in_err-campaign-clause-err : goal.returns-in_err-campaign-clause-err
 returns-in_err-campaign-clause-err g c clean =
@@ -19,7 +22,7 @@ returns-in_err-campaign-clause-err g c clean =
     let new = c.confirm.new.conn in
     let gathered : HasCleanDisk (state g.S.Store mid) = omega (arith, c.confirm.ensures.leaves.survives.clean, clean) in
     told_as g.S.Store (RefusesToLoad g.S.Store old) _ c.from_residual-in_err-campaign.result c.from_residual-in_err-campaign.ensures.1
-    (judged_damaged g.S.Store old c.in_ok-world.world c.in_ok-world.parts (c.in_ok-world.ensures.ok gathered) (confirmed_behind g.S.Store old mid new c.gather.ensures.leaves c.confirm.ensures.leaves gathered clean (c.in_ok-confirm.ensures.ok clean)).nine
+    (judged_damaged g.S.Store old c.requires.idle c.in_ok-world.world c.in_ok-world.parts (c.in_ok-world.ensures.ok gathered) (confirmed_behind g.S.Store old mid new c.gather.ensures.leaves c.confirm.ensures.leaves gathered clean (c.in_ok-confirm.ensures.ok clean)).nine
     c.in_err-campaign.field-0.0 c.in_err-campaign.ensures.rules)
 
 pub returns-clause-ok : goal.returns-clause-ok

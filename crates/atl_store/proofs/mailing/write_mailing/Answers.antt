@@ -6,12 +6,12 @@ use Rattle.atl_store.proofs.mailing.write_mailing.Goals as goal
 
 pub returns : goal.returns
 returns g c =
-    let whole = committed g.S.Store c.args.conn.now c.transaction-tx.result.conn c.put_mailing.new.tx.conn c.transaction-tx.ensures.begun HasTables (WritesMail c.args.faction c.args.text.now) c.commit.new.self.0 c.commit.ensures.ended c.commit.result
-    c.in_ok-put_mailing.ensures c.commit.ensures.ok c.commit.ensures.err c.commit.ensures.survives in
+    let whole = committed g.S.Store c.args.conn.now c.transaction-tx.result.conn c.put_mail.new.tx.conn c.transaction-tx.ensures.begun HasTables (WritesMail c.args.faction c.args.text.now) c.commit.new.self.0 c.commit.ensures.ended c.commit.result
+    c.in_ok-put_mail.ensures c.commit.ensures.ok c.commit.ensures.err c.commit.ensures.survives in
     search (rules, whole)
 
-pub returns-in_err-put_mailing : goal.returns-in_err-put_mailing
-returns-in_err-put_mailing g c =
-    let whole = left_off g.S.Store c.args.conn.now c.transaction-tx.result.conn c.put_mailing.new.tx.conn c.transaction-tx.ensures.begun HasTables (WritesMail c.args.faction c.args.text.now) c.drop-tx.new.self.0 c.drop-tx.ensures.ended c.from_residual.result
-    c.from_residual.ensures.0 c.put_mailing.ensures c.drop-tx.ensures.undone c.drop-tx.ensures.survives in
+pub returns-in_err-put_mail : goal.returns-in_err-put_mail
+returns-in_err-put_mail g c =
+    let whole = left_off g.S.Store c.args.conn.now c.transaction-tx.result.conn c.put_mail.new.tx.conn c.transaction-tx.ensures.begun HasTables (WritesMail c.args.faction c.args.text.now) c.drop-tx.new.self.0 c.drop-tx.ensures.ended c.from_residual.result
+    c.from_residual.ensures c.in_err-put_mail.ensures c.drop-tx.ensures.undone c.drop-tx.ensures.survives in
     search (rules, whole)

@@ -9,4 +9,4 @@ returns g c =
 pub returns-in_err-execute : goal.returns-in_err-execute
 returns-in_err-execute g c =
     let ran = c.in_err-execute.ensures in
-    fails g.S.Store _ _ _ _ ran.same_reference ran.survives _ _ _ ran.ended ran.runs c.from_residual.ensures.0
+    fails g.S.Store _ _ _ _ ran.same_reference ran.survives _ _ _ ran.ended ran.runs c.from_residual.ensures

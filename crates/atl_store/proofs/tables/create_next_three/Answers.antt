@@ -10,7 +10,7 @@ returns g c =
     (weaker g.S.Store makes_unit c.in_ok-run.ensures) (weaker g.S.Store makes_has c.in_ok-run-2.ensures) (weaker g.S.Store makes_structure c.run-3.ensures)
 
 pub returns-in_err-run : goal.returns-in_err-run
-returns-in_err-run g c = stops g.S.Store c.run.ensures c.from_residual.ensures.0
+returns-in_err-run g c = stops g.S.Store c.in_err-run.ensures c.from_residual.ensures
 
 pub returns-in_err-run-2 : goal.returns-in_err-run-2
-returns-in_err-run-2 g c = stops_second g.S.Store (weaker g.S.Store makes_unit c.in_ok-run.ensures) c.run-2.ensures c.from_residual-in_err-run-2.ensures.0
+returns-in_err-run-2 g c = stops_second g.S.Store (weaker g.S.Store makes_unit c.in_ok-run.ensures) c.in_err-run-2.ensures c.from_residual-in_err-run-2.ensures

@@ -6,7 +6,7 @@ pub returns : goal.returns
 returns g c = three_steps g.S.Store makes_tables c.in_ok-create_first_three.ensures c.in_ok-create_next_three.ensures c.create_last_three.ensures
 
 pub returns-in_err-create_first_three : goal.returns-in_err-create_first_three
-returns-in_err-create_first_three g c = stops g.S.Store c.create_first_three.ensures c.from_residual.ensures.0
+returns-in_err-create_first_three g c = stops g.S.Store c.in_err-create_first_three.ensures c.from_residual.ensures
 
 pub returns-in_err-create_next_three : goal.returns-in_err-create_next_three
-returns-in_err-create_next_three g c = stops_second g.S.Store c.in_ok-create_first_three.ensures c.create_next_three.ensures c.from_residual-in_err-create_next_three.ensures.0
+returns-in_err-create_next_three g c = stops_second g.S.Store c.in_ok-create_first_three.ensures c.in_err-create_next_three.ensures c.from_residual-in_err-create_next_three.ensures

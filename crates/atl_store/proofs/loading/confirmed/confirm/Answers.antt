@@ -2,7 +2,7 @@ use Rattle.std.proofs.Common.{subst, arith}
 use Rattle.sqlite.specs.Held.{state}
 use Rattle.atl_store.specs.Selects.{all_campaign}
 use Rattle.atl_store.specs.Tables.{HasNine}
-use Rattle.atl_store.proofs.ConfirmLaws.{commits_none, shown_unchanged, shown_stays, refused_stays}
+use Rattle.atl_store.proofs.ConfirmLaws.{unconfirmed, commits_none, shown_unchanged, shown_stays, refused_stays}
 use Rattle.atl_store.proofs.SelectLaws.{campaign_plain}
 use Rattle.atl_store.proofs.loading.confirmed.confirm.Goals as goal
 
@@ -35,3 +35,7 @@ returns-clause-leaves g c =
       survives = commits_none all_campaign old new plain c.query_all.ensures.survives;
       idle = c.query_all.ensures.mode c.requires.idle;
     }
+
+pub returns-in_err-query_all-clause-fails : goal.returns-in_err-query_all-clause-fails
+returns-in_err-query_all-clause-fails g c clean =
+    unconfirmed g.S.Store c.args.conn.now c.query_all.new.self (subst HasNine c.schema.ensures.value (c.has_nine.ensures.0 c.if-not-has_nine.false)) c.in_err-query_all.field-0.0 (c.in_err-query_all.ensures.err clean) c.from_residual.result c.from_residual.ensures.1

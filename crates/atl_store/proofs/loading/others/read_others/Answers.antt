@@ -1,12 +1,12 @@
-use Rattle.std.proofs.Common.{subst, sym, arith}
-use Rattle.sqlite.specs.Held.{state}
-use Rattle.sqlite.specs.State.{HasCleanDisk}
-use Rattle.atl_store.specs.Gathering.{Found}
+use Rattle.std.proofs.Common.{List, ◌++◌, Ok, Err, refl}
+use Rattle.std.specs.Prelude.{⊤}
+use Rattle.std.specs.Option.{option_zip}
+use Rattle.atl_store.specs.Gathering.{AreTwo, AreThree, place_selects, people_selects, work_selects}
 use Rattle.atl_store.specs.Reading.{placed_rows_in}
 use Rattle.atl_store.specs.Sets.{rows_in}
 use Rattle.atl_store.specs.StoredRows.{unit_stored, has_stored, structure_stored, mail_stored, books_stored}
 use Rattle.atl_store.specs.Tables.{unit_table, has_table, structure_table, mail_table, books_table}
-use Rattle.atl_store.proofs.GatherLaws.{leaves_then, settled_then, found_both, fails_with, found_behind, two_behind, three_behind}
+use Rattle.atl_store.proofs.GatherLaws.{leaves_then, settled_then, first_fails, second_fails, reads_both, two_behind, three_behind}
 use Rattle.atl_store.proofs.loading.others.read_others.Goals as goal
 
 pub read_people-requires-clause-settled : goal.read_people-requires-clause-settled
@@ -16,13 +16,29 @@ pub read_works-requires-clause-settled : goal.read_works-requires-clause-settled
 read_works-requires-clause-settled g c =
     settled_then g.S.Store c.args.conn.now c.read_people.new.conn c.requires.settled (leaves_then g.S.Store c.args.conn.now c.read_places.new.conn c.read_people.new.conn c.read_places.ensures.leaves c.read_people.ensures.leaves)
 
+pub returns-in_err-places : goal.returns-in_err-places
+returns-in_err-places g c =
+    first_fails g.S.Store place_selects (people_selects ++ work_selects) _ _ c.args.conn.now c.read_places.new.conn c.in_err-places.field-0.0 c.read_places.result _ c.read_places.ensures c.in_err-places.was c.from_residual.ensures.1
+
+pub returns-in_err-people : goal.returns-in_err-people
+returns-in_err-people g c =
+    let old = c.args.conn.now in
+    let one = c.read_places.new.conn in
+    let two = c.read_people.new.conn in
+    let fault = c.in_err-people.field-0.0 in
+    let both = second_fails g.S.Store place_selects people_selects _ _ (AreTwo g.S.Store old (rows_in unit_table) unit_stored (placed_rows_in has_table) has_stored) old one two c.read_places.result c.read_people.result c.read_places.ensures c.read_people.ensures c.in_ok-places.places c.in_ok-places.was {C = ⊤} (λ _. ⊤) fault (Err fault) c.in_err-people.was refl in
+    first_fails g.S.Store (place_selects ++ people_selects) work_selects _ _ old two fault (Err fault) _ both refl c.from_residual-in_err-people.ensures.1
+
 pub returns-in_err-works : goal.returns-in_err-works
 returns-in_err-works g c =
     let old = c.args.conn.now in
     let one = c.read_places.new.conn in
     let two = c.read_people.new.conn in
-    fails_with g.S.Store _ old c.read_works.new.conn c.in_err-works.field-0.0 _ c.from_residual-in_err-works.ensures.1 c.in_err-works.ensures.fails
-    (leaves_then g.S.Store old two c.read_works.new.conn (leaves_then g.S.Store old one two c.read_places.ensures.leaves c.read_people.ensures.leaves) c.read_works.ensures.leaves)
+    let new = c.read_works.new.conn in
+    let zipped = option_zip c.in_ok-places.places c.in_ok-people.people in
+    let both = reads_both g.S.Store place_selects people_selects _ _ (AreTwo g.S.Store old (rows_in unit_table) unit_stored (placed_rows_in has_table) has_stored) old one two c.read_places.result c.read_people.result c.read_places.ensures c.read_people.ensures c.in_ok-places.places c.in_ok-places.was c.in_ok-people.people c.in_ok-people.was
+    (λ same read are. two_behind g.S.Store old one same (rows_in unit_table) unit_stored (placed_rows_in has_table) has_stored read are) zipped refl in
+    second_fails g.S.Store (place_selects ++ people_selects) work_selects _ _ (AreThree g.S.Store old (rows_in structure_table) structure_stored (rows_in mail_table) mail_stored (placed_rows_in books_table) books_stored) old two new (Ok zipped) c.read_works.result both c.read_works.ensures zipped refl _ c.in_err-works.field-0.0 _ c.in_err-works.was c.from_residual-in_err-works.ensures.1
 
 pub returns : goal.returns
 returns g c =
@@ -30,19 +46,7 @@ returns g c =
     let one = c.read_places.new.conn in
     let two = c.read_people.new.conn in
     let new = c.read_works.new.conn in
-    let first = c.read_places.ensures.leaves in
-    let second = leaves_then g.S.Store old one two first c.read_people.ensures.leaves in
-    record {
-      was_open = λ clean. c.in_ok-places.ensures.was_open (omega (arith, c.read_people.ensures.leaves.survives.clean, c.read_works.ensures.leaves.survives.clean, clean));
-      found = λ clean.
-          let after_two : HasCleanDisk (state g.S.Store two) = omega (arith, c.read_works.ensures.leaves.survives.clean, clean) in
-          let after_one : HasCleanDisk (state g.S.Store one) = omega (arith, c.read_people.ensures.leaves.survives.clean, after_two) in
-          subst (Found g.S.Store old _) (sym c.zip-2.ensures) (found_both g.S.Store _ _ old c.zip.result c.in_ok-works.works (subst (Found g.S.Store old _) (sym c.zip.ensures) (found_both g.S.Store _ _ old c.in_ok-places.places c.in_ok-people.people
-          (c.in_ok-places.ensures.found after_one)
-          (found_behind g.S.Store old one two first _ _ c.read_people.result c.read_people.ensures c.in_ok-people.people c.in_ok-people.was
-          (λ same read are. two_behind g.S.Store old one same (rows_in unit_table) unit_stored (placed_rows_in has_table) has_stored read are) after_two)))
-          (found_behind g.S.Store old two new second _ _ c.read_works.result c.read_works.ensures c.in_ok-works.works c.in_ok-works.was
-          (λ same read are. three_behind g.S.Store old two same (rows_in structure_table) structure_stored (rows_in mail_table) mail_stored (placed_rows_in books_table) books_stored read are) clean));
-      fails = tt;
-      leaves = leaves_then g.S.Store old two new second c.read_works.ensures.leaves;
-    }
+    let both = reads_both g.S.Store place_selects people_selects _ _ (AreTwo g.S.Store old (rows_in unit_table) unit_stored (placed_rows_in has_table) has_stored) old one two c.read_places.result c.read_people.result c.read_places.ensures c.read_people.ensures c.in_ok-places.places c.in_ok-places.was c.in_ok-people.people c.in_ok-people.was
+    (λ same read are. two_behind g.S.Store old one same (rows_in unit_table) unit_stored (placed_rows_in has_table) has_stored read are) c.zip.result c.zip.ensures in
+    reads_both g.S.Store (place_selects ++ people_selects) work_selects _ _ (AreThree g.S.Store old (rows_in structure_table) structure_stored (rows_in mail_table) mail_stored (placed_rows_in books_table) books_stored) old two new (Ok c.zip.result) c.read_works.result both c.read_works.ensures c.zip.result refl c.in_ok-works.works c.in_ok-works.was
+    (λ same read are. three_behind g.S.Store old two same (rows_in structure_table) structure_stored (rows_in mail_table) mail_stored (placed_rows_in books_table) books_stored read are) c.zip-2.result c.zip-2.ensures

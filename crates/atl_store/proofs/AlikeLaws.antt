@@ -1,0 +1,234 @@
+-- Two good campaigns whose rows one database holds are one campaign.
+use Rattle.std.proofs.Common.{◌≡◌, ◌≢◌, ◌+◌, ◌≤◌, ◌<◌, ◌∙◌, ℕ, ℤ, zero, suc, pos, negsuc, Bool, true, false, cond, List, [], get_or, length, Some, inl, inr, refl, sym, ap, arith}
+use Rattle.std.specs.Prelude.{◌⊎◌, slice_index_or}
+use Rattle.std.specs.Ordering.{nat_cmp}
+use Rattle.std.specs.FinMap.{FinMap, get}
+use Rattle.std.proofs.lemmas.List.{ext_get_or}
+use Rattle.sqlite.specs.Order.{Row}
+use Rattle.sqlite_trees.specs.Tree.{Trees}
+use Rattle.atl_tables.specs.Planet.{Planet}
+use Rattle.atl_state.specs.Books.{amount_in, entry_place, thing_at, thing_place, IsGrid}
+use Rattle.atl_state.specs.Founding as founding
+use Rattle.atl_state.specs.Good.{Every, IsGood}
+use Rattle.atl_state.specs.Held.{Held}
+use Rattle.atl_state.specs.Limits.{entry_count}
+use Rattle.atl_state.specs.State.{State}
+use Rattle.atl_state.specs.declared.books.Entry.{Entry}
+use Rattle.atl_state.specs.declared.books.Thing.{Thing}
+use Rattle.atl_state.specs.declared.records.Faction.{Faction}
+use Rattle.atl_state.specs.declared.records.Region.{Region}
+use Rattle.atl_state.specs.declared.records.Structure.{Structure}
+use Rattle.atl_state.specs.declared.records.Unit.{Unit}
+use Rattle.atl_state.proofs.BackLaws.{agree}
+use Rattle.atl_state.proofs.BookLaws.{place_at}
+use Rattle.atl_state.proofs.EveryEntryLaws.{entry_at}
+use Rattle.atl_store.specs.Alike.{HoldsOne}
+use Rattle.atl_store.specs.Rows.{RowsOf, HasRowsOf, BooksRowsOf, Holds, campaign_line, faction_line, region_line, unit_line, structure_line, things_of}
+use Rattle.atl_store.specs.Sets.{Is}
+use Rattle.atl_store.specs.Shown.{flag, mail_row, report_row, has_row, books_row}
+use Rattle.atl_store.specs.Written.{sort_number}
+use Rattle.atl_store.specs.declared.rows.has.Sort.{Sort}
+use Rattle.atl_store.specs.declared.rows.has.Sort.TheVariants.{Item, Skill}
+
+-- ---- maps whose rows tell their numbers and values
+
+-- two lines are the same only under one number and of one value
+abbrev Tells : {V : Type 0} → (ℕ → V → Row) → FinMap nat_cmp V → FinMap nat_cmp V → Type 0
+Tells {V} line m k = (n p : ℕ) (v u : V) → get m n ≡ Some v → get k p ≡ Some u → line n v ≡ line p u → (n ≡ p) × (v ≡ u)
+
+module _ {V : Type 0} (line : ℕ → V → Row) (rows : List Row) where
+  -- a line of one map is a line of the other
+  other_line : (m k : FinMap nat_cmp V) → Is rows (RowsOf line m) → Is rows (RowsOf line k) → (n : ℕ) (v : V) → get m n ≡ Some v → RowsOf line k (line n v)
+  other_line m k a b n v is = (b (line n v)).0 ((a (line n v)).1 (n, v, is, refl))
+
+  one_way : (m k : FinMap nat_cmp V) → Tells line m k → Is rows (RowsOf line m) → Is rows (RowsOf line k) → Every (λ n v. get k n ≡ Some v) m
+  one_way m k tells a b n v is =
+      let (p, u, there, same) = other_line m k a b n v is in
+      let at = tells n p v u is there same in
+      ap (get k) at.0 ∙ there ∙ sym (ap Some at.1)
+
+  same_values : (m k : FinMap nat_cmp V) → Tells line m k → Tells line k m → Is rows (RowsOf line m) → Is rows (RowsOf line k) → m ≡ k
+  same_values m k there back a b = agree m k (one_way m k there a b) (one_way k m back b a)
+
+same_flag : (a b : Bool) → flag a ≡ flag b → a ≡ b
+same_flag true true is = refl
+same_flag true false is = cc
+same_flag false true is = cc
+same_flag false false is = refl
+
+factions_tell : (m k : FinMap nat_cmp Faction) → Every (λ n f. f.number ≡ n) m → Every (λ n f. f.number ≡ n) k → Tells faction_line m k
+factions_tell m k a b n p f g is there same =
+    let at : n ≡ p = cc in
+    let number : f.number ≡ g.number = a n f is ∙ at ∙ sym (b p g there) in
+    let joined : f.joined_as ≡ g.joined_as = cc in
+    let name : f.name ≡ g.name = cc in
+    let pass : f.pass ≡ g.pass = cc in
+    let gone : f.gone ≡ g.gone = same_flag f.gone g.gone (cc) in
+    (at, λ i. record { number = number i; joined_as = joined i; name = name i; pass = pass i; gone = gone i })
+
+regions_tell : (m k : FinMap nat_cmp Region) → Tells region_line m k
+regions_tell m k n p r s is there same =
+    let peasants : r.peasants ≡ s.peasants = cc in
+    let money : r.money ≡ s.money = cc in
+    (cc, λ i. record { peasants = peasants i; money = money i })
+
+structures_tell : (m k : FinMap nat_cmp Structure) → Tells structure_line m k
+structures_tell m k n p s t is there same =
+    let kind : s.kind ≡ t.kind = cc in
+    let name : s.name ≡ t.name = cc in
+    let region : s.region ≡ t.region = cc in
+    let done : s.done ≡ t.done = cc in
+    let owner : s.owner ≡ t.owner = cc in
+    (cc, λ i. record { kind = kind i; name = name i; region = region i; done = done i; owner = owner i })
+
+mails_tell : (m k : FinMap nat_cmp (List ℕ)) → Tells mail_row m k
+mails_tell m k n p s t is there same = (cc, cc)
+
+reports_tell : (m k : FinMap nat_cmp (List ℕ)) → Tells report_row m k
+reports_tell m k n p s t is there same = (cc, cc)
+
+-- ---- units, with what they have
+
+-- of nothing there are none
+abbrev HaveSome : FinMap nat_cmp Unit → Type 0
+HaveSome units = Every (λ n u. (sort : Sort) → Every (λ thing amount. amount ≢ 0) (things_of sort u.holding)) units
+
+have_some : (w : Planet) (c : State) → IsGood w c → HaveSome c.units
+have_some w c good n u is Item thing amount there = let range = (good.sound.steady.numbers.units n u is).1.items thing amount there in λ none. omega (arith, range.0, none)
+have_some w c good n u is Skill thing amount there = let range = good.sound.steady.days n u is thing amount there in λ none. omega (arith, range.0, none)
+
+same_sort : (a b : Sort) → sort_number a ≡ sort_number b → a ≡ b
+same_sort Item Item is = refl
+same_sort Item Skill is = absurd (omega (arith, is))
+same_sort Skill Item is = absurd (omega (arith, is))
+same_sort Skill Skill is = refl
+
+module _ (rows : List Row) (m k : FinMap nat_cmp Unit) (a : Is rows (HasRowsOf m)) (b : Is rows (HasRowsOf k)) where
+  -- what a unit has of the one it has of the other
+  things_there : HaveSome m → (n : ℕ) (u v : Unit) → get m n ≡ Some u → get k n ≡ Some v → (sort : Sort) → Every (λ thing amount. get (things_of sort v.holding) thing ≡ Some amount) (things_of sort u.holding)
+  things_there some n u v is there sort thing amount has =
+      let row = has_row n (sort_number sort) thing amount in
+      let (p, x, at, other, object, size, got, apart, same) = (b row).0 ((a row).1 (n, u, is, sort, thing, amount, has, some n u is sort thing amount has, refl)) in
+      let number : n ≡ p = cc in
+      let unit : ◌≡◌ {A = Unit} v x = of_one v x (sym there ∙ ap (get k) number ∙ at) in
+      let kind : sort ≡ other = same_sort sort other (cc) in
+      let what : thing ≡ object = cc in
+      let count : amount ≡ size = cc in
+      let left : get (things_of sort v.holding) thing ≡ get (things_of other x.holding) object = λ i. get (things_of (kind i) (unit i).holding) (what i) in
+      left ∙ got ∙ sym (ap Some count)
+    where
+      of_one : (v x : Unit) → Some v ≡ Some x → v ≡ x
+      of_one v x e = cc
+
+module _ (rows goods : List Row) (m k : FinMap nat_cmp Unit) (a : Is rows (RowsOf unit_line m)) (b : Is rows (RowsOf unit_line k)) (h : Is goods (HasRowsOf m)) (j : Is goods (HasRowsOf k)) (some : HaveSome m) (more : HaveSome k) where
+  units_there : Every (λ n u. get k n ≡ Some u) m
+  units_there n u is =
+      let (p, v, there, same) = other_line unit_line rows m k a b n u is in
+      let at : n ≡ p = cc in
+      let here : get k n ≡ Some v = ap (get k) at ∙ there in
+      let faction : u.faction ≡ v.faction = cc in
+      let region : u.region ≡ v.region = cc in
+      let structure : u.structure ≡ v.structure = cc in
+      let name : u.holding.name ≡ v.holding.name = cc in
+      let men : u.holding.men ≡ v.holding.men = cc in
+      let money : u.holding.money ≡ v.holding.money = cc in
+      let guard : u.holding.guard ≡ v.holding.guard = same_flag u.holding.guard v.holding.guard (cc) in
+      let things : (sort : Sort) → things_of sort u.holding ≡ things_of sort v.holding = λ sort. agree _ _ (things_there goods m k h j some n u v is here sort) (things_there goods k m j h more n v u here is sort) in
+      let items : u.holding.items ≡ v.holding.items = things Item in
+      let days : u.holding.days ≡ v.holding.days = things Skill in
+      let unit : u ≡ v = λ i. record {
+        faction = faction i;
+        region = region i;
+        structure = structure i;
+        holding = record { name = name i; men = men i; money = money i; guard = guard i; items = items i; days = days i };
+      } in
+      here ∙ sym (ap Some unit)
+
+-- ---- books
+
+none_or_some : (z : ℤ) → (z ≡ pos 0) ⊎ (z ≢ pos 0)
+none_or_some (pos zero) = inl refl
+none_or_some (pos (suc n)) = inr (λ is. cc)
+none_or_some (negsuc n) = inr (λ is. cc)
+
+module _ (rows : List Row) (m k : List (List ℤ)) (a : Is rows (BooksRowsOf m)) (b : Is rows (BooksRowsOf k)) where
+  amount_there : (e : Entry) (t : Thing) → amount_in m e t ≢ pos 0 → amount_in m e t ≡ amount_in k e t
+  amount_there e t some =
+      let (f, u, apart, same) = (b (books_row (entry_place e + 1) (thing_place t) (amount_in m e t))).0 ((a _).1 (e, t, some, refl)) in
+      let next : entry_place e + 1 ≡ entry_place f + 1 = cc in
+      let entry : entry_place e ≡ entry_place f = omega (arith, next) in
+      let thing : thing_place t ≡ thing_place u = cc in
+      let amount : amount_in m e t ≡ amount_in k f u = cc in
+      let there : amount_in k e t ≡ amount_in k f u = λ i. slice_index_or (slice_index_or k (thing i) []) (entry i) (pos 0) in
+      amount ∙ sym there
+
+module _ (things : ℕ) (rows : List Row) (m k : List (List ℤ)) (g : IsGrid things m) (h : IsGrid things k) (a : Is rows (BooksRowsOf m)) (b : Is rows (BooksRowsOf k)) where
+  same_amount : (e : Entry) (t : Thing) → amount_in m e t ≡ amount_in k e t
+  same_amount e t =
+      elim (none_or_some (amount_in m e t)) [
+        | inr some ↦ amount_there rows m k a b e t some
+        | inl none ↦ elim (none_or_some (amount_in k e t)) [
+          | inr some ↦ sym (amount_there rows k m b a e t some)
+          | inl also ↦ none ∙ sym also
+        ]
+      ]
+
+  amount_at_place : (books : List (List ℤ)) (e : Entry) (n t : ℕ) → entry_place e ≡ n → get_or (get_or books t []) n (pos 0) ≡ amount_in books e (thing_at t)
+  amount_at_place books e n t is =
+      let place = sym (place_at t) in
+      let entry = sym is in
+      λ i. get_or (get_or books (place i) []) (entry i) (pos 0)
+
+  same_books : m ≡ k
+  same_books =
+      ext_get_or [] m k (g.rows ∙ sym h.rows) (λ t tl.
+      let at : t < length k = omega (arith, g.rows, h.rows) in
+      let wide = g.wide t [] tl in
+      ext_get_or (pos 0) (get_or m t []) (get_or k t []) (wide ∙ sym (h.wide t [] at)) (λ n nl.
+      let (e, is) = entry_at n (omega (arith, wide)) in
+      amount_at_place m e n t is ∙ same_amount e (thing_at t) ∙ sym (amount_at_place k e n t is)))
+
+-- ---- the whole
+
+module _ (db : Trees) (one other : List ℕ) (c d : State) (h : Holds db one c) (j : Holds db other d) where
+  one_row : campaign_line one c ≡ campaign_line other d
+  one_row = (j.campaign (campaign_line one c)).0 ((h.campaign (campaign_line one c)).1 refl)
+
+  -- two texts whose rows one database holds are one text
+  pub one_text : one ≡ other
+  one_text = let own = one_row in cc
+
+pub holds_one : HoldsOne
+holds_one w db one other c d good sound h j =
+    let own : campaign_line one c ≡ campaign_line other d = one_row db one other c d h j in
+    let text : one ≡ other = one_text db one other c d h j in
+    let month : c.month ≡ d.month = cc in
+    let pass : c.pass ≡ d.pass = cc in
+    let next_faction : c.next_faction ≡ d.next_faction = cc in
+    let next_unit : c.next_unit ≡ d.next_unit = cc in
+    let next_structure : c.next_structure ≡ d.next_structure = cc in
+    let numbers = good.sound.steady.numbers in
+    let others = sound.sound.steady.numbers in
+    let factions = same_values faction_line _ c.factions d.factions (factions_tell _ _ numbers.factions others.factions) (factions_tell _ _ others.factions numbers.factions) h.factions j.factions in
+    let regions = same_values region_line _ c.regions d.regions (regions_tell _ _) (regions_tell _ _) h.regions j.regions in
+    let structures = same_values structure_line _ c.structures d.structures (structures_tell _ _) (structures_tell _ _) h.structures j.structures in
+    let mail = same_values mail_row _ c.mail d.mail (mails_tell _ _) (mails_tell _ _) h.mail j.mail in
+    let reports = same_values report_row _ c.reports d.reports (reports_tell _ _) (reports_tell _ _) h.reports j.reports in
+    let some = have_some w c good in
+    let more = have_some w d sound in
+    let units = agree c.units d.units (units_there _ _ c.units d.units h.units j.units h.has j.has some more) (units_there _ _ d.units c.units j.units h.units j.has h.has more some) in
+    let books = same_books (founding.things_of w) _ c.books d.books numbers.books others.books h.books j.books in
+    (text, λ i. record {
+      month = month i;
+      pass = pass i;
+      next_faction = next_faction i;
+      next_unit = next_unit i;
+      next_structure = next_structure i;
+      factions = factions i;
+      regions = regions i;
+      units = units i;
+      structures = structures i;
+      mail = mail i;
+      reports = reports i;
+      books = books i;
+    })

@@ -1,0 +1,108 @@
+-- Where the error of a call comes from, as it goes up.
+use Rattle.std.proofs.Common.{◌≡◌, ◌⊎◌, ◌≤◌, ℕ, List, true, false, true≢false, Result, Ok, Err, IsErrAnd, IfErr, refl, sym, ap, ◌∙◌, subst, inl, inr, arith}
+use Rattle.std.proofs.lemmas.Bool.{cases_Bool}
+use Rattle.sqlite_disk.specs.Disk.{MoreFaults}
+use Rattle.sqlite_trees.specs.declared.store.Store.{Ghosts}
+use Rattle.sqlite_trees.specs.declared.error.StoreError.{StoreError}
+use Rattle.sqlite_trees.specs.declared.error.StoreError.TheVariants.{OutOfMemory, Io, Corrupt, Full, Broken, Unstorable}
+use Rattle.sqlite.specs.declared.error.Error.{Error}
+use Rattle.sqlite.specs.declared.error.Error.TheVariants.{SqliteFailure}
+use Rattle.sqlite.specs.declared.error.ErrorCode.TheVariants as code
+use Rattle.sqlite.specs.Held.{Held, state}
+use Rattle.sqlite.specs.Order.{Row}
+use Rattle.sqlite.specs.State.{State, HasCleanDisk, Survives, KeepsCommit, ExecutesIn, IsNotRun, Fails, HasCause, store_error, shows_rows}
+use Rattle.sqlite.proofs.InsideLemmas.{keeps_then}
+use Rattle.atl_store.specs.Faults.{is_memory}
+use Rattle.atl_store.specs.Causes.{IsGiven, IsBroken, IsRefused, Gives}
+
+more_later : (a b c : ℕ) → b ≤ c → MoreFaults a b → MoreFaults a c
+more_later a b c later more = omega (arith, later, more)
+
+more_before : (a b c : ℕ) → a ≤ b → MoreFaults b c → MoreFaults a c
+more_before a b c before more = omega (arith, before, more)
+
+-- ---- one call
+
+module _ (old new : State) where
+  abbrev Caused : Error → Type 0
+  Caused e = IsBroken old new ⊎ IsRefused e old new
+
+  no_memory : (e : Error) → e ≡ SqliteFailure code.OutOfMemory → is_memory e ≡ false → ⊥
+  no_memory e is other = true≢false (sym (ap is_memory is) ∙ other)
+
+  by_cause : (too_big : Type 0) (e : Error) (cause : StoreError) → e ≡ store_error cause → HasCause old new too_big cause → is_memory e ≡ false → Caused e
+  by_cause too_big e OutOfMemory is has other = absurd (no_memory e is other)
+  by_cause too_big e Io is has other = inl (inl has)
+  by_cause too_big e Corrupt is has other = inl (inl has)
+  by_cause too_big e Full is has other = inl (inl has)
+  by_cause too_big e Broken is has other = inl (inr has)
+  by_cause too_big e Unstorable is has other = inr (inl is)
+
+  by_failure : (too_big : Type 0) (e : Error) → Fails old new too_big e → is_memory e ≡ false → Caused e
+  by_failure too_big e failed = by_cause too_big e failed.0 failed.1 failed.2
+
+  by_execution : (sql : List ℕ) (params : Row) (e : Error) → ExecutesIn false sql params old new (Err e) → is_memory e ≡ false → Caused e
+  unfolding ExecutesIn IsNotRun
+  by_execution sql params e (inl (inl refused)) other = inr (inr refused.1)
+  by_execution sql params e (inl (inr failed)) other = by_failure _ e failed other
+  by_execution sql params e (inr ran) other = elim (cases_Bool (shows_rows false ran.0)) [
+    | inl shows ↦ inr (inr (rw shows at ran.2).1)
+    | inr runs ↦ elim (rw runs at ran.2) [ inl refused ↦ inr (inr refused.1) | inr failed ↦ by_failure _ e failed other ]
+  ]
+
+  by_call : (e : Error) → IsGiven e old new → is_memory e ≡ false → Caused e
+  by_call e (inl ran) other = elim ran.2 [ inl whole ↦ by_execution ran.0 ran.1 e whole.0 other | inr ends ↦ inr (inr ends.2) ]
+  by_call e (inr (inl failed)) other = by_failure _ e failed other
+  by_call e (inr (inr late)) other = inr (inr late.2)
+
+-- ---- as it goes up
+
+module _ {S : Type 0} (g : Ghosts S) (e : Error) where
+  pub gives : (old new : Held S) → IsGiven e (state g old) (state g new) → Gives g e old new
+  gives old new given = record { before = old; after = new; kept = record { was_open = λ up. up; committed = λ _. refl }; given = given; cause = by_call (state g old) (state g new) e given }
+
+  -- some calls later
+  pub gives_after : (old mid new : Held S) → HasCleanDisk (state g mid) → KeepsCommit (state g old) (state g mid) → Survives (state g old) (state g mid) (λ _. ⊥) → (state g mid).faults ≤ (state g new).faults → Gives g e mid new → Gives g e old new
+  gives_after old mid new clean kept survives counts gave = record {
+    before = gave.before;
+    after = gave.after;
+    kept = keeps_then (state g old) (state g mid) (state g gave.before) kept gave.kept;
+    given = gave.given;
+    cause = λ other. elim (gave.cause other) [
+      | inl (inl more) ↦ inl (inl (more_before _ _ _ survives.counts more))
+      | inl (inr shut) ↦ inl (elim (cases_Bool (state g old).is_open) [
+        | inl was ↦ elim (survives.closes clean was) [ inl up ↦ absurd (true≢false (sym up ∙ shut)) | inr more ↦ inl (more_later _ _ _ counts more) ]
+        | inr was ↦ inr was
+      ])
+      | inr refused ↦ inr refused
+    ];
+  }
+
+  -- before the connection went on
+  pub gives_until : (old mid new : Held S) → (state g mid).faults ≤ (state g new).faults → Gives g e old mid → Gives g e old new
+  gives_until old mid new counts gave = record {
+    before = gave.before;
+    after = gave.after;
+    kept = gave.kept;
+    given = gave.given;
+    cause = λ other. elim (gave.cause other) [ inl (inl more) ↦ inl (inl (more_later _ _ _ counts more)) | inl (inr shut) ↦ inl (inr shut) | inr refused ↦ inr refused ];
+  }
+
+  -- on a connection on which a transaction was begun
+  pub gives_begun : (old begun new : Held S) → begun ≡ record old { in_transaction = true } → Gives g e begun new → Gives g e old new
+  gives_begun old begun new begins gave =
+      let same : Gives g e (record old { in_transaction = true }) new = subst (λ h. Gives g e h new) begins gave in
+      record {
+        before = same.before;
+        after = same.after;
+        kept = record { was_open = same.kept.was_open; committed = same.kept.committed };
+        given = same.given;
+        cause = same.cause;
+      }
+
+-- ---- of a result
+
+-- of the error that was handed on
+pub errs_as : {A E : Type 0} (P : E → Type 0) (r : Result A E) (e : E) → IsErrAnd r (λ f. f ≡ e) → P e → IfErr r P
+errs_as P (Ok a) e told p = tt
+errs_as P (Err f) e told p = subst P (sym told) p

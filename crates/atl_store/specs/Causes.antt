@@ -1,0 +1,38 @@
+-- Why the database gives an error inside a transaction.
+use Rattle.std.specs.Prelude.{◌≡◌, ◌⊎◌, ℕ, List, false, Err}
+use Rattle.sqlite_disk.specs.Disk.{MoreFaults}
+use Rattle.sqlite_trees.specs.declared.store.Store.{Ghosts}
+use Rattle.sqlite.specs.declared.error.Error.{Error}
+use Rattle.sqlite.specs.declared.error.Error.TheVariants.{SqliteFailure}
+use Rattle.sqlite.specs.declared.error.ErrorCode.TheVariants.{TooBig}
+use Rattle.sqlite.specs.Held.{Held, state}
+use Rattle.sqlite.specs.Order.{Row}
+use Rattle.sqlite.specs.State.{State, KeepsCommit, IsUnchanged, ExecutesInside}
+use Rattle.sqlite.specs.Steps.{FailsToCommit}
+use Rattle.atl_store.specs.Faults.{is_memory}
+
+-- a statement gave this error, or the commit
+abbrev pub IsGiven : Error → State → State → Type 0
+IsGiven e before after = ((sql : List ℕ) × (params : Row) × ExecutesInside 0 sql params before after (Err e)) ⊎ FailsToCommit before after e
+
+-- the disk failed since, or the connection was shut
+abbrev pub IsBroken : State → State → Type 0
+IsBroken old new = MoreFaults old.faults new.faults ⊎ (old.is_open ≡ false)
+
+-- something is too big, or a call was refused and changed nothing
+abbrev pub IsRefused : Error → State → State → Type 0
+IsRefused e before after = (e ≡ SqliteFailure TooBig) ⊎ IsUnchanged before after
+
+-- A call of a transaction on this connection gave this error. Of want of memory the database tells no cause; any other error has one.
+pub record Gives {S : Type 0} (g : Ghosts S) (e : Error) (old new : Held S) : Type 0 where
+  -- the connection as the call found it, and as it left it
+  pub before : Held S
+  pub after : Held S
+  -- nothing was committed before the call
+  pub kept : KeepsCommit (state g old) (state g before)
+  pub given : IsGiven e (state g before) (state g after)
+  pub cause : is_memory e ≡ false → IsBroken (state g old) (state g new) ⊎ IsRefused e (state g before) (state g after)
+
+-- A fault tells an error that a call of a transaction on this connection gave.
+abbrev pub IsTold : {S F : Type 0} → Ghosts S → (Error → F) → Held S → Held S → F → Type 0
+IsTold g fault_of old new fault = (e : Error) × (fault ≡ fault_of e) × Gives g e old new
