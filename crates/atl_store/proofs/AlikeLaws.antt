@@ -217,18 +217,20 @@ holds_one w db one other c d good sound h j =
     let some = have_some w c good in
     let more = have_some w d sound in
     let units = agree c.units d.units (units_there _ _ c.units d.units h.units j.units h.has j.has some more) (units_there _ _ d.units c.units j.units h.units j.has h.has more some) in
-    let books = same_books (founding.things_of w) _ c.books d.books numbers.books others.books h.books j.books in
-    (text, λ i. record {
-      month = month i;
-      pass = pass i;
-      next_faction = next_faction i;
-      next_unit = next_unit i;
-      next_structure = next_structure i;
-      factions = factions i;
-      regions = regions i;
-      units = units i;
-      structures = structures i;
-      mail = mail i;
-      reports = reports i;
-      books = books i;
-    })
+    let books = same_books (founding.things_of w) _ c.books d.books numbers.books others.books h.books j.books in (
+      text,
+      λ i. record {
+        month = month i;
+        pass = pass i;
+        next_faction = next_faction i;
+        next_unit = next_unit i;
+        next_structure = next_structure i;
+        factions = factions i;
+        regions = regions i;
+        units = units i;
+        structures = structures i;
+        mail = mail i;
+        reports = reports i;
+        books = books i;
+      },
+    )

@@ -3,6 +3,8 @@ use Rattle.std.specs.Prelude.{ℕ, Option, Some, None, Bool, true, false, if◌t
 use Rattle.sqlite.specs.declared.error.Error.{Error}
 use Rattle.sqlite.specs.declared.error.Error.TheVariants.{SqliteFailure}
 use Rattle.sqlite.specs.declared.error.ErrorCode.TheVariants as code
+use Rattle.sqlite_trees.specs.declared.error.StoreError.{StoreError}
+use Rattle.sqlite_trees.specs.declared.error.StoreError.TheVariants as error
 use Rattle.atl_state.specs.declared.checking.CheckFault.{CheckFault}
 use Rattle.atl_state.specs.declared.checking.CheckFault.TheVariants as check
 use Rattle.atl_store.specs.declared.fault.StoreFault.{StoreFault}
@@ -33,6 +35,11 @@ write_fault e = if is_memory e then write.Memory else write.Store
 
 abbrev pub store_fault : Error → StoreFault
 store_fault e = if is_memory e then store.Memory else store.Store
+
+-- of a store that is opened again
+abbrev pub reopening_fault : StoreError → StoreFault
+reopening_fault error.OutOfMemory = store.Memory
+reopening_fault _ = store.Store
 
 -- of rows that are no campaign's
 abbrev pub judged_fault : CheckFault → StoreFault

@@ -1,9 +1,10 @@
 //! Why the store gives up.
 ghost use Rattle.std.specs.Prelude.{◌≡◌};
-ghost use Rattle.atl_store.specs.Faults.{read_fault, value_fault, write_fault, create_fault, store_fault, judged_fault, fault_number};
+ghost use Rattle.atl_store.specs.Faults.{read_fault, value_fault, write_fault, create_fault, store_fault, reopening_fault, judged_fault, fault_number};
 
 use atl_state::{CheckFault, Rule};
 use sqlite::{Error, ErrorCode};
+use sqlite_trees::error::StoreError;
 use std::alloc::{AllocError, AllocFailed};
 use std::fmt;
 
@@ -161,6 +162,17 @@ impl From<Error> for StoreFault {
     fn from(error: Error) -> StoreFault {
         match error {
             Error::SqliteFailure(ErrorCode::OutOfMemory) => StoreFault::Memory,
+            _ => StoreFault::Store,
+        }
+    }
+}
+
+impl From<StoreError> for StoreFault {
+    ghost from_gives = { λ error fault. fault ≡ reopening_fault error };
+
+    fn from(error: StoreError) -> StoreFault {
+        match error {
+            StoreError::OutOfMemory => StoreFault::Memory,
             _ => StoreFault::Store,
         }
     }

@@ -8,7 +8,6 @@ ghost use Rattle.atl_store.specs.Reopening.{Reopens};
 
 use crate::fault::StoreFault;
 use sqlite::{Alter, Connection};
-use sqlite_trees::error::StoreError;
 use sqlite_trees::store::Reopen;
 use std::alloc::Global;
 
@@ -27,8 +26,7 @@ pub fn reopened<S: Alter + Reopen + Drop>(
     let mut store = conn.into_store();
     match store.crash_and_reopen() {
         Ok(()) => {}
-        Err(StoreError::OutOfMemory) => return Err(StoreFault::Memory),
-        Err(_) => return Err(StoreFault::Store),
+        Err(error) => return Err(StoreFault::from(error)),
     }
     match Connection::over(alloc, store) {
         Ok(conn) => Ok(conn),
