@@ -1,7 +1,8 @@
 pub mod GeneralLaws
 pub mod Maps
 pub mod Lent
-pub mod RetainLaws
+pub mod SetLaws
+pub mod MarkLaws
 pub mod CountLaws
 pub mod LookupLaws
 pub mod SumLaws

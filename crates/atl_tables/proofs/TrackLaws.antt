@@ -1,239 +1,103 @@
 -- Values and their marks.
-use Rattle.std.proofs.Common.{◌≡◌, ℕ, suc, ◌+◌, Bool, true, false, cond, not, ◌&&◌, ◌||◌, List, [], ◌∷◌, length, map, T, Option, Some, None, refl, sym, ap, subst, ◌∙◌, arith}
+use Rattle.std.proofs.Common.{◌≡◌, ℕ, ◌+◌, ◌≤◌, Bool, true, false, cond, not, ◌&&◌, ◌||◌, length, Option, Some, None, refl, sym, ap, ◌∙◌, arith}
 use Rattle.std.specs.Prelude.{is_some}
-use Rattle.std.specs.List.{list_any, AllByRecursion}
-use Rattle.std.specs.List.Sorted.{IsStrictlySortedBy}
-use Rattle.std.proofs.lemmas.Bool.{false≢true, and_parts}
-use Rattle.std.proofs.lemmas.Option.{none-some}
-use Rattle.std.specs.Ordering.{nat_cmp, eq_by_cmp, is_eq, is_lt}
+use Rattle.std.proofs.lemmas.Bool.{false≢true}
+use Rattle.std.proofs.lemmas.List.{length-map}
+use Rattle.std.specs.Ordering.{nat_cmp, eq_by_cmp, is_eq}
 use Rattle.std.specs.declared.cmp.Ordering.TheVariants.{Less, Equal, Greater}
 use Rattle.std.specs.Cmp.{nat_cmp_total}
-use Rattle.std.specs.FinMap.{FinMap, get, get-entries, find, entries, entries_sorted, insert, remove, empty, get-empty, get-insert, get-remove, same_map, is_sorted, keys, contains_key-keys, nat_cmp-IsAntisymmetric}
-use Rattle.std.specs.FinMap.Entries.{below_all}
+use Rattle.std.specs.FinMap.{FinMap, get, entries, insert, remove, empty, get-empty, get-insert, get-remove, same_map, keys, len, len-entries, len-empty, contains_key-keys, nat_cmp-IsAntisymmetric}
 use Rattle.std.specs.FinSet as set
 use Rattle.atl_tables.specs.Changing.{Changing}
-use Rattle.atl_tables.specs.MarkPlaces.{marked_in, put_mark, lowered, raised, ArePlaces}
-use Rattle.atl_tables.specs.Tracking.{marked_with, with_value, without_value_at, taken_out, Lists}
+use Rattle.atl_tables.specs.Marked.{held}
+use Rattle.atl_tables.specs.Tracking.{marked_with, with_value, without_value_at, taken_out}
 pub use Rattle.atl_tables.proofs.GeneralLaws.{is_true}
-use Rattle.atl_tables.proofs.GeneralLaws.{key_itself}
+use Rattle.atl_tables.proofs.GeneralLaws.{key_itself, same_key}
+use Rattle.atl_tables.proofs.SetLaws.{same, insert_twice, insert_undone, contains_inserted, first, len-within, len-union}
 use Rattle.atl_tables.proofs.SumLaws.{taken_back}
-use Rattle.atl_tables.specs.Sums.{mapped, numbers_among, numbers_where}
-use Rattle.atl_tables.proofs.MadeLaws.{entries-mapped, is_less}
 
-true_false : {P : Type 0} → Some true ≡ Some false → P
-true_false e = absurd (false≢true (sym (ap held e)))
-  where
-    held : Option Bool → Bool
-    held None = false
-    held (Some b) = b
+either : (a b : Bool) → b ≡ true → (a || b) ≡ true
+either true b h = refl
+either false b h = h
 
--- ---- what is marked
-
--- whether a place says that its number is marked
-abbrev is_set : Option Bool → Bool
-is_set None = false
-is_set (Some b) = b
-
-abbrev chosen : List (ℕ × Bool) → List ℕ
-chosen es = numbers_among (λ b. b) es
-
-chosen-cons : (b : Bool) (n : ℕ) (es : List (ℕ × Bool)) → chosen ((n, b) ∷ es) ≡ cond b (n ∷ chosen es) (chosen es)
-chosen-cons true n es = refl
-chosen-cons false n es = refl
-
-find_none : (k : ℕ) (es : List (ℕ × Bool)) → below_all nat_cmp k es ≡ true → find nat_cmp k es ≡ None
-find_none k [] h = refl
-find_none k (e ∷ es) h =
-    elim (nat_cmp k e.0) as (λ r. is_lt r ≡ true → cond (is_eq r) (Some e.1) (find nat_cmp k es) ≡ None) [
-      | Less ↦ λ _. find_none k es (and_parts _ _ h).1
-      | Equal ↦ λ g. absurd (false≢true g)
-      | Greater ↦ λ g. absurd (false≢true g)
-    ] (and_parts _ _ h).0
-
-found : (q : ℕ) (es : List (ℕ × Bool)) → is_sorted nat_cmp es ≡ true → list_any (eq_by_cmp nat_cmp q) (chosen es) ≡ is_set (find nat_cmp q es)
-found q [] h = refl
-found q (e ∷ es) h =
-    let rest = found q es (and_parts _ _ h).1 in
-    ap (list_any (eq_by_cmp nat_cmp q)) (chosen-cons e.1 e.0 es)
-    ∙ elim e.1 as (λ b. list_any (eq_by_cmp nat_cmp q) (cond b (e.0 ∷ chosen es) (chosen es)) ≡ is_set (cond (is_eq (nat_cmp q e.0)) (Some b) (find nat_cmp q es))) [
-      | true ↦ elim (nat_cmp q e.0) as (λ r. (is_eq r || list_any (eq_by_cmp nat_cmp q) (chosen es)) ≡ is_set (cond (is_eq r) (Some true) (find nat_cmp q es))) [ Less ↦ rest | Equal ↦ refl | Greater ↦ rest ]
-      | false ↦ elim (nat_cmp q e.0) as (λ r. nat_cmp q e.0 ≡ r → list_any (eq_by_cmp nat_cmp q) (chosen es) ≡ is_set (cond (is_eq r) (Some false) (find nat_cmp q es))) [
-        | Less ↦ λ _. rest
-        | Equal ↦ λ same. rest ∙ ap is_set (ap (λ k. find nat_cmp k es) (nat_cmp-IsAntisymmetric q e.0 same) ∙ find_none e.0 es (and_parts _ _ h).0)
-        | Greater ↦ λ _. rest
-      ] refl
-    ]
-
-pub contains-marked : (m : FinMap nat_cmp Bool) (q : ℕ) → set.contains (marked_in m) q ≡ is_set (get m q)
-contains-marked m q = set.contains-from_list nat_cmp_total (chosen (entries m)) q ∙ found q (entries m) (is_true _ (entries_sorted m)) ∙ ap is_set (sym (get-entries m q))
-
-counted : (es : List (ℕ × Bool)) → is_sorted nat_cmp es ≡ true → set.len {R = nat_cmp} (set.from_list (chosen es)) ≡ length (chosen es)
-counted [] h = set.len-empty nat_cmp
-counted (e ∷ es) h =
-    let rest = counted es (and_parts _ _ h).1 in
-    let new : set.contains {R = nat_cmp} (set.from_list (chosen es)) e.0 ≡ false = set.contains-from_list nat_cmp_total (chosen es) e.0 ∙ found e.0 es (and_parts _ _ h).1 ∙ ap is_set (find_none e.0 es (and_parts _ _ h).0) in
-    ap (λ ns. set.len {R = nat_cmp} (set.from_list ns)) (chosen-cons e.1 e.0 es)
-    ∙ elim e.1 as (λ b. set.len {R = nat_cmp} (set.from_list (cond b (e.0 ∷ chosen es) (chosen es))) ≡ length (cond b (e.0 ∷ chosen es) (chosen es))) [
-      | true ↦ set.len-insert nat_cmp_total (set.from_list (chosen es)) e.0 ∙ ap (λ b. cond b (set.len {R = nat_cmp} (set.from_list (chosen es))) (set.len {R = nat_cmp} (set.from_list (chosen es)) + 1)) new ∙ one_more _ _ rest
-      | false ↦ rest
-    ]
-    ∙ ap length (sym (chosen-cons e.1 e.0 es))
-  where
-    one_more : (a b : ℕ) → a ≡ b → a + 1 ≡ suc b
-    one_more a b h = omega arith
-
--- ---- the marked numbers as a list
-
-below_chosen : (k : ℕ) (es : List (ℕ × Bool)) → below_all nat_cmp k es ≡ true → AllByRecursion (λ n. nat_cmp k n ≡ Less) (chosen es)
-below_chosen k [] h = tt
-below_chosen k (e ∷ es) h =
-    let rest = below_chosen k es (and_parts _ _ h).1 in
-    subst (AllByRecursion (λ n. nat_cmp k n ≡ Less)) (sym (chosen-cons e.1 e.0 es)) (elim e.1 as (λ b. AllByRecursion (λ n. nat_cmp k n ≡ Less) (cond b (e.0 ∷ chosen es) (chosen es))) [
-      | true ↦ (is_less (nat_cmp k e.0) (and_parts _ _ h).0, rest)
-      | false ↦ rest
-    ])
-
-rising : (es : List (ℕ × Bool)) → is_sorted nat_cmp es ≡ true → IsStrictlySortedBy nat_cmp (chosen es)
-unfolding IsStrictlySortedBy
-rising [] h = tt
-rising (e ∷ es) h =
-    let rest = rising es (and_parts _ _ h).1 in
-    subst (IsStrictlySortedBy nat_cmp) (sym (chosen-cons e.1 e.0 es)) (elim e.1 as (λ b. IsStrictlySortedBy nat_cmp (cond b (e.0 ∷ chosen es) (chosen es))) [
-      | true ↦ (below_chosen e.0 es (and_parts _ _ h).0, rest)
-      | false ↦ rest
-    ])
-
--- the numbers whose mark is set
-pub lists-marked : (m : FinMap nat_cmp Bool) → Lists (marked_in m) (numbers_where (λ b. b) m)
-lists-marked m = record { rising = rising (entries m) (is_true _ (entries_sorted m)); all = refl }
-
-pub len-marked : (m : FinMap nat_cmp Bool) → set.len (marked_in m) ≡ length (numbers_where (λ b. b) m)
-len-marked m = counted (entries m) (is_true _ (entries_sorted m))
-
--- what a place says is what the set says
-pub marked-at : (m : FinMap nat_cmp Bool) (n : ℕ) (b : Bool) → Some b ≡ get m n → b ≡ set.contains (marked_in m) n
-marked-at m n b e = sym (contains-marked m n ∙ ap is_set (sym e))
-
-pub unmarked-at : (m : FinMap nat_cmp Bool) (n : ℕ) → None ≡ get m n → false ≡ set.contains (marked_in m) n
-unmarked-at m n e = sym (contains-marked m n ∙ ap is_set (sym e))
-
-put_cond : (b : Bool) (o : Option Bool) → is_set (cond b (Some true) o) ≡ (b || is_set o)
-put_cond true o = refl
-put_cond false o = refl
-
-gone_cond : (b : Bool) (o : Option Bool) → is_set (cond b None o) ≡ (not b && is_set o)
-gone_cond true o = refl
-gone_cond false o = refl
-
-same : (s t : set.FinSet nat_cmp) → ((q : ℕ) → set.contains s q ≡ set.contains t q) → s ≡ t
-same s t h = set.same_set nat_cmp_total nat_cmp-IsAntisymmetric s t h
-
-pub marked-empty : marked_in empty ≡ set.empty
-marked-empty = same _ _ (λ q. contains-marked empty q ∙ ap is_set (get-empty nat_cmp q) ∙ sym (set.contains-empty nat_cmp q))
-
-pub marked-insert : (m : FinMap nat_cmp Bool) (n : ℕ) → marked_in (insert m n true) ≡ set.insert (marked_in m) n
-marked-insert m n = same _ _ (λ q.
-    contains-marked (insert m n true) q ∙ ap is_set (get-insert nat_cmp_total m n true q) ∙ put_cond (eq_by_cmp nat_cmp q n) (get m q)
-    ∙ sym (set.contains-insert nat_cmp_total (marked_in m) n q ∙ ap (λ b. eq_by_cmp nat_cmp q n || b) (contains-marked m q)))
-
-pub marked-remove : (m : FinMap nat_cmp Bool) (n : ℕ) → marked_in (remove m n) ≡ set.remove (marked_in m) n
-marked-remove m n = same _ _ (λ q.
-    contains-marked (remove m n) q ∙ ap is_set (get-remove nat_cmp_total m n q) ∙ gone_cond (eq_by_cmp nat_cmp q n) (get m q)
-    ∙ sym (set.contains-remove nat_cmp_total (marked_in m) n q ∙ ap (λ b. not (eq_by_cmp nat_cmp q n) && b) (contains-marked m q)))
-
--- ---- sets of numbers
-
--- a number that is in a set already
-pub insert_twice : (s : set.FinSet nat_cmp) (n : ℕ) → set.contains s n ≡ true → set.insert s n ≡ s
-insert_twice s n h = same _ _ (λ q. set.contains-insert nat_cmp_total s n q ∙ elim (nat_cmp q n) as (λ r. nat_cmp q n ≡ r → (is_eq r || set.contains s q) ≡ set.contains s q) [
-  | Less ↦ λ _. refl
-  | Equal ↦ λ e. sym (ap (set.contains s) (nat_cmp-IsAntisymmetric q n e) ∙ h)
-  | Greater ↦ λ _. refl
-] refl)
-
--- a number that is new may be taken out again
-pub insert_undone : (s : set.FinSet nat_cmp) (n : ℕ) → set.contains s n ≡ false → set.remove (set.insert s n) n ≡ s
-insert_undone s n h = same _ _ (λ q.
-    set.contains-remove nat_cmp_total (set.insert s n) n q ∙ ap (λ b. not (eq_by_cmp nat_cmp q n) && b) (set.contains-insert nat_cmp_total s n q)
-    ∙ elim (nat_cmp q n) as (λ r. nat_cmp q n ≡ r → (not (is_eq r) && (is_eq r || set.contains s q)) ≡ set.contains s q) [
-      | Less ↦ λ _. refl
-      | Equal ↦ λ e. sym (ap (set.contains s) (nat_cmp-IsAntisymmetric q n e) ∙ h)
-      | Greater ↦ λ _. refl
-    ] refl)
-
-pub contains_inserted : (s : set.FinSet nat_cmp) (n : ℕ) → set.contains (set.insert s n) n ≡ true
-contains_inserted s n = set.contains-insert nat_cmp_total s n n ∙ ap (λ b. b || set.contains s n) (key_itself n)
+-- what holds of a number and its value, where the number is another or n itself
+at : (n q : ℕ) (P : Bool → Type 0) → (q ≡ n → P true) → P false → P (eq_by_cmp nat_cmp q n)
+at n q P here other = elim (eq_by_cmp nat_cmp q n) as (λ b. eq_by_cmp nat_cmp q n ≡ b → P b) [ true ↦ λ e. here (same_key q n e) | false ↦ λ _. other ] refl
 
 module _ {V : Type 0} where
-  pub marked-put : (m : FinMap nat_cmp Bool) (n : ℕ) (o : Option V) → marked_in (put_mark m n o) ≡ marked_with (marked_in m) n o
-  marked-put m n None = refl
-  marked-put m n (Some v) = marked-insert m n
+  -- ---- the numbers that have a value or a mark
 
-  none_set : (q : ℕ) (es : List (ℕ × V)) → is_set (find nat_cmp q (map (λ (e : ℕ × V). (e.0, false)) es)) ≡ false
-  none_set q [] = refl
-  none_set q (e ∷ es) = elim (eq_by_cmp nat_cmp q e.0) as (λ b. is_set (cond b (Some false) (find nat_cmp q (map (λ (e : ℕ × V). (e.0, false)) es))) ≡ false) [ true ↦ refl | false ↦ none_set q es ]
+  pub contains-held : (v : FinMap nat_cmp V) (m : set.FinSet nat_cmp) (q : ℕ) → set.contains (held v m) q ≡ (set.contains m q || is_some (get v q))
+  contains-held v m q =
+      set.contains-union nat_cmp_total m (set.from_list (keys v)) q
+      ∙ ap (λ b. set.contains m q || b) (set.contains-from_list nat_cmp_total (keys v) q ∙ sym (contains_key-keys v q))
 
-  pub marked-of : (v : FinMap nat_cmp V) → marked_in (mapped (λ _. false) v) ≡ set.empty
-  marked-of v = same _ _ (λ q.
-      contains-marked (mapped (λ (_ : V). false) v) q ∙ ap is_set (get-entries (mapped (λ (_ : V). false) v) q) ∙ ap (λ es. is_set (find nat_cmp q es)) (entries-mapped (λ (_ : V). false) v)
-      ∙ none_set q (entries v) ∙ sym (set.contains-empty nat_cmp q))
+  there : (v : FinMap nat_cmp V) (m : set.FinSet nat_cmp) (n q : ℕ) → is_some (get v n) ≡ true → q ≡ n → (set.contains m q || is_some (get v q)) ≡ true
+  there v m n q h e = either (set.contains m q) (is_some (get v q)) (ap (λ k. is_some (get v k)) e ∙ h)
 
-  -- ---- the places for marks
+  -- a value is marked
+  pub held-marked : (v : FinMap nat_cmp V) (m : set.FinSet nat_cmp) (n : ℕ) → is_some (get v n) ≡ true → held v (set.insert m n) ≡ held v m
+  held-marked v m n h = same _ _ (λ q.
+      contains-held v (set.insert m n) q ∙ ap (λ b. b || is_some (get v q)) (set.contains-insert nat_cmp_total m n q)
+      ∙ at n q (λ b. ((b || set.contains m q) || is_some (get v q)) ≡ (set.contains m q || is_some (get v q))) (λ e. sym (there v m n q h e)) refl
+      ∙ sym (contains-held v m q))
 
-  both : (b : Bool) (x : V) (o : Option V) (p : Option Bool) → (is_some o ≡ true → is_some p ≡ true) → is_some (cond b (Some x) o) ≡ true → is_some (cond b (Some true) p) ≡ true
-  both true x o p h s = refl
-  both false x o p h s = h s
+  -- a value is taken out, and marked
+  pub held-removed : (v : FinMap nat_cmp V) (m : set.FinSet nat_cmp) (n : ℕ) → is_some (get v n) ≡ true → held (remove v n) (set.insert m n) ≡ held v m
+  held-removed v m n h = same _ _ (λ q.
+      contains-held (remove v n) (set.insert m n) q ∙ ap (λ b. b || is_some (get (remove v n) q)) (set.contains-insert nat_cmp_total m n q)
+      ∙ ap (λ o. (eq_by_cmp nat_cmp q n || set.contains m q) || is_some o) (get-remove nat_cmp_total v n q)
+      ∙ at n q (λ b. ((b || set.contains m q) || is_some (cond b None (get v q))) ≡ (set.contains m q || is_some (get v q))) (λ e. sym (there v m n q h e)) refl
+      ∙ sym (contains-held v m q))
 
-  more : (b : Bool) (o : Option V) (p : Option Bool) → (is_some o ≡ true → is_some p ≡ true) → is_some o ≡ true → is_some (cond b (Some true) p) ≡ true
-  more true o p h s = refl
-  more false o p h s = h s
+  -- a value is another, and marked
+  pub held-lent : (v : FinMap nat_cmp V) (m : set.FinSet nat_cmp) (n : ℕ) (x : V) → is_some (get v n) ≡ true → held (insert v n x) (set.insert m n) ≡ held v m
+  held-lent v m n x h = same _ _ (λ q.
+      contains-held (insert v n x) (set.insert m n) q ∙ ap (λ b. b || is_some (get (insert v n x) q)) (set.contains-insert nat_cmp_total m n q)
+      ∙ ap (λ o. (eq_by_cmp nat_cmp q n || set.contains m q) || is_some o) (get-insert nat_cmp_total v n x q)
+      ∙ at n q (λ b. ((b || set.contains m q) || is_some (cond b (Some x) (get v q))) ≡ (set.contains m q || is_some (get v q))) (λ e. sym (there v m n q h e)) refl
+      ∙ sym (contains-held v m q))
 
-  fewer : (b : Bool) (o : Option V) (p : Option Bool) → (is_some o ≡ true → is_some p ≡ true) → is_some (cond b None o) ≡ true → is_some (cond b (Some true) p) ≡ true
-  fewer true o p h s = refl
-  fewer false o p h s = h s
+  -- all values are taken out, and marked
+  pub held-cleared : (v : FinMap nat_cmp V) (m : set.FinSet nat_cmp) → held (empty {X = V} {R = nat_cmp}) (held v m) ≡ held v m
+  held-cleared v m = same _ _ (λ q. contains-held empty (held v m) q ∙ ap (λ o. set.contains (held v m) q || is_some o) (get-empty {X = V} nat_cmp q) ∙ nothing_more (set.contains (held v m) q))
+    where
+      nothing_more : (b : Bool) → (b || false) ≡ b
+      nothing_more true = refl
+      nothing_more false = refl
 
-  neither : (b : Bool) (o : Option V) (p : Option Bool) → (is_some o ≡ true → is_some p ≡ true) → is_some (cond b None o) ≡ true → is_some (cond b None p) ≡ true
-  neither true o p h s = s
-  neither false o p h s = h s
+  -- ---- the room for marks
 
-  -- an unmarked place after one was marked
-  still : (b : Bool) (o : Option V) (p : Option Bool) (n : Bool → Option V) → (p ≡ Some false → is_some o ≡ true) → n false ≡ o → cond b (Some true) p ≡ Some false → is_some (n b) ≡ true
-  still true o p n h same e = true_false e
-  still false o p n h same e = ap is_some same ∙ h e
+  abbrev Room : FinMap nat_cmp V → set.FinSet nat_cmp → ℕ → Type 0
+  Room v m r = set.len (held v m) ≤ r
 
-  left : (b : Bool) (o : Option V) (p : Option Bool) → (p ≡ Some false → is_some o ≡ true) → cond b None p ≡ Some false → is_some (cond b None o) ≡ true
-  left true o p h e = absurd (none-some false e)
-  left false o p h e = h e
+  -- where no number more has a value or a mark
+  fewer : (v w : FinMap nat_cmp V) (m n : set.FinSet nat_cmp) (r : ℕ) → ((q : ℕ) → (set.contains n q || is_some (get w q)) ≡ true → (set.contains m q || is_some (get v q)) ≡ true) → Room v m r → Room w n r
+  fewer v w m n r h room = let l = len-within (held w n) (held v m) (λ q e. contains-held v m q ∙ h q (sym (contains-held w n q) ∙ e)) in omega (arith, l, room)
 
-  pub ArePlaces-empty : ArePlaces (empty {X = V} {R = nat_cmp}) empty
-  ArePlaces-empty = record {
-    placed = λ q h. absurd (false≢true (sym (ap is_some (get-empty {X = V} nat_cmp q)) ∙ h));
-    needed = λ q h. absurd (none-some false (sym (get-empty nat_cmp q) ∙ h));
-  }
+  many : (v : FinMap nat_cmp V) → length (keys v) ≡ len v
+  many v = length-map (entries v) (λ (e : ℕ × V). e.0) ∙ sym (len-entries v)
 
-  pub ArePlaces-insert : (v : FinMap nat_cmp V) (m : FinMap nat_cmp Bool) (n : ℕ) (x : V) → ArePlaces v m → ArePlaces (insert v n x) (insert m n true)
-  ArePlaces-insert v m n x h = record {
-    placed = λ q. rw (get-insert nat_cmp_total v n x q, get-insert nat_cmp_total m n true q) (both (eq_by_cmp nat_cmp q n) x (get v q) (get m q) (h.placed q));
-    needed = λ q. rw (get-insert nat_cmp_total v n x q, get-insert nat_cmp_total m n true q) (still (eq_by_cmp nat_cmp q n) (get v q) (get m q) (λ b. cond b (Some x) (get v q)) (h.needed q) refl);
-  }
+  -- room for each value, beside the marks
+  pub Room-all : (v : FinMap nat_cmp V) (m : set.FinSet nat_cmp) (r : ℕ) → set.len m + len v ≤ r → Room v m r
+  Room-all v m r h = let l = len-union m (keys v) in let e = many v in omega (arith, l, e, h)
 
-  pub ArePlaces-more : (v : FinMap nat_cmp V) (m : FinMap nat_cmp Bool) (n : ℕ) → ArePlaces v m → ArePlaces v (insert m n true)
-  ArePlaces-more v m n h = record {
-    placed = λ q. rw (get-insert nat_cmp_total m n true q) (more (eq_by_cmp nat_cmp q n) (get v q) (get m q) (h.placed q));
-    needed = λ q. rw (get-insert nat_cmp_total m n true q) (still (eq_by_cmp nat_cmp q n) (get v q) (get m q) (λ _. get v q) (h.needed q) refl);
-  }
+  pub Room-of : (v : FinMap nat_cmp V) → Room v set.empty (len v)
+  Room-of v = Room-all v set.empty (len v) (let a : set.len {R = nat_cmp} set.empty ≡ 0 = set.len-empty nat_cmp in omega (arith, a))
 
-  pub ArePlaces-fewer : (v : FinMap nat_cmp V) (m : FinMap nat_cmp Bool) (n : ℕ) → ArePlaces v m → ArePlaces (remove v n) (insert m n true)
-  ArePlaces-fewer v m n h = record {
-    placed = λ q. rw (get-remove nat_cmp_total v n q, get-insert nat_cmp_total m n true q) (fewer (eq_by_cmp nat_cmp q n) (get v q) (get m q) (h.placed q));
-    needed = λ q. rw (get-remove nat_cmp_total v n q, get-insert nat_cmp_total m n true q) (still (eq_by_cmp nat_cmp q n) (get v q) (get m q) (λ b. cond b None (get v q)) (h.needed q) refl);
-  }
+  -- there is room to mark a value
+  pub fits-marked : (v : FinMap nat_cmp V) (m : set.FinSet nat_cmp) (r n : ℕ) → is_some (get v n) ≡ true → Room v m r → set.len (set.insert m n) ≤ r
+  fits-marked v m r n h room =
+      let all : set.len (held v (set.insert m n)) ≡ set.len (held v m) = ap set.len (held-marked v m n h) in
+      let l = len-within (set.insert m n) (held v (set.insert m n)) (λ q e. contains-held v (set.insert m n) q ∙ first _ _ e) in
+      omega (arith, all, l, room)
 
-  pub ArePlaces-removed : (v : FinMap nat_cmp V) (m : FinMap nat_cmp Bool) (n : ℕ) → ArePlaces v m → ArePlaces (remove v n) (remove m n)
-  ArePlaces-removed v m n h = record {
-    placed = λ q. rw (get-remove nat_cmp_total v n q, get-remove nat_cmp_total m n q) (neither (eq_by_cmp nat_cmp q n) (get v q) (get m q) (h.placed q));
-    needed = λ q. rw (get-remove nat_cmp_total v n q, get-remove nat_cmp_total m n q) (left (eq_by_cmp nat_cmp q n) (get v q) (get m q) (h.needed q));
-  }
+  pub Room-unmarked : (v : FinMap nat_cmp V) (m : set.FinSet nat_cmp) (r : ℕ) → Room v m r → Room v set.empty r
+  Room-unmarked v m r = fewer v v m set.empty r (λ q e. either (set.contains m q) (is_some (get v q)) (ap (λ b. b || is_some (get v q)) (sym (set.contains-empty nat_cmp q)) ∙ e))
+
+  pub Room-taken : (v : FinMap nat_cmp V) (m : set.FinSet nat_cmp) (r n : ℕ) → Room v m r → Room (remove v n) (set.remove m n) r
+  Room-taken v m r n = fewer v (remove v n) m (set.remove m n) r (λ q e. at n q (λ b. ((not b && set.contains m q) || is_some (cond b None (get v q))) ≡ true → (set.contains m q || is_some (get v q)) ≡ true) (λ _ h. absurd (false≢true h)) (λ h. h)
+      (ap (λ b. b || is_some (cond (eq_by_cmp nat_cmp q n) None (get v q))) (sym (set.contains-remove nat_cmp_total m n q)) ∙ ap (λ o. set.contains (set.remove m n) q || is_some o) (sym (get-remove nat_cmp_total v n q)) ∙ e))
 
   -- what is not there can't be taken out
   pub remove_none : (m : FinMap nat_cmp V) (k : ℕ) → get m k ≡ None → remove m k ≡ m
@@ -244,34 +108,36 @@ module _ {V : Type 0} where
         | Greater ↦ λ _. refl
       ] refl)
 
-  pub ArePlaces-without : (v : FinMap nat_cmp V) (m : FinMap nat_cmp Bool) (n : ℕ) (o : Option V) → get v n ≡ o → ArePlaces v m → ArePlaces (remove v n) (put_mark m n o)
-  ArePlaces-without v m n None e h = rw (remove_none v n e) h
-  ArePlaces-without v m n (Some x) e h = ArePlaces-fewer v m n h
+  pub there_itself : (m : FinMap nat_cmp V) (n : ℕ) (x : V) → get (insert m n x) n ≡ Some x
+  there_itself m n x = get-insert nat_cmp_total m n x n ∙ ap (λ b. cond b (Some x) (get m n)) (key_itself n)
 
-  pub ArePlaces-put : (v : FinMap nat_cmp V) (m : FinMap nat_cmp Bool) (n : ℕ) (o : Option V) → ArePlaces v m → ArePlaces v (put_mark m n o)
-  ArePlaces-put v m n None h = h
-  ArePlaces-put v m n (Some x) h = ArePlaces-more v m n h
+  -- a new value, with room for it and for all others
+  pub fits-inserted : (v : FinMap nat_cmp V) (m : set.FinSet nat_cmp) (r n : ℕ) (x : V) → set.len m + len (insert v n x) ≤ r → set.len (set.insert m n) ≤ r
+  fits-inserted v m r n x h = fits-marked (insert v n x) m r n (ap is_some (there_itself v n x)) (Room-all (insert v n x) m r h)
 
-  pub ArePlaces-lent : (v : FinMap nat_cmp V) (m : FinMap nat_cmp Bool) (n : ℕ) (o : Option V) (x : V) → is_some o ≡ true → ArePlaces v m → ArePlaces (insert v n x) (put_mark m n o)
-  ArePlaces-lent v m n None x s h = absurd (false≢true s)
-  ArePlaces-lent v m n (Some y) x s h = ArePlaces-insert v m n x h
+  pub Room-inserted : (v : FinMap nat_cmp V) (m : set.FinSet nat_cmp) (r n : ℕ) (x : V) → set.len m + len (insert v n x) ≤ r → Room (insert v n x) (set.insert m n) r
+  Room-inserted v m r n x h = rw (held-marked (insert v n x) m n (ap is_some (there_itself v n x))) (Room-all (insert v n x) m r h)
 
-  each_step : (b : Bool) (x : V) (o : Option Bool) (p : Option V) → is_some o ≡ is_some p → is_some (cond b (Some false) o) ≡ is_some (cond b (Some x) p)
-  each_step true x o p h = refl
-  each_step false x o p h = h
+  pub Room-put : (v : FinMap nat_cmp V) (m : set.FinSet nat_cmp) (r n : ℕ) (o : Option V) → get v n ≡ o → Room v m r → Room v (marked_with m n o) r
+  Room-put v m r n None e h = h
+  Room-put v m r n (Some x) e h = rw (held-marked v m n (ap is_some e)) h
 
-  find-each : (q : ℕ) (es : List (ℕ × V)) → is_some (find nat_cmp q (map (λ (e : ℕ × V). (e.0, false)) es)) ≡ is_some (find nat_cmp q es)
-  find-each q [] = refl
-  find-each q (e ∷ es) = each_step (eq_by_cmp nat_cmp q e.0) e.1 _ _ (find-each q es)
+  pub Room-without : (v : FinMap nat_cmp V) (m : set.FinSet nat_cmp) (r n : ℕ) (o : Option V) → get v n ≡ o → Room v m r → Room (remove v n) (marked_with m n o) r
+  Room-without v m r n None e h = rw (remove_none v n e) h
+  Room-without v m r n (Some x) e h = rw (held-removed v m n (ap is_some e)) h
 
-  there-of : (v : FinMap nat_cmp V) (q : ℕ) → is_some (get (mapped (λ (_ : V). false) v) q) ≡ is_some (get v q)
-  there-of v q = ap is_some (get-entries (mapped (λ (_ : V). false) v) q) ∙ ap (λ es. is_some (find nat_cmp q es)) (entries-mapped (λ (_ : V). false) v) ∙ find-each q (entries v) ∙ ap is_some (sym (get-entries v q))
+  pub Room-lent : (v : FinMap nat_cmp V) (m : set.FinSet nat_cmp) (r n : ℕ) (o : Option V) (x : V) → get v n ≡ o → is_some o ≡ true → Room v m r → Room (insert v n x) (marked_with m n o) r
+  Room-lent v m r n None x e s h = absurd (false≢true s)
+  Room-lent v m r n (Some y) x e s h = rw (held-lent v m n x (ap is_some e)) h
 
-  pub ArePlaces-of : (v : FinMap nat_cmp V) → ArePlaces v (mapped (λ _. false) v)
-  ArePlaces-of v = record {
-    placed = λ q h. there-of v q ∙ h;
-    needed = λ q h. sym (there-of v q) ∙ ap is_some h;
-  }
+  -- a value in the place of another
+  pub Room-over : (v : FinMap nat_cmp V) (m : set.FinSet nat_cmp) (r n : ℕ) (x : V) → is_some (get v n) ≡ true → Room v m r → Room (insert v n x) m r
+  Room-over v m r n x s = fewer v (insert v n x) m m r (λ q e.
+      at n q (λ b. (set.contains m q || is_some (cond b (Some x) (get v q))) ≡ true → (set.contains m q || is_some (get v q)) ≡ true) (λ same _. there v m n q s same) (λ h. h)
+      (ap (λ o. set.contains m q || is_some o) (sym (get-insert nat_cmp_total v n x q)) ∙ e))
+
+  pub Room-cleared : (v : FinMap nat_cmp V) (m : set.FinSet nat_cmp) (r : ℕ) → Room v m r → Room empty (held v m) r
+  Room-cleared v m r h = rw (held-cleared v m) h
 
   -- ---- values taken out
 
@@ -281,9 +147,6 @@ module _ {V : Type 0} where
   pub without_value_is : (c : Changing V) (n : ℕ) (o : Option V) → get c.values n ≡ o → ◌≡◌ {A = Changing V} (record { values = remove c.values n; marks = marked_with c.marks n o }) (without_value_at c n o)
   without_value_is c n None e = same_parts _ _ _ _ (remove_none c.values n e) refl
   without_value_is c n (Some x) e = refl
-
-  there_itself : (m : FinMap nat_cmp V) (n : ℕ) (x : V) → get (insert m n x) n ≡ Some x
-  there_itself m n x = get-insert nat_cmp_total m n x n ∙ ap (λ b. cond b (Some x) (get m n)) (key_itself n)
 
   undone : (c : Changing V) (n : ℕ) (x : V) (b : Bool) → get c.values n ≡ None → set.contains c.marks n ≡ b → taken_out (with_value c n x) n b ≡ c
   undone c n x true fresh h =
@@ -295,50 +158,6 @@ module _ {V : Type 0} where
   pub taken_out-undone : (c : Changing V) (n : ℕ) (x : V) → get c.values n ≡ None → taken_out (with_value c n x) n (set.contains c.marks n) ≡ c
   taken_out-undone c n x fresh = undone c n x (set.contains c.marks n) fresh refl
 
-  -- ---- all marks at once
-
-  lower_some : (p : Option Bool) (o : Option V) → is_some o ≡ true → is_some p ≡ true → is_some (lowered p o) ≡ true
-  lower_some None o h g = absurd (false≢true g)
-  lower_some (Some b) None h g = absurd (false≢true h)
-  lower_some (Some b) (Some v) h g = refl
-
-  lower_needed : (p : Option Bool) (o : Option V) → lowered p o ≡ Some false → is_some o ≡ true
-  lower_needed p None e = absurd (none-some false e)
-  lower_needed p (Some v) e = refl
-
-  lower_unset : (p : Option Bool) (o : Option V) → is_set (lowered p o) ≡ false
-  lower_unset p None = refl
-  lower_unset None (Some v) = refl
-  lower_unset (Some b) (Some v) = refl
-
-  pub ArePlaces-lowered : (v : FinMap nat_cmp V) (m l : FinMap nat_cmp Bool) → ((q : ℕ) → get l q ≡ lowered (get m q) (get v q)) → ArePlaces v m → ArePlaces v l
-  ArePlaces-lowered v m l is h = record {
-    placed = λ q s. ap is_some (is q) ∙ lower_some (get m q) (get v q) s (h.placed q s);
-    needed = λ q s. lower_needed (get m q) (get v q) (sym (is q) ∙ s);
-  }
-
-  pub marked-lowered : (v : FinMap nat_cmp V) (m l : FinMap nat_cmp Bool) → ((q : ℕ) → get l q ≡ lowered (get m q) (get v q)) → marked_in l ≡ set.empty
-  marked-lowered v m l is = same _ _ (λ q. contains-marked l q ∙ ap is_set (is q) ∙ lower_unset (get m q) (get v q) ∙ sym (set.contains-empty nat_cmp q))
-
-  raised_set : (p : Option Bool) → raised p ≡ Some false → (o : Option V) → is_some o ≡ true
-  raised_set None e o = absurd (none-some false e)
-  raised_set (Some b) e o = true_false e
-
-  pub ArePlaces-raised : (m l : FinMap nat_cmp Bool) → ((q : ℕ) → get l q ≡ raised (get m q)) → ArePlaces (empty {X = V} {R = nat_cmp}) l
-  ArePlaces-raised m l is = record {
-    placed = λ q h. absurd (false≢true (sym (ap is_some (get-empty {X = V} nat_cmp q)) ∙ h));
-    needed = λ q s. raised_set (get m q) (sym (is q) ∙ s) (get empty q);
-  }
-
-  either_set : (p : Option Bool) (o : Option V) → (is_some o ≡ true → is_some p ≡ true) → (p ≡ Some false → is_some o ≡ true) → is_set (raised p) ≡ (is_set p || is_some o)
-  either_set None None h g = refl
-  either_set None (Some v) h g = absurd (false≢true (h refl))
-  either_set (Some true) o h g = refl
-  either_set (Some false) None h g = absurd (false≢true (g refl))
-  either_set (Some false) (Some v) h g = refl
-
-  pub marked-raised : (v : FinMap nat_cmp V) (m l : FinMap nat_cmp Bool) → ((q : ℕ) → get l q ≡ raised (get m q)) → ArePlaces v m → marked_in l ≡ set.union (marked_in m) (set.from_list (keys v))
-  marked-raised v m l is h = same _ _ (λ q.
-      contains-marked l q ∙ ap is_set (is q) ∙ either_set (get m q) (get v q) (h.placed q) (h.needed q)
-      ∙ sym (set.contains-union nat_cmp_total (marked_in m) (set.from_list (keys v)) q ∙ ap (λ b. b || set.contains {R = nat_cmp} (set.from_list (keys v)) q) (contains-marked m q)
-      ∙ ap (λ b. is_set (get m q) || b) (set.contains-from_list nat_cmp_total (keys v) q ∙ sym (contains_key-keys v q))))
+-- nothing there, and nothing marked
+pub Room-empty : (V : Type 0) → set.len (held (empty {X = V} {R = nat_cmp}) set.empty) ≤ 0
+Room-empty V = Room-all (empty {X = V}) set.empty 0 (let a : set.len {R = nat_cmp} set.empty ≡ 0 = set.len-empty nat_cmp in let b : len (empty {X = V} {R = nat_cmp}) ≡ 0 = len-empty nat_cmp V in omega (arith, a, b))

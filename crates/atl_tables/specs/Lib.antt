@@ -30,4 +30,5 @@ pub mod Drafts
 pub mod Parts
 pub mod Places
 pub mod Given
-pub mod MarkPlaces
+pub mod Marked
+pub mod Rising

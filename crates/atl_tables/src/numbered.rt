@@ -3,7 +3,6 @@ ghost use Rattle.std.specs.Prelude.{◌≡◌, ℕ, IfOk, OnOk, OnErr, IsOk, opt
 ghost use Rattle.std.specs.Ordering.{nat_cmp};
 ghost use Rattle.std.specs.FinMap as map;
 ghost use Rattle.std.specs.Coded.{coded_ℕ};
-ghost use Rattle.atl_tables.specs.MarkPlaces.{lowered, raised};
 
 use std::alloc::{AllocError, Global};
 use std::collections::{BTreeMap, btree_map};
@@ -125,28 +124,6 @@ impl<V: Drop> Numbered<Numbered<V>> {
                 self.insert(group, values)
             }
         }
-    }
-}
-
-impl Numbered<bool> {
-    /// Lowers all flags, and takes away those whose number has no value in another map. It takes no memory.
-    pub(crate) fn lower<V: Drop>(&mut self, values: &Numbered<V>)
-        ensures { (n : ℕ) → map.get self.new n ≡ lowered (map.get self.old n) (map.get values.now n) }
-    {
-        self.entries.retain(|number, flag| {
-            *flag = false;
-            values.get(*number).is_some()
-        });
-    }
-
-    /// Raises all flags. It takes no memory.
-    pub(crate) fn raise(&mut self)
-        ensures { (n : ℕ) → map.get self.new n ≡ raised (map.get self.old n) }
-    {
-        self.entries.retain(|_, flag| {
-            *flag = true;
-            true
-        });
     }
 }
 

@@ -1,13 +1,12 @@
 //! Values under numbers, each with a mark that says whether it changed.
-ghost use Rattle.std.specs.Prelude.{◌≡◌, ◌≤◌, ◌+◌, false, IfOk, OnOk, OnErr, option_copied, None};
+ghost use Rattle.std.specs.Prelude.{◌≡◌, ◌≤◌, IfOk, OnOk, OnErr, option_copied, None};
 ghost use Rattle.std.specs.FinMap as map;
 ghost use Rattle.std.specs.FinSet as set;
 ghost use Rattle.atl_tables.specs.Limits.{number_count};
-ghost use Rattle.atl_tables.specs.MarkPlaces.{marked_in, put_mark, ArePlaces};
 ghost use Rattle.atl_tables.specs.Tracking.{marked_with, with_value, without_value, without_values, taken_out, Lists};
-ghost use Rattle.atl_tables.specs.Sums.{mapped};
 
 use crate::marked::MarkedNumbers;
+use crate::marks::Marks;
 use crate::numbered::{Entries, Numbered};
 use std::alloc::{AllocError, Global};
 use std::marker::Model;
@@ -15,30 +14,30 @@ use std::marker::Model;
 /// A map from numbers to values that keeps which of them were changed, put in or taken out.
 pub struct Tracked<V> {
     values: Numbered<V>,
-    // For each value, and each that is gone and marked, whether it is marked.
-    places: Numbered<bool>,
+    // The marked numbers, with room for one mark on each value.
+    marks: Marks,
 }
 
 impl<V: Drop> Drop for Tracked<V> {
     fn drop(self) {
         let Tracked {
             values: _,
-            places: _,
+            marks: _,
         } = self;
     }
 }
 
 impl<V> Model for Tracked<V> {
     ghost use Rattle.atl_tables.specs.Changing.{Changing, changing_code};
-    ghost use Rattle.atl_tables.specs.MarkPlaces.{marked_in, ArePlaces};
+    ghost use Rattle.atl_tables.specs.Marked.{HasRoom};
 
     ghost Value = { Changing V };
 
     ghost coded = { changing_code V.code };
 
-    ghost view = { λ a. record { values = a.values; marks = marked_in a.places } };
+    ghost view = { λ a. record { values = a.values; marks = a.marks.numbers } };
 
-    ghost invariant = { λ a. ArePlaces a.values a.places };
+    ghost invariant = { λ a. HasRoom a.values a.marks };
 }
 
 impl<V: Drop> Tracked<V> {
@@ -52,7 +51,7 @@ impl<V: Drop> Tracked<V> {
     {
         Self {
             values: Numbered::new(alloc),
-            places: Numbered::new(alloc),
+            marks: Marks::new(alloc),
         }
     }
 
@@ -68,7 +67,7 @@ impl<V: Drop> Tracked<V> {
         ensures* writes_back { sem 𝓛 (LendsMarked V.row self.entry number result) }
         ensures value { option_copied_mut result ≡ map.get self.old.values number }
     {
-        mark_present(&self.values, &mut self.places, number);
+        self.marks.mark_present(&self.values, number);
         match self.values.get_mut(number) {
             Some(value) => Some(value),
             None => None,
@@ -82,8 +81,11 @@ impl<V: Drop> Tracked<V> {
         ensures err { OnErr result (self.new ≡ self.old) }
     {
         self.values.insert(number, value)?;
-        match self.places.insert(number, true) {
-            Ok(()) => Ok(()),
+        match self.marks.make_room(self.values.len()) {
+            Ok(()) => {
+                self.marks.add(number);
+                Ok(())
+            }
             Err(error) => {
                 self.values.remove(number);
                 Err(error)
@@ -109,7 +111,7 @@ impl<V: Drop> Tracked<V> {
     pub fn remove(&mut self, number: u32)
         ensures { self.new ≡ without_value self.old number }
     {
-        mark_present(&self.values, &mut self.places, number);
+        self.marks.mark_present(&self.values, number);
         self.values.remove(number);
     }
 
@@ -122,7 +124,7 @@ impl<V: Drop> Tracked<V> {
             self.remove(number);
         } else {
             self.values.remove(number);
-            self.places.remove(number);
+            self.marks.take(number);
         }
     }
 
@@ -130,30 +132,30 @@ impl<V: Drop> Tracked<V> {
     pub fn of(alloc: Global, values: Numbered<V>) -> Result<Self, AllocError>
         ensures { IfOk result (λ made. made ≡ record { values = values; marks = set.empty }) }
     {
-        let places = unmarked(alloc, &values)?;
-        Ok(Self { values, places })
+        let marks = Marks::with_room(alloc, values.len())?;
+        Ok(Self { values, marks })
     }
 
     /// Marks a number that has a value. It takes no memory.
     pub fn mark(&mut self, number: u32)
         ensures { self.new ≡ record self.old { marks = marked_with self.old.marks number (map.get self.old.values number) } }
     {
-        mark_present(&self.values, &mut self.places, number);
+        self.marks.mark_present(&self.values, number);
     }
 
     /// Leaves nothing marked. It takes no memory.
     pub fn unmark(&mut self)
         ensures { self.new ≡ record self.old { marks = set.empty } }
     {
-        self.places.lower(&self.values);
+        self.marks.clear();
     }
 
     /// Takes all values out, and marks their numbers. It takes no memory.
     pub fn clear(&mut self)
         ensures { self.new ≡ without_values self.old }
     {
+        self.marks.mark_all(&self.values);
         self.values.clear();
-        self.places.raise();
     }
 
     /// The values by their numbers, whether marked or not.
@@ -181,16 +183,14 @@ impl<V: Drop> Tracked<V> {
     pub fn is_marked(&self, number: u32) -> bool
         ensures { result ≡ set.contains self.now.marks number }
     {
-        is_set(&self.places, number)
+        self.marks.contains(number)
     }
 
     /// The marked numbers, in rising order. It takes no memory.
     pub fn marked_numbers(&self) -> MarkedNumbers<'_>
         ensures { Lists self.now.marks result }
     {
-        MarkedNumbers {
-            places: self.places.iter(),
-        }
+        self.marks.iter()
     }
 
     /// How many numbers are marked.
@@ -198,63 +198,6 @@ impl<V: Drop> Tracked<V> {
         ensures value { result ≡ set.len self.now.marks }
         ensures small { result ≤ number_count }
     {
-        count_marked(&self.places)
-    }
-}
-
-/// A place for a mark for each value, with nothing marked.
-fn unmarked<V: Drop>(alloc: Global, values: &Numbered<V>) -> Result<Numbered<bool>, AllocError>
-    ensures { IfOk result (λ places. places ≡ mapped (λ _. false) values.now) }
-{
-    let mut places = Numbered::new(alloc);
-    for (number, _) in values.iter() {
-        places.insert(number, false)?;
-    }
-    Ok(places)
-}
-
-/// Whether there is a mark under a number.
-fn is_set(places: &Numbered<bool>, number: u32) -> bool
-    ensures { result ≡ set.contains (marked_in places.now) number }
-{
-    match places.get(number) {
-        Some(mark) => *mark,
-        None => false,
-    }
-}
-
-/// How many are marked.
-fn count_marked(places: &Numbered<bool>) -> usize
-    ensures value { result ≡ set.len (marked_in places.now) }
-    ensures small { result ≤ number_count }
-{
-    let most = places.len();
-    let mut count = 0;
-    for (number, marked) in places.iter() {
-        if *marked {
-            count = counted(count, number);
-        }
-    }
-    count
-}
-
-/// One more than what was counted below a number.
-fn counted(below: usize, number: u32) -> usize
-    requires { below ≤ number }
-    ensures value { result ≡ below + 1 }
-    ensures small { result ≤ number_count }
-{
-    below + 1
-}
-
-/// Marks a number that has a value.
-fn mark_present<V: Drop>(values: &Numbered<V>, places: &mut Numbered<bool>, number: u32)
-    requires { ArePlaces values.now places.old }
-    ensures { places.new ≡ put_mark places.old number (map.get values.now number) }
-{
-    if values.get(number).is_some() {
-        if let Some(mark) = places.get_mut(number) {
-            *mark = true;
-        }
+        self.marks.len()
     }
 }
