@@ -8,7 +8,7 @@ use Rattle.std.specs.Ordering.{nat_cmp, eq_by_cmp, is_eq}
 use Rattle.std.specs.Cmp.{nat_cmp_total, ranked}
 use Rattle.std.specs.FinMap.{nat_cmp-IsAntisymmetric}
 use Rattle.std.specs.FinSet as numbers
-use Rattle.atl_tables.proofs.TrackLaws.{insert_twice, contains_inserted}
+use Rattle.atl_tables.proofs.SetLaws.{insert_twice, contains_inserted}
 use Rattle.atl_state.specs.Kept.{set_from}
 
 or_swap : (a b c : Bool) → (a || (b || c)) ≡ (b || (a || c))

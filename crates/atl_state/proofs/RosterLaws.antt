@@ -1,31 +1,14 @@
--- Units and their lists as they are made of rows.
+-- Maps whose entries come one after another.
 use Rattle.std.proofs.Common.{◌≡◌, ℕ, true, false, T, List, [], ◌∷◌, ◌++◌, Option, Some, None, refl, sym, ap, subst, ◌∙◌}
-use Rattle.std.specs.Prelude.{is_some, option_map, cond}
+use Rattle.std.specs.Prelude.{cond}
 use Rattle.std.specs.declared.cmp.Ordering.TheVariants.{Less, Equal, Greater}
 use Rattle.std.specs.Ordering.{nat_cmp, is_eq, is_lt, ordering_reverse}
 use Rattle.std.specs.declared.cmp.Ordering.{Ordering}
 use Rattle.std.specs.Cmp.{nat_cmp_total}
 use Rattle.std.specs.FinMap.{FinMap, get, entries, find, is_sorted, entries_sorted, get-entries}
 use Rattle.std.specs.FinMap.Entries.{below_all}
-use Rattle.std.specs.FinSet as set
 use Rattle.std.proofs.lemmas.Bool.{and_parts, false≢true}
-use Rattle.atl_tables.specs.Sums.{mapped}
-use Rattle.atl_state.specs.declared.records.Unit.{Unit}
-use Rattle.atl_state.specs.UnitPlaces.{AreUnits}
-use Rattle.atl_state.proofs.EveryLaws.{get-mapped, is_true}
-
-there_either : {V W : Type 0} (f : V → W) (o : Option V) → is_some (option_map f o) ≡ is_some o
-there_either f None = refl
-there_either f (Some v) = refl
-
--- units with nothing marked
-pub AreUnits-of : (units : FinMap nat_cmp Unit) → AreUnits (record { values = units; marks = set.empty }) (record { values = mapped (λ _. tt {0}) units; marks = set.empty })
-AreUnits-of units = record {
-  same = λ n. ap is_some (get-mapped (λ (_ : Unit). tt {0}) units n) ∙ there_either (λ (_ : Unit). tt {0}) (get units n);
-  within = λ n e. absurd (false≢true (sym (set.contains-empty nat_cmp n) ∙ e));
-}
-
--- ---- a map whose entries come one after another
+use Rattle.atl_state.proofs.EveryLaws.{is_true}
 
 is_less : (o : Ordering) → is_lt o ≡ true → o ≡ Less
 is_less Less h = refl

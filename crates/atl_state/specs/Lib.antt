@@ -24,4 +24,4 @@ pub mod Roster
 pub mod State
 pub mod Totals
 pub mod UnitMarks
-pub mod UnitPlaces
+pub mod UnitRoom

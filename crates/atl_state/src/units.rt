@@ -2,21 +2,20 @@
 ghost use Rattle.std.specs.Prelude.{◌≡◌, ◌≤◌, ℕ, IfOk, OnOk, OnErr, IsTrue, option_copied, None};
 ghost use Rattle.std.specs.FinMap as map;
 ghost use Rattle.std.specs.FinSet as set;
-ghost use Rattle.atl_tables.specs.Sums.{mapped};
 ghost use Rattle.atl_tables.specs.Tracking.{Lists};
 ghost use Rattle.atl_state.specs.Limits.{holding_limit, most_numbered};
 ghost use Rattle.atl_state.specs.Roster.{no_units, with_unit_at, with_row, without_unit_at};
 
 use crate::records::Unit;
-use atl_tables::{Entries, MarkedNumbers, Numbered, Tracked};
+use atl_tables::{Entries, MarkedNumbers, Marks, Numbered, Tracked};
 use std::alloc::{AllocError, Global};
 use std::marker::Model;
 
 /// The units by their numbers. Each has a mark on its row and one on its goods; the latter stands only with the former.
 pub(crate) struct Units {
     rows: Tracked<Unit>,
-    // The same numbers; what is marked are the goods.
-    goods: Tracked<()>,
+    // The units whose goods are marked, with room for each unit.
+    goods: Marks,
 }
 
 impl Drop for Units {
@@ -27,13 +26,13 @@ impl Drop for Units {
 
 impl Model for Units {
     ghost use Rattle.atl_state.specs.Roster.{Roster, roster_code};
-    ghost use Rattle.atl_state.specs.UnitPlaces.{AreUnits};
+    ghost use Rattle.atl_state.specs.UnitRoom.{AreUnits};
 
     ghost Value = { Roster };
 
     ghost coded = { roster_code };
 
-    ghost view = { λ a. record { values = a.rows.values; marks = a.rows.marks; goods = a.goods.marks } };
+    ghost view = { λ a. record { values = a.rows.values; marks = a.rows.marks; goods = a.goods.numbers } };
 
     ghost invariant = { λ a. AreUnits a.rows a.goods };
 }
@@ -48,7 +47,7 @@ impl Units {
     {
         Units {
             rows: Tracked::new(alloc),
-            goods: Tracked::new(alloc),
+            goods: Marks::new(alloc),
         }
     }
 
@@ -56,8 +55,7 @@ impl Units {
     pub(crate) fn of(alloc: Global, values: Numbered<Unit>) -> Result<Units, AllocError>
         ensures { IfOk result (λ units. units ≡ record { values = values; marks = set.empty; goods = set.empty }) }
     {
-        let places = places_of(alloc, &values)?;
-        let goods = Tracked::of(alloc, places)?;
+        let goods = Marks::with_room(alloc, values.len())?;
         let rows = Tracked::of(alloc, values)?;
         Ok(Units { rows, goods })
     }
@@ -101,7 +99,7 @@ impl Units {
     pub(crate) fn marked_goods(&self) -> MarkedNumbers<'_>
         ensures { Lists self.now.goods result }
     {
-        self.goods.marked_numbers()
+        self.goods.iter()
     }
 
     /// Lends a unit, and marks its row and its goods. It takes no memory.
@@ -109,7 +107,7 @@ impl Units {
         ensures* writes_back { sem 𝓛 (LendsUnit self.entry number result) }
         ensures value { option_copied_mut result ≡ map.get self.old.values number }
     {
-        self.goods.mark(number);
+        self.goods.mark_present(self.rows.values(), number);
         match self.rows.get_mut(number) {
             Some(unit) => Some(unit),
             None => None,
@@ -151,12 +149,15 @@ impl Units {
         ensures ok { OnOk result (self.new ≡ with_unit_at self.old number unit) }
         ensures err { OnErr result (self.new ≡ self.old) }
     {
-        let was_marked = self.goods.is_marked(number);
-        self.goods.insert(number, ())?;
-        match self.rows.insert(number, unit) {
-            Ok(()) => Ok(()),
+        let was_marked = self.rows.is_marked(number);
+        self.rows.insert(number, unit)?;
+        match self.goods.make_room(self.rows.len()) {
+            Ok(()) => {
+                self.goods.add(number);
+                Ok(())
+            }
             Err(e) => {
-                self.goods.take_out(number, was_marked);
+                self.rows.take_out(number, was_marked);
                 Err(e)
             }
         }
@@ -166,7 +167,7 @@ impl Units {
     pub(crate) fn remove(&mut self, number: u32)
         ensures { self.new ≡ without_unit_at self.old number }
     {
-        self.goods.remove(number);
+        self.goods.mark_present(self.rows.values(), number);
         self.rows.remove(number);
     }
 
@@ -174,18 +175,7 @@ impl Units {
     pub(crate) fn unmark(&mut self)
         ensures { self.new ≡ record { values = self.old.values; marks = set.empty; goods = set.empty } }
     {
-        self.goods.unmark();
+        self.goods.clear();
         self.rows.unmark();
     }
-}
-
-/// A place for the mark on each unit's goods.
-fn places_of(alloc: Global, units: &Numbered<Unit>) -> Result<Numbered<()>, AllocError>
-    ensures { IfOk result (λ places. places ≡ mapped (λ _. tt {0}) units.now) }
-{
-    let mut places = Numbered::new(alloc);
-    for (number, _) in units.iter() {
-        places.insert(number, ())?;
-    }
-    Ok(places)
 }

@@ -1,5 +1,5 @@
-use Rattle.atl_state.proofs.RosterLaws.{AreUnits-of}
+use Rattle.atl_state.proofs.UnitLaws.{AreUnits-of}
 use Rattle.atl_state.proofs.units.Units.of.Goals as goal
 
 pub invariant_of-result : goal.invariant_of-result
-invariant_of-result c = rw (c.in_ok-rows.ensures, c.in_ok-goods.ensures, c.in_ok-places.ensures) (AreUnits-of c.args.values)
+invariant_of-result c = rw (c.in_ok-rows.ensures, c.in_ok-goods.ensures, c.len.ensures) (AreUnits-of c.args.values)
