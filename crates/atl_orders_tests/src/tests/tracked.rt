@@ -1,7 +1,7 @@
 //! Maps that keep what changed, call by call.
-use super::asserts::is_number;
+use super::asserts::{are_numbers, is_number};
 use super::containers::{filled, maps};
-use atl_tables::Tracked;
+use atl_tables::{MarkedNumbers, Tracked};
 use std::alloc::Global;
 use std::process::Abort;
 use std::test::Fail;
@@ -16,6 +16,9 @@ enum Step {
     Remove(u32),
     /// What was inserted is taken out again, and its number is not marked.
     TakeOut(u32),
+    Mark(u32),
+    Unmark,
+    Clear,
 }
 
 /// Steps from the map of 1, 20 and 30, with how many values and how many marks there are after each.
@@ -32,6 +35,23 @@ const STEPS: [(Step, usize, usize); 12] = [
     (Step::Insert(30, 7), 4, 5),
     (Step::Insert(8, 1), 5, 6),
     (Step::TakeOut(8), 4, 5),
+];
+
+/// Steps from the map of 1, 20 and 30, with the numbers that are marked after each.
+const MARKS: [(Step, &[u32]); 13] = [
+    (Step::Remove(20), &[20]),
+    (Step::Unmark, &[]),
+    (Step::Mark(20), &[]),
+    (Step::Insert(20, 5), &[20]),
+    (Step::Mark(30), &[20, 30]),
+    (Step::Remove(1), &[1, 20, 30]),
+    (Step::Mark(1), &[1, 20, 30]),
+    (Step::Insert(1, 9), &[1, 20, 30]),
+    (Step::Mark(1), &[1, 20, 30]),
+    (Step::TakeOut(1), &[20, 30]),
+    (Step::Unmark, &[]),
+    (Step::Clear, &[20, 30]),
+    (Step::Unmark, &[]),
 ];
 
 fn inserts(map: &mut Tracked<u32>, number: u32, value: u32) -> Result<(), Fail> {
@@ -61,6 +81,18 @@ fn does(map: &mut Tracked<u32>, step: Step) -> Result<(), Fail> {
         }
         Step::TakeOut(number) => {
             map.take_out(number, false);
+            Ok(())
+        }
+        Step::Mark(number) => {
+            map.mark(number);
+            Ok(())
+        }
+        Step::Unmark => {
+            map.unmark();
+            Ok(())
+        }
+        Step::Clear => {
+            map.clear();
             Ok(())
         }
     }
@@ -112,4 +144,95 @@ fn begins(rt: &impl Abort, alloc: Global, map: &mut Tracked<u32>) -> Result<(), 
 fn nothing_tracked(rt: HostRuntime) -> Result<(), Fail> {
     let mut map = Tracked::new(rt.alloc());
     begins(&rt, rt.alloc(), &mut map)
+}
+
+fn marks_are(
+    rt: &impl Abort,
+    alloc: Global,
+    map: &Tracked<u32>,
+    wanted: &[u32],
+) -> Result<(), Fail> {
+    let told: Vec<u32> = map.marked_numbers().collect(alloc)?;
+    are_numbers(rt, told.as_slice(), wanted);
+    is_number(rt, map.marked(), wanted.len());
+    Ok(())
+}
+
+fn marks_follow(rt: &impl Abort, alloc: Global, map: &mut Tracked<u32>) -> Result<(), Fail> {
+    for (step, wanted) in MARKS.iter() {
+        does(map, *step)?;
+        marks_are(rt, alloc, map, wanted)?;
+    }
+    Ok(())
+}
+
+#[test]
+fn marks_of_what_is_gone(rt: HostRuntime) -> Result<(), Fail> {
+    let mut map = Tracked::of(rt.alloc(), filled(rt.alloc())?)?;
+    marks_follow(&rt, rt.alloc(), &mut map)
+}
+
+/// Takes a value out and puts it back, and a new one in and out again; then all marks go.
+fn goes_round(
+    rt: &impl Abort,
+    alloc: Global,
+    map: &mut Tracked<u32>,
+    round: u32,
+) -> Result<(), Fail> {
+    map.remove(20);
+    inserts(map, 20, round)?;
+    inserts(map, 40, round)?;
+    marks_are(rt, alloc, map, &[20, 40])?;
+    map.remove(40);
+    marks_are(rt, alloc, map, &[20, 40])?;
+    map.unmark();
+    marks_are(rt, alloc, map, &[])
+}
+
+#[test]
+fn marks_over_many_rounds(rt: HostRuntime) -> Result<(), Fail> {
+    let mut map = Tracked::of(rt.alloc(), filled(rt.alloc())?)?;
+    for round in 0..200 {
+        goes_round(&rt, rt.alloc(), &mut map, round)?;
+    }
+    is_number(&rt, map.len(), 3);
+    Ok(())
+}
+
+/// How many numbers the longest test marks.
+const MANY: u32 = 1000;
+
+fn marks_falling(map: &mut Tracked<u32>) {
+    for step in 0..MANY {
+        map.mark(MANY - step);
+    }
+}
+
+/// Asserts that the numbers are those from 1 on.
+fn count_up(rt: &impl Abort, told: MarkedNumbers<'_>) {
+    let mut wanted = 1;
+    for number in told {
+        is_number(rt, number as usize, wanted);
+        wanted = number as usize + 1;
+    }
+}
+
+fn falls(rt: &impl Abort, map: &mut Tracked<u32>) {
+    map.unmark();
+    is_number(rt, map.marked(), 0);
+    marks_falling(map);
+    is_number(rt, map.marked(), 1000);
+    count_up(rt, map.marked_numbers());
+    map.unmark();
+    is_number(rt, map.marked(), 0);
+}
+
+#[test]
+fn marks_in_falling_order(rt: HostRuntime) -> Result<(), Fail> {
+    let mut map = Tracked::new(rt.alloc());
+    for number in 0..MANY {
+        map.put(number + 1, number)?;
+    }
+    falls(&rt, &mut map);
+    Ok(())
 }
