@@ -11,6 +11,8 @@ use Rattle.std.proofs.lemmas.Bool.Decides.{nat_tests}
 use Rattle.atl_tables.specs.Planet.{Planet}
 use Rattle.atl_tables.specs.Limits.{most_amount}
 use Rattle.atl_tables.specs.Names.{name_ok}
+use Rattle.atl_tables.specs.Sums.{changed_at}
+use Rattle.atl_tables.proofs.SumLaws.{put_same}
 use Rattle.atl_state.specs.declared.books.Entry.{Entry}
 use Rattle.atl_state.specs.declared.books.Entry.TheVariants.{Starved, Upkeep}
 use Rattle.atl_state.specs.declared.books.Thing.{Thing}
@@ -22,17 +24,17 @@ use Rattle.atl_state.specs.Founding.{things_of}
 use Rattle.atl_state.specs.Deciding.{EachOf}
 use Rattle.atl_state.specs.Good.{Every, IsSteady, guards}
 use Rattle.atl_state.specs.Held.{AreAmounts, Held, amount_of, with_amount_of}
-use Rattle.atl_state.specs.Lending.{lent, with_held}
+use Rattle.atl_state.specs.Lending.{with_held}
 use Rattle.atl_state.specs.Limits.{most_days, most_units}
 use Rattle.atl_state.specs.Marking.{mark_amount}
 use Rattle.atl_state.specs.Marks.{amount_number}
-use Rattle.atl_state.specs.State.{Marked, State, with_amount}
+use Rattle.atl_state.specs.State.{Marked, State, with_amount, with_money}
 use Rattle.atl_state.specs.Totals.{Balances, held, total}
 use Rattle.atl_state.proofs.BackLaws.{Rise, entries_rise}
 use Rattle.atl_state.proofs.BookLaws.{IsGrid-with_booked, booked-with_booked, share_of}
 use Rattle.atl_state.proofs.CoverLaws.{marks-amount, marks-trans}
 use Rattle.atl_state.proofs.EveryLaws.{each-from_every, every-empty, get-insert_other}
-use Rattle.atl_state.proofs.HoldingLaws.{MayHold, marks-lent, steady-held, total-held}
+use Rattle.atl_state.proofs.HoldingLaws.{MayHold, steady-held, total-held}
 use Rattle.atl_state.proofs.RegionLaws.{steady-amount, total-amount}
 use Rattle.atl_instant.specs.Meaning.{HaveRoom, IsNear, LeavesWell, Moving, moved_times, moves_only, most_moved}
 use Rattle.atl_instant.proofs.MarkLaws.{marks_by}
@@ -306,15 +308,40 @@ module _ (w : Planet) (c : State) (some : 1 ≤ w.rules.maintenance) (steady : I
       well_within (moved_times (length list) (takes_up_to most_amount)) (takes_up_to most_moved) w c (upkeep c list) little
       (turns_leave_well (takes_up_to most_amount) w (CanSettle w) upkeep_at (upkeep_at_leaves_well w) c list steady all_settle)
 
+-- ---- where nobody starves
+
+-- all men stay, with their days
+men_stay : (h : Held) (left : ℕ) → left ≡ h.men → with_men_left left h ≡ h
+men_stay h left is = by_men (left == h.men) refl
+  where
+    by_men : (b : Bool) → (left == h.men) ≡ b → (if b then h else record h { men = left; days = days_with left h.men h.days }) ≡ h
+    by_men true test = refl
+    by_men false test = grind (arith, nat_tests)
+
+pub paid_alone : (s : Settled) (h : Held) → s.starved ≡ 0 → supplied s h ≡ record h { money = h.money - s.paid }
+paid_alone s h fed = ap (λ (k : Held). record k { money = h.money - s.paid }) (men_stay h (h.men - s.starved) (omega (arith, fed)))
+
+pub pays : (c : State) (s : Settled) (u : Unit) → get c.units s.unit ≡ Some u → s.starved ≡ 0
+    → with_money c s.unit (u.holding.money - s.paid) ≡ with_held c s.unit (supplied s u.holding) (Some u)
+pays c s u is fed =
+    ap (λ o. record c { units = changed_at (λ (v : Unit). record v { holding = record v.holding { money = u.holding.money - s.paid } }) c.units s.unit o }) is
+    ∙ ap (λ h. with_held c s.unit h (Some u)) (sym (paid_alone s u.holding fed))
+
+pub pays_nothing : (c : State) (s : Settled) (u : Unit) → get c.units s.unit ≡ Some u → s.starved ≡ 0 → s.paid ≡ 0
+    → c ≡ with_held c s.unit (supplied s u.holding) (Some u)
+pays_nothing c s u is fed none =
+    let same : supplied s u.holding ≡ u.holding = paid_alone s u.holding fed ∙ ap (λ m. record u.holding { money = m }) (omega (arith, none)) in
+    sym (ap (λ units. record c { units = units }) (put_same c.units s.unit u (record u { holding = supplied s u.holding }) is (ap (λ h. record u { holding = h }) same)))
+
 -- ---- what is marked
 
-pub upkeep_marks : (things : ℕ) (c d e f : Marked) (s : Settled) (h : Held) (x y : ℤ)
-    → d ≡ lent c s.unit h → e.what ≡ with_amount d.what Upkeep Money x → e.marks ≡ mark_amount d Upkeep Money
+pub upkeep_marks : (things : ℕ) (c d e f : Marked) (s : Settled) (x y : ℤ)
+    → MarksChanges c d → e.what ≡ with_amount d.what Upkeep Money x → e.marks ≡ mark_amount d Upkeep Money
     → f.what ≡ with_amount e.what Starved People y → f.marks ≡ mark_amount e Starved People
     → IsGrid things d.what.books → 2 ≤ things → MarksChanges c f
-upkeep_marks things c d e f s h x y d_is e_is e_marks f_is f_marks grid two =
+upkeep_marks things c d e f s x y d_marks e_is e_marks f_is f_marks grid two =
     let e_books : e.what.books ≡ with_booked d.what.books Upkeep Money x = ap (λ (s : State). s.books) e_is in
     let e_grid : IsGrid things e.what.books = rw e_books (IsGrid-with_booked things d.what.books Upkeep Money x grid) in
-    marks-trans c d f (rw d_is (marks-lent c s.unit h))
+    marks-trans c d f d_marks
     (marks-trans d e f (marks_by d e _ e_is e_marks (marks-amount things d Upkeep Money x grid (omega arith)))
     (marks_by e f _ f_is f_marks (marks-amount things e Starved People y e_grid (omega arith))))

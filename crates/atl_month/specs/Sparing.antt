@@ -1,15 +1,16 @@
--- For proofs alone: when a unit's upkeep can be taken.
+-- For proofs alone: when a unit's upkeep can be taken, and that it was.
 use Rattle.std.specs.Prelude.{◌≡◌, Some}
 use Rattle.std.specs.FinMap.{get}
 use Rattle.atl_tables.specs.Limits.{most_amount}
 use Rattle.atl_tables.specs.Planet.{Planet}
 use Rattle.atl_state.specs.declared.records.Unit.{Unit}
 use Rattle.atl_state.specs.Good.{IsSteady}
+use Rattle.atl_state.specs.Lending.{with_held}
 use Rattle.atl_state.specs.State.{State}
 use Rattle.atl_instant.specs.Meaning.{HaveRoom}
 use Rattle.atl_month.specs.declared.settling.Settled.{Settled}
 use Rattle.atl_month.specs.Settling.{CanSpare}
-use Rattle.atl_month.specs.Upkeep.{takes_up_to}
+use Rattle.atl_month.specs.Upkeep.{supplied, takes_up_to}
 
 -- the unit is there and can spare it, and the books have room
 pub record CanSettle (w : Planet) (c : State) (s : Settled) : Type 0 where
@@ -18,3 +19,7 @@ pub record CanSettle (w : Planet) (c : State) (s : Settled) : Type 0 where
   pub spare : CanSpare s unit.holding.men unit.holding.money
   pub steady : IsSteady w c
   pub room : HaveRoom (takes_up_to most_amount) c
+
+-- the unit, where it is there, holds what its upkeep leaves it, and nothing else is changed
+abbrev pub IsSupplied : State → Settled → State → Type 0
+IsSupplied before s after = (u : Unit) → get before.units s.unit ≡ Some u → after ≡ with_held before s.unit (supplied s u.holding) (Some u)

@@ -1,15 +1,12 @@
 //! The upkeep of a month.
 ghost use Rattle.std.specs.Prelude.{◌≡◌, ◌≤◌, ◌++◌, All, IfOk, OnOk, Some, filter, map};
-ghost use Rattle.std.specs.FinMap as finmap;
 ghost use Rattle.atl_tables.specs.Planet.{Planet};
 ghost use Rattle.atl_state.specs.Covers.{MarksChanges};
 ghost use Rattle.atl_state.specs.Good.{IsSteady};
-ghost use Rattle.atl_state.specs.Lending.{lent};
-ghost use Rattle.atl_state.specs.declared.records.Unit.{Unit};
 ghost use Rattle.atl_instant.specs.Meaning.{most_moved};
 ghost use Rattle.atl_market.specs.PotPhase.{CanInTurn};
 ghost use Rattle.atl_month.specs.Settling.{CanSpare, IsPurse};
-ghost use Rattle.atl_month.specs.Sparing.{CanSettle};
+ghost use Rattle.atl_month.specs.Sparing.{CanSettle, IsSupplied};
 ghost use Rattle.atl_month.specs.Upkeep.{days_with, purses_of, starved_event, starves, supplied, takes_up_to, upkeep, upkeep_at, upkeep_keeps, upkeep_meaning};
 
 use crate::settling::{Purse, Settled, settle};
@@ -77,10 +74,28 @@ fn supply(alloc: Global, settled: &Settled, holding: &mut Holding) -> Result<(),
     Ok(())
 }
 
-/// Takes from a unit what upkeep takes from it.
-fn supply_unit(alloc: Global, campaign: &mut Campaign, settled: &Settled) -> Result<(), AllocError>
+/// Takes from a unit what it pays, where nobody of it starves. Its goods stay unmarked, and its row too where it pays nothing.
+fn pay(campaign: &mut Campaign, settled: &Settled)
+    requires can { (w : Planet) × CanSettle w campaign.old.what settled.now }
+    requires fed { settled.now.starved ≡ 0 }
+    ensures what { IsSupplied campaign.old.what settled.now campaign.new.what }
+    ensures marks { MarksChanges campaign.old campaign.new }
+    ensures goods { campaign.new.marks.goods ≡ campaign.old.marks.goods }
+{
+    if settled.paid == 0 {
+        return;
+    }
+    if let Some(unit) = campaign.unit(settled.unit) {
+        let left = unit.holding.money() - settled.paid;
+        campaign.set_money(settled.unit, left);
+    }
+}
+
+/// Takes from a unit what it pays and whom it can't keep, with their days.
+fn starve(alloc: Global, campaign: &mut Campaign, settled: &Settled) -> Result<(), AllocError>
     requires { (w : Planet) × CanSettle w campaign.old.what settled.now }
-    ensures { OnOk result ((u : Unit) → finmap.get campaign.old.what.units settled.now.unit ≡ Some u → campaign.new ≡ lent campaign.old settled.now.unit (supplied settled.now u.holding)) }
+    ensures what { OnOk result (IsSupplied campaign.old.what settled.now campaign.new.what) }
+    ensures marks { OnOk result (MarksChanges campaign.old campaign.new) }
 {
     match campaign.unit_mut(settled.unit) {
         Some(holding) => supply(alloc, settled, holding),
@@ -88,11 +103,26 @@ fn supply_unit(alloc: Global, campaign: &mut Campaign, settled: &Settled) -> Res
     }
 }
 
-/// The upkeep of a unit, which is booked.
+/// Takes from a unit what upkeep takes from it. Its goods are marked only where somebody starves.
+fn supply_unit(alloc: Global, campaign: &mut Campaign, settled: &Settled) -> Result<(), AllocError>
+    requires { (w : Planet) × CanSettle w campaign.old.what settled.now }
+    ensures what { OnOk result (IsSupplied campaign.old.what settled.now campaign.new.what) }
+    ensures marks { OnOk result (MarksChanges campaign.old campaign.new) }
+    ensures goods { OnOk result (settled.now.starved ≡ 0 → campaign.new.marks.goods ≡ campaign.old.marks.goods) }
+{
+    if settled.starved == 0 {
+        pay(campaign, settled);
+        return Ok(());
+    }
+    starve(alloc, campaign, settled)
+}
+
+/// The upkeep of a unit, which is booked. Its goods are marked only where somebody starves.
 fn upkeep_of(alloc: Global, campaign: &mut Campaign, settled: &Settled) -> Result<(), AllocError>
     requires { (w : Planet) × CanSettle w campaign.old.what settled.now }
     ensures what { OnOk result (campaign.new.what ≡ upkeep_at campaign.old.what settled.now) }
     ensures marks { OnOk result (MarksChanges campaign.old campaign.new) }
+    ensures goods { OnOk result (settled.now.starved ≡ 0 → campaign.new.marks.goods ≡ campaign.old.marks.goods) }
 {
     supply_unit(alloc, campaign, settled)?;
     book_taken(campaign, Entry::Upkeep, Thing::Money, settled.paid);

@@ -1,5 +1,6 @@
 //! Tests of atl_instant, atl_market, atl_action and atl_month by their public calls alone.
 mod laws;
+mod marks;
 mod months;
 mod orders;
 mod phases;

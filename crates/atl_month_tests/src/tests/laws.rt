@@ -1,5 +1,5 @@
 //! Calls that only state a law.
-use atl_action::nobody_is_taught_twice;
+use atl_action::{nobody_is_taught_twice, units_learn_by_orders};
 use atl_instant::{days_go_with_men, mailings_have_no_order, orders_are_in_mailings};
 use atl_market::pots::{each_pot_is_shared, takers_alone_get};
 use atl_market::produce::units_produce_all_at_once;
@@ -24,6 +24,7 @@ fn laws_are_called() {
     units_produce_all_at_once();
     work_pays_all_at_once();
     nobody_is_taught_twice();
+    units_learn_by_orders();
     months_have_no_order();
     phases_move_little();
     one_phase_has_room();

@@ -1,18 +1,23 @@
 //! Months of mailings that are given as texts.
 ghost use Rattle.std.specs.Prelude.{◌≡◌, All, IfOk, map};
 ghost use Rattle.atl_orders.specs.Mailing.{IsReadWith};
+ghost use Rattle.atl_instant.specs.Course.{HaveOwnFactions};
 ghost use Rattle.atl_instant.specs.Fit.{AreFit};
 
 use atl_instant::Month;
 use atl_orders::{Mailing, read_mailing};
 use atl_state::are_distinct;
 use atl_tables::{World, read_world};
-use atl_test_worlds::WOOD_AND_SAILING;
+use atl_test_worlds::{SMALL, WOOD_AND_SAILING};
 use std::alloc::{AllocError, Global};
 use std::test::Fail;
 
 pub(crate) fn world(alloc: Global) -> Result<World, Fail> {
     Ok(read_world(alloc, WOOD_AND_SAILING)?)
+}
+
+pub(crate) fn small_world(alloc: Global) -> Result<World, Fail> {
+    Ok(read_world(alloc, SMALL)?)
 }
 
 fn mailings_of(alloc: Global, world: &World, texts: &[&str]) -> Result<Vec<Mailing>, Fail>
@@ -35,15 +40,28 @@ fn factions_of(alloc: Global, mailings: &[Mailing]) -> Result<Vec<u32>, AllocErr
     Ok(factions)
 }
 
-/// A month with these mailings, and two words.
-pub(crate) fn month(alloc: Global, world: &World, texts: &[&str]) -> Result<Month, Fail>
-    ensures { IfOk result (λ month. AreFit world.now month.readings) }
+/// The mailings of these texts, no two of one faction.
+pub(crate) fn own_mailings(
+    alloc: Global,
+    world: &World,
+    texts: &[&str],
+) -> Result<Vec<Mailing>, Fail>
+    ensures read { IfOk result (λ mailings. All (IsReadWith world.now) mailings.items) }
+    ensures own { IfOk result (λ mailings. HaveOwnFactions mailings.items) }
 {
     let mailings = mailings_of(alloc, world, texts)?;
     let factions = factions_of(alloc, &mailings)?;
     if !are_distinct(alloc, &factions)? {
         return Err(Fail::new("each mailing is of a faction of its own"));
     }
+    Ok(mailings)
+}
+
+/// A month with these mailings, and two words.
+pub(crate) fn month(alloc: Global, world: &World, texts: &[&str]) -> Result<Month, Fail>
+    ensures { IfOk result (λ month. AreFit world.now month.readings) }
+{
+    let mailings = own_mailings(alloc, world, texts)?;
     let words = Vec::from_slice(alloc, &[7, 9])?;
     Ok(Month::new(alloc, mailings, words))
 }

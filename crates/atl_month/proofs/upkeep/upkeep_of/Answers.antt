@@ -10,8 +10,6 @@ use Rattle.atl_state.proofs.BookLaws.{IsGrid-with_booked}
 use Rattle.atl_instant.specs.Meaning.{moves_only}
 use Rattle.atl_instant.proofs.BookingLaws.{booked-room, within-neg}
 use Rattle.atl_instant.proofs.MeaningLaws.{less_room}
-use Rattle.atl_instant.proofs.MovingLaws.{lent_what}
-use Rattle.atl_month.specs.Upkeep.{supplied}
 use Rattle.atl_month.proofs.UpkeepLaws.{few_paid, few_starved, upkeep_at_is, upkeep_marks}
 use Rattle.atl_month.proofs.upkeep.upkeep_of.Goals as goal
 
@@ -21,7 +19,7 @@ book_taken-requires-clause-there c =
     let s = c.args.settled.now in
     let before = c.args.campaign.now in
     let u = can.unit in
-    let what = lent_what before c.supply_unit.new.campaign s.unit u (supplied s u.holding) can.there (c.in_ok-supply_unit.ensures u can.there) in
+    let what = c.in_ok-supply_unit.ensures.what u can.there in
     rw (ap (λ (s : State). s.books) what) (omega (arith, can.steady.numbers.books.rows))
 
 pub book_taken-requires-clause-room : goal.book_taken-requires-clause-room
@@ -30,7 +28,7 @@ book_taken-requires-clause-room c =
     let s = c.args.settled.now in
     let before = c.args.campaign.now in
     let u = can.unit in
-    let what = lent_what before c.supply_unit.new.campaign s.unit u (supplied s u.holding) can.there (c.in_ok-supply_unit.ensures u can.there) in
+    let what = c.in_ok-supply_unit.ensures.what u can.there in
     let few = few_paid w before.what s u can.there can.spare can.steady in
     rw (ap (λ (s : State). s.books) what) (less_room s.paid most_amount (amount_in before.what.books Upkeep Money) few (can.room Upkeep Money))
 
@@ -40,7 +38,7 @@ book_taken-requires-2-clause-there c =
     let s = c.args.settled.now in
     let before = c.args.campaign.now in
     let u = can.unit in
-    let what = lent_what before c.supply_unit.new.campaign s.unit u (supplied s u.holding) can.there (c.in_ok-supply_unit.ensures u can.there) in
+    let what = c.in_ok-supply_unit.ensures.what u can.there in
     let grid = IsGrid-with_booked (things_of w) before.what.books Upkeep Money (neg_ℤ (pos s.paid)) can.steady.numbers.books in
     rw (ap (λ (s : State). s.books) c.book_taken.ensures.what, ap (λ (s : State). s.books) what) (omega (arith, grid.rows))
 
@@ -50,7 +48,7 @@ book_taken-requires-2-clause-room c =
     let s = c.args.settled.now in
     let before = c.args.campaign.now in
     let u = can.unit in
-    let what = lent_what before c.supply_unit.new.campaign s.unit u (supplied s u.holding) can.there (c.in_ok-supply_unit.ensures u can.there) in
+    let what = c.in_ok-supply_unit.ensures.what u can.there in
     let paid = few_paid w before.what s u can.there can.spare can.steady in
     let starved = few_starved w before.what s u can.there can.spare can.steady in
     let behind = with_booked before.what.books Upkeep Money (neg_ℤ (pos s.paid)) in
@@ -65,7 +63,7 @@ returns-clause-what c =
     let s = c.args.settled.now in
     let before = c.args.campaign.now in
     let u = can.unit in
-    let what = lent_what before c.supply_unit.new.campaign s.unit u (supplied s u.holding) can.there (c.in_ok-supply_unit.ensures u can.there) in
+    let what = c.in_ok-supply_unit.ensures.what u can.there in
     rw (c.book_taken-2.ensures.what, c.book_taken.ensures.what, what) (sym (upkeep_at_is before.what s u can.there))
 
 pub returns-clause-marks : goal.returns-clause-marks
@@ -74,9 +72,8 @@ returns-clause-marks c =
     let s = c.args.settled.now in
     let before = c.args.campaign.now in
     let u = can.unit in
-    let lent_is = c.in_ok-supply_unit.ensures u can.there in
-    let what = lent_what before c.supply_unit.new.campaign s.unit u (supplied s u.holding) can.there lent_is in
+    let what = c.in_ok-supply_unit.ensures.what u can.there in
     upkeep_marks (things_of w) before c.supply_unit.new.campaign c.book_taken.new.campaign c.book_taken-2.new.campaign s
-    (supplied s u.holding) (neg_ℤ (pos s.paid)) (neg_ℤ (pos s.starved))
-    lent_is c.book_taken.ensures.what c.book_taken.ensures.marks c.book_taken-2.ensures.what c.book_taken-2.ensures.marks
+    (neg_ℤ (pos s.paid)) (neg_ℤ (pos s.starved))
+    c.in_ok-supply_unit.ensures.marks c.book_taken.ensures.what c.book_taken.ensures.marks c.book_taken-2.ensures.what c.book_taken-2.ensures.marks
     (rw (ap (λ (d : State). d.books) what) can.steady.numbers.books) (omega arith)
