@@ -17,6 +17,9 @@ const PAID: [&[u32]; 7] = [&[], &[3], &[1], &[], &[], &[], &[]];
 /// Once unit 1 is gone, too: what it had is marked.
 const REMOVED: [&[u32]; 7] = [&[], &[3], &[1], &[1], &[], &[], &[]];
 
+/// Once all marks are gone, of what is gone too.
+const NONE: [&[u32]; 7] = [&[], &[], &[], &[], &[], &[], &[]];
+
 fn are_marked(
     rt: &impl Abort,
     alloc: Global,
@@ -78,6 +81,14 @@ fn pays(campaign: &mut Campaign) {
     campaign.set_region_money(3, 7);
 }
 
+/// Takes unit 1 out: what it had is marked until all marks go.
+fn goes(rt: &impl Abort, alloc: Global, campaign: &mut Campaign) -> Result<(), Fail> {
+    campaign.remove_unit(1);
+    all_are_marked(rt, alloc, campaign, &REMOVED)?;
+    campaign.unmark();
+    all_are_marked(rt, alloc, campaign, &NONE)
+}
+
 fn shows_marks(rt: &impl Abort, alloc: Global, world: &World) -> Result<(), Fail> {
     let mut campaign = joined_in(alloc, world)?;
     joining_is_marked(rt, &campaign)?;
@@ -85,8 +96,7 @@ fn shows_marks(rt: &impl Abort, alloc: Global, world: &World) -> Result<(), Fail
     pays(&mut campaign);
     nothing_is_booked(rt, &campaign)?;
     all_are_marked(rt, alloc, &campaign, &PAID)?;
-    campaign.remove_unit(1);
-    all_are_marked(rt, alloc, &campaign, &REMOVED)
+    goes(rt, alloc, &mut campaign)
 }
 
 #[test]
