@@ -10,26 +10,27 @@ use std::alloc::Global;
 use std::process::Abort;
 use std::test::Fail;
 
-fn joins_over<S: Alter>(
+/// A faction joins, and of its reply so many bytes are taken.
+pub(crate) fn breaks_off<S: Alter>(
     rt: &impl Abort,
     alloc: Global,
     service: &mut Service<S>,
-    most: usize,
-    fails: bool,
+    writer: &mut Narrow,
+    taken: usize,
 ) {
-    let mut writer = Narrow::of(alloc, most, fails);
     let mut reader = JOIN.as_bytes();
-    let served = serve_one(alloc, &mut reader, &mut writer, service, Dice { seed: 1 });
+    let served = serve_one(alloc, &mut reader, writer, service, Dice { seed: 1 });
     is_fault(rt, served, HttpFault::WriteFault);
-    is_count(rt, writer.taken.len(), most);
+    is_count(rt, writer.taken.len(), taken);
     is_true(rt, JOINED.as_bytes().starts_with(&writer.taken));
     is_number(rt, next_faction(service), 2);
 }
 
-/// A faction joins a new campaign, and of its reply so many bytes are taken.
+/// The same in a new campaign, where no more is taken than so many bytes.
 fn is_broken(rt: &impl Abort, alloc: Global, most: usize, fails: bool) -> Result<(), Fail> {
     let mut service = begun(alloc, Connection::open_in_memory(alloc)?)?;
-    joins_over(rt, alloc, &mut service, most, fails);
+    let mut writer = Narrow::of(alloc, most, fails);
+    breaks_off(rt, alloc, &mut service, &mut writer, most);
     let _conn = service.end();
     Ok(())
 }

@@ -2,16 +2,16 @@
 use std::alloc::Global;
 use std::io::{self, ErrorKind, Read, Write};
 
-/// Gives a text in pieces of so many bytes, and interrupts each other read if it is to; fails once so many reads were done. It counts
-/// its reads.
+/// Gives a text in pieces of so many bytes, before each of which so many reads are interrupted; fails once so many reads were done. It
+/// counts its reads.
 #[derive(Drop)]
 pub(crate) struct Pieces<'a> {
     bytes: &'a [u8],
     piece: usize,
-    pub(crate) interrupts: bool,
+    pub(crate) interruptions: usize,
     pub(crate) reads_left: usize,
     pub(crate) reads: usize,
-    was_interrupted: bool,
+    interrupted: usize,
 }
 
 impl<'a> Pieces<'a> {
@@ -19,10 +19,10 @@ impl<'a> Pieces<'a> {
         Pieces {
             bytes,
             piece,
-            interrupts: false,
+            interruptions: 0,
             reads_left: usize::MAX,
             reads: 0,
-            was_interrupted: false,
+            interrupted: 0,
         }
     }
 }
@@ -34,10 +34,11 @@ impl<'a> Read for Pieces<'a> {
             return Err(io::Error::from(ErrorKind::ConnectionReset));
         }
         self.reads_left -= 1;
-        self.was_interrupted = self.interrupts && !self.was_interrupted;
-        if self.was_interrupted {
+        if self.interrupted < self.interruptions {
+            self.interrupted += 1;
             return Err(io::Error::from(ErrorKind::Interrupted));
         }
+        self.interrupted = 0;
         let count = self.piece.min(self.bytes.len()).min(buf.len());
         let (given, rest) = self.bytes.split_at(count);
         buf[..count].copy_from_slice(given);
@@ -46,14 +47,17 @@ impl<'a> Read for Pieces<'a> {
     }
 }
 
-/// Takes one byte at a time, interrupts each other write if it is to, and once it has taken enough fails or takes none.
+/// Takes pieces of so many bytes, before each of which so many writes are interrupted, and once it has taken enough fails or takes none. It
+/// counts its writes.
 #[derive(Drop)]
 pub(crate) struct Narrow {
     pub(crate) taken: Vec<u8>,
     most: usize,
     fails: bool,
-    pub(crate) interrupts: bool,
-    was_interrupted: bool,
+    pub(crate) piece: usize,
+    pub(crate) interruptions: usize,
+    pub(crate) writes: usize,
+    interrupted: usize,
 }
 
 impl Narrow {
@@ -62,18 +66,22 @@ impl Narrow {
             taken: Vec::new(alloc),
             most,
             fails,
-            interrupts: false,
-            was_interrupted: false,
+            piece: 1,
+            interruptions: 0,
+            writes: 0,
+            interrupted: 0,
         }
     }
 }
 
 impl Write for Narrow {
     fn write(&mut self, buf: &[u8]) -> io::Result<usize> {
-        self.was_interrupted = self.interrupts && !self.was_interrupted;
-        if self.was_interrupted {
+        self.writes = self.writes.saturating_add(1);
+        if self.interrupted < self.interruptions {
+            self.interrupted += 1;
             return Err(io::Error::from(ErrorKind::Interrupted));
         }
+        self.interrupted = 0;
         if self.taken.len() >= self.most {
             return if self.fails {
                 Err(io::Error::from(ErrorKind::BrokenPipe))
@@ -81,42 +89,11 @@ impl Write for Narrow {
                 Ok(0)
             };
         }
-        match buf.first() {
-            None => Ok(0),
-            Some(byte) => match self.taken.push(*byte) {
-                Ok(()) => Ok(1),
-                Err(_) => Err(io::Error::from(ErrorKind::OutOfMemory)),
-            },
+        let count = self.piece.min(buf.len());
+        match self.taken.extend_from_slice(&buf[..count]) {
+            Ok(()) => Ok(count),
+            Err(_) => Err(io::Error::from(ErrorKind::OutOfMemory)),
         }
-    }
-
-    fn flush(&mut self) -> io::Result<()> {
-        Ok(())
-    }
-}
-
-/// Interrupts each read and each write, and counts them.
-#[derive(Drop)]
-pub(crate) struct Interrupting {
-    pub(crate) calls: usize,
-}
-
-impl Interrupting {
-    fn interrupted(&mut self) -> io::Error {
-        self.calls = self.calls.saturating_add(1);
-        io::Error::from(ErrorKind::Interrupted)
-    }
-}
-
-impl Read for Interrupting {
-    fn read(&mut self, _buf: &mut [u8]) -> io::Result<usize> {
-        Err(self.interrupted())
-    }
-}
-
-impl Write for Interrupting {
-    fn write(&mut self, _buf: &[u8]) -> io::Result<usize> {
-        Err(self.interrupted())
     }
 
     fn flush(&mut self) -> io::Result<()> {

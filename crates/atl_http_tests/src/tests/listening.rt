@@ -1,9 +1,9 @@
 //! Connections over a socket of this machine, in one process: each peer has sent its request before they are served.
 use super::compare::{is_text, is_true};
-use super::making::begun;
+use super::making::{begun, tells};
 use super::requests::{JOIN, JOINED, REPORT, REPORTED, TOO_LONG};
 use atl_http::Dice;
-use atl_http::listening::serve_each;
+use atl_http::listening::{ListenFault, serve_each};
 use atl_service::Service;
 use sqlite::{Alter, Connection};
 use std::alloc::Global;
@@ -78,5 +78,34 @@ fn over_a_socket(rt: HostRuntime) -> Result<(), Fail> {
     match done {
         Ok(()) => Ok(()),
         Err(_) => Err(Fail::new("a peer")),
+    }
+}
+
+/// Nobody is there at a listener that doesn't wait, so no connection can be taken. No command is run: the faction that joins then is the
+/// first.
+fn nobody_is_served<S: Alter>(
+    rt: &impl Abort,
+    alloc: Global,
+    listener: &TcpListener,
+    service: &mut Service<S>,
+) -> io::Result<()> {
+    listener.set_nonblocking(true)?;
+    let done = serve_each(alloc, listener, service, 4, Dice { seed: 1 });
+    is_true(rt, done == Err(ListenFault::Net));
+    tells(rt, alloc, service, &mut JOIN.as_bytes(), JOINED);
+    Ok(())
+}
+
+#[test]
+fn no_connection_is_taken(rt: HostRuntime) -> Result<(), Fail> {
+    let Ok(listener) = TcpListener::bind(&rt, (Ipv4Addr::LOCALHOST, 0)) else {
+        return Err(Fail::new("bind"));
+    };
+    let mut service = begun(rt.alloc(), Connection::open_in_memory(rt.alloc())?)?;
+    let done = nobody_is_served(&rt, rt.alloc(), &listener, &mut service);
+    let _conn = service.end();
+    match done {
+        Ok(()) => Ok(()),
+        Err(_) => Err(Fail::new("a listener that doesn't wait")),
     }
 }

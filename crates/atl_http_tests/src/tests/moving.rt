@@ -42,14 +42,25 @@ fn cut_and_whole<S: Alter>(
     Ok(())
 }
 
-fn joins_in_pieces<S: Alter>(rt: &impl Abort, alloc: Global, service: &mut Service<S>) {
-    for reads in 0..11 {
-        let mut reader = Pieces::of(JOIN.as_bytes(), 8);
-        reader.reads_left = reads;
-        tells(rt, alloc, service, &mut reader, "read fault");
+/// How many bytes each read gives, and in how many reads the whole request comes.
+const BY_PIECES: [(usize, usize); 3] = [(1, JOIN.len()), (8, 11), (JOIN.len(), 1)];
+
+/// A read that fails before the request is whole runs no command, whichever read it is: who joins next is the first.
+fn fails_at_each_read<S: Alter>(rt: &impl Abort, alloc: Global, service: &mut Service<S>) {
+    for (piece, reads) in BY_PIECES.iter() {
+        for done in 0..*reads {
+            let mut reader = Pieces::of(JOIN.as_bytes(), *piece);
+            reader.reads_left = done;
+            tells(rt, alloc, service, &mut reader, "read fault");
+        }
     }
+}
+
+fn joins_in_pieces<S: Alter>(rt: &impl Abort, alloc: Global, service: &mut Service<S>) {
+    fails_at_each_read(rt, alloc, service);
     let mut reader = Pieces::of(JOIN.as_bytes(), 1);
-    reader.interrupts = true;
+    reader.interruptions = 1;
+    reader.reads_left = 2 * JOIN.len();
     tells(rt, alloc, service, &mut reader, JOINED);
     writes_in_pieces(rt, alloc, service);
 }
@@ -63,7 +74,7 @@ fn no_front_is_enough<S: Alter>(rt: &impl Abort, alloc: Global, service: &mut Se
 
 fn writes_in_pieces<S: Alter>(rt: &impl Abort, alloc: Global, service: &mut Service<S>) {
     let mut writer = Narrow::of(alloc, REPORTED.len(), true);
-    writer.interrupts = true;
+    writer.interruptions = 1;
     let mut reader = REPORT.as_bytes();
     let served = serve_one(alloc, &mut reader, &mut writer, service, Dice { seed: 1 });
     is_text(rt, told(served, &writer.taken), REPORTED);
@@ -95,6 +106,34 @@ fn reads_no_further<S: Alter>(rt: &impl Abort, alloc: Global, service: &mut Serv
         tells(rt, alloc, service, &mut reader, wanted);
         is_count(rt, reader.reads, *reads);
     }
+}
+
+const LONGEST_HEAD: &str =
+    "POST /orders/1 HTTP/1.0\r\nAtlantis-Pass: pw\r\nContent-Length: 65536\r\n\r\n";
+
+const MAILED: &str =
+    "HTTP/1.1 200 OK\r\nContent-Type: application/json\r\nContent-Length: 24\r\nConnection: close\r\n\r\n{\"faults\":[],\"orders\":0}";
+
+/// The longest mailing: a header of 11 bytes, and line feeds.
+fn longest_request(alloc: Global) -> Result<Vec<u8>, Fail> {
+    let mut request = Vec::from_slice(alloc, LONGEST_HEAD.as_bytes())?;
+    request.extend_from_slice(b"#ATLANTIS 1")?;
+    request.extend_from_slice(&b"\n".repeat(alloc, 65_525)?)?;
+    Ok(request)
+}
+
+/// The longest mailing comes byte by byte.
+fn mails_byte_by_byte<S: Alter>(
+    rt: &impl Abort,
+    alloc: Global,
+    service: &mut Service<S>,
+) -> Result<(), Fail> {
+    tells(rt, alloc, service, &mut JOIN.as_bytes(), JOINED);
+    let request = longest_request(alloc)?;
+    let mut reader = Pieces::of(&request, 1);
+    tells(rt, alloc, service, &mut reader, MAILED);
+    is_count(rt, reader.reads, LONGEST_HEAD.len() + 65_536);
+    Ok(())
 }
 
 /// A head with a field of so many bytes and so many short ones.
@@ -180,6 +219,14 @@ fn no_further(rt: HostRuntime) -> Result<(), Fail> {
 fn heads_at_the_limit(rt: HostRuntime) -> Result<(), Fail> {
     let mut service = begun(rt.alloc(), Connection::open_in_memory(rt.alloc())?)?;
     let done = long_heads(&rt, rt.alloc(), &mut service);
+    let _conn = service.end();
+    done
+}
+
+#[test]
+fn the_longest_mailing(rt: HostRuntime) -> Result<(), Fail> {
+    let mut service = begun(rt.alloc(), Connection::open_in_memory(rt.alloc())?)?;
+    let done = mails_byte_by_byte(&rt, rt.alloc(), &mut service);
     let _conn = service.end();
     done
 }

@@ -192,8 +192,8 @@ fn routes(rt: HostRuntime) -> Result<(), Fail> {
     plays(&rt, rt.alloc(), &ROUTES)
 }
 
-/// Bodies without a good length, and requests without one pass text.
-const LENGTHS: [Case; 13] = [
+/// Bodies without a good length, or with two, and requests without one pass text.
+const LENGTHS: [Case; 14] = [
     ("POST /join HTTP/1.0\r\n\r\n", NO_LENGTH),
     (
         "POST /join HTTP/1.0\r\nTransfer-Encoding: chunked\r\nContent-Length: x\r\n\r\n",
@@ -209,6 +209,10 @@ const LENGTHS: [Case; 13] = [
     ),
     (
         "POST /join HTTP/1.0\r\nContent-Length: 1\r\nContent-Length: 1\r\n\r\n",
+        BAD_REQUEST,
+    ),
+    (
+        "POST /join HTTP/1.1\r\nHost: x\r\nContent-Length: 29\r\nContent-Length: 29\r\n\r\n{\"name\":\"Avalon\",\"pass\":\"pw\"}",
         BAD_REQUEST,
     ),
     (

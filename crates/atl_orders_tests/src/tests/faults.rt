@@ -159,11 +159,110 @@ fn many_elements(rt: HostRuntime) -> Result<(), Fail> {
     repeated_are(&rt, rt.alloc(), &REPEATED)
 }
 
-/// A table in a table, so many times.
-fn deep(alloc: Global, depth: usize) -> Result<String, Fail> {
-    let front = "{ a = ".repeat(alloc, depth)?;
-    let back = " }".repeat(alloc, depth)?;
-    Ok(format!(in alloc; "a = {front}1{back}")?)
+/// A text that nests: what opens it, what is repeated, what stands inside, and what is repeated then.
+#[derive(Clone, Copy)]
+struct Nest {
+    front: &'static str,
+    open: &'static str,
+    inside: &'static str,
+    close: &'static str,
+}
+
+const TABLES: Nest = Nest {
+    front: "a = ",
+    open: "{ a = ",
+    inside: "1",
+    close: " }",
+};
+
+const ARRAYS: Nest = Nest {
+    front: "a = ",
+    open: "[",
+    inside: "",
+    close: "]",
+};
+
+/// A header's key has a part more than are repeated.
+const HEADER: Nest = Nest {
+    front: "[a",
+    open: ".a",
+    inside: "]\n",
+    close: "",
+};
+
+const ARRAY_HEADER: Nest = Nest {
+    front: "[[a",
+    open: ".a",
+    inside: "]]\n",
+    close: "",
+};
+
+const DOTTED: Nest = Nest {
+    front: "b",
+    open: ".b",
+    inside: " = 1\n",
+    close: "",
+};
+
+/// What is nested behind the small world, how deep, and the first fault then. A key that is not named is ignored.
+const NESTED: [(Nest, usize, &str); 15] = [
+    (TABLES, 80, "none"),
+    (TABLES, 81, "1 NotToml"),
+    (TABLES, 200, "1 NotToml"),
+    (ARRAYS, 80, "none"),
+    (ARRAYS, 81, "1 NotToml"),
+    (ARRAYS, 200, "1 NotToml"),
+    (HEADER, 79, "none"),
+    (HEADER, 80, "1 NotToml"),
+    (HEADER, 199, "1 NotToml"),
+    (ARRAY_HEADER, 79, "none"),
+    (ARRAY_HEADER, 80, "1 NotToml"),
+    (ARRAY_HEADER, 199, "1 NotToml"),
+    (DOTTED, 79, "none"),
+    (DOTTED, 80, "1 NotToml"),
+    (DOTTED, 199, "1 NotToml"),
+];
+
+fn nested(alloc: Global, nest: &Nest, depth: usize) -> Result<String, Fail> {
+    let Nest {
+        front,
+        open,
+        inside,
+        close,
+    } = *nest;
+    let open = open.repeat(alloc, depth)?;
+    let close = close.repeat(alloc, depth)?;
+    Ok(format!(in alloc; "{front}{open}{inside}{close}")?)
+}
+
+/// The first fault of the small world with such a text behind it.
+fn fault_nested(alloc: Global, nest: &Nest, depth: usize) -> Result<Text, Fail> {
+    let more = nested(alloc, nest, depth)?;
+    let text = small_with(alloc, more.as_str())?;
+    fault(alloc, text.as_str())
+}
+
+fn nested_are(rt: &impl Abort, alloc: Global, rows: &[(Nest, usize, &str)]) -> Result<(), Fail> {
+    for (nest, depth, wanted) in rows.iter() {
+        let told = fault_nested(alloc, nest, *depth)?;
+        row_is(rt, nest.front, told.as_str(), wanted);
+    }
+    Ok(())
+}
+
+/// A key of 80 parts below a header of 80 is 160 deep.
+fn twice_nested(alloc: Global) -> Result<Text, Fail> {
+    let header = nested(alloc, &HEADER, 79)?;
+    let key = nested(alloc, &DOTTED, 79)?;
+    let text = format!(in alloc; "{SMALL}{header}{key}")?;
+    fault(alloc, text.as_str())
+}
+
+#[test]
+fn nested_texts(rt: HostRuntime) -> Result<(), Fail> {
+    nested_are(&rt, rt.alloc(), &NESTED)?;
+    row_is(&rt, "both", twice_nested(rt.alloc())?.as_str(), "none");
+    Ok(())
 }
 
 fn fault_is(rt: &impl Abort, alloc: Global, text: &str, wanted: &str) -> Result<(), Fail> {
@@ -175,7 +274,5 @@ fn fault_is(rt: &impl Abort, alloc: Global, text: &str, wanted: &str) -> Result<
 #[test]
 fn texts_of_no_world(rt: HostRuntime) -> Result<(), Fail> {
     fault_is(&rt, rt.alloc(), "a = = b", "1 NotToml")?;
-    fault_is(&rt, rt.alloc(), "", "2 Missing rules")?;
-    let text = deep(rt.alloc(), 200)?;
-    fault_is(&rt, rt.alloc(), text.as_str(), "1 NotToml")
+    fault_is(&rt, rt.alloc(), "", "2 Missing rules")
 }

@@ -1,269 +1,275 @@
-//! A disk that stops at each of its calls, while a campaign is founded, a faction joins and sends its orders, and a month is
+//! A disk that stops at each of its calls, while a campaign is founded, a faction joins and sends its orders, and two months are
 //! closed. What works on the disk takes any disk that can crash.
-use super::compare::{is_count, is_number, is_text};
+use super::closing::MONTH_ONE;
+use super::commands::AVALON;
+use super::compare::is_text;
+use super::files::connected;
 use super::founding::told as cause_of;
-use super::mailings::FAULTY;
-use super::making::{close, join, mail, told};
-use super::tables::{FACTIONS, MAILINGS, MONTH, REGION_MONEY, UNITS, number};
-use atl_service::{Cause, Command, Refused, Service, found, open};
-use atl_state::Campaign;
+use super::making::{begun, told};
+use super::opening::rows_in;
+use super::script::{Asked, Step, command_of, plays};
+use super::tables::{BOOKED, FACTIONS, MAILINGS, MONEY, MONTH, NEXT, REGION_MONEY, UNITS};
+use atl_service::{Answer, Command, Refused, Service, found, open};
 use atl_test_worlds::SMALL;
-use sqlite::{Alter, Connection, FileStore, Options};
+use sqlite::{Alter, Connection, Options};
 use sqlite_disk::{Crash, Disk, Files, Fuse, Memory};
 use std::alloc::Global;
 use std::process::Abort;
 use std::test::Fail;
 
-/// How far a founding and the commands behind it came.
-#[derive(Clone, Copy, PartialEq, Eq, Debug)]
-enum Reached {
-    Nothing,
-    /// A campaign was founded, and so many commands were carried out.
-    Done(usize),
-    /// A disk that stopped was answered by another fault than Store, or a command behind it not by Closed.
-    Wrong,
+/// Who guards from the first month on takes taxes in the second.
+const FIRST_MAIL: Asked = Asked::Mail(
+    1,
+    "pw",
+    "#ATLANTIS 1 pw\nUNIT 1\nGUARD 1\nNAME UNIT \"Wardens of Vale\"\n",
+);
+
+/// Of the units that are formed one has a man and a name then, and one has money alone, and is swept.
+const SECOND_MAIL: Asked = Asked::Mail(
+    1,
+    "pw",
+    "#ATLANTIS 1 pw\nUNIT 1\nFORM 1\nEND\nFORM 2\nRECRUIT 1\nNAME UNIT Scouts\nEND\nPAY NEW 1 100\nPAY NEW 2 70\nTAX\n",
+);
+
+const MONTH_TWO: Asked = Asked::Close(2, "gm", &[0]);
+
+/// What is asked of the campaign that was founded.
+const ASKED: [Asked; 5] = [AVALON, FIRST_MAIL, MONTH_ONE, SECOND_MAIL, MONTH_TWO];
+
+/// What is answered where no disk stops.
+const ANSWERED: [Step; 5] = [
+    Step::Joined(AVALON, 1, 1),
+    Step::Mailed(FIRST_MAIL, 2, &[]),
+    Step::Closed(MONTH_ONE, 1),
+    Step::Mailed(SECOND_MAIL, 7, &[]),
+    Step::Closed(MONTH_TWO, 2),
+];
+
+/// Of 1,000 money unit 1 has 1,002 after its first month, in which it works for 12 and pays 10. It pays 170, takes 10 in tax, works and
+/// pays 10 again, and gets the 100 of unit 2, which is swept: 944. Unit 3 recruits for 50, works and pays 10: 22. The region has 500, gets
+/// 1,000 and, of a peasant less, 999, and gives the tax. The people are 1,001.
+const AFTER_BOTH: [(&str, Option<i64>); 8] = [
+    (MONTH, Some(2)),
+    (NEXT, Some(200004)),
+    (FACTIONS, Some(1)),
+    (UNITS, Some(2)),
+    (MAILINGS, Some(0)),
+    (MONEY, Some(966)),
+    (REGION_MONEY, Some(2489)),
+    (BOOKED, Some(4456)),
+];
+
+#[test]
+fn both_months_are_closed(rt: HostRuntime) -> Result<(), Fail> {
+    plays(&rt, rt.alloc(), SMALL, &ANSWERED, &AFTER_BOTH)
 }
 
-/// Whether a service shows what an open one shows.
-fn is_open<S: Alter>(service: &Service<S>) -> bool {
-    service.campaign().is_some() || service.books().is_some()
+/// The commands, and all rows of the campaign behind the founding and behind each of them.
+struct Plan {
+    commands: Vec<Command>,
+    stages: Vec<String>,
 }
 
-/// Runs the commands, up to the one at which the disk stops; those behind it are to be answered Closed.
-fn run_each<S: Alter>(service: &mut Service<S>, commands: &[Command]) -> Reached {
-    let mut done = 0;
+impl Drop for Plan {
+    fn drop(self) {
+        let Plan {
+            commands: _,
+            stages: _,
+        } = self;
+    }
+}
+
+fn commands(alloc: Global) -> Result<Vec<Command>, Fail> {
+    let mut commands = Vec::new(alloc);
+    for asked in ASKED.iter() {
+        commands.push(command_of(alloc, asked)?)?;
+    }
+    Ok(commands)
+}
+
+fn stages<S: Alter>(
+    alloc: Global,
+    service: &mut Service<S>,
+    commands: &[Command],
+) -> Result<Vec<String>, Fail> {
+    let mut stages = Vec::new(alloc);
+    stages.push(rows_in(alloc, service)?)?;
+    for command in commands {
+        let _answer = service.run(command);
+        stages.push(rows_in(alloc, service)?)?;
+    }
+    Ok(stages)
+}
+
+/// What the commands come to where no disk stops.
+fn planned<S: Alter + Drop>(alloc: Global, conn: Connection<S>) -> Result<Plan, Fail> {
+    let commands = commands(alloc)?;
+    let mut service = begun(alloc, conn, SMALL)?;
+    let stages = stages(alloc, &mut service, &commands);
+    let _conn = service.end();
+    Ok(Plan {
+        commands,
+        stages: stages?,
+    })
+}
+
+fn is_done(answer: &Answer) -> bool {
+    matches!(told(answer), "joined" | "mailed" | "month done")
+}
+
+/// Runs the commands, and tells how many are done. The one at which a disk stops is answered Store, and those behind it Closed; then there
+/// is no campaign, and there are no books.
+fn run_each<S: Alter>(rt: &impl Abort, service: &mut Service<S>, commands: &[Command]) -> usize {
+    let mut done = 0usize;
     let mut stopped = false;
     for command in commands {
         let answer = service.run(command);
-        match told(&answer) {
-            "joined" | "mailed" | "month done" if !stopped && done < commands.len() => done += 1,
-            "store" if !stopped => stopped = true,
-            "closed" if stopped => {}
-            _ => return Reached::Wrong,
+        if stopped {
+            is_text(rt, told(&answer), "closed");
+        } else if is_done(&answer) {
+            done = done.saturating_add(1);
+        } else {
+            is_text(rt, told(&answer), "store");
+            stopped = true;
         }
     }
-    if stopped && is_open(service) {
-        return Reached::Wrong;
-    }
-    Reached::Done(done)
+    assert!(rt; service.campaign().is_none() == stopped);
+    assert!(rt; service.books().is_none() == stopped);
+    done
 }
 
-fn refused<S: Alter>(refused: Refused<S>) -> (Reached, Connection<S>) {
-    let Refused { why, conn } = refused;
-    let reached = match &why {
-        Cause::Store => Reached::Nothing,
-        _ => Reached::Wrong,
-    };
-    (reached, conn)
-}
-
-/// Founds a campaign and runs the commands.
-fn run<S: Alter>(
+/// Founds a campaign and runs the commands. Tells how many writings are done, the founding among them.
+fn works<S: Alter>(
+    rt: &impl Abort,
     alloc: Global,
     conn: Connection<S>,
-    commands: &[Command],
-) -> (Reached, Connection<S>) {
+    plan: &Plan,
+) -> (usize, Connection<S>) {
     match found(alloc, conn, SMALL, b"gm") {
         Ok(mut service) => {
-            let reached = run_each(&mut service, commands);
-            (reached, service.end())
+            let done = run_each(rt, &mut service, &plan.commands);
+            (done.saturating_add(1), service.end())
         }
-        Err(why) => refused(why),
+        Err(Refused { why, conn }) => {
+            is_text(rt, cause_of(&why), "store");
+            (0, conn)
+        }
     }
 }
 
-/// The reports that tell more than the first one, which has 161 bytes.
-const LATER_REPORTS: &str = "SELECT count(*) FROM report WHERE length(text) > 161";
-
-const REPORTS: &str = "SELECT count(*) FROM report";
-
-const JOINED: &str = "SELECT next_faction - 1 FROM campaign";
-
-const BOOKINGS: &str = "SELECT count(*) FROM books";
-
-const QUERIES: [&str; 9] = [
-    MONTH,
-    FACTIONS,
-    UNITS,
-    REPORTS,
-    LATER_REPORTS,
-    JOINED,
-    MAILINGS,
-    BOOKINGS,
-    REGION_MONEY,
-];
-
-/// What the tables answer behind the founding, the joining, the mailing and the closing. Money and people are booked under
-/// founding and under joining, and of the month income, wages and upkeep.
-const STAGES: [[i64; 9]; 4] = [
-    [0, 0, 0, 0, 0, 0, 0, 2, 500],
-    [0, 1, 1, 1, 0, 1, 0, 4, 500],
-    [0, 1, 1, 1, 0, 1, 1, 4, 500],
-    [1, 1, 1, 1, 1, 1, 0, 7, 1500],
-];
-
-fn answers<S: Alter>(conn: &mut Connection<S>, wanted: &[i64]) -> bool {
-    for (sql, amount) in QUERIES.iter().zip(wanted.iter()) {
-        if number(conn, sql) != Some(*amount) {
-            return false;
-        }
+/// The same in files, where none is done if they can't be opened. The files come back.
+fn works_in<D: Disk + Drop>(
+    rt: &impl Abort,
+    alloc: Global,
+    files: Files<D>,
+    plan: &Plan,
+) -> Result<(usize, Files<D>), Fail> {
+    if !files.may_be_used() {
+        return Err(Fail::new("the files can't be used"));
     }
-    true
-}
-
-/// Behind how many commands the tables are, where there are tables; a part of a writing is an error.
-fn stage<S: Alter>(conn: &mut Connection<S>) -> Result<Option<usize>, Fail> {
-    let mut stage = None;
-    for (place, wanted) in STAGES.iter().enumerate() {
-        if answers(conn, wanted) {
-            stage = Some(place);
+    match Connection::open_files(alloc, files, Options::new(2)) {
+        Ok(conn) => {
+            let (done, conn) = works(rt, alloc, conn, plan);
+            Ok((done, conn.into_store().close()))
         }
-    }
-    if stage.is_none() && number(conn, MONTH).is_some() {
-        return Err(Fail::new("a part of a writing"));
-    }
-    Ok(stage)
-}
-
-/// The month, the factions, and whether the first one's mail is kept, behind each command.
-const CAMPAIGNS: [(i64, usize, bool); 4] = [
-    (0, 0, false),
-    (0, 1, false),
-    (0, 1, true),
-    (1, 1, false),
-];
-
-/// Asserts that a campaign is the one behind so many commands.
-fn is_behind(rt: &impl Abort, campaign: Option<&Campaign>, stage: Option<usize>) {
-    match (campaign, CAMPAIGNS.get(stage.unwrap_or(4))) {
-        (Some(campaign), Some((month, factions, has_mail))) => {
-            is_number(rt, i64::from(campaign.month()), *month);
-            is_count(rt, campaign.faction_count(), *factions);
-            assert!(rt; campaign.mail_of(1).is_some() == *has_mail);
-        }
-        _ => assert!(rt; false),
+        Err((_, left)) => Ok((0, left.into_files())),
     }
 }
 
-/// Asserts that a database is opened with the campaign behind so many commands, or that it holds none.
-fn is_opened<S: Alter + Drop>(
+fn crashed<D: Crash>(files: Files<D>) -> Files<D> {
+    let Files { mut log, mut db } = files;
+    log.crash();
+    db.crash();
+    Files { log, db }
+}
+
+/// Behind how many writings these rows are.
+fn place_of(plan: &Plan, rows: &str) -> Result<usize, Fail> {
+    for (place, stage) in plan.stages.iter().enumerate() {
+        if stage.as_str() == rows {
+            return Ok(place.saturating_add(1));
+        }
+    }
+    Err(Fail::new("a part of a writing"))
+}
+
+fn place_in<S: Alter>(alloc: Global, service: &Service<S>, plan: &Plan) -> Result<usize, Fail> {
+    let rows = rows_in(alloc, service)?;
+    place_of(plan, rows.as_str())
+}
+
+/// Behind how many writings a database is, when it is opened as a campaign.
+fn left_in<S: Alter + Drop>(
     rt: &impl Abort,
     alloc: Global,
     conn: Connection<S>,
-    stage: Option<usize>,
-) {
+    plan: &Plan,
+) -> Result<usize, Fail> {
     match open(alloc, conn) {
-        Ok(service) => is_behind(rt, service.campaign(), stage),
+        Ok(service) => place_in(alloc, &service, plan),
         Err(Refused { why, conn: _ }) => {
             is_text(rt, cause_of(&why), "not a campaign");
-            assert!(rt; stage.is_none());
+            Ok(0)
         }
     }
 }
 
-fn connected<D: Disk + Drop>(
-    alloc: Global,
-    files: Files<D>,
-    seed: u64,
-) -> Option<Connection<FileStore<D>>> {
-    if !files.may_be_used() {
-        return None;
-    }
-    Connection::open_files(alloc, files, Options::new(seed)).ok()
-}
-
-/// Founds a campaign in these files and runs the commands. The files come back as a crash leaves them.
-fn interrupted<D: Crash + Drop>(
-    alloc: Global,
-    files: Files<D>,
-    commands: &[Command],
-) -> Option<(Reached, Files<D>)> {
-    let conn = connected(alloc, files, 1)?;
-    let (reached, conn) = run(alloc, conn, commands);
-    let Files { mut log, mut db } = conn.into_store().close();
-    log.crash();
-    db.crash();
-    Some((reached, Files { log, db }))
-}
-
-/// Behind how many commands a database is, by its tables and when it is opened as a campaign.
-fn looked_at<S: Alter + Drop>(
-    rt: &impl Abort,
-    alloc: Global,
-    mut conn: Connection<S>,
-) -> Result<Option<usize>, Fail> {
-    let stage = stage(&mut conn)?;
-    is_opened(rt, alloc, conn, stage);
-    Ok(stage)
-}
-
-/// Asserts that a crash left the campaign before or the one after.
-fn is_whole(rt: &impl Abort, reached: Reached, found: Option<usize>) {
-    match (reached, found) {
-        (Reached::Nothing, None | Some(0)) => {}
-        (Reached::Done(done), Some(stage)) => {
-            assert!(rt; stage == done || done < 3 && stage == done + 1);
-        }
-        _ => assert!(rt; false),
-    }
-}
-
-/// How far the commands came in these files, which a crash leaves whole.
+/// Works in these files, and tells how many writings are done. A crash leaves the campaign behind them, or that behind the next one.
 fn stopped<D: Crash + Drop>(
     rt: &impl Abort,
     alloc: Global,
     files: Files<D>,
-    commands: &[Command],
-) -> Result<Reached, Fail> {
-    let Some((reached, left)) = interrupted(alloc, files, commands) else {
-        return Ok(Reached::Nothing);
-    };
-    let conn = connected(alloc, left, 2).ok_or("reopen")?;
-    let found = looked_at(rt, alloc, conn)?;
-    is_whole(rt, reached, found);
-    Ok(reached)
+    plan: &Plan,
+) -> Result<usize, Fail> {
+    let (done, files) = works_in(rt, alloc, files, plan)?;
+    let conn = connected(alloc, crashed(files))?;
+    let left = left_in(rt, alloc, conn, plan)?;
+    assert!(rt; left == done || left == done.saturating_add(1));
+    Ok(done)
 }
 
-/// A log and a database on disks that pass so many calls on.
-fn stopping(alloc: Global, log: u64, db: u64) -> Files<Fuse<Memory>> {
+/// Which of the two disks stops.
+#[derive(Clone, Copy, PartialEq, Eq, Debug)]
+enum WhichDisk {
+    Log,
+    Database,
+}
+
+/// A log and a database, one on a disk that passes so many calls on.
+fn stopping(alloc: Global, which: WhichDisk, calls: u64) -> Files<Fuse<Memory>> {
+    let (log, db) = match which {
+        WhichDisk::Log => (calls, u64::MAX),
+        WhichDisk::Database => (u64::MAX, calls),
+    };
     Files {
         log: Fuse::new(Memory::new(alloc), log),
         db: Fuse::new(Memory::new(alloc), db),
     }
 }
 
-/// The disk of the log stops at each of its calls, up to one that is past the last.
-fn stops_log(rt: &impl Abort, alloc: Global, commands: &[Command]) -> Result<(), Fail> {
-    let mut last = Reached::Nothing;
-    for calls in 0..40 {
-        last = stopped(rt, alloc, stopping(alloc, calls, u64::MAX), commands)?;
-    }
-    assert!(rt; last == Reached::Done(3));
-    Ok(())
-}
+/// More calls than a disk gets.
+const MANY_CALLS: u64 = 1_000;
 
-/// The disk of the database stops at each of its calls, up to one that is past the last.
-fn stops_db(rt: &impl Abort, alloc: Global, commands: &[Command]) -> Result<(), Fail> {
-    let mut last = Reached::Nothing;
-    for calls in 0..15 {
-        last = stopped(rt, alloc, stopping(alloc, u64::MAX, calls), commands)?;
+/// A disk stops at each of its calls, the first one too, up to a run in which it doesn't.
+fn stops(rt: &impl Abort, alloc: Global, plan: &Plan, which: WhichDisk) -> Result<(), Fail> {
+    for calls in 0..MANY_CALLS {
+        let done = stopped(rt, alloc, stopping(alloc, which, calls), plan)?;
+        if done == plan.stages.len() {
+            assert!(rt; calls > 0);
+            return Ok(());
+        }
     }
-    assert!(rt; last == Reached::Done(3));
-    Ok(())
-}
-
-/// A joining, a mailing and a closing.
-fn commands(alloc: Global) -> Result<Vec<Command>, Fail> {
-    let mut commands = Vec::new(alloc);
-    commands.push(join(alloc, "Avalon", "pw", 0)?)?;
-    commands.push(mail(alloc, 1, "pw", FAULTY)?)?;
-    commands.push(close(alloc, 1, "gm", &[0])?)?;
-    Ok(commands)
+    Err(Fail::new("stopped each time"))
 }
 
 #[test]
-fn a_stopped_disk_leaves_no_part(rt: HostRuntime) -> Result<(), Fail> {
-    let commands = commands(rt.alloc())?;
-    stops_log(&rt, rt.alloc(), &commands)?;
-    stops_db(&rt, rt.alloc(), &commands)
+fn the_log_stops(rt: HostRuntime) -> Result<(), Fail> {
+    let plan = planned(rt.alloc(), Connection::open_in_memory(rt.alloc())?)?;
+    stops(&rt, rt.alloc(), &plan, WhichDisk::Log)
+}
+
+#[test]
+fn the_database_stops(rt: HostRuntime) -> Result<(), Fail> {
+    let plan = planned(rt.alloc(), Connection::open_in_memory(rt.alloc())?)?;
+    stops(&rt, rt.alloc(), &plan, WhichDisk::Database)
 }

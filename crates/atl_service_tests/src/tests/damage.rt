@@ -96,6 +96,28 @@ const ROWS: [(&str, Told); 22] = [
     ),
 ];
 
+/// Makes the table of units anew without STRICT; unit 1 has this for its money. More statements may follow.
+macro_rules! loose_units {
+    ($money:literal $(, $more:literal)?) => {
+        concat!(
+            "DROP TABLE unit; CREATE TABLE unit (number INTEGER NOT NULL PRIMARY KEY, faction INTEGER NOT NULL, name TEXT NOT NULL, region INTEGER NOT NULL, structure INTEGER NOT NULL, men INTEGER NOT NULL, money INTEGER NOT NULL, guard INTEGER NOT NULL); INSERT INTO unit VALUES (1, 1, 'Unit 1', 3, 0, 1, ",
+            $money,
+            ", 0), (2, 2, 'Unit 2', 3, 0, 1, 1000, 0)"
+            $(, $more)?
+        )
+    };
+}
+
+/// Makes the campaign's own table anew without STRICT; its row has `x` for its format. More statements may follow.
+macro_rules! loose_campaign {
+    ($($more:literal)?) => {
+        concat!(
+            "DROP TABLE campaign; CREATE TABLE campaign (id INTEGER NOT NULL PRIMARY KEY CHECK (id = 1), format INTEGER NOT NULL, month INTEGER NOT NULL, next_faction INTEGER NOT NULL, next_unit INTEGER NOT NULL, next_structure INTEGER NOT NULL, pass TEXT NOT NULL, world TEXT NOT NULL); INSERT INTO campaign VALUES (1, 'x', 0, 3, 3, 1, 'gm', 'no world')"
+            $(, $more)?
+        )
+    };
+}
+
 /// The same, where tables and indexes are made otherwise.
 const SHAPES: [(&str, Told); 10] = [
     ("DROP TABLE campaign", Told::NotACampaign),
@@ -104,18 +126,9 @@ const SHAPES: [(&str, Told); 10] = [
         Told::NotACampaign,
     ),
     ("DROP TABLE unit", Told::Store),
-    (
-        "DROP TABLE campaign; CREATE TABLE campaign (id INTEGER NOT NULL PRIMARY KEY CHECK (id = 1), format INTEGER NOT NULL, month INTEGER NOT NULL, next_faction INTEGER NOT NULL, next_unit INTEGER NOT NULL, next_structure INTEGER NOT NULL, pass TEXT NOT NULL, world TEXT NOT NULL); INSERT INTO campaign VALUES (1, 'x', 0, 3, 3, 1, 'gm', 'no world')",
-        Told::Damaged(1),
-    ),
-    (
-        "DROP TABLE unit; CREATE TABLE unit (number INTEGER NOT NULL PRIMARY KEY, faction INTEGER NOT NULL, name TEXT NOT NULL, region INTEGER NOT NULL, structure INTEGER NOT NULL, men INTEGER NOT NULL, money INTEGER NOT NULL, guard INTEGER NOT NULL); INSERT INTO unit VALUES (1, 1, 'Unit 1', 3, 0, 1, 'x', 0), (2, 2, 'Unit 2', 3, 0, 1, 1000, 0)",
-        Told::Damaged(2),
-    ),
-    (
-        "DROP TABLE unit; CREATE TABLE unit (number INTEGER NOT NULL PRIMARY KEY, faction INTEGER NOT NULL, name TEXT NOT NULL, region INTEGER NOT NULL, structure INTEGER NOT NULL, men INTEGER NOT NULL, money INTEGER NOT NULL, guard INTEGER NOT NULL); INSERT INTO unit VALUES (1, 1, 'Unit 1', 3, 0, 1, 1000, 0), (2, 2, 'Unit 2', 3, 0, 1, 1000, 0)",
-        Told::Store,
-    ),
+    (loose_campaign!(), Told::Damaged(1)),
+    (loose_units!("'x'"), Told::Damaged(2)),
+    (loose_units!("1000"), Told::Store),
     (
         "DROP TABLE mail; CREATE TABLE mail (text BLOB NOT NULL, faction INTEGER NOT NULL PRIMARY KEY) STRICT",
         Told::Store,
@@ -127,6 +140,62 @@ const SHAPES: [(&str, Told); 10] = [
     ("CREATE VIEW rich AS SELECT number FROM unit", Told::Store),
     (
         "CREATE TABLE notes (unit INTEGER REFERENCES unit (number))",
+        Told::Store,
+    ),
+];
+
+/// The same, where two faults meet. In this order are told: the campaign's own row can't be asked for; it breaks the first rule; another
+/// table can't be read; a value of another type; tables made otherwise; rows that break a later rule.
+const MEETINGS: [(&str, Told); 15] = [
+    ("DROP TABLE campaign; DROP TABLE unit", Told::NotACampaign),
+    (
+        "DROP TABLE campaign; CREATE VIEW rich AS SELECT number FROM unit",
+        Told::NotACampaign,
+    ),
+    (
+        loose_units!("'x'", "; DROP TABLE campaign"),
+        Told::NotACampaign,
+    ),
+    (
+        "DROP TABLE unit; UPDATE campaign SET format = 2",
+        Told::Damaged(1),
+    ),
+    (loose_campaign!("; DROP TABLE books"), Told::Damaged(1)),
+    (
+        loose_units!("'x'", "; UPDATE campaign SET format = 2"),
+        Told::Damaged(1),
+    ),
+    (
+        "CREATE VIEW rich AS SELECT number FROM unit; UPDATE campaign SET world = 'no world'",
+        Told::Damaged(1),
+    ),
+    (loose_units!("'x'", "; DROP TABLE faction"), Told::Store),
+    (loose_units!("'x'", "; DROP TABLE books"), Told::Store),
+    (
+        loose_units!(
+            "'x'",
+            "; DROP TABLE books; CREATE TABLE books (entry INTEGER NOT NULL PRIMARY KEY) STRICT"
+        ),
+        Told::Store,
+    ),
+    (
+        "DROP TABLE books; UPDATE campaign SET month = 10000",
+        Told::Store,
+    ),
+    (
+        loose_units!("'x'", "; UPDATE campaign SET next_unit = 2"),
+        Told::Damaged(2),
+    ),
+    (
+        loose_units!("'x'", "; UPDATE faction SET name = ' x' WHERE number = 2"),
+        Told::Damaged(2),
+    ),
+    (
+        loose_units!("1000", "; UPDATE campaign SET next_unit = 2"),
+        Told::Store,
+    ),
+    (
+        "CREATE VIEW rich AS SELECT number FROM unit; UPDATE campaign SET month = 10000",
         Told::Store,
     ),
 ];
@@ -184,26 +253,47 @@ fn tables_made_otherwise_are_refused(rt: HostRuntime) -> Result<(), Fail> {
 }
 
 #[test]
+fn of_two_faults_the_first_is_told(rt: HostRuntime) -> Result<(), Fail> {
+    are_judged(&rt, rt.alloc(), &MEETINGS)
+}
+
+#[test]
 fn an_empty_database_is_no_campaign(rt: HostRuntime) -> Result<(), Fail> {
     let conn = Connection::open_in_memory(rt.alloc())?;
     is_told(&rt, asked(rt.alloc(), conn), Told::NotACampaign, "nothing");
     Ok(())
 }
 
+/// Statements that leave a transaction open, of a good campaign and where other faults meet.
+const BEGUN: [&str; 5] = [
+    "BEGIN",
+    "BEGIN; DROP TABLE campaign",
+    "DELETE FROM campaign; BEGIN",
+    loose_units!("'x'", "; BEGIN"),
+    "UPDATE unit SET guard = 1; BEGIN",
+];
+
 /// Asserts that nothing is opened in the midst of a transaction.
 fn waits_for_the_end<S: Alter + Drop>(
     rt: &impl Abort,
     alloc: Global,
     conn: Connection<S>,
+    sql: &str,
 ) -> Result<(), Fail> {
     let mut conn = island(rt, alloc, conn)?;
-    conn.execute("BEGIN", &[])?;
-    is_told(rt, asked(alloc, conn), Told::Store, "BEGIN");
+    conn.execute_batch(sql)?;
+    is_told(rt, asked(alloc, conn), Told::Store, sql);
+    Ok(())
+}
+
+fn wait_for_the_end(rt: &impl Abort, alloc: Global) -> Result<(), Fail> {
+    for sql in BEGUN.iter() {
+        waits_for_the_end(rt, alloc, Connection::open_in_memory(alloc)?, sql)?;
+    }
     Ok(())
 }
 
 #[test]
 fn a_transaction_is_not_opened(rt: HostRuntime) -> Result<(), Fail> {
-    let conn = Connection::open_in_memory(rt.alloc())?;
-    waits_for_the_end(&rt, rt.alloc(), conn)
+    wait_for_the_end(&rt, rt.alloc())
 }

@@ -43,16 +43,50 @@ pub(crate) fn is_refused<S: Alter + Drop>(
     }
 }
 
-/// World texts and pass texts, and the first check that fails.
-const REFUSED: [(&str, &str, &str); 2] = [
-    ("a = = b", "a b", "world"),
-    (SMALL, "a b", "bad pass text"),
+/// Statements on an empty database, a world text and a pass text, and the first check that fails.
+const REFUSED: [(&str, &str, &str, &str); 8] = [
+    ("", "a = = b", "a b", "world"),
+    ("", SMALL, "a b", "bad pass text"),
+    ("BEGIN", "a = = b", "gm", "world"),
+    (
+        "CREATE TABLE campaign (x INTEGER)",
+        SMALL,
+        "a b",
+        "bad pass text",
+    ),
+    (
+        "CREATE TABLE campaign (x INTEGER); BEGIN",
+        SMALL,
+        "gm",
+        "not empty",
+    ),
+    (
+        "CREATE TABLE notes (words TEXT); CREATE TABLE campaign (x INTEGER)",
+        SMALL,
+        "gm",
+        "not empty",
+    ),
+    ("CREATE TABLE notes (words TEXT)", SMALL, "gm", "store"),
+    ("BEGIN", SMALL, "gm", "store"),
 ];
 
+fn is_refused_after<S: Alter + Drop>(
+    rt: &impl Abort,
+    alloc: Global,
+    conn: Connection<S>,
+    refused: &(&str, &str, &str, &str),
+) -> Result<(), Fail> {
+    let (sql, world, pass, words) = *refused;
+    let mut conn = conn;
+    conn.execute_batch(sql)?;
+    is_refused(rt, alloc, conn, world, pass, words);
+    Ok(())
+}
+
 fn are_refused(rt: &impl Abort, alloc: Global) -> Result<(), Fail> {
-    for (world, pass, words) in REFUSED.iter() {
+    for refused in REFUSED.iter() {
         let conn = Connection::open_in_memory(alloc)?;
-        is_refused(rt, alloc, conn, world, pass, words);
+        is_refused_after(rt, alloc, conn, refused)?;
     }
     Ok(())
 }

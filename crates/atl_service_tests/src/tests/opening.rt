@@ -55,7 +55,7 @@ fn rows_of(alloc: Global, campaign: &Campaign) -> Result<String, Fail> {
     Ok(format!(in alloc; "{parts:?}")?)
 }
 
-fn rows_in<S: Alter>(alloc: Global, service: &Service<S>) -> Result<String, Fail> {
+pub(crate) fn rows_in<S: Alter>(alloc: Global, service: &Service<S>) -> Result<String, Fail> {
     rows_of(alloc, service.campaign().ok_or("closed")?)
 }
 
