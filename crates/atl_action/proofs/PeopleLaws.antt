@@ -19,6 +19,7 @@ use Rattle.atl_state.proofs.RegionLaws.{same_len}
 use Rattle.atl_instant.specs.Meaning.{IsSameMonth}
 use Rattle.atl_instant.specs.Steps.{StepsWell}
 use Rattle.atl_instant.specs.Unbooked.{books_nothing}
+use Rattle.atl_instant.proofs.OutcomeLaws.{false_true}
 use Rattle.atl_instant.proofs.StructureLaws.{at_number, get-changed}
 use Rattle.atl_action.proofs.TravelLaws.{IsSameUnit}
 use Rattle.atl_instant.proofs.StepLaws.{not_drawn}
@@ -33,9 +34,6 @@ people_same m = record { count = refl; of_factions = λ k. refl; hold = λ t. re
 
 pub people_twice : (a b c : FinMap nat_cmp Unit) → AreSamePeople a b → AreSamePeople b c → AreSamePeople a c
 people_twice a b c one two = record { count = two.count ∙ one.count; of_factions = λ k. two.of_factions k ∙ one.of_factions k; hold = λ t. two.hold t ∙ one.hold t }
-
-false_true : {P : Type 0} → false ≡ true → P
-false_true e = cc
 
 held_same : (u v : Unit) → IsSameUnit u v → (t : Thing) → held t v.holding ≡ held t u.holding
 held_same u v same Money = same.money

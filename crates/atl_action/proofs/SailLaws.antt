@@ -1,6 +1,6 @@
 -- SAIL leaves a campaign well, and takes along at most who is inside a ship.
 use Rattle.std.proofs.Common.{◌≡◌, ◌≢◌, ◌==◌, ◌&&◌, ◌||◌, ◌+◌, ℕ, Bool, true, false, not, List, [], ◌∷◌, sum_by, Option, Some, None, refl, sym, ap, subst, ◌∙◌, inl, inr, arith}
-use Rattle.std.specs.Prelude.{fold, nat_lt, option_map, unwrap_or, if◌then◌else◌}
+use Rattle.std.specs.Prelude.{IfSome, fold, nat_lt, option_map, unwrap_or, if◌then◌else◌}
 use Rattle.std.specs.List.{AllByRecursion, list_any}
 use Rattle.std.specs.Option.{option_map_or}
 use Rattle.std.specs.Ordering.{nat_cmp}
@@ -16,7 +16,7 @@ use Rattle.atl_tables.specs.ByNumber.{is_land_at, neighbour, size_of}
 use Rattle.atl_orders.specs.declared.order.Order.TheVariants as orders
 use Rattle.atl_orders.specs.Orders.{Said}
 use Rattle.atl_state.specs.declared.event.EventFault.{EventFault}
-use Rattle.atl_state.specs.declared.event.EventFault.TheVariants.{NoCrew, NoMen, NotComplete, NotInside, NotOwner, NotYours, NoWay, TooHeavy}
+use Rattle.atl_state.specs.declared.event.EventFault.TheVariants.{NoCrew, NoMen, NotComplete, NotInside, NotOwner, NoWay, TooHeavy}
 use Rattle.atl_state.specs.declared.event.Outcome.{Outcome}
 use Rattle.atl_state.specs.declared.event.Outcome.TheVariants.{Done, Fault}
 use Rattle.atl_state.specs.declared.records.Structure.{Structure}
@@ -34,19 +34,16 @@ use Rattle.atl_instant.specs.Course.{Course}
 use Rattle.atl_instant.specs.Inside.{inside}
 use Rattle.atl_instant.specs.Outcomes.{first_fault, unless}
 use Rattle.atl_instant.specs.PhaseOrders.{Task, orders_of}
-use Rattle.atl_instant.specs.Steps.{IsOrderly, IsSpared, IsSparing, StepsWell, carried_out, is_of_faction, is_own, one_order, spares_others, takes_all}
+use Rattle.atl_instant.specs.Steps.{IsOrderly, IsSpared, IsSparing, StepsWell, carried, carried_out, done_for, of_faction, one_order, ordered, spares_others}
 use Rattle.atl_instant.specs.Unbooked.{books_nothing, moves_nothing}
-use Rattle.atl_instant.proofs.OutcomeLaws.{none_fits}
+use Rattle.atl_instant.proofs.OutcomeLaws.{false_true, none_fits}
 use Rattle.atl_instant.proofs.StructureLaws.{at_number, changed_else, equal, get-changed, is_equal, is_unequal, len-changed, unequal}
-use Rattle.atl_instant.proofs.StepLaws.{well_same}
+use Rattle.atl_instant.proofs.StepLaws.{carried_cases, well_same}
 use Rattle.atl_instant.specs.Staying.{IsUnchanged}
-use Rattle.atl_action.specs.Sail.{AreCarried, IsCarried, SailsWith, capacity, concerns_nobody, crew_needed, crew_of, is_complete_ship, is_sailing, is_way, of_unit, sail, sail_by, sail_fault, sail_meaning, sail_said, sail_step, sailed, sum_inside, taken_along}
+use Rattle.atl_action.specs.Sail.{AreCarried, IsCarried, SailsWith, capacity, concerns_nobody, crew_needed, crew_of, is_complete_ship, is_sailing, is_way, of_unit, sail, sail_fault, sail_meaning, sail_said, sail_step, sailed, sum_inside, taken_along}
 use Rattle.atl_action.specs.Ways.{is_region}
 use Rattle.atl_action.proofs.PeopleLaws.{AreSamePeople, elsewhere, elsewhere_at, elsewhere_inside, elsewhere_people, gone_if, gone_same, guards_stay, people_same, people_twice, steady_well, total_people}
 use Rattle.atl_action.proofs.TravelLaws.{AreTravelled, IsPut, IsSameStructure, steady-travelled, travelled, under}
-
-false_true : {P : Type 0} → false ≡ true → P
-false_true e = cc
 
 abbrev structure_in : Option Unit → ℕ
 structure_in o = option_map_or (λ (x : Unit). x.structure) o 0
@@ -343,20 +340,21 @@ way_there w from None t = false_true (sym t)
 way_there w from (Some r) t = region_there w r (and_parts (is_region w r) (not (is_land_at w from && is_land_at w r)) (not-false (is_way w from (Some r)) t)).0
 
 -- what is so of the campaign as it is, and of that in which a whole ship has gone, is so of the campaign behind the order
-sail_cases : (P : State × Outcome → Type 0) (w : Planet) (c : State) (n : ℕ) (direction : Direction) → ((outcome : Outcome) → P (c, outcome))
-    → ((ship to : ℕ) (x : Structure) → get c.structures ship ≡ Some x → is_ship w x ≡ true → x.done ≡ size_of w x.kind → IsThere w.regions to → inside c n ≡ ship → P (sailed c ship to, Done 0)) → P (sail w c n direction)
+sail_cases : (P : State × Outcome → Type 0) (w : Planet) (c : State) (n : ℕ) (u : Unit) (direction : Direction) → ((outcome : Outcome) → P (c, outcome))
+    → ((to : ℕ) (x : Structure) → get c.structures u.structure ≡ Some x → is_ship w x ≡ true → x.done ≡ size_of w x.kind → IsThere w.regions to → P (sailed c u.structure to, Done 0)) → P (sail w n direction c u)
 unfolding sail
-sail_cases P w c n direction same gone_off = by_unit (get c.units n) refl
+sail_cases P w c n u direction same gone_off =
+    by_fault (neighbour w u.region direction) (sail_fault w c n u (get c.structures u.structure) (neighbour w u.region direction)) refl
   where
-    by_ship : (u : Unit) → get c.units n ≡ Some u → (to : Option ℕ) (o : Option Structure) → get c.structures u.structure ≡ o → not (is_complete_ship w o) ≡ false → not (is_way w u.region to) ≡ false → P (sailed c u.structure (unwrap_or to 0), Done 0)
-    by_ship u here to None at whole way = false_true (sym whole)
-    by_ship u here to (Some x) at whole way =
+    by_ship : (to : Option ℕ) (o : Option Structure) → get c.structures u.structure ≡ o → not (is_complete_ship w o) ≡ false → not (is_way w u.region to) ≡ false → P (sailed c u.structure (unwrap_or to 0), Done 0)
+    by_ship to None at whole way = false_true (sym whole)
+    by_ship to (Some x) at whole way =
         let parts = and_parts (is_ship w x) (x.done == size_of w x.kind) (not-false (is_complete_ship w (Some x)) whole) in
-        gone_off u.structure (unwrap_or to 0) x at parts.0 (is_equal x.done (size_of w x.kind) parts.1) (way_there w u.region to way) (ap structure_in here)
+        gone_off (unwrap_or to 0) x at parts.0 (is_equal x.done (size_of w x.kind) parts.1) (way_there w u.region to way)
 
-    by_fault : (u : Unit) → get c.units n ≡ Some u → (to : Option ℕ) (o : Option EventFault) → sail_fault w c n u (get c.structures u.structure) to ≡ o → P (unless c o (sailed c u.structure (unwrap_or to 0), Done 0))
-    by_fault u here to (Some fault) e = same (Fault (event_fault_number fault))
-    by_fault u here to None e =
+    by_fault : (to : Option ℕ) (o : Option EventFault) → sail_fault w c n u (get c.structures u.structure) to ≡ o → P (unless c o (sailed c u.structure (unwrap_or to 0), Done 0))
+    by_fault to (Some fault) e = same (Fault (event_fault_number fault))
+    by_fault to None e =
         let ship = get c.structures u.structure in
         let heavy = (nat_lt (capacity w ship) (sum_inside (load_of w) c u.structure), TooHeavy) ∷ [] in
         let crew = (nat_lt (sum_inside (crew_of w) c u.structure) (crew_needed w ship), NoCrew) ∷ heavy in
@@ -368,37 +366,33 @@ sail_cases P w c n direction same gone_off = by_unit (get c.units n) refl
         let three = none_fits (not (is_owned_by ship n)) NotOwner whole two.1 in
         let four = none_fits (not (is_complete_ship w ship)) NotComplete way three.1 in
         let five = none_fits (not (is_way w u.region to)) NoWay crew four.1 in
-        by_ship u here to ship refl four.0 five.0
+        by_ship to ship refl four.0 five.0
 
-    by_unit : (o : Option Unit) → get c.units n ≡ o → P (sail_by w c n direction o)
-    by_unit None there = same (Fault (event_fault_number NotYours))
-    by_unit (Some u) there = by_fault u there (neighbour w u.region direction) (sail_fault w c n u (get c.structures u.structure) (neighbour w u.region direction)) refl
+sail_well : (w : Planet) (c : State) (n : ℕ) (u : Unit) (direction : Direction) → IsSteady w c → StepsWell IsSteady books_nothing w c (sail w n direction c u).0
+sail_well w c n u direction steady =
+    sail_cases (λ p. StepsWell IsSteady books_nothing w c p.0) w c n u direction (λ outcome. well_same w c steady)
+    (λ to x at floats whole there. sailed_well w c u.structure to steady x at floats whole ((steady.known.regions to).1 there))
 
-sail_well : (w : Planet) (c : State) (n : ℕ) (direction : Direction) → IsSteady w c → StepsWell IsSteady books_nothing w c (sail w c n direction).0
-sail_well w c n direction steady =
-    sail_cases (λ p. StepsWell IsSteady books_nothing w c p.0) w c n direction (λ outcome. well_same w c steady)
-    (λ ship to x at floats whole there here. sailed_well w c ship to steady x at floats whole ((steady.known.regions to).1 there))
-
-sail_spares : (w : Planet) (c : State) (n : ℕ) (direction : Direction) → IsSteady w c → (k : ℕ) (v : Unit) → get c.units k ≡ Some v → IsSpared IsCarried (sail w c n direction).0 k v
-sail_spares w c n direction steady k v there =
-    sail_cases (λ p. IsSpared IsCarried p.0 k v) w c n direction (λ outcome. record { unit = v; there = there; spared = carried_same v })
-    (λ ship to x at floats whole near here. sailed_spares w c ship to steady x at k v there)
+sail_spares : (w : Planet) (c : State) (n : ℕ) (u : Unit) (direction : Direction) → IsSteady w c → (k : ℕ) (v : Unit) → get c.units k ≡ Some v → IsSpared IsCarried (sail w n direction c u).0 k v
+sail_spares w c n u direction steady k v there =
+    sail_cases (λ p. IsSpared IsCarried p.0 k v) w c n u direction (λ outcome. record { unit = v; there = there; spared = carried_same v })
+    (λ to x at floats whole near. sailed_spares w c u.structure to steady x at k v there)
 
 pub sail_orderly : IsOrderly sail_step IsSteady books_nothing moves_nothing concerns_nobody IsCarried
 sail_orderly = record {
-  well = λ w a c t steady fit own. well w c t.unit steady t.said;
+  well = λ w a c t x steady fit own. well w c t.unit x steady t.said;
   sparing = carried_spares;
-  spared = λ w a c t steady own k v there apart. spared w c t.unit steady k v there t.said;
+  spared = λ w a c t x steady own k v there apart. spared w c t.unit x steady k v there t.said;
   bounded = λ w c steady e t. omega arith;
 }
   where
-    well : (w : Planet) (c : State) (n : ℕ) → IsSteady w c → (s : Said) → StepsWell IsSteady books_nothing w c (sail_said w c n s).0
-    well w c n steady (orders.Sail direction) = sail_well w c n direction steady
-    well w c n steady other = well_same w c steady
+    well : (w : Planet) (c : State) (n : ℕ) (x : Unit) → IsSteady w c → (s : Said) → IfSome (sail_said w n s) (λ deed. StepsWell IsSteady books_nothing w c (deed c x).0)
+    well w c n x steady (orders.Sail direction) = sail_well w c n x direction steady
+    well w c n x steady other = tt
 
-    spared : (w : Planet) (c : State) (n : ℕ) → IsSteady w c → (k : ℕ) (v : Unit) → get c.units k ≡ Some v → (s : Said) → IsSpared IsCarried (sail_said w c n s).0 k v
-    spared w c n steady k v there (orders.Sail direction) = sail_spares w c n direction steady k v there
-    spared w c n steady k v there other = record { unit = v; there = there; spared = carried_same v }
+    spared : (w : Planet) (c : State) (n : ℕ) (x : Unit) → IsSteady w c → (k : ℕ) (v : Unit) → get c.units k ≡ Some v → (s : Said) → IfSome (sail_said w n s) (λ deed. IsSpared IsCarried (deed c x).0 k v)
+    spared w c n x steady k v there (orders.Sail direction) = sail_spares w c n x direction steady k v there
+    spared w c n x steady k v there other = tt
 
 pub all_carried : (w : Planet) (m : Course) (c d : State) → spares_others concerns_nobody IsCarried is_sailing w m c d → AreCarried c d
 all_carried w m c d keeps n u there = keeps n u there (λ k d l nobody. nobody)
@@ -456,16 +450,24 @@ module _ (w : Planet) (begun : State) (number faction : ℕ) where
         ∙ ap (fault_with w n u to (get begun.structures u.structure) (sum_inside (crew_of w) begun u.structure)) (subst (λ q. sum_inside (load_of w) c q ≡ sum_inside (load_of w) begun q) (sym here) (sum_inside_same (load_of w)))
 
     -- an order for a unit inside comes to what it would have come to as the phase began
-    told_same : (n : ℕ) (direction : Direction) → inside begun n ≡ s → (sail w c n direction).1 ≡ (sail w begun n direction).1
+    told_same : (n : ℕ) (u : Unit) (direction : Direction) → u.structure ≡ s → (sail w n direction c u).1 ≡ (sail w n direction begun u).1
     unfolding sail
-    told_same n direction here = ap (λ o. (sail_by w c n direction o).1) (same.units n here) ∙ by_unit (get begun.units n) here
+    told_same n u direction here =
+        let to = neighbour w u.region direction in
+        ap (λ o. (unless c o (sailed c u.structure (unwrap_or to 0), Done 0)).1) (fault_same n u to here)
+        ∙ unless_told c begun (sailed c u.structure (unwrap_or to 0)) (sailed begun u.structure (unwrap_or to 0)) (sail_fault w begun n u (get begun.structures u.structure) to)
+
+    -- and so where the unit may be another faction's
+    carried_same_told : (f n : ℕ) (direction : Direction) → inside begun n ≡ s → (carried (sail w n direction) c f n).1 ≡ (carried (sail w n direction) begun f n).1
+    carried_same_told f n direction here = ap (λ o. (done_for (sail w n direction) c (of_faction f o)).1) (same.units n here) ∙ by_unit (get begun.units n) here
       where
-        by_unit : (o : Option Unit) → structure_in o ≡ s → (sail_by w c n direction o).1 ≡ (sail_by w begun n direction o).1
+        by_faction : (u : Unit) → u.structure ≡ s → (b : Bool) → (done_for (sail w n direction) c (if b then Some u else None)).1 ≡ (done_for (sail w n direction) begun (if b then Some u else None)).1
+        by_faction u here true = told_same n u direction here
+        by_faction u here false = refl
+
+        by_unit : (o : Option Unit) → structure_in o ≡ s → (done_for (sail w n direction) c (of_faction f o)).1 ≡ (done_for (sail w n direction) begun (of_faction f o)).1
         by_unit None here = refl
-        by_unit (Some u) here =
-            let to = neighbour w u.region direction in
-            ap (λ o. (unless c o (sailed c u.structure (unwrap_or to 0), Done 0)).1) (fault_same n u to here)
-            ∙ unless_told c begun (sailed c u.structure (unwrap_or to 0)) (sailed begun u.structure (unwrap_or to 0)) (sail_fault w begun n u (get begun.structures u.structure) to)
+        by_unit (Some u) here = by_faction u here (u.faction == f)
 
     sailed_else : (ship to : ℕ) (x : Structure) → get c.structures ship ≡ Some x → is_ship w x ≡ true → x.done ≡ size_of w x.kind → IsThere w.regions to → s ≢ ship → IsAsBegun (sailed c ship to)
     sailed_else ship to x at floats whole there apart = record {
@@ -476,24 +478,21 @@ module _ (w : Planet) (begun : State) (number faction : ℕ) where
       list = sailed_list w c ship to same.steady x at s ∙ same.list;
     }
 
-    order_stays : (n : ℕ) (o : Said) → (inside begun n ≡ s → (sail_said w begun n o).1 ≡ Done 0 → ⊥) → IsAsBegun (sail_said w c n o).0
-    order_stays n (orders.Sail direction) apart =
-        sail_cases (λ p. (inside begun n ≡ s → p.1 ≡ Done 0 → ⊥) → IsAsBegun p.0) w c n direction (λ outcome apart. same)
-        (λ ship to x at floats whole there here apart. sailed_else ship to x at floats whole there (λ is. apart (sym (same.places n) ∙ here ∙ sym is) refl))
-        (λ in_it done. apart in_it (sym (told_same n direction in_it) ∙ done))
-    order_stays n other apart = same
+    order_stays : (f n : ℕ) (o : Said) → (inside begun n ≡ s → (ordered (sail_said w n o) begun f n).1 ≡ Some (Done 0) → ⊥) → IsAsBegun (ordered (sail_said w n o) c f n).0
+    order_stays f n (orders.Sail direction) apart =
+        carried_cases (λ p. (inside begun n ≡ s → p.1 ≡ Done 0 → ⊥) → IsAsBegun p.0) (sail w n direction) c f n (λ apart. same)
+        (λ u is own. sail_cases (λ p. (inside begun n ≡ s → p.1 ≡ Done 0 → ⊥) → IsAsBegun p.0) w c n u direction (λ outcome apart. same)
+        (λ to x at floats whole there apart. sailed_else u.structure to x at floats whole there (λ same_ship. apart (sym (same.places n) ∙ ap structure_in is ∙ sym same_ship) refl)))
+        (λ in_it done. apart in_it (ap (λ outcome. Some outcome) (sym (carried_same_told f n direction in_it) ∙ done)))
+    order_stays f n other apart = same
 
-    task_stays : (m : Course) (t : Task) → (SailsWith w begun t number faction → ⊥) → IsAsBegun (one_order sail_step takes_all w (c, m) t).0
-    task_stays m t apart = by_own (is_own c t) refl
-      where
-        by_own : (b : Bool) → is_own c t ≡ b → IsAsBegun (if b then sail_step w m.aliases c t else (c, Fault (event_fault_number NotYours))).0
-        by_own true own = order_stays t.unit t.said (λ in_it done. apart (record { together = in_it; own = ap (is_of_faction t.faction) (sym (same.units t.unit in_it)) ∙ own; done = done }))
-        by_own false other = same
+    task_stays : (m : Course) (t : Task) → (SailsWith w begun t number faction → ⊥) → IsAsBegun (one_order sail_step w (c, m) t).0
+    task_stays m t apart = order_stays t.faction t.unit t.said (λ in_it done. apart (record { together = in_it; done = done }))
 
-  tasks_stay : (c : State) (m : Course) (ts : List Task) → IsAsBegun c → AllByRecursion (λ t. SailsWith w begun t number faction → ⊥) ts → IsAsBegun (fold (one_order sail_step takes_all w) (c, m) ts).0
+  tasks_stay : (c : State) (m : Course) (ts : List Task) → IsAsBegun c → AllByRecursion (λ t. SailsWith w begun t number faction → ⊥) ts → IsAsBegun (fold (one_order sail_step w) (c, m) ts).0
   tasks_stay c m [] same others = same
   tasks_stay c m (t ∷ ts) same others =
-      let next = one_order sail_step takes_all w (c, m) t in
+      let next = one_order sail_step w (c, m) t in
       tasks_stay next.0 next.1 ts (task_stays c same m t others.0) others.1
 
 pub sail_spares_others : (w : Planet) (c : State) (m : Course) → IsSteady w c → spares_others (SailsWith w c) IsUnchanged is_sailing w m c (sail_meaning w c m).0

@@ -1,6 +1,6 @@
 -- STUDY leaves a campaign well, and every unit without an order of it as it is.
 use Rattle.std.proofs.Common.{◌≡◌, ◌≢◌, ◌==◌, ℕ, ◌+◌, ◌-◌, ◌*◌, ◌≤◌, ◌<◌, Bool, true, false, cond, [], ◌∷◌, length, Option, Some, None, refl, sym, ap, ◌∙◌, arith}
-use Rattle.std.specs.Prelude.{ℤ, pos, neg_ℤ, ◌+ℤ◌, nat_lt, if◌then◌else◌}
+use Rattle.std.specs.Prelude.{ℤ, pos, neg_ℤ, ◌+ℤ◌, IfSome, nat_lt, if◌then◌else◌}
 use Rattle.std.specs.FinMap.{get}
 use Rattle.std.proofs.lemmas.Int.{ints}
 use Rattle.std.proofs.lemmas.Bool.Decides.{nat_tests}
@@ -36,23 +36,20 @@ use Rattle.atl_state.proofs.EveryLaws.{get-insert_other}
 use Rattle.atl_state.proofs.HavingLaws.{may_have}
 use Rattle.atl_state.proofs.HoldingLaws.{MayHold, steady-held, total-held}
 use Rattle.atl_state.proofs.RegionLaws.{steady-amount, total-amount}
-use Rattle.atl_instant.specs.Meaning.{HasRoom, HaveRoom, IsNear, moves_only}
+use Rattle.atl_instant.specs.Meaning.{HasRoom, HaveRoom, moves_only}
 use Rattle.atl_instant.specs.Outcomes.{unless}
-use Rattle.atl_instant.specs.Steps.{IsDrawn, IsOrderly, IsOwnOrder, IsSparing, StepsWell}
+use Rattle.atl_instant.specs.Steps.{IsDrawn, IsOrderly, IsOwnOrder, IsSpared, IsSparing, StepsWell}
 use Rattle.atl_instant.proofs.AmountsLaws.{every_amount}
 use Rattle.atl_instant.proofs.BookingLaws.{booked-near, within-neg}
 use Rattle.atl_instant.proofs.MarkLaws.{marks_by}
 use Rattle.atl_instant.proofs.MovingLaws.{lent_marks}
 use Rattle.atl_instant.proofs.OutcomeLaws.{none_fits, not_less}
 use Rattle.atl_instant.proofs.QuitLaws.{quit_orderly}
-use Rattle.atl_instant.proofs.StepLaws.{well_same}
+use Rattle.atl_instant.proofs.StepLaws.{drawn_near, well_same}
 use Rattle.atl_instant.proofs.UnbookedLaws.{other_unit}
 use Rattle.atl_instant.specs.Staying.{IsUnchanged}
-use Rattle.atl_action.specs.Study.{days_after, is_helpful, studied, study, study_by, study_fault, study_moves, study_reserve, study_said, study_step, with_study}
+use Rattle.atl_action.specs.Study.{days_after, is_helpful, studied, study, study_fault, study_moves, study_reserve, study_said, study_step, with_study}
 use Rattle.atl_action.specs.Teach.{Taught}
-
-drawn_near : (x reserve left : ℕ) (a b : ℤ) → left + x ≡ reserve → IsNear x a b → IsDrawn reserve left a b
-drawn_near x reserve left a b e near = record { above = omega (arith, ints, e, near.above); below = omega (arith, ints, e, near.below) }
 
 -- ---- what is marked
 
@@ -154,33 +151,29 @@ payable_fee h cost e =
     not_less h.money cost two.0
 
 -- what is so of the campaign as it is, and of that in which the unit studied, is so of the campaign behind the order
-study_cases : (P : State → Type 0) (w : Planet) (taught : ℕ) (c : State) (n s : ℕ) → P c
-    → ((u : Unit) (days : ℕ) → get c.units n ≡ Some u → fee_of w s * u.holding.men ≤ u.holding.money → days ≤ most_days * u.holding.men → P (studied c n u s (fee_of w s * u.holding.men) days))
-    → P (study w taught c n s).0
+study_cases : (P : State → Type 0) (w : Planet) (taught : ℕ) (c : State) (n s : ℕ) (u : Unit) → P c
+    → ((days : ℕ) → fee_of w s * u.holding.men ≤ u.holding.money → days ≤ most_days * u.holding.men → P (studied c n u s (fee_of w s * u.holding.men) days))
+    → P (study w taught n s c u).0
 unfolding study
-study_cases P w taught c n s same learned = by_unit (get c.units n) refl
+study_cases P w taught c n s u same learned =
+    let old = amount_of u.holding.days s in
+    let helped = is_helpful w s (get c.structures u.structure) in
+    by_fault (days_after u.holding.men old taught helped) (days_after u.holding.men old taught helped - old) (days_most u.holding.men old taught helped) (study_fault u.holding (fee_of w s * u.holding.men)) refl
   where
-    by_fault : (u : Unit) (days done : ℕ) → get c.units n ≡ Some u → days ≤ most_days * u.holding.men → (o : Option EventFault) → study_fault u.holding (fee_of w s * u.holding.men) ≡ o
+    by_fault : (days done : ℕ) → days ≤ most_days * u.holding.men → (o : Option EventFault) → study_fault u.holding (fee_of w s * u.holding.men) ≡ o
         → P (unless c o (studied c n u s (fee_of w s * u.holding.men) days, Done done)).0
-    by_fault u days done is most (Some fault) e = same
-    by_fault u days done is most None e = learned u days is (payable_fee u.holding (fee_of w s * u.holding.men) e) most
+    by_fault days done most (Some fault) e = same
+    by_fault days done most None e = learned days (payable_fee u.holding (fee_of w s * u.holding.men) e) most
 
-    by_unit : (o : Option Unit) → get c.units n ≡ o → P (study_by w taught c n s o).0
-    by_unit None is = same
-    by_unit (Some u) is =
-        let old = amount_of u.holding.days s in
-        let helped = is_helpful w s (get c.structures u.structure) in
-        by_fault u (days_after u.holding.men old taught helped) (days_after u.holding.men old taught helped - old) is (days_most u.holding.men old taught helped) (study_fault u.holding (fee_of w s * u.holding.men)) refl
+study_well : (w : Planet) (taught : ℕ) (c : State) (n s : ℕ) (u : Unit) → get c.units n ≡ Some u → IsSteady w c → s < length w.skills → StepsWell IsSteady study_reserve w c (study w taught n s c u).0
+study_well w taught c n s u is steady known =
+    study_cases (λ d. StepsWell IsSteady study_reserve w c d) w taught c n s u (well_same w c steady)
+    (λ days payable most. studied_well w c n u s (fee_of w s * u.holding.men) days is steady payable known most)
 
-study_well : (w : Planet) (taught : ℕ) (c : State) (n s : ℕ) → IsSteady w c → s < length w.skills → StepsWell IsSteady study_reserve w c (study w taught c n s).0
-study_well w taught c n s steady known =
-    study_cases (λ d. StepsWell IsSteady study_reserve w c d) w taught c n s (well_same w c steady)
-    (λ u days is payable most. studied_well w c n u s (fee_of w s * u.holding.men) days is steady payable known most)
-
-study_stays : (w : Planet) (taught : ℕ) (c : State) (n s k : ℕ) → k ≢ n → get (study w taught c n s).0.units k ≡ get c.units k
-study_stays w taught c n s k apart =
-    study_cases (λ d. get d.units k ≡ get c.units k) w taught c n s refl
-    (λ u days is payable most. get-insert_other c.units n k (record u { holding = with_study u.holding s (fee_of w s * u.holding.men) days }) apart)
+study_stays : (w : Planet) (taught : ℕ) (c : State) (n s : ℕ) (u : Unit) (k : ℕ) → k ≢ n → get (study w taught n s c u).0.units k ≡ get c.units k
+study_stays w taught c n s u k apart =
+    study_cases (λ d. get d.units k ≡ get c.units k) w taught c n s u refl
+    (λ days payable most. get-insert_other c.units n k (record u { holding = with_study u.holding s (fee_of w s * u.holding.men) days }) apart)
 
 -- ---- the phase
 
@@ -197,16 +190,16 @@ money_most w c steady e t = by_amount (amount_number e t == amount_number Study 
 
 pub study_orderly : (taught : Taught) → IsOrderly (study_step taught) IsSteady study_reserve study_moves IsOwnOrder IsUnchanged
 study_orderly taught = record {
-  well = λ w a c t steady fit own. well w c t.unit steady t.said fit;
+  well = λ w a c t x steady fit own. well w c t.unit x own.there steady t.said fit;
   sparing = unchanged;
-  spared = λ w a c t steady own k v there apart. record { unit = v; there = stays w c t.unit k (other_unit c t k v own there apart) t.said ∙ there; spared = refl };
+  spared = λ w a c t x steady own k v there apart. spared w c t.unit x k v there (other_unit c t x k v own there apart) t.said;
   bounded = money_most;
 }
   where
-    well : (w : Planet) (c : State) (n : ℕ) → IsSteady w c → (s : Said) → IsOrderOf w s → StepsWell IsSteady study_reserve w c (study_said w taught c n s).0
-    well w c n steady (orders.Study s) fit = study_well w (amount_of taught n) c n s steady fit
-    well w c n steady other fit = well_same w c steady
+    well : (w : Planet) (c : State) (n : ℕ) (x : Unit) → get c.units n ≡ Some x → IsSteady w c → (s : Said) → IsOrderOf w s → IfSome (study_said w taught n s) (λ deed. StepsWell IsSteady study_reserve w c (deed c x).0)
+    well w c n x is steady (orders.Study s) fit = study_well w (amount_of taught n) c n s x is steady fit
+    well w c n x is steady other fit = tt
 
-    stays : (w : Planet) (c : State) (n k : ℕ) → k ≢ n → (s : Said) → get (study_said w taught c n s).0.units k ≡ get c.units k
-    stays w c n k apart (orders.Study s) = study_stays w (amount_of taught n) c n s k apart
-    stays w c n k apart other = refl
+    spared : (w : Planet) (c : State) (n : ℕ) (x : Unit) (k : ℕ) (v : Unit) → get c.units k ≡ Some v → k ≢ n → (s : Said) → IfSome (study_said w taught n s) (λ deed. IsSpared IsUnchanged (deed c x).0 k v)
+    spared w c n x k v there apart (orders.Study s) = record { unit = v; there = study_stays w (amount_of taught n) c n s x k apart ∙ there; spared = refl }
+    spared w c n x k v there apart other = tt

@@ -1,6 +1,6 @@
 -- What TEACH and STUDY leave to the units of a faction that sent no mailing.
 use Rattle.std.proofs.Common.{◌≡◌, ◌∷◌, [], List, ◌-◌, ◌*◌, ℕ, Option, Some, None, refl, ap, subst, ◌∙◌, arith}
-use Rattle.std.specs.Prelude.{fold}
+use Rattle.std.specs.Prelude.{IfSome, fold}
 use Rattle.std.specs.FinMap.{empty, get, values}
 use Rattle.atl_tables.specs.Planet.{Planet}
 use Rattle.atl_tables.specs.ByNumber.{fee_of}
@@ -12,13 +12,13 @@ use Rattle.atl_state.specs.Held.{amount_of}
 use Rattle.atl_state.specs.State.{State}
 use Rattle.atl_instant.specs.Course.{Course}
 use Rattle.atl_instant.specs.PhaseOrders.{Task, orders_of}
-use Rattle.atl_instant.specs.Steps.{carried_out, takes_all}
+use Rattle.atl_instant.specs.Steps.{carried_out}
 use Rattle.atl_instant.specs.Unmailed.{IsLessBy, starved_in}
 use Rattle.atl_instant.specs.declared.written.Arrangement.TheVariants.{ByUnit}
-use Rattle.atl_instant.proofs.UnmailedLaws.{HasItsItems, HaveTheirMen, LeavesUnmailed, SparesMen, carried_leaves, men_put, men_stay, men_unless, own_faction, told_of_order, unmailed_spared}
+use Rattle.atl_instant.proofs.UnmailedLaws.{HasItsItems, HaveTheirMen, LeavesUnmailed, OthersHaveMen, SparesMen, carried_leaves, men_put, men_unless, others_men, own_faction, told_of_order, unmailed_spared}
 use Rattle.atl_instant.specs.Staying.{IsUnchanged}
 use Rattle.atl_action.specs.Learners.{Learning, is_studying, learners}
-use Rattle.atl_action.specs.Study.{days_after, is_helpful, learn_keeps, learn_meaning, studied, study, study_by, study_fault, study_said, study_step, with_study}
+use Rattle.atl_action.specs.Study.{days_after, is_helpful, learn_keeps, learn_meaning, studied, study, study_fault, study_said, study_step, with_study}
 use Rattle.atl_action.specs.Teach.{Taught, is_teaching, listed, taught_out, teach, teach_order}
 
 -- ---- TEACH tells its events and changes nothing else of the month
@@ -49,31 +49,27 @@ taught_told c learning m = lessons_told c learning (empty, m) (values (orders_of
 
 -- ---- STUDY
 
-study_men : (w : Planet) (taught : ℕ) (c : State) (n s : ℕ) → HaveTheirMen c (study w taught c n s).0
+study_men : (w : Planet) (taught : ℕ) (c : State) (n s : ℕ) (u : Unit) → get c.units n ≡ Some u → HaveTheirMen c (study w taught n s c u).0
 unfolding study
-study_men w taught c n s = by_unit (get c.units n) refl
-  where
-    by_unit : (o : Option Unit) → get c.units n ≡ o → HaveTheirMen c (study_by w taught c n s o).0
-    by_unit None is = men_stay c
-    by_unit (Some u) is =
-        let cost = fee_of w s * u.holding.men in
-        let old = amount_of u.holding.days s in
-        let days = days_after u.holding.men old taught (is_helpful w s (get c.structures u.structure)) in
-        men_unless c (studied c n u s cost days) (Done (days - old)) (study_fault u.holding cost)
-        (men_put c (studied c n u s cost days) n u (record u { holding = with_study u.holding s cost days }) is (record { faction = refl; men = refl }) refl)
+study_men w taught c n s u is =
+    let cost = fee_of w s * u.holding.men in
+    let old = amount_of u.holding.days s in
+    let days = days_after u.holding.men old taught (is_helpful w s (get c.structures u.structure)) in
+    men_unless c (studied c n u s cost days) (Done (days - old)) (study_fault u.holding cost)
+    (men_put c (studied c n u s cost days) n u (record u { holding = with_study u.holding s cost days }) is (record { faction = refl; men = refl }) refl)
 
-studied_men : (w : Planet) (taught : Taught) (c : State) (n : ℕ) (o : Said) → HaveTheirMen c (study_said w taught c n o).0
-studied_men w taught c n (orders.Study s) = study_men w (amount_of taught n) c n s
-studied_men w taught c n other = men_stay c
+studied_men : (w : Planet) (taught : Taught) (c : State) (f n : ℕ) (x : Unit) → get c.units n ≡ Some x → (o : Said) → IfSome (study_said w taught n o) (λ deed. OthersHaveMen f c (deed c x).0)
+studied_men w taught c f n x is (orders.Study s) = others_men f c (study w (amount_of taught n) n s c x).0 (study_men w (amount_of taught n) c n s x is)
+studied_men w taught c f n x is other = tt
 
 study_spares : (taught : Taught) → SparesMen (study_step taught)
-study_spares taught w a c t own n u there other = studied_men w taught c t.unit t.said n u there
+study_spares taught w a c t x own = studied_men w taught c t.faction t.unit x own.there t.said
 
 items_of_unchanged : (u v : Unit) → IsUnchanged u v → HasItsItems u v
 items_of_unchanged u v same = record { name = ap (λ (x : Unit). x.holding.name) same; items = λ i. omega (arith, ap (λ (x : Unit). amount_of x.holding.items i) same) }
 
-all_study : (taught : Taught) → LeavesUnmailed (carried_out (study_step taught) takes_all is_studying) learn_keeps
-all_study taught = carried_leaves (study_step taught) takes_all is_studying (study_spares taught) (unmailed_spared is_studying own_faction items_of_unchanged)
+all_study : (taught : Taught) → LeavesUnmailed (carried_out (study_step taught) is_studying) learn_keeps
+all_study taught = carried_leaves (study_step taught) is_studying (study_spares taught) (unmailed_spared is_studying own_faction items_of_unchanged)
 
 -- ---- both
 

@@ -1,6 +1,6 @@
 -- What MOVE and SAIL leave to the units of a faction that sent no mailing.
 use Rattle.std.proofs.Common.{ℕ, false, Option, Some, None, refl}
-use Rattle.std.specs.Prelude.{fold, unwrap_or}
+use Rattle.std.specs.Prelude.{IfSome, fold, unwrap_or}
 use Rattle.std.specs.FinMap.{get}
 use Rattle.atl_tables.specs.Planet.{Planet}
 use Rattle.atl_tables.specs.declared.direction.Direction.{Direction}
@@ -11,11 +11,10 @@ use Rattle.atl_state.specs.declared.event.Outcome.TheVariants.{Done}
 use Rattle.atl_state.specs.declared.records.Unit.{Unit}
 use Rattle.atl_state.specs.Owners.{with_place}
 use Rattle.atl_state.specs.State.{State, numbers_inside, with_guard, with_structure_region}
-use Rattle.atl_action.specs.Sail.{IsCarried, is_sailing, sail, sail_by, sail_fault, sail_keeps, sail_meaning, sail_said, sail_step, sailed, taken_along}
-use Rattle.atl_action.specs.Walk.{is_walking, walk, walk_by, walk_fault, walk_keeps, walk_meaning, walk_said, walk_step, walked}
-use Rattle.atl_instant.proofs.UnmailedLaws.{HasItsItems, HaveTheirMen, LeavesUnmailed, SparesMen, carried_leaves, items_of_no_worse, men_in_turn, men_same, men_stay, men_twice, men_unless, own_faction, unmailed_spared}
+use Rattle.atl_action.specs.Sail.{IsCarried, is_sailing, sail, sail_fault, sail_keeps, sail_meaning, sail_said, sail_step, sailed, taken_along}
+use Rattle.atl_action.specs.Walk.{is_walking, walk, walk_fault, walk_keeps, walk_meaning, walk_said, walk_step, walked}
+use Rattle.atl_instant.proofs.UnmailedLaws.{HasItsItems, HaveTheirMen, LeavesUnmailed, OthersHaveMen, SparesMen, carried_leaves, items_of_no_worse, men_in_turn, men_same, men_twice, men_unless, others_men, own_faction, unmailed_spared}
 use Rattle.atl_instant.proofs.UnmailedStepLaws.{guard_men, place_men}
-use Rattle.atl_instant.specs.Steps.{takes_all}
 
 -- a unit that is put elsewhere, with its flag cleared
 gone_men : (c : State) (n r s : ℕ) → HaveTheirMen c (with_guard (with_place c n r s) n false)
@@ -23,25 +22,21 @@ gone_men c n r s = let there = with_place c n r s in men_twice c there (with_gua
 
 -- ---- MOVE
 
-walk_men : (w : Planet) (c : State) (n : ℕ) (direction : Direction) → HaveTheirMen c (walk w c n direction).0
+walk_men : (w : Planet) (c : State) (n : ℕ) (u : Unit) (direction : Direction) → HaveTheirMen c (walk w n direction c u).0
 unfolding walk
-walk_men w c n direction = by_unit (get c.units n)
-  where
-    by_unit : (o : Option Unit) → HaveTheirMen c (walk_by w c n direction o).0
-    by_unit None = men_stay c
-    by_unit (Some u) =
-        let to = neighbour w u.region direction in
-        men_unless c (walked c n (unwrap_or to 0)) (Done 0) (walk_fault w u to) (gone_men c n (unwrap_or to 0) 0)
+walk_men w c n u direction =
+    let to = neighbour w u.region direction in
+    men_unless c (walked c n (unwrap_or to 0)) (Done 0) (walk_fault w u to) (gone_men c n (unwrap_or to 0) 0)
 
-walked_men : (w : Planet) (c : State) (n : ℕ) (o : Said) → HaveTheirMen c (walk_said w c n o).0
-walked_men w c n (orders.Move direction) = walk_men w c n direction
-walked_men w c n other = men_stay c
+walked_men : (w : Planet) (c : State) (f n : ℕ) (x : Unit) (o : Said) → IfSome (walk_said w n o) (λ deed. OthersHaveMen f c (deed c x).0)
+walked_men w c f n x (orders.Move direction) = others_men f c (walk w n direction c x).0 (walk_men w c n x direction)
+walked_men w c f n x other = tt
 
 walk_spares : SparesMen walk_step
-walk_spares w a c t own n u there other = walked_men w c t.unit t.said n u there
+walk_spares w a c t x own = walked_men w c t.faction t.unit x t.said
 
 pub walk_leaves : LeavesUnmailed walk_meaning walk_keeps
-walk_leaves = carried_leaves walk_step takes_all is_walking walk_spares (unmailed_spared is_walking own_faction items_of_no_worse)
+walk_leaves = carried_leaves walk_step is_walking walk_spares (unmailed_spared is_walking own_faction items_of_no_worse)
 
 -- ---- SAIL
 
@@ -52,27 +47,23 @@ sailed_men c ship to =
     let gone = fold (taken_along ship to) c ns in
     men_twice c gone (with_structure_region gone ship to) (men_in_turn (taken_along ship to) (λ d n. gone_men d n to ship) c ns) (men_same gone (with_structure_region gone ship to) refl)
 
-sail_men : (w : Planet) (c : State) (n : ℕ) (direction : Direction) → HaveTheirMen c (sail w c n direction).0
+sail_men : (w : Planet) (c : State) (n : ℕ) (u : Unit) (direction : Direction) → HaveTheirMen c (sail w n direction c u).0
 unfolding sail
-sail_men w c n direction = by_unit (get c.units n)
-  where
-    by_unit : (o : Option Unit) → HaveTheirMen c (sail_by w c n direction o).0
-    by_unit None = men_stay c
-    by_unit (Some u) =
-        let to = neighbour w u.region direction in
-        men_unless c (sailed c u.structure (unwrap_or to 0)) (Done 0) (sail_fault w c n u (get c.structures u.structure) to) (sailed_men c u.structure (unwrap_or to 0))
+sail_men w c n u direction =
+    let to = neighbour w u.region direction in
+    men_unless c (sailed c u.structure (unwrap_or to 0)) (Done 0) (sail_fault w c n u (get c.structures u.structure) to) (sailed_men c u.structure (unwrap_or to 0))
 
-sailing_men : (w : Planet) (c : State) (n : ℕ) (o : Said) → HaveTheirMen c (sail_said w c n o).0
-sailing_men w c n (orders.Sail direction) = sail_men w c n direction
-sailing_men w c n other = men_stay c
+sailing_men : (w : Planet) (c : State) (f n : ℕ) (x : Unit) (o : Said) → IfSome (sail_said w n o) (λ deed. OthersHaveMen f c (deed c x).0)
+sailing_men w c f n x (orders.Sail direction) = others_men f c (sail w n direction c x).0 (sail_men w c n x direction)
+sailing_men w c f n x other = tt
 
 sail_spares : SparesMen sail_step
-sail_spares w a c t own n u there other = sailing_men w c t.unit t.said n u there
+sail_spares w a c t x own = sailing_men w c t.faction t.unit x t.said
 
 items_of_carried : (u v : Unit) → IsCarried u v → HasItsItems u v
 items_of_carried u v h = record { name = h.name; items = h.items }
 
 pub sail_leaves : LeavesUnmailed sail_meaning sail_keeps
 sail_leaves =
-    carried_leaves sail_step takes_all is_sailing sail_spares
+    carried_leaves sail_step is_sailing sail_spares
     (λ w c d m keeps n u there none. let one = keeps.0 n u there in record { unit = one.unit; there = one.there; spared = items_of_carried u one.unit one.spared })

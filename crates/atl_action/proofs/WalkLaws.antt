@@ -1,6 +1,6 @@
 -- MOVE leaves a campaign well, and spares who doesn't order it.
 use Rattle.std.proofs.Common.{◌≡◌, ◌≢◌, ◌==◌, ◌&&◌, ℕ, ◌≤◌, Bool, true, false, not, [], ◌∷◌, Option, Some, None, refl, sym, ap, subst, ◌∙◌, inl, inr, arith}
-use Rattle.std.specs.Prelude.{nat_lt, option_map, unwrap_or, if◌then◌else◌}
+use Rattle.std.specs.Prelude.{IfSome, nat_lt, option_map, unwrap_or, if◌then◌else◌}
 use Rattle.std.specs.Option.{option_map_or}
 use Rattle.std.specs.Ordering.{nat_cmp}
 use Rattle.std.specs.FinMap.{FinMap, get, len}
@@ -27,17 +27,14 @@ use Rattle.atl_instant.specs.Outcomes.{unless}
 use Rattle.atl_instant.specs.Staying.{IsNoWorse}
 use Rattle.atl_instant.specs.Steps.{IsOrderly, IsOwnOrder, StepsWell}
 use Rattle.atl_instant.specs.Unbooked.{books_nothing, moves_nothing}
-use Rattle.atl_instant.proofs.OutcomeLaws.{none_fits}
+use Rattle.atl_instant.proofs.OutcomeLaws.{false_true, none_fits}
 use Rattle.atl_instant.proofs.PlacingLaws.{place_stays}
 use Rattle.atl_instant.proofs.StructureLaws.{changed_else, equal, get-handed, handed_is, handed_on, is_equal, is_unequal, len-handed, unequal}
 use Rattle.atl_instant.proofs.StepLaws.{no_worse_spares, well_same}
-use Rattle.atl_instant.proofs.UnbookedLaws.{other_spared}
-use Rattle.atl_action.specs.Walk.{is_land_there, walk, walk_by, walk_fault, walk_said, walk_step, walked}
+use Rattle.atl_instant.proofs.UnbookedLaws.{stays_spared}
+use Rattle.atl_action.specs.Walk.{is_land_there, walk, walk_fault, walk_said, walk_step, walked}
 use Rattle.atl_action.proofs.PeopleLaws.{AreSamePeople, elsewhere, elsewhere_at, elsewhere_people, gone, gone_if, gone_same, guards_stay, steady_well, total_people}
 use Rattle.atl_action.proofs.TravelLaws.{AreTravelled, IsPut, IsSameStructure, steady-travelled, travelled}
-
-false_true : {P : Type 0} → false ≡ true → P
-false_true e = cc
 
 mapped_twice : {A : Type 0} (f g : A → A) (o : Option A) → option_map f (option_map g o) ≡ option_map (λ y. f (g y)) o
 mapped_twice f g None = refl
@@ -245,46 +242,42 @@ land_to w None dry = false_true (sym dry)
 land_to w (Some r) dry = not-false (is_land_at w r) dry
 
 -- what is so of the campaign as it is, and of that in which the unit has gone, is so of the campaign behind the order
-walk_cases : (P : State → Type 0) (w : Planet) (c : State) (n : ℕ) (direction : Direction) → P c → ((u : Unit) (to : ℕ) → get c.units n ≡ Some u → is_land_at w to ≡ true → P (walked c n to)) → P (walk w c n direction).0
+walk_cases : (P : State → Type 0) (w : Planet) (c : State) (n : ℕ) (u : Unit) (direction : Direction) → P c → ((to : ℕ) → is_land_at w to ≡ true → P (walked c n to)) → P (walk w n direction c u).0
 unfolding walk
-walk_cases P w c n direction same gone = by_unit (get c.units n) refl
+walk_cases P w c n u direction same gone = by_fault (neighbour w u.region direction) (walk_fault w u (neighbour w u.region direction)) refl
   where
-    by_fault : (u : Unit) (to : Option ℕ) → get c.units n ≡ Some u → (o : Option EventFault) → walk_fault w u to ≡ o → P (unless c o (walked c n (unwrap_or to 0), Done 0)).0
-    by_fault u to is (Some fault) e = same
-    by_fault u to is None e =
+    by_fault : (to : Option ℕ) (o : Option EventFault) → walk_fault w u to ≡ o → P (unless c o (walked c n (unwrap_or to 0), Done 0)).0
+    by_fault to (Some fault) e = same
+    by_fault to None e =
         let heavy = (nat_lt (carried_by w u.holding) (goods_of w u.holding), TooHeavy) ∷ [] in
         let no_way = (not (is_land_there w to), NoWay) ∷ heavy in
         let one = none_fits (u.holding.men == 0) NoMen ((not (is_land_at w u.region), AtSea) ∷ no_way) e in
         let two = none_fits (not (is_land_at w u.region)) AtSea no_way one.1 in
         let three = none_fits (not (is_land_there w to)) NoWay heavy two.1 in
-        gone u (unwrap_or to 0) is (land_to w to three.0)
+        gone (unwrap_or to 0) (land_to w to three.0)
 
-    by_unit : (o : Option Unit) → get c.units n ≡ o → P (walk_by w c n direction o).0
-    by_unit None is = same
-    by_unit (Some u) is = by_fault u (neighbour w u.region direction) is (walk_fault w u (neighbour w u.region direction)) refl
-
-walk_well : (w : Planet) (c : State) (n : ℕ) (direction : Direction) → IsSteady w c → StepsWell IsSteady books_nothing w c (walk w c n direction).0
-walk_well w c n direction steady = walk_cases (λ d. StepsWell IsSteady books_nothing w c d) w c n direction (well_same w c steady) (λ u to is land. walked_well w c n u to is steady land)
+walk_well : (w : Planet) (c : State) (n : ℕ) (u : Unit) → get c.units n ≡ Some u → (direction : Direction) → IsSteady w c → StepsWell IsSteady books_nothing w c (walk w n direction c u).0
+walk_well w c n u is direction steady = walk_cases (λ d. StepsWell IsSteady books_nothing w c d) w c n u direction (well_same w c steady) (λ to land. walked_well w c n u to is steady land)
 
 -- ---- other units stay
 
-walk_stays : (w : Planet) (c : State) (n : ℕ) (direction : Direction) (k : ℕ) → k ≢ n → get (walk w c n direction).0.units k ≡ get c.units k
-walk_stays w c n direction k apart =
-    walk_cases (λ d. get d.units k ≡ get c.units k) w c n direction refl (λ u to is land.
+walk_stays : (w : Planet) (c : State) (n : ℕ) (u : Unit) (direction : Direction) (k : ℕ) → k ≢ n → get (walk w n direction c u).0.units k ≡ get c.units k
+walk_stays w c n u direction k apart =
+    walk_cases (λ d. get d.units k ≡ get c.units k) w c n u direction refl (λ to land.
     changed_else (λ (x : Unit). record x { holding = record x.holding { guard = false } }) (with_place c n to 0).units n k apart (get (with_place c n to 0).units n) ∙ place_stays c n to 0 k apart)
 
 pub walk_orderly : IsOrderly walk_step IsSteady books_nothing moves_nothing IsOwnOrder IsNoWorse
 walk_orderly = record {
-  well = λ w a c t steady fit own. well w c t.unit steady t.said;
+  well = λ w a c t x steady fit own. well w c t.unit x own.there steady t.said;
   sparing = no_worse_spares;
-  spared = λ w a c t steady own k v there apart. other_spared c (walk_said w c t.unit t.said).0 t (λ j other. stays w c t.unit j other t.said) own k v there apart;
+  spared = λ w a c t x steady own k v there apart. stays_spared (walk_step w a t) c t x own k v there apart (λ j other. stays w c t.unit x j other t.said);
   bounded = λ w c steady e t. omega arith;
 }
   where
-    well : (w : Planet) (c : State) (n : ℕ) → IsSteady w c → (s : Said) → StepsWell IsSteady books_nothing w c (walk_said w c n s).0
-    well w c n steady (orders.Move direction) = walk_well w c n direction steady
-    well w c n steady other = well_same w c steady
+    well : (w : Planet) (c : State) (n : ℕ) (x : Unit) → get c.units n ≡ Some x → IsSteady w c → (s : Said) → IfSome (walk_said w n s) (λ deed. StepsWell IsSteady books_nothing w c (deed c x).0)
+    well w c n x is steady (orders.Move direction) = walk_well w c n x is direction steady
+    well w c n x is steady other = tt
 
-    stays : (w : Planet) (c : State) (n j : ℕ) → j ≢ n → (s : Said) → get (walk_said w c n s).0.units j ≡ get c.units j
-    stays w c n j apart (orders.Move direction) = walk_stays w c n direction j apart
-    stays w c n j apart other = refl
+    stays : (w : Planet) (c : State) (n : ℕ) (x : Unit) (j : ℕ) → j ≢ n → (s : Said) → IfSome (walk_said w n s) (λ deed. get (deed c x).0.units j ≡ get c.units j)
+    stays w c n x j apart (orders.Move direction) = walk_stays w c n x direction j apart
+    stays w c n x j apart other = tt

@@ -11,7 +11,7 @@ use Rattle.atl_orders.specs.declared.verb.Verb.{Verb}
 use Rattle.atl_orders.specs.declared.verb.Verb.TheVariants as verbs
 use Rattle.atl_orders.specs.Orders.{Said}
 use Rattle.atl_state.specs.declared.event.EventFault.{EventFault}
-use Rattle.atl_state.specs.declared.event.EventFault.TheVariants.{NoCrew, NoMen, NotComplete, NotInside, NotOwner, NotYours, NoWay, TooHeavy}
+use Rattle.atl_state.specs.declared.event.EventFault.TheVariants.{NoCrew, NoMen, NotComplete, NotInside, NotOwner, NoWay, TooHeavy}
 use Rattle.atl_state.specs.declared.event.Outcome.{Outcome}
 use Rattle.atl_state.specs.declared.event.Outcome.TheVariants.{Done}
 use Rattle.atl_state.specs.declared.records.Structure.{Structure}
@@ -25,7 +25,7 @@ use Rattle.atl_instant.specs.Inside.{inside}
 use Rattle.atl_instant.specs.Meaning.{Keeping, Meaning}
 use Rattle.atl_instant.specs.Outcomes.{first_fault, unless}
 use Rattle.atl_instant.specs.PhaseOrders.{Task}
-use Rattle.atl_instant.specs.Steps.{Concern, IsSpared, Step, carried_out, is_own, spares_others, takes_all}
+use Rattle.atl_instant.specs.Steps.{Concern, Deed, IsSpared, Step, carried_out, ordered, spares_others}
 use Rattle.atl_instant.specs.Staying.{IsUnchanged}
 use Rattle.atl_action.specs.Ways.{is_region}
 use Rattle.atl_instant.specs.Terms.{PhaseTerms, nothing_moved}
@@ -94,28 +94,23 @@ sailed c ship to = with_structure_region (fold (taken_along ship to) c (numbers_
 abbrev pub sail_to : Planet → State → (n : ℕ) → Unit → (to : Option ℕ) → State × Outcome
 sail_to w c n u to = unless c (sail_fault w c n u (get c.structures u.structure) to) (sailed c u.structure (unwrap_or to 0), Done 0)
 
--- a unit that isn't there doesn't sail
-abbrev pub sail_by : Planet → State → (n : ℕ) → Direction → Option Unit → State × Outcome
-sail_by w c n direction None = unless c (Some NotYours) (c, Done 0)
-sail_by w c n direction (Some u) = sail_to w c n u (neighbour w u.region direction)
+unfoldable pub sail : Planet → (n : ℕ) → Direction → Deed
+sail w n direction c u = sail_to w c n u (neighbour w u.region direction)
 
-unfoldable pub sail : Planet → State → (n : ℕ) → Direction → State × Outcome
-sail w c n direction = sail_by w c n direction (get c.units n)
+abbrev pub sail_said : Planet → (n : ℕ) → Said → Option Deed
+sail_said w n (orders.Sail direction) = Some (sail w n direction)
+sail_said w n other = None
 
-abbrev pub sail_said : Planet → State → (n : ℕ) → Said → State × Outcome
-sail_said w c n (orders.Sail direction) = sail w c n direction
-sail_said w c n other = (c, Done 0)
-
--- what an order of a unit's own faction makes of a campaign
 abbrev pub sail_step : Step
-sail_step w aliases c t = sail_said w c t.unit t.said
+sail_step w aliases t = sail_said w t.unit t.said
 
 -- ---- the phase
 
 abbrev pub sail_meaning : Meaning
-sail_meaning = carried_out sail_step takes_all is_sailing
+sail_meaning = carried_out sail_step is_sailing
 
--- a unit that keeps its name and no less of anything, and stays inside what it was inside; where that is nothing, it stays in its region and keeps its flag
+-- a unit that keeps its name and no less of anything, and stays inside what it was inside; where that is nothing, it stays in its region
+-- and keeps its flag
 pub record IsCarried (before after : Unit) : Type 0 where
   pub faction : after.faction ≡ before.faction
   pub structure : after.structure ≡ before.structure
@@ -136,11 +131,11 @@ AreCarried before after = Every (λ n u. IsSpared IsCarried after n u) before.un
 abbrev pub concerns_nobody : Concern
 concerns_nobody t n f = ⊥
 
--- The ship sails that a unit is inside: as the phase begins an order is its faction's own, for a unit inside the same structure, and without a fault.
+-- The ship sails that a unit is inside: as the phase begins an order is for a unit inside the same structure, of the faction that wrote
+-- it, and without a fault.
 pub record SailsWith (w : Planet) (begun : State) (t : Task) (n f : ℕ) : Type 0 where
   pub together : inside begun t.unit ≡ inside begun n
-  pub own : is_own begun t ≡ true
-  pub done : (sail_said w begun t.unit t.said).1 ≡ Done 0
+  pub done : (ordered (sail_said w t.unit t.said) begun t.faction t.unit).1 ≡ Some (Done 0)
 
 -- each unit goes at most with what it is inside, and where that is no ship that sails, it stays as it is
 abbrev pub sail_keeps : Keeping

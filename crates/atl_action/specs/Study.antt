@@ -11,8 +11,7 @@ use Rattle.atl_orders.specs.Orders.{Said}
 use Rattle.atl_state.specs.declared.books.Entry.TheVariants.{Study}
 use Rattle.atl_state.specs.declared.books.Thing.TheVariants.{Money}
 use Rattle.atl_state.specs.declared.event.EventFault.{EventFault}
-use Rattle.atl_state.specs.declared.event.EventFault.TheVariants.{NoFee, NoMen, NotYours}
-use Rattle.atl_state.specs.declared.event.Outcome.{Outcome}
+use Rattle.atl_state.specs.declared.event.EventFault.TheVariants.{NoFee, NoMen}
 use Rattle.atl_state.specs.declared.event.Outcome.TheVariants.{Done}
 use Rattle.atl_state.specs.declared.records.Structure.{Structure}
 use Rattle.atl_state.specs.declared.records.Unit.{Unit}
@@ -22,7 +21,7 @@ use Rattle.atl_state.specs.Limits.{most_days}
 use Rattle.atl_state.specs.State.{State, with_amount}
 use Rattle.atl_instant.specs.Meaning.{Keeping, Meaning, Moving, most_moved, moves_only}
 use Rattle.atl_instant.specs.Outcomes.{first_fault, unless}
-use Rattle.atl_instant.specs.Steps.{IsOwnOrder, Reserve, Step, carried_out, spares_others, takes_all}
+use Rattle.atl_instant.specs.Steps.{Deed, IsOwnOrder, Reserve, Step, carried_out, spares_others}
 use Rattle.atl_instant.specs.Staying.{IsUnchanged}
 use Rattle.atl_action.specs.Learners.{is_studying, learners}
 use Rattle.atl_action.specs.Limits.{helped_days, month_days, taught_days}
@@ -59,28 +58,20 @@ with_study h s cost days = record h { money = h.money - cost; days = with_amount
 abbrev pub studied : State → (n : ℕ) → Unit → (skill cost days : ℕ) → State
 studied c n u s cost days = with_amount (with_held c n (with_study u.holding s cost days) (Some u)) Study Money (neg_ℤ (pos cost))
 
-abbrev pub study_with : Planet → (taught : ℕ) → State → (n skill : ℕ) → Unit → State × Outcome
-study_with w taught c n s u =
+unfoldable pub study : Planet → (taught n skill : ℕ) → Deed
+study w taught n s c u =
     let cost = fee_of w s * u.holding.men in
     let old = amount_of u.holding.days s in
     let days = days_after u.holding.men old taught (is_helpful w s (get c.structures u.structure)) in
     unless c (study_fault u.holding cost) (studied c n u s cost days, Done (days - old))
 
--- a unit that isn't there doesn't study
-abbrev pub study_by : Planet → (taught : ℕ) → State → (n skill : ℕ) → Option Unit → State × Outcome
-study_by w taught c n s None = unless c (Some NotYours) (c, Done 0)
-study_by w taught c n s (Some u) = study_with w taught c n s u
+abbrev pub study_said : Planet → Taught → (n : ℕ) → Said → Option Deed
+study_said w taught n (orders.Study s) = Some (study w (amount_of taught n) n s)
+study_said w taught n other = None
 
-unfoldable pub study : Planet → (taught : ℕ) → State → (n skill : ℕ) → State × Outcome
-study w taught c n s = study_by w taught c n s (get c.units n)
-
-abbrev pub study_said : Planet → Taught → State → (n : ℕ) → Said → State × Outcome
-study_said w taught c n (orders.Study s) = study w (amount_of taught n) c n s
-study_said w taught c n other = (c, Done 0)
-
--- what an order of a unit's own faction makes of a campaign, where so many were taught
+-- where so many were taught
 abbrev pub study_step : Taught → Step
-study_step taught w aliases c t = study_said w taught c t.unit t.said
+study_step taught w aliases t = study_said w taught t.unit t.said
 
 -- ---- the phase
 
@@ -88,7 +79,7 @@ study_step taught w aliases c t = study_said w taught c t.unit t.said
 abbrev pub learn_meaning : Meaning
 learn_meaning w c m =
     let lessons = taught_out c (learners w c m) m in
-    carried_out (study_step lessons.0) takes_all is_studying w c lessons.1
+    carried_out (study_step lessons.0) is_studying w c lessons.1
 
 -- a unit for which its own faction wrote no order of STUDY stays as it is
 abbrev pub learn_keeps : Keeping

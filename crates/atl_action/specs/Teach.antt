@@ -108,7 +108,8 @@ teach_pupils c learning taught n u pupils =
 abbrev pub teach_by : State → Aliases → Learning → Taught → (f n : ℕ) → List UnitRef → Option Unit → Taught × Outcome
 teach_by c aliases learning taught f n refs None = unless_taught taught (Some NotYours) (taught, Done 0)
 teach_by c aliases learning taught f n refs (Some u) =
-    if u.faction == f then teach_pupils c learning taught n u (pupils_of c aliases learning u.region f refs) else unless_taught taught (Some NotYours) (taught, Done 0)
+    if u.faction == f then teach_pupils c learning taught n u (pupils_of c aliases learning u.region f refs)
+    else unless_taught taught (Some NotYours) (taught, Done 0)
 
 -- an order of a faction for a unit
 unfoldable pub teach : State → Aliases → Learning → Taught → (f n : ℕ) → List UnitRef → Taught × Outcome

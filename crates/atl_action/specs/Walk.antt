@@ -1,7 +1,6 @@
 -- MOVE: units go to a neighbouring region over land. See docs/RULES.md, "Walking".
 use Rattle.std.specs.Prelude.{ℕ, ◌==◌, nat_lt, Bool, true, false, not, [], ◌∷◌, unwrap_or, Option, Some, None}
 use Rattle.std.specs.Option.{option_map_or}
-use Rattle.std.specs.FinMap.{get}
 use Rattle.atl_tables.specs.Planet.{Planet}
 use Rattle.atl_tables.specs.declared.direction.Direction.{Direction}
 use Rattle.atl_tables.specs.ByNumber.{is_land_at, neighbour}
@@ -10,7 +9,7 @@ use Rattle.atl_orders.specs.declared.verb.Verb.{Verb}
 use Rattle.atl_orders.specs.declared.verb.Verb.TheVariants as verbs
 use Rattle.atl_orders.specs.Orders.{Said}
 use Rattle.atl_state.specs.declared.event.EventFault.{EventFault}
-use Rattle.atl_state.specs.declared.event.EventFault.TheVariants.{AtSea, NoMen, NotYours, NoWay, TooHeavy}
+use Rattle.atl_state.specs.declared.event.EventFault.TheVariants.{AtSea, NoMen, NoWay, TooHeavy}
 use Rattle.atl_state.specs.declared.event.Outcome.{Outcome}
 use Rattle.atl_state.specs.declared.event.Outcome.TheVariants.{Done}
 use Rattle.atl_state.specs.declared.records.Unit.{Unit}
@@ -20,7 +19,7 @@ use Rattle.atl_state.specs.State.{State, with_guard}
 use Rattle.atl_instant.specs.Meaning.{Keeping, Meaning}
 use Rattle.atl_instant.specs.Outcomes.{first_fault, unless}
 use Rattle.atl_instant.specs.Staying.{IsNoWorse}
-use Rattle.atl_instant.specs.Steps.{IsOwnOrder, Step, carried_out, spares_others, takes_all}
+use Rattle.atl_instant.specs.Steps.{Deed, IsOwnOrder, Step, carried_out, spares_others}
 use Rattle.atl_instant.specs.Terms.{PhaseTerms, nothing_moved}
 use Rattle.atl_instant.specs.Unbooked.{moves_nothing}
 
@@ -52,26 +51,20 @@ walked c n to = with_guard (with_place c n to 0) n false
 abbrev pub walk_to : Planet → State → (n : ℕ) → Unit → (to : Option ℕ) → State × Outcome
 walk_to w c n u to = unless c (walk_fault w u to) (walked c n (unwrap_or to 0), Done 0)
 
--- a unit that isn't there doesn't go
-abbrev pub walk_by : Planet → State → (n : ℕ) → Direction → Option Unit → State × Outcome
-walk_by w c n direction None = unless c (Some NotYours) (c, Done 0)
-walk_by w c n direction (Some u) = walk_to w c n u (neighbour w u.region direction)
+unfoldable pub walk : Planet → (n : ℕ) → Direction → Deed
+walk w n direction c u = walk_to w c n u (neighbour w u.region direction)
 
-unfoldable pub walk : Planet → State → (n : ℕ) → Direction → State × Outcome
-walk w c n direction = walk_by w c n direction (get c.units n)
+abbrev pub walk_said : Planet → (n : ℕ) → Said → Option Deed
+walk_said w n (orders.Move direction) = Some (walk w n direction)
+walk_said w n other = None
 
-abbrev pub walk_said : Planet → State → (n : ℕ) → Said → State × Outcome
-walk_said w c n (orders.Move direction) = walk w c n direction
-walk_said w c n other = (c, Done 0)
-
--- what an order of a unit's own faction makes of a campaign
 abbrev pub walk_step : Step
-walk_step w aliases c t = walk_said w c t.unit t.said
+walk_step w aliases t = walk_said w t.unit t.said
 
 -- ---- the phase
 
 abbrev pub walk_meaning : Meaning
-walk_meaning = carried_out walk_step takes_all is_walking
+walk_meaning = carried_out walk_step is_walking
 
 -- who gives no such order stays
 abbrev pub walk_keeps : Keeping

@@ -8,11 +8,13 @@ ghost use Rattle.atl_state.specs.Levels.{load_of};
 ghost use Rattle.atl_state.specs.Owners.{is_owned_by};
 ghost use Rattle.atl_state.specs.State.{with_structure_region};
 ghost use Rattle.atl_instant.specs.Unbooked.{moves_nothing};
-ghost use Rattle.atl_instant.specs.Steps.{takes_all};
+ghost use Rattle.atl_instant.specs.Steps.{carried};
 ghost use Rattle.atl_action.specs.Sail.{IsCarried, capacity, concerns_nobody, crew_needed, crew_of, is_complete_ship, is_sailing, is_way, of_unit, sail, sail_fault, sail_keeps, sail_meaning, sail_step, sailed, sum_inside, taken_along};
 
 use crate::ways::is_region;
-use atl_instant::{Month, OrderPhase, Phase, PhaseVerbs, Written, carry_out_orders, failed};
+use atl_instant::{
+    Month, OrderPhase, Phase, PhaseVerbs, Written, carry_out_orders, failed, own_unit,
+};
 use atl_orders::{Direction, Mailing, Order, Verb};
 use atl_state::{Campaign, EventFault, Holding, Outcome, Structure, Unit, level_in_any, load};
 use atl_tables::{Kind, World};
@@ -215,17 +217,17 @@ fn sail(
     alloc: Global,
     world: &World,
     campaign: &mut Campaign,
-    number: u32,
+    order: Written,
     direction: Direction,
 ) -> Result<Outcome, AllocError>
-    ensures what { IfOk result (λ outcome. (campaign.new.what, outcome) ≡ sail world.now campaign.old.what number direction) }
+    ensures what { IfOk result (λ outcome. (campaign.new.what, outcome) ≡ carried (sail world.now order.unit direction) campaign.old.what order.faction order.unit) }
     ensures marks { OnOk result (MarksChanges campaign.old campaign.new) }
 {
-    let Some(unit) = campaign.unit(number) else {
+    let Some(unit) = own_unit(campaign, order) else {
         return Ok(failed(EventFault::NotYours));
     };
     let to = world.neighbour(unit.region, direction);
-    if let Some(fault) = sail_fault(world, campaign, number, unit, to) {
+    if let Some(fault) = sail_fault(world, campaign, order.unit, unit, to) {
         return Ok(failed(fault));
     }
     let ship = unit.structure;
@@ -244,17 +246,11 @@ impl PhaseVerbs for SailPhase {
 impl OrderPhase for SailPhase {
     ghost step = { λ _. sail_step };
 
-    ghost is_taken = { takes_all };
-
     ghost holds = { IsSteady };
 
     ghost concerns = { concerns_nobody };
 
     ghost spares = { IsCarried };
-
-    fn takes(&self, _: &Order) -> bool {
-        true
-    }
 
     fn carry_out(
         &self,
@@ -265,10 +261,10 @@ impl OrderPhase for SailPhase {
         order: Written,
         _: &Mailing,
         what: &Order,
-    ) -> Result<Outcome, AllocError> {
+    ) -> Result<Option<Outcome>, AllocError> {
         match what {
-            Order::Sail(direction) => sail(alloc, world, campaign, order.unit, *direction),
-            _ => Ok(Outcome::Done(0)),
+            Order::Sail(direction) => Ok(Some(sail(alloc, world, campaign, order, *direction)?)),
+            _ => Ok(None),
         }
     }
 

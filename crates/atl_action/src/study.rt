@@ -9,7 +9,7 @@ ghost use Rattle.atl_state.specs.Good.{IsSteady};
 ghost use Rattle.atl_state.specs.Lending.{lent};
 ghost use Rattle.atl_state.specs.Limits.{men_limit};
 ghost use Rattle.atl_instant.specs.Meaning.{HaveRoom};
-ghost use Rattle.atl_instant.specs.Steps.{takes_all};
+ghost use Rattle.atl_instant.specs.Steps.{carried};
 ghost use Rattle.atl_instant.specs.Staying.{IsUnchanged};
 ghost use Rattle.atl_action.specs.Learners.{is_studying};
 ghost use Rattle.atl_action.specs.Study.{days_after, is_helpful, studied, study, study_fault, study_moves, study_reserve, study_step, with_study};
@@ -17,7 +17,7 @@ ghost use Rattle.atl_action.specs.Study.{days_after, is_helpful, studied, study,
 use crate::learners::cost_of;
 use crate::limits::{HELPED_DAYS, MONTH_DAYS, TAUGHT_DAYS};
 use crate::teach::taught_at;
-use atl_instant::{Month, OrderPhase, PhaseVerbs, Written, book_taken, failed};
+use atl_instant::{Month, OrderPhase, PhaseVerbs, Written, book_taken, failed, own_unit};
 use atl_orders::{Mailing, Order, Verb};
 use atl_state::{Campaign, Entry, EventFault, Holding, MOST_DAYS, Outcome, Structure, Thing, Unit};
 use atl_tables::{Numbered, World};
@@ -125,15 +125,15 @@ fn study(
     world: &World,
     campaign: &mut Campaign,
     taught: u32,
-    number: u32,
+    order: Written,
     skill: u16,
 ) -> Result<Outcome, AllocError>
     requires steady { IsSteady world.now campaign.old.what }
     requires room { HaveRoom (study_reserve campaign.old.what) campaign.old.what }
-    ensures what { IfOk result (λ outcome. (campaign.new.what, outcome) ≡ study world.now taught campaign.old.what number skill) }
+    ensures what { IfOk result (λ outcome. (campaign.new.what, outcome) ≡ carried (study world.now taught order.unit skill) campaign.old.what order.faction order.unit) }
     ensures marks { OnOk result (MarksChanges campaign.old campaign.new) }
 {
-    let Some(unit) = campaign.unit(number) else {
+    let Some(unit) = own_unit(campaign, order) else {
         return Ok(failed(EventFault::NotYours));
     };
     let men = unit.holding.men();
@@ -144,7 +144,7 @@ fn study(
     let old = unit.holding.days_of(u32::from(skill));
     let helped = is_helpful(world, skill, campaign.structure(unit.structure));
     let days = days_after(men, old, taught, helped);
-    put_study(world, campaign, number, skill, cost as u32, days)?;
+    put_study(world, campaign, order.unit, skill, cost as u32, days)?;
     Ok(Outcome::Done(u64::from(days - old)))
 }
 
@@ -159,8 +159,6 @@ impl PhaseVerbs for Studying {
 impl OrderPhase for Studying {
     ghost step = { λ s. study_step s.taught };
 
-    ghost is_taken = { takes_all };
-
     ghost holds = { IsSteady };
 
     ghost reserve = { study_reserve };
@@ -168,10 +166,6 @@ impl OrderPhase for Studying {
     ghost moving = { study_moves };
 
     ghost spares = { IsUnchanged };
-
-    fn takes(&self, _: &Order) -> bool {
-        true
-    }
 
     fn carry_out(
         &self,
@@ -182,13 +176,13 @@ impl OrderPhase for Studying {
         order: Written,
         _: &Mailing,
         what: &Order,
-    ) -> Result<Outcome, AllocError> {
+    ) -> Result<Option<Outcome>, AllocError> {
         match what {
             Order::Study(skill) => {
                 let taught = taught_at(&self.taught, order.unit);
-                study(world, campaign, taught, order.unit, *skill)
+                Ok(Some(study(world, campaign, taught, order, *skill)?))
             }
-            _ => Ok(Outcome::Done(0)),
+            _ => Ok(None),
         }
     }
 

@@ -2,10 +2,10 @@
 ghost use Rattle.std.specs.Prelude.{◌≡◌, IfOk, OnOk};
 ghost use Rattle.atl_state.specs.Covers.{MarksChanges};
 ghost use Rattle.atl_state.specs.Good.{IsSteady};
-ghost use Rattle.atl_instant.specs.Steps.{takes_all};
+ghost use Rattle.atl_instant.specs.Steps.{carried};
 ghost use Rattle.atl_action.specs.Walk.{is_land_there, is_walking, walk, walk_fault, walk_step, walked};
 
-use atl_instant::{Month, OrderPhase, PhaseVerbs, PlainPhase, Written, failed};
+use atl_instant::{Month, OrderPhase, PhaseVerbs, PlainPhase, Written, failed, own_unit};
 use atl_orders::{Direction, Mailing, Order, Verb};
 use atl_state::{Campaign, EventFault, Outcome, Unit, carry, goods};
 use atl_tables::World;
@@ -57,20 +57,20 @@ fn put_there(campaign: &mut Campaign, unit: u32, to: u32) -> Result<(), AllocErr
 fn walk(
     world: &World,
     campaign: &mut Campaign,
-    number: u32,
+    order: Written,
     direction: Direction,
 ) -> Result<Outcome, AllocError>
-    ensures what { IfOk result (λ outcome. (campaign.new.what, outcome) ≡ walk world.now campaign.old.what number direction) }
+    ensures what { IfOk result (λ outcome. (campaign.new.what, outcome) ≡ carried (walk world.now order.unit direction) campaign.old.what order.faction order.unit) }
     ensures marks { OnOk result (MarksChanges campaign.old campaign.new) }
 {
-    let Some(unit) = campaign.unit(number) else {
+    let Some(unit) = own_unit(campaign, order) else {
         return Ok(failed(EventFault::NotYours));
     };
     let to = world.neighbour(unit.region, direction);
     if let Some(fault) = walk_fault(world, unit, to) {
         return Ok(failed(fault));
     }
-    put_there(campaign, number, to.unwrap_or(0))?;
+    put_there(campaign, order.unit, to.unwrap_or(0))?;
     Ok(Outcome::Done(0))
 }
 
@@ -85,13 +85,7 @@ impl PhaseVerbs for MovePhase {
 impl OrderPhase for MovePhase {
     ghost step = { λ _. walk_step };
 
-    ghost is_taken = { takes_all };
-
     ghost holds = { IsSteady };
-
-    fn takes(&self, _: &Order) -> bool {
-        true
-    }
 
     fn carry_out(
         &self,
@@ -102,10 +96,10 @@ impl OrderPhase for MovePhase {
         order: Written,
         _: &Mailing,
         what: &Order,
-    ) -> Result<Outcome, AllocError> {
+    ) -> Result<Option<Outcome>, AllocError> {
         match what {
-            Order::Move(direction) => walk(world, campaign, order.unit, *direction),
-            _ => Ok(Outcome::Done(0)),
+            Order::Move(direction) => Ok(Some(walk(world, campaign, order, *direction)?)),
+            _ => Ok(None),
         }
     }
 

@@ -1,6 +1,6 @@
 -- GIVE and PAY leave a campaign well.
 use Rattle.std.proofs.Common.{◌≡◌, ◌≢◌, ◌==◌, ℕ, ◌+◌, ◌-◌, ◌≤◌, ◌<◌, Bool, true, false, cond, not, ◌&&◌, [], ◌∷◌, length, Option, Some, None, refl, sym, ap, subst, ◌∙◌, arith}
-use Rattle.std.specs.Prelude.{⊤, nat_lt, if◌then◌else◌}
+use Rattle.std.specs.Prelude.{⊤, IfSome, nat_lt, if◌then◌else◌}
 use Rattle.std.proofs.lemmas.Bool.Decides.{nat_tests}
 use Rattle.std.specs.Ordering.{nat_cmp, eq_by_cmp}
 use Rattle.std.specs.FinMap.{get}
@@ -20,20 +20,21 @@ use Rattle.atl_state.specs.Lending.{with_held}
 use Rattle.atl_state.specs.Limits.{holding_limit}
 use Rattle.atl_state.specs.State.{State}
 use Rattle.atl_state.specs.Totals.{held}
-use Rattle.atl_instant.specs.Give.{give, give_fault, give_from, give_said, give_step, give_to, given, held_of, with_held_of}
+use Rattle.atl_instant.specs.Give.{give, give_fault, give_said, give_step, give_to, given, held_of, with_held_of}
 use Rattle.atl_instant.specs.Course.{Aliases}
 use Rattle.atl_instant.specs.Outcomes.{unless}
 use Rattle.atl_instant.specs.Staying.{IsNoWorse}
 use Rattle.atl_instant.specs.PhaseOrders.{Task, unit_of}
-use Rattle.atl_instant.specs.Steps.{IsOrderly, IsOwnOrder, IsSpared, StepsWell}
+use Rattle.atl_instant.specs.Steps.{IsOrderly, IsOwnOrder, IsSpared, IsUnitOf, StepsWell}
 use Rattle.atl_instant.specs.declared.give.Gift.{Gift}
 use Rattle.atl_instant.specs.declared.give.Gift.TheVariants.{Item, Money}
 use Rattle.atl_instant.proofs.AmountsLaws.{alike, amount_within, every_amount, set_amount}
 use Rattle.atl_state.proofs.HavingLaws.{MayHave, may_have}
 use Rattle.atl_instant.proofs.MovingLaws.{early-moved, moved, receiver_still, spared-moved, steps-moved}
-use Rattle.atl_instant.proofs.OutcomeLaws.{apart_own, none_fits, not_apart, not_less, unless_itself}
+use Rattle.atl_instant.proofs.OutcomeLaws.{none_fits, not_apart, not_less, unless_itself}
 use Rattle.atl_instant.proofs.StayingLaws.{no_worse}
 use Rattle.atl_instant.proofs.StepLaws.{no_worse_spares, well_same}
+use Rattle.atl_instant.proofs.UnbookedLaws.{other_unit}
 
 -- what is so of two units where no fault fits
 pub record CanGive (gift : Gift) (n : ℕ) (itself : Bool) (u v : Unit) : Type 0 where
@@ -140,34 +141,30 @@ behind c from to gift n u v itself =
     else with_held (with_held c from (with_held_of gift u.holding (held_of gift u.holding - n)) (Some u)) to (with_held_of gift v.holding (held_of gift v.holding + n)) (Some v)
 
 -- what is so of the campaign as it is, and of each in which a unit gave so much to another, is so of the campaign behind the order
-pub give_cases : (P : State → Type 0) (c : State) (from to : ℕ) (gift : Gift) (n : ℕ) → P c
-    → ((u v : Unit) (giver : get c.units from ≡ Some u) (receiver : get c.units to ≡ Some v) (apart : to ≢ from) → CanGive gift n false u v
+pub give_cases : (P : State → Type 0) (c : State) (from to : ℕ) (gift : Gift) (n : ℕ) (u : Unit) (giver : get c.units from ≡ Some u) → P c
+    → ((v : Unit) (receiver : get c.units to ≡ Some v) (apart : to ≢ from) → CanGive gift n false u v
     → P (moved c from to u v (with_held_of gift u.holding (held_of gift u.holding - n)) (with_held_of gift v.holding (held_of gift v.holding + n)) giver receiver apart))
-    → P (give c from to gift n).0
+    → P (give from to gift n c u).0
 unfolding give
-give_cases P c from to gift n same move = by_giver (get c.units from) refl
+give_cases P c from to gift n u giver same move = by_receiver (get c.units to) refl
   where
-    by_test : (u v : Unit) → get c.units from ≡ Some u → get c.units to ≡ Some v → (b : Bool) → (to == from) ≡ b → CanGive gift n b u v → P (behind c from to gift n u v b)
-    by_test u v giver receiver true is can = same
-    by_test u v giver receiver false is can = let apart : to ≢ from = grind (arith, nat_tests) in move u v giver receiver apart can
+    by_test : (v : Unit) → get c.units to ≡ Some v → (b : Bool) → (to == from) ≡ b → CanGive gift n b u v → P (behind c from to gift n u v b)
+    by_test v receiver true is can = same
+    by_test v receiver false is can = let apart : to ≢ from = grind (arith, nat_tests) in move v receiver apart can
 
-    by_fault : (u v : Unit) → get c.units from ≡ Some u → get c.units to ≡ Some v → (f : Option EventFault) → give_fault gift n (to == from) u (Some v) ≡ f → P (unless c f (behind c from to gift n u v (to == from), Done n)).0
-    by_fault u v giver receiver (Some fault) is = same
-    by_fault u v giver receiver None is = by_test u v giver receiver (to == from) refl (can_give gift n (to == from) u v is)
+    by_fault : (v : Unit) → get c.units to ≡ Some v → (f : Option EventFault) → give_fault gift n (to == from) u (Some v) ≡ f → P (unless c f (behind c from to gift n u v (to == from), Done n)).0
+    by_fault v receiver (Some fault) is = same
+    by_fault v receiver None is = by_test v receiver (to == from) refl (can_give gift n (to == from) u v is)
 
-    by_receiver : (u : Unit) → get c.units from ≡ Some u → (o : Option Unit) → get c.units to ≡ o → P (give_to c from to gift n u o).0
-    by_receiver u giver None is = same
-    by_receiver u giver (Some v) receiver = by_fault u v giver receiver (give_fault gift n (to == from) u (Some v)) refl
+    by_receiver : (o : Option Unit) → get c.units to ≡ o → P (give_to c from to gift n u o).0
+    by_receiver None is = same
+    by_receiver (Some v) receiver = by_fault v receiver (give_fault gift n (to == from) u (Some v)) refl
 
-    by_giver : (o : Option Unit) → get c.units from ≡ o → P (give_from c from to gift n o).0
-    by_giver None is = same
-    by_giver (Some u) giver = by_receiver u giver (get c.units to) refl
-
-module _ (w : Planet) (c : State) (early : IsEarly w c) (from to : ℕ) (gift : Gift) (n : ℕ) where
-  pub give_steps_well : IsKnown w gift → StepsWell IsEarly (λ d e t. 0) w c (give c from to gift n).0
+module _ (w : Planet) (c : State) (early : IsEarly w c) (from to : ℕ) (gift : Gift) (n : ℕ) (u : Unit) (giver : get c.units from ≡ Some u) where
+  give_steps_well : IsKnown w gift → StepsWell IsEarly (λ d e t. 0) w c (give from to gift n c u).0
   give_steps_well known =
-      give_cases (λ d. StepsWell IsEarly (λ d e t. 0) w c d) c from to gift n (well_same w c early)
-      (λ u v giver receiver apart can.
+      give_cases (λ d. StepsWell IsEarly (λ d e t. 0) w c d) c from to gift n u giver (well_same w c early)
+      (λ v receiver apart can.
       let less = with_held_of gift u.holding (held_of gift u.holding - n) in
       let more = with_held_of gift v.holding (held_of gift v.holding + n) in
       let least = held_within gift u.holding (early.steady.numbers.units from u giver).1 in
@@ -177,28 +174,29 @@ module _ (w : Planet) (c : State) (early : IsEarly w c) (from to : ℕ) (gift : 
       (may_have_of w v.holding gift (held_of gift v.holding + n) known (can.room refl) (may_have w c to v receiver early.steady)) (same_flag gift v.holding (held_of gift v.holding + n)) early)
       (both_hold gift n u.holding v.holding can.enough))
 
-  pub give_spares : (k : ℕ) (x : Unit) → get c.units k ≡ Some x → k ≢ from → IsSpared IsNoWorse (give c from to gift n).0 k x
+  give_spares : (k : ℕ) (x : Unit) → get c.units k ≡ Some x → k ≢ from → IsSpared IsNoWorse (give from to gift n c u).0 k x
   give_spares k x there other =
-      give_cases (λ d. IsSpared IsNoWorse d k x) c from to gift n (record { unit = x; there = there; spared = no_worse x })
-      (λ u v giver receiver apart can.
+      give_cases (λ d. IsSpared IsNoWorse d k x) c from to gift n u giver (record { unit = x; there = there; spared = no_worse x })
+      (λ v receiver apart can.
       spared-moved c from to u v (with_held_of gift u.holding (held_of gift u.holding - n)) (with_held_of gift v.holding (held_of gift v.holding + n)) giver receiver apart (better_off gift n v) k x there other)
 
 -- ---- the phase
 
 pub give_orderly : IsOrderly give_step IsEarly (λ c e t. 0) (λ e t. 0) IsOwnOrder IsNoWorse
 give_orderly = record {
-  well = λ w a c t early fit own. well w a c t early t.said fit;
+  well = λ w a c t x early fit own. well w a c t x early own t.said fit;
   sparing = no_worse_spares;
-  spared = λ w a c t early own n u there other. spared w a c t early n u there (apart_own c t n u own there other) t.said;
+  spared = λ w a c t x early own n u there other. spared w a c t x early own n u there (other_unit c t x n u own there other) t.said;
   bounded = λ w c early e t. omega arith;
 }
   where
-    well : (w : Planet) (a : Aliases) (c : State) (t : Task) → IsEarly w c → (s : Said) → IsOrderOf w s → StepsWell IsEarly (λ d e t. 0) w c (give_said a c t s).0
-    well w a c t early (orders.Give to n item) (ref, number, known) = give_steps_well w c early t.unit (unit_of a t.faction to) (Item item) n known
-    well w a c t early (orders.Pay to n) fit = give_steps_well w c early t.unit (unit_of a t.faction to) Money n tt
-    well w a c t early other fit = well_same w c early
+    well : (w : Planet) (a : Aliases) (c : State) (t : Task) (x : Unit) → IsEarly w c → IsUnitOf c t x → (s : Said) → IsOrderOf w s → IfSome (give_said a t.faction t.unit s) (λ deed. StepsWell IsEarly (λ d e t. 0) w c (deed c x).0)
+    well w a c t x early own (orders.Give to n item) (ref, number, known) = give_steps_well w c early t.unit (unit_of a t.faction to) (Item item) n x own.there known
+    well w a c t x early own (orders.Pay to n) fit = give_steps_well w c early t.unit (unit_of a t.faction to) Money n x own.there tt
+    well w a c t x early own other fit = tt
 
-    spared : (w : Planet) (a : Aliases) (c : State) (t : Task) → IsEarly w c → (n : ℕ) (u : Unit) → get c.units n ≡ Some u → n ≢ t.unit → (s : Said) → IsSpared IsNoWorse (give_said a c t s).0 n u
-    spared w a c t early n u there apart (orders.Give to k item) = give_spares w c early t.unit (unit_of a t.faction to) (Item item) k n u there apart
-    spared w a c t early n u there apart (orders.Pay to k) = give_spares w c early t.unit (unit_of a t.faction to) Money k n u there apart
-    spared w a c t early n u there apart other = record { unit = u; there = there; spared = no_worse u }
+    spared : (w : Planet) (a : Aliases) (c : State) (t : Task) (x : Unit) → IsEarly w c → IsUnitOf c t x → (n : ℕ) (u : Unit) → get c.units n ≡ Some u → n ≢ t.unit → (s : Said)
+        → IfSome (give_said a t.faction t.unit s) (λ deed. IsSpared IsNoWorse (deed c x).0 n u)
+    spared w a c t x early own n u there apart (orders.Give to k item) = give_spares w c early t.unit (unit_of a t.faction to) (Item item) k x own.there n u there apart
+    spared w a c t x early own n u there apart (orders.Pay to k) = give_spares w c early t.unit (unit_of a t.faction to) Money k x own.there n u there apart
+    spared w a c t x early own n u there apart other = tt

@@ -1,6 +1,6 @@
 -- A unit that begins to guard, in a region that no other faction guards.
 use Rattle.std.proofs.Common.{◌≡◌, ◌≢◌, ◌==◌, ℕ, ◌+◌, Bool, true, false, not, ◌&&◌, ◌||◌, List, [], ◌∷◌, Option, Some, None, refl, sym, ap, subst, ◌∙◌, inl, inr, arith}
-use Rattle.std.specs.Prelude.{pos}
+use Rattle.std.specs.Prelude.{IfSome, pos}
 use Rattle.std.specs.List.{list_any}
 use Rattle.std.proofs.lemmas.Bool.Decides.{nat_tests}
 use Rattle.std.specs.FinMap.{get, insert}
@@ -23,15 +23,16 @@ use Rattle.atl_state.proofs.EveryLaws.{every-insert, get-insert_other}
 use Rattle.atl_state.proofs.HoldingLaws.{marks-unit_row, total-held}
 use Rattle.atl_state.proofs.RegionLaws.{changed-known}
 use Rattle.atl_state.proofs.RemovedLaws.{IsListed, passing_listed}
-use Rattle.atl_instant.specs.Guard.{guard, guard_by, guard_concerns, guard_fault, guard_said, guard_step, guards_against, is_guarded_against, sets_flag}
+use Rattle.atl_instant.specs.Guard.{guard, guard_concerns, guard_fault, guard_said, guard_step, guards_against, is_guarded_against}
 use Rattle.atl_instant.specs.Outcomes.{unless}
 use Rattle.atl_instant.specs.Staying.{IsNoWorse}
 use Rattle.atl_instant.specs.PhaseOrders.{Task}
-use Rattle.atl_instant.specs.Steps.{IsOrderly, IsSpared, StepsWell}
+use Rattle.atl_instant.specs.Steps.{IsOrderly, IsSpared, IsUnitOf, StepsWell}
 use Rattle.atl_state.proofs.HavingLaws.{may_have, steady-having}
-use Rattle.atl_instant.proofs.OutcomeLaws.{apart_own, none_fits, not_apart}
+use Rattle.atl_instant.proofs.OutcomeLaws.{none_fits, not_apart}
 use Rattle.atl_instant.proofs.StayingLaws.{no_worse}
 use Rattle.atl_instant.proofs.StepLaws.{drawn_same, no_worse_spares, well_same}
+use Rattle.atl_instant.proofs.UnbookedLaws.{other_unit}
 
 -- ---- who else guards
 
@@ -118,42 +119,39 @@ flag_marks c d n what marks =
 -- ---- one order
 
 -- what is so of the campaign as it is, and of that in which the unit guards, is so of the campaign behind the order
-guard_cases : (P : State → Type 0) (c : State) (n : ℕ) → P c → ((u : Unit) → get c.units n ≡ Some u → is_guarded_against c u.region u.faction ≡ false → P (with_guard c n true)) → P (guard c n).0
+guard_cases : (P : State → Type 0) (c : State) (n : ℕ) (u : Unit) → P c → (is_guarded_against c u.region u.faction ≡ false → P (with_guard c n true)) → P (guard n c u).0
 unfolding guard
-guard_cases P c n same flag = by_unit (get c.units n) refl
+guard_cases P c n u same flag = by_fault (guard_fault c u) refl
   where
-    by_fault : (u : Unit) → get c.units n ≡ Some u → (f : Option EventFault) → guard_fault c u ≡ f → P (unless c f (with_guard c n true, Done 0)).0
-    by_fault u is (Some fault) e = same
-    by_fault u is None e =
+    by_fault : (f : Option EventFault) → guard_fault c u ≡ f → P (unless c f (with_guard c n true, Done 0)).0
+    by_fault (Some fault) e = same
+    by_fault None e =
         let one = none_fits (u.holding.men == 0) NoMen ((is_guarded_against c u.region u.faction, Guarded) ∷ []) e in
         let two = none_fits (is_guarded_against c u.region u.faction) Guarded [] one.1 in
-        flag u is two.0
+        flag two.0
 
-    by_unit : (o : Option Unit) → get c.units n ≡ o → P (guard_by c n o).0
-    by_unit None is = same
-    by_unit (Some u) is = by_fault u is (guard_fault c u) refl
+guard_steps_well : (w : Planet) (c : State) (n : ℕ) (u : Unit) → get c.units n ≡ Some u → IsSteady w c → StepsWell IsSteady (λ d e t. 0) w c (guard n c u).0
+guard_steps_well w c n u is steady = guard_cases (λ d. StepsWell IsSteady (λ d e t. 0) w c d) c n u (well_same w c steady) (λ none. flag_steps_well w c n u is none steady)
 
-pub guard_steps_well : (w : Planet) (c : State) (n : ℕ) → IsSteady w c → StepsWell IsSteady (λ d e t. 0) w c (guard c n).0
-guard_steps_well w c n steady = guard_cases (λ d. StepsWell IsSteady (λ d e t. 0) w c d) c n (well_same w c steady) (λ u is none. flag_steps_well w c n u is none steady)
-
-pub guard_spares : Planet → (c : State) (n k : ℕ) (x : Unit) → get c.units k ≡ Some x → k ≢ n → IsSpared IsNoWorse (guard c n).0 k x
-guard_spares w c n k x there apart =
-    guard_cases (λ d. IsSpared IsNoWorse d k x) c n (record { unit = x; there = there; spared = no_worse x }) (λ u is none. flag_spares w c n u is k x there apart)
+guard_spares : (w : Planet) (c : State) (n : ℕ) (u : Unit) → get c.units n ≡ Some u → (k : ℕ) (x : Unit) → get c.units k ≡ Some x → k ≢ n → IsSpared IsNoWorse (guard n c u).0 k x
+guard_spares w c n u is k x there apart =
+    guard_cases (λ d. IsSpared IsNoWorse d k x) c n u (record { unit = x; there = there; spared = no_worse x }) (λ none. flag_spares w c n u is k x there apart)
 
 -- ---- the phase
 
 pub guard_orderly : IsOrderly guard_step IsSteady (λ c e t. 0) (λ e t. 0) guard_concerns IsNoWorse
 guard_orderly = record {
-  well = λ w a c t steady fit own. well w c t steady t.said;
+  well = λ w a c t x steady fit own. well w c t x steady own t.said;
   sparing = no_worse_spares;
-  spared = λ w a c t steady own n u there other. spared w c t n u there t.said (λ sets. apart_own c t n u own there (λ h. other (h, sets)));
+  spared = λ w a c t x steady own n u there other. spared w c t x own n u there t.said (λ sets. other_unit c t x n u own there (λ h. other (h, sets)));
   bounded = λ w c steady e t. omega arith;
 }
   where
-    well : (w : Planet) (c : State) (t : Task) → IsSteady w c → (s : Said) → StepsWell IsSteady (λ d e t. 0) w c (guard_said c t s).0
-    well w c t steady (orders.Guard true) = guard_steps_well w c t.unit steady
-    well w c t steady other = well_same w c steady
+    well : (w : Planet) (c : State) (t : Task) (x : Unit) → IsSteady w c → IsUnitOf c t x → (s : Said) → IfSome (guard_said t.unit s) (λ deed. StepsWell IsSteady (λ d e t. 0) w c (deed c x).0)
+    well w c t x steady own (orders.Guard true) = guard_steps_well w c t.unit x own.there steady
+    well w c t x steady own other = tt
 
-    spared : (w : Planet) (c : State) (t : Task) (n : ℕ) (u : Unit) → get c.units n ≡ Some u → (s : Said) → (sets_flag s ≡ true → n ≢ t.unit) → IsSpared IsNoWorse (guard_said c t s).0 n u
-    spared w c t n u there (orders.Guard true) apart = guard_spares w c t.unit n u there (apart refl)
-    spared w c t n u there other apart = record { unit = u; there = there; spared = no_worse u }
+    spared : (w : Planet) (c : State) (t : Task) (x : Unit) → IsUnitOf c t x → (n : ℕ) (u : Unit) → get c.units n ≡ Some u → (s : Said) → (s ≡ orders.Guard true → n ≢ t.unit)
+        → IfSome (guard_said t.unit s) (λ deed. IsSpared IsNoWorse (deed c x).0 n u)
+    spared w c t x own n u there (orders.Guard true) apart = guard_spares w c t.unit x own.there n u there (apart refl)
+    spared w c t x own n u there other apart = tt

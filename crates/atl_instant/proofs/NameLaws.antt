@@ -1,6 +1,6 @@
 -- NAME and GUARD 0 leave a campaign well, and spare who doesn't order them.
 use Rattle.std.proofs.Common.{◌≡◌, ◌≢◌, ◌==◌, ℕ, ◌+◌, Bool, true, false, List, Option, Some, None, refl, sym, ap, subst, ◌∙◌, arith}
-use Rattle.std.specs.Prelude.{IsTrue, if◌then◌else◌}
+use Rattle.std.specs.Prelude.{IfSome, IsTrue, if◌then◌else◌}
 use Rattle.std.specs.FinMap.{get, insert}
 use Rattle.atl_tables.specs.Names.{name_ok}
 use Rattle.atl_tables.specs.Planet.{Planet}
@@ -23,30 +23,24 @@ use Rattle.atl_state.specs.State.{State, with_faction_name, with_guard, with_str
 use Rattle.atl_state.specs.Totals.{held, total}
 use Rattle.atl_state.proofs.HoldingLaws.{MayHold, of_one_faction_kept, steady-held, total-held}
 use Rattle.atl_state.proofs.RegionLaws.{changed-known}
-use Rattle.atl_instant.specs.Course.{Aliases}
-use Rattle.atl_instant.specs.Inside.{inside}
-use Rattle.atl_instant.specs.Name.{name_by, name_concerns, name_step, named, structure_fault, structure_named, takes_naming, with_unit_name}
+use Rattle.atl_instant.specs.Name.{name_concerns, name_said, name_step, named, structure_fault, structure_named, with_unit_name}
 use Rattle.atl_instant.specs.Outcomes.{unless}
 use Rattle.atl_instant.specs.PhaseOrders.{Task}
 use Rattle.atl_instant.specs.Staying.{IsNoWorse}
-use Rattle.atl_instant.specs.Steps.{IsOrderly, IsOwnOrder, IsSpared, StepsWell, is_own}
+use Rattle.atl_instant.specs.Steps.{IsOrderly, IsOwnOrder, IsSpared, IsUnitOf, StepsWell}
 use Rattle.atl_instant.specs.Unbooked.{books_nothing, moves_nothing}
 use Rattle.atl_instant.proofs.FactionLaws.{count-faction_name, known-faction_name, steady-faction_name}
+use Rattle.atl_instant.proofs.OutcomeLaws.{false_true}
 use Rattle.atl_instant.proofs.RefitLaws.{IsRelabelled, early-relabelled}
 use Rattle.atl_instant.proofs.StructureLaws.{at_number, changed_else, get-changed, len-changed}
-use Rattle.atl_instant.proofs.StayingLaws.{no_worse}
 use Rattle.atl_instant.proofs.StepLaws.{no_worse_spares, well_same}
-use Rattle.atl_instant.proofs.UnbookedLaws.{other_spared, own_unit, same_total_of, unbooked_well}
+use Rattle.atl_instant.proofs.UnbookedLaws.{other_spared, same_total_of, unbooked_well}
 
--- an order that is none of the phase changes nothing
-pub name_other : (w : Planet) (c : State) (f n : ℕ) (text : List ℕ) (o : Order Span) → ((what : NameKind) (span : Span) → o ≡ orders.Name what span → ⊥) → (o ≡ orders.Guard false → ⊥)
-    → (c, Done 0) ≡ name_by w c f n (said text o)
-name_other w c f n text (orders.Name what span) a b = absurd (a what span refl)
-name_other w c f n text (orders.Guard false) a b = absurd (b refl)
-name_other w c f n text other a b = refl
-
-false_true : {P : Type 0} → false ≡ true → P
-false_true e = cc
+-- an order that is none of the phase is passed over
+pub name_other : (w : Planet) (n : ℕ) (text : List ℕ) (o : Order Span) → ((what : NameKind) (span : Span) → o ≡ orders.Name what span → ⊥) → (o ≡ orders.Guard false → ⊥) → name_said w n (said text o) ≡ None
+name_other w n text (orders.Name what span) a b = absurd (a what span refl)
+name_other w n text (orders.Guard false) a b = absurd (b refl)
+name_other w n text other a b = refl
 
 module _ (w : Planet) (c : State) (n : ℕ) (u : Unit) (is : get c.units n ≡ Some u) (early : IsEarly w c) where
   abbrev Well : State → Type 0
@@ -137,26 +131,20 @@ module _ (w : Planet) (c : State) (n : ℕ) (u : Unit) (is : get c.units n ≡ S
 
   -- ---- an order
 
-  named_well : (what : NameKind) (name : List ℕ) → IsTrue (name_ok name) → Well (named w c u.faction n what name).0
+  named_well : (what : NameKind) (name : List ℕ) → IsTrue (name_ok name) → Well (named w c n u.faction u.structure what name).0
   named_well kinds.Unit name ok = unit_name_well name ok
   named_well kinds.Faction name ok = faction_well name ok
-  named_well kinds.Building name ok = structure_well (inside c n) false name ok
-  named_well kinds.Ship name ok = structure_well (inside c n) true name ok
+  named_well kinds.Building name ok = structure_well u.structure false name ok
+  named_well kinds.Ship name ok = structure_well u.structure true name ok
 
-  order_well : (o : Said) → IsOrderOf w o → Well (name_by w c u.faction n o).0
+  order_well : (o : Said) → IsOrderOf w o → IfSome (name_said w n o) (λ deed. Well (deed c u).0)
   order_well (orders.Name what name) fit = named_well what name fit
   order_well (orders.Guard false) fit = flag_well
-  order_well other fit = well_same w c early
-
-name_well : (w : Planet) (a : Aliases) (c : State) (t : Task) → IsEarly w c → IsOrderOf w t.said → is_own c t ≡ true → StepsWell IsEarly books_nothing w c (name_step w a c t).0
-unfolding name_step
-name_well w a c t early fit own =
-    let (u, is, of_faction) = own_unit c t own in
-    subst (λ f. StepsWell IsEarly books_nothing w c (name_by w c f t.unit t.said).0) of_faction (order_well w c t.unit u is early t.said fit)
+  order_well other fit = tt
 
 -- ---- other units stay
 
-module _ (w : Planet) (c : State) (f n k : ℕ) (apart : k ≢ n) where
+module _ (w : Planet) (c : State) (n : ℕ) (u : Unit) (k : ℕ) (apart : k ≢ n) where
   abbrev Stays : State → Type 0
   Stays d = get d.units k ≡ get c.units k
 
@@ -167,26 +155,27 @@ module _ (w : Planet) (c : State) (f n k : ℕ) (apart : k ≢ n) where
       by_fault (Some fault) = refl
       by_fault None = refl
 
-  named_stays : (what : NameKind) (name : List ℕ) → Stays (named w c f n what name).0
+  named_stays : (what : NameKind) (name : List ℕ) → Stays (named w c n u.faction u.structure what name).0
   named_stays kinds.Unit name = changed_else (λ (x : Unit). record x { holding = record x.holding { name = name } }) c.units n k apart (get c.units n)
   named_stays kinds.Faction name = refl
-  named_stays kinds.Building name = structure_stays (inside c n) false name
-  named_stays kinds.Ship name = structure_stays (inside c n) true name
+  named_stays kinds.Building name = structure_stays u.structure false name
+  named_stays kinds.Ship name = structure_stays u.structure true name
 
-  order_stays : (o : Said) → Stays (name_by w c f n o).0
+  order_stays : (o : Said) → IfSome (name_said w n o) (λ deed. Stays (deed c u).0)
   order_stays (orders.Name what name) = named_stays what name
   order_stays (orders.Guard false) = changed_else (λ (x : Unit). record x { holding = record x.holding { guard = false } }) c.units n k apart (get c.units n)
-  order_stays other = refl
+  order_stays other = tt
 
 pub name_orderly : IsOrderly name_step IsEarly books_nothing moves_nothing name_concerns IsNoWorse
-unfolding name_step
 name_orderly = record {
-  well = name_well;
+  well = λ w a c t x early fit own. order_well w c t.unit x own.there early t.said fit;
   sparing = no_worse_spares;
-  spared = λ w a c t early own k v there other. spared w c t own k v there t.said (λ takes mine. other (mine, takes));
+  spared = λ w a c t x early own k v there other. spared w c t x own k v there t.said (λ takes mine. other (mine, takes));
   bounded = λ w c early e t. omega arith;
 }
   where
-    spared : (w : Planet) (c : State) (t : Task) → is_own c t ≡ true → (k : ℕ) (v : Unit) → get c.units k ≡ Some v → (o : Said) → (takes_naming o ≡ true → IsOwnOrder t k v.faction → ⊥) → IsSpared IsNoWorse (name_by w c t.faction t.unit o).0 k v
-    spared w c t own k v there (orders.Guard true) apart = record { unit = v; there = there; spared = no_worse v }
-    spared w c t own k v there o apart = other_spared c (name_by w c t.faction t.unit o).0 t (λ j other. order_stays w c t.faction t.unit j other o) own k v there (apart refl)
+    spared : (w : Planet) (c : State) (t : Task) (x : Unit) → IsUnitOf c t x → (k : ℕ) (v : Unit) → get c.units k ≡ Some v → (o : Said) → (o ≢ orders.Guard true → IsOwnOrder t k v.faction → ⊥)
+        → IfSome (name_said w t.unit o) (λ deed. IsSpared IsNoWorse (deed c x).0 k v)
+    spared w c t x own k v there (orders.Name what name) apart = other_spared c _ t x (λ j other. order_stays w c t.unit x j other (orders.Name what name)) own k v there (apart (λ same. cc))
+    spared w c t x own k v there (orders.Guard false) apart = other_spared c _ t x (λ j other. order_stays w c t.unit x j other (orders.Guard false)) own k v there (apart (λ same. cc))
+    spared w c t x own k v there o apart = tt

@@ -1,7 +1,7 @@
 -- LEAVE, ENTER and PROMOTE leave a campaign well, and spare who doesn't order them.
 use Rattle.std.proofs.Common.{◌≡◌, ◌≢◌, ◌==◌, ℕ, Bool, true, false, not, List, [], ◌∷◌, Option, Some, None, refl, sym, ap, subst, ◌∙◌, arith}
 use Rattle.std.proofs.lemmas.Bool.{true≢false}
-use Rattle.std.specs.Prelude.{if◌then◌else◌}
+use Rattle.std.specs.Prelude.{IfSome, if◌then◌else◌}
 use Rattle.std.specs.Option.{option_map_or}
 use Rattle.std.specs.FinMap.{get}
 use Rattle.atl_tables.specs.Planet.{Planet}
@@ -10,7 +10,6 @@ use Rattle.atl_orders.specs.declared.order.Order.{Order}
 use Rattle.atl_orders.specs.declared.order.Order.TheVariants as orders
 use Rattle.atl_orders.specs.declared.order.Span.{Span}
 use Rattle.atl_orders.specs.declared.order.UnitRef.{UnitRef}
-use Rattle.atl_orders.specs.Bounds.{IsOrderOf}
 use Rattle.atl_orders.specs.Orders.{Said, said}
 use Rattle.atl_state.specs.declared.event.EventFault.{EventFault}
 use Rattle.atl_state.specs.declared.event.EventFault.TheVariants.{AtSea, NotHere, NotInside, NotOwner}
@@ -22,26 +21,26 @@ use Rattle.atl_state.specs.Owners.{is_owned_by, with_place}
 use Rattle.atl_state.specs.State.{State, with_owner}
 use Rattle.atl_state.proofs.LeavingLaws.{owned_by}
 use Rattle.atl_instant.specs.Course.{Aliases}
-use Rattle.atl_instant.specs.Inside.{inside, region_of}
+use Rattle.atl_instant.specs.Inside.{inside}
 use Rattle.atl_instant.specs.Outcomes.{first_fault, unless}
-use Rattle.atl_instant.specs.Place.{entered, entered_other, is_in, left, leave_fault, enter_fault, place_by, place_step, promote_fault, promoted}
-use Rattle.atl_instant.specs.PhaseOrders.{Task, unit_of}
+use Rattle.atl_instant.specs.Place.{entered, entered_other, is_in, left, leave_fault, enter_fault, place_said, place_step, promote_fault, promoted}
+use Rattle.atl_instant.specs.PhaseOrders.{unit_of}
 use Rattle.atl_instant.specs.Staying.{IsNoWorse}
-use Rattle.atl_instant.specs.Steps.{IsOrderly, IsOwnOrder, StepsWell, is_own}
+use Rattle.atl_instant.specs.Steps.{IsOrderly, IsOwnOrder, StepsWell}
 use Rattle.atl_instant.specs.Unbooked.{books_nothing, moves_nothing}
 use Rattle.atl_instant.proofs.PlacingLaws.{place_stays, place_well}
 use Rattle.atl_instant.proofs.RefitLaws.{IsRelabelled, early-relabelled}
 use Rattle.atl_instant.proofs.StructureLaws.{at_number, get-changed, is_equal, is_unequal, len-changed}
 use Rattle.atl_instant.proofs.StepLaws.{no_worse_spares, well_same}
-use Rattle.atl_instant.proofs.UnbookedLaws.{other_spared, own_unit, same_total_of, unbooked_well}
+use Rattle.atl_instant.proofs.UnbookedLaws.{same_total_of, stays_spared, unbooked_well}
 
--- an order that is none of the phase changes nothing
-pub place_other : (w : Planet) (a : Aliases) (c : State) (f n : ℕ) (text : List ℕ) (o : Order Span) → (o ≡ orders.Leave → ⊥) → ((s : ℕ) → o ≡ orders.Enter s → ⊥) → ((to : UnitRef) → o ≡ orders.Promote to → ⊥)
-    → (c, Done 0) ≡ place_by w a c f n (said text o)
-place_other w a c f n text orders.Leave l b d = absurd (l refl)
-place_other w a c f n text (orders.Enter s) l b d = absurd (b s refl)
-place_other w a c f n text (orders.Promote to) l b d = absurd (d to refl)
-place_other w a c f n text other l b d = refl
+-- an order that is none of the phase is passed over
+pub place_other : (w : Planet) (a : Aliases) (f n : ℕ) (text : List ℕ) (o : Order Span) → (o ≡ orders.Leave → ⊥) → ((s : ℕ) → o ≡ orders.Enter s → ⊥) → ((to : UnitRef) → o ≡ orders.Promote to → ⊥)
+    → place_said w a f n (said text o) ≡ None
+place_other w a f n text orders.Leave l b d = absurd (l refl)
+place_other w a f n text (orders.Enter s) l b d = absurd (b s refl)
+place_other w a f n text (orders.Promote to) l b d = absurd (d to refl)
+place_other w a f n text other l b d = refl
 
 module _ (w : Planet) (c : State) (n : ℕ) (u : Unit) (is : get c.units n ≡ Some u) (early : IsEarly w c) where
   abbrev Well : State → Type 0
@@ -50,101 +49,90 @@ module _ (w : Planet) (c : State) (n : ℕ) (u : Unit) (is : get c.units n ≡ S
   unchanged : Well c
   unchanged = well_same w c early
 
-  inside_is : inside c n ≡ u.structure
-  inside_is = ap (λ o. option_map_or (λ (x : Unit). x.structure) o 0) is
-
-  region_is : region_of c n ≡ u.region
-  region_is = ap (λ o. option_map_or (λ (x : Unit). x.region) o 0) is
-
   -- ---- LEAVE
 
-  left_place : (inside c n == 0) ≡ false → is_land_at w (region_of c n) ≡ true → Well (with_place c n (region_of c n) 0)
-  left_place some dry =
-      subst (λ r. Well (with_place c n r 0)) (sym region_is)
-      (place_well w c n u 0 is early (λ none. is_unequal (inside c n) 0 some (inside_is ∙ none)) (λ not_none. absurd (not_none refl))
-      (λ wet. absurd (true≢false (sym dry ∙ ap (is_land_at w) region_is ∙ wet))))
+  left_place : (u.structure == 0) ≡ false → is_land_at w u.region ≡ true → Well (with_place c n u.region 0)
+  left_place some dry = place_well w c n u 0 is early (λ none. is_unequal u.structure 0 some none) (λ not_none. absurd (not_none refl)) (λ wet. absurd (true≢false (sym dry ∙ wet)))
 
-  left_by : (a b : Bool) → (inside c n == 0) ≡ a → is_land_at w (region_of c n) ≡ b → Well (unless c (first_fault ((a, NotInside) ∷ (not b, AtSea) ∷ [])) (with_place c n (region_of c n) 0, Done 0)).0
+  left_by : (a b : Bool) → (u.structure == 0) ≡ a → is_land_at w u.region ≡ b → Well (unless c (first_fault ((a, NotInside) ∷ (not b, AtSea) ∷ [])) (with_place c n u.region 0, Done 0)).0
   left_by true b some dry = unchanged
   left_by false false some dry = unchanged
   left_by false true some dry = left_place some dry
 
-  left_well : Well (left w c n).0
-  left_well = left_by (inside c n == 0) (is_land_at w (region_of c n)) refl refl
+  left_well : Well (left w n c u).0
+  unfolding left
+  left_well = left_by (u.structure == 0) (is_land_at w u.region) refl refl
 
   -- ---- ENTER
 
   module _ (s : ℕ) where
-    entered_place : (x : Structure) → get c.structures s ≡ Some x → (x.region == region_of c n) ≡ true → (inside c n == s) ≡ false → Well (with_place c n (region_of c n) s)
+    entered_place : (x : Structure) → get c.structures s ≡ Some x → (x.region == u.region) ≡ true → (u.structure == s) ≡ false → Well (with_place c n u.region s)
     entered_place x there near other =
-        let here : x.region ≡ u.region = is_equal x.region (region_of c n) near ∙ region_is in
-        subst (λ r. Well (with_place c n r s)) (sym region_is)
-        (place_well w c n u s is early (λ same. is_unequal (inside c n) s other (inside_is ∙ same)) (λ some. (x, there, here))
-        (λ wet. (x, there, (early.steady.water.structures s x there (ap (is_land_at w) here ∙ wet)).0)))
+        let here : x.region ≡ u.region = is_equal x.region u.region near in
+        place_well w c n u s is early (λ same. is_unequal u.structure s other same) (λ some. (x, there, here))
+        (λ wet. (x, there, (early.steady.water.structures s x there (ap (is_land_at w) here ∙ wet)).0))
 
-    entered_by : (x : Structure) → get c.structures s ≡ Some x → (a b : Bool) → (x.region == region_of c n) ≡ a → (inside c n == s) ≡ b
-        → Well (unless c (first_fault ((not a, NotHere) ∷ [])) (if b then c else with_place c n (region_of c n) s, Done 0)).0
+    entered_by : (x : Structure) → get c.structures s ≡ Some x → (a b : Bool) → (x.region == u.region) ≡ a → (u.structure == s) ≡ b
+        → Well (unless c (first_fault ((not a, NotHere) ∷ [])) (if b then c else with_place c n u.region s, Done 0)).0
     entered_by x there false b near same = unchanged
     entered_by x there true true near same = unchanged
     entered_by x there true false near same = entered_place x there near same
 
-    entered_at : (o : Option Structure) → get c.structures s ≡ o → Well (unless c (first_fault ((not (is_in (region_of c n) o), NotHere) ∷ [])) (entered_other c n s, Done 0)).0
+    entered_at : (o : Option Structure) → get c.structures s ≡ o → Well (unless c (first_fault ((not (is_in u.region o), NotHere) ∷ [])) (entered_other c n u.region u.structure s, Done 0)).0
     entered_at None there = unchanged
-    entered_at (Some x) there = entered_by x there (x.region == region_of c n) (inside c n == s) refl refl
+    entered_at (Some x) there = entered_by x there (x.region == u.region) (u.structure == s) refl refl
 
-    entered_well : Well (entered c n s).0
+    entered_well : Well (entered n s c u).0
+    unfolding entered
     entered_well = entered_at (get c.structures s) refl
 
   -- ---- PROMOTE
 
   module _ (to : ℕ) where
-    inside_to : (o : Option Unit) → get c.units to ≡ o → option_map_or (λ (x : Unit). x.structure) o 0 ≡ inside c n → inside c n ≢ 0 → (v : Unit) × (get c.units to ≡ Some v) × (v.structure ≡ inside c n)
+    inside_to : (o : Option Unit) → get c.units to ≡ o → option_map_or (λ (x : Unit). x.structure) o 0 ≡ u.structure → u.structure ≢ 0 → (v : Unit) × (get c.units to ≡ Some v) × (v.structure ≡ u.structure)
     inside_to None there same some = absurd (some (sym same))
     inside_to (Some v) there same some = (v, there, same)
 
-    new_owner : (inside c n == 0) ≡ false → (inside c to == inside c n) ≡ true → Well (with_owner c (inside c n) to)
+    new_owner : (u.structure == 0) ≡ false → (inside c to == u.structure) ≡ true → Well (with_owner c u.structure to)
     new_owner some near =
-        unbooked_well w c (with_owner c (inside c n) to)
-        (early-relabelled w c n u is _ (at_number (owned_by to) c.structures (inside c n)) (get-changed (owned_by to) c.structures (inside c n)) (len-changed (owned_by to) c.structures (inside c n))
-        (λ q y there. relabelled y (q == inside c n)) (λ q y there. owned q y (q == inside c n) refl (early.steady.owners q y there)) early)
-        (record { month = refl; reports = refl; count = refl; factions = λ j there. there }) refl (same_total_of c (with_owner c (inside c n) to) refl refl)
+        unbooked_well w c (with_owner c u.structure to)
+        (early-relabelled w c n u is _ (at_number (owned_by to) c.structures u.structure) (get-changed (owned_by to) c.structures u.structure) (len-changed (owned_by to) c.structures u.structure)
+        (λ q y there. relabelled y (q == u.structure)) (λ q y there. owned q y (q == u.structure) refl (early.steady.owners q y there)) early)
+        (record { month = refl; reports = refl; count = refl; factions = λ j there. there }) refl (same_total_of c (with_owner c u.structure to) refl refl)
       where
         relabelled : (y : Structure) (b : Bool) → IsRelabelled y (if b then owned_by to y else y)
         relabelled y true = record { kind = refl; region = refl; done = refl; name = λ old. old }
         relabelled y false = record { kind = refl; region = refl; done = refl; name = λ old. old }
 
-        owned : (q : ℕ) (y : Structure) (b : Bool) → (q == inside c n) ≡ b → IsOwned c q y → IsOwned c q (if b then owned_by to y else y)
+        owned : (q : ℕ) (y : Structure) (b : Bool) → (q == u.structure) ≡ b → IsOwned c q y → IsOwned c q (if b then owned_by to y else y)
         owned q y true here old =
-            let (v, there, within) = inside_to (get c.units to) refl (is_equal (inside c to) (inside c n) near) (is_unequal (inside c n) 0 some) in
+            let (v, there, within) = inside_to (get c.units to) refl (is_equal (inside c to) u.structure near) (is_unequal u.structure 0 some) in
             record {
-              owned = λ given. (v, there, within ∙ sym (is_equal q (inside c n) here));
+              owned = λ given. (v, there, within ∙ sym (is_equal q u.structure here));
               ownerless = λ none. let least = (early.steady.numbers.units to v there).0 in absurd (omega (arith, none, least));
             }
         owned q y false here old = old
 
-    promoted_by : (a b d : Bool) → (inside c n == 0) ≡ a → (inside c to == inside c n) ≡ d
-        → Well (unless c (first_fault ((a, NotInside) ∷ (not b, NotOwner) ∷ (not d, NotHere) ∷ [])) (with_owner c (inside c n) to, Done 0)).0
+    promoted_by : (a b d : Bool) → (u.structure == 0) ≡ a → (inside c to == u.structure) ≡ d
+        → Well (unless c (first_fault ((a, NotInside) ∷ (not b, NotOwner) ∷ (not d, NotHere) ∷ [])) (with_owner c u.structure to, Done 0)).0
     promoted_by true b d some near = unchanged
     promoted_by false false d some near = unchanged
     promoted_by false true false some near = unchanged
     promoted_by false true true some near = new_owner some near
 
-    promoted_well : Well (promoted c n to).0
-    promoted_well = promoted_by (inside c n == 0) (is_owned_by (get c.structures (inside c n)) n) (inside c to == inside c n) refl refl
+    promoted_well : Well (promoted n to c u).0
+    unfolding promoted
+    promoted_well = promoted_by (u.structure == 0) (is_owned_by (get c.structures u.structure) n) (inside c to == u.structure) refl refl
 
-  order_well : (a : Aliases) (f : ℕ) (o : Said) → Well (place_by w a c f n o).0
+  order_well : (a : Aliases) (f : ℕ) (o : Said) → IfSome (place_said w a f n o) (λ deed. Well (deed c u).0)
   order_well a f orders.Leave = left_well
   order_well a f (orders.Enter s) = entered_well s
   order_well a f (orders.Promote to) = promoted_well (unit_of a f to)
-  order_well a f other = unchanged
-
-place_step_well : (w : Planet) (a : Aliases) (c : State) (t : Task) → IsEarly w c → IsOrderOf w t.said → is_own c t ≡ true → StepsWell IsEarly books_nothing w c (place_step w a c t).0
-unfolding place_step
-place_step_well w a c t early fit own = let (u, is, of_faction) = own_unit c t own in order_well w c t.unit u is early a t.faction t.said
+  order_well a f other = tt
 
 -- ---- other units stay
 
-module _ (w : Planet) (a : Aliases) (c : State) (f n k : ℕ) (apart : k ≢ n) where
+module _ (w : Planet) (a : Aliases) (c : State) (f n : ℕ) (u : Unit) (k : ℕ) (apart : k ≢ n) where
   abbrev Stays : State → Type 0
   Stays d = get d.units k ≡ get c.units k
 
@@ -152,21 +140,21 @@ module _ (w : Planet) (a : Aliases) (c : State) (f n k : ℕ) (apart : k ≢ n) 
   unless_stays (Some fault) d stay = refl
   unless_stays None d stay = stay
 
-  entered_stays : (s : ℕ) (b : Bool) → Stays (if b then c else with_place c n (region_of c n) s)
+  entered_stays : (s : ℕ) (b : Bool) → Stays (if b then c else with_place c n u.region s)
   entered_stays s true = refl
-  entered_stays s false = place_stays c n (region_of c n) s k apart
+  entered_stays s false = place_stays c n u.region s k apart
 
-  order_stays : (o : Said) → Stays (place_by w a c f n o).0
-  order_stays orders.Leave = unless_stays (leave_fault w c n) (with_place c n (region_of c n) 0) (place_stays c n (region_of c n) 0 k apart)
-  order_stays (orders.Enter s) = unless_stays (enter_fault c n s) (entered_other c n s) (entered_stays s (inside c n == s))
-  order_stays (orders.Promote to) = unless_stays (promote_fault c n (unit_of a f to)) (with_owner c (inside c n) (unit_of a f to)) refl
-  order_stays other = refl
+  order_stays : (o : Said) → IfSome (place_said w a f n o) (λ deed. Stays (deed c u).0)
+  unfolding left entered promoted
+  order_stays orders.Leave = unless_stays (leave_fault w u) (with_place c n u.region 0) (place_stays c n u.region 0 k apart)
+  order_stays (orders.Enter s) = unless_stays (enter_fault c s u) (entered_other c n u.region u.structure s) (entered_stays s (u.structure == s))
+  order_stays (orders.Promote to) = unless_stays (promote_fault c n (unit_of a f to) u) (with_owner c u.structure (unit_of a f to)) refl
+  order_stays other = tt
 
 pub place_orderly : IsOrderly place_step IsEarly books_nothing moves_nothing IsOwnOrder IsNoWorse
-unfolding place_step
 place_orderly = record {
-  well = place_step_well;
+  well = λ w a c t x early fit own. order_well w c t.unit x own.there early a t.faction t.said;
   sparing = no_worse_spares;
-  spared = λ w a c t early own k v there apart. other_spared c (place_by w a c t.faction t.unit t.said).0 t (λ j other. order_stays w a c t.faction t.unit j other t.said) own k v there apart;
+  spared = λ w a c t x early own k v there apart. stays_spared (place_step w a t) c t x own k v there apart (λ j other. order_stays w a c t.faction t.unit x j other t.said);
   bounded = λ w c early e t. omega arith;
 }

@@ -1,6 +1,6 @@
 -- QUIT leaves a campaign well.
 use Rattle.std.proofs.Common.{◌≡◌, ◌≢◌, ◌==◌, ℕ, ◌+◌, ◌*◌, ◌≤◌, ◌<◌, not, Bool, true, false, cond, List, [], ◌∷◌, length, Option, Some, None, sum_by, refl, sym, ap, subst, ◌∙◌, inl, inr, arith}
-use Rattle.std.specs.Prelude.{ℤ, pos, neg_ℤ, ◌+ℤ◌, fold, unwrap_or, if◌then◌else◌}
+use Rattle.std.specs.Prelude.{ℤ, pos, neg_ℤ, ◌+ℤ◌, IfSome, fold, unwrap_or, if◌then◌else◌}
 use Rattle.std.proofs.lemmas.Int.{ints}
 use Rattle.std.proofs.lemmas.Bool.Decides.{nat_tests}
 use Rattle.std.proofs.lemmas.Bool.{and_parts}
@@ -45,17 +45,16 @@ use Rattle.atl_state.proofs.RegionLaws.{steady-amount}
 use Rattle.atl_state.proofs.RemovedLaws.{IsListed, get-remove_other, listed_passing, sum_over-remove}
 use Rattle.atl_instant.specs.Meaning.{HasRoom, HaveRoom, IsNear, Moving, both_move, most_moved, moves_only}
 use Rattle.atl_instant.specs.Outcomes.{unless}
-use Rattle.atl_instant.specs.Course.{Aliases}
 use Rattle.atl_instant.specs.PhaseOrders.{Task}
-use Rattle.atl_instant.specs.Quit.{booked_off, gone_under, item_gone, leaves, left_at, left_by, quit, quit_by, quit_concerns, quit_fault, quit_moves, quit_reserve, quit_said, quit_step, with_gone_amount}
+use Rattle.atl_instant.specs.Quit.{booked_off, gone_under, item_gone, leaves, left_at, left_by, quit, quit_concerns, quit_fault, quit_moves, quit_reserve, quit_said, quit_step, with_gone_amount}
 use Rattle.atl_instant.specs.Staying.{IsNoWorse}
-use Rattle.atl_instant.specs.Steps.{IsDrawn, IsOrderly, IsSpared, StepsWell, is_of_faction, is_own}
+use Rattle.atl_instant.specs.Steps.{IsDrawn, IsOrderly, IsSpared, IsUnitOf, StepsWell}
 use Rattle.atl_instant.proofs.AmountsLaws.{amount_within}
 use Rattle.atl_instant.proofs.BookingLaws.{booked-near, booked-room, within-neg}
 use Rattle.atl_instant.proofs.MeaningLaws.{less_room, near_more, near_same, near_twice, room_less}
 use Rattle.atl_instant.proofs.OutcomeLaws.{none_fits, not_apart}
 use Rattle.atl_instant.proofs.StayingLaws.{no_worse}
-use Rattle.atl_instant.proofs.StepLaws.{no_worse_spares, well_same, well_twice}
+use Rattle.atl_instant.proofs.StepLaws.{drawn_near, no_worse_spares, well_same, well_twice}
 use Rattle.atl_instant.specs.LostItems.{moving_items}
 
 -- ---- things and entries
@@ -267,9 +266,6 @@ total_books : (c : State) (books : List (List ℤ)) (t : Thing) → total (recor
 unfolding total
 total_books c books t = refl
 
-drawn_near : (x reserve left : ℕ) (a b : ℤ) → left + x ≡ reserve → IsNear x a b → IsDrawn reserve left a b
-drawn_near x reserve left a b e near = record { above = omega (arith, ints, e, near.above); below = omega (arith, ints, e, near.below) }
-
 module _ (w : Planet) (c : State) (n : ℕ) (u : Unit) (is : get c.units n ≡ Some u) (steady : IsSteady w c) where
   abbrev off : State
   off = booked_off c u.holding
@@ -353,28 +349,24 @@ all_left_others w c (n ∷ ns) k steady apart =
 -- ---- one order
 
 -- what is so of the campaign as it is, and of that in which the faction's units left, is so of the campaign behind the order
-pub quit_cases : (P : State → Type 0) (c : State) (n number : ℕ) → P c → ((u : Unit) → get c.units n ≡ Some u → number ≡ u.faction → P (fold left_at c (numbers_of u.faction c.units))) → P (quit c n number).0
+pub quit_cases : (P : State → Type 0) (c : State) (number : ℕ) (u : Unit) → P c → (number ≡ u.faction → P (fold left_at c (numbers_of u.faction c.units))) → P (quit number c u).0
 unfolding quit
-quit_cases P c n number same leave = by_unit (get c.units n) refl
+quit_cases P c number u same leave = by_fault (quit_fault number u) refl
   where
-    by_fault : (u : Unit) → get c.units n ≡ Some u → (f : Option EventFault) → quit_fault number u ≡ f → P (unless c f (fold left_at c (numbers_of u.faction c.units), Done 0)).0
-    by_fault u is (Some fault) e = same
-    by_fault u is None e = leave u is (not_apart number u.faction (none_fits (not (number == u.faction)) WrongNumber [] e).0)
+    by_fault : (f : Option EventFault) → quit_fault number u ≡ f → P (unless c f (fold left_at c (numbers_of u.faction c.units), Done 0)).0
+    by_fault (Some fault) e = same
+    by_fault None e = leave (not_apart number u.faction (none_fits (not (number == u.faction)) WrongNumber [] e).0)
 
-    by_unit : (o : Option Unit) → get c.units n ≡ o → P (quit_by c number o).0
-    by_unit None is = same
-    by_unit (Some u) is = by_fault u is (quit_fault number u) refl
+pub quit_well : (w : Planet) (c : State) (number : ℕ) (u : Unit) → IsSteady w c → StepsWell IsSteady quit_reserve w c (quit number c u).0
+quit_well w c number u steady = quit_cases (λ d. StepsWell IsSteady quit_reserve w c d) c number u (well_same w c steady) (λ own. all_left_well w c (numbers_of u.faction c.units) steady)
 
-quit_well : (w : Planet) (c : State) (n number : ℕ) → IsSteady w c → StepsWell IsSteady quit_reserve w c (quit c n number).0
-quit_well w c n number steady = quit_cases (λ d. StepsWell IsSteady quit_reserve w c d) c n number (well_same w c steady) (λ u is own. all_left_well w c (numbers_of u.faction c.units) steady)
-
-quit_spares : (w : Planet) (c : State) (n number k : ℕ) (x : Unit) → IsSteady w c → get c.units k ≡ Some x → ((u : Unit) → get c.units n ≡ Some u → number ≡ u.faction → u.faction ≢ x.faction) → IsSpared IsNoWorse (quit c n number).0 k x
-quit_spares w c n number k x steady here other =
-    quit_cases (λ d. IsSpared IsNoWorse d k x) c n number (record { unit = x; there = here; spared = no_worse x })
-    (λ u is own. record { unit = x; there = all_left_others w c (numbers_of u.faction c.units) k steady (λ m listed. stays u (other u is own) m listed) ∙ here; spared = no_worse x })
+quit_spares : (w : Planet) (c : State) (number : ℕ) (u : Unit) (k : ℕ) (x : Unit) → IsSteady w c → get c.units k ≡ Some x → (number ≡ u.faction → u.faction ≢ x.faction) → IsSpared IsNoWorse (quit number c u).0 k x
+quit_spares w c number u k x steady here other =
+    quit_cases (λ d. IsSpared IsNoWorse d k x) c number u (record { unit = x; there = here; spared = no_worse x })
+    (λ own. record { unit = x; there = all_left_others w c (numbers_of u.faction c.units) k steady (λ m listed. stays (other own) m listed) ∙ here; spared = no_worse x })
   where
-    stays : (u : Unit) → u.faction ≢ x.faction → (m : ℕ) → IsListed m (numbers_of u.faction c.units) → k ≢ m
-    stays u apart m listed same =
+    stays : u.faction ≢ x.faction → (m : ℕ) → IsListed m (numbers_of u.faction c.units) → k ≢ m
+    stays apart m listed same =
         let (v, at, t) = listed_passing (λ (y : Unit). y.faction == u.faction) c.units m listed in
         let one : Some v ≡ Some x = sym at ∙ ap (get c.units) (sym same) ∙ here in
         let unit : v ≡ x = cc in
@@ -383,7 +375,7 @@ quit_spares w c n number k x steady here other =
 
 -- ---- the phase
 
-sum_within : {V : Type 0} (f : V → ℕ) (most : ℕ) (es : List (ℕ × V)) → EachOf (λ n v. f v ≤ most) es → sum_by (λ e. f e.1) es ≤ length es * most
+pub sum_within : {V : Type 0} (f : V → ℕ) (most : ℕ) (es : List (ℕ × V)) → EachOf (λ n v. f v ≤ most) es → sum_by (λ e. f e.1) es ≤ length es * most
 sum_within f most [] each = omega arith
 sum_within {V} f most (e ∷ es) each =
     more (sum_by (λ (d : ℕ × V). f d.1) (e ∷ es)) (f e.1) (sum_by (λ (d : ℕ × V). f d.1) es) (length (e ∷ es) * most) (length es * most) most (sum_by-cons (λ (d : ℕ × V). f d.1) e es) (suc-mul (length es) most) each.0 (sum_within f most es each.1)
@@ -415,22 +407,18 @@ reserve_within w c steady e t = by_test (entry_place e == entry_place (gone_unde
 
 pub quit_orderly : IsOrderly quit_step IsSteady quit_reserve quit_moves quit_concerns IsNoWorse
 quit_orderly = record {
-  well = λ w a c t steady fit own. well w a c t steady t.said;
+  well = λ w a c t x steady fit own. well w c x steady t.said;
   sparing = no_worse_spares;
-  spared = λ w a c t steady own n u here other. spared w a c t steady own n u here t.said (λ says. other says);
+  spared = λ w a c t x steady own n u here other. spared w c t x steady own n u here t.said (λ says. other says);
   bounded = reserve_within;
 }
   where
-    well : (w : Planet) (a : Aliases) (c : State) (t : Task) → IsSteady w c → (s : Said) → StepsWell IsSteady quit_reserve w c (quit_said c t s).0
-    well w a c t steady (orders.Quit number) = quit_well w c t.unit number steady
-    well w a c t steady other = well_same w c steady
+    well : (w : Planet) (c : State) (x : Unit) → IsSteady w c → (s : Said) → IfSome (quit_said s) (λ deed. StepsWell IsSteady quit_reserve w c (deed c x).0)
+    well w c x steady (orders.Quit number) = quit_well w c number x steady
+    well w c x steady other = tt
 
-    spared : (w : Planet) (a : Aliases) (c : State) (t : Task) → IsSteady w c → is_own c t ≡ true → (n : ℕ) (u : Unit) → get c.units n ≡ Some u → (s : Said) → ((t.faction ≡ u.faction) × (s ≡ orders.Quit u.faction) → ⊥)
-        → IsSpared IsNoWorse (quit_said c t s).0 n u
-    spared w a c t steady own n u here (orders.Quit number) other =
-        quit_spares w c t.unit number n u steady here
-        (λ x is says same.
-        let here : (x.faction == t.faction) ≡ true = sym (ap (is_of_faction t.faction) is) ∙ own in
-        let faction : t.faction ≡ x.faction = grind (arith, nat_tests) in
-        other (faction ∙ same, ap orders.Quit (says ∙ same)))
-    spared w a c t steady own n u here said other = record { unit = u; there = here; spared = no_worse u }
+    spared : (w : Planet) (c : State) (t : Task) (x : Unit) → IsSteady w c → IsUnitOf c t x → (n : ℕ) (u : Unit) → get c.units n ≡ Some u → (s : Said) → ((t.faction ≡ u.faction) × (s ≡ orders.Quit u.faction) → ⊥)
+        → IfSome (quit_said s) (λ deed. IsSpared IsNoWorse (deed c x).0 n u)
+    spared w c t x steady own n u here (orders.Quit number) other =
+        quit_spares w c number x n u steady here (λ says same. other (sym own.faction ∙ same, ap orders.Quit (says ∙ same)))
+    spared w c t x steady own n u here said other = tt

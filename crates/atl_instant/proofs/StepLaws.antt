@@ -1,7 +1,7 @@
 -- What a phase leaves that carries its orders out one by one.
-use Rattle.std.proofs.Common.{suc, zero, ◌≡◌, ℕ, ◌≤◌, Bool, true, false, List, [], ◌∷◌, Option, Some, None, map, refl, sym, subst, ◌∙◌, arith}
+use Rattle.std.proofs.Common.{suc, zero, ◌≡◌, ◌==◌, ◌+◌, ℕ, ◌≤◌, Bool, true, false, List, [], ◌∷◌, Option, Some, None, map, refl, sym, ap, subst, ◌∙◌, arith}
 use Rattle.std.proofs.lemmas.Option.{same_Some}
-use Rattle.std.specs.Prelude.{ℤ, fold, OnOk, Result, Ok, Err, option_map, if◌then◌else◌}
+use Rattle.std.specs.Prelude.{ℤ, fold, IfSome, OnOk, Result, Ok, Err, option_map, if◌then◌else◌}
 use Rattle.std.specs.List.{All, AllByRecursion, slice_get}
 use Rattle.std.proofs.lemmas.List.Elements.{recursion_from_All}
 use Rattle.std.specs.FinMap.{FinMap, get, values}
@@ -14,6 +14,7 @@ use Rattle.atl_orders.specs.Mailing.{EntrySaid, Reading}
 use Rattle.atl_orders.specs.Orders.{Said}
 use Rattle.atl_state.specs.declared.books.Entry.{Entry}
 use Rattle.atl_state.specs.declared.books.Thing.{Thing}
+use Rattle.atl_state.specs.declared.event.Outcome.{Outcome}
 use Rattle.atl_state.specs.declared.event.Outcome.TheVariants.{Fault}
 use Rattle.atl_state.specs.declared.records.Unit.{Unit}
 use Rattle.atl_state.specs.Books.{amount_in}
@@ -22,13 +23,14 @@ use Rattle.atl_instant.specs.Course.{Aliases, Course, order_at, order_in}
 use Rattle.atl_instant.specs.Fit.{AreFit}
 use Rattle.atl_instant.specs.Meaning.{Condition, HasRoom, HaveRoom, IsNear, LeavesWell, Moving}
 use Rattle.atl_instant.specs.PhaseOrders.{IsInMailing, Task, orders_of, written}
-use Rattle.atl_instant.specs.Carrying.{found_written}
+use Rattle.atl_instant.specs.Carrying.{found_said, found_written, task_of}
 use Rattle.atl_instant.specs.declared.written.Written.{Written}
 use Rattle.atl_instant.specs.Staying.{IsNoWorse}
-use Rattle.atl_instant.specs.Steps.{AreSpared, Concern, IsDrawn, IsOrderly, IsSpared, IsSparing, Reserve, Sparing, Step, StepsWell, and_told, carried, carried_out, is_own, one_order}
+use Rattle.atl_instant.specs.Steps.{AreSpared, Concern, IsDrawn, IsOrderly, IsSpared, IsSparing, IsUnitOf, Deed, Reserve, Sparing, Step, StepsWell, carried, carried_out, done_for, of_faction, one_order, ordered, with_told}
 use Rattle.atl_instant.specs.declared.written.Arrangement.TheVariants.{ByUnit}
 use Rattle.atl_instant.proofs.MeaningLaws.{less_room, same_month}
 use Rattle.atl_instant.proofs.StayingLaws.{no_worse, no_worse_twice}
+use Rattle.atl_instant.proofs.StructureLaws.{is_equal}
 use Rattle.atl_instant.proofs.WrittenLaws.{orders_are_in_mailings}
 use Rattle.atl_instant.proofs.FoundOrderLaws.{found_all, found_stays}
 
@@ -43,6 +45,10 @@ not_drawn r s a b e f = record { above = omega (arith, ints, e, f); below = omeg
 
 pub drawn_twice : (r s t : ℕ) (a b c : ℤ) → IsDrawn r s a b → IsDrawn s t b c → IsDrawn r t a c
 drawn_twice r s t a b c one two = record { above = omega (arith, ints, one.above, two.above); below = omega (arith, ints, one.below, two.below) }
+
+-- an amount that moves by what its reserve shrinks by
+pub drawn_near : (x reserve left : ℕ) (a b : ℤ) → left + x ≡ reserve → IsNear x a b → IsDrawn reserve left a b
+drawn_near x reserve left a b e near = record { above = omega (arith, ints, e, near.above); below = omega (arith, ints, e, near.below) }
 
 near_drawn : (r s most : ℕ) (a b : ℤ) → r ≤ most → IsDrawn r s a b → IsNear most a b
 near_drawn r s most a b l h = record { above = omega (arith, ints, h.above); below = omega (arith, ints, h.below) }
@@ -92,53 +98,50 @@ no_worse_spares = record { same = no_worse; again = no_worse_twice; faction = λ
 
 -- ---- orders
 
-pub carried_own : (step : Step) (w : Planet) (a : Aliases) (c : State) (t : Task) → true ≡ is_own c t → carried step w a c t ≡ step w a c t
-carried_own step w a c t own = rw (sym own) refl
+-- what is so where nothing is done for another faction's unit, and of what is done for one of the faction, is so of what comes of an order
+pub carried_cases : (P : State × Outcome → Type 0) (deed : Deed) (c : State) (faction n : ℕ) → P (c, Fault 1) → ((u : Unit) → get c.units n ≡ Some u → u.faction ≡ faction → P (deed c u)) → P (carried deed c faction n)
+carried_cases P deed c faction n other own = by_unit (get c.units n) refl
+  where
+    by_faction : (u : Unit) → get c.units n ≡ Some u → (b : Bool) → (u.faction == faction) ≡ b → P (done_for deed c (if b then Some u else None))
+    by_faction u there true is = own u there (is_equal u.faction faction is)
+    by_faction u there false is = other
 
-pub carried_other : (step : Step) (w : Planet) (a : Aliases) (c : State) (t : Task) → false ≡ is_own c t → carried step w a c t ≡ (c, Fault 1)
-carried_other step w a c t other = rw (sym other) refl
+    by_unit : (o : Option Unit) → get c.units n ≡ o → P (done_for deed c (of_faction faction o))
+    by_unit None there = other
+    by_unit (Some u) there = by_faction u there (u.faction == faction) refl
 
-module _ (step : Step) (is_taken : Said → Bool) {holds : Condition} {reserve : Reserve} {moving : Moving} {concerns : Concern} {spares : Sparing} (orderly : IsOrderly step holds reserve moving concerns spares) (w : Planet) where
-  pub carried_well : (a : Aliases) (c : State) (t : Task) → holds w c → IsOrderOf w t.said → StepsWell holds reserve w c (carried step w a c t).0
-  carried_well a c t h fit = by_test (is_own c t) refl
-    where
-      by_test : (b : Bool) → is_own c t ≡ b → StepsWell holds reserve w c (carried step w a c t).0
-      by_test true own = rw own (orderly.well w a c t h fit own)
-      by_test false other = rw other (well_same w c h)
+-- what is so of the campaign as it is, and of that behind what is done for the unit of an order, is so of that behind the order
+pub ordered_cases : (P : State → Type 0) (step : Option Deed) (c : State) (t : Task) → P c → ((x : Unit) → IsUnitOf c t x → IfSome step (λ deed. P (deed c x).0)) → P (ordered step c t.faction t.unit).0
+ordered_cases P None c t same done = same
+ordered_cases P (Some deed) c t same done = carried_cases (λ p. P p.0) deed c t.faction t.unit same (λ x there faction. done x (record { there = there; faction = faction }))
 
-  pub order_well : (c : State) (m : Course) (t : Task) → holds w c → IsOrderOf w t.said → StepsWell holds reserve w c (one_order step is_taken w (c, m) t).0
-  order_well c m t h fit = by_test (is_taken t.said) refl
-    where
-      by_test : (b : Bool) → is_taken t.said ≡ b → StepsWell holds reserve w c (one_order step is_taken w (c, m) t).0
-      by_test true is = rw is (carried_well m.aliases c t h fit)
-      by_test false is = rw is (well_same w c h)
+-- what is done is what comes of an order
+abbrev with_some : State × Outcome → State × Option Outcome
+with_some p = (p.0, Some p.1)
 
-  carried_spares : (a : Aliases) (c : State) (t : Task) → holds w c → (n : ℕ) (u : Unit) → get c.units n ≡ Some u → (concerns t n u.faction → ⊥) → IsSpared spares (carried step w a c t).0 n u
-  carried_spares a c t h n u there other = by_test (is_own c t) refl
-    where
-      by_test : (b : Bool) → is_own c t ≡ b → IsSpared spares (carried step w a c t).0 n u
-      by_test true own = rw own (orderly.spared w a c t h own n u there other)
-      by_test false is = rw is (record { unit = u; there = there; spared = orderly.sparing.same u })
+pub told_some : (deed : Deed) (c d : State) (faction n : ℕ) (o : Outcome) → (d, o) ≡ carried deed c faction n → (d, Some o) ≡ ordered (Some deed) c faction n
+told_some deed c d faction n o is = ap with_some is
 
-  order_spares : (c : State) (m : Course) (t : Task) → holds w c → (n : ℕ) (u : Unit) → get c.units n ≡ Some u → (concerns t n u.faction → ⊥) → IsSpared spares (one_order step is_taken w (c, m) t).0 n u
-  order_spares c m t h n u there other = by_test (is_taken t.said) refl
-    where
-      by_test : (b : Bool) → is_taken t.said ≡ b → IsSpared spares (one_order step is_taken w (c, m) t).0 n u
-      by_test true is = rw is (carried_spares m.aliases c t h n u there other)
-      by_test false is = rw is (record { unit = u; there = there; spared = orderly.sparing.same u })
+module _ (step : Step) {holds : Condition} {reserve : Reserve} {moving : Moving} {concerns : Concern} {spares : Sparing} (orderly : IsOrderly step holds reserve moving concerns spares) (w : Planet) where
+  pub order_well : (a : Aliases) (c : State) (t : Task) → holds w c → IsOrderOf w t.said → StepsWell holds reserve w c (ordered (step w a t) c t.faction t.unit).0
+  order_well a c t h fit = ordered_cases (StepsWell holds reserve w c) (step w a t) c t (well_same w c h) (λ x own. orderly.well w a c t x h fit own)
+
+  order_spares : (a : Aliases) (c : State) (t : Task) → holds w c → (n : ℕ) (u : Unit) → get c.units n ≡ Some u → (concerns t n u.faction → ⊥) → IsSpared spares (ordered (step w a t) c t.faction t.unit).0 n u
+  order_spares a c t h n u there other =
+      ordered_cases (λ d. IsSpared spares d n u) (step w a t) c t (record { unit = u; there = there; spared = orderly.sparing.same u }) (λ x own. orderly.spared w a c t x h own n u there other)
 
   orders_spare_one : (c : State) (m : Course) (ts : List Task) → holds w c → AllByRecursion (λ t. IsOrderOf w t.said) ts → (n : ℕ) (u : Unit) → get c.units n ≡ Some u → AllByRecursion (λ t. concerns t n u.faction → ⊥) ts
-      → IsSpared spares (fold (one_order step is_taken w) (c, m) ts).0 n u
+      → IsSpared spares (fold (one_order step w) (c, m) ts).0 n u
   orders_spare_one c m [] h fit n u there others = record { unit = u; there = there; spared = orderly.sparing.same u }
   orders_spare_one c m (t ∷ ts) h fit n u there others =
-      let next = one_order step is_taken w (c, m) t in
-      let one = order_spares c m t h n u there others.0 in
+      let next = one_order step w (c, m) t in
+      let one = order_spares m.aliases c t h n u there others.0 in
       let same_faction = orderly.sparing.faction u one.unit one.spared in
-      let rest = orders_spare_one next.0 next.1 ts (order_well c m t h fit.0).holds_still fit.1 n one.unit one.there (subst (λ f. AllByRecursion (λ t. concerns t n f → ⊥) ts) (sym same_faction) others.1) in
+      let rest = orders_spare_one next.0 next.1 ts (order_well m.aliases c t h fit.0).holds_still fit.1 n one.unit one.there (subst (λ f. AllByRecursion (λ t. concerns t n f → ⊥) ts) (sym same_faction) others.1) in
       record { unit = rest.unit; there = rest.there; spared = orderly.sparing.again u one.unit rest.unit one.spared rest.spared }
 
   -- each unit that none of some orders concerns
-  pub orders_spare : (c : State) (m : Course) (ts : List Task) → holds w c → All (λ t. IsOrderOf w t.said) ts → AreSpared concerns spares ts c (fold (one_order step is_taken w) (c, m) ts).0
+  pub orders_spare : (c : State) (m : Course) (ts : List Task) → holds w c → All (λ t. IsOrderOf w t.said) ts → AreSpared concerns spares ts c (fold (one_order step w) (c, m) ts).0
   orders_spare c m ts h fit n u there others =
       orders_spare_one c m ts h (recursion_from_All (λ t. IsOrderOf w t.said) ts fit) n u there (recursion_from_All (λ t. concerns t n u.faction → ⊥) ts others)
 
@@ -174,20 +177,29 @@ module _ (w : Planet) where
 
 -- ---- what the code finds is what is written
 
-module _ (step : Step) (is_taken : Said → Bool) (w : Planet) where
-  order_readings : (p : State × Course) (t : Task) → (one_order step is_taken w p t).1.readings ≡ p.1.readings
-  order_readings p t = by_test (is_taken t.said)
-    where
-      by_test : (b : Bool) → (if b then and_told p.1 t (carried step w p.1.aliases p.0 t) else p).1.readings ≡ p.1.readings
-      by_test true = refl
-      by_test false = refl
+told_readings : (m : Course) (t : Task) (o : Option Outcome) → (with_told m t o).readings ≡ m.readings
+told_readings m t None = refl
+told_readings m t (Some outcome) = refl
 
-  pub written_readings : (readings : FinMap nat_cmp Reading) (p : State × Course) (o : Written) → (found_written (one_order step is_taken w) readings p o).1.readings ≡ p.1.readings
-  written_readings = found_stays (one_order step is_taken w) (λ (p : State × Course). p.1.readings) order_readings
+module _ (step : Step) (w : Planet) where
+  pub order_readings : (p : State × Course) (t : Task) → (one_order step w p t).1.readings ≡ p.1.readings
+  order_readings p t = told_readings p.1 t (ordered (step w p.1.aliases t) p.0 t.faction t.unit).1
 
-  pub written_out : (is_of : Verb → Bool) (c : State) (m : Course) → fold (found_written (one_order step is_taken w) m.readings) (c, m) (map written (values (orders_of is_of ByUnit m.aliases m.readings))) ≡ carried_out step is_taken is_of w c m
+  pub written_readings : (readings : FinMap nat_cmp Reading) (p : State × Course) (o : Written) → (found_written (one_order step w) readings p o).1.readings ≡ p.1.readings
+  written_readings = found_stays (one_order step w) (λ (p : State × Course). p.1.readings) order_readings
+
+  pub written_out : (is_of : Verb → Bool) (c : State) (m : Course) → fold (found_written (one_order step w) m.readings) (c, m) (map written (values (orders_of is_of ByUnit m.aliases m.readings))) ≡ carried_out step is_of w c m
   unfolding carried_out
-  written_out is_of c m = found_all (one_order step is_taken w) m.aliases m.readings is_of ByUnit (c, m)
+  written_out is_of c m = found_all (one_order step w) m.aliases m.readings is_of ByUnit (c, m)
+
+-- a campaign is left well by the order that stands at a place, if one does
+pub written_well : (step : Step) {holds : Condition} {reserve : Reserve} {moving : Moving} {concerns : Concern} {spares : Sparing} (orderly : IsOrderly step holds reserve moving concerns spares) (w : Planet)
+    (readings : FinMap nat_cmp Reading) → AreFit w readings → (c : State) (m : Course) (o : Written) → holds w c → StepsWell holds reserve w c (found_written (one_order step w) readings (c, m) o).0
+written_well step {holds} {reserve} orderly w readings fit c m o h = by_said (order_at readings o.faction o.place) refl
+  where
+    by_said : (s : Option Said) → order_at readings o.faction o.place ≡ s → StepsWell holds reserve w c (found_said (one_order step w) (c, m) o s).0
+    by_said None at = well_same w c h
+    by_said (Some s) at = order_well step orderly w m.aliases c (task_of o s) h (said_fit w readings o.faction o.place s fit at)
 
 -- ---- what is so in any case is so where a call answers Ok
 

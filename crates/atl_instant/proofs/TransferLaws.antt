@@ -1,6 +1,6 @@
 -- TRANSFER leaves a campaign well.
 use Rattle.std.proofs.Common.{◌≡◌, ◌≢◌, ◌==◌, ℕ, ◌+◌, ◌-◌, ◌*◌, ◌/◌, ◌≤◌, ◌<◌, Bool, true, false, cond, not, ◌&&◌, List, [], ◌∷◌, map, length, Option, Some, None, refl, sym, ap, subst, ◌∙◌, inl, inr, arith}
-use Rattle.std.specs.Prelude.{fold, nat_lt, unwrap_or, if◌then◌else◌}
+use Rattle.std.specs.Prelude.{IfSome, fold, nat_lt, unwrap_or, if◌then◌else◌}
 use Rattle.std.proofs.lemmas.Bool.Decides.{nat_tests}
 use Rattle.std.proofs.lemmas.Bool.{cases_lt}
 use Rattle.std.proofs.Math.Nat.{div-le_of_le-mul, le-div_iff_mul-le, mul-le-mul_right}
@@ -27,14 +27,15 @@ use Rattle.atl_instant.specs.Course.{Aliases}
 use Rattle.atl_instant.specs.Outcomes.{unless}
 use Rattle.atl_instant.specs.Staying.{IsNoWorse}
 use Rattle.atl_instant.specs.PhaseOrders.{Task, unit_of}
-use Rattle.atl_instant.specs.Steps.{IsOrderly, IsOwnOrder, IsSpared, StepsWell}
-use Rattle.atl_instant.specs.Transfer.{days_going, sent, transfer, transfer_fault, transfer_from, transfer_said, transfer_step, transfer_to, with_days, with_fewer, with_more}
+use Rattle.atl_instant.specs.Steps.{IsOrderly, IsOwnOrder, IsSpared, IsUnitOf, StepsWell}
+use Rattle.atl_instant.specs.Transfer.{days_going, sent, transfer, transfer_fault, transfer_said, transfer_step, transfer_to, with_days, with_fewer, with_more}
 use Rattle.atl_instant.proofs.AmountsLaws.{alike, every_amount, set_amount}
 use Rattle.atl_state.proofs.HavingLaws.{MayHave, may_have}
 use Rattle.atl_instant.proofs.MovingLaws.{early-moved, moved, receiver_still, spared-moved, steps-moved}
-use Rattle.atl_instant.proofs.OutcomeLaws.{apart_own, none_fits, not_apart, not_less, unless_itself}
+use Rattle.atl_instant.proofs.OutcomeLaws.{none_fits, not_apart, not_less, unless_itself}
 use Rattle.atl_instant.proofs.StayingLaws.{no_worse}
 use Rattle.atl_instant.proofs.StepLaws.{no_worse_spares, well_same}
+use Rattle.atl_instant.proofs.UnbookedLaws.{other_unit}
 
 -- what is so of two units where no fault fits
 pub record CanSend (n : ℕ) (itself : Bool) (u v : Unit) : Type 0 where
@@ -219,34 +220,30 @@ abbrev behind : State → (from to n : ℕ) → Unit → Unit → (itself : Bool
 behind c from to n u v itself = if itself then c else with_held (with_held c from (with_fewer n u.holding) (Some u)) to (with_more n u.holding v.holding) (Some v)
 
 -- what is so of the campaign as it is, and of each in which men went from one unit to another, is so of the campaign behind the order
-pub transfer_cases : (P : State → Type 0) (c : State) (from to n : ℕ) → P c
-    → ((u v : Unit) (sender : get c.units from ≡ Some u) (receiver : get c.units to ≡ Some v) (apart : to ≢ from) → CanSend n false u v
+pub transfer_cases : (P : State → Type 0) (c : State) (from to n : ℕ) (u : Unit) (sender : get c.units from ≡ Some u) → P c
+    → ((v : Unit) (receiver : get c.units to ≡ Some v) (apart : to ≢ from) → CanSend n false u v
     → P (moved c from to u v (with_fewer n u.holding) (with_more n u.holding v.holding) sender receiver apart))
-    → P (transfer c from to n).0
+    → P (transfer from to n c u).0
 unfolding transfer
-transfer_cases P c from to n same move = by_sender (get c.units from) refl
+transfer_cases P c from to n u sender same move = by_receiver (get c.units to) refl
   where
-    by_test : (u v : Unit) → get c.units from ≡ Some u → get c.units to ≡ Some v → (b : Bool) → (to == from) ≡ b → CanSend n b u v → P (behind c from to n u v b)
-    by_test u v sender receiver true is can = same
-    by_test u v sender receiver false is can = let apart : to ≢ from = grind (arith, nat_tests) in move u v sender receiver apart can
+    by_test : (v : Unit) → get c.units to ≡ Some v → (b : Bool) → (to == from) ≡ b → CanSend n b u v → P (behind c from to n u v b)
+    by_test v receiver true is can = same
+    by_test v receiver false is can = let apart : to ≢ from = grind (arith, nat_tests) in move v receiver apart can
 
-    by_fault : (u v : Unit) → get c.units from ≡ Some u → get c.units to ≡ Some v → (f : Option EventFault) → transfer_fault n (to == from) u (Some v) ≡ f → P (unless c f (behind c from to n u v (to == from), Done n)).0
-    by_fault u v sender receiver (Some fault) is = same
-    by_fault u v sender receiver None is = by_test u v sender receiver (to == from) refl (can_send n (to == from) u v is)
+    by_fault : (v : Unit) → get c.units to ≡ Some v → (f : Option EventFault) → transfer_fault n (to == from) u (Some v) ≡ f → P (unless c f (behind c from to n u v (to == from), Done n)).0
+    by_fault v receiver (Some fault) is = same
+    by_fault v receiver None is = by_test v receiver (to == from) refl (can_send n (to == from) u v is)
 
-    by_receiver : (u : Unit) → get c.units from ≡ Some u → (o : Option Unit) → get c.units to ≡ o → P (transfer_to c from to n u o).0
-    by_receiver u sender None is = same
-    by_receiver u sender (Some v) receiver = by_fault u v sender receiver (transfer_fault n (to == from) u (Some v)) refl
+    by_receiver : (o : Option Unit) → get c.units to ≡ o → P (transfer_to c from to n u o).0
+    by_receiver None is = same
+    by_receiver (Some v) receiver = by_fault v receiver (transfer_fault n (to == from) u (Some v)) refl
 
-    by_sender : (o : Option Unit) → get c.units from ≡ o → P (transfer_from c from to n o).0
-    by_sender None is = same
-    by_sender (Some u) sender = by_receiver u sender (get c.units to) refl
-
-module _ (w : Planet) (c : State) (early : IsEarly w c) (from to n : ℕ) where
-  pub transfer_steps_well : StepsWell IsEarly (λ d e t. 0) w c (transfer c from to n).0
+module _ (w : Planet) (c : State) (early : IsEarly w c) (from to n : ℕ) (u : Unit) (sender : get c.units from ≡ Some u) where
+  transfer_steps_well : StepsWell IsEarly (λ d e t. 0) w c (transfer from to n c u).0
   transfer_steps_well =
-      transfer_cases (λ d. StepsWell IsEarly (λ d e t. 0) w c d) c from to n (well_same w c early)
-      (λ u v sender receiver apart can.
+      transfer_cases (λ d. StepsWell IsEarly (λ d e t. 0) w c d) c from to n u sender (well_same w c early)
+      (λ v receiver apart can.
       let less = with_fewer n u.holding in
       let more = with_more n u.holding v.holding in
       let from_may = may_have w c from u sender early.steady in
@@ -255,25 +252,26 @@ module _ (w : Planet) (c : State) (early : IsEarly w c) (from to n : ℕ) where
       (may_have_more w n u.holding v.holding (can.room refl) from_may (may_have w c to v receiver early.steady)) (λ g. g) early)
       (both_hold n u.holding v.holding can.enough))
 
-  pub transfer_spares : (k : ℕ) (x : Unit) → get c.units k ≡ Some x → k ≢ from → IsSpared IsNoWorse (transfer c from to n).0 k x
+  transfer_spares : (k : ℕ) (x : Unit) → get c.units k ≡ Some x → k ≢ from → IsSpared IsNoWorse (transfer from to n c u).0 k x
   transfer_spares k x there other =
-      transfer_cases (λ d. IsSpared IsNoWorse d k x) c from to n (record { unit = x; there = there; spared = no_worse x })
-      (λ u v sender receiver apart can. spared-moved c from to u v (with_fewer n u.holding) (with_more n u.holding v.holding) sender receiver apart (better_off n u.holding v) k x there other)
+      transfer_cases (λ d. IsSpared IsNoWorse d k x) c from to n u sender (record { unit = x; there = there; spared = no_worse x })
+      (λ v receiver apart can. spared-moved c from to u v (with_fewer n u.holding) (with_more n u.holding v.holding) sender receiver apart (better_off n u.holding v) k x there other)
 
 -- ---- the phase
 
 pub transfer_orderly : IsOrderly transfer_step IsEarly (λ c e t. 0) (λ e t. 0) IsOwnOrder IsNoWorse
 transfer_orderly = record {
-  well = λ w a c t early fit own. well w a c t early t.said;
+  well = λ w a c t x early fit own. well w a c t x early own t.said;
   sparing = no_worse_spares;
-  spared = λ w a c t early own n u there other. spared w a c t early n u there (apart_own c t n u own there other) t.said;
+  spared = λ w a c t x early own n u there other. spared w a c t x early own n u there (other_unit c t x n u own there other) t.said;
   bounded = λ w c early e t. omega arith;
 }
   where
-    well : (w : Planet) (a : Aliases) (c : State) (t : Task) → IsEarly w c → (s : Said) → StepsWell IsEarly (λ d e t. 0) w c (transfer_said a c t s).0
-    well w a c t early (orders.Transfer to n) = transfer_steps_well w c early t.unit (unit_of a t.faction to) n
-    well w a c t early other = well_same w c early
+    well : (w : Planet) (a : Aliases) (c : State) (t : Task) (x : Unit) → IsEarly w c → IsUnitOf c t x → (s : Said) → IfSome (transfer_said a t.faction t.unit s) (λ deed. StepsWell IsEarly (λ d e t. 0) w c (deed c x).0)
+    well w a c t x early own (orders.Transfer to n) = transfer_steps_well w c early t.unit (unit_of a t.faction to) n x own.there
+    well w a c t x early own other = tt
 
-    spared : (w : Planet) (a : Aliases) (c : State) (t : Task) → IsEarly w c → (n : ℕ) (u : Unit) → get c.units n ≡ Some u → n ≢ t.unit → (s : Said) → IsSpared IsNoWorse (transfer_said a c t s).0 n u
-    spared w a c t early n u there apart (orders.Transfer to k) = transfer_spares w c early t.unit (unit_of a t.faction to) k n u there apart
-    spared w a c t early n u there apart other = record { unit = u; there = there; spared = no_worse u }
+    spared : (w : Planet) (a : Aliases) (c : State) (t : Task) (x : Unit) → IsEarly w c → IsUnitOf c t x → (n : ℕ) (u : Unit) → get c.units n ≡ Some u → n ≢ t.unit → (s : Said)
+        → IfSome (transfer_said a t.faction t.unit s) (λ deed. IsSpared IsNoWorse (deed c x).0 n u)
+    spared w a c t x early own n u there apart (orders.Transfer to k) = transfer_spares w c early t.unit (unit_of a t.faction to) k x own.there n u there apart
+    spared w a c t x early own n u there apart other = tt

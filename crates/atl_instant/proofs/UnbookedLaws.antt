@@ -1,6 +1,7 @@
 -- Steps of phases that book nothing, and that change the unit of the order alone.
-use Rattle.std.proofs.Common.{◌≡◌, ◌≢◌, ◌+◌, ℕ, true, Option, Some, None, refl, sym, ap, ◌∙◌}
-use Rattle.std.specs.Prelude.{pos}
+use Rattle.std.proofs.Common.{◌≡◌, ◌≢◌, ◌+◌, ℕ, Option, Some, None, refl, sym, ap, ◌∙◌}
+use Rattle.std.proofs.lemmas.Option.{same_Some}
+use Rattle.std.specs.Prelude.{IfSome, pos}
 use Rattle.std.specs.FinMap.{get}
 use Rattle.atl_tables.specs.Planet.{Planet}
 use Rattle.atl_tables.specs.Sums.{sum_over}
@@ -14,10 +15,9 @@ use Rattle.atl_state.specs.Totals.{held, kept, total}
 use Rattle.atl_instant.specs.Meaning.{IsSameMonth}
 use Rattle.atl_instant.specs.PhaseOrders.{Task}
 use Rattle.atl_instant.specs.Staying.{IsNoWorse}
-use Rattle.atl_instant.specs.Steps.{IsOwnOrder, IsSpared, StepsWell, is_of_faction, is_own}
+use Rattle.atl_instant.specs.Steps.{Deed, IsOwnOrder, IsSpared, IsUnitOf, StepsWell}
 use Rattle.atl_instant.specs.Unbooked.{books_nothing}
 use Rattle.atl_instant.proofs.StayingLaws.{no_worse}
-use Rattle.atl_instant.proofs.StructureLaws.{is_equal}
 use Rattle.atl_instant.proofs.StepLaws.{not_drawn}
 
 -- where books and totals stay
@@ -39,22 +39,18 @@ same_total_of c d units regions t =
 
 -- ---- the unit of an order
 
--- it is there, and of the faction that wrote it
-pub own_unit : (c : State) (t : Task) → is_own c t ≡ true → (u : Unit) × (get c.units t.unit ≡ Some u) × (u.faction ≡ t.faction)
-own_unit c t own = by_unit (get c.units t.unit) refl own
-  where
-    by_unit : (o : Option Unit) → get c.units t.unit ≡ o → is_of_faction t.faction o ≡ true → (u : Unit) × (get c.units t.unit ≡ Some u) × (u.faction ≡ t.faction)
-    by_unit None is h = cc
-    by_unit (Some u) is h = (u, is, is_equal u.faction t.faction h)
-
 -- a unit that no order of its own faction is for is another one
-pub other_unit : (c : State) (t : Task) (k : ℕ) (v : Unit) → is_own c t ≡ true → get c.units k ≡ Some v → (IsOwnOrder t k v.faction → ⊥) → k ≢ t.unit
-other_unit c t k v own there apart same =
-    let (u, is, of_faction) = own_unit c t own in
-    let one : Some u ≡ Some v = sym is ∙ ap (get c.units) (sym same) ∙ there in
-    let unit : u ≡ v = cc in
-    apart (record { unit = sym same; faction = sym of_faction ∙ ap (λ (x : Unit). x.faction) unit })
+pub other_unit : (c : State) (t : Task) (x : Unit) (k : ℕ) (v : Unit) → IsUnitOf c t x → get c.units k ≡ Some v → (IsOwnOrder t k v.faction → ⊥) → k ≢ t.unit
+other_unit c t x k v own there apart same =
+    let unit : x ≡ v = same_Some _ _ (sym own.there ∙ ap (get c.units) (sym same) ∙ there) in
+    apart (record { unit = sym same; faction = sym own.faction ∙ ap (λ (y : Unit). y.faction) unit })
 
 -- and stays, where no unit but that of the order changes
-pub other_spared : (c d : State) (t : Task) → ((k : ℕ) → k ≢ t.unit → get d.units k ≡ get c.units k) → is_own c t ≡ true → (k : ℕ) (v : Unit) → get c.units k ≡ Some v → (IsOwnOrder t k v.faction → ⊥) → IsSpared IsNoWorse d k v
-other_spared c d t stay own k v there apart = record { unit = v; there = stay k (other_unit c t k v own there apart) ∙ there; spared = no_worse v }
+pub other_spared : (c d : State) (t : Task) (x : Unit) → ((k : ℕ) → k ≢ t.unit → get d.units k ≡ get c.units k) → IsUnitOf c t x → (k : ℕ) (v : Unit) → get c.units k ≡ Some v → (IsOwnOrder t k v.faction → ⊥) → IsSpared IsNoWorse d k v
+other_spared c d t x stay own k v there apart = record { unit = v; there = stay k (other_unit c t x k v own there apart) ∙ there; spared = no_worse v }
+
+-- and so behind an order by which no other unit changes
+pub stays_spared : (step : Option Deed) (c : State) (t : Task) (x : Unit) → IsUnitOf c t x → (k : ℕ) (v : Unit) → get c.units k ≡ Some v → (IsOwnOrder t k v.faction → ⊥)
+    → ((j : ℕ) → j ≢ t.unit → IfSome step (λ deed. get (deed c x).0.units j ≡ get c.units j)) → IfSome step (λ deed. IsSpared IsNoWorse (deed c x).0 k v)
+stays_spared None c t x own k v there apart stay = tt
+stays_spared (Some deed) c t x own k v there apart stay = other_spared c (deed c x).0 t x stay own k v there apart

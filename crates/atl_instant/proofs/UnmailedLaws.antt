@@ -1,7 +1,7 @@
 -- What phases leave to the units of a faction that sent no mailing.
 use Rattle.std.proofs.Common.{◌≡◌, ◌≢◌, ◌==◌, ℕ, ◌+◌, ◌-◌, ◌≤◌, ◌<◌, Bool, true, false, List, [], ◌∷◌, ◌++◌, Option, Some, None, refl, sym, ap, subst, ◌∙◌, inl, inr, arith}
 use Rattle.std.proofs.lemmas.Option.{same_Some}
-use Rattle.std.specs.Prelude.{fold, option_map, if◌then◌else◌}
+use Rattle.std.specs.Prelude.{IfSome, fold, option_map, if◌then◌else◌}
 use Rattle.std.specs.List.{All, AllByRecursion}
 use Rattle.std.specs.Ordering.{nat_cmp}
 use Rattle.std.specs.FinMap.{FinMap, get, insert, values}
@@ -12,7 +12,6 @@ use Rattle.atl_tables.specs.Planet.{Planet}
 use Rattle.atl_tables.specs.Sums.{changed}
 use Rattle.atl_orders.specs.declared.verb.Verb.{Verb}
 use Rattle.atl_orders.specs.Mailing.{Reading}
-use Rattle.atl_orders.specs.Orders.{Said}
 use Rattle.atl_state.specs.declared.event.Event.{Event}
 use Rattle.atl_state.specs.declared.event.EventFault.{EventFault}
 use Rattle.atl_state.specs.declared.event.Outcome.{Outcome}
@@ -27,10 +26,11 @@ use Rattle.atl_instant.specs.Meaning.{Keeping, Meaning, both_keep, then_also}
 use Rattle.atl_instant.specs.Outcomes.{unless}
 use Rattle.atl_instant.specs.PhaseOrders.{Task, orders_of}
 use Rattle.atl_instant.specs.Staying.{IsNoWorse}
-use Rattle.atl_instant.specs.Steps.{Concern, IsOwnOrder, IsSpared, Sparing, Step, and_told, carried, carried_out, is_own, one_order, spares_others, told}
+use Rattle.atl_instant.specs.Steps.{Concern, IsOwnOrder, IsSpared, IsUnitOf, Sparing, Step, carried_out, one_order, ordered, spares_others, told, with_told}
 use Rattle.atl_instant.specs.Unmailed.{IsLeft, IsLessBy, starved_in, starved_told}
 use Rattle.atl_instant.specs.declared.written.Arrangement.{Arrangement}
 use Rattle.atl_instant.specs.declared.written.Arrangement.TheVariants.{ByUnit}
+use Rattle.atl_instant.proofs.StepLaws.{order_readings, ordered_cases}
 use Rattle.atl_instant.proofs.StructureLaws.{at_number, get-changed}
 use Rattle.atl_instant.proofs.WrittenLaws.{orders_are_in_mailings}
 
@@ -193,71 +193,63 @@ told_of_order events t outcome n =
     by_unit true x = omega arith
     by_unit false x = omega arith
 
+-- units of other factions than this one have their men
+abbrev pub OthersHaveMen : (faction : ℕ) → State → State → Type 0
+OthersHaveMen f c d = Every (λ n u. f ≢ u.faction → IsSpared HasItsMen d n u) c.units
+
+pub others_men : (f : ℕ) (c d : State) → HaveTheirMen c d → OthersHaveMen f c d
+others_men f c d men n u there other = men n u there
+
 -- behind an order each unit of another faction than the one that wrote it has its men
 abbrev pub SparesMen : Step → Type 0
-SparesMen step = (w : Planet) (a : Aliases) (c : State) (t : Task) → is_own c t ≡ true → Every (λ n u. t.faction ≢ u.faction → IsSpared HasItsMen (step w a c t).0 n u) c.units
+SparesMen step = (w : Planet) (a : Aliases) (c : State) (t : Task) (x : Unit) → IsUnitOf c t x → IfSome (step w a t) (λ deed. OthersHaveMen t.faction c (deed c x).0)
 
-module _ (step : Step) (is_taken : Said → Bool) where
-  order_spares : SparesMen step → (w : Planet) (c : State) (m : Course) (t : Task) → Every (λ n u. t.faction ≢ u.faction → IsSpared HasItsMen (one_order step is_taken w (c, m) t).0 n u) c.units
-  order_spares spares w c m t n u there other = by_taken (is_taken t.said)
-    where
-      by_own : (b : Bool) → is_own c t ≡ b → IsSpared HasItsMen (carried step w m.aliases c t).0 n u
-      by_own true own = rw own (spares w m.aliases c t own n u there other)
-      by_own false own = rw own (men_stay c n u there)
+module _ (step : Step) where
+  order_spares : SparesMen step → (w : Planet) (a : Aliases) (c : State) (t : Task) → OthersHaveMen t.faction c (ordered (step w a t) c t.faction t.unit).0
+  order_spares spares w a c t = ordered_cases (OthersHaveMen t.faction c) (step w a t) c t (others_men t.faction c c (men_stay c)) (λ x own. spares w a c t x own)
 
-      by_taken : (b : Bool) → IsSpared HasItsMen (if b then and_told m t (carried step w m.aliases c t) else (c, m)).0 n u
-      by_taken true = by_own (is_own c t) refl
-      by_taken false = men_stay c n u there
-
-  orders_spare : SparesMen step → (w : Planet) (c : State) (m : Course) (ts : List Task) → (n : ℕ) (u : Unit) → get c.units n ≡ Some u → AllByRecursion (λ t. t.faction ≢ u.faction) ts → IsSpared HasItsMen (fold (one_order step is_taken w) (c, m) ts).0 n u
+  orders_spare : SparesMen step → (w : Planet) (c : State) (m : Course) (ts : List Task) → (n : ℕ) (u : Unit) → get c.units n ≡ Some u → AllByRecursion (λ t. t.faction ≢ u.faction) ts → IsSpared HasItsMen (fold (one_order step w) (c, m) ts).0 n u
   orders_spare spares w c m [] n u there others = men_stay c n u there
   orders_spare spares w c m (t ∷ ts) n u there others =
-      let next = one_order step is_taken w (c, m) t in
-      let one = order_spares spares w c m t n u there others.0 in
+      let next = one_order step w (c, m) t in
+      let one = order_spares spares w m.aliases c t n u there others.0 in
       let two = orders_spare spares w next.0 next.1 ts n one.unit one.there (subst (λ f. AllByRecursion (λ t. t.faction ≢ f) ts) (sym one.spared.faction) others.1) in
       record { unit = two.unit; there = two.there; spared = record { faction = two.spared.faction ∙ one.spared.faction; men = two.spared.men ∙ one.spared.men } }
 
-  order_readings : (w : Planet) (p : State × Course) (t : Task) → (one_order step is_taken w p t).1.readings ≡ p.1.readings
-  order_readings w p t = by_taken (is_taken t.said)
-    where
-      by_taken : (b : Bool) → (if b then and_told p.1 t (carried step w p.1.aliases p.0 t) else p).1.readings ≡ p.1.readings
-      by_taken true = refl
-      by_taken false = refl
-
-  orders_readings : (w : Planet) (p : State × Course) (ts : List Task) → (fold (one_order step is_taken w) p ts).1.readings ≡ p.1.readings
+  orders_readings : (w : Planet) (p : State × Course) (ts : List Task) → (fold (one_order step w) p ts).1.readings ≡ p.1.readings
   orders_readings w p [] = refl
-  orders_readings w p (t ∷ ts) = orders_readings w (one_order step is_taken w p t) ts ∙ order_readings w p t
+  orders_readings w p (t ∷ ts) = orders_readings w (one_order step w p t) ts ∙ order_readings step w p t
 
-  order_told : (w : Planet) (p : State × Course) (t : Task) (n : ℕ) → starved_in (one_order step is_taken w p t).1.events n ≡ starved_in p.1.events n
-  order_told w p t n = by_taken (is_taken t.said)
+  order_told : (w : Planet) (p : State × Course) (t : Task) (n : ℕ) → starved_in (one_order step w p t).1.events n ≡ starved_in p.1.events n
+  order_told w p t n = by_outcome (ordered (step w p.1.aliases t) p.0 t.faction t.unit).1
     where
-      by_taken : (b : Bool) → starved_in (if b then and_told p.1 t (carried step w p.1.aliases p.0 t) else p).1.events n ≡ starved_in p.1.events n
-      by_taken true = told_of_order p.1.events t (carried step w p.1.aliases p.0 t).1 n
-      by_taken false = refl
+      by_outcome : (o : Option Outcome) → starved_in (with_told p.1 t o).events n ≡ starved_in p.1.events n
+      by_outcome None = refl
+      by_outcome (Some outcome) = told_of_order p.1.events t outcome n
 
-  orders_told : (w : Planet) (p : State × Course) (ts : List Task) (n : ℕ) → starved_in (fold (one_order step is_taken w) p ts).1.events n ≡ starved_in p.1.events n
+  orders_told : (w : Planet) (p : State × Course) (ts : List Task) (n : ℕ) → starved_in (fold (one_order step w) p ts).1.events n ≡ starved_in p.1.events n
   orders_told w p [] n = refl
-  orders_told w p (t ∷ ts) n = orders_told w (one_order step is_taken w p t) ts n ∙ order_told w p t n
+  orders_told w p (t ∷ ts) n = orders_told w (one_order step w p t) ts n ∙ order_told w p t n
 
   module _ (is_of : Verb → Bool) where
-    pub carried_readings : (w : Planet) (c : State) (m : Course) → (carried_out step is_taken is_of w c m).1.readings ≡ m.readings
+    pub carried_readings : (w : Planet) (c : State) (m : Course) → (carried_out step is_of w c m).1.readings ≡ m.readings
     unfolding carried_out
     carried_readings w c m = orders_readings w (c, m) (values (orders_of is_of ByUnit m.aliases m.readings))
 
-    pub carried_told : (w : Planet) (c : State) (m : Course) (n : ℕ) → starved_in (carried_out step is_taken is_of w c m).1.events n ≡ starved_in m.events n
+    pub carried_told : (w : Planet) (c : State) (m : Course) (n : ℕ) → starved_in (carried_out step is_of w c m).1.events n ≡ starved_in m.events n
     unfolding carried_out
     carried_told w c m n = orders_told w (c, m) (values (orders_of is_of ByUnit m.aliases m.readings)) n
 
-    pub carried_men : SparesMen step → (w : Planet) (c : State) (m : Course) → UnmailedAre HasItsMen m c (carried_out step is_taken is_of w c m).0
+    pub carried_men : SparesMen step → (w : Planet) (c : State) (m : Course) → UnmailedAre HasItsMen m c (carried_out step is_of w c m).0
     unfolding carried_out
     carried_men spares w c m n u there none =
         let ts = values (orders_of is_of ByUnit m.aliases m.readings) in
         orders_spare spares w c m ts n u there (recursion_from_All (λ t. t.faction ≢ u.faction) ts (none_ordered is_of ByUnit m u.faction none))
 
-    pub carried_leaves : {keeps : Keeping} → SparesMen step → ((w : Planet) (c d : State) (m : Course) → keeps w m c d → UnmailedAre HasItsItems m c d) → LeavesUnmailed (carried_out step is_taken is_of) keeps
+    pub carried_leaves : {keeps : Keeping} → SparesMen step → ((w : Planet) (c d : State) (m : Course) → keeps w m c d → UnmailedAre HasItsItems m c d) → LeavesUnmailed (carried_out step is_of) keeps
     carried_leaves {keeps} spares items =
-        whole_leaves {meaning = carried_out step is_taken is_of} {keeps = keeps} carried_readings carried_told
-        (λ w c m h. carried_men spares w c m) (λ w c m h. items w c (carried_out step is_taken is_of w c m).0 m h)
+        whole_leaves {meaning = carried_out step is_of} {keeps = keeps} carried_readings carried_told
+        (λ w c m h. carried_men spares w c m) (λ w c m h. items w c (carried_out step is_of w c m).0 m h)
 
 pub own_faction : (t : Task) (n f : ℕ) → IsOwnOrder t n f → t.faction ≡ f
 own_faction t n f h = h.faction

@@ -6,7 +6,7 @@ use Rattle.atl_orders.specs.declared.verb.Verb.{Verb}
 use Rattle.atl_orders.specs.declared.verb.Verb.TheVariants as verbs
 use Rattle.atl_orders.specs.Orders.{Said}
 use Rattle.atl_state.specs.declared.event.EventFault.{EventFault}
-use Rattle.atl_state.specs.declared.event.EventFault.TheVariants.{NoRoom, NotEnough, NotHere, NotYours}
+use Rattle.atl_state.specs.declared.event.EventFault.TheVariants.{NoRoom, NotEnough, NotHere}
 use Rattle.atl_state.specs.declared.event.Outcome.{Outcome}
 use Rattle.atl_state.specs.declared.event.Outcome.TheVariants.{Done}
 use Rattle.atl_state.specs.declared.records.Unit.{Unit}
@@ -17,9 +17,9 @@ use Rattle.atl_state.specs.State.{State}
 use Rattle.atl_instant.specs.Course.{Aliases}
 use Rattle.atl_instant.specs.Meaning.{Keeping, Meaning}
 use Rattle.atl_instant.specs.Outcomes.{first_fault, unless}
-use Rattle.atl_instant.specs.PhaseOrders.{Task, unit_of}
+use Rattle.atl_instant.specs.PhaseOrders.{unit_of}
 use Rattle.atl_instant.specs.Staying.{IsNoWorse}
-use Rattle.atl_instant.specs.Steps.{IsOwnOrder, Step, carried_out, spares_others, takes_all}
+use Rattle.atl_instant.specs.Steps.{Deed, IsOwnOrder, Step, carried_out, spares_others}
 use Rattle.atl_instant.specs.declared.give.Gift.{Gift}
 use Rattle.atl_instant.specs.declared.give.Gift.TheVariants.{Item, Money}
 use Rattle.atl_instant.specs.Terms.{PhaseTerms, nothing_moved}
@@ -56,33 +56,29 @@ give_fault gift n itself u (Some v) =
 -- The whole amount goes from one unit to another. To itself nothing changes.
 abbrev pub given : State → (from to : ℕ) → Gift → (n : ℕ) → Option Unit → Option Unit → State
 given c from to gift n (Some u) (Some v) =
-    if to == from then c
-    else with_held (with_held c from (with_held_of gift u.holding (held_of gift u.holding - n)) (Some u)) to (with_held_of gift v.holding (held_of gift v.holding + n)) (Some v)
+    let less = with_held_of gift u.holding (held_of gift u.holding - n) in
+    let more = with_held_of gift v.holding (held_of gift v.holding + n) in
+    if to == from then c else with_held (with_held c from less (Some u)) to more (Some v)
 given c from to gift n giver receiver = c
 
 abbrev pub give_to : State → (from to : ℕ) → Gift → (n : ℕ) → Unit → Option Unit → State × Outcome
 give_to c from to gift n u receiver = unless c (give_fault gift n (to == from) u receiver) (given c from to gift n (Some u) receiver, Done n)
 
--- a unit that isn't there gives nothing
-abbrev pub give_from : State → (from to : ℕ) → Gift → (n : ℕ) → Option Unit → State × Outcome
-give_from c from to gift n None = unless c (Some NotYours) (c, Done n)
-give_from c from to gift n (Some u) = give_to c from to gift n u (get c.units to)
+unfoldable pub give : (from to : ℕ) → Gift → (n : ℕ) → Deed
+give from to gift n c u = give_to c from to gift n u (get c.units to)
 
-unfoldable pub give : State → (from to : ℕ) → Gift → (n : ℕ) → State × Outcome
-give c from to gift n = give_from c from to gift n (get c.units from)
-
-abbrev pub give_said : Aliases → State → Task → Said → State × Outcome
-give_said aliases c t (orders.Give to n item) = give c t.unit (unit_of aliases t.faction to) (Item item) n
-give_said aliases c t (orders.Pay to n) = give c t.unit (unit_of aliases t.faction to) Money n
-give_said aliases c t other = (c, Done 0)
+abbrev pub give_said : Aliases → (f from : ℕ) → Said → Option Deed
+give_said aliases f from (orders.Give to n item) = Some (give from (unit_of aliases f to) (Item item) n)
+give_said aliases f from (orders.Pay to n) = Some (give from (unit_of aliases f to) Money n)
+give_said aliases f from other = None
 
 abbrev pub give_step : Step
-give_step w aliases c t = give_said aliases c t t.said
+give_step w aliases t = give_said aliases t.faction t.unit t.said
 
 -- ---- the phase
 
 abbrev pub give_meaning : Meaning
-give_meaning = carried_out give_step takes_all is_giving
+give_meaning = carried_out give_step is_giving
 
 -- a unit for which its own faction wrote no such order is no worse off
 abbrev pub give_keeps : Keeping

@@ -7,28 +7,21 @@ use Rattle.atl_orders.specs.declared.verb.Verb.{Verb}
 use Rattle.atl_orders.specs.declared.verb.Verb.TheVariants as verbs
 use Rattle.atl_orders.specs.Orders.{Said}
 use Rattle.atl_state.specs.declared.event.EventFault.{EventFault}
-use Rattle.atl_state.specs.declared.event.EventFault.TheVariants.{Guarded, NoMen, NotYours}
-use Rattle.atl_state.specs.declared.event.Outcome.{Outcome}
+use Rattle.atl_state.specs.declared.event.EventFault.TheVariants.{Guarded, NoMen}
 use Rattle.atl_state.specs.declared.event.Outcome.TheVariants.{Done}
 use Rattle.atl_state.specs.declared.records.Unit.{Unit}
 use Rattle.atl_state.specs.Good.{guards}
 use Rattle.atl_state.specs.State.{State, numbers_in, with_guard}
 use Rattle.atl_instant.specs.Meaning.{Keeping, Meaning}
 use Rattle.atl_instant.specs.Outcomes.{first_fault, unless}
-use Rattle.atl_instant.specs.PhaseOrders.{Task}
 use Rattle.atl_instant.specs.Staying.{IsNoWorse}
-use Rattle.atl_instant.specs.Steps.{Concern, IsOwnOrder, Step, carried_out, spares_others}
+use Rattle.atl_instant.specs.Steps.{Concern, Deed, IsOwnOrder, Step, carried_out, spares_others}
 use Rattle.atl_instant.specs.Terms.{PhaseTerms, nothing_moved}
 use Rattle.atl_instant.specs.Unbooked.{moves_nothing}
 
 abbrev pub is_guarding : Verb → Bool
 is_guarding verbs.Guard = true
 is_guarding verb = false
-
--- GUARD 1, and not GUARD 0
-abbrev pub sets_flag : Said → Bool
-sets_flag (orders.Guard flag) = flag
-sets_flag said = false
 
 -- ---- guards of a region
 
@@ -47,29 +40,25 @@ is_guarded_against c region faction = list_any (λ n. guards_against faction (ge
 abbrev pub guard_fault : State → Unit → Option EventFault
 guard_fault c u = first_fault ((u.holding.men == 0, NoMen) ∷ (is_guarded_against c u.region u.faction, Guarded) ∷ [])
 
--- a unit that isn't there doesn't guard
-abbrev pub guard_by : State → (n : ℕ) → Option Unit → State × Outcome
-guard_by c n None = unless c (Some NotYours) (c, Done 0)
-guard_by c n (Some u) = unless c (guard_fault c u) (with_guard c n true, Done 0)
+unfoldable pub guard : (n : ℕ) → Deed
+guard n c u = unless c (guard_fault c u) (with_guard c n true, Done 0)
 
-unfoldable pub guard : State → (n : ℕ) → State × Outcome
-guard c n = guard_by c n (get c.units n)
-
-abbrev pub guard_said : State → Task → Said → State × Outcome
-guard_said c t (orders.Guard true) = guard c t.unit
-guard_said c t other = (c, Done 0)
+-- GUARD 1, and not GUARD 0
+abbrev pub guard_said : (n : ℕ) → Said → Option Deed
+guard_said n (orders.Guard true) = Some (guard n)
+guard_said n other = None
 
 abbrev pub guard_step : Step
-guard_step w aliases c t = guard_said c t t.said
+guard_step w aliases t = guard_said t.unit t.said
 
 -- which units an order concerns: the one that is to guard
 abbrev pub guard_concerns : Concern
-guard_concerns t number faction = IsOwnOrder t number faction × (sets_flag t.said ≡ true)
+guard_concerns t number faction = IsOwnOrder t number faction × (t.said ≡ orders.Guard true)
 
 -- ---- the phase
 
 abbrev pub guard_meaning : Meaning
-guard_meaning = carried_out guard_step sets_flag is_guarding
+guard_meaning = carried_out guard_step is_guarding
 
 -- a unit for which its own faction wrote no such order is no worse off
 abbrev pub guard_keeps : Keeping

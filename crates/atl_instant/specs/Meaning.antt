@@ -33,7 +33,8 @@ Follows leaves needs = (w : Planet) (c : State) → leaves w c → needs w c
 abbrev pub both_need : Condition → Condition → Condition → Condition
 both_need needs between follows w c = needs w c × Follows between follows
 
--- What stays, from a campaign and what the month carries to the campaign behind: what a phase leaves to the units whose own faction wrote no order of it.
+-- What stays, from a campaign and what the month carries to the campaign behind: what a phase leaves to the units whose own faction wrote
+-- no order of it.
 abbrev pub Keeping : Type 1
 Keeping = Planet → Course → State → State → Type 0
 
@@ -88,7 +89,8 @@ pub record IsSameMonth (before after : State) : Type 0 where
   pub count : len after.factions ≡ len before.factions
   pub factions : (n : ℕ) → IsThere after.factions n → IsThere before.factions n
 
--- The campaign is as a phase leaves it and of the same month, the books balance where they did before, and no amount of them is moved further than the phase may move it.
+-- The campaign is as a phase leaves it and of the same month, the books balance where they did before, and no amount of them is moved
+-- further than the phase may move it.
 pub record LeavesWell (leaves : Condition) (moving : Moving) (w : Planet) (before after : State) : Type 0 where
   pub leaves_it : leaves w after
   pub same_month : IsSameMonth before after

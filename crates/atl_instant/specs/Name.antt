@@ -1,5 +1,5 @@
 -- NAME and GUARD 0: units give names, and leave their guard. See docs/RULES.md, "Name".
-use Rattle.std.specs.Prelude.{◌≡◌, ℕ, ◌==◌, Bool, true, false, not, List, [], ◌∷◌, Option, Some, None, if◌then◌else◌}
+use Rattle.std.specs.Prelude.{◌≢◌, ℕ, ◌==◌, Bool, true, false, not, List, [], ◌∷◌, Option, Some, None, if◌then◌else◌}
 use Rattle.std.specs.FinMap.{get}
 use Rattle.atl_tables.specs.Planet.{Planet}
 use Rattle.atl_orders.specs.declared.order.NameKind.{NameKind}
@@ -15,11 +15,10 @@ use Rattle.atl_state.specs.declared.event.Outcome.TheVariants.{Done}
 use Rattle.atl_state.specs.declared.records.Structure.{Structure}
 use Rattle.atl_state.specs.Good.{is_ship}
 use Rattle.atl_state.specs.State.{State, unit_changed, with_faction_name, with_guard, with_structure_name}
-use Rattle.atl_instant.specs.Inside.{inside}
 use Rattle.atl_instant.specs.Meaning.{Keeping, Meaning}
 use Rattle.atl_instant.specs.Outcomes.{first_fault, unless}
 use Rattle.atl_instant.specs.Staying.{IsNoWorse}
-use Rattle.atl_instant.specs.Steps.{Concern, IsOwnOrder, Step, carried_out, spares_others}
+use Rattle.atl_instant.specs.Steps.{Concern, Deed, IsOwnOrder, Step, carried_out, spares_others}
 use Rattle.atl_instant.specs.Terms.{PhaseTerms, nothing_moved}
 use Rattle.atl_instant.specs.Unbooked.{moves_nothing}
 
@@ -29,11 +28,6 @@ abbrev pub is_naming : Verb → Bool
 is_naming verbs.Name = true
 is_naming verbs.Guard = true
 is_naming verb = false
-
--- of the two orders of GUARD the one that clears the flag
-abbrev pub takes_naming : Said → Bool
-takes_naming (orders.Guard flag) = not flag
-takes_naming order = true
 
 -- ---- names
 
@@ -54,30 +48,36 @@ structure_fault w n ship (Some s) = first_fault ((not (is_of_sort w ship s), Not
 abbrev pub structure_named : Planet → State → (n inside : ℕ) → (ship : Bool) → List ℕ → State × Outcome
 structure_named w c n inside ship name = unless c (structure_fault w n ship (get c.structures inside)) (with_structure_name c inside name, Done 0)
 
--- what a unit of a faction names
-abbrev pub named : Planet → State → (f n : ℕ) → NameKind → List ℕ → State × Outcome
-named w c f n kinds.Unit name = (with_unit_name c n name, Done 0)
-named w c f n kinds.Faction name = (with_faction_name c f name, Done 0)
-named w c f n kinds.Building name = structure_named w c n (inside c n) false name
-named w c f n kinds.Ship name = structure_named w c n (inside c n) true name
+-- what a unit of a faction names, inside a structure or none
+abbrev pub named : Planet → State → (n faction inside : ℕ) → NameKind → List ℕ → State × Outcome
+named w c n f s kinds.Unit name = (with_unit_name c n name, Done 0)
+named w c n f s kinds.Faction name = (with_faction_name c f name, Done 0)
+named w c n f s kinds.Building name = structure_named w c n s false name
+named w c n f s kinds.Ship name = structure_named w c n s true name
 
-abbrev pub name_by : Planet → State → (f n : ℕ) → Said → State × Outcome
-name_by w c f n (orders.Name what name) = named w c f n what name
-name_by w c f n (orders.Guard false) = (with_guard c n false, Done 0)
-name_by w c f n order = (c, Done 0)
+abbrev pub names : Planet → (n : ℕ) → NameKind → List ℕ → Deed
+names w n what name c u = named w c n u.faction u.structure what name
 
--- what an order of a unit's own faction makes of a campaign
-unfoldable pub name_step : Step
-name_step w a c t = name_by w c t.faction t.unit t.said
+abbrev pub unguarded : (n : ℕ) → Deed
+unguarded n c u = (with_guard c n false, Done 0)
+
+-- GUARD 0, and not GUARD 1
+abbrev pub name_said : Planet → (n : ℕ) → Said → Option Deed
+name_said w n (orders.Name what name) = Some (names w n what name)
+name_said w n (orders.Guard false) = Some (unguarded n)
+name_said w n order = None
+
+abbrev pub name_step : Step
+name_step w a t = name_said w t.unit t.said
 
 -- which units an order concerns: the one that gives a name, or leaves its guard
 abbrev pub name_concerns : Concern
-name_concerns t number faction = IsOwnOrder t number faction × (takes_naming t.said ≡ true)
+name_concerns t number faction = IsOwnOrder t number faction × (t.said ≢ orders.Guard true)
 
 -- ---- the phase
 
 abbrev pub name_meaning : Meaning
-name_meaning = carried_out name_step takes_naming is_naming
+name_meaning = carried_out name_step is_naming
 
 -- a unit for which its own faction wrote no such order is no worse off
 abbrev pub name_keeps : Keeping

@@ -12,8 +12,7 @@ use Rattle.atl_state.specs.declared.books.Entry.TheVariants.{Left, Lost}
 use Rattle.atl_state.specs.declared.books.Thing.{Thing}
 use Rattle.atl_state.specs.declared.books.Thing.TheVariants.{Item, Money, People}
 use Rattle.atl_state.specs.declared.event.EventFault.{EventFault}
-use Rattle.atl_state.specs.declared.event.EventFault.TheVariants.{NotYours, WrongNumber}
-use Rattle.atl_state.specs.declared.event.Outcome.{Outcome}
+use Rattle.atl_state.specs.declared.event.EventFault.TheVariants.{WrongNumber}
 use Rattle.atl_state.specs.declared.event.Outcome.TheVariants.{Done}
 use Rattle.atl_state.specs.declared.records.Unit.{Unit}
 use Rattle.atl_state.specs.Held.{Held}
@@ -24,7 +23,7 @@ use Rattle.atl_instant.specs.Meaning.{Keeping, Meaning, Moving, most_moved}
 use Rattle.atl_instant.specs.Outcomes.{first_fault, unless}
 use Rattle.atl_instant.specs.PhaseOrders.{Task}
 use Rattle.atl_instant.specs.Staying.{IsNoWorse}
-use Rattle.atl_instant.specs.Steps.{Concern, Reserve, Step, carried_out, is_own, spares_others, takes_all}
+use Rattle.atl_instant.specs.Steps.{Concern, Deed, Reserve, Step, carried_out, is_own, spares_others}
 use Rattle.atl_instant.specs.Terms.{PhaseTerms}
 
 abbrev pub is_quitting : Verb → Bool
@@ -64,24 +63,20 @@ abbrev pub quit_fault : (number : ℕ) → Unit → Option EventFault
 quit_fault number u = first_fault ((not (number == u.faction), WrongNumber) ∷ [])
 
 -- All units of the faction leave, in the order of their numbers.
-abbrev pub quit_by : State → (number : ℕ) → Option Unit → State × Outcome
-quit_by c number None = unless c (Some NotYours) (c, Done 0)
-quit_by c number (Some u) = unless c (quit_fault number u) (fold left_at c (numbers_of u.faction c.units), Done 0)
+unfoldable pub quit : (number : ℕ) → Deed
+quit number c u = unless c (quit_fault number u) (fold left_at c (numbers_of u.faction c.units), Done 0)
 
-unfoldable pub quit : State → (n number : ℕ) → State × Outcome
-quit c n number = quit_by c number (get c.units n)
-
-abbrev pub quit_said : State → Task → Said → State × Outcome
-quit_said c t (orders.Quit number) = quit c t.unit number
-quit_said c t other = (c, Done 0)
+abbrev pub quit_said : Said → Option Deed
+quit_said (orders.Quit number) = Some (quit number)
+quit_said other = None
 
 abbrev pub quit_step : Step
-quit_step w aliases c t = quit_said c t t.said
+quit_step w aliases t = quit_said t.said
 
 -- ---- the phase
 
 abbrev pub quit_meaning : Meaning
-quit_meaning = carried_out quit_step takes_all is_quitting
+quit_meaning = carried_out quit_step is_quitting
 
 -- which units an order of a unit's own faction concerns: those of the faction that quits
 abbrev pub quit_concerns : Concern

@@ -1,10 +1,10 @@
 -- A phase that carries its orders out one by one: each sees what the one before left. See docs/RULES.md, "Orders of a month".
-use Rattle.std.specs.Prelude.{ℕ, ℤ, pos, ◌≡◌, ◌≤◌, ◌+ℤ◌, ◌≤ℤ◌, ◌==◌, ◌++◌, Bool, true, false, List, [], ◌∷◌, Option, Some, None, fold, if◌then◌else◌}
+use Rattle.std.specs.Prelude.{ℕ, ℤ, pos, ◌≡◌, ◌≤◌, ◌+ℤ◌, ◌≤ℤ◌, ◌==◌, ◌++◌, Bool, true, false, List, [], ◌∷◌, Option, Some, None, IfSome, fold, if◌then◌else◌}
 use Rattle.std.specs.List.{All}
 use Rattle.std.specs.FinMap.{get, values}
 use Rattle.atl_tables.specs.Planet.{Planet}
 use Rattle.atl_orders.specs.declared.verb.Verb.{Verb}
-use Rattle.atl_orders.specs.Orders.{Said, verb_of_order}
+use Rattle.atl_orders.specs.Orders.{verb_of_order}
 use Rattle.atl_state.specs.declared.books.Entry.{Entry}
 use Rattle.atl_state.specs.declared.books.Thing.{Thing}
 use Rattle.atl_state.specs.declared.event.Event.{Event}
@@ -25,9 +25,13 @@ use Rattle.atl_instant.specs.declared.written.Arrangement.TheVariants.{ByUnit}
 
 -- ---- the orders in turn
 
--- what an order of a unit's own faction makes of a campaign, and what came of it
+-- what is made of a campaign for a unit of it, and what came of it
+abbrev pub Deed : Type 0
+Deed = State → Unit → State × Outcome
+
+-- what an order does for a unit of the faction that wrote it; None for one that the phase passes over
 abbrev pub Step : Type 0
-Step = Planet → Aliases → State → Task → State × Outcome
+Step = Planet → Aliases → Task → Option Deed
 
 abbrev pub is_of_faction : ℕ → Option Unit → Bool
 is_of_faction faction None = false
@@ -37,28 +41,39 @@ is_of_faction faction (Some u) = u.faction == faction
 abbrev pub is_own : State → Task → Bool
 is_own c t = is_of_faction t.faction (get c.units t.unit)
 
--- what any order makes of a campaign: one for a unit that isn't the faction's own changes nothing
-abbrev pub carried : Step → Step
-carried step w a c t = if is_own c t then step w a c t else (c, Fault (event_fault_number NotYours))
+-- a unit, where it is there, and of the faction
+abbrev pub of_faction : ℕ → Option Unit → Option Unit
+of_faction faction None = None
+of_faction faction (Some u) = if u.faction == faction then Some u else None
+
+abbrev pub done_for : Deed → State → Option Unit → State × Outcome
+done_for deed c None = (c, Fault (event_fault_number NotYours))
+done_for deed c (Some u) = deed c u
+
+-- what a faction does for a unit: where that isn't its own, nothing changes
+abbrev pub carried : Deed → State → (faction n : ℕ) → State × Outcome
+carried deed c faction n = done_for deed c (of_faction faction (get c.units n))
+
+-- what an order makes of a campaign, and what came of it, if it isn't passed over
+abbrev pub ordered : Option Deed → State → (faction n : ℕ) → State × Option Outcome
+ordered None c faction n = (c, None)
+ordered (Some deed) c faction n = let after = carried deed c faction n in (after.0, Some after.1)
 
 -- the event that tells of an order
 abbrev pub told : Task → Outcome → Event
 told t outcome = record { faction = t.faction; unit = t.unit; line = t.line; verb = Order (verb_of_order t.said); outcome = outcome }
 
-abbrev pub and_told : Course → Task → State × Outcome → State × Course
-and_told m t (c, outcome) = (c, record m { events = m.events ++ told t outcome ∷ [] })
+abbrev pub with_told : Course → Task → Option Outcome → Course
+with_told m t None = m
+with_told m t (Some outcome) = record m { events = m.events ++ told t outcome ∷ [] }
 
--- One order of the verbs of a phase. One that the phase doesn't take is passed over.
-abbrev pub one_order : Step → (Said → Bool) → Planet → State × Course → Task → State × Course
-one_order step is_taken w (c, m) t = if is_taken t.said then and_told m t (carried step w m.aliases c t) else (c, m)
-
--- a phase that takes each order of its verbs
-abbrev pub takes_all : Said → Bool
-takes_all said = true
+-- one order of the verbs of a phase
+abbrev pub one_order : Step → Planet → State × Course → Task → State × Course
+one_order step w (c, m) t = let after = ordered (step w m.aliases t) c t.faction t.unit in (after.0, with_told m t after.1)
 
 -- all of them
-unfoldable pub carried_out : Step → (Said → Bool) → (Verb → Bool) → Meaning
-carried_out step is_taken is_of w c m = fold (one_order step is_taken w) (c, m) (values (orders_of is_of ByUnit m.aliases m.readings))
+unfoldable pub carried_out : Step → (Verb → Bool) → Meaning
+carried_out step is_of w c m = fold (one_order step w) (c, m) (values (orders_of is_of ByUnit m.aliases m.readings))
 
 -- ---- what a step leaves
 
@@ -71,7 +86,8 @@ pub record IsDrawn (reserve left : ℕ) (before after : ℤ) : Type 0 where
   pub above : (after +ℤ pos left) ≤ℤ (before +ℤ pos reserve)
   pub below : (before +ℤ pos left) ≤ℤ (after +ℤ pos reserve)
 
--- The campaign holds what it held and is of the same month, the books balance where they did before, and no amount of them moves further than its reserve shrinks.
+-- The campaign holds what it held and is of the same month, the books balance where they did before, and no amount of them moves further
+-- than its reserve shrinks.
 pub record StepsWell (holds : Condition) (reserve : Reserve) (w : Planet) (before after : State) : Type 0 where
   pub holds_still : holds w after
   pub same_month : IsSameMonth before after
@@ -116,8 +132,15 @@ pub record IsSparing (spares : Sparing) : Type 0 where
   pub again : (u v x : Unit) → spares u v → spares v x → spares u x
   pub faction : (u v : Unit) → spares u v → v.faction ≡ u.faction
 
+-- the unit that an order is for, of the faction that wrote it
+pub record IsUnitOf (c : State) (t : Task) (u : Unit) : Type 0 where
+  pub there : get c.units t.unit ≡ Some u
+  pub faction : u.faction ≡ t.faction
+
 pub record IsOrderly (step : Step) (holds : Condition) (reserve : Reserve) (moving : Moving) (concerns : Concern) (spares : Sparing) : Type 0 where
-  pub well : (w : Planet) (a : Aliases) (c : State) (t : Task) → holds w c → IsOrderOf w t.said → is_own c t ≡ true → StepsWell holds reserve w c (step w a c t).0
+  pub well : (w : Planet) (a : Aliases) (c : State) (t : Task) (x : Unit) → holds w c → IsOrderOf w t.said → IsUnitOf c t x →
+      IfSome (step w a t) (λ deed. StepsWell holds reserve w c (deed c x).0)
   pub sparing : IsSparing spares
-  pub spared : (w : Planet) (a : Aliases) (c : State) (t : Task) → holds w c → is_own c t ≡ true → (n : ℕ) (u : Unit) → get c.units n ≡ Some u → (concerns t n u.faction → ⊥) → IsSpared spares (step w a c t).0 n u
+  pub spared : (w : Planet) (a : Aliases) (c : State) (t : Task) (x : Unit) → holds w c → IsUnitOf c t x →
+      (n : ℕ) (u : Unit) → get c.units n ≡ Some u → (concerns t n u.faction → ⊥) → IfSome (step w a t) (λ deed. IsSpared spares (deed c x).0 n u)
   pub bounded : (w : Planet) (c : State) → holds w c → (e : Entry) (t : Thing) → reserve c e t ≤ moving e t

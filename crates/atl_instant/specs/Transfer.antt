@@ -18,9 +18,9 @@ use Rattle.atl_state.specs.State.{State}
 use Rattle.atl_instant.specs.Course.{Aliases}
 use Rattle.atl_instant.specs.Meaning.{Keeping, Meaning}
 use Rattle.atl_instant.specs.Outcomes.{first_fault, unless}
-use Rattle.atl_instant.specs.PhaseOrders.{Task, unit_of}
+use Rattle.atl_instant.specs.PhaseOrders.{unit_of}
 use Rattle.atl_instant.specs.Staying.{IsNoWorse}
-use Rattle.atl_instant.specs.Steps.{IsOwnOrder, Step, carried_out, spares_others, takes_all}
+use Rattle.atl_instant.specs.Steps.{Deed, IsOwnOrder, Step, carried_out, spares_others}
 use Rattle.atl_instant.specs.Terms.{PhaseTerms, nothing_moved}
 use Rattle.atl_instant.specs.Unbooked.{moves_nothing}
 
@@ -77,31 +77,27 @@ transfer_fault n itself u (Some v) =
 
 -- Men go from one unit to another. To itself nothing changes.
 abbrev pub sent : State → (from to n : ℕ) → Option Unit → Option Unit → State
-sent c from to n (Some u) (Some v) = if to == from then c else with_held (with_held c from (with_fewer n u.holding) (Some u)) to (with_more n u.holding v.holding) (Some v)
+sent c from to n (Some u) (Some v) =
+    if to == from then c else with_held (with_held c from (with_fewer n u.holding) (Some u)) to (with_more n u.holding v.holding) (Some v)
 sent c from to n sender receiver = c
 
 abbrev pub transfer_to : State → (from to n : ℕ) → Unit → Option Unit → State × Outcome
 transfer_to c from to n u receiver = unless c (transfer_fault n (to == from) u receiver) (sent c from to n (Some u) receiver, Done n)
 
--- a unit that isn't there sends nobody
-abbrev pub transfer_from : State → (from to n : ℕ) → Option Unit → State × Outcome
-transfer_from c from to n None = unless c (Some NotYours) (c, Done n)
-transfer_from c from to n (Some u) = transfer_to c from to n u (get c.units to)
+unfoldable pub transfer : (from to n : ℕ) → Deed
+transfer from to n c u = transfer_to c from to n u (get c.units to)
 
-unfoldable pub transfer : State → (from to n : ℕ) → State × Outcome
-transfer c from to n = transfer_from c from to n (get c.units from)
-
-abbrev pub transfer_said : Aliases → State → Task → Said → State × Outcome
-transfer_said aliases c t (orders.Transfer to n) = transfer c t.unit (unit_of aliases t.faction to) n
-transfer_said aliases c t other = (c, Done 0)
+abbrev pub transfer_said : Aliases → (f from : ℕ) → Said → Option Deed
+transfer_said aliases f from (orders.Transfer to n) = Some (transfer from (unit_of aliases f to) n)
+transfer_said aliases f from other = None
 
 abbrev pub transfer_step : Step
-transfer_step w aliases c t = transfer_said aliases c t t.said
+transfer_step w aliases t = transfer_said aliases t.faction t.unit t.said
 
 -- ---- the phase
 
 abbrev pub transfer_meaning : Meaning
-transfer_meaning = carried_out transfer_step takes_all is_transferring
+transfer_meaning = carried_out transfer_step is_transferring
 
 -- a unit for which its own faction wrote no such order is no worse off
 abbrev pub transfer_keeps : Keeping

@@ -9,12 +9,12 @@ ghost use Rattle.atl_state.specs.Lending.{lent, with_held};
 ghost use Rattle.atl_state.specs.declared.records.Unit.{Unit};
 ghost use Rattle.atl_state.specs.Limits.{holding_limit};
 ghost use Rattle.atl_instant.specs.Give.{give, give_fault, give_step, given, held_of, is_giving, with_held_of};
-ghost use Rattle.atl_instant.specs.Steps.{takes_all};
+ghost use Rattle.atl_instant.specs.Steps.{carried};
 
 use crate::month::Month;
 use crate::orders::PhaseVerbs;
 use crate::outcome::failed;
-use crate::steps::{OrderPhase, PlainPhase};
+use crate::steps::{OrderPhase, PlainPhase, own_unit};
 use crate::written::Written;
 use atl_orders::{Mailing, Order, Verb};
 use atl_state::{Campaign, EventFault, HOLDING_LIMIT, Holding, Outcome, Unit};
@@ -132,24 +132,24 @@ fn hand_over(
 #[tactic(auto, unfolding(crate::specs::Give::give))]
 fn give(
     campaign: &mut Campaign,
-    from: u32,
+    order: Written,
     to: u32,
     gift: Gift,
     amount: u32,
 ) -> Result<Outcome, AllocError>
     requires limits { Every (λ n u. IsHolding u.holding) campaign.old.what.units }
-    ensures what { IfOk result (λ outcome. (campaign.new.what, outcome) ≡ give campaign.old.what from to gift amount) }
+    ensures what { IfOk result (λ outcome. (campaign.new.what, outcome) ≡ carried (give order.unit to gift amount) campaign.old.what order.faction order.unit) }
     ensures marks { OnOk result (MarksChanges campaign.old campaign.new) }
 {
-    let Some(giver) = campaign.unit(from) else {
+    let Some(giver) = own_unit(campaign, order) else {
         return Ok(failed(EventFault::NotYours));
     };
     let receiver = campaign.unit(to);
-    if let Some(fault) = give_fault(gift, amount, to == from, giver, receiver) {
+    if let Some(fault) = give_fault(gift, amount, to == order.unit, giver, receiver) {
         return Ok(failed(fault));
     }
-    if to != from {
-        hand_over(campaign, from, to, gift, amount)?;
+    if to != order.unit {
+        hand_over(campaign, order.unit, to, gift, amount)?;
     }
     Ok(Outcome::Done(u64::from(amount)))
 }
@@ -165,13 +165,7 @@ impl PhaseVerbs for GivePhase {
 impl OrderPhase for GivePhase {
     ghost step = { λ _. give_step };
 
-    ghost is_taken = { takes_all };
-
     ghost holds = { IsEarly };
-
-    fn takes(&self, _: &Order) -> bool {
-        true
-    }
 
     fn carry_out(
         &self,
@@ -182,17 +176,19 @@ impl OrderPhase for GivePhase {
         order: Written,
         _: &Mailing,
         what: &Order,
-    ) -> Result<Outcome, AllocError> {
+    ) -> Result<Option<Outcome>, AllocError> {
         match what {
             Order::Give { to, amount, item } => {
                 let receiver = month.unit(order.faction, *to);
-                give(campaign, order.unit, receiver, Gift::Item(*item), *amount)
+                let outcome = give(campaign, order, receiver, Gift::Item(*item), *amount)?;
+                Ok(Some(outcome))
             }
             Order::Pay { to, amount } => {
                 let receiver = month.unit(order.faction, *to);
-                give(campaign, order.unit, receiver, Gift::Money, *amount)
+                let outcome = give(campaign, order, receiver, Gift::Money, *amount)?;
+                Ok(Some(outcome))
             }
-            _ => Ok(Outcome::Done(0)),
+            _ => Ok(None),
         }
     }
 

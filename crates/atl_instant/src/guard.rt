@@ -3,12 +3,13 @@ ghost use Rattle.std.specs.Prelude.{◌≡◌};
 ghost use Rattle.std.specs.FinMap.{get};
 ghost use Rattle.atl_state.specs.Covers.{MarksChanges};
 ghost use Rattle.atl_state.specs.Good.{IsSteady};
-ghost use Rattle.atl_instant.specs.Guard.{guard, guard_concerns, guard_fault, guard_step, guards_against, is_guarded_against, is_guarding, sets_flag};
+ghost use Rattle.atl_instant.specs.Guard.{guard, guard_concerns, guard_fault, guard_step, guards_against, is_guarded_against, is_guarding};
+ghost use Rattle.atl_instant.specs.Steps.{carried};
 
 use crate::month::Month;
 use crate::orders::PhaseVerbs;
 use crate::outcome::failed;
-use crate::steps::{OrderPhase, PlainPhase};
+use crate::steps::{OrderPhase, PlainPhase, own_unit};
 use crate::written::Written;
 use atl_orders::{Mailing, Order, Verb};
 use atl_state::{Campaign, EventFault, Outcome, Unit};
@@ -54,17 +55,17 @@ fn guard_fault(campaign: &Campaign, unit: &Unit) -> Option<EventFault>
 
 /// A unit begins to guard, or nothing changes where a fault fits.
 #[tactic(auto, unfolding(crate::specs::Guard::guard))]
-fn guard(campaign: &mut Campaign, number: u32) -> Outcome
-    ensures what { (campaign.new.what, result) ≡ guard campaign.old.what number }
+fn guard(campaign: &mut Campaign, order: Written) -> Outcome
+    ensures what { (campaign.new.what, result) ≡ carried (guard order.unit) campaign.old.what order.faction order.unit }
     ensures marks { MarksChanges campaign.old campaign.new }
 {
-    let Some(unit) = campaign.unit(number) else {
+    let Some(unit) = own_unit(campaign, order) else {
         return failed(EventFault::NotYours);
     };
     if let Some(fault) = guard_fault(campaign, unit) {
         return failed(fault);
     }
-    campaign.set_guard(number, true);
+    campaign.set_guard(order.unit, true);
     Outcome::Done(0)
 }
 
@@ -79,15 +80,9 @@ impl PhaseVerbs for GuardPhase {
 impl OrderPhase for GuardPhase {
     ghost step = { λ _. guard_step };
 
-    ghost is_taken = { sets_flag };
-
     ghost holds = { IsSteady };
 
     ghost concerns = { guard_concerns };
-
-    fn takes(&self, order: &Order) -> bool {
-        matches!(order, Order::Guard(true))
-    }
 
     fn carry_out(
         &self,
@@ -98,10 +93,10 @@ impl OrderPhase for GuardPhase {
         order: Written,
         _: &Mailing,
         what: &Order,
-    ) -> Result<Outcome, AllocError> {
+    ) -> Result<Option<Outcome>, AllocError> {
         match what {
-            Order::Guard(true) => Ok(guard(campaign, order.unit)),
-            _ => Ok(Outcome::Done(0)),
+            Order::Guard(true) => Ok(Some(guard(campaign, order))),
+            _ => Ok(None),
         }
     }
 

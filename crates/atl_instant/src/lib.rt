@@ -32,6 +32,6 @@ pub use outcome::failed;
 pub use phase::Phase;
 pub use place::PlacePhase;
 pub use quit::QuitPhase;
-pub use steps::{OrderPhase, PlainPhase, carry_out_orders, is_of_faction};
+pub use steps::{OrderPhase, PlainPhase, carry_out_orders, is_of_faction, own_unit};
 pub use transfer::{TransferPhase, days_go_with_men};
 pub use written::{Arrangement, Written};

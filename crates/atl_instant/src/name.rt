@@ -1,18 +1,18 @@
 //! NAME and GUARD 0: units give names, and leave their guard.
-ghost use Rattle.std.specs.Prelude.{◌≡◌, IfOk, IsTrue, false};
+ghost use Rattle.std.specs.Prelude.{◌≡◌, IfOk, IsTrue, OnOk, false};
 ghost use Rattle.std.specs.FinMap as map;
 ghost use Rattle.atl_tables.specs.Names.{name_ok};
 ghost use Rattle.atl_orders.specs.Orders.{name_in};
 ghost use Rattle.atl_state.specs.State.{with_faction_name, with_guard};
 ghost use Rattle.atl_state.specs.Covers.{MarksChanges};
 ghost use Rattle.atl_state.specs.Good.{IsEarly};
-ghost use Rattle.atl_instant.specs.Name.{is_naming, is_of_sort, name_concerns, name_step, named, structure_fault, structure_named, takes_naming, with_unit_name};
+ghost use Rattle.atl_instant.specs.Name.{is_naming, is_of_sort, name_concerns, name_step, named, names, structure_fault, structure_named, unguarded, with_unit_name};
+ghost use Rattle.atl_instant.specs.Steps.{carried};
 
-use crate::inside::structure_of;
 use crate::month::Month;
 use crate::orders::PhaseVerbs;
 use crate::outcome::failed;
-use crate::steps::{OrderPhase, PlainPhase};
+use crate::steps::{OrderPhase, PlainPhase, own_unit};
 use crate::written::Written;
 use atl_orders::{Mailing, NameKind, Order, Span, Verb};
 use atl_state::{Campaign, EventFault, Outcome, Structure};
@@ -104,38 +104,67 @@ fn name_structure(
 }
 
 /// A unit leaves its guard.
-fn leave_guard(campaign: &mut Campaign, unit: u32)
+fn clear_guard(campaign: &mut Campaign, unit: u32)
     ensures what { campaign.new.what ≡ with_guard campaign.old.what unit false }
     ensures marks { MarksChanges campaign.old campaign.new }
 {
     campaign.set_guard(unit, false);
 }
 
-/// A unit of a faction gives a name.
+/// Clears the flag of a unit of the order's faction.
+fn leave_guard(campaign: &mut Campaign, order: Written) -> Outcome
+    ensures what { (campaign.new.what, result) ≡ carried (unguarded order.unit) campaign.old.what order.faction order.unit }
+    ensures marks { MarksChanges campaign.old campaign.new }
+{
+    if own_unit(campaign, order).is_none() {
+        return failed(EventFault::NotYours);
+    }
+    clear_guard(campaign, order.unit);
+    Outcome::Done(0)
+}
+
+/// A unit of a faction, inside a structure or none, gives a name.
 fn name(
     world: &World,
     campaign: &mut Campaign,
-    faction: u32,
     unit: u32,
+    faction: u32,
+    inside: u32,
     what: NameKind,
     name: Text,
 ) -> Outcome
-    ensures value { (campaign.new.what, result) ≡ named world.now campaign.old.what faction unit what name }
+    ensures value { (campaign.new.what, result) ≡ named world.now campaign.old.what unit faction inside what name }
     ensures marks { MarksChanges campaign.old campaign.new }
 {
     match what {
         NameKind::Unit => name_unit(campaign, unit, name),
         NameKind::Faction => name_faction(campaign, faction, name),
-        NameKind::Building => {
-            let inside = structure_of(campaign, unit);
-            return name_structure(world, campaign, unit, inside, false, name);
-        }
-        NameKind::Ship => {
-            let inside = structure_of(campaign, unit);
-            return name_structure(world, campaign, unit, inside, true, name);
-        }
+        NameKind::Building => return name_structure(world, campaign, unit, inside, false, name),
+        NameKind::Ship => return name_structure(world, campaign, unit, inside, true, name),
     }
     Outcome::Done(0)
+}
+
+/// A unit of the order's faction gives a name.
+fn give_name(
+    alloc: Global,
+    world: &World,
+    campaign: &mut Campaign,
+    order: Written,
+    mailing: &Mailing,
+    what: NameKind,
+    span: Span,
+) -> Result<Outcome, AllocError>
+    requires fit { IsTrue (name_ok (name_in mailing.now.text span)) }
+    ensures value { IfOk result (λ outcome. (campaign.new.what, outcome) ≡ carried (names world.now order.unit what (name_in mailing.now.text span)) campaign.old.what order.faction order.unit) }
+    ensures marks { OnOk result (MarksChanges campaign.old campaign.new) }
+{
+    let Some(unit) = own_unit(campaign, order) else {
+        return Ok(failed(EventFault::NotYours));
+    };
+    let (faction, inside) = (unit.faction, unit.structure);
+    let given = name_of(alloc, mailing, span)?;
+    Ok(name(world, campaign, order.unit, faction, inside, what, given))
 }
 
 impl PhaseVerbs for NamePhase {
@@ -149,20 +178,11 @@ impl PhaseVerbs for NamePhase {
 impl OrderPhase for NamePhase {
     ghost step = { λ _. name_step };
 
-    ghost is_taken = { takes_naming };
-
     ghost holds = { IsEarly };
 
     ghost concerns = { name_concerns };
 
-    fn takes(&self, order: &Order) -> bool {
-        match order {
-            Order::Guard(flag) => !*flag,
-            _ => true,
-        }
-    }
-
-    #[tactic(auto, unfolding(crate::specs::Name::name_step), using(crate::proofs::NameLaws::name_other))]
+    #[tactic(auto, using(crate::proofs::NameLaws::name_other))]
     fn carry_out(
         &self,
         alloc: Global,
@@ -172,20 +192,14 @@ impl OrderPhase for NamePhase {
         order: Written,
         mailing: &Mailing,
         what: &Order,
-    ) -> Result<Outcome, AllocError> {
+    ) -> Result<Option<Outcome>, AllocError> {
         match what {
             Order::Name {
                 what: kind,
                 name: span,
-            } => {
-                let given = name_of(alloc, mailing, *span)?;
-                Ok(name(world, campaign, order.faction, order.unit, *kind, given))
-            }
-            Order::Guard(false) => {
-                leave_guard(campaign, order.unit);
-                Ok(Outcome::Done(0))
-            }
-            _ => Ok(Outcome::Done(0)),
+            } => Ok(Some(give_name(alloc, world, campaign, order, mailing, *kind, *span)?)),
+            Order::Guard(false) => Ok(Some(leave_guard(campaign, order))),
+            _ => Ok(None),
         }
     }
 

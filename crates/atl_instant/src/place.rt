@@ -5,18 +5,17 @@ ghost use Rattle.atl_state.specs.Covers.{MarksChanges};
 ghost use Rattle.atl_state.specs.Good.{IsEarly};
 ghost use Rattle.atl_state.specs.Owners.{is_owned_by, with_place};
 ghost use Rattle.atl_state.specs.State.{with_owner};
-ghost use Rattle.atl_instant.specs.Inside.{region_of};
 ghost use Rattle.atl_instant.specs.Place.{entered, entered_other, is_in, is_placing, leave_fault, left, place_step, promote_fault, promoted};
-ghost use Rattle.atl_instant.specs.Steps.{takes_all};
+ghost use Rattle.atl_instant.specs.Steps.{carried};
 
-use crate::inside::{region_of, structure_of};
+use crate::inside::structure_of;
 use crate::month::Month;
 use crate::orders::PhaseVerbs;
 use crate::outcome::failed;
-use crate::steps::{OrderPhase, PlainPhase};
+use crate::steps::{OrderPhase, PlainPhase, own_unit};
 use crate::written::Written;
 use atl_orders::{Mailing, Order, Verb};
-use atl_state::{Campaign, EventFault, Outcome};
+use atl_state::{Campaign, EventFault, Outcome, Unit};
 use atl_tables::World;
 use std::alloc::{AllocError, Global};
 
@@ -46,21 +45,25 @@ fn is_owned_by(campaign: &Campaign, structure: u32, unit: u32) -> bool
 }
 
 /// Puts a unit inside a structure of its region, or inside none, where that is 0.
-fn put_inside(campaign: &mut Campaign, unit: u32, structure: u32) -> Result<(), AllocError>
-    ensures what { OnOk result (campaign.new.what ≡ with_place campaign.old.what unit (region_of campaign.old.what unit) structure) }
+fn put_inside(
+    campaign: &mut Campaign,
+    unit: u32,
+    region: u32,
+    structure: u32,
+) -> Result<(), AllocError>
+    ensures what { OnOk result (campaign.new.what ≡ with_place campaign.old.what unit region structure) }
     ensures marks { OnOk result (MarksChanges campaign.old campaign.new) }
 {
-    let region = region_of(campaign, unit);
     campaign.place(unit, region, structure)
 }
 
 /// Why a unit doesn't leave the structure that it is inside.
-fn leave_fault(world: &World, campaign: &Campaign, unit: u32) -> Option<EventFault>
-    ensures { result ≡ leave_fault world.now campaign.now.what unit }
+fn leave_fault(world: &World, unit: &Unit) -> Option<EventFault>
+    ensures { result ≡ leave_fault world.now unit.now }
 {
-    if structure_of(campaign, unit) == 0 {
+    if unit.structure == 0 {
         Some(EventFault::NotInside)
-    } else if !world.is_land_at(region_of(campaign, unit)) {
+    } else if !world.is_land_at(unit.region) {
         Some(EventFault::AtSea)
     } else {
         None
@@ -68,53 +71,66 @@ fn leave_fault(world: &World, campaign: &Campaign, unit: u32) -> Option<EventFau
 }
 
 /// A unit leaves the structure that it is inside.
-fn leave(world: &World, campaign: &mut Campaign, unit: u32) -> Result<Outcome, AllocError>
-    ensures value { IfOk result (λ outcome. (campaign.new.what, outcome) ≡ left world.now campaign.old.what unit) }
+#[tactic(auto, unfolding(crate::specs::Place::left))]
+fn leave(world: &World, campaign: &mut Campaign, order: Written) -> Result<Outcome, AllocError>
+    ensures what { IfOk result (λ outcome. (campaign.new.what, outcome) ≡ carried (left world.now order.unit) campaign.old.what order.faction order.unit) }
     ensures marks { OnOk result (MarksChanges campaign.old campaign.new) }
 {
-    match leave_fault(world, campaign, unit) {
-        Some(fault) => Ok(failed(fault)),
-        None => {
-            put_inside(campaign, unit, 0)?;
-            Ok(Outcome::Done(0))
-        }
+    let Some(unit) = own_unit(campaign, order) else {
+        return Ok(failed(EventFault::NotYours));
+    };
+    if let Some(fault) = leave_fault(world, unit) {
+        return Ok(failed(fault));
     }
+    let region = unit.region;
+    put_inside(campaign, order.unit, region, 0)?;
+    Ok(Outcome::Done(0))
 }
 
-/// A unit enters a structure, unless it is inside.
-fn enter_other(campaign: &mut Campaign, unit: u32, structure: u32) -> Result<(), AllocError>
-    ensures what { OnOk result (campaign.new.what ≡ entered_other campaign.old.what unit structure) }
+/// A unit that is inside a structure, or none, enters another.
+fn enter_other(
+    campaign: &mut Campaign,
+    unit: u32,
+    region: u32,
+    from: u32,
+    structure: u32,
+) -> Result<(), AllocError>
+    ensures what { OnOk result (campaign.new.what ≡ entered_other campaign.old.what unit region from structure) }
     ensures marks { OnOk result (MarksChanges campaign.old campaign.new) }
 {
-    if structure_of(campaign, unit) == structure {
+    if from == structure {
         Ok(())
     } else {
-        put_inside(campaign, unit, structure)
+        put_inside(campaign, unit, region, structure)
     }
 }
 
 /// A unit enters a structure of its region.
-fn enter(campaign: &mut Campaign, unit: u32, structure: u32) -> Result<Outcome, AllocError>
-    ensures value { IfOk result (λ outcome. (campaign.new.what, outcome) ≡ entered campaign.old.what unit structure) }
+#[tactic(auto, unfolding(crate::specs::Place::entered))]
+fn enter(campaign: &mut Campaign, order: Written, structure: u32) -> Result<Outcome, AllocError>
+    ensures what { IfOk result (λ outcome. (campaign.new.what, outcome) ≡ carried (entered order.unit structure) campaign.old.what order.faction order.unit) }
     ensures marks { OnOk result (MarksChanges campaign.old campaign.new) }
 {
-    if !is_in(campaign, structure, region_of(campaign, unit)) {
+    let Some(unit) = own_unit(campaign, order) else {
+        return Ok(failed(EventFault::NotYours));
+    };
+    if !is_in(campaign, structure, unit.region) {
         return Ok(failed(EventFault::NotHere));
     }
-    enter_other(campaign, unit, structure)?;
+    let (region, from) = (unit.region, unit.structure);
+    enter_other(campaign, order.unit, region, from, structure)?;
     Ok(Outcome::Done(0))
 }
 
 /// Why a unit doesn't make another the owner of the structure that it is inside.
-fn promote_fault(campaign: &Campaign, unit: u32, to: u32) -> Option<EventFault>
-    ensures { result ≡ promote_fault campaign.now.what unit to }
+fn promote_fault(campaign: &Campaign, number: u32, to: u32, unit: &Unit) -> Option<EventFault>
+    ensures { result ≡ promote_fault campaign.now.what number to unit.now }
 {
-    let inside = structure_of(campaign, unit);
-    if inside == 0 {
+    if unit.structure == 0 {
         Some(EventFault::NotInside)
-    } else if !is_owned_by(campaign, inside, unit) {
+    } else if !is_owned_by(campaign, unit.structure, number) {
         Some(EventFault::NotOwner)
-    } else if structure_of(campaign, to) != inside {
+    } else if structure_of(campaign, to) != unit.structure {
         Some(EventFault::NotHere)
     } else {
         None
@@ -130,18 +146,20 @@ fn give_to(campaign: &mut Campaign, structure: u32, owner: u32)
 }
 
 /// A unit makes another the owner of the structure that both are inside.
-fn promote(campaign: &mut Campaign, unit: u32, to: u32) -> Outcome
-    ensures value { (campaign.new.what, result) ≡ promoted campaign.old.what unit to }
+#[tactic(auto, unfolding(crate::specs::Place::promoted))]
+fn promote(campaign: &mut Campaign, order: Written, to: u32) -> Outcome
+    ensures what { (campaign.new.what, result) ≡ carried (promoted order.unit to) campaign.old.what order.faction order.unit }
     ensures marks { MarksChanges campaign.old campaign.new }
 {
-    match promote_fault(campaign, unit, to) {
-        Some(fault) => failed(fault),
-        None => {
-            let inside = structure_of(campaign, unit);
-            give_to(campaign, inside, to);
-            Outcome::Done(0)
-        }
+    let Some(unit) = own_unit(campaign, order) else {
+        return failed(EventFault::NotYours);
+    };
+    if let Some(fault) = promote_fault(campaign, order.unit, to, unit) {
+        return failed(fault);
     }
+    let inside = unit.structure;
+    give_to(campaign, inside, to);
+    Outcome::Done(0)
 }
 
 impl PhaseVerbs for PlacePhase {
@@ -155,15 +173,9 @@ impl PhaseVerbs for PlacePhase {
 impl OrderPhase for PlacePhase {
     ghost step = { λ _. place_step };
 
-    ghost is_taken = { takes_all };
-
     ghost holds = { IsEarly };
 
-    fn takes(&self, _order: &Order) -> bool {
-        true
-    }
-
-    #[tactic(auto, unfolding(crate::specs::Place::place_step), using(crate::proofs::PlaceLaws::place_other))]
+    #[tactic(auto, using(crate::proofs::PlaceLaws::place_other))]
     fn carry_out(
         &self,
         _alloc: Global,
@@ -173,15 +185,15 @@ impl OrderPhase for PlacePhase {
         order: Written,
         _mailing: &Mailing,
         what: &Order,
-    ) -> Result<Outcome, AllocError> {
+    ) -> Result<Option<Outcome>, AllocError> {
         match what {
-            Order::Leave => leave(world, campaign, order.unit),
-            Order::Enter(structure) => enter(campaign, order.unit, *structure),
+            Order::Leave => Ok(Some(leave(world, campaign, order)?)),
+            Order::Enter(structure) => Ok(Some(enter(campaign, order, *structure)?)),
             Order::Promote(to) => {
                 let owner = month.unit(order.faction, *to);
-                Ok(promote(campaign, order.unit, owner))
+                Ok(Some(promote(campaign, order, owner)))
             }
-            _ => Ok(Outcome::Done(0)),
+            _ => Ok(None),
         }
     }
 

@@ -11,7 +11,7 @@ ghost use Rattle.atl_state.specs.declared.books.Thing.TheVariants.{Money, People
 ghost use Rattle.atl_instant.specs.Meaning.{HasRoom, HaveRoom, both_move, moves_only};
 ghost use Rattle.atl_instant.specs.Quit.{gone_under, is_quitting, item_gone, left_at, quit, quit_concerns, quit_fault, quit_keeps, quit_meaning, quit_moves, quit_reserve, quit_step, with_gone_amount};
 ghost use Rattle.atl_instant.specs.LostItems.{moving_items};
-ghost use Rattle.atl_instant.specs.Steps.{takes_all};
+ghost use Rattle.atl_instant.specs.Steps.{carried};
 
 use crate::booking::book_taken;
 use crate::items::items_of;
@@ -19,7 +19,7 @@ use crate::month::Month;
 use crate::orders::PhaseVerbs;
 use crate::outcome::failed;
 use crate::phase::Phase;
-use crate::steps::{OrderPhase, carry_out_orders};
+use crate::steps::{OrderPhase, carry_out_orders, own_unit};
 use crate::written::Written;
 use atl_orders::{Mailing, Order, Verb};
 use atl_state::{Campaign, Entry, EventFault, Outcome, Thing, Unit};
@@ -134,21 +134,21 @@ fn quit(
     alloc: Global,
     world: &World,
     campaign: &mut Campaign,
-    unit: u32,
+    order: Written,
     number: u32,
 ) -> Result<Outcome, AllocError>
     requires steady { IsSteady world.now campaign.old.what }
     requires room { HaveRoom (quit_reserve campaign.old.what) campaign.old.what }
-    ensures what { IfOk result (λ outcome. (campaign.new.what, outcome) ≡ quit campaign.old.what unit number) }
+    ensures what { IfOk result (λ outcome. (campaign.new.what, outcome) ≡ carried (quit number) campaign.old.what order.faction order.unit) }
     ensures marks { OnOk result (MarksChanges campaign.old campaign.new) }
 {
-    let Some(found) = campaign.unit(unit) else {
+    let Some(unit) = own_unit(campaign, order) else {
         return Ok(failed(EventFault::NotYours));
     };
-    if let Some(fault) = quit_fault(number, found) {
+    if let Some(fault) = quit_fault(number, unit) {
         return Ok(failed(fault));
     }
-    let numbers = Vec::from_slice(alloc, campaign.of_faction(found.faction))?;
+    let numbers = Vec::from_slice(alloc, campaign.of_faction(unit.faction))?;
     leave_all(alloc, world, campaign, &numbers)?;
     Ok(Outcome::Done(0))
 }
@@ -164,8 +164,6 @@ impl PhaseVerbs for QuitPhase {
 impl OrderPhase for QuitPhase {
     ghost step = { λ _. quit_step };
 
-    ghost is_taken = { takes_all };
-
     ghost holds = { IsSteady };
 
     ghost reserve = { quit_reserve };
@@ -173,10 +171,6 @@ impl OrderPhase for QuitPhase {
     ghost moving = { quit_moves };
 
     ghost concerns = { quit_concerns };
-
-    fn takes(&self, _: &Order) -> bool {
-        true
-    }
 
     fn carry_out(
         &self,
@@ -187,10 +181,10 @@ impl OrderPhase for QuitPhase {
         order: Written,
         _: &Mailing,
         what: &Order,
-    ) -> Result<Outcome, AllocError> {
+    ) -> Result<Option<Outcome>, AllocError> {
         match what {
-            Order::Quit(number) => quit(alloc, world, campaign, order.unit, *number),
-            _ => Ok(Outcome::Done(0)),
+            Order::Quit(number) => Ok(Some(quit(alloc, world, campaign, order, *number)?)),
+            _ => Ok(None),
         }
     }
 

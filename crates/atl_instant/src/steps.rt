@@ -1,33 +1,30 @@
 //! A phase that carries its orders out one by one.
-ghost use Rattle.std.specs.Prelude.{◌≡◌, Bool, IfOk, List, OnOk, Some, true, ℕ};
+ghost use Rattle.std.specs.Prelude.{◌≡◌, IfOk, IfSome, OnOk, Some};
 ghost use Rattle.std.specs.FinMap.{get};
-ghost use Rattle.atl_orders.specs.Orders.{Said, said};
+ghost use Rattle.std.specs.Option.{option_copied};
+ghost use Rattle.atl_orders.specs.Orders.{said};
 ghost use Rattle.atl_state.specs.Covers.{MarksChanges};
 ghost use Rattle.atl_orders.specs.Bounds.{IsOrderOf};
 ghost use Rattle.atl_instant.specs.Fit.{AreFit};
 ghost use Rattle.atl_instant.specs.Meaning.{Condition, HaveRoom, LeavesWell, Moving};
 ghost use Rattle.atl_instant.specs.Staying.{IsNoWorse};
 ghost use Rattle.atl_instant.specs.Unbooked.{books_nothing, moves_nothing};
-ghost use Rattle.atl_instant.specs.Steps.{Concern, IsOrderly, IsOwnOrder, Reserve, Sparing, Step, StepsWell, carried, carried_out, is_of_faction, is_own, one_order, spares_others};
+ghost use Rattle.atl_instant.specs.Steps.{Concern, IsOrderly, IsOwnOrder, Reserve, Sparing, Step, carried_out, is_of_faction, of_faction, one_order, ordered, spares_others};
 ghost use Rattle.atl_instant.specs.Carrying.{found_written, task_of};
 
 use crate::month::Month;
 use crate::orders::PhaseVerbs;
-use crate::outcome::failed;
 use crate::phase::Phase;
 use crate::written::{Arrangement, Written};
 use atl_orders::{Mailing, Order};
-use atl_state::{Campaign, EventFault, Outcome};
+use atl_state::{Campaign, Outcome, Unit};
 use atl_tables::World;
 use std::alloc::{AllocError, Global};
 
 /// A phase that carries its orders out one by one, each over what the one before left.
 pub trait OrderPhase: PhaseVerbs {
-    // What an order of a unit's own faction makes of a campaign, and what came of it.
+    // What an order does for a unit of its own faction, if the phase doesn't pass it over.
     ghost step: { Self → Step };
-
-    // Which orders of its verbs it takes; it passes over the others.
-    ghost is_taken: { Said → Bool };
 
     // What is so of the campaign before each order, and after it.
     ghost holds: { Condition };
@@ -44,11 +41,9 @@ pub trait OrderPhase: PhaseVerbs {
 
     ghost spares: { Sparing } = { IsNoWorse };
 
-    /// Whether it takes an order of its verbs.
-    fn takes(&self, order: &Order) -> bool
-        ensures { (text : List ℕ) → result ≡ is_taken (said text order.now) };
-
-    /// Carries out an order of a unit's own faction. AllocError without memory; the campaign may then be changed in part.
+    /// Carries out an order of its verbs: what came of it, or None where it passes the order over. An order for a unit that
+    /// isn't the faction's own changes nothing. AllocError without memory; the campaign may then be changed in part. See
+    /// docs/RULES.md, "Orders of a month".
     fn carry_out(
         &self,
         alloc: Global,
@@ -58,12 +53,11 @@ pub trait OrderPhase: PhaseVerbs {
         order: Written,
         mailing: &Mailing,
         what: &Order,
-    ) -> Result<Outcome, AllocError>
+    ) -> Result<Option<Outcome>, AllocError>
         requires holds { holds world.now campaign.old.what }
         requires room { HaveRoom (reserve campaign.old.what) campaign.old.what }
-        requires own { is_own campaign.old.what (task_of order (said mailing.now.text what.now)) ≡ true }
         requires fit { IsOrderOf world.now (said mailing.now.text what.now) }
-        ensures step { IfOk result (λ outcome. (campaign.new.what, outcome) ≡ step self.now world.now month.now.aliases campaign.old.what (task_of order (said mailing.now.text what.now))) }
+        ensures step { IfOk result (λ outcome. (campaign.new.what, outcome) ≡ ordered (step self.now world.now month.now.aliases (task_of order (said mailing.now.text what.now))) campaign.old.what order.faction order.unit) }
         ensures marks { OnOk result (MarksChanges campaign.old campaign.new) };
 
     /// What each step leaves, and what it spares.
@@ -81,31 +75,18 @@ pub fn is_of_faction(campaign: &Campaign, unit: u32, faction: u32) -> bool
     }
 }
 
-/// Carries out an order for any unit: one that isn't the faction's own changes nothing.
-fn outcome_of<P: OrderPhase>(
-    alloc: Global,
-    phase: &P,
-    world: &World,
-    campaign: &mut Campaign,
-    month: &Month,
-    order: Written,
-    mailing: &Mailing,
-    what: &Order,
-) -> Result<Outcome, AllocError>
-    requires holds { P.holds world.now campaign.old.what }
-    requires room { HaveRoom (P.reserve campaign.old.what) campaign.old.what }
-    requires fit { IsOrderOf world.now (said mailing.now.text what.now) }
-    ensures step { IfOk result (λ outcome. (campaign.new.what, outcome) ≡ carried (P.step phase.now) world.now month.now.aliases campaign.old.what (task_of order (said mailing.now.text what.now))) }
-    ensures marks { OnOk result (MarksChanges campaign.old campaign.new) }
+/// The unit that an order is for; None where it isn't there, or is another faction's.
+pub fn own_unit(campaign: &Campaign, order: Written) -> Option<&Unit>
+    ensures own { option_copied result ≡ of_faction order.faction (get campaign.now.what.units order.unit) }
+    ensures there { IfSome result (λ unit. get campaign.now.what.units order.unit ≡ Some unit.now) }
 {
-    if is_of_faction(campaign, order.unit, order.faction) {
-        phase.carry_out(alloc, world, campaign, month, order, mailing, what)
-    } else {
-        Ok(failed(EventFault::NotYours))
+    match campaign.unit(order.unit) {
+        Some(unit) if unit.faction == order.faction => Some(unit),
+        _ => None,
     }
 }
 
-/// Carries out an order that the phase takes, and tells of it.
+/// Carries out an order, and tells of it.
 fn carry_one<P: OrderPhase>(
     alloc: Global,
     phase: &P,
@@ -117,19 +98,17 @@ fn carry_one<P: OrderPhase>(
     requires holds { P.holds world.now campaign.old.what }
     requires room { HaveRoom (P.reserve campaign.old.what) campaign.old.what }
     requires read { AreFit world.now month.old.readings }
-    ensures step { OnOk result ((campaign.new.what, month.new) ≡ found_written (one_order (P.step phase.now) P.is_taken world.now) month.old.readings (campaign.old.what, month.old) order) }
-    ensures well { OnOk result (StepsWell P.holds P.reserve world.now campaign.old.what campaign.new.what) }
+    ensures step { OnOk result ((campaign.new.what, month.new) ≡ found_written (one_order (P.step phase.now) world.now) month.old.readings (campaign.old.what, month.old) order) }
     ensures marks { OnOk result (MarksChanges campaign.old campaign.new) }
 {
-    phase.is_orderly();
-    let event = match month.order(order.faction, order.place) {
-        Some((mailing, what)) if phase.takes(what) => {
-            let outcome = outcome_of(alloc, phase, world, campaign, month, order, mailing, what)?;
-            order.event(what.verb(), outcome)
-        }
-        _ => return Ok(()),
+    let Some((mailing, what)) = month.order(order.faction, order.place) else {
+        return Ok(());
     };
-    month.tell(event)
+    let verb = what.verb();
+    match phase.carry_out(alloc, world, campaign, month, order, mailing, what)? {
+        Some(outcome) => month.tell(order.event(verb, outcome)),
+        None => Ok(()),
+    }
 }
 
 /// Carries out the orders of a phase, by unit, line and faction, each over what the one before left, and tells of each.
@@ -144,7 +123,7 @@ pub fn carry_out_orders<P: OrderPhase>(
     requires holds { P.holds world.now campaign.old.what }
     requires room { HaveRoom P.moving campaign.old.what }
     requires read { AreFit world.now month.old.readings }
-    ensures meaning { OnOk result ((campaign.new.what, month.new) ≡ carried_out (P.step phase.now) P.is_taken P.is_of world.now campaign.old.what month.old) }
+    ensures meaning { OnOk result ((campaign.new.what, month.new) ≡ carried_out (P.step phase.now) P.is_of world.now campaign.old.what month.old) }
     ensures leaves { OnOk result (LeavesWell P.holds P.moving world.now campaign.old.what campaign.new.what) }
     ensures readings { OnOk result (month.new.readings ≡ month.old.readings) }
     ensures keeps { OnOk result (spares_others P.concerns P.spares P.is_of world.now month.old campaign.old.what campaign.new.what) }
@@ -160,7 +139,7 @@ pub fn carry_out_orders<P: OrderPhase>(
 
 /// A phase that is nothing but its orders, each of which it carries out alike whatever its own value.
 pub trait PlainPhase: OrderPhase {
-    // What an order of a unit's own faction makes of a campaign, and what came of it.
+    // What an order does for a unit of its own faction, if the phase doesn't pass it over.
     ghost makes: { Step };
 
     /// That the step of each value is this one.
@@ -169,7 +148,7 @@ pub trait PlainPhase: OrderPhase {
 }
 
 impl<P: PlainPhase> Phase for P {
-    ghost meaning = { carried_out P.makes P.is_taken P.is_of };
+    ghost meaning = { carried_out P.makes P.is_of };
 
     ghost needs = { P.holds };
 

@@ -9,12 +9,12 @@ ghost use Rattle.atl_state.specs.Lending.{lent};
 ghost use Rattle.atl_state.specs.Limits.{men_limit, most_days};
 ghost use Rattle.atl_state.specs.declared.records.Unit.{Unit};
 ghost use Rattle.atl_instant.specs.Transfer.{DaysGoWithMen, days_going, days_left, days_raised, is_transferring, sent, transfer, transfer_fault, transfer_step, with_days};
-ghost use Rattle.atl_instant.specs.Steps.{takes_all};
+ghost use Rattle.atl_instant.specs.Steps.{carried};
 
 use crate::month::Month;
 use crate::orders::PhaseVerbs;
 use crate::outcome::failed;
-use crate::steps::{OrderPhase, PlainPhase};
+use crate::steps::{OrderPhase, PlainPhase, own_unit};
 use crate::written::Written;
 use atl_orders::{Mailing, Order, Verb};
 use atl_state::{Campaign, EventFault, Holding, MEN_LIMIT, Outcome, Unit};
@@ -182,23 +182,23 @@ fn transfer_fault(
 fn transfer(
     alloc: Global,
     campaign: &mut Campaign,
-    from: u32,
+    order: Written,
     to: u32,
     going: u32,
 ) -> Result<Outcome, AllocError>
     requires days { AreDays campaign.old.what }
-    ensures what { IfOk result (λ outcome. (campaign.new.what, outcome) ≡ transfer campaign.old.what from to going) }
+    ensures what { IfOk result (λ outcome. (campaign.new.what, outcome) ≡ carried (transfer order.unit to going) campaign.old.what order.faction order.unit) }
     ensures marks { OnOk result (MarksChanges campaign.old campaign.new) }
 {
-    let Some(sender) = campaign.unit(from) else {
+    let Some(sender) = own_unit(campaign, order) else {
         return Ok(failed(EventFault::NotYours));
     };
     let receiver = campaign.unit(to);
-    if let Some(fault) = transfer_fault(going, to == from, sender, receiver) {
+    if let Some(fault) = transfer_fault(going, to == order.unit, sender, receiver) {
         return Ok(failed(fault));
     }
-    if to != from {
-        send(alloc, campaign, from, to, going)?;
+    if to != order.unit {
+        send(alloc, campaign, order.unit, to, going)?;
     }
     Ok(Outcome::Done(u64::from(going)))
 }
@@ -214,13 +214,7 @@ impl PhaseVerbs for TransferPhase {
 impl OrderPhase for TransferPhase {
     ghost step = { λ _. transfer_step };
 
-    ghost is_taken = { takes_all };
-
     ghost holds = { IsEarly };
-
-    fn takes(&self, _: &Order) -> bool {
-        true
-    }
 
     fn carry_out(
         &self,
@@ -231,13 +225,13 @@ impl OrderPhase for TransferPhase {
         order: Written,
         _: &Mailing,
         what: &Order,
-    ) -> Result<Outcome, AllocError> {
+    ) -> Result<Option<Outcome>, AllocError> {
         match what {
             Order::Transfer { to, men } => {
                 let receiver = month.unit(order.faction, *to);
-                transfer(alloc, campaign, order.unit, receiver, *men)
+                Ok(Some(transfer(alloc, campaign, order, receiver, *men)?))
             }
-            _ => Ok(Outcome::Done(0)),
+            _ => Ok(None),
         }
     }
 

@@ -1,13 +1,12 @@
 -- BUILD leaves a campaign well, and spares who doesn't order it.
 use Rattle.std.proofs.Common.{◌≡◌, ◌≢◌, ◌==◌, ℕ, ◌+◌, ◌-◌, ◌*◌, ◌≤◌, ◌<◌, Bool, true, false, not, List, [], ◌∷◌, length, sum_by, Option, Some, None, refl, sym, ap, subst, ◌∙◌, arith}
 use Rattle.std.proofs.lemmas.Bool.{not-false, true≢false}
-use Rattle.std.specs.Prelude.{min, nat_le, nat_lt, if◌then◌else◌}
+use Rattle.std.specs.Prelude.{IfSome, min, nat_le, nat_lt, if◌then◌else◌}
 use Rattle.std.specs.List.{slice_get}
 use Rattle.std.specs.Option.{option_map_or}
 use Rattle.std.proofs.lemmas.Bool.Decides.{nat_tests}
 use Rattle.std.proofs.lemmas.Option.{slice_get_within}
-use Rattle.std.proofs.lemmas.List.Sums.{sum_by-cons}
-use Rattle.std.proofs.Math.Nat.{mul-le-mul_left, suc-mul}
+use Rattle.std.proofs.Math.Nat.{mul-le-mul_left}
 use Rattle.std.specs.FinMap.{entries, get, len, len-entries}
 use Rattle.atl_tables.specs.Limits.{most_size}
 use Rattle.atl_tables.specs.Planet.{IsKind, Planet}
@@ -27,7 +26,6 @@ use Rattle.atl_state.specs.declared.books.Thing.TheVariants.{Item, Money, People
 use Rattle.atl_state.specs.declared.records.Structure.{Structure}
 use Rattle.atl_state.specs.declared.records.Unit.{Unit}
 use Rattle.atl_state.specs.Books.{entry_place}
-use Rattle.atl_state.specs.Deciding.{EachOf}
 use Rattle.atl_state.specs.Good.{IsNumbered, IsSteady}
 use Rattle.atl_state.specs.Levels.{level_in}
 use Rattle.atl_state.proofs.BegunLaws.{IsFresh, built, built_is, nobody_inside, raised, raised_there}
@@ -39,13 +37,14 @@ use Rattle.atl_state.proofs.EveryLaws.{each-from_every}
 use Rattle.atl_instant.specs.Meaning.{HaveRoom, LeavesWell, most_moved}
 use Rattle.atl_instant.specs.Outcomes.{unless}
 use Rattle.atl_instant.specs.Staying.{IsNoWorse}
-use Rattle.atl_instant.specs.Steps.{IsOrderly, IsOwnOrder, StepsWell}
+use Rattle.atl_instant.specs.Steps.{IsOrderly, IsOwnOrder, StepsWell, carried, done_for, of_faction}
 use Rattle.atl_instant.proofs.AmountsLaws.{amount_within}
 use Rattle.atl_instant.proofs.OutcomeLaws.{none_fits, not_less}
 use Rattle.atl_instant.proofs.PlacingLaws.{place_stays}
+use Rattle.atl_instant.proofs.QuitLaws.{sum_within}
 use Rattle.atl_instant.proofs.StepLaws.{no_worse_spares, well_same, well_twice}
-use Rattle.atl_instant.proofs.UnbookedLaws.{other_spared}
-use Rattle.atl_market.specs.Build.{CanBuild, begin, begin_by, begin_fault, begin_with, build_moves, build_reserve, build_said, build_step, go_on, go_on_at, go_on_by, go_on_with, gone_on, inside_fault, is_structure_limit, new_structure, size_added, started, with_new}
+use Rattle.atl_instant.proofs.UnbookedLaws.{stays_spared}
+use Rattle.atl_market.specs.Build.{CanBuild, begin, begin_fault, begin_with, build_moves, build_reserve, build_said, build_step, go_on, go_on_at, go_on_with, gone_on, inside_fault, is_structure_limit, new_structure, size_added, started, with_new}
 use Rattle.atl_market.specs.Goods.{CanUse}
 use Rattle.atl_market.proofs.BuildBegunLaws.{built_well, raised_well, sort_name_ok}
 use Rattle.atl_market.proofs.BuildPlaceLaws.{place_well}
@@ -243,72 +242,57 @@ module _ (w : Planet) (c : State) (n : ℕ) (u : Unit) (s : Structure) (k : Kind
 -- ---- an order
 
 -- what is so of the campaign as it is, and of that in which the structure is begun, is so of the campaign behind the order
-begin_cases : (P : State → Type 0) (w : Planet) (c : State) (n kind : ℕ) → P c
-    → ((u : Unit) (k : Kind) → get c.units n ≡ Some u → slice_get w.kinds kind ≡ Some k → CanBegin w c u k → P (started c n kind k u.region (size_added k u.holding 0))) → P (begin w c n kind).0
+begin_cases : (P : State → Type 0) (w : Planet) (c : State) (n kind : ℕ) (u : Unit) → P c
+    → ((k : Kind) → slice_get w.kinds kind ≡ Some k → CanBegin w c u k → P (started c n kind k u.region (size_added k u.holding 0))) → P (begin w n kind c u).0
 unfolding begin
-begin_cases P w c n kind same go = by_unit (get c.units n) refl
+begin_cases P w c n kind u same go = by_kind (slice_get w.kinds kind) refl
   where
-    by_fault : (u : Unit) (k : Kind) → get c.units n ≡ Some u → slice_get w.kinds kind ≡ Some k → (o : Option EventFault) → begin_fault w c u k ≡ o → P (unless c o (started c n kind k u.region (size_added k u.holding 0), Done (size_added k u.holding 0))).0
-    by_fault u k is kind_is (Some fault) e = same
-    by_fault u k is kind_is None e = go u k is kind_is (can_begin w c u k e)
+    by_fault : (k : Kind) → slice_get w.kinds kind ≡ Some k → (o : Option EventFault) → begin_fault w c u k ≡ o → P (unless c o (started c n kind k u.region (size_added k u.holding 0), Done (size_added k u.holding 0))).0
+    by_fault k kind_is (Some fault) e = same
+    by_fault k kind_is None e = go k kind_is (can_begin w c u k e)
 
-    by_kind : (u : Unit) → get c.units n ≡ Some u → (o : Option Kind) → slice_get w.kinds kind ≡ o → P (begin_with w c n kind u o).0
-    by_kind u is None kind_is = same
-    by_kind u is (Some k) kind_is = by_fault u k is kind_is (begin_fault w c u k) refl
-
-    by_unit : (o : Option Unit) → get c.units n ≡ o → P (begin_by w c n kind o).0
-    by_unit None is = same
-    by_unit (Some u) is = by_kind u is (slice_get w.kinds kind) refl
+    by_kind : (o : Option Kind) → slice_get w.kinds kind ≡ o → P (begin_with w c n kind u o).0
+    by_kind None kind_is = same
+    by_kind (Some k) kind_is = by_fault k kind_is (begin_fault w c u k) refl
 
 -- and so where a unit goes on
-go_on_cases : (P : State → Type 0) (w : Planet) (c : State) (n : ℕ) → P c
-    → ((u : Unit) (s : Structure) (k : Kind) → get c.units n ≡ Some u → get c.structures u.structure ≡ Some s → slice_get w.kinds s.kind ≡ Some k → CanGoOn u s k
-    → P (gone_on c n k.material (size_added k u.holding s.done) u.structure (s.done + size_added k u.holding s.done))) → P (go_on w c n).0
+go_on_cases : (P : State → Type 0) (w : Planet) (c : State) (n : ℕ) (u : Unit) → P c
+    → ((s : Structure) (k : Kind) → get c.structures u.structure ≡ Some s → slice_get w.kinds s.kind ≡ Some k → CanGoOn u s k
+    → P (gone_on c n k.material (size_added k u.holding s.done) u.structure (s.done + size_added k u.holding s.done))) → P (go_on w n c u).0
 unfolding go_on
-go_on_cases P w c n same go = by_unit (get c.units n) refl
+go_on_cases P w c n u same go = by_structure (get c.structures u.structure) refl
   where
-    by_fault : (u : Unit) (s : Structure) (k : Kind) → get c.units n ≡ Some u → get c.structures u.structure ≡ Some s → slice_get w.kinds s.kind ≡ Some k → (o : Option EventFault) → inside_fault u s k ≡ o
+    by_fault : (s : Structure) (k : Kind) → get c.structures u.structure ≡ Some s → slice_get w.kinds s.kind ≡ Some k → (o : Option EventFault) → inside_fault u s k ≡ o
         → P (unless c o (gone_on c n k.material (size_added k u.holding s.done) u.structure (s.done + size_added k u.holding s.done), Done (size_added k u.holding s.done))).0
-    by_fault u s k is there kind_is (Some fault) e = same
-    by_fault u s k is there kind_is None e = go u s k is there kind_is (can_go_on u s k e)
+    by_fault s k there kind_is (Some fault) e = same
+    by_fault s k there kind_is None e = go s k there kind_is (can_go_on u s k e)
 
-    by_kind : (u : Unit) (s : Structure) → get c.units n ≡ Some u → get c.structures u.structure ≡ Some s → (o : Option Kind) → slice_get w.kinds s.kind ≡ o → P (go_on_with c n u s o).0
-    by_kind u s is there None kind_is = same
-    by_kind u s is there (Some k) kind_is = by_fault u s k is there kind_is (inside_fault u s k) refl
+    by_kind : (s : Structure) → get c.structures u.structure ≡ Some s → (o : Option Kind) → slice_get w.kinds s.kind ≡ o → P (go_on_with c n u s o).0
+    by_kind s there None kind_is = same
+    by_kind s there (Some k) kind_is = by_fault s k there kind_is (inside_fault u s k) refl
 
-    outside : (u : Unit) (b : Bool) → P (unless c (if b then Some NoMen else Some NotInside) (c, Done 0)).0
-    outside u true = same
-    outside u false = same
+    outside : (b : Bool) → P (unless c (if b then Some NoMen else Some NotInside) (c, Done 0)).0
+    outside true = same
+    outside false = same
 
-    by_structure : (u : Unit) → get c.units n ≡ Some u → (o : Option Structure) → get c.structures u.structure ≡ o → P (go_on_at w c n u o).0
-    by_structure u is None there = outside u (u.holding.men == 0)
-    by_structure u is (Some s) there = by_kind u s is there (slice_get w.kinds s.kind) refl
+    by_structure : (o : Option Structure) → get c.structures u.structure ≡ o → P (go_on_at w c n u o).0
+    by_structure None there = outside (u.holding.men == 0)
+    by_structure (Some s) there = by_kind s there (slice_get w.kinds s.kind) refl
 
-    by_unit : (o : Option Unit) → get c.units n ≡ o → P (go_on_by w c n o).0
-    by_unit None is = same
-    by_unit (Some u) is = by_structure u is (get c.structures u.structure) refl
+module _ (w : Planet) (c : State) (n : ℕ) (u : Unit) (is : get c.units n ≡ Some u) where
+  begin_well : (kind : ℕ) → CanBuild w c → StepsWell CanBuild build_reserve w c (begin w n kind c u).0
+  begin_well kind can = begin_cases (λ d. StepsWell CanBuild build_reserve w c d) w c n kind u (well_same w c can) (λ k kind_is fit. begun_well w c n kind u k is kind_is can fit)
 
-begin_well : (w : Planet) (c : State) (n kind : ℕ) → CanBuild w c → StepsWell CanBuild build_reserve w c (begin w c n kind).0
-begin_well w c n kind can = begin_cases (λ d. StepsWell CanBuild build_reserve w c d) w c n kind (well_same w c can) (λ u k is kind_is fit. begun_well w c n kind u k is kind_is can fit)
+  go_on_well : CanBuild w c → StepsWell CanBuild build_reserve w c (go_on w n c u).0
+  go_on_well can = go_on_cases (λ d. StepsWell CanBuild build_reserve w c d) w c n u (well_same w c can) (λ s k there kind_is fit. on_well w c n u s k is there kind_is can fit)
 
-go_on_well : (w : Planet) (c : State) (n : ℕ) → CanBuild w c → StepsWell CanBuild build_reserve w c (go_on w c n).0
-go_on_well w c n can = go_on_cases (λ d. StepsWell CanBuild build_reserve w c d) w c n (well_same w c can) (λ u s k is there kind_is fit. on_well w c n u s k is there kind_is can fit)
+  begin_stays : (kind j : ℕ) → j ≢ n → get (begin w n kind c u).0.units j ≡ get c.units j
+  begin_stays kind j apart = begin_cases (λ d. get d.units j ≡ get c.units j) w c n kind u refl (λ k kind_is fit. begun_stays w c n kind u k is j apart)
 
-begin_stays : (w : Planet) (c : State) (n kind j : ℕ) → j ≢ n → get (begin w c n kind).0.units j ≡ get c.units j
-begin_stays w c n kind j apart = begin_cases (λ d. get d.units j ≡ get c.units j) w c n kind refl (λ u k is kind_is fit. begun_stays w c n kind u k is j apart)
-
-go_on_stays : (w : Planet) (c : State) (n j : ℕ) → j ≢ n → get (go_on w c n).0.units j ≡ get c.units j
-go_on_stays w c n j apart = go_on_cases (λ d. get d.units j ≡ get c.units j) w c n refl (λ u s k is there kind_is fit. on_stays w c n u s k is j apart)
+  go_on_stays : (j : ℕ) → j ≢ n → get (go_on w n c u).0.units j ≡ get c.units j
+  go_on_stays j apart = go_on_cases (λ d. get d.units j ≡ get c.units j) w c n u refl (λ s k there kind_is fit. on_stays w c n u s k is j apart)
 
 -- ---- what all units hold of an item
-
-sum_within : {V : Type 0} (f : V → ℕ) (most : ℕ) (es : List (ℕ × V)) → EachOf (λ n v. f v ≤ most) es → sum_by (λ e. f e.1) es ≤ length es * most
-sum_within f most [] each = omega arith
-sum_within {V} f most (e ∷ es) each =
-    more (sum_by (λ (d : ℕ × V). f d.1) (e ∷ es)) (f e.1) (sum_by (λ (d : ℕ × V). f d.1) es) (length (e ∷ es) * most) (length es * most) most (sum_by-cons (λ (d : ℕ × V). f d.1) e es) (suc-mul (length es) most) each.0 (sum_within f most es each.1)
-  where
-    more : (s x y a b m : ℕ) → s ≡ x + y → a ≡ b + m → x ≤ m → y ≤ b → s ≤ a
-    more s x y a b m e f k l = omega (arith, e, f, k, l)
 
 reserve_within : (w : Planet) (c : State) → CanBuild w c → (e : Entry) (t : Thing) → build_reserve c e t ≤ build_moves e t
 reserve_within w c can e t = by_thing t
@@ -338,21 +322,21 @@ reserve_within w c can e t = by_thing t
 
 pub build_orderly : IsOrderly build_step CanBuild build_reserve build_moves IsOwnOrder IsNoWorse
 build_orderly = record {
-  well = λ w a c t can fit own. well w c t.unit can t.said;
+  well = λ w a c t x can fit own. well w c t.unit x own.there can t.said;
   sparing = no_worse_spares;
-  spared = λ w a c t can own j v there apart. other_spared c (build_said w c t.unit t.said).0 t (λ i other. stays w c t.unit i other t.said) own j v there apart;
+  spared = λ w a c t x can own j v there apart. stays_spared (build_step w a t) c t x own j v there apart (λ i other. stays w c t.unit x own.there i other t.said);
   bounded = reserve_within;
 }
   where
-    well : (w : Planet) (c : State) (n : ℕ) → CanBuild w c → (s : Said) → StepsWell CanBuild build_reserve w c (build_said w c n s).0
-    well w c n can (orders.Build (Some kind)) = begin_well w c n kind can
-    well w c n can (orders.Build None) = go_on_well w c n can
-    well w c n can other = well_same w c can
+    well : (w : Planet) (c : State) (n : ℕ) (x : Unit) → get c.units n ≡ Some x → CanBuild w c → (s : Said) → IfSome (build_said w n s) (λ deed. StepsWell CanBuild build_reserve w c (deed c x).0)
+    well w c n x is can (orders.Build (Some kind)) = begin_well w c n x is kind can
+    well w c n x is can (orders.Build None) = go_on_well w c n x is can
+    well w c n x is can other = tt
 
-    stays : (w : Planet) (c : State) (n j : ℕ) → j ≢ n → (s : Said) → get (build_said w c n s).0.units j ≡ get c.units j
-    stays w c n j apart (orders.Build (Some kind)) = begin_stays w c n kind j apart
-    stays w c n j apart (orders.Build None) = go_on_stays w c n j apart
-    stays w c n j apart other = refl
+    stays : (w : Planet) (c : State) (n : ℕ) (x : Unit) → get c.units n ≡ Some x → (j : ℕ) → j ≢ n → (s : Said) → IfSome (build_said w n s) (λ deed. get (deed c x).0.units j ≡ get c.units j)
+    stays w c n x is j apart (orders.Build (Some kind)) = begin_stays w c n x is kind j apart
+    stays w c n x is j apart (orders.Build None) = go_on_stays w c n x is j apart
+    stays w c n x is j apart other = tt
 
 -- a phase that leaves a campaign in which units can build leaves a steady one
 pub leaves_steady : (w : Planet) (c d : State) → LeavesWell CanBuild build_moves w c d → LeavesWell IsSteady build_moves w c d
@@ -377,21 +361,21 @@ begun_told c n kind k region size = (started c n kind k region size, Done size)
 abbrev on_told : State → (n material size place done : ℕ) → State × Outcome
 on_told c n material size place done = (gone_on c n material size place done, Done size)
 
-pub begin_done : (w : Planet) (c d : State) (n kind : ℕ) (u : Unit) (k : Kind) (size told : ℕ) → get c.units n ≡ Some u → slice_get w.kinds kind ≡ Some k → begin_fault w c u k ≡ None
-    → d ≡ started c n kind k u.region size → told ≡ size → size ≡ size_added k u.holding 0 → (d, Done told) ≡ begin w c n kind
+pub begin_done : (w : Planet) (c d : State) (f n kind : ℕ) (u : Unit) (k : Kind) (size told : ℕ) → of_faction f (get c.units n) ≡ Some u → slice_get w.kinds kind ≡ Some k → begin_fault w c u k ≡ None
+    → d ≡ started c n kind k u.region size → told ≡ size → size ≡ size_added k u.holding 0 → (d, Done told) ≡ carried (begin w n kind) c f n
 unfolding begin
-begin_done w c d n kind u k size told is kind_is none first told_is size_is =
+begin_done w c d f n kind u k size told is kind_is none first told_is size_is =
     let whole = begun_told c n kind k u.region (size_added k u.holding 0) in
-    let chain : begin_by w c n kind (get c.units n) ≡ whole = ap (begin_by w c n kind) is ∙ ap (begin_with w c n kind u) kind_is ∙ ap (λ o. unless c o whole) none in
+    let chain : carried (begin w n kind) c f n ≡ whole = ap (done_for (begin w n kind) c) is ∙ ap (begin_with w c n kind u) kind_is ∙ ap (λ o. unless c o whole) none in
     rw (first, told_is, size_is) (sym chain)
 
-pub go_on_done : (w : Planet) (c d : State) (n : ℕ) (u : Unit) (s : Structure) (k : Kind) (size told : ℕ) → get c.units n ≡ Some u → get c.structures u.structure ≡ Some s → slice_get w.kinds s.kind ≡ Some k → inside_fault u s k ≡ None
-    → d ≡ gone_on c n k.material size u.structure (s.done + size) → told ≡ size → size ≡ size_added k u.holding s.done → (d, Done told) ≡ go_on w c n
+pub go_on_done : (w : Planet) (c d : State) (f n : ℕ) (u : Unit) (s : Structure) (k : Kind) (size told : ℕ) → of_faction f (get c.units n) ≡ Some u → get c.structures u.structure ≡ Some s → slice_get w.kinds s.kind ≡ Some k
+    → inside_fault u s k ≡ None → d ≡ gone_on c n k.material size u.structure (s.done + size) → told ≡ size → size ≡ size_added k u.holding s.done → (d, Done told) ≡ carried (go_on w n) c f n
 unfolding go_on
-go_on_done w c d n u s k size told is there kind_is none first told_is size_is =
+go_on_done w c d f n u s k size told is there kind_is none first told_is size_is =
     let added = size_added k u.holding s.done in
     let whole = on_told c n k.material added u.structure (s.done + added) in
-    let chain : go_on_by w c n (get c.units n) ≡ whole = ap (go_on_by w c n) is ∙ ap (go_on_at w c n u) there ∙ ap (go_on_with c n u s) kind_is ∙ ap (λ o. unless c o whole) none in
+    let chain : carried (go_on w n) c f n ≡ whole = ap (done_for (go_on w n) c) is ∙ ap (go_on_at w c n u) there ∙ ap (go_on_with c n u s) kind_is ∙ ap (λ o. unless c o whole) none in
     rw (first, told_is, size_is) (sym chain)
 
 -- what is done then isn't more than the kind's size

@@ -24,10 +24,11 @@ use Rattle.atl_state.proofs.EveryEntryLaws.{entry_small}
 use Rattle.atl_state.proofs.EveryLaws.{get-insert_other}
 use Rattle.atl_state.proofs.RegionLaws.{get-insert_same}
 use Rattle.atl_state.proofs.RemovedLaws.{sum_over-remove}
-use Rattle.atl_instant.specs.Meaning.{HasRoom, HaveRoom, IsNear, LeavesWell, moves_only}
+use Rattle.atl_instant.specs.Meaning.{HasRoom, HaveRoom, LeavesWell, moves_only}
 use Rattle.atl_instant.specs.Steps.{IsDrawn, StepsWell}
 use Rattle.atl_instant.proofs.AmountsLaws.{alike, set_amount}
 use Rattle.atl_instant.proofs.MeaningLaws.{less_room, near_more}
+use Rattle.atl_instant.proofs.StepLaws.{drawn_near}
 use Rattle.atl_market.specs.Build.{CanBuild, build_reserve, usable}
 use Rattle.atl_market.specs.Goods.{used_by, with_item, with_used}
 use Rattle.atl_market.proofs.GoodsLaws.{used_is, used_up_to}
@@ -89,9 +90,6 @@ only_used item amount e t = by_number (amount_number e t == amount_number Used (
     by_number false is = omega arith
 
 -- ---- the campaign
-
-drawn_near : (x reserve left : ℕ) (a b : ℤ) → left + x ≡ reserve → IsNear x a b → IsDrawn reserve left a b
-drawn_near x reserve left a b e near = record { above = omega (arith, ints, e, near.above); below = omega (arith, ints, e, near.below) }
 
 shrunk : (s t f g x : ℕ) → s + f ≡ t + g → f ≡ g + x → s + x ≡ t
 shrunk s t f g x e h = omega (arith, e, h)

@@ -1,5 +1,6 @@
 -- What BUILD and PRODUCE leave to the units of a faction that sent no mailing.
 use Rattle.std.proofs.Common.{◌≡◌, ◌+◌, ◌-◌, ◌*◌, ℕ, Option, Some, None, refl}
+use Rattle.std.specs.Prelude.{IfSome}
 use Rattle.std.specs.List.{slice_get}
 use Rattle.std.specs.Ordering.{nat_cmp}
 use Rattle.std.specs.FinMap.{FinMap, get}
@@ -15,10 +16,9 @@ use Rattle.atl_state.specs.Held.{amount_of, with_amount_of}
 use Rattle.atl_state.specs.Owners.{with_place}
 use Rattle.atl_state.specs.State.{State}
 use Rattle.atl_instant.specs.Course.{Course}
-use Rattle.atl_instant.proofs.UnmailedLaws.{HaveTheirMen, LeavesUnmailed, SparesMen, carried_leaves, items_of_no_worse, men_put, men_same, men_stay, men_twice, men_unless, own_faction, unmailed_spared}
+use Rattle.atl_instant.proofs.UnmailedLaws.{HaveTheirMen, LeavesUnmailed, OthersHaveMen, SparesMen, carried_leaves, items_of_no_worse, men_put, men_same, men_stay, men_twice, men_unless, others_men, own_faction, unmailed_spared}
 use Rattle.atl_instant.proofs.UnmailedStepLaws.{place_men}
-use Rattle.atl_instant.specs.Steps.{takes_all}
-use Rattle.atl_market.specs.Build.{begin, begin_by, begin_fault, begin_with, build_keeps, build_meaning, build_said, build_step, go_on, go_on_at, go_on_by, go_on_with, gone_on, inside_fault, is_building, outside_fault, size_added, started, with_new}
+use Rattle.atl_market.specs.Build.{begin, begin_fault, begin_with, build_keeps, build_meaning, build_said, build_step, go_on, go_on_at, go_on_with, gone_on, inside_fault, is_building, outside_fault, size_added, started, with_new}
 use Rattle.atl_market.specs.Goods.{made_to, used_by, with_made, with_used}
 use Rattle.atl_market.specs.Asking.{asked_of, item_in}
 use Rattle.atl_market.specs.PotPhase.{PotMeaning}
@@ -47,47 +47,39 @@ begun_men c n kind k region size =
     men_twice c used (with_place new n region c.next_structure) (used_men c n k.material size)
     (men_twice used new (with_place new n region c.next_structure) (men_same used new refl) (place_men new n region c.next_structure))
 
-begin_men : (w : Planet) (c : State) (n kind : ℕ) → HaveTheirMen c (begin w c n kind).0
+begin_men : (w : Planet) (c : State) (n kind : ℕ) (u : Unit) → HaveTheirMen c (begin w n kind c u).0
 unfolding begin
-begin_men w c n kind = by_unit (get c.units n)
+begin_men w c n kind u = by_kind (slice_get w.kinds kind)
   where
-    by_kind : (u : Unit) (o : Option Kind) → HaveTheirMen c (begin_with w c n kind u o).0
-    by_kind u None = men_stay c
-    by_kind u (Some k) = let size = size_added k u.holding 0 in men_unless c (started c n kind k u.region size) (Done size) (begin_fault w c u k) (begun_men c n kind k u.region size)
-
-    by_unit : (o : Option Unit) → HaveTheirMen c (begin_by w c n kind o).0
-    by_unit None = men_stay c
-    by_unit (Some u) = by_kind u (slice_get w.kinds kind)
+    by_kind : (o : Option Kind) → HaveTheirMen c (begin_with w c n kind u o).0
+    by_kind None = men_stay c
+    by_kind (Some k) = let size = size_added k u.holding 0 in men_unless c (started c n kind k u.region size) (Done size) (begin_fault w c u k) (begun_men c n kind k u.region size)
 
 gone_on_men : (c : State) (n material size place done : ℕ) → HaveTheirMen c (gone_on c n material size place done)
 gone_on_men c n material size place done = let used = with_used c n material size in men_twice c used (gone_on c n material size place done) (used_men c n material size) (men_same used (gone_on c n material size place done) refl)
 
-go_on_men : (w : Planet) (c : State) (n : ℕ) → HaveTheirMen c (go_on w c n).0
+go_on_men : (w : Planet) (c : State) (n : ℕ) (u : Unit) → HaveTheirMen c (go_on w n c u).0
 unfolding go_on
-go_on_men w c n = by_unit (get c.units n)
+go_on_men w c n u = by_structure (get c.structures u.structure)
   where
-    by_kind : (u : Unit) (s : Structure) (o : Option Kind) → HaveTheirMen c (go_on_with c n u s o).0
-    by_kind u s None = men_stay c
-    by_kind u s (Some k) = let size = size_added k u.holding s.done in men_unless c (gone_on c n k.material size u.structure (s.done + size)) (Done size) (inside_fault u s k) (gone_on_men c n k.material size u.structure (s.done + size))
+    by_kind : (s : Structure) (o : Option Kind) → HaveTheirMen c (go_on_with c n u s o).0
+    by_kind s None = men_stay c
+    by_kind s (Some k) = let size = size_added k u.holding s.done in men_unless c (gone_on c n k.material size u.structure (s.done + size)) (Done size) (inside_fault u s k) (gone_on_men c n k.material size u.structure (s.done + size))
 
-    by_structure : (u : Unit) (o : Option Structure) → HaveTheirMen c (go_on_at w c n u o).0
-    by_structure u None = men_unless c c (Done 0) (outside_fault u) (men_stay c)
-    by_structure u (Some s) = by_kind u s (slice_get w.kinds s.kind)
+    by_structure : (o : Option Structure) → HaveTheirMen c (go_on_at w c n u o).0
+    by_structure None = men_unless c c (Done 0) (outside_fault u) (men_stay c)
+    by_structure (Some s) = by_kind s (slice_get w.kinds s.kind)
 
-    by_unit : (o : Option Unit) → HaveTheirMen c (go_on_by w c n o).0
-    by_unit None = men_stay c
-    by_unit (Some u) = by_structure u (get c.structures u.structure)
-
-built_men : (w : Planet) (c : State) (n : ℕ) (s : Said) → HaveTheirMen c (build_said w c n s).0
-built_men w c n (orders.Build (Some kind)) = begin_men w c n kind
-built_men w c n (orders.Build None) = go_on_men w c n
-built_men w c n other = men_stay c
+built_men : (w : Planet) (c : State) (f n : ℕ) (x : Unit) (s : Said) → IfSome (build_said w n s) (λ deed. OthersHaveMen f c (deed c x).0)
+built_men w c f n x (orders.Build (Some kind)) = others_men f c (begin w n kind c x).0 (begin_men w c n kind x)
+built_men w c f n x (orders.Build None) = others_men f c (go_on w n c x).0 (go_on_men w c n x)
+built_men w c f n x other = tt
 
 build_spares : SparesMen build_step
-build_spares w a c t own n u there other = built_men w c t.unit t.said n u there
+build_spares w a c t x own = built_men w c t.faction t.unit x t.said
 
 pub build_leaves : LeavesUnmailed build_meaning build_keeps
-build_leaves = carried_leaves build_step takes_all is_building build_spares (unmailed_spared is_building own_faction items_of_no_worse)
+build_leaves = carried_leaves build_step is_building build_spares (unmailed_spared is_building own_faction items_of_no_worse)
 
 -- ---- PRODUCE
 

@@ -17,7 +17,7 @@ use Rattle.atl_state.specs.declared.books.Entry.TheVariants.{Used}
 use Rattle.atl_state.specs.declared.books.Thing.{Thing}
 use Rattle.atl_state.specs.declared.books.Thing.TheVariants.{Item}
 use Rattle.atl_state.specs.declared.event.EventFault.{EventFault}
-use Rattle.atl_state.specs.declared.event.EventFault.TheVariants.{AtSea, Complete, NoMaterial, NoMen, NoSkill, NotInside, NotYours, StructureLimit}
+use Rattle.atl_state.specs.declared.event.EventFault.TheVariants.{AtSea, Complete, NoMaterial, NoMen, NoSkill, NotInside, StructureLimit}
 use Rattle.atl_state.specs.declared.event.Outcome.{Outcome}
 use Rattle.atl_state.specs.declared.event.Outcome.TheVariants.{Done}
 use Rattle.atl_state.specs.declared.records.Structure.{Structure}
@@ -31,7 +31,7 @@ use Rattle.atl_state.specs.State.{State, with_done, with_structure_begun}
 use Rattle.atl_instant.specs.Meaning.{Keeping, Meaning, Moving, most_moved}
 use Rattle.atl_instant.specs.Outcomes.{first_fault, unless}
 use Rattle.atl_instant.specs.Staying.{IsNoWorse}
-use Rattle.atl_instant.specs.Steps.{IsOwnOrder, Reserve, Step, carried_out, spares_others, takes_all}
+use Rattle.atl_instant.specs.Steps.{Deed, IsOwnOrder, Reserve, Step, carried_out, spares_others}
 use Rattle.atl_instant.specs.Terms.{PhaseTerms}
 use Rattle.atl_market.specs.Goods.{with_used}
 
@@ -78,15 +78,12 @@ started c n kind k region size = with_place (with_new (with_used c n k.material 
 
 abbrev pub begin_with : Planet → State → (n kind : ℕ) → Unit → Option Kind → State × Outcome
 begin_with w c n kind u None = (c, Done 0)
-begin_with w c n kind u (Some k) = let size = size_added k u.holding 0 in unless c (begin_fault w c u k) (started c n kind k u.region size, Done size)
+begin_with w c n kind u (Some k) =
+    let size = size_added k u.holding 0 in
+    unless c (begin_fault w c u k) (started c n kind k u.region size, Done size)
 
--- a unit that isn't there begins nothing
-abbrev pub begin_by : Planet → State → (n kind : ℕ) → Option Unit → State × Outcome
-begin_by w c n kind None = unless c (Some NotYours) (c, Done 0)
-begin_by w c n kind (Some u) = begin_with w c n kind u (slice_get w.kinds kind)
-
-unfoldable pub begin : Planet → State → (n kind : ℕ) → State × Outcome
-begin w c n kind = begin_by w c n kind (get c.units n)
+unfoldable pub begin : Planet → (n kind : ℕ) → Deed
+begin w n kind c u = begin_with w c n kind u (slice_get w.kinds kind)
 
 -- ---- BUILD
 
@@ -109,35 +106,31 @@ gone_on c n material size place done = with_done (with_used c n material size) p
 
 abbrev pub go_on_with : State → (n : ℕ) → Unit → Structure → Option Kind → State × Outcome
 go_on_with c n u s None = (c, Done 0)
-go_on_with c n u s (Some k) = let size = size_added k u.holding s.done in unless c (inside_fault u s k) (gone_on c n k.material size u.structure (s.done + size), Done size)
+go_on_with c n u s (Some k) =
+    let size = size_added k u.holding s.done in
+    unless c (inside_fault u s k) (gone_on c n k.material size u.structure (s.done + size), Done size)
 
 abbrev pub go_on_at : Planet → State → (n : ℕ) → Unit → Option Structure → State × Outcome
 go_on_at w c n u None = unless c (outside_fault u) (c, Done 0)
 go_on_at w c n u (Some s) = go_on_with c n u s (slice_get w.kinds s.kind)
 
--- a unit that isn't there goes on with nothing
-abbrev pub go_on_by : Planet → State → (n : ℕ) → Option Unit → State × Outcome
-go_on_by w c n None = unless c (Some NotYours) (c, Done 0)
-go_on_by w c n (Some u) = go_on_at w c n u (get c.structures u.structure)
-
-unfoldable pub go_on : Planet → State → (n : ℕ) → State × Outcome
-go_on w c n = go_on_by w c n (get c.units n)
+unfoldable pub go_on : Planet → (n : ℕ) → Deed
+go_on w n c u = go_on_at w c n u (get c.structures u.structure)
 
 -- ---- the step
 
-abbrev pub build_said : Planet → State → (n : ℕ) → Said → State × Outcome
-build_said w c n (orders.Build (Some kind)) = begin w c n kind
-build_said w c n (orders.Build None) = go_on w c n
-build_said w c n other = (c, Done 0)
+abbrev pub build_said : Planet → (n : ℕ) → Said → Option Deed
+build_said w n (orders.Build (Some kind)) = Some (begin w n kind)
+build_said w n (orders.Build None) = Some (go_on w n)
+build_said w n other = None
 
--- what an order of a unit's own faction makes of a campaign
 abbrev pub build_step : Step
-build_step w aliases c t = build_said w c t.unit t.said
+build_step w aliases t = build_said w t.unit t.said
 
 -- ---- the phase
 
 abbrev pub build_meaning : Meaning
-build_meaning = carried_out build_step takes_all is_building
+build_meaning = carried_out build_step is_building
 
 -- a unit for which its own faction wrote no such order is no worse off
 abbrev pub build_keeps : Keeping

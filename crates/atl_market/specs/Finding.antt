@@ -17,7 +17,8 @@ found_in asks None = None
 found_in asks (Some what) = asks what
 
 abbrev pub found_by : (Said → Option ℕ) → FinMap nat_cmp Reading → State → Written → List (ℕ × ℕ)
-found_by asks readings c o = if is_of_faction o.faction (get c.units o.unit) then entry_of o.unit (found_in asks (order_at readings o.faction o.place)) else []
+found_by asks readings c o =
+    if is_of_faction o.faction (get c.units o.unit) then entry_of o.unit (found_in asks (order_at readings o.faction o.place)) else []
 
 abbrev pub found_of : (Said → Option ℕ) → FinMap nat_cmp Reading → State → List Written → FinMap nat_cmp ℕ
 found_of asks readings c os = from_entries (reverse (flat_map (found_by asks readings c) os))

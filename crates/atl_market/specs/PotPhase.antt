@@ -1,4 +1,5 @@
--- A phase in which the units of each region share a pot. Who takes part and what there is to share is read from the campaign as the phase began, and all pots and all units change at once. See docs/RULES.md, "Pots".
+-- A phase in which the units of each region share a pot. Who takes part and what there is to share is read from the campaign as the phase
+-- began, and all pots and all units change at once. See docs/RULES.md, "Pots".
 use Rattle.std.specs.Prelude.{⊤, ℕ, ◌==◌, ◌++◌, List, [], ◌∷◌, map, reverse, Option, Some, None, unwrap_or, if◌then◌else◌}
 use Rattle.std.specs.List.{flat_map, fold}
 use Rattle.std.specs.Ordering.{nat_cmp}
@@ -70,7 +71,13 @@ module _ (p : PotMeaning) (w : Planet) (c : State) where
 
   -- what came of an order, where so much was given
   abbrev pub event_of : FinMap nat_cmp ℕ → Written → Event
-  event_of given o = record { faction = o.faction; unit = o.unit; line = o.line; verb = Order o.verb; outcome = outcome_at given o (fault_of o) (get c.units o.unit) }
+  event_of given o = record {
+    faction = o.faction;
+    unit = o.unit;
+    line = o.line;
+    verb = Order o.verb;
+    outcome = outcome_at given o (fault_of o) (get c.units o.unit);
+  }
 
   -- an event for each order, in the order of the orders
   unfoldable pub events_by : List Written → List Event

@@ -61,7 +61,8 @@ with_men h recruits cost = record h { men = h.men + recruits; money = h.money - 
 -- so many peasants of a region join a unit, which pays for them; that is booked
 abbrev pub with_recruits : State → ℕ → Unit → Region → (recruits cost : ℕ) → State
 with_recruits c n u q recruits cost =
-    with_amount (with_peasants (with_holding c n (with_men u.holding recruits cost)) u.region (q.peasants - recruits)) Recruiting Money (neg_ℤ (pos cost))
+    let paid = with_holding c n (with_men u.holding recruits cost) in
+    with_amount (with_peasants paid u.region (q.peasants - recruits)) Recruiting Money (neg_ℤ (pos cost))
 
 abbrev pub recruited_from : Planet → State → ℕ × ℕ → Unit → Option Region → State
 recruited_from w c e u None = c

@@ -9,12 +9,14 @@ ghost use Rattle.atl_state.specs.Good.{IsNumbered, IsSteady};
 ghost use Rattle.atl_state.specs.Limits.{last_unit, most_structures};
 ghost use Rattle.atl_state.specs.declared.records.Unit.{Unit};
 ghost use Rattle.atl_instant.specs.Meaning.{HaveRoom};
-ghost use Rattle.atl_instant.specs.Steps.{takes_all};
+ghost use Rattle.atl_instant.specs.Steps.{carried};
 ghost use Rattle.atl_market.specs.Build.{CanBuild, begin, begin_fault, build_keeps, build_meaning, build_moves, build_reserve, build_step, go_on, gone_on, inside_fault, is_building, is_structure_limit, outside_fault, size_added, sort_of, started, with_new};
 ghost use Rattle.atl_market.specs.Goods.{CanUse};
 
 use crate::goods::use_item;
-use atl_instant::{Month, OrderPhase, Phase, PhaseVerbs, Written, carry_out_orders, failed};
+use atl_instant::{
+    Month, OrderPhase, Phase, PhaseVerbs, Written, carry_out_orders, failed, own_unit,
+};
 use atl_orders::{Mailing, Order, Verb};
 use atl_state::{
     Campaign, EventFault, Holding, MOST_STRUCTURES, Outcome, Structure, Unit, level_in,
@@ -166,15 +168,15 @@ fn begin(
     alloc: Global,
     world: &World,
     campaign: &mut Campaign,
-    number: u32,
+    order: Written,
     kind: u16,
 ) -> Result<Outcome, AllocError>
     requires can { CanBuild world.now campaign.old.what }
     requires room { HaveRoom (build_reserve campaign.old.what) campaign.old.what }
-    ensures what { IfOk result (λ outcome. (campaign.new.what, outcome) ≡ begin world.now campaign.old.what number kind) }
+    ensures what { IfOk result (λ outcome. (campaign.new.what, outcome) ≡ carried (begin world.now order.unit kind) campaign.old.what order.faction order.unit) }
     ensures marks { OnOk result (MarksChanges campaign.old campaign.new) }
 {
-    let Some(unit) = campaign.unit(number) else {
+    let Some(unit) = own_unit(campaign, order) else {
         return Ok(failed(EventFault::NotYours));
     };
     let Some(found) = kind_of(world, kind) else {
@@ -185,7 +187,9 @@ fn begin(
     }
     let size = size_added(found, &unit.holding, 0);
     let region = unit.region;
-    start(alloc, world, campaign, number, kind, found, region, size)?;
+    start(
+        alloc, world, campaign, order.unit, kind, found, region, size,
+    )?;
     Ok(Outcome::Done(u64::from(size)))
 }
 
@@ -210,13 +214,13 @@ fn add(
 
 /// A unit goes on with the structure that it is inside, or nothing changes where a fault fits.
 #[tactic(auto, unfolding(crate::specs::Build::go_on))]
-fn go_on(world: &World, campaign: &mut Campaign, number: u32) -> Result<Outcome, AllocError>
+fn go_on(world: &World, campaign: &mut Campaign, order: Written) -> Result<Outcome, AllocError>
     requires can { CanBuild world.now campaign.old.what }
     requires room { HaveRoom (build_reserve campaign.old.what) campaign.old.what }
-    ensures what { IfOk result (λ outcome. (campaign.new.what, outcome) ≡ go_on world.now campaign.old.what number) }
+    ensures what { IfOk result (λ outcome. (campaign.new.what, outcome) ≡ carried (go_on world.now order.unit) campaign.old.what order.faction order.unit) }
     ensures marks { OnOk result (MarksChanges campaign.old campaign.new) }
 {
-    let Some(unit) = campaign.unit(number) else {
+    let Some(unit) = own_unit(campaign, order) else {
         return Ok(failed(EventFault::NotYours));
     };
     let place = unit.structure;
@@ -231,7 +235,15 @@ fn go_on(world: &World, campaign: &mut Campaign, number: u32) -> Result<Outcome,
     }
     let size = size_added(kind, &unit.holding, structure.done);
     let done = structure.done + size;
-    add(world, campaign, number, kind.material, size, place, done)?;
+    add(
+        world,
+        campaign,
+        order.unit,
+        kind.material,
+        size,
+        place,
+        done,
+    )?;
     Ok(Outcome::Done(u64::from(size)))
 }
 
@@ -246,17 +258,11 @@ impl PhaseVerbs for BuildPhase {
 impl OrderPhase for BuildPhase {
     ghost step = { λ _. build_step };
 
-    ghost is_taken = { takes_all };
-
     ghost holds = { CanBuild };
 
     ghost reserve = { build_reserve };
 
     ghost moving = { build_moves };
-
-    fn takes(&self, _: &Order) -> bool {
-        true
-    }
 
     fn carry_out(
         &self,
@@ -267,11 +273,11 @@ impl OrderPhase for BuildPhase {
         order: Written,
         _: &Mailing,
         what: &Order,
-    ) -> Result<Outcome, AllocError> {
+    ) -> Result<Option<Outcome>, AllocError> {
         match what {
-            Order::Build(Some(kind)) => begin(alloc, world, campaign, order.unit, *kind),
-            Order::Build(None) => go_on(world, campaign, order.unit),
-            _ => Ok(Outcome::Done(0)),
+            Order::Build(Some(kind)) => Ok(Some(begin(alloc, world, campaign, order, *kind)?)),
+            Order::Build(None) => Ok(Some(go_on(world, campaign, order)?)),
+            _ => Ok(None),
         }
     }
 

@@ -11,6 +11,7 @@ use Rattle.atl_instant.specs.Unmailed.{IsLeft, starved_in}
 abbrev pub SentNone : List Mailing → (faction : ℕ) → Type 0
 SentNone mailings faction = All (λ m. m.faction ≢ faction) mailings
 
--- Each unit of such a faction, of whom not all men starved, is there: with its name, exactly its men but for those who starved, and no less of any item.
+-- Each unit of such a faction, of whom not all men starved, is there: with its name, exactly its men but for those who starved, and no
+-- less of any item.
 abbrev pub UnmailedAreLeft : List Mailing → List Event → (before after : State) → Type 0
 UnmailedAreLeft mailings events before after = Every (λ n u. SentNone mailings u.faction → IsLeft (starved_in events n) after n u) before.units

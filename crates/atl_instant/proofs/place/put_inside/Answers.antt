@@ -3,4 +3,4 @@ use Rattle.atl_instant.proofs.place.put_inside.Goals as goal
 
 pub returns-clause-marks : goal.returns-clause-marks
 returns-clause-marks c =
-    on_ok_both c.place.result (marks-place c.args.campaign.now c.place.new.self c.args.unit c.region_of-region.result c.args.structure) c.place.ensures.ok c.place.ensures.marks
+    on_ok_both c.place.result (marks-place c.args.campaign.now c.place.new.self c.args.unit c.args.region c.args.structure) c.place.ensures.ok c.place.ensures.marks

@@ -8,10 +8,10 @@ use Rattle.atl_state.specs.State.{State}
 use Rattle.atl_instant.specs.Course.{Course}
 use Rattle.atl_instant.specs.Fit.{AreFit}
 use Rattle.atl_instant.specs.PhaseOrders.{orders_of}
-use Rattle.atl_instant.specs.Steps.{AreSpared, carried_out, one_order}
+use Rattle.atl_instant.specs.Steps.{AreSpared, StepsWell, carried_out, one_order}
 use Rattle.atl_instant.specs.declared.written.Written.{Written}
 use Rattle.atl_instant.specs.declared.written.Arrangement.TheVariants.{ByUnit}
-use Rattle.atl_instant.proofs.StepLaws.{leaves_well, orders_fit, orders_spare, room_left, room_reserved, well_same, well_twice, written_out, written_readings}
+use Rattle.atl_instant.proofs.StepLaws.{leaves_well, orders_fit, orders_spare, room_left, room_reserved, well_same, well_twice, written_out, written_readings, written_well}
 use Rattle.atl_instant.proofs.steps.carry_out_orders.Goals as goal
 use Rattle.atl_instant.specs.Carrying.{found_written}
 
@@ -44,17 +44,21 @@ loop-order-preserved g c =
     let P = g.P.OrderPhase in
     let w = c.args.world.now in
     let before : State × Course = (c.loop-order.campaign.what, c.loop-order.month) in
-    let order = one_order (P.step c.args.phase.now) P.is_taken w in
+    let order = one_order (P.step c.args.phase.now) w in
     let readings = c.args.month.now.readings in
     let one = found_written order readings in
     let xs = c.deref-order-items.result.now in
     let i = c.loop-order.order-index in
     let o = get_or xs i none in
+    let read = subst (AreFit w) (sym c.loop-order.invariant.readings) c.requires.read in
+    let well =
+    subst (StepsWell P.holds P.reserve w c.loop-order.campaign.what) (sym (ap (λ (p : State × Course). p.0) c.in_ok-carry_one.ensures.step))
+    (written_well (P.step c.args.phase.now) c.is_orderly.ensures w c.loop-order.month.readings read c.loop-order.campaign.what c.loop-order.month o c.loop-order.invariant.well.holds_still) in
     let step = c.in_ok-carry_one.ensures.step ∙ ap (λ r. found_written order r before o) c.loop-order.invariant.readings in
     record {
       orders = ap (λ p. fold one p (drop (i + 1) xs)) step ∙ sym (ap (fold one before) (drop_more xs i none c.loop-order-test.true)) ∙ c.loop-order.invariant.orders;
-      readings = ap (λ (p : State × Course). p.1.readings) step ∙ written_readings (P.step c.args.phase.now) P.is_taken w readings before o ∙ c.loop-order.invariant.readings;
-      well = well_twice w c.args.campaign.now.what c.loop-order.campaign.what _ c.loop-order.invariant.well c.in_ok-carry_one.ensures.well;
+      readings = ap (λ (p : State × Course). p.1.readings) step ∙ written_readings (P.step c.args.phase.now) w readings before o ∙ c.loop-order.invariant.readings;
+      well = well_twice w c.args.campaign.now.what c.loop-order.campaign.what _ c.loop-order.invariant.well well;
       marks = marks-trans c.args.campaign.now c.loop-order.campaign _ c.loop-order.invariant.marks c.in_ok-carry_one.ensures.marks;
     }
 
@@ -67,9 +71,9 @@ returns-clause-meaning g c =
     let i = c.loop-order.order-index in
     let past : drop i xs ≡ [] = drop_all i xs (omega (arith, c.loop-order-test.false)) in
     let behind : State × Course = (c.loop-order.campaign.what, c.loop-order.month) in
-    let one = found_written (one_order (P.step c.args.phase.now) P.is_taken w) c.args.month.now.readings in
+    let one = found_written (one_order (P.step c.args.phase.now) w) c.args.month.now.readings in
     sym (ap (fold one behind) past) ∙ c.loop-order.invariant.orders ∙ ap (fold one start) (c.deref-order-items.ensures.value ∙ c.in_ok-orders.ensures)
-    ∙ written_out (P.step c.args.phase.now) P.is_taken w g.P.PhaseVerbs.is_of c.args.campaign.now.what c.args.month.now
+    ∙ written_out (P.step c.args.phase.now) w g.P.PhaseVerbs.is_of c.args.campaign.now.what c.args.month.now
 
 pub returns-clause-leaves : goal.returns-clause-leaves
 returns-clause-leaves g c =
@@ -84,7 +88,7 @@ returns-clause-keeps g c =
     let m = c.args.month.now in
     let ts = values (orders_of g.P.PhaseVerbs.is_of ByUnit m.aliases m.readings) in
     subst (λ d. AreSpared P.concerns P.spares ts c.args.campaign.now.what d) (sym (ap (λ p. p.0) (returns-clause-meaning g c)))
-    (orders_spare (P.step c.args.phase.now) P.is_taken c.is_orderly.ensures w c.args.campaign.now.what m ts c.requires.holds (orders_fit w m.aliases m.readings c.requires.read g.P.PhaseVerbs.is_of))
+    (orders_spare (P.step c.args.phase.now) c.is_orderly.ensures w c.args.campaign.now.what m ts c.requires.holds (orders_fit w m.aliases m.readings c.requires.read g.P.PhaseVerbs.is_of))
 
 pub returns-clause-marks : goal.returns-clause-marks
 returns-clause-marks g c = c.loop-order.invariant.marks

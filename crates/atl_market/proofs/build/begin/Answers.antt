@@ -11,7 +11,7 @@ start-requires-clause-uses c =
     let k = c.in-Some-kind_of.found.now in
     let kind_is : slice_get w.kinds c.args.kind ≡ Some k = sym c.in-Some-kind_of.ensures in
     rw c.size_added-size.ensures
-    (can_use w c.args.campaign.now.what c.args.number k.material (size_added k u.holding 0) u (sym c.in-Some.ensures) (size_held k u.holding 0) (c.requires.can.kinds c.args.kind k kind_is).material c.requires.can c.requires.room)
+    (can_use w c.args.campaign.now.what c.args.order.unit k.material (size_added k u.holding 0) u c.in-Some.ensures.there (size_held k u.holding 0) (c.requires.can.kinds c.args.kind k kind_is).material c.requires.can c.requires.room)
 
 pub begin_fault-requires : goal.begin_fault-requires
 begin_fault-requires c = c.requires.can.steady.next.structures
@@ -29,4 +29,4 @@ returns-clause-what c =
     let k = c.in-Some-kind_of.found.now in
     let kind_is : slice_get w.kinds c.args.kind ≡ Some k = sym c.in-Some-kind_of.ensures in
     let none : begin_fault w old u k ≡ None = sym c.in_default-begin_fault.ensures in
-    begin_done w old c.start.new.campaign.what c.args.number c.args.kind u k c.size_added-size.result c.from.result (sym c.in-Some.ensures) kind_is none c.in_ok-start.ensures.what c.from.ensures c.size_added-size.ensures
+    begin_done w old c.start.new.campaign.what c.args.order.faction c.args.order.unit c.args.kind u k c.size_added-size.result c.from.result (sym c.in-Some.ensures.own) kind_is none c.in_ok-start.ensures.what c.from.ensures c.size_added-size.ensures

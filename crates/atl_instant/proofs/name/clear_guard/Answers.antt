@@ -3,7 +3,7 @@ use Rattle.atl_state.specs.Marking.{mark_unit_row}
 use Rattle.atl_state.specs.State.{with_guard}
 use Rattle.atl_state.proofs.HoldingLaws.{marks-unit_row}
 use Rattle.atl_instant.proofs.MarkLaws.{marks_by}
-use Rattle.atl_instant.proofs.name.leave_guard.Goals as goal
+use Rattle.atl_instant.proofs.name.clear_guard.Goals as goal
 
 pub returns-clause-marks : goal.returns-clause-marks
 returns-clause-marks c =
