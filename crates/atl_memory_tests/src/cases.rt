@@ -1,0 +1,217 @@
+//! The calls that are tried, and what comes of each where memory is ample.
+use crate::setting::{all_commands, begun, close, founded, join, next_mail, report};
+use crate::texts::{books, rows, told};
+use atl_service::{Command, Service};
+use atl_state::Campaign;
+use sqlite::{Alter, Connection};
+use std::alloc::{AllocError, Global};
+
+/// A call that takes memory.
+#[derive(Clone, Copy, Debug, PartialEq, Eq)]
+pub enum Call {
+    Found,
+    Open,
+    Join,
+    Mail,
+    Close,
+    Report,
+    RunAll,
+    Books,
+    Parts,
+    Check,
+}
+
+/// The calls in the order of their trials.
+pub const CALLS: [Call; 10] = [
+    Call::Found,
+    Call::Open,
+    Call::Join,
+    Call::Mail,
+    Call::Close,
+    Call::Report,
+    Call::RunAll,
+    Call::Books,
+    Call::Parts,
+    Call::Check,
+];
+
+/// The factions 1 and 2 and the units 1 to 11 are there.
+const JOINED: &str = "joined 3 12";
+
+/// DANCE stands on the sixth line.
+const MAILED: &str = "mailed 11 [FaultyLine { line: 6, fault: UnknownOrder }]";
+
+const CLOSED: &str = "month done 1";
+
+const REPORTED: &str = "A report.";
+
+/// Of 100 money unit 1 pays 40, and sends 2 of its 5 men to the unit that it forms. Its 3 men take 30 money in tax, and of 90 it pays
+/// for one recruit. Unit 6 has 5 wood, gives 2 of it away and builds with 3. The 4 men of unit 2 get 30 days each and 30 more, as all
+/// are taught. In the forest 15 men make as much wood.
+const OF_AVALON: [&str; 14] = [
+    "Unit 1, line 4, FORM: done 12.",
+    "Unit 1, line 7, FORM: done 13.",
+    "Unit 1, line 9, PAY: done 40.",
+    "Unit 5, line 22, GIVE: fault 3 NotEnough.",
+    "Unit 6, line 24, GIVE: done 2.",
+    "Unit 1, line 10, TRANSFER: done 2.",
+    "Unit 1, line 11, TAX: done 30.",
+    "Unit 1, line 12, RECRUIT: done 1.",
+    "Unit 7, line 28, MOVE: done 0.",
+    "Unit 4, line 19, SAIL: done 0.",
+    "Unit 6, line 25, BUILD: done 3.",
+    "Unit 3, line 16, TEACH: done 4.",
+    "Unit 2, line 14, STUDY: done 240.",
+    "Unit 5, line 21, PRODUCE: done 15.",
+];
+
+/// Unit 10 has 4 money, earns 20 and pays 20, so it has 4 left of the 10 that unit 11 is short of.
+const OF_BREE: [&str; 2] = [
+    "Unit 11, line 3, STUDY: fault 23 NoFee.",
+    "Unit 11: 1 starved.",
+];
+
+/// A call, and what comes of it where memory is ample.
+pub struct Case {
+    pub call: Call,
+    /// The commands of the call, or those that are run behind it.
+    pub commands: Vec<Command>,
+    /// One command of each sort.
+    pub later: Vec<Command>,
+    /// What each command of the call is answered.
+    pub told: Vec<String>,
+    /// The rows before the first of them and behind each.
+    pub rows: Vec<String>,
+    /// The text of the books before the first of them.
+    pub books: String,
+}
+
+impl Drop for Case {
+    fn drop(self) {
+        let Case {
+            call: _,
+            commands: _,
+            later: _,
+            told: _,
+            rows: _,
+            books: _,
+        } = self;
+    }
+}
+
+fn one(alloc: Global, command: Command) -> Result<Vec<Command>, AllocError> {
+    let mut commands = Vec::new(alloc);
+    commands.push(command)?;
+    Ok(commands)
+}
+
+fn commands_of(alloc: Global, call: Call) -> Result<Vec<Command>, AllocError> {
+    match call {
+        Call::Join | Call::Books => one(alloc, join(alloc)?),
+        Call::Mail => one(alloc, next_mail(alloc)?),
+        Call::Close => one(alloc, close(alloc)?),
+        Call::Report => one(alloc, report(alloc)?),
+        Call::RunAll => all_commands(alloc),
+        Call::Found | Call::Open | Call::Parts | Call::Check => Ok(Vec::new(alloc)),
+    }
+}
+
+/// What the command of a call at this place, counted from 0, is to be answered. None is said of the report of the month.
+fn wanted(call: Call, at: usize) -> Option<&'static str> {
+    match (call, at) {
+        (Call::Join | Call::Books | Call::RunAll, 0) => Some(JOINED),
+        (Call::Mail, 0) | (Call::RunAll, 1) => Some(MAILED),
+        (Call::Close, 0) | (Call::RunAll, 2) => Some(CLOSED),
+        (Call::Report, 0) => Some(REPORTED),
+        _ => None,
+    }
+}
+
+/// Whether a stored report has these lines.
+fn reports(campaign: &Campaign, faction: u32, lines: &[&str]) -> bool {
+    match campaign.report(faction) {
+        Some(report) => lines
+            .iter()
+            .all(|line| report.as_str().find(*line).is_some()),
+        None => false,
+    }
+}
+
+/// Whether the month is closed in which all is done that is ordered, and which the units without men don't outlast.
+fn is_rich(campaign: Option<&Campaign>) -> bool {
+    match campaign {
+        Some(campaign) => {
+            reports(campaign, 1, &OF_AVALON)
+                && reports(campaign, 2, &OF_BREE)
+                && campaign.unit(12).is_some()
+                && campaign.unit(13).is_none()
+                && campaign.unit(11).is_none()
+        }
+        None => false,
+    }
+}
+
+impl Case {
+    fn new(alloc: Global, call: Call) -> Result<Case, AllocError> {
+        Ok(Case {
+            call,
+            commands: commands_of(alloc, call)?,
+            later: all_commands(alloc)?,
+            told: Vec::new(alloc),
+            rows: Vec::new(alloc),
+            books: String::new(alloc),
+        })
+    }
+
+    /// Runs the commands, and keeps what comes of them.
+    fn play<S: Alter>(&mut self, alloc: Global, service: &mut Service<S>) -> Option<()> {
+        self.books = books(service)?;
+        self.rows.push(rows(alloc, service.campaign())?).ok()?;
+        for command in &self.commands {
+            let answer = service.run(command);
+            self.told.push(told(alloc, &answer)?).ok()?;
+            self.rows.push(rows(alloc, service.campaign())?).ok()?;
+        }
+        Some(())
+    }
+
+    /// Whether the commands were answered as they are to be, and the month is the one that is to be.
+    fn is_right(&self, campaign: Option<&Campaign>) -> bool {
+        let mut are_told = true;
+        for (at, told) in self.told.iter().enumerate() {
+            if let Some(wanted) = wanted(self.call, at) {
+                are_told = are_told && told.as_str() == wanted;
+            }
+        }
+        are_told && (self.call != Call::Close || is_rich(campaign))
+    }
+
+    /// The case of a call, played in this database. None where it doesn't come to what it is to come to.
+    fn played<S: Alter + Drop>(alloc: Global, call: Call, conn: Connection<S>) -> Option<Case> {
+        let mut case = Case::new(alloc, call).ok()?;
+        let mut service = match call {
+            Call::Found => founded(alloc, conn)?,
+            _ => begun(alloc, conn)?,
+        };
+        case.play(alloc, &mut service)?;
+        if case.is_right(service.campaign()) {
+            Some(case)
+        } else {
+            None
+        }
+    }
+
+    /// The case of a call. None where it doesn't come to what it is to come to.
+    pub fn of(alloc: Global, call: Call) -> Option<Case> {
+        let conn = Connection::open_in_memory(alloc).ok()?;
+        Case::played(alloc, call, conn)
+    }
+
+    /// The rows behind so many of the commands.
+    pub fn rows_behind(&self, commands: usize) -> &str {
+        match self.rows.get(commands) {
+            Some(rows) => rows.as_str(),
+            None => "",
+        }
+    }
+}

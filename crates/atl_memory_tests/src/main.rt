@@ -1,0 +1,97 @@
+//! Tries each call that takes memory with too little of it: with so many blocks left, and, where the heap counts growths (tests/fuse.c),
+//! with each growth refused in turn, or with every so many-th where the command line has a number.
+#![tactic(auto)]
+
+mod cases;
+mod drought;
+mod fuse;
+mod setting;
+mod shortage;
+mod texts;
+mod trials;
+
+use crate::cases::{CALLS, Call, Case};
+use crate::shortage::{Limit, Shortage};
+use crate::trials::{Outcome, tried};
+use std::{env, io};
+
+/// Tries a call with a block more left each time, until it is done.
+fn with_blocks(rt: &HostRuntime, case: &Case, shortage: &mut Shortage) -> io::Result<()> {
+    let call = case.call;
+    for blocks in 0..2_000u32 {
+        shortage.limit = Limit::Blocks(blocks);
+        match tried(rt.alloc(), case, shortage) {
+            Outcome::Held => {}
+            Outcome::Done if blocks > 0 => {
+                return println!(rt; "{call:?}: without memory Memory, and with it done");
+            }
+            outcome => return println!(rt; "{call:?} with {blocks} blocks: {outcome:?}"),
+        }
+    }
+    println!(rt; "{call:?}: never done")
+}
+
+/// Refuses every so many-th growth of a call, until a run meets no refusal.
+fn with_refusals(
+    rt: &HostRuntime,
+    case: &Case,
+    shortage: &mut Shortage,
+    step: u32,
+) -> io::Result<()> {
+    let call = case.call;
+    let mut made_good = 0u32;
+    for refused in 0..1_000_000u32 {
+        let growth = refused.saturating_mul(step).saturating_add(1);
+        shortage.limit = Limit::Growth(growth);
+        match tried(rt.alloc(), case, shortage) {
+            Outcome::Held => {}
+            Outcome::MadeGood => made_good = made_good.saturating_add(1),
+            Outcome::Done => {
+                return println!(rt;
+                    "{call:?}: {refused} growths refused, {made_good} made good, and growth {growth} never comes"
+                );
+            }
+            outcome => return println!(rt; "{call:?} at growth {growth}: {outcome:?}"),
+        }
+    }
+    println!(rt; "{call:?}: never done")
+}
+
+/// Tries a call in droughts, or, where a step is given, with refusals.
+fn try_call(
+    rt: &HostRuntime,
+    call: Call,
+    shortage: &mut Shortage,
+    step: Option<u32>,
+) -> io::Result<()> {
+    match (Case::of(rt.alloc(), call), step) {
+        (Some(case), Some(step)) => with_refusals(rt, &case, shortage, step),
+        (Some(case), None) => with_blocks(rt, &case, shortage),
+        (None, _) => println!(rt; "{call:?}: no case"),
+    }
+}
+
+/// The number on the command line, or 1.
+fn step(rt: &HostRuntime) -> io::Result<u32> {
+    match env::args(rt)?.nth(1) {
+        Some(word) => Ok(word.as_str().parse::<u32>().unwrap_or(1).max(1)),
+        None => Ok(1),
+    }
+}
+
+fn main(rt: HostRuntime) -> io::Result<()> {
+    let step = step(&rt)?;
+    let Some(mut shortage) = Shortage::new(rt.alloc()) else {
+        return println!(rt; "no room");
+    };
+    for call in CALLS.iter() {
+        try_call(&rt, *call, &mut shortage, None)?;
+    }
+    if fuse::arm(rt.alloc(), 1) {
+        fuse::has_refused(rt.alloc());
+        for call in CALLS.iter() {
+            try_call(&rt, *call, &mut shortage, Some(step))?;
+        }
+    }
+    Ok(())
+}

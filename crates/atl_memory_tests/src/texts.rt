@@ -1,0 +1,51 @@
+//! Rows and answers as texts, so that all of them is compared at once.
+use atl_service::{Answer, Service, open};
+use atl_state::{Campaign, Parts};
+use sqlite::{Alter, Connection};
+use std::alloc::Global;
+
+/// All rows, as a text.
+pub fn text_of(alloc: Global, parts: &Parts) -> Option<String> {
+    format!(in alloc; "{parts:?}").ok()
+}
+
+/// All rows of a campaign, as a text.
+pub fn rows(alloc: Global, campaign: Option<&Campaign>) -> Option<String> {
+    let parts = campaign?.parts().ok()?;
+    text_of(alloc, &parts)
+}
+
+/// All rows that a database holds, as a text.
+pub fn rows_of<S: Alter + Drop>(alloc: Global, conn: Connection<S>) -> Option<String> {
+    match open(alloc, conn) {
+        Ok(service) => rows(alloc, service.campaign()),
+        Err(_) => None,
+    }
+}
+
+/// The text of a service's books.
+pub fn books<S: Alter>(service: &Service<S>) -> Option<String> {
+    service.books()?.ok()
+}
+
+/// An answer as a text.
+pub fn told(alloc: Global, answer: &Answer) -> Option<String> {
+    match answer {
+        Answer::Joined { faction, unit } => format!(in alloc; "joined {faction} {unit}").ok(),
+        Answer::Mailed { orders, faults } => {
+            format!(in alloc; "mailed {orders} {:?}", faults.as_slice()).ok()
+        }
+        Answer::MonthDone { month } => format!(in alloc; "month done {month}").ok(),
+        Answer::Text(text) => String::from_str(alloc, text.as_str()).ok(),
+        Answer::Refused(refusal) => format!(in alloc; "refused {refusal}").ok(),
+        Answer::Fault(fault) => format!(in alloc; "fault {fault}").ok(),
+    }
+}
+
+/// Whether a text was made, and is this one.
+pub fn is_text(made: Option<String>, wanted: &str) -> bool {
+    match &made {
+        Some(made) => made.as_str() == wanted,
+        None => false,
+    }
+}

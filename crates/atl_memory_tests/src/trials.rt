@@ -1,0 +1,323 @@
+//! A call with memory short, and what it leaves.
+use crate::cases::{Call, Case};
+use crate::setting::begun;
+use crate::shortage::Shortage;
+use crate::texts::{is_text, rows, rows_of, text_of, told};
+use atl_service::{Answer, Cause, Fault, Refused, Service, found, open};
+use atl_state::{Campaign, CheckFault, check};
+use atl_tables::World;
+use atl_test_worlds::ISLE;
+use sqlite::{Alter, Connection};
+use std::alloc::Global;
+
+/// What a call with memory short came to.
+#[derive(Clone, Copy, PartialEq, Eq, Debug)]
+enum Came {
+    /// Memory, and all is as before.
+    Memory,
+    /// The very outcome of ample memory.
+    Done,
+    /// Something else, and what.
+    Wrong(&'static str),
+}
+
+/// The same, beside whether a growth was refused.
+#[derive(Clone, Copy, PartialEq, Eq, Debug)]
+pub enum Outcome {
+    /// The answer is Memory, and all is as before.
+    Held,
+    /// The outcome is that of ample memory, and none was refused as far as is known.
+    Done,
+    /// A growth was refused, and the outcome is that of ample memory none the less.
+    MadeGood,
+    /// Memory, and no growth was refused.
+    Untrue,
+    /// Something else, and what.
+    Wrong(&'static str),
+}
+
+fn judged(was_refused: Option<bool>, came: Came) -> Outcome {
+    match (was_refused, came) {
+        (_, Came::Wrong(what)) => Outcome::Wrong(what),
+        (Some(false), Came::Memory) => Outcome::Untrue,
+        (_, Came::Memory) => Outcome::Held,
+        (Some(true), Came::Done) => Outcome::MadeGood,
+        (_, Came::Done) => Outcome::Done,
+    }
+}
+
+/// Memory, where all is as before.
+fn held(is_as_before: bool) -> Came {
+    if is_as_before {
+        Came::Memory
+    } else {
+        Came::Wrong("Memory, and not all is as before")
+    }
+}
+
+/// The outcome, where it is that of ample memory.
+fn done(is_as_wanted: bool) -> Came {
+    if is_as_wanted {
+        Came::Done
+    } else {
+        Came::Wrong("not the outcome of ample memory")
+    }
+}
+
+/// Whether a service has these rows, and its tables too.
+fn has_rows<S: Alter + Drop>(alloc: Global, service: Service<S>, wanted: &str) -> bool {
+    is_text(rows(alloc, service.campaign()), wanted)
+        && is_text(rows_of(alloc, service.end()), wanted)
+}
+
+/// Whether a service shows nothing, lends its world, and answers Closed to each sort of command.
+fn is_closed<S: Alter>(service: &mut Service<S>, case: &Case) -> bool {
+    let mut is_closed = service.campaign().is_none()
+        && service.books().is_none()
+        && service.world().region(4).is_some();
+    for command in &case.later {
+        is_closed = is_closed && matches!(&service.run(command), Answer::Fault(Fault::Closed));
+    }
+    is_closed
+}
+
+/// Whether a service is closed, and its tables hold these rows.
+fn is_left_closed<S: Alter + Drop>(
+    alloc: Global,
+    mut service: Service<S>,
+    case: &Case,
+    wanted: &str,
+) -> bool {
+    is_closed(&mut service, case) && is_text(rows_of(alloc, service.end()), wanted)
+}
+
+/// How the answers to a case's commands end.
+#[derive(Clone, Copy, PartialEq, Eq)]
+enum End {
+    /// All are those of ample memory.
+    Done,
+    /// So many are, behind them comes Memory, and then Closed.
+    Memory(usize),
+    /// They are others.
+    Astray,
+}
+
+fn end_of(alloc: Global, answers: &[Answer], wanted: &[String]) -> End {
+    let mut end = End::Done;
+    for (at, (answer, wanted)) in answers.iter().zip(wanted.iter()).enumerate() {
+        end = match (answer, end) {
+            (Answer::Fault(Fault::Memory), End::Done) => End::Memory(at),
+            (Answer::Fault(Fault::Closed), End::Memory(at)) => End::Memory(at),
+            (answer, End::Done) if is_text(told(alloc, answer), wanted.as_str()) => End::Done,
+            _ => End::Astray,
+        };
+    }
+    if answers.len() == wanted.len() {
+        end
+    } else {
+        End::Astray
+    }
+}
+
+/// What answers to the commands of a case, and the service behind them, come to.
+fn ended<S: Alter + Drop>(
+    alloc: Global,
+    service: Service<S>,
+    answers: &[Answer],
+    case: &Case,
+) -> Came {
+    match end_of(alloc, answers, &case.told) {
+        End::Done => done(has_rows(alloc, service, case.rows_behind(answers.len()))),
+        End::Memory(at) => held(is_left_closed(alloc, service, case, case.rows_behind(at))),
+        End::Astray => Came::Wrong("another answer"),
+    }
+}
+
+/// Whether a service is as before, and goes on: the commands come to what they come to with ample memory.
+fn goes_on<S: Alter + Drop>(alloc: Global, mut service: Service<S>, case: &Case) -> bool {
+    let is_as_before = is_text(rows(alloc, service.campaign()), case.rows_behind(0));
+    match service.run_all(&case.commands) {
+        Ok(answers) => is_as_before && ended(alloc, service, &answers, case) == Came::Done,
+        Err(_) => false,
+    }
+}
+
+fn founds<S: Alter + Drop>(
+    alloc: Global,
+    conn: Connection<S>,
+    case: &Case,
+    shortage: &mut Shortage,
+) -> Came {
+    shortage.begin(alloc);
+    let answer = found(alloc, conn, ISLE, b"gm");
+    shortage.end(alloc);
+    match answer {
+        Ok(service) => done(has_rows(alloc, service, case.rows_behind(0))),
+        Err(
+            Refused {
+                why: Cause::Memory,
+                conn,
+            },
+        ) => held(conn.schema().tables.is_empty()),
+        Err(_) => Came::Wrong("another cause"),
+    }
+}
+
+fn opens<S: Alter + Drop>(
+    alloc: Global,
+    service: Service<S>,
+    case: &Case,
+    shortage: &mut Shortage,
+) -> Came {
+    let conn = service.end();
+    shortage.begin(alloc);
+    let answer = open(alloc, conn);
+    shortage.end(alloc);
+    match answer {
+        Ok(service) => done(has_rows(alloc, service, case.rows_behind(0))),
+        Err(
+            Refused {
+                why: Cause::Memory,
+                conn,
+            },
+        ) => held(is_text(rows_of(alloc, conn), case.rows_behind(0))),
+        Err(_) => Came::Wrong("another cause"),
+    }
+}
+
+fn runs<S: Alter + Drop>(
+    alloc: Global,
+    mut service: Service<S>,
+    case: &Case,
+    shortage: &mut Shortage,
+) -> Came {
+    let Some(command) = case.commands.first() else {
+        return Came::Wrong("no command");
+    };
+    shortage.begin(alloc);
+    let answer = service.run(command);
+    shortage.end(alloc);
+    match Vec::from_array(alloc, [answer]) {
+        Ok(answers) => ended(alloc, service, &answers, case),
+        Err(_) => Came::Wrong("no room"),
+    }
+}
+
+fn runs_all<S: Alter + Drop>(
+    alloc: Global,
+    mut service: Service<S>,
+    case: &Case,
+    shortage: &mut Shortage,
+) -> Came {
+    shortage.begin(alloc);
+    let answers = service.run_all(&case.commands);
+    shortage.end(alloc);
+    match answers {
+        Ok(answers) => ended(alloc, service, &answers, case),
+        Err(_) => held(goes_on(alloc, service, case)),
+    }
+}
+
+fn tells_books<S: Alter + Drop>(
+    alloc: Global,
+    service: Service<S>,
+    case: &Case,
+    shortage: &mut Shortage,
+) -> Came {
+    shortage.begin(alloc);
+    let books = service.books();
+    shortage.end(alloc);
+    let is_left = goes_on(alloc, service, case);
+    match books {
+        Some(Ok(text)) => done(is_left && text.as_str() == case.books.as_str()),
+        Some(Err(_)) => held(is_left),
+        None => Came::Wrong("no books"),
+    }
+}
+
+fn gives_rows(alloc: Global, campaign: &Campaign, case: &Case, shortage: &mut Shortage) -> Came {
+    shortage.begin(alloc);
+    let parts = campaign.parts();
+    shortage.end(alloc);
+    let is_left = is_text(rows(alloc, Some(campaign)), case.rows_behind(0));
+    match &parts {
+        Ok(parts) => done(is_left && is_text(text_of(alloc, parts), case.rows_behind(0))),
+        Err(_) => held(is_left),
+    }
+}
+
+fn checks(
+    alloc: Global,
+    world: &World,
+    campaign: &Campaign,
+    case: &Case,
+    shortage: &mut Shortage,
+) -> Came {
+    let Ok(parts) = campaign.parts() else {
+        return Came::Wrong("no rows");
+    };
+    shortage.begin(alloc);
+    let checked = check(alloc, world, parts);
+    shortage.end(alloc);
+    match &checked {
+        Ok(checked) => done(is_text(rows(alloc, Some(checked)), case.rows_behind(0))),
+        Err(CheckFault::Memory) => held(is_text(rows(alloc, Some(campaign)), case.rows_behind(0))),
+        Err(_) => Came::Wrong("a rule is broken"),
+    }
+}
+
+/// A call that reads the campaign of a service.
+fn reads<S: Alter + Drop>(
+    alloc: Global,
+    service: Service<S>,
+    case: &Case,
+    shortage: &mut Shortage,
+) -> Came {
+    match service.campaign() {
+        Some(campaign) if case.call == Call::Parts => {
+            gives_rows(alloc, campaign, case, shortage)
+        }
+        Some(campaign) => checks(alloc, service.world(), campaign, case, shortage),
+        None => Came::Wrong("no campaign"),
+    }
+}
+
+/// A call on a service.
+fn called<S: Alter + Drop>(
+    alloc: Global,
+    service: Service<S>,
+    case: &Case,
+    shortage: &mut Shortage,
+) -> Came {
+    match case.call {
+        Call::Open => opens(alloc, service, case, shortage),
+        Call::RunAll => runs_all(alloc, service, case, shortage),
+        Call::Books => tells_books(alloc, service, case, shortage),
+        Call::Parts | Call::Check => reads(alloc, service, case, shortage),
+        _ => runs(alloc, service, case, shortage),
+    }
+}
+
+fn tried_in<S: Alter + Drop>(
+    alloc: Global,
+    conn: Connection<S>,
+    case: &Case,
+    shortage: &mut Shortage,
+) -> Came {
+    if case.call == Call::Found {
+        return founds(alloc, conn, case, shortage);
+    }
+    match begun(alloc, conn) {
+        Some(service) => called(alloc, service, case, shortage),
+        None => Came::Wrong("no campaign"),
+    }
+}
+
+/// What comes of the call of a case with memory short.
+pub fn tried(alloc: Global, case: &Case, shortage: &mut Shortage) -> Outcome {
+    let came = match Connection::open_in_memory(alloc) {
+        Ok(conn) => tried_in(alloc, conn, case, shortage),
+        Err(_) => Came::Wrong("no connection"),
+    };
+    judged(shortage.was_refused, came)
+}

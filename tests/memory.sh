@@ -1,0 +1,105 @@
+#!/usr/bin/env bash
+# Refuses growths of memory, one at a time, and finds each time that the answer is Memory and all is as before, or that the outcome is the
+# very one of ample memory, and that no run is told Memory in which no growth was refused. This is done within one process, of the calls
+# that crates/atl_memory_tests tries, and of the subcommands of the program, each on a copy of a file. The heap that refuses is
+# tests/fuse.c, which is put before the C library's. Called as
+#   tests/memory.sh [STEP [PROGRAM_STEP]]
+# it refuses every STEP-th growth of the calls (1 where none is said) and every PROGRAM_STEP-th of the subcommands (97), each up to a run
+# without a refusal. It wants cc, glibc and sqlite3, takes about two minutes once both programs are built, and ends with
+# 'memory: all as expected'.
+set -u
+here=$(cd "$(dirname "$0")/.." && pwd)
+step=${1:-1} program_step=${2:-97}
+[[ $step =~ ^[1-9][0-9]*$ && $program_step =~ ^[1-9][0-9]*$ ]] || { echo 'memory: a step is a number from 1' >&2; exit 2; }
+for tool in cc sqlite3; do
+  command -v "$tool" >/dev/null || { echo "memory: $tool is not there" >&2; exit 2; }
+done
+work=$(mktemp -d)
+trap 'rm -rf "$work"' EXIT
+failed=0
+
+fail() {
+  echo "memory: $*"
+  failed=1
+}
+
+heap=$work/fuse.so
+cc -O2 -fPIC -shared -o "$heap" "$here/tests/fuse.c" || exit 2
+db=$work/campaign.db
+"$here/gm" found --world "$here/worlds/isle.toml" --db "$db" --pass gm >/dev/null || exit 1
+program=$here/crates/atl_gm/out/atl_gm
+calls=$here/crates/atl_memory_tests/out/atl_memory_tests
+if [ ! -x "$calls" ] || [ -n "$(find "$here"/crates/*/src -newer "$calls" -print -quit)" ]; then
+  (cd "$here/crates/atl_test_worlds" && rt lib) >"$work/built" 2>&1
+  (cd "$here/crates/atl_memory_tests" && rt run) >>"$work/built" 2>&1 || { tail -n 20 "$work/built" >&2; exit 1; }
+  touch "$calls"
+fi
+
+# The calls. Each has a line for its droughts, as the gate stores it, and one for its refusals.
+"$calls" >"$work/droughts" || fail 'the calls end with another status'
+cmp -s "$work/droughts" "$here/crates/atl_memory_tests/stdout" || fail 'another outcome in a drought'
+LD_PRELOAD=$heap "$calls" "$step" >"$work/told" || fail 'the calls end with another status under the heap that counts'
+mapfile -t names < <(sed 's/:.*//' "$here/crates/atl_memory_tests/stdout")
+for name in "${names[@]}"; do
+  grep -q "^$name: [0-9]* growths refused, [0-9]* made good, " "$work/told" || fail "$name: another outcome with a refusal"
+done
+[ "$(wc -l <"$work/told")" = $((2 * ${#names[@]})) ] || fail 'another number of lines'
+tail -n +$((${#names[@]} + 1)) "$work/told"
+
+# rows FILE: what the database holds, or nothing where there is no file
+rows() {
+  [ ! -e "$1" ] || sqlite3 "$1" .dump
+}
+
+# copied FILE: a copy of the file, as run.db, or none where it isn't there
+copied() {
+  rm -f "$work"/run.db*
+  [ ! -e "$1" ] || cp "$1" "$work/run.db"
+}
+
+# each FILE INPUT WORD..: every so many-th growth of a subcommand on a copy of the file
+each() {
+  local file=$1 input=$2 refused=0 good=0 growth status before after
+  shift 2
+  copied "$file"
+  before=$(rows "$file")
+  "$program" "$@" <"$input" >"$work/wanted" || fail "$1 is refused"
+  after=$(rows "$work/run.db")
+  for ((growth = 1; ; growth += program_step)); do
+    copied "$file"
+    rm -f "$work/blown"
+    FUSE=$growth FUSE_LOG=$work/blown LD_PRELOAD=$heap "$program" "$@" <"$input" >"$work/out" 2>"$work/err"
+    status=$?
+    [ ! -e "$work/blown" ] || refused=$((refused + 1))
+    if [ "$status" = 0 ]; then
+      [ ! -e "$work/blown" ] || good=$((good + 1))
+      [ ! -s "$work/err" ] && cmp -s "$work/out" "$work/wanted" && [ "$(rows "$work/run.db")" = "$after" ] ||
+        fail "$1, growth $growth: not the outcome of ample memory"
+    elif [ ! -e "$work/blown" ] || [ "$status" != 1 ] || [ -s "$work/out" ] || [ "$(cat "$work/err")" != 'fault: Memory' ]; then
+      fail "$1, growth $growth: status $status, $(head -c 80 "$work/err")"
+    elif [ -n "$before" ] && [ "$(rows "$work/run.db")" != "$before" ]; then
+      fail "$1, growth $growth: the rows changed"
+    elif [ -z "$before" ] && [ -n "$(rows "$work/run.db" | grep '^CREATE')" ]; then
+      fail "$1, growth $growth: there are tables"
+    fi
+    [ -e "$work/blown" ] || break
+  done
+  echo "$1: $refused growths refused, $good made good, and growth $growth never comes"
+}
+
+mailing=$work/mailing
+printf '#ATLANTIS 1\nUNIT 1\nNAME UNIT Watch\nFORM 1\nEND\nPAY NEW 1 100\nGUARD 1\nDANCE\nSTUDY lumberjack\n' >"$mailing"
+"$program" join --db "$db" --name Avalon --pass pw --seed 0 >/dev/null || exit 1
+"$program" mail --db "$db" --faction 1 --pass pw --file "$mailing" >/dev/null || exit 1
+run=$work/run.db
+each "$work/none" "$here/worlds/isle.toml" trial
+each "$work/none" /dev/null found --world "$here/worlds/isle.toml" --db "$run" --pass gm
+each "$db" /dev/null join --db "$run" --name Bree --pass pb --seed 0
+each "$db" /dev/null mail --db "$run" --faction 1 --pass pw --file "$mailing"
+each "$db" /dev/null close --db "$run" --month 1 --pass gm --seed 0
+each "$db" /dev/null report --db "$run" --faction 1 --pass pw
+each "$db" /dev/null books --db "$run"
+each "$db" /dev/null serve --db "$run" --port 0 --count 0 --seed 0
+
+[ $failed = 0 ] && echo 'memory: all as expected'
+exit $failed
