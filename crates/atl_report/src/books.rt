@@ -1,7 +1,7 @@
 //! The text of the books.
 ghost use Rattle.std.specs.Prelude.{◌≡◌, ◌++◌, IfOk, OnOk, length, string_bytes};
 ghost use Rattle.std.specs.List.{slice_get};
-ghost use Rattle.atl_state.specs.Good.{AreInRange};
+ghost use Rattle.atl_state.specs.Founding.{things_of};
 ghost use Rattle.atl_state.specs.Totals.{IsCountable};
 ghost use Rattle.atl_report.specs.Books.{IsThing, entry_name, item_name, thing_name, amount_text, amount_line, amount_lines, total_line, thing_part, item_parts, books_of};
 
@@ -134,7 +134,8 @@ fn write_part(
 
 /// The parts of the items, in the order of the world.
 fn write_items(out: &mut String, world: &World, campaign: &Campaign) -> Result<(), AllocError>
-    requires { AreInRange world.now campaign.now.what }
+    requires things { length campaign.now.what.books ≡ things_of world.now }
+    requires countable { IsCountable campaign.now.what }
     ensures { OnOk result (string_bytes out.new ≡ string_bytes out.old ++ item_parts world.now campaign.now.what (length world.now.items)) }
 {
     for item in 0..world.items().len() {
@@ -143,12 +144,13 @@ fn write_items(out: &mut String, world: &World, campaign: &Campaign) -> Result<(
     Ok(())
 }
 
-/// The text of the books of a campaign of this world: for money, people and each item in the order of the world, a line for
-/// each entry that has an amount, and one for how much all units and regions hold. AllocError without memory. See
-/// docs/FORMATS.md, "Books".
+/// The text of the books of a campaign whose things are those of this world: for money, people and each item in the order of
+/// the world, a line for each entry that has an amount, and one for how much all units and regions hold. AllocError without
+/// memory. See docs/FORMATS.md, "Books".
 #[tactic(auto, unfolding(crate::specs::Books::books_of))]
 pub fn books_text(alloc: Global, world: &World, campaign: &Campaign) -> Result<String, AllocError>
-    requires { AreInRange world.now campaign.now.what }
+    requires things { length campaign.now.what.books ≡ things_of world.now }
+    requires countable { IsCountable campaign.now.what }
     ensures definition { IfOk result (λ text. string_bytes text ≡ books_of world.now campaign.now.what) }
 {
     let mut out = String::new(alloc);
