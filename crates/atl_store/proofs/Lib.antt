@@ -51,3 +51,4 @@ pub mod LoadedLaws
 pub mod ListedLaws
 pub mod ReopenLaws
 pub mod AlikeLaws
+pub mod OneWorldLaws

@@ -24,3 +24,4 @@ pub mod Reopening
 pub mod Rewriting
 pub mod WorldText
 pub mod Alike
+pub mod OneWorld

@@ -2,6 +2,7 @@
 //! transaction, and a crash leaves the campaign before it or the one after it. See docs/FORMATS.md, "Tables".
 #![tactic(auto)]
 
+mod alike;
 mod changing;
 pub mod fault;
 mod founding;
@@ -18,6 +19,7 @@ pub mod schema;
 mod statement;
 pub mod tables;
 
+pub use alike::one_database_holds_one_campaign;
 pub use changing::write_changes;
 pub use fault::{CreateFault, ReadFault, StoreFault, WriteFault};
 pub use founding::create;

@@ -5,6 +5,7 @@ mod compare;
 mod counts;
 mod crashes;
 mod founding;
+mod laws;
 mod making;
 mod others;
 mod reopening;
