@@ -18,11 +18,11 @@ use Rattle.atl_tables.proofs.MadeLaws.{entries-mapped, insert_last, is_less}
 use Rattle.atl_tables.proofs.Maps.{entries-empty}
 use Rattle.atl_orders.specs.declared.fault.FaultyLine.{FaultyLine}
 use Rattle.atl_orders.specs.declared.fault.MailFault.{MailFault}
-use Rattle.atl_orders.specs.declared.fault.MailFault.TheVariants.{TooLong}
+use Rattle.atl_orders.specs.declared.fault.MailFault.TheVariants.{TooLong, NoHeader, BadHeader, Memory}
 use Rattle.atl_orders.specs.declared.mailing.Mailing.{Mailing}
 use Rattle.atl_orders.specs.Limits.{most_bytes}
 use Rattle.atl_orders.specs.Lines.{lines}
-use Rattle.atl_orders.specs.Mailing.{IsMailingOf, IsReadWith, Reading, behind_header, header_from, reading, reading_of}
+use Rattle.atl_orders.specs.Mailing.{IsMailingOf, IsReadWith, Reading, Reads, behind_header, header_from, reading, reading_of}
 use Rattle.atl_state.specs.declared.event.Event.{Event}
 use Rattle.atl_state.specs.declared.records.Faction.{Faction}
 use Rattle.atl_state.specs.Covers.{MarksChanges}
@@ -49,7 +49,7 @@ use Rattle.atl_service.specs.Closing.{closed, faults_in, faults_of, read_of, rea
 -- ---- each mail can be read, and no two are of one faction
 
 module _ (w : Planet) (n : ℕ) (text : List ℕ) where
-  abbrev Names : Result Reading MailFault → Type 0
+  abbrev pub Names : Result Reading MailFault → Type 0
   Names read = (r : Reading) × (read ≡ Ok r) × (r.faction ≡ n)
 
   named : (next : ℕ) (rest : List (List ℕ)) → header_from 1 (lines text) ≡ Ok (record { faction = n; next = next; rest = rest }) → Names (behind_header w (header_from 1 (lines text)))
@@ -59,9 +59,23 @@ module _ (w : Planet) (n : ℕ) (text : List ℕ) where
   not_long true is short names = absurd (grind (arith, nat_tests))
   not_long false is short names = names
 
-  reads : IsMailingOf n text → Names (reading w text)
+  pub reads : IsMailingOf n text → Names (reading w text)
   unfolding reading
   reads sent = not_long (nat_lt most_bytes (length text)) refl sent.short (let (next, rest, is) = sent.header in named next rest is)
+
+  -- it isn't unread for this fault
+  pub not_unread : (fault : MailFault) → IsMailingOf n text → reading w text ≡ Err fault → ⊥
+  not_unread fault sent unread = let (r, is, own) = reads sent in apart r fault (sym is ∙ unread)
+    where
+      apart : (r : Reading) (fault : MailFault) → ◌≡◌ {A = Result Reading MailFault} (Ok r) (Err fault) → ⊥
+      apart r fault is = cc
+
+  -- so it is refused for want of memory alone
+  pub only_memory : (fault : MailFault) → IsMailingOf n text → Reads reading_of (Err fault) (reading w text) → fault ≡ Memory
+  only_memory TooLong sent unread = absurd (not_unread TooLong sent unread)
+  only_memory NoHeader sent unread = absurd (not_unread NoHeader sent unread)
+  only_memory BadHeader sent unread = absurd (not_unread BadHeader sent unread)
+  only_memory Memory sent unread = refl
 
 module _ (w : Planet) where
   -- what is read of mail
@@ -87,11 +101,15 @@ factions_of : (ms : List Mailing) → map (λ r. r.faction) (map reading_of ms) 
 factions_of [] = refl
 factions_of (m ∷ ms) = ap (λ ns. m.faction ∷ ns) (factions_of ms)
 
+-- each mail of a good campaign is a mailing of its faction
+sent_by : (w : Planet) (c : State) → IsGood w c → EachOf IsMailingOf (entries c.mail)
+sent_by w c good = each-from_every IsMailingOf c.mail (λ n text there. (good.sound.mail n text there).0)
+
 -- the mailings of a good campaign
 pub own_factions : (w : Planet) (c : State) (ms : List Mailing) → IsGood w c → map reading_of ms ≡ readings w c → HaveOwnFactions ms
 own_factions w c ms good is =
     let numbers = map (λ e. e.0) (entries c.mail) in
-    let sent = each-from_every IsMailingOf c.mail (λ n text there. (good.sound.mail n text there).0) in
+    let sent = sent_by w c good in
     let same : map (λ m. m.faction) ms ≡ numbers = sym (factions_of ms) ∙ ap (map (λ r. r.faction)) is ∙ factions_read w (entries c.mail) sent in
     subst (IsDistinct (eq_by_cmp nat_cmp)) (sym same) (IsDistinct-from_sorted nat_cmp numbers (rising (entries c.mail) (sorted c.mail)))
 
@@ -171,17 +189,18 @@ wrong_in w es = map (λ e. (e.0, faults_of (reading w e.1))) es
 abbrev wrong : Planet → State → FinMap nat_cmp (List FaultyLine)
 wrong w c = mapped (λ text. faults_of (reading w text)) c.mail
 
-pub read_begins : (w : Planet) (c : State) (ms : List Mailing) (faults : FinMap nat_cmp (List FaultyLine)) (all : List (ℕ × List ℕ)) → all ≡ entries c.mail → ms ≡ [] → faults ≡ empty → ReadSoFar w c ms faults all
-read_begins w c ms faults all is none none_wrong =
+pub read_begins : (w : Planet) (c : State) (ms : List Mailing) (faults : FinMap nat_cmp (List FaultyLine)) (all : List (ℕ × List ℕ)) → IsGood w c → all ≡ entries c.mail → ms ≡ [] → faults ≡ empty → ReadSoFar w c ms faults all
+read_begins w c ms faults all good is none none_wrong =
     rw (is, none, none_wrong) (
       refl,
       λ k d h. absurd (omega arith),
       ap (λ es. es ++ wrong_in w (entries c.mail)) (entries-empty {X = List FaultyLine}) ∙ sym (entries-mapped (λ text. faults_of (reading w text)) c.mail),
+      sent_by w c good,
     )
 
 pub read_goes_on : (w : Planet) (c : State) (ms ns : List Mailing) (faults faults' : FinMap nat_cmp (List FaultyLine)) (here rest : List (ℕ × List ℕ)) (n : ℕ) (text : List ℕ) (m : Mailing) → here ≡ (n, text) ∷ rest → ns ≡ ms ++ m ∷ [] → IsReadWith w m → m.text ≡ text
     → faults' ≡ insert faults n m.faults → ReadSoFar w c ms faults here → ReadSoFar w c ns faults' rest
-read_goes_on w c ms ns faults faults' here rest n text m left one_more read kept put (mailings, all, told) =
+read_goes_on w c ms ns faults faults' here rest n text m left one_more read kept put (mailings, all, told, sent) =
     let is : reading w text ≡ Ok (reading_of m) = ap (reading w) (sym kept) ∙ read in
     let of_all = subst (λ es. map reading_of ms ++ texts_read w es ≡ readings w c) left mailings in
     let told_of_all = subst (λ es. entries faults ++ wrong_in w es ≡ entries (wrong w c)) left told in
@@ -192,10 +211,11 @@ read_goes_on w c ms ns faults faults' here rest n text m left one_more read kept
       subst (All (IsReadWith w)) (sym one_more) (All-push (IsReadWith w) ms m all read),
       ap (λ fs. entries fs ++ wrong_in w rest) put ∙ ap (λ es. es ++ wrong_in w rest) (insert_last faults (wrong w c) n m.faults (wrong_in w rest) told_now)
           ∙ append_assoc (entries faults) ((n, m.faults) ∷ []) (wrong_in w rest) ∙ told_now,
+      (subst (EachOf IsMailingOf) left sent).1,
     )
 
 pub read_ends : (w : Planet) (c : State) (r : ReadMail) (rest : List (ℕ × List ℕ)) → rest ≡ [] → ReadSoFar w c r.mailings.items r.faults rest → HasRead w c r
-read_ends w c r rest none (mailings, all, told) = record {
+read_ends w c r rest none (mailings, all, told, sent) = record {
   readings_are = sym (append-nil (map reading_of r.mailings.items)) ∙ subst (λ es. map reading_of r.mailings.items ++ texts_read w es ≡ readings w c) none mailings;
   read = all;
   faults = same_entries_map r.faults (wrong w c) (sym (append-nil (entries r.faults)) ∙ subst (λ es. entries r.faults ++ wrong_in w es ≡ entries (wrong w c)) none told);

@@ -1,5 +1,6 @@
 -- A founding.
-use Rattle.std.proofs.Common.{◌≡◌, true, false, List, ℕ, Result, Ok, Some, refl, sym, ap, ◌∙◌, subst, inl, arith}
+use Rattle.std.proofs.Common.{◌≡◌, ◌⊎◌, Bool, true, false, List, ℕ, Result, Ok, Some, refl, sym, ap, ◌∙◌, subst, inl, inr, arith}
+use Rattle.std.proofs.lemmas.Bool.{false≢true}
 use Rattle.sqlite_trees.specs.declared.store.Store.{Ghosts}
 use Rattle.sqlite.specs.Held.{Held, state}
 use Rattle.atl_tables.specs.World.{world_of}
@@ -9,7 +10,7 @@ use Rattle.atl_state.specs.State.{State as Campaign}
 use Rattle.atl_state.specs.Founding.{founded_of}
 use Rattle.atl_state.specs.Good.{IsGood}
 use Rattle.atl_store.specs.Making.{has_campaign}
-use Rattle.atl_store.specs.Keeps.{Keeps, IsLater, MayFound, Creates, FailsToCreate, RefusesToCreate}
+use Rattle.atl_store.specs.Keeps.{Keeps, IsLater, IsReady, MayFound, Creates, BreaksOff, FailsToCreate, RefusesToCreate}
 use Rattle.atl_store.proofs.StayLaws.{spares_itself}
 use Rattle.atl_store.specs.declared.fault.CreateFault.{CreateFault}
 use Rattle.atl_store.specs.declared.fault.CreateFault.TheVariants.{NotEmpty, Store, Memory}
@@ -19,27 +20,28 @@ use Rattle.atl_service.specs.Engine.{Stands}
 use Rattle.atl_service.specs.declared.command.Cause.{Cause}
 use Rattle.atl_service.specs.declared.command.Cause.TheVariants.{World as BadWorld, BadPassText}
 use Rattle.atl_service.specs.declared.command.Cause.TheVariants as none
-use Rattle.atl_service.specs.Found.{Founds, FailsToFound, Leaves, RefusesFounding, IsCause, Prepares, of_creation}
+use Rattle.atl_service.specs.Found.{Founds, FailsToFound, Leaves, RefusesFounding, IsCause, Prepares, RefusesToWrite, of_creation}
+use Rattle.atl_service.proofs.CauseLaws.{creation_failed, creation_lacked}
 
 module _ {S : Type 0} (g : Ghosts S) where
   later_itself : (conn : Held S) → IsLater (state g conn) (state g conn)
-  later_itself conn = record { clean = λ clean. clean; counts = omega arith }
+  later_itself conn = record { clean = λ clean. clean; counts = omega arith; shield = λ k. k }
 
   nothing_done : (conn : Held S) (text pass : List ℕ) → FailsToFound g conn text pass conn
   nothing_done conn text pass = record { tables = λ clean. spares_itself (state g conn); crash = λ clean w is db may. inl may }
 
   -- a founding that was refused before the store was asked
-  pub spared : (conn : Held S) (text pass : List ℕ) (why : Cause) → IsCause text pass (has_campaign conn.schema) why → RefusesFounding g conn text pass why conn
-  spared conn text pass why cause = record { cause = cause; leaves = leaves why cause; later = later_itself conn }
+  pub spared : (conn : Held S) (text pass : List ℕ) (why : Cause) → ((is_there : Bool) → IsCause text pass is_there why) → RefusesFounding g conn text pass why conn
+  spared conn text pass why cause = record { cause = cause (has_campaign conn.schema); leaves = leaves why cause; later = later_itself conn }
     where
-      leaves : (why : Cause) → IsCause text pass (has_campaign conn.schema) why → Leaves g conn text pass conn why
+      leaves : (why : Cause) → ((is_there : Bool) → IsCause text pass is_there why) → Leaves g conn text pass conn why
       leaves (BadWorld fault) is = refl
       leaves BadPassText is = refl
       leaves none.NotEmpty is = refl
-      leaves none.NotACampaign is = is
-      leaves (none.Damaged rule) is = is
-      leaves none.Store is = nothing_done conn text pass
-      leaves none.Memory is = nothing_done conn text pass
+      leaves none.NotACampaign is = is true
+      leaves (none.Damaged rule) is = is true
+      leaves none.Store is = absurd (false≢true (sym (is true).2))
+      leaves none.Memory is = (nothing_done conn text pass, inl refl)
 
   -- the service that is founded stands
   pub founded_stands : (conn : Held S) (w : Planet) (c : Campaign) (text : List ℕ) → conn.in_transaction ≡ false → IsGood w c → world_of text ≡ Ok w → HoldsCampaign g conn text c → Stands g conn w c true
@@ -74,5 +76,9 @@ module _ {S : Type 0} (g : Ghosts S) where
 
     pub refused_by_store : (fault : CreateFault) → RefusesToCreate g text c old new fault → RefusesFounding g old text pass (of_creation fault) new
     refused_by_store NotEmpty refused = record { cause = ((w, made.world), made.pass_is_good, refused.0); leaves = refused.1; later = later }
-    refused_by_store Store refused = record { cause = ((w, made.world), made.pass_is_good, refused.0.fresh); leaves = failed refused.0; later = later }
-    refused_by_store Memory refused = record { cause = tt; leaves = failed refused.0; later = later }
+    refused_by_store Store refused = record { cause = ((w, made.world), made.pass_is_good, refused.0.fresh); leaves = (failed refused.0, broken refused.1); later = later }
+      where
+        broken : ((¬ IsReady (state g old)) × (new ≡ old)) ⊎ BreaksOff g old new Store → RefusesToWrite g old new
+        broken (inl unasked) = inl unasked
+        broken (inr off) = inr (off.ready, λ clean. creation_failed g old new (off.told clean))
+    refused_by_store Memory refused = record { cause = tt; leaves = (failed refused.0, inr (λ clean. creation_lacked g old new (refused.1.told clean))); later = later }

@@ -1,3 +1,4 @@
+pub mod CauseLaws
 pub mod AnswerLaws
 pub mod FoundServiceLaws
 pub mod ListLaws
@@ -7,3 +8,4 @@ pub mod StepLaws
 pub mod CloseLaws
 pub mod PostingLaws
 pub mod SortLaws
+pub mod FileLaws

@@ -8,14 +8,15 @@ use Rattle.sqlite.specs.Held.{state}
 use Rattle.sqlite.specs.State.{State, HasCleanDisk}
 use Rattle.atl_tables.specs.Planet.{Planet}
 use Rattle.atl_state.specs.State.{State as Campaign}
-use Rattle.atl_store.specs.Keeps.{Keeps, Stops}
+use Rattle.atl_store.specs.Keeps.{HoldsCampaign, IsLater, Keeps, Stops}
 use Rattle.atl_store.proofs.WorldTextLaws.{world_text_is}
 use Rattle.atl_service.specs.declared.command.Command.{Command}
 use Rattle.atl_service.specs.declared.command.Answer.{Answer}
 use Rattle.atl_service.specs.declared.command.Answer.TheVariants.{Joined, Mailed, MonthDone, Text, Refused, Fault}
+use Rattle.atl_service.specs.declared.command.Fault.{Fault as Failure}
 use Rattle.atl_service.specs.declared.command.Fault.TheVariants.{Memory, Store, Closed}
+use Rattle.atl_service.specs.Causes.{HasCause, IsFault}
 use Rattle.atl_service.specs.Step.{step}
-use Rattle.atl_store.specs.Keeps.{HoldsCampaign}
 use Rattle.atl_service.specs.Engine.{Engine, text_in}
 use Rattle.atl_service.specs.Runs.{Runs, RunsAt, RunsOpen, Accepts, Closes, RunsAll, Follows, FollowsAt, AreClosed, Headline, Interrupted, HeadlineAt}
 
@@ -42,8 +43,13 @@ module _ {S : Type 0} (g : Ghosts S) where
   follows_as t u few many w c (x ∷ cs) (MonthDone n ∷ rs) new same h f = (f.0, follows_as t u few many w (step w c x).0 cs rs new same h f.1)
   follows_as t u few many w c (x ∷ cs) (Text r ∷ rs) new same h f = (f.0, follows_as t u few many w (step w c x).0 cs rs new same h f.1)
   follows_as t u few many w c (x ∷ cs) (Refused r ∷ rs) new same h f = (f.0, follows_as t u few many w (step w c x).0 cs rs new same h f.1)
-  follows_as t u few many w c (x ∷ cs) (Fault e ∷ rs) new same h f =
-      (f.0, f.1, f.2, λ clean. subst (λ t. Stops few (state g new.conn) t c (step w c x).0) (same clean) (stops_from few many (state g new.conn) t c (step w c x).0 h (f.3 clean)))
+  follows_as t u few many w c (x ∷ cs) (Fault e ∷ rs) new same h f = (
+    f.0,
+    f.1,
+    f.2,
+    λ clean. subst (λ t. Stops few (state g new.conn) t c (step w c x).0) (same clean) (stops_from few many (state g new.conn) t c (step w c x).0 h (f.3 clean)),
+    record { old = f.4.old; held = λ clean. subst (λ t. Keeps (state g f.4.old) t c) (same clean) (f.4.held clean); cause = f.4.cause },
+  )
 
   -- one command that was carried out, and then the rest
   carried : (old mid new : Engine S) (c : Campaign) (x : Command) (a : Answer) (cs : List Command) (rs : List Answer) → (accepts : Accepts g c old x a mid) → (HasCleanDisk (state g new.conn) → HasCleanDisk (state g mid.conn))
@@ -63,46 +69,52 @@ module _ {S : Type 0} (g : Ghosts S) where
       )
 
   -- one that closed the service
-  closed : (old mid new : Engine S) (c : Campaign) (x : Command) (cs : List Command) (rs : List Answer) → Closes g c old x mid → FollowsAt g mid cs rs new mid.campaign
-      → AreClosed cs rs × (new.campaign ≡ None) × (HasCleanDisk (state g new.conn) → Stops (state g old.conn).faults (state g new.conn) (text_in g old.conn) c (step old.world c x).0) × (new.world ≡ old.world)
-  closed old mid new c x cs rs closes rest =
+  closed : (old mid new : Engine S) (c : Campaign) (x : Command) (fault : Failure) (cs : List Command) (rs : List Answer) → Closes g c old x mid → HasCause g old.conn mid.conn fault → HoldsCampaign g old.conn (text_in g old.conn) c
+      → (HasCleanDisk (state g mid.conn) → HasCleanDisk (state g old.conn)) → FollowsAt g mid cs rs new mid.campaign
+      → AreClosed cs rs × (new.campaign ≡ None) × (HasCleanDisk (state g new.conn) → Stops (state g old.conn).faults (state g new.conn) (text_in g old.conn) c (step old.world c x).0) × IsFault g (text_in g old.conn) c fault new.conn
+      × (new.world ≡ old.world)
+  closed old mid new c x fault cs rs closes cause holds clean rest =
       let shut : mid.campaign ≡ None = ap (λ (e : Engine S). e.campaign) closes.same in
-      let on = subst (FollowsAt g mid cs rs new) shut rest in (
+      let on = subst (FollowsAt g mid cs rs new) shut rest in
+      let told : IsFault g (text_in g old.conn) c fault mid.conn = record { old = old.conn; held = λ h. holds (clean h); cause = cause } in (
         on.0,
         ap (λ (e : Engine S). e.campaign) on.1 ∙ shut,
         subst (λ (e : Engine S). HasCleanDisk (state g e.conn) → Stops (state g old.conn).faults (state g e.conn) (text_in g old.conn) c (step old.world c x).0) (sym on.1) closes.tables,
+        subst (λ (e : Engine S). IsFault g (text_in g old.conn) c fault e.conn) (sym on.1) told,
         ap (λ (e : Engine S). e.world) on.1 ∙ ap (λ (e : Engine S). e.world) closes.same,
       )
 
   first_open : (old mid new : Engine S) (c : Campaign) (x : Command) (a : Answer) (cs : List Command) (rs : List Answer) → RunsOpen g c old x a mid
-      → (HasCleanDisk (state g new.conn) → HasCleanDisk (state g mid.conn)) → (state g old.conn).faults ≤ (state g mid.conn).faults → old.campaign ≡ Some c → FollowsAt g mid cs rs new mid.campaign
+      → (HasCleanDisk (state g new.conn) → HasCleanDisk (state g mid.conn)) → IsLater (state g old.conn) (state g mid.conn) → HoldsCampaign g old.conn (text_in g old.conn) c → old.campaign ≡ Some c → FollowsAt g mid cs rs new mid.campaign
       → FollowsAt g old (x ∷ cs) (a ∷ rs) new (Some c)
-  first_open old mid new c x (Joined n m) cs rs ran was counts up rest = let k = carried old mid new c x (Joined n m) cs rs ran was counts rest in ((k.0, k.1), k.2)
-  first_open old mid new c x (Mailed n fs) cs rs ran was counts up rest = let k = carried old mid new c x (Mailed n fs) cs rs ran was counts rest in ((k.0, k.1), k.2)
-  first_open old mid new c x (MonthDone n) cs rs ran was counts up rest = let k = carried old mid new c x (MonthDone n) cs rs ran was counts rest in ((k.0, k.1), k.2)
-  first_open old mid new c x (Text t) cs rs ran was counts up rest = let k = carried old mid new c x (Text t) cs rs ran.0 was counts rest in ((k.0, k.1), k.2)
-  first_open old mid new c x (Refused r) cs rs ran was counts up rest =
+  first_open old mid new c x (Joined n m) cs rs ran was later holds up rest = let k = carried old mid new c x (Joined n m) cs rs ran was later.counts rest in ((k.0, k.1), k.2)
+  first_open old mid new c x (Mailed n fs) cs rs ran was later holds up rest = let k = carried old mid new c x (Mailed n fs) cs rs ran was later.counts rest in ((k.0, k.1), k.2)
+  first_open old mid new c x (MonthDone n) cs rs ran was later holds up rest = let k = carried old mid new c x (MonthDone n) cs rs ran was later.counts rest in ((k.0, k.1), k.2)
+  first_open old mid new c x (Text t) cs rs ran was later holds up rest = let k = carried old mid new c x (Text t) cs rs ran.0 was later.counts rest in ((k.0, k.1), k.2)
+  first_open old mid new c x (Refused r) cs rs ran was later holds up rest =
       let same : mid ≡ old = ran.1 in
       let on = subst (FollowsAt g old cs rs new) up (subst (λ (e : Engine S). FollowsAt g e cs rs new e.campaign) same rest) in
       ((ap (λ p. p.1) ran.0, subst (λ d. Follows g (text_in g old.conn) (state g old.conn).faults old.world d cs rs new) (sym (ap (λ p. p.0) ran.0)) on.0), on.1)
-  first_open old mid new c x (Fault Memory) cs rs ran was counts up rest = let k = closed old mid new c x cs rs ran rest in (((λ e. let d = e in cc), k.0, k.1, k.2), k.3)
-  first_open old mid new c x (Fault Store) cs rs ran was counts up rest = let k = closed old mid new c x cs rs ran rest in (((λ e. let d = e in cc), k.0, k.1, k.2), k.3)
-  first_open old mid new c x (Fault Closed) cs rs ran was counts up rest = absurd ran
+  first_open old mid new c x (Fault Memory) cs rs ran was later holds up rest = let k = closed old mid new c x Memory cs rs ran.0 ran.1 holds later.clean rest in (((λ e. let d = e in cc), k.0, k.1, k.2, k.3), k.4)
+  first_open old mid new c x (Fault Store) cs rs ran was later holds up rest = let k = closed old mid new c x Store cs rs ran.0 ran.1 holds later.clean rest in (((λ e. let d = e in cc), k.0, k.1, k.2, k.3), k.4)
+  first_open old mid new c x (Fault Closed) cs rs ran was later holds up rest = absurd ran
 
   first_at : (old mid new : Engine S) (x : Command) (a : Answer) (cs : List Command) (rs : List Answer) (o : Option Campaign) → old.campaign ≡ o → RunsAt g old x a mid o
-      → (HasCleanDisk (state g new.conn) → HasCleanDisk (state g mid.conn)) → (state g old.conn).faults ≤ (state g mid.conn).faults → FollowsAt g mid cs rs new mid.campaign
+      → (HasCleanDisk (state g new.conn) → HasCleanDisk (state g mid.conn)) → IsLater (state g old.conn) (state g mid.conn) → IfSome o (λ c. HoldsCampaign g old.conn (text_in g old.conn) c) → FollowsAt g mid cs rs new mid.campaign
       → FollowsAt g old (x ∷ cs) (a ∷ rs) new o
-  first_at old mid new x a cs rs (Some c) up ran was counts rest = first_open old mid new c x a cs rs ran was counts up rest
-  first_at old mid new x a cs rs None shut ran was counts rest =
+  first_at old mid new x a cs rs (Some c) up ran was later holds rest = first_open old mid new c x a cs rs ran was later holds up rest
+  first_at old mid new x a cs rs None shut ran was later holds rest =
       let on = subst (FollowsAt g old cs rs new) shut (subst (λ (e : Engine S). FollowsAt g e cs rs new e.campaign) ran.1 rest) in
       ((ran.0, on.0), on.1)
 
-  pub run_first : (old mid new : Engine S) (x : Command) (a : Answer) (cs : List Command) (rs : List Answer) → Runs g old x a mid → (HasCleanDisk (state g mid.conn) → HasCleanDisk (state g old.conn))
-      → (state g old.conn).faults ≤ (state g mid.conn).faults → RunsAll g mid cs rs new → RunsAll g old (x ∷ cs) (a ∷ rs) new
-  run_first old mid new x a cs rs ran clean counts rest = record {
-    follows = first_at old mid new x a cs rs old.campaign refl ran rest.clean counts rest.follows;
-    clean = λ h. clean (rest.clean h);
-    counts = omega (arith, counts, rest.counts);
+  later_on : (old mid new : State) → IsLater old mid → IsLater mid new → IsLater old new
+  later_on old mid new a b = record { clean = λ h. a.clean (b.clean h); counts = omega (arith, a.counts, b.counts); shield = λ s. b.shield (a.shield s) }
+
+  pub run_first : (old mid new : Engine S) (x : Command) (a : Answer) (cs : List Command) (rs : List Answer) → IfSome old.campaign (λ c. HoldsCampaign g old.conn (text_in g old.conn) c) → Runs g old x a mid → IsLater (state g old.conn) (state g mid.conn)
+      → RunsAll g mid cs rs new → RunsAll g old (x ∷ cs) (a ∷ rs) new
+  run_first old mid new x a cs rs holds ran later rest = record {
+    follows = first_at old mid new x a cs rs old.campaign refl ran rest.later.clean later holds rest.follows;
+    later = later_on (state g old.conn) (state g mid.conn) (state g new.conn) later rest.later;
   }
 
   -- nothing is left to run
@@ -111,16 +123,16 @@ module _ {S : Type 0} (g : Ghosts S) where
   none_left now None is holds = (tt, refl)
 
   pub run_none : (now : Engine S) → IfSome now.campaign (λ c. HoldsCampaign g now.conn (text_in g now.conn) c) → RunsAll g now [] [] now
-  run_none now holds = record { follows = none_left now now.campaign refl holds; clean = λ h. h; counts = omega arith }
+  run_none now holds = record { follows = none_left now now.campaign refl holds; later = record { clean = λ h. h; counts = omega arith; shield = λ s. s } }
 
   -- ---- the loop of `run_all`
 
   pub one_more : (e mid now new : Engine S) (cs : List Command) (i : ℕ) (c : Command) (a : Answer) (sofar rs : List Answer) → i < length cs → c ≡ get_or cs i c
-      → ((ts : List Answer) (n : Engine S) → RunsAll g mid (drop i cs) ts n → RunsAll g e cs (sofar ++ ts) n) → Runs g mid c a now → (HasCleanDisk (state g now.conn) → HasCleanDisk (state g mid.conn))
-      → (state g mid.conn).faults ≤ (state g now.conn).faults → RunsAll g now (drop (i + 1) cs) rs new → RunsAll g e cs ((sofar ++ a ∷ []) ++ rs) new
-  one_more e mid now new cs i c a sofar rs h is whole ran clean counts rest =
+      → ((ts : List Answer) (n : Engine S) → RunsAll g mid (drop i cs) ts n → RunsAll g e cs (sofar ++ ts) n) → IfSome mid.campaign (λ d. HoldsCampaign g mid.conn (text_in g mid.conn) d) → Runs g mid c a now → IsLater (state g mid.conn) (state g now.conn)
+      → RunsAll g now (drop (i + 1) cs) rs new → RunsAll g e cs ((sofar ++ a ∷ []) ++ rs) new
+  one_more e mid now new cs i c a sofar rs h is whole holds ran later rest =
       let next : drop i cs ≡ c ∷ drop (i + 1) cs = drop_more cs i c h ∙ ap (λ x. x ∷ drop (i + 1) cs) (sym is) in
-      subst (λ ts. RunsAll g e cs ts new) (sym (append_assoc sofar (a ∷ []) rs)) (whole (a ∷ rs) new (subst (λ ds. RunsAll g mid ds (a ∷ rs) new) (sym next) (run_first mid now new c a (drop (i + 1) cs) rs ran clean counts rest)))
+      subst (λ ts. RunsAll g e cs ts new) (sym (append_assoc sofar (a ∷ []) rs)) (whole (a ∷ rs) new (subst (λ ds. RunsAll g mid ds (a ∷ rs) new) (sym next) (run_first mid now new c a (drop (i + 1) cs) rs holds ran later rest)))
 
   pub all_done : (e now : Engine S) (cs : List Command) (i : ℕ) (sofar : List Answer) → length cs ≤ i → ((ts : List Answer) (n : Engine S) → RunsAll g now (drop i cs) ts n → RunsAll g e cs (sofar ++ ts) n)
       → IfSome now.campaign (λ c. HoldsCampaign g now.conn (text_in g now.conn) c) → RunsAll g e cs sofar now
@@ -147,6 +159,7 @@ module _ {S : Type 0} (g : Ghosts S) where
     first = h.first;
     answers_are = simp unary_clauses (ap₂ (λ b bs. b ∷ bs) (sym is) (simp unary_clauses at h.answers_are));
     campaign_is = h.campaign_is;
+    cause = simp unary_clauses h.cause;
     tables = simp unary_clauses (simp unary_clauses at h.tables);
   })
 
@@ -166,6 +179,7 @@ module _ {S : Type 0} (g : Ghosts S) where
     first = f.0;
     answers_are = ap (λ bs. Fault e ∷ bs) (all_closed cs rs f.1);
     campaign_is = f.2;
+    cause = f.4;
     tables = f.3;
   })
 

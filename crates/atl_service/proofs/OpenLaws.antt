@@ -1,15 +1,21 @@
 -- An opening.
-use Rattle.std.proofs.Common.{◌≡◌, Bool, false, true, not, Some, refl, ◌∙◌, inl, arith}
+use Rattle.std.proofs.Common.{◌≡◌, Bool, false, true, not, Some, refl, ap, ◌∙◌, subst, inl, arith}
 use Rattle.sqlite_trees.specs.declared.store.Store.{Ghosts}
+use Rattle.sqlite.specs.Effect.{Database}
 use Rattle.sqlite.specs.Held.{Held, state}
 use Rattle.atl_tables.specs.Planet.{Planet}
+use Rattle.atl_state.specs.Good.{IsGood}
 use Rattle.atl_state.specs.State.{Marked}
 use Rattle.atl_store.specs.Loading.{Loads, RefusesToLoad, LeavesAlone}
 use Rattle.atl_store.specs.declared.fault.StoreFault.{StoreFault}
 use Rattle.atl_store.specs.declared.fault.StoreFault.TheVariants.{Store}
+use Rattle.atl_store.specs.Rows.{Holds}
+use Rattle.atl_store.specs.WorldText.{world_text}
+use Rattle.atl_store.proofs.AlikeLaws.{holds_one, one_text}
+use Rattle.atl_store.proofs.OneWorldLaws.{holds_one_world}
 use Rattle.atl_store.proofs.StayLaws.{later, spares_itself}
 use Rattle.atl_service.specs.Engine.{IsService}
-use Rattle.atl_service.specs.Opened.{Opens, RefusesOpening, of_loading}
+use Rattle.atl_service.specs.Opened.{ComesBack, Opens, RefusesOpening, of_loading}
 use Rattle.sqlite.specs.State.{HasCleanDisk}
 
 -- a connection that commits by itself is in no transaction
@@ -41,6 +47,18 @@ module _ {S : Type 0} (g : Ghosts S) where
     module _ (w : Planet) (c : Marked) (loads : Loads g old new w c) where
       pub opens : Opens g old (record { conn = new; world = w; campaign = Some c.what })
       opens = record { campaign = c; is_open = refl; loads = loads; alone = alone; later = later _ _ _ alone.survives }
+
+      -- what was held before is what is loaded
+      pub comes_back : ComesBack g old (record { conn = new; world = w; campaign = Some c.what })
+      comes_back clean text v d reads good held =
+          let kept = loads.tables clean in
+          let were = held ((later _ _ _ alone.survives).clean clean) in
+          let db = (state g old).now.trees in
+          let there = world_text (state g new) in
+          let rows = subst (λ (s : Database). Holds s.trees there c.what) ((alone.spares clean).same kept.is_open).0 kept.rows in
+          let texts : there ≡ text = one_text db there text c.what d rows were.rows in
+          let worlds : w ≡ v = holds_one_world w v db there text c.what d (loads.world clean) reads rows were.rows in
+          (texts, worlds, ap Some (holds_one v db there text c.what d (subst (λ p. IsGood p c.what) worlds loads.good) good rows were.rows).1)
 
       -- the service that is opened stands
       pub opened_stands : old.in_transaction ≡ false → IsService g new w c true

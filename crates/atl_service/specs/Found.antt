@@ -1,5 +1,5 @@
 -- What a founding may answer and leave.
-use Rattle.std.specs.Prelude.{◌≡◌, ℕ, List, Bool, true, false, Some, Ok, Err, ⊤}
+use Rattle.std.specs.Prelude.{◌≡◌, ◌⊎◌, ℕ, List, Bool, true, false, Some, Ok, Err, ⊤}
 use Rattle.sqlite_trees.specs.declared.store.Store.{Ghosts}
 use Rattle.sqlite.specs.Held.{Held, state}
 use Rattle.sqlite.specs.State.{HasCleanDisk}
@@ -11,11 +11,12 @@ use Rattle.atl_tables.specs.declared.fault.WorldFault.TheVariants as world
 use Rattle.atl_state.specs.State.{State as Campaign}
 use Rattle.atl_state.specs.Founding.{founded_of}
 use Rattle.atl_store.specs.Making.{has_campaign}
-use Rattle.atl_store.specs.Keeps.{HoldsCampaign, IsLater, Spares, MayFound}
+use Rattle.atl_store.specs.Keeps.{HoldsCampaign, IsLater, IsReady, Spares, MayFound}
 use Rattle.atl_store.specs.declared.fault.CreateFault.{CreateFault}
 use Rattle.atl_store.specs.declared.fault.CreateFault.TheVariants as create
 use Rattle.atl_service.specs.declared.command.Cause.{Cause}
 use Rattle.atl_service.specs.declared.command.Cause.TheVariants.{World as BadWorld, BadPassText, NotEmpty, NotACampaign, Damaged, Store, Memory}
+use Rattle.atl_service.specs.Causes.{FailsToWrite, LacksMemory}
 use Rattle.atl_service.specs.Engine.{Engine, text_in}
 
 -- where no table campaign was there, the service is open, with the world of the text and the founded campaign, and its tables hold the rows of both
@@ -47,6 +48,10 @@ pub record FailsToFound {S : Type 0} (g : Ghosts S) (old : Held S) (text pass : 
   pub tables : HasCleanDisk (state g new) → Spares (state g old) (state g new)
   pub crash : HasCleanDisk (state g new) → (w : Planet) → world_of text ≡ Ok w → MayFound (state g old) text (founded_of w pass) (state g new)
 
+-- The database has a table, an index or a view, or the connection is in a transaction, and nothing is changed; or neither is so, and a call of the writing gave another error than want of memory.
+abbrev pub RefusesToWrite : {S : Type 0} → Ghosts S → Held S → Held S → Type 0
+RefusesToWrite g old new = ((¬ IsReady (state g old)) × (new ≡ old)) ⊎ (IsReady (state g old) × FailsToWrite g old new)
+
 -- a founding that a check refuses changes nothing at all
 abbrev pub Leaves : {S : Type 0} → Ghosts S → Held S → List ℕ → List ℕ → Held S → Cause → Type 0
 Leaves g old text pass new (BadWorld fault) = new ≡ old
@@ -54,8 +59,8 @@ Leaves g old text pass new BadPassText = new ≡ old
 Leaves g old text pass new NotEmpty = new ≡ old
 Leaves g old text pass new NotACampaign = ⊥
 Leaves g old text pass new (Damaged rule) = ⊥
-Leaves g old text pass new Store = FailsToFound g old text pass new
-Leaves g old text pass new Memory = FailsToFound g old text pass new
+Leaves g old text pass new Store = FailsToFound g old text pass new × RefusesToWrite g old new
+Leaves g old text pass new Memory = FailsToFound g old text pass new × LacksMemory g old new
 
 -- The founding is refused by the first check that fails.
 pub record RefusesFounding {S : Type 0} (g : Ghosts S) (old : Held S) (text pass : List ℕ) (why : Cause) (new : Held S) : Type 0 where

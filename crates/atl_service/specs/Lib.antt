@@ -2,6 +2,7 @@ pub mod Numbers
 pub mod Closing
 pub mod Step
 pub mod Engine
+pub mod Causes
 pub mod Answering
 pub mod Sorting
 pub mod Months
@@ -9,3 +10,4 @@ pub mod Runs
 pub mod Posting
 pub mod Found
 pub mod Opened
+pub mod Files

@@ -7,7 +7,8 @@ use Rattle.atl_tables.specs.Planet.{Planet, IsWorld}
 use Rattle.atl_tables.specs.Sums.{mapped}
 use Rattle.atl_orders.specs.declared.fault.FaultyLine.{FaultyLine}
 use Rattle.atl_orders.specs.declared.mailing.Mailing.{Mailing}
-use Rattle.atl_orders.specs.Mailing.{IsReadWith, reading, reading_of}
+use Rattle.atl_orders.specs.Mailing.{IsMailingOf, IsReadWith, reading, reading_of}
+use Rattle.atl_state.specs.Deciding.{EachOf}
 use Rattle.atl_state.specs.Good.{IsThere}
 use Rattle.atl_state.specs.Limits.{last_month}
 use Rattle.atl_state.specs.State.{State}
@@ -18,12 +19,13 @@ use Rattle.atl_service.specs.declared.command.Answer.TheVariants.{MonthDone}
 use Rattle.atl_service.specs.Closing.{closed, faults_of, read_of, readings, reported_to}
 use Rattle.atl_service.specs.Step.{step}
 
--- the mailings and what is wrong with each, where this mail is left to be read
+-- the mailings and what is wrong with each, where this mail, of which each text is a mailing of its faction, is left to be read
 abbrev pub ReadSoFar : Planet → State → List Mailing → FinMap nat_cmp (List FaultyLine) → List (ℕ × List ℕ) → Type 0
 ReadSoFar w c mailings faults rest =
     (map reading_of mailings ++ flat_map (λ e. read_of (reading w e.1)) rest ≡ readings w c)
     × All (IsReadWith w) mailings
     × (entries faults ++ map (λ e. (e.0, faults_of (reading w e.1))) rest ≡ entries (mapped (λ text. faults_of (reading w text)) c.mail))
+    × EachOf IsMailingOf rest
 
 -- the mail as it is read, and what is wrong with it, under each faction's number
 pub record HasRead (w : Planet) (c : State) (r : ReadMail) : Type 0 where

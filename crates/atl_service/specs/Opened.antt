@@ -1,16 +1,19 @@
 -- What an opening may answer and leave.
-use Rattle.std.specs.Prelude.{◌≡◌, Some}
+use Rattle.std.specs.Prelude.{◌≡◌, ℕ, List, Some, Ok}
 use Rattle.sqlite_trees.specs.declared.store.Store.{Ghosts}
 use Rattle.sqlite.specs.Held.{Held, state}
 use Rattle.sqlite.specs.State.{HasCleanDisk}
-use Rattle.atl_state.specs.State.{Marked}
-use Rattle.atl_store.specs.Keeps.{IsLater}
+use Rattle.atl_tables.specs.Planet.{Planet}
+use Rattle.atl_tables.specs.World.{world_of}
+use Rattle.atl_state.specs.Good.{IsGood}
+use Rattle.atl_state.specs.State.{State as Campaign, Marked}
+use Rattle.atl_store.specs.Keeps.{HoldsCampaign, IsLater}
 use Rattle.atl_store.specs.Loading.{Loads, RefusesToLoad, LeavesAlone}
 use Rattle.atl_store.specs.declared.fault.StoreFault.{StoreFault}
 use Rattle.atl_store.specs.declared.fault.StoreFault.TheVariants as load
 use Rattle.atl_service.specs.declared.command.Cause.{Cause}
 use Rattle.atl_service.specs.declared.command.Cause.TheVariants.{NotACampaign, Damaged, Store, Memory}
-use Rattle.atl_service.specs.Engine.{Engine}
+use Rattle.atl_service.specs.Engine.{Engine, text_in}
 
 -- The service is open, with the world and the good campaign that the tables hold, and the tables are as they were.
 pub record Opens {S : Type 0} (g : Ghosts S) (old : Held S) (made : Engine S) : Type 0 where
@@ -19,6 +22,12 @@ pub record Opens {S : Type 0} (g : Ghosts S) (old : Held S) (made : Engine S) : 
   pub loads : Loads g old made.conn made.world campaign
   pub alone : LeavesAlone g old made.conn
   pub later : IsLater (state g old) (state g made.conn)
+
+-- A world text and a good campaign of its world that the connection held are those of the service.
+abbrev pub ComesBack : {S : Type 0} → Ghosts S → Held S → Engine S → Type 0
+ComesBack g old made =
+    HasCleanDisk (state g made.conn) → (text : List ℕ) (w : Planet) (c : Campaign) → world_of text ≡ Ok w → IsGood w c → HoldsCampaign g old text c
+    → (text_in g made.conn ≡ text) × (made.world ≡ w) × (made.campaign ≡ Some c)
 
 -- what is told of a fault of the loading
 abbrev pub of_loading : StoreFault → Cause

@@ -1,19 +1,19 @@
 -- What a call of `run` or of `run_all` may answer and leave.
-use Rattle.std.specs.Prelude.{◌≡◌, ◌≢◌, ◌⊎◌, ◌≤◌, ◌<◌, ◌+◌, ◌∷◌, ◌++◌, [], ℕ, List, map, take, drop, length, Option, Some, None, ⊤}
+use Rattle.std.specs.Prelude.{◌≡◌, ◌≢◌, ◌⊎◌, ◌<◌, ◌+◌, ◌∷◌, ◌++◌, [], ℕ, List, map, take, drop, length, Option, Some, None, ⊤}
 use Rattle.sqlite_trees.specs.declared.store.Store.{Ghosts}
 use Rattle.sqlite.specs.Held.{state}
 use Rattle.sqlite.specs.State.{HasCleanDisk}
 use Rattle.atl_tables.specs.Planet.{Planet}
 use Rattle.atl_state.specs.State.{State as Campaign}
-use Rattle.atl_store.specs.Keeps.{Stops}
+use Rattle.atl_store.specs.Keeps.{HoldsCampaign, IsLater, Stops}
 use Rattle.atl_service.specs.declared.command.Command.{Command}
 use Rattle.atl_service.specs.declared.command.Answer.{Answer}
 use Rattle.atl_service.specs.declared.command.Answer.TheVariants.{Joined, Mailed, MonthDone, Text, Refused, Fault}
 use Rattle.atl_service.specs.declared.command.Answer.TheVariants as Answers
 use Rattle.atl_service.specs.declared.command.Fault.{Fault as Failure}
 use Rattle.atl_service.specs.declared.command.Fault.TheVariants.{Memory, Store, Closed}
+use Rattle.atl_service.specs.Causes.{HasCause, IsFault}
 use Rattle.atl_service.specs.Step.{step, run_of}
-use Rattle.atl_store.specs.Keeps.{HoldsCampaign}
 use Rattle.atl_service.specs.Engine.{Engine, text_in}
 
 -- the step, written into the tables
@@ -39,8 +39,8 @@ RunsOpen g c old command (Mailed orders faults) new = Accepts g c old command (M
 RunsOpen g c old command (MonthDone month) new = Accepts g c old command (MonthDone month) new
 RunsOpen g c old command (Text report) new = Accepts g c old command (Text report) new × (new ≡ old)
 RunsOpen g c old command (Refused why) new = Refuses c old command (Refused why) new
-RunsOpen g c old command (Fault Memory) new = Closes g c old command new
-RunsOpen g c old command (Fault Store) new = Closes g c old command new
+RunsOpen g c old command (Fault Memory) new = Closes g c old command new × HasCause g old.conn new.conn Memory
+RunsOpen g c old command (Fault Store) new = Closes g c old command new × HasCause g old.conn new.conn Store
 RunsOpen g c old command (Fault Closed) new = ⊥
 
 abbrev pub RunsAt : {S : Type 0} → Ghosts S → Engine S → Command → Answer → Engine S → Option Campaign → Type 0
@@ -61,7 +61,7 @@ AreClosed [] (a ∷ rs) = ⊥
 AreClosed (c ∷ cs) [] = ⊥
 
 -- The answers from a campaign on are those of the definition, as far as the first fault, and Closed behind it. Without a fault the tables end with the rows of the last campaign.
--- With one they stop at the campaign of the commands before it. `faults` counts what the disk had failed before.
+-- With one they stop at the campaign of the commands before it, and the fault has its cause. `faults` counts what the disk had failed before.
 abbrev pub Follows : {S : Type 0} → Ghosts S → List ℕ → ℕ → Planet → Campaign → List Command → List Answer → Engine S → Type 0
 Follows g text faults w c [] [] new = (new.campaign ≡ Some c) × HoldsCampaign g new.conn text c
 Follows g text faults w c (command ∷ cs) (Joined faction unit ∷ rs) new = ((step w c command).1 ≡ Joined faction unit) × Follows g text faults w (step w c command).0 cs rs new
@@ -70,7 +70,7 @@ Follows g text faults w c (command ∷ cs) (MonthDone month ∷ rs) new = ((step
 Follows g text faults w c (command ∷ cs) (Text report ∷ rs) new = ((step w c command).1 ≡ Text report) × Follows g text faults w (step w c command).0 cs rs new
 Follows g text faults w c (command ∷ cs) (Refused why ∷ rs) new = ((step w c command).1 ≡ Refused why) × Follows g text faults w (step w c command).0 cs rs new
 Follows g text faults w c (command ∷ cs) (Fault fault ∷ rs) new =
-    (fault ≢ Closed) × AreClosed cs rs × (new.campaign ≡ None) × (HasCleanDisk (state g new.conn) → Stops faults (state g new.conn) text c (step w c command).0)
+    (fault ≢ Closed) × AreClosed cs rs × (new.campaign ≡ None) × (HasCleanDisk (state g new.conn) → Stops faults (state g new.conn) text c (step w c command).0) × IsFault g text c fault new.conn
 Follows g text faults w c [] (a ∷ rs) new = ⊥
 Follows g text faults w c (command ∷ cs) [] new = ⊥
 
@@ -81,8 +81,7 @@ FollowsAt g old commands answers new None = AreClosed commands answers × (new �
 -- from old, a list of commands may be answered so, and leave new
 pub record RunsAll {S : Type 0} (g : Ghosts S) (old : Engine S) (commands : List Command) (answers : List Answer) (new : Engine S) : Type 0 where
   pub follows : FollowsAt g old commands answers new old.campaign
-  pub clean : HasCleanDisk (state g new.conn) → HasCleanDisk (state g old.conn)
-  pub counts : (state g old.conn).faults ≤ (state g new.conn).faults
+  pub later : IsLater (state g old.conn) (state g new.conn)
 
 -- The headline: the answers are the definition's, the campaign is the definition's, and the tables hold exactly its rows.
 pub record Headline {S : Type 0} (g : Ghosts S) (text : List ℕ) (w : Planet) (c : Campaign) (commands : List Command) (answers : List Answer) (new : Engine S) : Type 0 where
@@ -90,7 +89,7 @@ pub record Headline {S : Type 0} (g : Ghosts S) (text : List ℕ) (w : Planet) (
   pub campaign_is : new.campaign ≡ Some (run_of w c commands).0
   pub tables : HoldsCampaign g new.conn text (run_of w c commands).0
 
--- A fault came at a command: the answers before it are the definition's, the tables stop at the campaign of the commands before it, and all later answers are Closed.
+-- A fault came at a command, and has its cause: the answers before it are the definition's, the tables stop at the campaign of the commands before it, and all later answers are Closed.
 pub record Interrupted {S : Type 0} (g : Ghosts S) (text : List ℕ) (faults : ℕ) (w : Planet) (c : Campaign) (commands : List Command) (answers : List Answer) (new : Engine S) : Type 0 where
   pub count : ℕ
   pub within : count < length commands
@@ -98,6 +97,7 @@ pub record Interrupted {S : Type 0} (g : Ghosts S) (text : List ℕ) (faults : �
   pub first : fault ≢ Closed
   pub answers_are : answers ≡ (run_of w c (take count commands)).1 ++ Answers.Fault fault ∷ map (λ _. Answers.Fault Closed) (drop (count + 1) commands)
   pub campaign_is : new.campaign ≡ None
+  pub cause : IsFault g text (run_of w c (take count commands)).0 fault new.conn
   pub tables : HasCleanDisk (state g new.conn) → Stops faults (state g new.conn) text (run_of w c (take count commands)).0 (run_of w c (take (count + 1) commands)).0
 
 abbrev pub HeadlineAt : {S : Type 0} → Ghosts S → Engine S → List Command → List Answer → Engine S → Option Campaign → Type 0

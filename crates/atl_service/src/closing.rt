@@ -1,12 +1,15 @@
 //! The closing of a month.
-ghost use Rattle.std.specs.Prelude.{◌≡◌, ◌<◌, false, IfOk, IfErr, OnOk, OnErr, length};
+ghost use Rattle.std.specs.Prelude.{◌≡◌, ◌<◌, ℕ, false, IfOk, IfErr, OnOk, OnErr, length};
 ghost use Rattle.std.specs.FinMap as map;
+ghost use Rattle.atl_orders.specs.declared.fault.MailFault.TheVariants.{Memory};
+ghost use Rattle.atl_orders.specs.Mailing.{IsMailingOf, IsReadWith};
 ghost use Rattle.atl_state.specs.Covers.{MarksChanges};
 ghost use Rattle.atl_state.specs.Good.{IsGood};
 ghost use Rattle.atl_state.specs.Limits.{last_month};
 ghost use Rattle.atl_state.specs.Marks.{no_marks};
 ghost use Rattle.atl_service.specs.declared.command.Command.TheVariants as command;
-ghost use Rattle.atl_service.specs.Answering.{Answers, GivesUp, LeavesIdle};
+ghost use Rattle.atl_service.specs.Answering.{Answers, GivesUp, LeavesIdle, of_writing};
+ghost use Rattle.atl_service.specs.Causes.{HasCause};
 ghost use Rattle.atl_service.specs.Closing.{closed};
 ghost use Rattle.atl_service.specs.Months.{AreThere, HasRead, MayClose, told_to_all};
 ghost use Rattle.atl_service.specs.Step.{step};
@@ -14,7 +17,7 @@ ghost use Rattle.atl_service.specs.Step.{step};
 use crate::command::{Answer, Refusal};
 use crate::reporting::{Told, report_to_all};
 use atl_month::close_month;
-use atl_orders::{FaultyLine, Mailing, read_mailing};
+use atl_orders::{FaultyLine, MailFault, Mailing, read_mailing};
 use atl_state::{Campaign, LAST_MONTH};
 use atl_store::{WriteFault, write_changes};
 use atl_tables::{Numbered, Sequence, World};
@@ -29,17 +32,35 @@ pub(crate) struct ReadMail {
     pub(crate) faults: Numbered<Sequence<FaultyLine>>,
 }
 
-/// Reads the mail of a campaign. All of it can be read, as it was when it was kept, so only memory can be wanting.
+/// A text that can be read is refused for want of memory alone.
+fn want_of_memory(fault: MailFault) -> AllocError
+    requires { fault ≡ Memory }
+{
+    let _fault = fault;
+    AllocError
+}
+
+/// Reads a text that was kept. It can be read, as it was then, so only memory can be wanting.
+fn read_kept(alloc: Global, world: &World, text: &[u8]) -> Result<Mailing, AllocError>
+    requires { (faction : ℕ) × IsMailingOf faction text.now }
+    ensures kept { IfOk result (λ m. m.text ≡ text.now) }
+    ensures read { IfOk result (IsReadWith world.now) }
+{
+    match read_mailing(alloc, world, text) {
+        Ok(mailing) => Ok(mailing),
+        Err(fault) => Err(want_of_memory(fault)),
+    }
+}
+
+/// Reads the mail of a good campaign.
 fn read_mail(alloc: Global, world: &World, campaign: &Campaign) -> Result<ReadMail, AllocError>
+    requires { IsGood world.now campaign.now.what }
     ensures { IfOk result (HasRead world.now campaign.now.what) }
 {
     let mut mailings = Vec::new(alloc);
     let mut faults = Numbered::new(alloc);
     for (faction, text) in campaign.mail() {
-        let mailing = match read_mailing(alloc, world, text.as_slice()) {
-            Ok(mailing) => mailing,
-            Err(_) => return Err(AllocError),
-        };
+        let mailing = read_kept(alloc, world, text.as_slice())?;
         let wrong = Sequence::from_slice(alloc, mailing.faults.as_slice())?;
         faults.insert(faction, wrong)?;
         mailings.push(mailing)?;
@@ -119,6 +140,7 @@ pub(crate) fn close<S: Alter>(
     requires idle { conn.old.in_transaction ≡ false }
     ensures ok { IfOk result (Answers S.Store world.now campaign.old.what conn.old (command.Close month pass.now words.now) campaign.new.what conn.new) }
     ensures err { OnErr result (GivesUp S.Store world.now campaign.old.what conn.old (command.Close month pass.now words.now) conn.new) }
+    ensures cause { IfErr result (λ fault. HasCause S.Store conn.old conn.new (of_writing fault)) }
     ensures leaves { LeavesIdle S.Store conn.old conn.new }
     ensures unmarked { campaign.old.marks ≡ no_marks → OnOk result (campaign.new.marks ≡ no_marks) }
 {

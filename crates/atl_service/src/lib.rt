@@ -4,6 +4,7 @@
 mod answering;
 mod closing;
 pub mod command;
+pub mod files;
 mod founding;
 pub mod posting;
 mod reporting;
@@ -11,5 +12,6 @@ pub mod service;
 mod sorting;
 
 pub use command::{Answer, Cause, Command, Fault, Refusal, Refused};
+pub use files::a_shielded_disk_is_clean;
 pub use posting::only_the_last_mail_counts;
 pub use service::{Service, found, open};

@@ -7,7 +7,7 @@ ghost use Rattle.atl_tables.specs.World.{world_of};
 ghost use Rattle.atl_state.specs.Totals.{Balances};
 ghost use Rattle.atl_report.specs.Books.{books_of};
 ghost use Rattle.atl_service.specs.Found.{Founds, RefusesFounding};
-ghost use Rattle.atl_service.specs.Opened.{Opens, RefusesOpening};
+ghost use Rattle.atl_service.specs.Opened.{ComesBack, Opens, RefusesOpening};
 
 use crate::answering::answered;
 use crate::command::{Answer, Cause, Command, Fault, Refused};
@@ -62,9 +62,11 @@ impl<S: Alter> Service<S> {
     ghost use Rattle.atl_service.specs.Engine.{text_in};
     ghost use Rattle.atl_service.specs.Runs.{Runs, RunsAll, HeadlineAt};
 
-    /// Runs one command. A command that is refused, or answered with a report, changes nothing. After Fault Memory or
-    /// Store the tables are as before, the service is closed, and every command is answered Closed and changes nothing. See
-    /// docs/RULES.md, "Joining", "Mail", "Closing a month", "Reports" and "Refusals and faults".
+    /// Runs one command. A command that is refused, or answered with a report, changes nothing. Fault Store comes only where
+    /// a call of the writing gave another error than want of memory; Fault Memory where one gave that, or before the
+    /// database was asked to write. After both the tables are as before, the service is closed, and every command is
+    /// answered Closed and changes nothing. See docs/RULES.md, "Joining", "Mail", "Closing a month", "Reports" and "Refusals
+    /// and faults".
     pub fn run(&mut self, command: &Command) -> Answer
         ensures runs { Runs S.Store self.old command.now result self.new }
         ensures later { IsLater (state S.Store self.old.conn) (state S.Store self.new.conn) }
@@ -158,9 +160,11 @@ impl<S: Alter> Service<S> {
 
 /// Founds a campaign by a world text and the moderator's pass text, in a database without tables. The cause of a refusal
 /// is the first check that fails: the world's fault, the pass text, a campaign that is there, the database; or Memory at
-/// any of them. After the first three nothing is changed; after the others the tables are as they were while the connection
-/// is open, and a crash leaves what it left before or the founded campaign. See docs/RULES.md, "Founding", and docs/FORMATS.md,
-/// "Faults of a world file" and "Tables".
+/// any of them, before the database was asked to write or where a call of the writing gave want of memory. Store: there is a
+/// table, an index or a view, the connection is in a transaction, or a call of the writing gave another error. After the first
+/// three nothing is changed; after the others the tables are as they were while the connection is open, and a crash leaves
+/// what it left before or the founded campaign. See docs/RULES.md, "Founding", and docs/FORMATS.md, "Faults of a world file"
+/// and "Tables".
 pub fn found<S: Alter>(
     alloc: Global,
     mut conn: Connection<S>,
@@ -190,12 +194,14 @@ pub fn found<S: Alter>(
     }
 }
 
-/// Opens the campaign that the tables hold, with its world. Nothing is changed, whatever is answered, and a refusal hands the
-/// connection back. NotACampaign: there is no table `campaign`, or it lacks a column. Damaged: the rows of the tables break
-/// this rule, and none before it. Store: the connection is in a transaction, the tables are not made as those of a campaign,
-/// or the database refuses for another cause than memory. See docs/FORMATS.md, "Rules of the tables".
+/// Opens the campaign that the tables hold, with its world: one that was stored comes back as it was. Nothing is changed,
+/// whatever is answered, and a refusal hands the connection back. NotACampaign: there is no table `campaign`, or it lacks a
+/// column. Damaged: the rows of the tables break this rule, and none before it. Store: the connection is in a transaction, the
+/// tables are not made as those of a campaign, or the database refuses for another cause than memory. See docs/FORMATS.md,
+/// "Rules of the tables".
 pub fn open<S: Alter>(alloc: Global, mut conn: Connection<S>) -> Result<Service<S>, Refused<S>>
     ensures ok { IfOk result (Opens S.Store conn) }
+    ensures back { IfOk result (ComesBack S.Store conn) }
     ensures balances { IfOk result (λ s. IfSome s.campaign Balances) }
     ensures err { IfErr result (λ r. RefusesOpening S.Store conn r.why r.conn) }
 {

@@ -2,12 +2,11 @@ use Rattle.std.proofs.Common.{Some, true, sym, ap, subst}
 use Rattle.atl_state.specs.State.{State, Marked}
 use Rattle.atl_service.specs.Engine.{Stands}
 use Rattle.atl_service.specs.Found.{Founds}
-use Rattle.atl_store.specs.Making.{has_campaign}
 use Rattle.atl_service.proofs.FoundServiceLaws.{spared, founded_stands, founds_on, refused_by_store}
 use Rattle.atl_service.proofs.service.found.Goals as goal
 
 pub returns-in-Err-clause-err : goal.returns-in-Err-clause-err
-returns-in-Err-clause-err g c = spared g.S.Store c.args.conn c.args.world_text.now c.args.pass.now c.in-Err.why (c.in-Err.ensures.err (has_campaign c.args.conn.schema))
+returns-in-Err-clause-err g c = spared g.S.Store c.args.conn c.args.world_text.now c.args.pass.now c.in-Err.why c.in-Err.ensures.err
 
 pub invariant_of-result : goal.invariant_of-result
 invariant_of-result g c = record {

@@ -1,4 +1,4 @@
-use Rattle.atl_service.proofs.OpenLaws.{is_idle, is_busy, refused_unasked, opens, opened_stands}
+use Rattle.atl_service.proofs.OpenLaws.{is_idle, is_busy, refused_unasked, opens, comes_back, opened_stands}
 use Rattle.atl_service.proofs.service.open.Goals as goal
 
 pub returns-then-not-is_autocommit-clause-err : goal.returns-then-not-is_autocommit-clause-err
@@ -9,3 +9,6 @@ invariant_of-result g c = opened_stands g.S.Store c.args.conn c.load.new.conn c.
 
 pub returns-in-Ok-clause-ok : goal.returns-in-Ok-clause-ok
 returns-in-Ok-clause-ok g c = opens g.S.Store c.args.conn c.load.new.conn c.load.ensures.alone c.in-Ok.world c.in-Ok.campaign c.in-Ok.ensures.ok
+
+pub returns-in-Ok-clause-back : goal.returns-in-Ok-clause-back
+returns-in-Ok-clause-back g c = comes_back g.S.Store c.args.conn c.load.new.conn c.load.ensures.alone c.in-Ok.world c.in-Ok.campaign c.in-Ok.ensures.ok

@@ -15,7 +15,7 @@ returns-in-Ok-clause-runs g c =
 pub returns-in-Err-clause-runs : goal.returns-in-Err-clause-runs
 returns-in-Err-clause-runs g c =
     closes_for g.S.Store c.self.inside.conn c.answered.new.conn c.self.inside.world c.self.inside.campaign.what c.answered.new.campaign.what c.args.command.now c.args.self.now c.in-Err.fault c.from.result c.self.inside.is_open c.from.ensures c.self.view_is c.if-not-self.false c.self.invariant.stands c.answered.ensures.leaves
-    c.in-Err.ensures.err
+    c.in-Err.ensures.err c.in-Err.ensures.cause
 
 pub returns-in-Ok-clause-tables : goal.returns-in-Ok-clause-tables
 returns-in-Ok-clause-tables g c =

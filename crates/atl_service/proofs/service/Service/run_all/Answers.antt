@@ -7,7 +7,7 @@ loop-command-preserved g c =
     let fits = c.push.ensures.succeeds (omega (arith, c.loop-command.invariant.count, c.loop-command.invariant.room)) in
     let items = c.push.ensures.items ∙ ap (λ b. cond b (c.loop-command.answers.items ++ c.run-answer.result ∷ []) c.loop-command.answers.items) fits in
     record {
-      whole = λ rs new h. rw items (one_more g.S.Store _ _ _ _ _ c.loop-command.command-index _ _ _ _ c.loop-command-test.true c.command-item.is c.loop-command.invariant.whole c.run-answer.ensures.runs c.run-answer.ensures.later.clean c.run-answer.ensures.later.counts h);
+      whole = λ rs new h. rw items (one_more g.S.Store _ _ _ _ _ c.loop-command.command-index _ _ _ _ c.loop-command-test.true c.command-item.is c.loop-command.invariant.whole c.loop-command.invariant.tables c.run-answer.ensures.runs c.run-answer.ensures.later h);
       tables = c.run-answer.ensures.tables;
       balances = c.run-answer.ensures.balances;
       count = c.push.ensures.len ∙ ap (λ b. cond b (vec_len c.loop-command.answers + 1) (vec_len c.loop-command.answers)) fits ∙ ap (λ n. n + 1) c.loop-command.invariant.count;

@@ -1,0 +1,27 @@
+-- A shielded connection over files.
+use Rattle.std.proofs.Common.{◌≡◌, ◌⊎◌, ℕ, Bool, true, false, List, IsTrue, inl, inr, refl}
+use Rattle.std.proofs.lemmas.Bool.{false≢true}
+use Rattle.sqlite_disk.specs.Events.{Event, replay}
+use Rattle.sqlite_disk.specs.declared.Disk as disk
+use Rattle.sqlite_store.specs.declared.store.FileStore.{FileStore}
+use Rattle.sqlite_store.specs.FileStore.{is_shielded}
+use Rattle.sqlite_trees.specs.View.{doubt}
+use Rattle.sqlite.specs.Files.{file_state}
+use Rattle.sqlite.specs.Held.{Held}
+use Rattle.sqlite.specs.State.{HasCleanDisk}
+use Rattle.sqlite.proofs.Shield.{shield_means}
+use Rattle.atl_service.specs.Files.{HasCollided}
+
+no_doubt : (clean : Bool) → IsTrue clean → doubt clean ≡ 0
+unfolding doubt
+no_doubt true is = refl
+no_doubt false is = absurd (false≢true is)
+
+module _ {D : Type 0} {g : disk.Ghosts D} (start : D → List ℕ) (record_of : D → List Event) where
+  pub shielded_is_clean : ((d : D) → g.is_fair d ≡ (replay (start d) (record_of d)).is_fair) → ((d : D) → g.is_clean d ≡ (replay (start d) (record_of d)).is_honest) → (conn : Held (FileStore D g)) → is_shielded conn.store
+      → HasCleanDisk (file_state conn) ⊎ HasCollided start record_of conn.store
+  shielded_is_clean fair clean conn shielded =
+      elim (shield_means start record_of fair clean conn.store shielded) [
+        | inl is ↦ inl (no_doubt (file_state conn).is_clean is)
+        | inr hit ↦ inr hit
+      ]
