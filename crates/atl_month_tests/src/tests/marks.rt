@@ -5,7 +5,7 @@ ghost use Rattle.atl_state.specs.Good.{IsGood};
 use super::months::{own_mailings, small_world};
 use atl_month::close_month;
 use atl_state::{Campaign, LAST_MONTH, check, founded};
-use atl_tables::{Text, World};
+use atl_tables::{Text, World, name_ok};
 use std::alloc::Global;
 use std::process::Abort;
 use std::test::Fail;
@@ -20,7 +20,11 @@ fn joined(
     requires { IsGood world.now campaign.what }
     ensures { IfOk result (λ campaign. IsGood world.now campaign.what) }
 {
-    let (faction, _) = campaign.join(world, name.as_bytes(), b"pw", 0)?;
+    let name = name.as_bytes();
+    if !name_ok(name) {
+        return Err(Fail::new("a good name"));
+    }
+    let (faction, _) = campaign.join(world, name, b"pw", 0)?;
     campaign.set_report(faction, Text::from_str(alloc, "")?)?;
     let rows = campaign.parts()?;
     Ok(check(alloc, world, rows)?)

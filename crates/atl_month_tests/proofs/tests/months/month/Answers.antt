@@ -10,4 +10,4 @@ pub returns : goal.returns
 returns c =
     let w = c.args.world.now in
     let ms = c.in_ok-mailings.mailings.items in
-    subst (λ (m : Course). AreFit w m.readings) (sym c.new-2.ensures) (read_fit w ms (recursion_from_All (IsReadWith w) ms c.in_ok-mailings.ensures))
+    subst (λ (m : Course). AreFit w m.readings) (sym c.new.ensures) (read_fit w ms (recursion_from_All (IsReadWith w) ms c.in_ok-mailings.ensures.read))
