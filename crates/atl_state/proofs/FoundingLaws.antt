@@ -2,11 +2,12 @@
 use Rattle.std.proofs.Common.{◌≡◌, ℕ, ◌+◌, ◌≤◌, ◌==◌, cond, List, [], ◌∷◌, length, sum_by, sym, ap, ◌∙◌, refl, arith, true, false}
 use Rattle.std.specs.Prelude.{ℤ, pos, ◌+ℤ◌, ◌*◌, replicate, IsTrue}
 use Rattle.std.proofs.lemmas.Int.{ints}
-use Rattle.std.proofs.lemmas.List.{length-map, length-replicate}
+use Rattle.std.proofs.lemmas.List.{length-map}
 use Rattle.std.proofs.lemmas.List.Sums.{sum_by-cons}
 use Rattle.std.proofs.lemmas.Bool.Decides.{nat_tests}
 use Rattle.std.specs.Ordering.{nat_cmp}
 use Rattle.std.specs.FinMap.{FinMap, entries, empty, get-empty, len-empty, len-entries}
+use Rattle.std.specs.FinSet as set
 use Rattle.atl_tables.specs.Planet.{Planet, IsWorld, IsRegionPlan}
 use Rattle.atl_tables.specs.Sums.{sum_over, mapped}
 use Rattle.atl_tables.proofs.MadeLaws.{entries-mapped}
@@ -33,13 +34,14 @@ use Rattle.atl_state.specs.Held.{IsHolding}
 use Rattle.atl_state.specs.State.{numbers_of}
 use Rattle.atl_state.specs.Good.{Every, IsThere, IsActive, IsRegion, AreInRange, AreAmountsWithin, AreNamed, IsPlaced, IsBuilt, AreKnown, IsNumbered, IsOwned, is_ship, IsAboard, guards, IsSteady, IsGood}
 use Rattle.atl_state.proofs.EveryLaws.{every-empty, every-mapped, there-mapped}
+use Rattle.atl_state.proofs.AmountMarkLaws.{none_marked}
 use Rattle.atl_state.proofs.BookLaws.{booked-with_booked, booked-no_amounts, amount-no_amounts, IsGrid-no_amounts, IsGrid-with_booked, IsWithin-with_booked, share_of}
 
 -- what is kept beside nobody, for so many things
-pub AreKept-nobody : (things : ℕ) (lists : UnitLists) (books : List (List ℤ)) → AreUnitLists empty lists → IsGrid things books → AreKept empty lists books (replicate (entry_count * things) false)
+pub AreKept-nobody : (things : ℕ) (lists : UnitLists) (books : List (List ℤ)) → AreUnitLists empty lists → IsGrid things books → AreKept empty lists books (record { numbers = set.empty; room = entry_count * things })
 AreKept-nobody things lists books listed grid = record {
   listed = listed;
-  amounts = length-replicate (entry_count * things) false ∙ ap (λ n. entry_count * n) (sym grid.rows);
+  amounts = none_marked (length books) (entry_count * things) (omega (arith, grid.rows));
 }
 
 -- the books are made for so many things

@@ -14,7 +14,7 @@ pub mod EveryEntryLaws
 pub mod BookLaws
 pub mod TotalLaws
 pub mod MadeOf
-pub mod FlagLaws
+pub mod AmountMarkLaws
 pub mod FoundingLaws
 pub mod NumberedNameLaws
 pub mod JoinLaws

@@ -1,10 +1,11 @@
 -- For proofs alone: what a campaign keeps beside its parts, so that a look-up need not go over all units, and marking takes no memory.
-use Rattle.std.specs.Prelude.{◌≡◌, ◌==◌, ◌+◌, ◌*◌, ℕ, ℤ, Bool, List, [], ◌∷◌, length, unwrap_or, Some, None, if◌then◌else◌}
+use Rattle.std.specs.Prelude.{◌≡◌, ◌==◌, ◌≤◌, ◌*◌, ℕ, ℤ, List, [], length, unwrap_or, Some, None, if◌then◌else◌}
 use Rattle.std.specs.Ordering.{nat_cmp}
 use Rattle.std.specs.FinMap.{FinMap, get, insert, remove}
-use Rattle.std.specs.FinSet as set
+use Rattle.atl_tables.specs.Marked.{Marked}
 use Rattle.atl_tables.specs.Sums.{numbers_where}
 use Rattle.atl_state.specs.Limits.{entry_count}
+use Rattle.atl_state.specs.Marks.{AreOfThings}
 use Rattle.atl_state.specs.declared.records.Unit.{Unit}
 use Rattle.atl_state.specs.Ordered.{put_number, take_number}
 use Rattle.atl_state.specs.declared.lists.Listing.{Listing}
@@ -17,11 +18,6 @@ list_of lists k = unwrap_or (get lists k) []
 -- under each number stand, in rising order, the units that belong to it
 abbrev pub AreLists : (Unit → ℕ) → FinMap nat_cmp Unit → FinMap nat_cmp (List ℕ) → Type 0
 AreLists belongs_to units lists = (k : ℕ) → list_of lists k ≡ numbers_where (λ u. belongs_to u == k) units
-
--- the places, from a number on, that are set
-abbrev pub set_from : ℕ → List Bool → set.FinSet nat_cmp
-set_from n [] = set.empty
-set_from n (b ∷ bs) = if b then set.insert (set_from (n + 1) bs) n else set_from (n + 1) bs
 
 -- the same numbers under each key
 abbrev pub SameLists : FinMap nat_cmp (List ℕ) → FinMap nat_cmp (List ℕ) → Type 0
@@ -65,7 +61,12 @@ KeepsAll old new = (units : FinMap nat_cmp Unit) → AreUnitLists units old → 
 abbrev pub RelistsUnit : ℕ → Listing → Listing → UnitLists → UnitLists → Type 0
 RelistsUnit n from to old new = (units : FinMap nat_cmp Unit) (u v : Unit) → listing_of u ≡ from → listing_of v ≡ to → get units n ≡ Some u → AreUnitLists units old → AreUnitLists (insert units n v) new
 
--- the lists of the units, and a place for the mark of each amount
-pub record AreKept (units : FinMap nat_cmp Unit) (lists : UnitLists) (books : List (List ℤ)) (flags : List Bool) : Type 0 where
+-- only amounts of so many things are marked, and there is room to mark each
+pub record MarksAmounts (things : ℕ) (marks : Marked) : Type 0 where
+  pub room : entry_count * things ≤ marks.room
+  pub numbers : AreOfThings things marks.numbers
+
+-- the lists of the units, and the marks of amounts
+pub record AreKept (units : FinMap nat_cmp Unit) (lists : UnitLists) (books : List (List ℤ)) (marks : Marked) : Type 0 where
   pub listed : AreUnitLists units lists
-  pub amounts : length flags ≡ entry_count * length books
+  pub amounts : MarksAmounts (length books) marks

@@ -45,10 +45,6 @@ possible_things = 2 + (most_u16 + 1)
 abbrev pub most_numbered : ℕ
 most_numbered = most_u32 + 1
 
--- memory can hold so many marks at most
-abbrev pub most_marks : ℕ
-most_marks = 9223372036854775808
-
 -- more money, or people, than all regions hold at founding
 abbrev pub most_founded : ℕ
 most_founded = 100000000000000

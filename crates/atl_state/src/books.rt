@@ -1,10 +1,8 @@
 //! What the books say: signed amounts by entry and thing.
-ghost use Rattle.std.specs.Prelude.{◌≡◌, ◌<◌, ◌≤◌, ◌*◌, ◌+◌, ◌+ℤ◌, [], All, IfOk, length, replicate, slice_set, false, true};
+ghost use Rattle.std.specs.Prelude.{◌≡◌, ◌<◌, ◌≤◌, ◌+◌, ◌+ℤ◌, [], All, IfOk, length};
 ghost use Rattle.std.specs.Int.{w64};
 ghost use Rattle.std.specs.Int.RustNames.{FitsSigned};
-ghost use Rattle.std.specs.FinSet as set;
-ghost use Rattle.atl_state.specs.Kept.{set_from};
-ghost use Rattle.atl_state.specs.Limits.{entry_count, most_marks, most_things, possible_things};
+ghost use Rattle.atl_state.specs.Limits.{entry_count, most_things, possible_things};
 ghost use Rattle.atl_state.specs.Books.{entry_place, thing_place, thing_at, added_up, amount_in, booked, with_booked, no_amounts};
 ghost use Rattle.atl_state.specs.Marks.{amount_number};
 ghost use Rattle.atl_state.specs.FromRows.{with_amount};
@@ -116,10 +114,10 @@ impl Thing {
 }
 
 /// The number of an amount: thing by thing, and of each thing entry by entry.
-fn amount_number(entry: Entry, thing: Thing) -> usize
+pub(crate) fn amount_number(entry: Entry, thing: Thing) -> u32
     ensures { result ≡ amount_number entry thing }
 {
-    ENTRY_COUNT * thing.place() + entry.place()
+    ENTRY_COUNT as u32 * thing.number() + entry.number() - 1
 }
 
 /// The sum of a row of amounts.
@@ -225,89 +223,5 @@ impl Books {
         let row = thing.place();
         let place = entry.place();
         self.rows[row][place] += amount;
-    }
-}
-
-/// How many flags are set.
-fn count_set(flags: &[bool]) -> usize
-    ensures value { result ≡ set.len (set_from 0 flags.now) }
-    ensures small { result ≤ most_marks }
-{
-    let most = flags.len();
-    let mut count = 0;
-    for flag in flags.iter() {
-        if *flag {
-            count += 1;
-        }
-    }
-    count
-}
-
-/// For each amount whether it changed.
-#[derive(Drop)]
-pub(crate) struct AmountMarks {
-    flags: Vec<bool>,
-}
-
-impl Model for AmountMarks {
-    ghost use Rattle.std.specs.Prelude.{List, Bool};
-
-    ghost Value = { List Bool };
-
-    ghost view = { λ a. a.flags.items };
-}
-
-impl AmountMarks {
-    /// Nothing marked.
-    pub(crate) fn new(alloc: Global, things: usize) -> Result<AmountMarks, AllocError>
-        ensures { IfOk result (λ made. made ≡ replicate (entry_count * things) false) }
-    {
-        let mut flags = Vec::new(alloc);
-        for _made in 0..things {
-            flags.extend_from_slice(&[false; ENTRY_COUNT])?;
-        }
-        Ok(AmountMarks { flags })
-    }
-
-    /// Marks of no amounts. It takes no memory.
-    pub(crate) fn blank(alloc: Global) -> AmountMarks
-        ensures { result ≡ [] }
-    {
-        AmountMarks {
-            flags: Vec::new(alloc),
-        }
-    }
-
-    /// Whether an amount is marked.
-    #[tactic(auto, using(crate::proofs::FlagLaws::is_flag))]
-    pub(crate) fn is_marked(&self, entry: Entry, thing: Thing) -> bool
-        requires { amount_number entry thing < length self.now }
-        ensures { result ≡ set.contains (set_from 0 self.now) (amount_number entry thing) }
-    {
-        self.flags[amount_number(entry, thing)]
-    }
-
-    /// How many amounts are marked.
-    pub(crate) fn marked(&self) -> usize
-        ensures value { result ≡ set.len (set_from 0 self.now) }
-        ensures small { result ≤ most_marks }
-    {
-        count_set(&self.flags)
-    }
-
-    /// Leaves nothing marked. It takes no memory.
-    pub(crate) fn unmark(&mut self)
-        ensures { self.new ≡ replicate (length self.old) false }
-    {
-        self.flags.fill(false);
-    }
-
-    /// Marks an amount. It takes no memory.
-    pub(crate) fn mark(&mut self, entry: Entry, thing: Thing)
-        requires { amount_number entry thing < length self.old }
-        ensures { self.new ≡ slice_set self.old (amount_number entry thing) true }
-    {
-        let number = amount_number(entry, thing);
-        self.flags[number] = true;
     }
 }

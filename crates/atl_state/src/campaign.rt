@@ -17,14 +17,14 @@ mod marking;
 mod placing;
 mod setting;
 
-use crate::books::{AmountMarks, Books, Entry, Thing};
+use crate::books::{Books, Entry, Thing};
 use crate::holding::Holding;
 use crate::lists::{UnitLists, listed};
 use crate::records::{Faction, Region, Structure, Unit};
 use crate::totals::{regions_total, units_total};
 use crate::units::Units;
 pub(crate) use assembling::assembled;
-use atl_tables::{Entries, Sequence, Text, Tracked};
+use atl_tables::{Entries, Marks, Sequence, Text, Tracked};
 pub use founding::founded;
 use std::alloc::{AllocError, Global};
 use std::marker::Model;
@@ -45,8 +45,8 @@ pub struct Campaign {
     mail: Tracked<Sequence<u8>>,
     reports: Tracked<Text>,
     books: Books,
-    // For each amount of the books whether it changed.
-    amounts_marked: AmountMarks,
+    // The numbers of the amounts of the books that changed, with room for each.
+    amounts_marked: Marks,
     // Whether the month or a number that comes next changed.
     row_marked: bool,
     // The numbers of the units by what they belong to.
@@ -78,7 +78,7 @@ impl Drop for Campaign {
 
 impl Model for Campaign {
     ghost use Rattle.atl_state.specs.State.{Marked, marked_code};
-    ghost use Rattle.atl_state.specs.Kept.{AreKept, set_from};
+    ghost use Rattle.atl_state.specs.Kept.{AreKept};
 
     ghost Value = { Marked };
 
@@ -107,7 +107,7 @@ impl Model for Campaign {
         structures = a.structures.marks;
         mail = a.mail.marks;
         reports = a.reports.marks;
-        books = set_from 0 a.amounts_marked;
+        books = a.amounts_marked.numbers;
         row = a.row_marked;
       };
     } };

@@ -7,11 +7,10 @@ ghost use Rattle.atl_state.specs.RowRules.{is_one_head, are_named, people_in_ran
 
 use super::Campaign;
 use crate::assembly::{Tables, books_of, lists_of, pass_of, roster_of, tables_of};
-use crate::books::AmountMarks;
-use crate::limits::FIRST_ITEM;
+use crate::limits::{ENTRY_COUNT, FIRST_ITEM};
 use crate::parts::Parts;
 use crate::row_rules::{as_u32, head_of};
-use atl_tables::World;
+use atl_tables::{Marks, World};
 use std::alloc::{AllocError, Global};
 
 /// The campaign that rows say, with nothing marked.
@@ -30,7 +29,7 @@ pub(crate) fn assembled(alloc: Global, world: &World, parts: &Parts) -> Result<C
     let units = roster_of(alloc, parts)?;
     let lists = lists_of(alloc, &units)?;
     let books = books_of(alloc, things, parts.books.as_slice())?;
-    let amounts_marked = AmountMarks::new(alloc, things)?;
+    let amounts_marked = Marks::with_room(alloc, ENTRY_COUNT * things)?;
     let Tables {
         factions,
         regions,

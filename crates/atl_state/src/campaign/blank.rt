@@ -3,10 +3,10 @@ ghost use Rattle.std.specs.Prelude.{◌≡◌};
 ghost use Rattle.atl_state.specs.Blank.{blank};
 
 use super::Campaign;
-use crate::books::{AmountMarks, Books};
+use crate::books::Books;
 use crate::lists::UnitLists;
 use crate::units::Units;
-use atl_tables::{Text, Tracked};
+use atl_tables::{Marks, Text, Tracked};
 use std::alloc::Global;
 
 impl Campaign {
@@ -29,7 +29,7 @@ impl Campaign {
             mail: Tracked::new(alloc),
             reports: Tracked::new(alloc),
             books: Books::blank(alloc),
-            amounts_marked: AmountMarks::blank(alloc),
+            amounts_marked: Marks::new(alloc),
             row_marked: false,
             lists: UnitLists::new(alloc),
         }

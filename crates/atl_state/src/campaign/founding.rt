@@ -15,13 +15,13 @@ ghost use Rattle.atl_state.specs.Founding.{founded_of, founded_region};
 ghost use Rattle.atl_state.specs.Good.{IsGood};
 
 use super::Campaign;
-use crate::books::{AmountMarks, Books, Entry, Thing};
-use crate::limits::FIRST_ITEM;
+use crate::books::{Books, Entry, Thing};
+use crate::limits::{ENTRY_COUNT, FIRST_ITEM};
 use crate::lists::UnitLists;
 use crate::records::Region;
 use crate::totals::regions_total;
 use crate::units::Units;
-use atl_tables::{Numbered, RegionPlan, Text, Tracked, World};
+use atl_tables::{Marks, Numbered, RegionPlan, Text, Tracked, World};
 use std::alloc::{AllocError, Global};
 
 /// The regions as they are founded.
@@ -73,7 +73,7 @@ pub fn founded(alloc: Global, world: &World, pass: &[u8]) -> Result<Campaign, Al
     let regions = regions_made(alloc, world.regions())?;
     let things = FIRST_ITEM + world.items().len();
     let books = founding_books(alloc, things, &regions)?;
-    let amounts_marked = AmountMarks::new(alloc, things)?;
+    let amounts_marked = Marks::with_room(alloc, ENTRY_COUNT * things)?;
     Ok(Campaign {
         alloc,
         month: 0,

@@ -16,7 +16,7 @@ ghost use Rattle.atl_state.specs.Limits.{holding_limit, last_unit};
 ghost use Rattle.atl_state.specs.Marking.{join_marked};
 
 use super::Campaign;
-use crate::books::{Books, Entry, Thing};
+use crate::books::{Books, Entry, Thing, amount_number};
 use crate::holding::Holding;
 use crate::limits::{LAST_UNIT, MOST_UNITS};
 use crate::records::{Faction, JoinFault, Unit};
@@ -175,8 +175,10 @@ impl Campaign {
         }
         self.next_faction = faction + 1;
         book_joining(&mut self.books, money);
-        self.amounts_marked.mark(Entry::Joining, Thing::Money);
-        self.amounts_marked.mark(Entry::Joining, Thing::People);
+        self.amounts_marked
+            .add(amount_number(Entry::Joining, Thing::Money));
+        self.amounts_marked
+            .add(amount_number(Entry::Joining, Thing::People));
         Ok((faction, number))
     }
 }

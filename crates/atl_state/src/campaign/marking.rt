@@ -6,7 +6,7 @@ ghost use Rattle.atl_state.specs.Books.{thing_place};
 ghost use Rattle.atl_state.specs.Marks.{no_marks, marks_in, amount_number};
 
 use super::Campaign;
-use crate::books::{Entry, Thing};
+use crate::books::{Entry, Thing, amount_number};
 use atl_tables::MarkedNumbers;
 
 impl Campaign {
@@ -19,7 +19,7 @@ impl Campaign {
         let row = if self.row_marked { 1 } else { 0 };
         let named = self.factions.marked() + self.mail.marked() + self.reports.marked();
         let placed = self.regions.marked() + self.units.marked() + self.structures.marked();
-        named + placed + self.amounts_marked.marked() + row
+        named + placed + self.amounts_marked.len() + row
     }
 
     /// The numbers of the marked factions, in rising order. It takes no memory.
@@ -76,7 +76,7 @@ impl Campaign {
         requires { thing_place thing < length self.now.what.books }
         ensures { result ≡ set.contains self.now.marks.books (amount_number entry thing) }
     {
-        self.amounts_marked.is_marked(entry, thing)
+        self.amounts_marked.contains(amount_number(entry, thing))
     }
 
     /// Whether the campaign's own row is marked: the month or a number that comes next changed.
@@ -96,7 +96,7 @@ impl Campaign {
         self.structures.unmark();
         self.mail.unmark();
         self.reports.unmark();
-        self.amounts_marked.unmark();
+        self.amounts_marked.clear();
         self.row_marked = false;
     }
 }

@@ -9,7 +9,7 @@ ghost use Rattle.atl_state.specs.Marking.{mark_row, mark_faction, mark_region, m
 ghost use Rattle.atl_state.specs.State.{with_month, with_faction_name, with_gone, with_peasants, with_region_money, with_money, with_guard, with_done, with_structure_name, with_structure_region, with_owner, with_amount, without_mail};
 
 use super::Campaign;
-use crate::books::{Entry, Thing};
+use crate::books::{Entry, Thing, amount_number};
 use atl_tables::Text;
 
 impl Campaign {
@@ -128,7 +128,7 @@ impl Campaign {
         ensures marks { self.new.marks ≡ mark_amount self.old entry thing }
     {
         self.books.book(entry, thing, amount);
-        self.amounts_marked.mark(entry, thing);
+        self.amounts_marked.add(amount_number(entry, thing));
     }
 
     /// Takes all mail away, and marks the mail of each faction that had some.

@@ -1,15 +1,19 @@
-use Rattle.std.proofs.Common.{◌≡◌, ◌<◌, length, refl, ap, ◌∙◌, arith}
-use Rattle.std.specs.FinSet.{insert}
-use Rattle.atl_state.specs.Kept.{set_from}
-use Rattle.atl_state.specs.Marks.{amount_number}
-use Rattle.atl_state.proofs.EveryEntryLaws.{entry_small}
-use Rattle.atl_state.proofs.FlagLaws.{one_set}
+use Rattle.std.proofs.Common.{◌≡◌, ◌<◌, length, ap, ◌∙◌}
+use Rattle.std.proofs.lemmas.List.{length-set}
+use Rattle.atl_state.specs.Books.{thing_place}
+use Rattle.atl_state.proofs.AmountMarkLaws.{fits_amount, more_marked}
 use Rattle.atl_state.proofs.campaign.Campaign.book.Goals as goal
 
-pub returns-clause-marks : goal.returns-clause-marks
-returns-clause-marks c =
-    let number = amount_number c.args.entry c.args.thing in
-    let flags = c.self.inside.amounts_marked in
-    let there : number < length flags = omega (arith, entry_small c.args.entry, rw (← c.self.view_is) at c.requires.there, c.self.invariant.amounts) in
-    let marked : set_from 0 c.mark.new.self ≡ insert (set_from 0 flags) number = ap (set_from 0) c.mark.ensures ∙ one_set flags number there in
-    rw (marked, ← c.self.view_is) refl
+pub add-requires : goal.add-requires
+add-requires c =
+    let there : thing_place c.args.thing < length c.self.inside.books = rw (← c.self.view_is) at c.requires.there in
+    rw c.amount_number.ensures (fits_amount (length c.self.inside.books) c.self.inside.amounts_marked c.args.entry c.args.thing there c.self.invariant.amounts)
+
+pub invariant_of-self : goal.invariant_of-self
+invariant_of-self c =
+    let there : thing_place c.args.thing < length c.self.inside.books = rw (← c.self.view_is) at c.requires.there in
+    let same : length c.book.new.self ≡ length c.self.inside.books = ap length c.book.ensures ∙ length-set _ _ _ in
+    record {
+      listed = c.self.invariant.listed;
+      amounts = rw (same, c.add.ensures, c.amount_number.ensures) (more_marked (length c.self.inside.books) c.self.inside.amounts_marked c.args.entry c.args.thing there c.self.invariant.amounts);
+    }

@@ -1,11 +1,11 @@
-use Rattle.std.proofs.Common.{◌≡◌, ◌+◌, None, true, List, length, set, ap, ◌∙◌, refl, arith}
+use Rattle.std.proofs.Common.{◌≡◌, ◌+◌, None, List, length, ap, ◌∙◌, refl, arith}
 use Rattle.std.specs.Prelude.{ℤ}
+use Rattle.std.proofs.lemmas.List.{length-set}
 use Rattle.std.specs.FinMap.{get}
 use Rattle.atl_state.specs.declared.books.Entry.TheVariants.{Joining}
 use Rattle.atl_state.specs.declared.books.Thing.TheVariants.{Money, People}
-use Rattle.atl_state.specs.Kept.{set_from}
-use Rattle.atl_state.specs.Marks.{Marks, amount_number, amount_marked}
-use Rattle.atl_state.proofs.FlagLaws.{two_set}
+use Rattle.atl_state.specs.Marks.{amount_marked}
+use Rattle.atl_state.proofs.AmountMarkLaws.{fits_amount, more_marked}
 use Rattle.atl_state.proofs.MadeOf.{undone}
 use Rattle.atl_state.specs.State.{State, Marked}
 use Rattle.atl_state.specs.Joining.{joined}
@@ -33,17 +33,33 @@ returns-in-Err-clause-err c =
     rw back
     (ap (λ (m : Marked). record { what = record m.what { factions = c.self.inside.factions.values }; marks = record m.marks { factions = c.self.inside.factions.marks } }) same ∙ c.self.view_is)
 
-pub returns-clause-marks : goal.returns-clause-marks
-returns-clause-marks c =
-    let same = ap (λ (m : Marked). m.marks) c.self-2.view_is ∙ c.in-Ok.ensures.marks in
+pub add-requires : goal.add-requires
+add-requires c =
     let books : c.self-2.inside.books ≡ c.args.self.now.what.books = ap (λ (m : Marked). m.what.books) c.self-2.view_is ∙ ap (λ (s : State). s.books) c.in-Ok.ensures.ok ∙ ap (λ (m : Marked). m.what.books) c.self.view_is in
-    let flags = c.self-2.inside.amounts_marked in
-    let places = c.self-2.invariant.amounts in
     let rows = ap (λ (b : List (List ℤ)). length b) books ∙ c.requires.sound.steady.numbers.books.rows in
-    let marked : set_from 0 c.mark-2.new.self ≡ amount_marked (amount_marked c.args.self.now.marks.books Joining Money) Joining People =
-    ap (set_from 0) (c.mark-2.ensures ∙ ap (λ b. set b (amount_number Joining People) true) c.mark.ensures) ∙ two_set flags (amount_number Joining Money) (amount_number Joining People) (omega (arith, places, rows)) (omega (arith, places, rows))
-    ∙ ap (λ (m : Marks). amount_marked (amount_marked m.books Joining Money) Joining People) same ∙ ap (λ (m : Marked). amount_marked (amount_marked m.marks.books Joining Money) Joining People) c.self.view_is in
-    ap (λ (m : Marks). record m { books = set_from 0 c.mark-2.new.self }) same ∙ rw (marked, ← c.self.view_is, c.in_ok-insert.ensures.ok) refl
+    rw c.amount_number.ensures (fits_amount (length c.self-2.inside.books) c.self-2.inside.amounts_marked Joining Money (omega (arith, rows)) c.self-2.invariant.amounts)
+
+pub add-requires-2 : goal.add-requires-2
+add-requires-2 c =
+    let books : c.self-2.inside.books ≡ c.args.self.now.what.books = ap (λ (m : Marked). m.what.books) c.self-2.view_is ∙ ap (λ (s : State). s.books) c.in-Ok.ensures.ok ∙ ap (λ (m : Marked). m.what.books) c.self.view_is in
+    let rows = ap (λ (b : List (List ℤ)). length b) books ∙ c.requires.sound.steady.numbers.books.rows in
+    let things = length c.self-2.inside.books in
+    let marks = c.self-2.inside.amounts_marked in
+    rw (c.add.ensures, c.amount_number.ensures, c.amount_number-2.ensures)
+    (fits_amount things (record marks { numbers = amount_marked marks.numbers Joining Money }) Joining People (omega (arith, rows)) (more_marked things marks Joining Money (omega (arith, rows)) c.self-2.invariant.amounts))
+
+pub invariant_of-self-3 : goal.invariant_of-self-3
+invariant_of-self-3 c =
+    let books : c.self-2.inside.books ≡ c.args.self.now.what.books = ap (λ (m : Marked). m.what.books) c.self-2.view_is ∙ ap (λ (s : State). s.books) c.in-Ok.ensures.ok ∙ ap (λ (m : Marked). m.what.books) c.self.view_is in
+    let rows = ap (λ (b : List (List ℤ)). length b) books ∙ c.requires.sound.steady.numbers.books.rows in
+    let things = length c.self-2.inside.books in
+    let marks = c.self-2.inside.amounts_marked in
+    let same : length c.book_joining.new.books ≡ things = ap length c.book_joining.ensures ∙ length-set _ _ _ ∙ length-set _ _ _ in
+    record {
+      listed = c.self-2.invariant.listed;
+      amounts = rw (same, c.add-2.ensures, c.add.ensures, c.amount_number.ensures, c.amount_number-2.ensures)
+          (more_marked things (record marks { numbers = amount_marked marks.numbers Joining Money }) Joining People (omega (arith, rows)) (more_marked things marks Joining Money (omega (arith, rows)) c.self-2.invariant.amounts));
+    }
 
 pub returns-clause-ok : goal.returns-clause-ok
 unfolding joined

@@ -1,7 +1,14 @@
 use Rattle.std.proofs.Common.{length, refl}
-use Rattle.atl_state.proofs.FlagLaws.{set_from-none}
+use Rattle.atl_state.proofs.AmountMarkLaws.{none_marked}
 use Rattle.atl_state.proofs.campaign.Campaign.unmark.Goals as goal
+
+pub invariant_of-self : goal.invariant_of-self
+invariant_of-self c =
+    record {
+      listed = rw c.unmark-3.ensures c.self.invariant.listed;
+      amounts = rw c.clear.ensures (none_marked (length c.self.inside.books) c.self.inside.amounts_marked.room c.self.invariant.amounts.room);
+    }
 
 pub returns : goal.returns
 returns c =
-    rw (← c.self.view_is, c.unmark.ensures, c.unmark-2.ensures, c.unmark-3.ensures, c.unmark-4.ensures, c.unmark-5.ensures, c.unmark-6.ensures, c.unmark-7.ensures, set_from-none 0 (length c.self.inside.amounts_marked)) refl
+    rw (← c.self.view_is, c.unmark.ensures, c.unmark-2.ensures, c.unmark-3.ensures, c.unmark-4.ensures, c.unmark-5.ensures, c.unmark-6.ensures, c.clear.ensures) refl

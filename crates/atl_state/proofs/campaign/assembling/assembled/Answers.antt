@@ -1,10 +1,9 @@
-use Rattle.std.proofs.Common.{◌≡◌, ◌+◌, ◌*◌, false, length, sym, ap, ◌∙◌, refl}
-use Rattle.std.proofs.lemmas.List.{length-replicate}
+use Rattle.std.proofs.Common.{◌≡◌, ◌+◌, ◌*◌, length, ap, ◌∙◌, refl, arith}
 use Rattle.atl_state.specs.Books.{no_amounts}
 use Rattle.atl_state.specs.FromRows.{put_amounts}
 use Rattle.atl_state.specs.Limits.{entry_count}
 use Rattle.atl_state.proofs.BookLaws.{IsGrid-no_amounts}
-use Rattle.atl_state.proofs.FlagLaws.{set_from-none}
+use Rattle.atl_state.proofs.AmountMarkLaws.{none_marked}
 use Rattle.atl_state.proofs.FromRowLaws.{put-grid}
 use Rattle.atl_state.proofs.campaign.assembling.assembled.Goals as goal
 
@@ -15,8 +14,8 @@ invariant_of-result c =
     let rows : length c.in_ok-books.books ≡ things = ap length c.in_ok-books.ensures ∙ ap (λ rows. length (put_amounts rows (no_amounts things))) c.as_slice.ensures ∙ grid.rows in
     record {
       listed = c.in_ok-lists.ensures;
-      amounts = ap length c.in_ok-amounts_marked.ensures ∙ length-replicate (entry_count * things) false ∙ ap (λ n. entry_count * n) (sym rows);
+      amounts = rw (c.in_ok-amounts_marked.ensures) (none_marked (length c.in_ok-books.books) (entry_count * things) (omega (arith, rows)));
     }
 
 pub returns-clause-marks : goal.returns-clause-marks
-returns-clause-marks c = rw (c.in_ok-factions.ensures, c.in_ok-units.ensures, c.in_ok-amounts_marked.ensures, set_from-none 0 (entry_count * (2 + length c.items.result.now))) refl
+returns-clause-marks c = rw (c.in_ok-factions.ensures, c.in_ok-units.ensures, c.in_ok-amounts_marked.ensures) refl

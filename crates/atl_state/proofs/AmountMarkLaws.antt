@@ -1,0 +1,66 @@
+-- The marks of amounts: there is room for each.
+use Rattle.std.proofs.Common.{◌≡◌, ℕ, zero, suc, ◌+◌, ◌*◌, ◌-◌, ◌<◌, ◌≤◌, Bool, true, false, cond, not, ◌||◌, ◌&&◌, sym, ◌∙◌, subst, refl, arith}
+use Rattle.std.proofs.lemmas.Bool.{false≢true}
+use Rattle.std.specs.declared.cmp.Ordering.TheVariants.{Less, Equal, Greater}
+use Rattle.std.specs.Ordering.{nat_cmp, eq_by_cmp, is_eq}
+use Rattle.std.specs.Cmp.{nat_cmp_total, ranked}
+use Rattle.std.specs.FinMap.{nat_cmp-IsAntisymmetric}
+use Rattle.std.specs.FinSet as set
+use Rattle.atl_tables.specs.Marked.{Marked}
+use Rattle.atl_tables.proofs.SetLaws.{len-within}
+use Rattle.atl_state.specs.Books.{entry_place, thing_place}
+use Rattle.atl_state.specs.Kept.{MarksAmounts}
+use Rattle.atl_state.specs.Limits.{entry_count}
+use Rattle.atl_state.specs.Marks.{AreOfThings, amount_number, amount_marked}
+use Rattle.atl_state.specs.declared.books.Entry.{Entry}
+use Rattle.atl_state.specs.declared.books.Thing.{Thing}
+use Rattle.atl_state.proofs.EveryEntryLaws.{entry_small}
+
+one_less : (b : Bool) (l r : ℕ) → r ≡ cond b (l - 1) l → l ≤ r + 1
+one_less true l r e = omega (arith, e)
+one_less false l r e = omega (arith, e)
+
+rest_below : (m k : ℕ) (there : Bool) → (not (eq_by_cmp nat_cmp k m) && there) ≡ true → (there ≡ true → k < m + 1) → k < m
+rest_below m k there h below = elim (nat_cmp k m) as (λ r. nat_cmp k m ≡ r → (not (is_eq r) && there) ≡ true → k < m) [
+  | Less ↦ λ e yes. let l = ranked k m Less (sym e) in omega (arith, l)
+  | Equal ↦ λ e no. absurd (false≢true no)
+  | Greater ↦ λ e yes. let l = ranked k m Greater (sym e) in absurd (omega (arith, l, below yes))
+] refl h
+
+-- numbers that are all below another are, at most, as many as it says
+pub len-below : (most : ℕ) (s : set.FinSet nat_cmp) → ((k : ℕ) → set.contains s k ≡ true → k < most) → set.len s ≤ most
+len-below zero s below =
+    let none = len-within s set.empty (λ k there. absurd (omega (arith, below k there))) in
+    omega (arith, none, set.len-empty nat_cmp)
+len-below (suc m) s below =
+    let rest = len-below m (set.remove s m) (λ k there. rest_below m k (set.contains s k) (sym (set.contains-remove nat_cmp_total s m k) ∙ there) (λ yes. omega (arith, below k yes))) in
+    let more = one_less (set.contains s m) (set.len s) (set.len (set.remove s m)) (set.len-remove nat_cmp_total s m) in
+    omega (arith, rest, more)
+
+or_there : (n k : ℕ) (there : Bool) (P : ℕ → Type 0) → (eq_by_cmp nat_cmp k n || there) ≡ true → P n → (there ≡ true → P k) → P k
+or_there n k there P h itself others = elim (nat_cmp k n) as (λ r. nat_cmp k n ≡ r → (is_eq r || there) ≡ true → P k) [
+  | Less ↦ λ _ yes. others yes
+  | Equal ↦ λ e _. subst P (sym (nat_cmp-IsAntisymmetric k n e)) itself
+  | Greater ↦ λ _ yes. others yes
+] refl h
+
+number_small : (things : ℕ) (e : Entry) (t : Thing) → thing_place t < things → amount_number e t < entry_count * things
+number_small things e t small = omega (arith, small, entry_small e)
+
+-- no amount is marked
+pub none_marked : (things room : ℕ) → entry_count * things ≤ room → MarksAmounts things (record { numbers = set.empty; room = room })
+none_marked things room enough = record { room = enough; numbers = λ k there. absurd (false≢true (sym (set.contains-empty nat_cmp k) ∙ there)) }
+
+more_of_things : (things : ℕ) (s : set.FinSet nat_cmp) (e : Entry) (t : Thing) → thing_place t < things → AreOfThings things s → AreOfThings things (amount_marked s e t)
+more_of_things things s e t small are k there =
+    or_there (amount_number e t) k (set.contains s k) (λ n. n < entry_count * things) (sym (set.contains-insert nat_cmp_total s (amount_number e t) k) ∙ there) (number_small things e t small) (are k)
+
+-- another amount is marked
+pub more_marked : (things : ℕ) (marks : Marked) (e : Entry) (t : Thing) → thing_place t < things → MarksAmounts things marks → MarksAmounts things (record marks { numbers = amount_marked marks.numbers e t })
+more_marked things marks e t small are = record { room = are.room; numbers = more_of_things things marks.numbers e t small are.numbers }
+
+-- and there is room for it
+pub fits_amount : (things : ℕ) (marks : Marked) (e : Entry) (t : Thing) → thing_place t < things → MarksAmounts things marks → set.len (amount_marked marks.numbers e t) ≤ marks.room
+fits_amount things marks e t small are =
+    let few = len-below (entry_count * things) (amount_marked marks.numbers e t) (more_of_things things marks.numbers e t small are.numbers) in
+    omega (arith, few, are.room)
