@@ -1,4 +1,7 @@
 //! Tests of atl_instant, atl_market, atl_action and atl_month by their public calls alone.
+mod agreeing;
+mod crowd;
+mod former;
 mod laws;
 mod marks;
 mod months;

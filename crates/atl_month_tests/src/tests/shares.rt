@@ -26,7 +26,7 @@ fn is_shared(rt: &impl Abort, pot: u64, told: &[u64], wanted: &[u64]) {
     assert_eq!(rt; told, wanted, "of {pot}");
 }
 
-fn are_small(wants: &[u64]) -> bool
+pub(crate) fn are_small(wants: &[u64]) -> bool
     ensures { IsTrue result → All (λ want. want ≤ 999999999) wants.now }
 {
     wants.iter().all(|want| *want <= 999_999_999)

@@ -1,0 +1,407 @@
+//! A campaign of 300 units of four factions in twelve regions, and a month of their orders. What each unit is, has and is told to do
+//! is dealt out by its number, from tables whose lengths have no common factor.
+ghost use Rattle.std.specs.Prelude.{◌≡◌, ◌≤◌, All, IfOk, length};
+ghost use Rattle.atl_state.specs.Good.{IsGood};
+ghost use Rattle.atl_instant.specs.Fit.{AreFit};
+
+use super::months::month;
+use atl_instant::Month;
+use atl_state::parts::{
+    Parts, StoredBooks, StoredFaction, StoredHas, StoredHead, StoredRegion, StoredReport,
+    StoredUnit,
+};
+use atl_state::{Campaign, check, founded};
+use atl_tables::{Sequence, Text, World, read_world};
+use std::alloc::{AllocError, Global};
+use std::test::Fail;
+
+const UNITS: usize = 300;
+
+const FACTIONS: usize = 4;
+
+const REGIONS: usize = 12;
+
+/// So many units in a row stand in one region, one of each faction.
+const IN_A_ROW: usize = FACTIONS;
+
+const RULES: &str = r#"[rules]
+maintenance = 60
+tax_per_man = 3
+recruit_price = 11
+recruit_fraction = 60
+growth = 9
+income = 2
+start_money = 100
+man_weight = 10
+man_carry = 6
+[[terrain]]
+name = "plain"
+land = true
+wage = 12
+places = 100
+money_limit = 50000
+peasant_limit = 3000
+output = { wood = 40, grain = 300 }
+[[terrain]]
+name = "hill"
+land = true
+wage = 31
+places = 7
+money_limit = 900
+peasant_limit = 500
+output = { stone = 25, wood = 3 }
+[[item]]
+name = "wood"
+weight = 5
+carry = 0
+skill = "felling"
+[[item]]
+name = "stone"
+weight = 25
+carry = 0
+skill = "quarrying"
+level = 2
+[[item]]
+name = "grain"
+weight = 1
+carry = 0
+skill = "farming"
+[[item]]
+name = "cart"
+weight = 40
+carry = 120
+skill = "carpentry"
+raw = "wood"
+raw_count = 3
+[[item]]
+name = "relic"
+weight = 1
+carry = 0
+[[skill]]
+name = "felling"
+fee = 0
+[[skill]]
+name = "quarrying"
+fee = 4
+[[skill]]
+name = "farming"
+fee = 1
+[[skill]]
+name = "carpentry"
+fee = 9
+"#;
+
+const ITEMS: usize = 5;
+
+const SKILLS: usize = 4;
+
+/// Terrain, peasants and money of regions.
+const LANDS: [(&str, u32, u32); 7] = [
+    ("plain", 2_950, 700),
+    ("hill", 120, 0),
+    ("plain", 59, 49_000),
+    ("hill", 480, 90),
+    ("plain", 1_500, 13),
+    ("plain", 300, 3),
+    ("hill", 61, 880),
+];
+
+const MEN: [i64; 11] = [1, 1, 2, 3, 5, 8, 13, 40, 90, 2, 1];
+
+const MONEY: [i64; 7] = [0, 3, 20, 150, 900, 4_000, 999_999_990];
+
+/// Pieces of an item; of some there is room for hardly more.
+const PIECES: [i64; 5] = [0, 2, 0, 30, 999_999_995];
+
+/// Days of a skill of each man.
+const DAYS: [i64; 6] = [29, 30, 90, 0, 180, 450];
+
+/// What a unit is told to do all month.
+const MONTH_LONG: [&str; 9] = [
+    "PRODUCE wood",
+    "WORK",
+    "PRODUCE stone",
+    "",
+    "PRODUCE grain",
+    "PRODUCE cart",
+    "STUDY felling",
+    "PRODUCE relic",
+    "PRODUCE wood",
+];
+
+const RECRUITED: [u32; 5] = [1, 20, 3, 0, 400];
+
+/// One of so many orders is for a unit of the next faction.
+const ASTRAY: usize = 29;
+
+const JOINING: i64 = 2;
+
+const MONEY_BOOKED: i64 = 0;
+
+const PEOPLE_BOOKED: i64 = 1;
+
+const FIRST_ITEM_BOOKED: i64 = 2;
+
+fn dealt<T: Copy + Drop>(table: &[T], number: usize) -> T
+    requires { 1 ≤ length table.now }
+{
+    table[number % table.len()]
+}
+
+// ---- the world
+
+fn add_region(alloc: Global, number: usize, text: &mut String) -> Result<(), AllocError> {
+    let (terrain, peasants, money) = dealt(&LANDS, number);
+    let table = format!(in alloc;
+        "[[region]]\nnumber = {number}\nname = \"Vale\"\nterrain = \"{terrain}\"\npeasants = {peasants}\nmoney = {money}\n"
+    )?;
+    text.push_str(table.as_str())
+}
+
+pub(crate) fn crowd_world(alloc: Global) -> Result<World, Fail> {
+    let mut text = String::from_str(alloc, RULES)?;
+    for number in 1..=REGIONS {
+        add_region(alloc, number, &mut text)?;
+    }
+    Ok(read_world(alloc, text.as_str())?)
+}
+
+// ---- the units
+
+fn faction_of(number: usize) -> usize {
+    number % FACTIONS + 1
+}
+
+fn region_of(number: usize) -> usize {
+    number / IN_A_ROW % REGIONS + 1
+}
+
+/// Units of one faction alone guard a region, and not all of them do.
+fn guards(number: usize) -> bool {
+    region_of(number) % FACTIONS + 1 == faction_of(number) && number % 5 != 0
+}
+
+fn unit(alloc: Global, number: usize) -> Result<StoredUnit, AllocError> {
+    Ok(StoredUnit {
+        number: number as i64,
+        faction: faction_of(number) as i64,
+        name: Sequence::from_slice(alloc, b"A unit")?,
+        region: region_of(number) as i64,
+        structure: 0,
+        men: dealt(&MEN, number),
+        money: dealt(&MONEY, number),
+        guard: i64::from(guards(number)),
+    })
+}
+
+fn units(alloc: Global) -> Result<Sequence<StoredUnit>, AllocError> {
+    let mut units = Sequence::new(alloc);
+    for number in 1..=UNITS {
+        units.push(unit(alloc, number)?)?;
+    }
+    Ok(units)
+}
+
+/// Adds what a unit has, if it has any.
+fn add_good(
+    number: usize,
+    sort: i64,
+    thing: usize,
+    amount: i64,
+    has: &mut Sequence<StoredHas>,
+) -> Result<(), AllocError> {
+    if amount == 0 {
+        return Ok(());
+    }
+    has.push(StoredHas {
+        unit: number as i64,
+        sort,
+        thing: thing as i64,
+        amount,
+    })
+}
+
+fn pieces(number: usize, item: usize) -> i64 {
+    dealt(&PIECES, number.wrapping_add(item))
+}
+
+fn add_items(number: usize, has: &mut Sequence<StoredHas>) -> Result<(), AllocError> {
+    for item in 0..ITEMS {
+        add_good(number, 0, item, pieces(number, item), has)?;
+    }
+    Ok(())
+}
+
+fn add_days(number: usize, has: &mut Sequence<StoredHas>) -> Result<(), AllocError> {
+    for skill in 0..SKILLS {
+        let each = dealt(&DAYS, number.wrapping_add(skill));
+        let days = each.wrapping_mul(dealt(&MEN, number));
+        add_good(number, 1, skill, days, has)?;
+    }
+    Ok(())
+}
+
+fn has(alloc: Global) -> Result<Sequence<StoredHas>, AllocError> {
+    let mut has = Sequence::new(alloc);
+    for number in 1..=UNITS {
+        add_items(number, &mut has)?;
+        add_days(number, &mut has)?;
+    }
+    Ok(has)
+}
+
+// ---- factions and books
+
+fn head(alloc: Global) -> Result<Sequence<StoredHead>, AllocError> {
+    let mut all = Sequence::new(alloc);
+    all.push(StoredHead {
+        id: 1,
+        format: 1,
+        month: 0,
+        next_faction: FACTIONS as i64 + 1,
+        next_unit: UNITS as i64 + 1,
+        next_structure: 1,
+        pass: Sequence::from_slice(alloc, b"gm")?,
+    })?;
+    Ok(all)
+}
+
+fn faction(alloc: Global, number: usize) -> Result<StoredFaction, AllocError> {
+    let name = format!(in alloc; "F{number}")?;
+    Ok(StoredFaction {
+        number: number as i64,
+        joined_as: Sequence::from_slice(alloc, name.as_bytes())?,
+        name: Sequence::from_slice(alloc, name.as_bytes())?,
+        pass: Sequence::from_slice(alloc, b"pw")?,
+        gone: 0,
+    })
+}
+
+fn factions(alloc: Global) -> Result<Sequence<StoredFaction>, AllocError> {
+    let mut all = Sequence::new(alloc);
+    for number in 1..=FACTIONS {
+        all.push(faction(alloc, number)?)?;
+    }
+    Ok(all)
+}
+
+fn reports(alloc: Global) -> Result<Sequence<StoredReport>, AllocError> {
+    let mut all = Sequence::new(alloc);
+    for number in 1..=FACTIONS {
+        all.push(StoredReport {
+            faction: number as i64,
+            text: Text::from_str(alloc, "A report.\n")?,
+        })?;
+    }
+    Ok(all)
+}
+
+/// Books under joining what all units have of a thing.
+fn book(thing: i64, amount: i64, books: &mut Sequence<StoredBooks>) -> Result<(), AllocError> {
+    if amount == 0 {
+        return Ok(());
+    }
+    books.push(StoredBooks {
+        entry: JOINING,
+        thing,
+        amount,
+    })
+}
+
+/// The money and the men of all units.
+fn money_and_men() -> (i64, i64) {
+    let mut money: i64 = 0;
+    let mut men: i64 = 0;
+    for number in 1..=UNITS {
+        money = money.wrapping_add(dealt(&MONEY, number));
+        men = men.wrapping_add(dealt(&MEN, number));
+    }
+    (money, men)
+}
+
+/// How much of an item all units have.
+fn all_pieces(item: usize) -> i64 {
+    let mut all: i64 = 0;
+    for number in 1..=UNITS {
+        all = all.wrapping_add(pieces(number, item));
+    }
+    all
+}
+
+fn book_all(books: &mut Sequence<StoredBooks>) -> Result<(), AllocError> {
+    let (money, men) = money_and_men();
+    book(MONEY_BOOKED, money, books)?;
+    book(PEOPLE_BOOKED, men, books)?;
+    for item in 0..ITEMS {
+        let thing = FIRST_ITEM_BOOKED.wrapping_add(item as i64);
+        book(thing, all_pieces(item), books)?;
+    }
+    Ok(())
+}
+
+fn rows(alloc: Global, world: &World) -> Result<Parts, AllocError> {
+    let mut parts = founded(alloc, world, b"gm")?.parts()?;
+    book_all(&mut parts.books)?;
+    parts.campaign = head(alloc)?;
+    parts.factions = factions(alloc)?;
+    parts.units = units(alloc)?;
+    parts.has = has(alloc)?;
+    parts.reports = reports(alloc)?;
+    Ok(parts)
+}
+
+/// The campaign.
+pub(crate) fn crowd(alloc: Global, world: &World) -> Result<Campaign, Fail>
+    ensures { IfOk result (λ campaign. IsGood world.now campaign.what) }
+{
+    let rows = rows(alloc, world)?;
+    Ok(check(alloc, world, rows)?)
+}
+
+// ---- the month
+
+/// The unit that an order of a faction is for.
+fn told_unit(number: usize) -> usize {
+    if number % ASTRAY == 0 {
+        number / 2 + 1
+    } else {
+        number
+    }
+}
+
+fn add_orders(alloc: Global, number: usize, mailing: &mut String) -> Result<(), AllocError> {
+    let unit = told_unit(number);
+    let men = dealt(&RECRUITED, number);
+    let all_month = dealt(&MONTH_LONG, number);
+    let orders = format!(in alloc; "UNIT {unit}\nTAX\nRECRUIT {men}\n{all_month}\n")?;
+    mailing.push_str(orders.as_str())
+}
+
+fn mailing(alloc: Global, faction: usize) -> Result<String, AllocError> {
+    let mut mailing = format!(in alloc; "#ATLANTIS {faction}\n")?;
+    for number in 1..=UNITS {
+        if faction_of(number) == faction {
+            add_orders(alloc, number, &mut mailing)?;
+        }
+    }
+    Ok(mailing)
+}
+
+fn lent(alloc: Global, texts: &[String]) -> Result<Vec<&str>, AllocError> {
+    let mut all = Vec::new(alloc);
+    for text in texts {
+        all.push(text.as_str())?;
+    }
+    Ok(all)
+}
+
+/// The month of the orders of all factions.
+pub(crate) fn crowd_month(alloc: Global, world: &World) -> Result<Month, Fail>
+    ensures { IfOk result (λ month. AreFit world.now month.readings) }
+{
+    let mut texts = Vec::new(alloc);
+    for faction in 1..=FACTIONS {
+        texts.push(mailing(alloc, faction)?)?;
+    }
+    month(alloc, world, &lent(alloc, &texts)?)
+}

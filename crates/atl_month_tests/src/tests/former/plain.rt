@@ -1,0 +1,211 @@
+//! A campaign as lists of numbers.
+use atl_state::{Campaign, Event, Unit};
+use std::alloc::{AllocError, Global};
+
+/// A unit without its goods.
+#[derive(Clone, Copy, Debug, Drop, PartialEq, Eq)]
+pub(crate) struct Person {
+    pub number: u32,
+    pub faction: u32,
+    pub region: u32,
+    pub guard: bool,
+    pub men: u64,
+    pub money: u64,
+}
+
+/// Pieces of an item, or days of a skill, that a unit has.
+#[derive(Clone, Copy, Debug, Drop, PartialEq, Eq)]
+pub(crate) struct Good {
+    pub unit: u32,
+    pub is_skill: bool,
+    pub thing: u32,
+    pub amount: u64,
+}
+
+/// What a region has.
+#[derive(Clone, Copy, Debug, Drop, PartialEq, Eq)]
+pub(crate) struct Land {
+    pub number: u32,
+    pub peasants: u64,
+    pub money: u64,
+}
+
+/// A campaign, and what came of its orders.
+pub(crate) struct Plain {
+    pub people: Vec<Person>,
+    pub goods: Vec<Good>,
+    pub lands: Vec<Land>,
+    pub events: Vec<Event>,
+}
+
+impl Drop for Plain {
+    fn drop(self) {
+        let Plain {
+            people: _,
+            goods: _,
+            lands: _,
+            events: _,
+        } = self;
+    }
+}
+
+fn person_of(number: u32, unit: &Unit) -> Person {
+    Person {
+        number,
+        faction: unit.faction,
+        region: unit.region,
+        guard: unit.holding.guard(),
+        men: u64::from(unit.holding.men()),
+        money: u64::from(unit.holding.money()),
+    }
+}
+
+fn people_of(alloc: Global, campaign: &Campaign) -> Result<Vec<Person>, AllocError> {
+    let mut people = Vec::new(alloc);
+    for (number, unit) in campaign.units() {
+        people.push(person_of(number, unit))?;
+    }
+    Ok(people)
+}
+
+/// Adds the items of a unit.
+fn add_items(number: u32, unit: &Unit, goods: &mut Vec<Good>) -> Result<(), AllocError> {
+    for (thing, amount) in unit.holding.items() {
+        goods.push(Good {
+            unit: number,
+            is_skill: false,
+            thing,
+            amount: u64::from(*amount),
+        })?;
+    }
+    Ok(())
+}
+
+/// Adds the days of a unit.
+fn add_days(number: u32, unit: &Unit, goods: &mut Vec<Good>) -> Result<(), AllocError> {
+    for (thing, days) in unit.holding.days() {
+        goods.push(Good {
+            unit: number,
+            is_skill: true,
+            thing,
+            amount: u64::from(*days),
+        })?;
+    }
+    Ok(())
+}
+
+fn goods_of(alloc: Global, campaign: &Campaign) -> Result<Vec<Good>, AllocError> {
+    let mut goods = Vec::new(alloc);
+    for (number, unit) in campaign.units() {
+        add_items(number, unit, &mut goods)?;
+        add_days(number, unit, &mut goods)?;
+    }
+    Ok(goods)
+}
+
+fn lands_of(alloc: Global, campaign: &Campaign) -> Result<Vec<Land>, AllocError> {
+    let mut lands = Vec::new(alloc);
+    for (number, region) in campaign.regions() {
+        lands.push(Land {
+            number,
+            peasants: u64::from(region.peasants),
+            money: u64::from(region.money),
+        })?;
+    }
+    Ok(lands)
+}
+
+impl Plain {
+    /// A campaign, of whose orders nothing came yet.
+    pub fn of(alloc: Global, campaign: &Campaign) -> Result<Plain, AllocError> {
+        let people = people_of(alloc, campaign)?;
+        let goods = goods_of(alloc, campaign)?;
+        let lands = lands_of(alloc, campaign)?;
+        Ok(Plain {
+            people,
+            goods,
+            lands,
+            events: Vec::new(alloc),
+        })
+    }
+
+    /// A unit that is there.
+    pub fn person(&self, number: u32) -> Option<Person> {
+        self.people
+            .iter()
+            .copied()
+            .find(|person| person.number == number)
+    }
+
+    /// A region.
+    pub fn land(&self, number: u32) -> Option<Land> {
+        self.lands
+            .iter()
+            .copied()
+            .find(|land| land.number == number)
+    }
+
+    /// How much a unit has of a thing.
+    pub fn amount(&self, unit: u32, is_skill: bool, thing: u32) -> u64 {
+        let found = self.goods.iter().copied().find(|good| {
+            good.unit == unit && good.is_skill == is_skill && good.thing == thing
+        });
+        match found {
+            Some(good) => good.amount,
+            None => 0,
+        }
+    }
+
+    /// A unit has so many men and so much money.
+    pub fn set_person(&mut self, number: u32, men: u64, money: u64) {
+        for person in self.people.iter_mut() {
+            if person.number == number {
+                person.men = men;
+                person.money = money;
+            }
+        }
+    }
+
+    /// A region has so many peasants and so much money.
+    pub fn set_land(&mut self, number: u32, peasants: u64, money: u64) {
+        for land in self.lands.iter_mut() {
+            if land.number == number {
+                land.peasants = peasants;
+                land.money = money;
+            }
+        }
+    }
+
+    /// A unit has so much of a thing that it has some of; a thing that is new to it comes last.
+    pub fn set_amount(&mut self, new: Good) -> Result<(), AllocError> {
+        let mut is_new = true;
+        for good in self.goods.iter_mut() {
+            if good.unit == new.unit && good.is_skill == new.is_skill && good.thing == new.thing {
+                good.amount = new.amount;
+                is_new = false;
+            }
+        }
+        if is_new {
+            self.goods.push(new)?;
+        }
+        Ok(())
+    }
+
+    /// The goods that are there, by unit, items before skills, and by their numbers.
+    pub fn sorted_goods(&self, alloc: Global) -> Result<Vec<Good>, AllocError> {
+        let mut goods = Vec::new(alloc);
+        for good in self.goods.iter() {
+            if good.amount != 0 {
+                goods.push(*good)?;
+            }
+        }
+        goods.sort_unstable_by_key(|good| {
+            [
+                good.unit as usize,
+                usize::from(good.is_skill),
+                good.thing as usize,
+            ]
+        });
+        Ok(goods)
+    }
+}

@@ -1,0 +1,151 @@
+//! Pots, each with a look at all units.
+use super::plain::{Person, Plain};
+use super::shares::share;
+use atl_instant::Written;
+use atl_state::{EventFault, Outcome};
+use std::alloc::{AllocError, Global};
+
+/// What there is to share of a thing in a region.
+#[derive(Clone, Copy, Drop)]
+pub(crate) struct Pot {
+    pub region: u32,
+    pub thing: u32,
+    pub size: u64,
+}
+
+/// What an order comes to: a fault, or so much of a thing is wanted.
+#[derive(Clone, Copy, Drop)]
+pub(crate) enum Claim {
+    Fault(EventFault),
+    Want(u32, u64),
+}
+
+/// An order with what it comes to.
+#[derive(Clone, Copy, Drop)]
+pub(crate) struct Claimed {
+    pub order: Written,
+    pub claim: Claim,
+}
+
+/// What a unit gets of a pot.
+#[derive(Clone, Copy, Drop)]
+pub(crate) struct Given {
+    pub unit: u32,
+    pub thing: u32,
+    pub amount: u64,
+}
+
+/// The unit of an order, where the order's faction has it.
+pub(crate) fn own(plain: &Plain, order: Written) -> Option<Person> {
+    plain
+        .person(order.unit)
+        .filter(|person| person.faction == order.faction)
+}
+
+/// What a unit wants of a thing, where it wants some.
+fn want_of(claims: &[Claimed], unit: u32, thing: u32) -> Option<u64> {
+    let mut wanted = None;
+    for claimed in claims {
+        if let Claim::Want(of, want) = claimed.claim
+            && claimed.order.unit == unit
+            && of == thing
+        {
+            wanted = Some(want);
+        }
+    }
+    wanted
+}
+
+/// Notes the taker of a pot and what it wants.
+fn note_taker(
+    claims: &[Claimed],
+    pot: Pot,
+    person: Person,
+    takers: &mut Vec<u32>,
+    wants: &mut Vec<u64>,
+) -> Result<(), AllocError> {
+    if person.region == pot.region
+        && let Some(want) = want_of(claims, person.number, pot.thing)
+    {
+        takers.push(person.number)?;
+        wants.push(want)?;
+    }
+    Ok(())
+}
+
+/// Adds what the units get of a pot.
+fn add_shares(
+    alloc: Global,
+    plain: &Plain,
+    claims: &[Claimed],
+    pot: Pot,
+    given: &mut Vec<Given>,
+) -> Result<(), AllocError> {
+    let mut takers = Vec::new(alloc);
+    let mut wants = Vec::new(alloc);
+    for person in plain.people.iter() {
+        note_taker(claims, pot, *person, &mut takers, &mut wants)?;
+    }
+    add_given(pot, &takers, &share(alloc, pot.size, &wants)?, given)
+}
+
+fn add_given(
+    pot: Pot,
+    takers: &[u32],
+    shares: &[u64],
+    given: &mut Vec<Given>,
+) -> Result<(), AllocError> {
+    for (unit, amount) in takers.iter().zip(shares.iter()) {
+        given.push(Given {
+            unit: *unit,
+            thing: pot.thing,
+            amount: *amount,
+        })?;
+    }
+    Ok(())
+}
+
+/// What the units get of all pots.
+pub(crate) fn shared(
+    alloc: Global,
+    plain: &Plain,
+    claims: &[Claimed],
+    pots: &[Pot],
+) -> Result<Vec<Given>, AllocError> {
+    let mut given = Vec::new(alloc);
+    for pot in pots {
+        add_shares(alloc, plain, claims, *pot, &mut given)?;
+    }
+    Ok(given)
+}
+
+/// What a unit was given; 0 where nothing was.
+pub(crate) fn given_to(given: &[Given], unit: u32) -> u64 {
+    match given.iter().copied().find(|one| one.unit == unit) {
+        Some(one) => one.amount,
+        None => 0,
+    }
+}
+
+/// What came of an order that is told so much.
+pub(crate) fn outcome(claim: Claim, told: u64) -> Outcome {
+    match claim {
+        Claim::Fault(fault) => Outcome::Fault(fault.number()),
+        Claim::Want(_, _) => Outcome::Done(told),
+    }
+}
+
+/// Tells of each order what its unit was given.
+pub(crate) fn tell(
+    plain: &mut Plain,
+    claims: &[Claimed],
+    given: &[Given],
+) -> Result<(), AllocError> {
+    for claimed in claims {
+        let told = outcome(claimed.claim, given_to(given, claimed.order.unit));
+        plain
+            .events
+            .push(claimed.order.event(claimed.order.verb, told))?;
+    }
+    Ok(())
+}

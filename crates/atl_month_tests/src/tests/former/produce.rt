@@ -1,0 +1,192 @@
+//! PRODUCE: units make items, of raw items or of what the terrain gives.
+use super::plain::{Good, Person, Plain};
+use super::pots::{Claim, Claimed, Given, Pot, own, shared, tell};
+use super::tax::MOST_MONEY;
+use atl_instant::{Arrangement, Month, Written};
+use atl_market::ProducePhase;
+use atl_orders::Order;
+use atl_state::EventFault;
+use atl_tables::{Item, World};
+use std::alloc::{AllocError, Global};
+
+/// The most pieces of an item that a unit has.
+const MOST_PIECES: u64 = MOST_MONEY;
+
+const MOST_LEVEL: u64 = 5;
+
+/// A level takes so many days of each man for each step up to it: 15 times itself and one more.
+const LEVEL_DAYS: u64 = 15;
+
+/// The greatest level that so many men have by their days.
+fn level(days: u64, men: u64) -> u64 {
+    let mut level = 0;
+    for next in 1..=MOST_LEVEL {
+        let each = LEVEL_DAYS.wrapping_mul(next.wrapping_mul(next.wrapping_add(1)));
+        if men != 0 && each.wrapping_mul(men) <= days {
+            level = next;
+        }
+    }
+    level
+}
+
+fn level_of(plain: &Plain, person: Person, item: &Item) -> u64 {
+    match item.skill {
+        Some(skill) => level(
+            plain.amount(person.number, true, u32::from(skill)),
+            person.men,
+        ),
+        None => 0,
+    }
+}
+
+/// For how many the raw items are enough; None of an item that is made of none.
+fn raw_for(plain: &Plain, person: Person, item: &Item) -> Option<u64> {
+    let raw = item.raw?;
+    let held = plain.amount(person.number, false, u32::from(raw));
+    held.checked_div(u64::from(item.raw_count))
+}
+
+/// The item that an order names.
+fn item_of(month: &Month, order: Written) -> u32 {
+    match month.order(order.faction, order.place) {
+        Some((_, Order::Produce(item))) => u32::from(*item),
+        _ => 0,
+    }
+}
+
+fn want(plain: &Plain, person: Person, number: u32, item: &Item) -> u64 {
+    let skilled = person.men.wrapping_mul(level_of(plain, person, item));
+    let room = MOST_PIECES.saturating_sub(plain.amount(person.number, false, number));
+    let most = skilled.min(room);
+    match raw_for(plain, person, item) {
+        Some(enough) => most.min(enough),
+        None => most,
+    }
+}
+
+fn fault(plain: &Plain, person: Person, item: &Item) -> Option<EventFault> {
+    if person.men == 0 {
+        Some(EventFault::NoMen)
+    } else if item.skill.is_none() || level_of(plain, person, item) < u64::from(item.level) {
+        Some(EventFault::NoSkill)
+    } else if raw_for(plain, person, item) == Some(0) {
+        Some(EventFault::NoMaterial)
+    } else {
+        None
+    }
+}
+
+fn claim(world: &World, plain: &Plain, month: &Month, order: Written) -> Claim {
+    let number = item_of(month, order);
+    let (Some(person), Some(item)) = (own(plain, order), world.items().get(number as usize)) else {
+        return Claim::Fault(EventFault::NotYours);
+    };
+    match fault(plain, person, item) {
+        Some(fault) => Claim::Fault(fault),
+        None => Claim::Want(number, want(plain, person, number, item)),
+    }
+}
+
+fn claims(
+    alloc: Global,
+    world: &World,
+    plain: &Plain,
+    month: &Month,
+    orders: &[Written],
+) -> Result<Vec<Claimed>, AllocError> {
+    let mut claims = Vec::new(alloc);
+    for order in orders {
+        claims.push(Claimed {
+            order: *order,
+            claim: claim(world, plain, month, *order),
+        })?;
+    }
+    Ok(claims)
+}
+
+/// What a region gives of an item.
+fn output(world: &World, region: u32, item: u32) -> u64 {
+    let Some(terrain) = world.terrain_of(region) else {
+        return 0;
+    };
+    match terrain.output.as_slice().get(item as usize) {
+        Some(amount) => u64::from(*amount),
+        None => 0,
+    }
+}
+
+/// Adds what a region gives of the items that aren't made of others. Of the others there is enough for all.
+fn add_pots(world: &World, region: u32, pots: &mut Vec<Pot>) -> Result<(), AllocError> {
+    let mut thing: u32 = 0;
+    for item in world.items() {
+        let size = match item.raw {
+            Some(_) => u64::MAX,
+            None => output(world, region, thing),
+        };
+        pots.push(Pot {
+            region,
+            thing,
+            size,
+        })?;
+        thing = thing.wrapping_add(1);
+    }
+    Ok(())
+}
+
+fn pots(alloc: Global, world: &World, plain: &Plain) -> Result<Vec<Pot>, AllocError> {
+    let mut pots = Vec::new(alloc);
+    for land in plain.lands.iter() {
+        add_pots(world, land.number, &mut pots)?;
+    }
+    Ok(pots)
+}
+
+/// A unit has so much of an item, which it had less or more of.
+fn set_item(plain: &mut Plain, unit: u32, thing: u32, amount: u64) -> Result<(), AllocError> {
+    plain.set_amount(Good {
+        unit,
+        is_skill: false,
+        thing,
+        amount,
+    })
+}
+
+/// A unit has what it made, and no more the raw items.
+fn pay(world: &World, plain: &mut Plain, given: Given) -> Result<(), AllocError> {
+    let Some(item) = world.items().get(given.thing as usize) else {
+        return Ok(());
+    };
+    if let Some(raw) = item.raw {
+        let used = given.amount.wrapping_mul(u64::from(item.raw_count));
+        let held = plain.amount(given.unit, false, u32::from(raw));
+        set_item(plain, given.unit, u32::from(raw), held.wrapping_sub(used))?;
+    }
+    let held = plain.amount(given.unit, false, given.thing);
+    set_item(
+        plain,
+        given.unit,
+        given.thing,
+        held.wrapping_add(given.amount),
+    )
+}
+
+fn pay_all(world: &World, plain: &mut Plain, given: &[Given]) -> Result<(), AllocError> {
+    for one in given {
+        pay(world, plain, *one)?;
+    }
+    Ok(())
+}
+
+/// Produces.
+pub(crate) fn play(
+    alloc: Global,
+    world: &World,
+    plain: &mut Plain,
+    month: &Month,
+) -> Result<(), AllocError> {
+    let orders = month.orders(alloc, &ProducePhase, Arrangement::ByUnit)?;
+    let claims = claims(alloc, world, plain, month, &orders)?;
+    let given = shared(alloc, plain, &claims, &pots(alloc, world, plain)?)?;
+    tell(plain, &claims, &given)?;
+    pay_all(world, plain, &given)
+}

@@ -1,0 +1,139 @@
+//! Upkeep, with a look at all units for each unit.
+use super::plain::{Person, Plain};
+use atl_state::{Event, EventVerb, Outcome};
+use atl_tables::World;
+use std::alloc::{AllocError, Global};
+
+/// What is left of the money of a faction's units in a region behind their own upkeep and what they are short of: all together, and
+/// those alone that come before one of them.
+#[derive(Clone, Copy, Drop)]
+struct Purse {
+    left: u64,
+    short: u64,
+    left_before: u64,
+    short_before: u64,
+}
+
+/// What upkeep takes from a unit.
+#[derive(Clone, Copy, Drop)]
+struct Taken {
+    person: Person,
+    paid: u64,
+    starved: u64,
+}
+
+/// What a unit has left behind its own upkeep.
+fn left_of(maintenance: u64, person: Person) -> u64 {
+    let due = maintenance.wrapping_mul(person.men);
+    person.money.saturating_sub(due)
+}
+
+/// What a unit is short of.
+fn short_of(maintenance: u64, person: Person) -> u64 {
+    let due = maintenance.wrapping_mul(person.men);
+    due.saturating_sub(person.money)
+}
+
+/// Adds what a unit has left and is short of, as one of those before another one or not.
+fn add(maintenance: u64, purse: Purse, person: Person, is_before: bool) -> Purse {
+    let (left, short) = (left_of(maintenance, person), short_of(maintenance, person));
+    let (left_before, short_before) = if is_before { (left, short) } else { (0, 0) };
+    Purse {
+        left: purse.left.wrapping_add(left),
+        short: purse.short.wrapping_add(short),
+        left_before: purse.left_before.wrapping_add(left_before),
+        short_before: purse.short_before.wrapping_add(short_before),
+    }
+}
+
+/// The purse of a unit's faction in its region.
+fn purse_of(maintenance: u64, plain: &Plain, one: Person) -> Purse {
+    let mut purse = Purse {
+        left: 0,
+        short: 0,
+        left_before: 0,
+        short_before: 0,
+    };
+    for person in plain.people.iter() {
+        if person.region == one.region && person.faction == one.faction {
+            purse = add(maintenance, purse, *person, person.number < one.number);
+        }
+    }
+    purse
+}
+
+/// How much of an amount falls to one that has so much, behind those that have so much before it.
+fn part(amount: u64, before: u64, own: u64) -> u64 {
+    let with = before.wrapping_add(own);
+    amount.min(with).wrapping_sub(amount.min(before))
+}
+
+/// What upkeep takes from a unit.
+fn taken_from(maintenance: u64, plain: &Plain, person: Person) -> Taken {
+    let purse = purse_of(maintenance, plain, person);
+    let amount = purse.left.min(purse.short);
+    let left = left_of(maintenance, person);
+    let short = short_of(maintenance, person);
+    let given = part(amount, purse.left_before, left);
+    let covered = part(amount, purse.short_before, short);
+    let missing = short.wrapping_sub(covered);
+    let rounded = missing.wrapping_add(maintenance.wrapping_sub(1));
+    Taken {
+        person,
+        paid: person.money.wrapping_sub(left).wrapping_add(given),
+        starved: rounded.checked_div(maintenance).unwrap_or(0),
+    }
+}
+
+/// What upkeep takes from all units.
+fn all_taken(alloc: Global, maintenance: u64, plain: &Plain) -> Result<Vec<Taken>, AllocError> {
+    let mut all = Vec::new(alloc);
+    for person in plain.people.iter() {
+        all.push(taken_from(maintenance, plain, *person))?;
+    }
+    Ok(all)
+}
+
+/// A unit keeps the part of its days that falls to the men who are left.
+fn keep_days(plain: &mut Plain, one: Taken) {
+    let men = one.person.men;
+    let left = men.wrapping_sub(one.starved);
+    for good in plain.goods.iter_mut() {
+        if good.is_skill && good.unit == one.person.number {
+            let days = good.amount.wrapping_mul(left);
+            good.amount = days.checked_div(men).unwrap_or(0);
+        }
+    }
+}
+
+fn take_all(plain: &mut Plain, all: &[Taken]) {
+    for one in all {
+        keep_days(plain, *one);
+        let men = one.person.men.wrapping_sub(one.starved);
+        let money = one.person.money.wrapping_sub(one.paid);
+        plain.set_person(one.person.number, men, money);
+    }
+}
+
+fn tell(plain: &mut Plain, all: &[Taken]) -> Result<(), AllocError> {
+    for one in all {
+        if one.starved != 0 {
+            plain.events.push(Event {
+                faction: one.person.faction,
+                unit: one.person.number,
+                line: 0,
+                verb: EventVerb::Upkeep,
+                outcome: Outcome::Starved(one.starved),
+            })?;
+        }
+    }
+    Ok(())
+}
+
+/// Pays the upkeep of all.
+pub(crate) fn play(alloc: Global, world: &World, plain: &mut Plain) -> Result<(), AllocError> {
+    let maintenance = u64::from(world.rules().maintenance);
+    let all = all_taken(alloc, maintenance, plain)?;
+    take_all(plain, &all);
+    tell(plain, &all)
+}
