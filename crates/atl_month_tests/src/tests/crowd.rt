@@ -28,7 +28,7 @@ const RULES: &str = r#"[rules]
 maintenance = 60
 tax_per_man = 3
 recruit_price = 11
-recruit_fraction = 60
+recruit_fraction = 7
 growth = 9
 income = 2
 start_money = 100
@@ -108,7 +108,12 @@ const LANDS: [(&str, u32, u32); 7] = [
 
 const MEN: [i64; 11] = [1, 1, 2, 3, 5, 8, 13, 40, 90, 2, 1];
 
-const MONEY: [i64; 7] = [0, 3, 20, 150, 900, 4_000, 999_999_990];
+const MONEY: [i64; 7] = [0, 3, 20, 150, 900, 0, 4_000];
+
+/// One of so many units has room for hardly more money.
+const RICH: usize = 37;
+
+const FULL_PURSE: i64 = 999_999_990;
 
 /// Pieces of an item; of some there is room for hardly more.
 const PIECES: [i64; 5] = [0, 2, 0, 30, 999_999_995];
@@ -129,9 +134,9 @@ const MONTH_LONG: [&str; 9] = [
     "PRODUCE wood",
 ];
 
-const RECRUITED: [u32; 5] = [1, 20, 3, 0, 400];
+const RECRUITED: [u32; 5] = [1, 20, 3, 7, 400];
 
-/// One of so many orders is for a unit of the next faction.
+/// The orders of one of so many units are for the next one, which is another faction's.
 const ASTRAY: usize = 29;
 
 const JOINING: i64 = 2;
@@ -181,6 +186,14 @@ fn guards(number: usize) -> bool {
     region_of(number) % FACTIONS + 1 == faction_of(number) && number % 5 != 0
 }
 
+fn money_of(number: usize) -> i64 {
+    if number % RICH == 0 {
+        FULL_PURSE
+    } else {
+        dealt(&MONEY, number)
+    }
+}
+
 fn unit(alloc: Global, number: usize) -> Result<StoredUnit, AllocError> {
     Ok(StoredUnit {
         number: number as i64,
@@ -189,7 +202,7 @@ fn unit(alloc: Global, number: usize) -> Result<StoredUnit, AllocError> {
         region: region_of(number) as i64,
         structure: 0,
         men: dealt(&MEN, number),
-        money: dealt(&MONEY, number),
+        money: money_of(number),
         guard: i64::from(guards(number)),
     })
 }
@@ -313,7 +326,7 @@ fn money_and_men() -> (i64, i64) {
     let mut money: i64 = 0;
     let mut men: i64 = 0;
     for number in 1..=UNITS {
-        money = money.wrapping_add(dealt(&MONEY, number));
+        money = money.wrapping_add(money_of(number));
         men = men.wrapping_add(dealt(&MEN, number));
     }
     (money, men)
@@ -363,7 +376,7 @@ pub(crate) fn crowd(alloc: Global, world: &World) -> Result<Campaign, Fail>
 /// The unit that an order of a faction is for.
 fn told_unit(number: usize) -> usize {
     if number % ASTRAY == 0 {
-        number / 2 + 1
+        number.wrapping_add(1)
     } else {
         number
     }
