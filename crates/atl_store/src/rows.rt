@@ -12,4 +12,4 @@ pub(crate) mod stored;
 pub mod structure;
 pub mod unit;
 
-pub use stored::Placed;
+pub use stored::{Listed, Placed, Stored};

@@ -1,24 +1,12 @@
 //! The tables but the campaign's own, as loading reads them. All are read: a value of another type in one of them is told
 //! only where none of them fails to be read.
-ghost use Rattle.std.specs.Prelude.{◌≡◌, false};
+ghost use Rattle.std.specs.Prelude.{◌≡◌, false, [], ◌∷◌};
 ghost use Rattle.sqlite.specs.Held.{state};
-ghost use Rattle.atl_store.specs.Gathering.{IsSettled, kept_of, place_selects, people_selects, work_selects, AreTwo, AreThree, AreOthers, ReadsSome};
+ghost use Rattle.atl_store.specs.Gathering.{IsSettled, kept_of, AreRows, AreTwo, AreThree, AreOthers, ReadsSome};
 ghost use Rattle.atl_store.specs.Loading.{other_selects};
-ghost use Rattle.atl_store.specs.Reading.{placed_rows_in};
-ghost use Rattle.atl_store.specs.Sets.{rows_in};
-ghost use Rattle.atl_store.specs.StoredRows.{faction_stored, region_stored, unit_stored, structure_stored, mail_stored, report_stored, has_stored, books_stored};
-ghost use Rattle.atl_store.specs.Tables.{faction_table, region_table, unit_table, has_table, structure_table, mail_table, report_table, books_table};
 
 use crate::fault::{ReadFault, StoreFault};
-use crate::rows::Placed;
-use crate::rows::books::read_books;
-use crate::rows::faction::read_factions;
-use crate::rows::has::read_has;
-use crate::rows::mail::read_mail;
-use crate::rows::region::read_regions;
-use crate::rows::report::read_reports;
-use crate::rows::structure::read_structures;
-use crate::rows::unit::read_units;
+use crate::rows::{Listed, Placed};
 use atl_state::parts::{
     StoredBooks, StoredFaction, StoredHas, StoredMail, StoredRegion, StoredReport, StoredStructure,
     StoredUnit,
@@ -53,45 +41,44 @@ fn kept<T: Drop>(rows: Result<Vec<T>, ReadFault>) -> Result<Option<Vec<T>>, Stor
     }
 }
 
-fn read_people<S: Alter>(
+/// All rows of a table.
+fn read_one<A: Listed, S: Alter>(
     alloc: Global,
     conn: &mut Connection<S>,
-) -> Result<Option<People>, StoreFault>
+) -> Result<Option<Vec<A>>, StoreFault>
     requires idle { conn.old.in_transaction ≡ false }
     requires settled { IsSettled (state S.Store conn.old) }
-    ensures { ReadsSome S.Store conn.old people_selects (AreTwo S.Store conn.old (rows_in unit_table) unit_stored (placed_rows_in has_table) has_stored) result conn.new }
+    ensures { ReadsSome S.Store conn.old ((A.Listed.select, A.Stored.forms) ∷ []) (λ all. AreRows S.Store conn.old A.Listed.in_table A.Stored.shown all.items) result conn.new }
 {
-    let units = kept(read_units(alloc, conn))?;
-    let has = kept(read_has(alloc, conn))?;
-    Ok(units.zip(has))
+    kept(A::read(alloc, conn))
 }
 
-fn read_places<S: Alter>(
+/// All rows of two tables.
+fn read_two<A: Listed, B: Listed, S: Alter>(
     alloc: Global,
     conn: &mut Connection<S>,
-) -> Result<Option<Places>, StoreFault>
+) -> Result<Option<(Vec<A>, Vec<B>)>, StoreFault>
     requires idle { conn.old.in_transaction ≡ false }
     requires settled { IsSettled (state S.Store conn.old) }
-    ensures { ReadsSome S.Store conn.old place_selects (AreThree S.Store conn.old (rows_in faction_table) faction_stored (rows_in region_table) region_stored (rows_in report_table) report_stored) result conn.new }
+    ensures { ReadsSome S.Store conn.old ((A.Listed.select, A.Stored.forms) ∷ (B.Listed.select, B.Stored.forms) ∷ []) (AreTwo S.Store conn.old A.Listed.in_table A.Stored.shown B.Listed.in_table B.Stored.shown) result conn.new }
 {
-    let factions = kept(read_factions(alloc, conn))?;
-    let regions = kept(read_regions(alloc, conn))?;
-    let reports = kept(read_reports(alloc, conn))?;
-    Ok(factions.zip(regions).zip(reports))
+    let first = read_one::<A, S>(alloc, conn)?;
+    let second = read_one::<B, S>(alloc, conn)?;
+    Ok(first.zip(second))
 }
 
-fn read_works<S: Alter>(
+/// All rows of three tables.
+fn read_three<A: Listed, B: Listed, C: Listed, S: Alter>(
     alloc: Global,
     conn: &mut Connection<S>,
-) -> Result<Option<Works>, StoreFault>
+) -> Result<Option<((Vec<A>, Vec<B>), Vec<C>)>, StoreFault>
     requires idle { conn.old.in_transaction ≡ false }
     requires settled { IsSettled (state S.Store conn.old) }
-    ensures { ReadsSome S.Store conn.old work_selects (AreThree S.Store conn.old (rows_in structure_table) structure_stored (rows_in mail_table) mail_stored (placed_rows_in books_table) books_stored) result conn.new }
+    ensures { ReadsSome S.Store conn.old ((A.Listed.select, A.Stored.forms) ∷ (B.Listed.select, B.Stored.forms) ∷ (C.Listed.select, C.Stored.forms) ∷ []) (AreThree S.Store conn.old A.Listed.in_table A.Stored.shown B.Listed.in_table B.Stored.shown C.Listed.in_table C.Stored.shown) result conn.new }
 {
-    let structures = kept(read_structures(alloc, conn))?;
-    let mail = kept(read_mail(alloc, conn))?;
-    let books = kept(read_books(alloc, conn))?;
-    Ok(structures.zip(mail).zip(books))
+    let two = read_two::<A, B, S>(alloc, conn)?;
+    let third = read_one::<C, S>(alloc, conn)?;
+    Ok(two.zip(third))
 }
 
 /// The rows of the eight tables. There are none where a value of one of them is of another type.
@@ -103,8 +90,8 @@ pub(crate) fn read_others<S: Alter>(
     requires settled { IsSettled (state S.Store conn.old) }
     ensures { ReadsSome S.Store conn.old other_selects (AreOthers S.Store conn.old) result conn.new }
 {
-    let places = read_places(alloc, conn)?;
-    let people = read_people(alloc, conn)?;
-    let works = read_works(alloc, conn)?;
+    let places = read_three::<StoredFaction, StoredRegion, StoredReport, S>(alloc, conn)?;
+    let people = read_two::<StoredUnit, Placed<StoredHas>, S>(alloc, conn)?;
+    let works = read_three::<StoredStructure, StoredMail, Placed<StoredBooks>, S>(alloc, conn)?;
     Ok(places.zip(people).zip(works))
 }

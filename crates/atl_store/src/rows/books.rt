@@ -7,11 +7,11 @@ ghost use Rattle.atl_store.specs.Writes.{Writes};
 ghost use Rattle.atl_store.specs.Inside.{Inside, HasTables, Puts, Drops};
 ghost use Rattle.atl_store.specs.Selects.{all_books};
 ghost use Rattle.atl_store.specs.StoredRows.{books_stored, books_forms};
-ghost use Rattle.atl_store.specs.Reading.{ReadsRows, GivesTable, placed_rows_in};
+ghost use Rattle.atl_store.specs.Reading.{placed_rows_in};
 
 use crate::fault::ReadFault;
 use crate::rows::columns::two_integers;
-use crate::rows::stored::{Placed, Stored, read_all};
+use crate::rows::stored::{Listed, Placed, Stored, read_all};
 use crate::statement::run;
 use atl_state::parts::StoredBooks;
 use sqlite::{Alter, Connection, Error, Row, Transaction, params};
@@ -71,19 +71,19 @@ impl Stored for Placed<StoredBooks> {
     }
 }
 
-/// The books, by entry and thing, each row with its place. Each fault is told as `ReadFault` says; whatever is answered,
-/// nothing is changed.
-pub fn read_books<S: Alter>(
-    alloc: Global,
-    conn: &mut Connection<S>,
-) -> Result<Vec<Placed<StoredBooks>>, ReadFault>
-    requires { conn.old.in_transaction ≡ false }
-    ensures select { ReadsRows S.Store all_books conn.old books_forms books_stored result conn.new }
-    ensures table { GivesTable S.Store (placed_rows_in books_table) books_stored result conn.old conn.new }
-{
-    read_all(
-        alloc,
-        conn,
-        "SELECT entry, thing, amount, rowid FROM books ORDER BY entry, thing",
-    )
+impl Listed for Placed<StoredBooks> {
+    ghost select = { all_books };
+
+    ghost in_table = { placed_rows_in books_table };
+
+    fn read<S: Alter>(
+        alloc: Global,
+        conn: &mut Connection<S>,
+    ) -> Result<Vec<Placed<StoredBooks>>, ReadFault> {
+        read_all(
+            alloc,
+            conn,
+            "SELECT entry, thing, amount, rowid FROM books ORDER BY entry, thing",
+        )
+    }
 }

@@ -10,11 +10,11 @@ ghost use Rattle.atl_store.specs.Inside.{Inside, HasTables};
 ghost use Rattle.atl_store.specs.Selects.{all_campaign};
 ghost use Rattle.atl_store.specs.StoredRows.{head_stored, head_forms, campaign_stored, campaign_forms};
 ghost use Rattle.atl_store.specs.Sets.{rows_in};
-ghost use Rattle.atl_store.specs.Reading.{Asks, ReadsRows, GivesTable};
+ghost use Rattle.atl_store.specs.Reading.{Asks};
 
 use crate::fault::ReadFault;
 use crate::rows::columns::{letters, three_integers, words};
-use crate::rows::stored::{Stored, read_all, select};
+use crate::rows::stored::{Listed, Stored, read_all, select};
 use crate::statement::run;
 use atl_state::parts::StoredHead;
 use sqlite::{Alter, Connection, Error, Row, Transaction, params};
@@ -126,15 +126,15 @@ pub(crate) fn select_campaign<S: Alter>(conn: &mut Connection<S>) -> Result<Vec<
     select(conn, ALL)
 }
 
-/// The campaign's own rows, of which a whole store has one. Each fault is told as `ReadFault` says, OtherType also of a world
-/// text that isn't UTF-8; whatever is answered, nothing is changed.
-pub fn read_campaign<S: Alter>(
-    alloc: Global,
-    conn: &mut Connection<S>,
-) -> Result<Vec<StoredCampaign>, ReadFault>
-    requires { conn.old.in_transaction ≡ false }
-    ensures select { ReadsRows S.Store all_campaign conn.old campaign_forms campaign_stored result conn.new }
-    ensures table { GivesTable S.Store (rows_in campaign_table) campaign_stored result conn.old conn.new }
-{
-    read_all(alloc, conn, ALL)
+impl Listed for StoredCampaign {
+    ghost select = { all_campaign };
+
+    ghost in_table = { rows_in campaign_table };
+
+    fn read<S: Alter>(
+        alloc: Global,
+        conn: &mut Connection<S>,
+    ) -> Result<Vec<StoredCampaign>, ReadFault> {
+        read_all(alloc, conn, ALL)
+    }
 }

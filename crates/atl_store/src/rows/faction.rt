@@ -5,12 +5,11 @@ ghost use Rattle.atl_store.specs.Rows.{faction_line};
 ghost use Rattle.atl_store.specs.Selects.{all_factions};
 ghost use Rattle.atl_store.specs.StoredRows.{faction_stored, faction_forms};
 ghost use Rattle.atl_store.specs.Sets.{rows_in};
-ghost use Rattle.atl_store.specs.Reading.{ReadsRows, GivesTable};
 
 use crate::fault::ReadFault;
 use crate::kept::Kept;
 use crate::rows::columns::{integer, letters};
-use crate::rows::stored::{Stored, read_all};
+use crate::rows::stored::{Listed, Stored, read_all};
 use crate::statement::run;
 use atl_state::parts::StoredFaction;
 use atl_state::{Campaign, Faction};
@@ -77,19 +76,19 @@ impl Stored for StoredFaction {
     }
 }
 
-/// All factions, in the order of their numbers. Each fault is told as `ReadFault` says; whatever is answered, nothing is
-/// changed.
-pub fn read_factions<S: Alter>(
-    alloc: Global,
-    conn: &mut Connection<S>,
-) -> Result<Vec<StoredFaction>, ReadFault>
-    requires { conn.old.in_transaction ≡ false }
-    ensures select { ReadsRows S.Store all_factions conn.old faction_forms faction_stored result conn.new }
-    ensures table { GivesTable S.Store (rows_in faction_table) faction_stored result conn.old conn.new }
-{
-    read_all(
-        alloc,
-        conn,
-        "SELECT number, joined_as, name, pass, gone FROM faction ORDER BY number",
-    )
+impl Listed for StoredFaction {
+    ghost select = { all_factions };
+
+    ghost in_table = { rows_in faction_table };
+
+    fn read<S: Alter>(
+        alloc: Global,
+        conn: &mut Connection<S>,
+    ) -> Result<Vec<StoredFaction>, ReadFault> {
+        read_all(
+            alloc,
+            conn,
+            "SELECT number, joined_as, name, pass, gone FROM faction ORDER BY number",
+        )
+    }
 }

@@ -7,11 +7,11 @@ ghost use Rattle.atl_store.specs.Writes.{Writes};
 ghost use Rattle.atl_store.specs.Inside.{Inside, HasTables, Puts, Drops};
 ghost use Rattle.atl_store.specs.Selects.{all_has};
 ghost use Rattle.atl_store.specs.StoredRows.{has_stored, has_forms};
-ghost use Rattle.atl_store.specs.Reading.{ReadsRows, GivesTable, placed_rows_in};
+ghost use Rattle.atl_store.specs.Reading.{placed_rows_in};
 
 use crate::fault::ReadFault;
 use crate::rows::columns::{three_integers, two_integers};
-use crate::rows::stored::{Placed, Stored, read_all};
+use crate::rows::stored::{Listed, Placed, Stored, read_all};
 use crate::statement::run;
 use atl_state::parts::StoredHas;
 use sqlite::{Alter, Connection, Error, Row, Transaction, params};
@@ -86,19 +86,19 @@ impl Stored for Placed<StoredHas> {
     }
 }
 
-/// What units have, by unit, sort and thing, each row with its place. Each fault is told as `ReadFault` says; whatever is
-/// answered, nothing is changed.
-pub fn read_has<S: Alter>(
-    alloc: Global,
-    conn: &mut Connection<S>,
-) -> Result<Vec<Placed<StoredHas>>, ReadFault>
-    requires { conn.old.in_transaction ≡ false }
-    ensures select { ReadsRows S.Store all_has conn.old has_forms has_stored result conn.new }
-    ensures table { GivesTable S.Store (placed_rows_in has_table) has_stored result conn.old conn.new }
-{
-    read_all(
-        alloc,
-        conn,
-        "SELECT unit, sort, thing, amount, rowid FROM has ORDER BY unit, sort, thing",
-    )
+impl Listed for Placed<StoredHas> {
+    ghost select = { all_has };
+
+    ghost in_table = { placed_rows_in has_table };
+
+    fn read<S: Alter>(
+        alloc: Global,
+        conn: &mut Connection<S>,
+    ) -> Result<Vec<Placed<StoredHas>>, ReadFault> {
+        read_all(
+            alloc,
+            conn,
+            "SELECT unit, sort, thing, amount, rowid FROM has ORDER BY unit, sort, thing",
+        )
+    }
 }

@@ -7,12 +7,11 @@ ghost use Rattle.atl_store.specs.Inside.{Inside, HasTables, Puts};
 ghost use Rattle.atl_store.specs.Selects.{all_mail};
 ghost use Rattle.atl_store.specs.StoredRows.{mail_stored, mail_forms};
 ghost use Rattle.atl_store.specs.Sets.{rows_in};
-ghost use Rattle.atl_store.specs.Reading.{ReadsRows, GivesTable};
 
 use crate::fault::ReadFault;
 use crate::kept::Kept;
 use crate::rows::columns::{bytes, integer};
-use crate::rows::stored::{Stored, read_all};
+use crate::rows::stored::{Listed, Stored, read_all};
 use crate::statement::run;
 use atl_state::Campaign;
 use atl_state::parts::StoredMail;
@@ -76,18 +75,19 @@ impl Stored for StoredMail {
     }
 }
 
-/// All mail, in the order of the factions. Each fault is told as `ReadFault` says; whatever is answered, nothing is changed.
-pub fn read_mail<S: Alter>(
-    alloc: Global,
-    conn: &mut Connection<S>,
-) -> Result<Vec<StoredMail>, ReadFault>
-    requires { conn.old.in_transaction ≡ false }
-    ensures select { ReadsRows S.Store all_mail conn.old mail_forms mail_stored result conn.new }
-    ensures table { GivesTable S.Store (rows_in mail_table) mail_stored result conn.old conn.new }
-{
-    read_all(
-        alloc,
-        conn,
-        "SELECT faction, text FROM mail ORDER BY faction",
-    )
+impl Listed for StoredMail {
+    ghost select = { all_mail };
+
+    ghost in_table = { rows_in mail_table };
+
+    fn read<S: Alter>(
+        alloc: Global,
+        conn: &mut Connection<S>,
+    ) -> Result<Vec<StoredMail>, ReadFault> {
+        read_all(
+            alloc,
+            conn,
+            "SELECT faction, text FROM mail ORDER BY faction",
+        )
+    }
 }

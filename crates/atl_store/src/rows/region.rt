@@ -5,12 +5,11 @@ ghost use Rattle.atl_store.specs.Rows.{region_line};
 ghost use Rattle.atl_store.specs.Selects.{all_regions};
 ghost use Rattle.atl_store.specs.StoredRows.{region_stored, region_forms};
 ghost use Rattle.atl_store.specs.Sets.{rows_in};
-ghost use Rattle.atl_store.specs.Reading.{ReadsRows, GivesTable};
 
 use crate::fault::ReadFault;
 use crate::kept::Kept;
 use crate::rows::columns::three_integers;
-use crate::rows::stored::{Stored, read_all};
+use crate::rows::stored::{Listed, Stored, read_all};
 use crate::statement::run;
 use atl_state::parts::StoredRegion;
 use atl_state::{Campaign, Region};
@@ -65,19 +64,19 @@ impl Stored for StoredRegion {
     }
 }
 
-/// All regions, in the order of their numbers. Each fault is told as `ReadFault` says; whatever is answered, nothing is
-/// changed.
-pub fn read_regions<S: Alter>(
-    alloc: Global,
-    conn: &mut Connection<S>,
-) -> Result<Vec<StoredRegion>, ReadFault>
-    requires { conn.old.in_transaction ≡ false }
-    ensures select { ReadsRows S.Store all_regions conn.old region_forms region_stored result conn.new }
-    ensures table { GivesTable S.Store (rows_in region_table) region_stored result conn.old conn.new }
-{
-    read_all(
-        alloc,
-        conn,
-        "SELECT number, peasants, money FROM region ORDER BY number",
-    )
+impl Listed for StoredRegion {
+    ghost select = { all_regions };
+
+    ghost in_table = { rows_in region_table };
+
+    fn read<S: Alter>(
+        alloc: Global,
+        conn: &mut Connection<S>,
+    ) -> Result<Vec<StoredRegion>, ReadFault> {
+        read_all(
+            alloc,
+            conn,
+            "SELECT number, peasants, money FROM region ORDER BY number",
+        )
+    }
 }

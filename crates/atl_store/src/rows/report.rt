@@ -5,12 +5,11 @@ ghost use Rattle.atl_store.specs.Shown.{report_row};
 ghost use Rattle.atl_store.specs.Selects.{all_reports};
 ghost use Rattle.atl_store.specs.StoredRows.{report_stored, report_forms};
 ghost use Rattle.atl_store.specs.Sets.{rows_in};
-ghost use Rattle.atl_store.specs.Reading.{ReadsRows, GivesTable};
 
 use crate::fault::ReadFault;
 use crate::kept::Kept;
 use crate::rows::columns::{integer, words};
-use crate::rows::stored::{Stored, read_all};
+use crate::rows::stored::{Listed, Stored, read_all};
 use crate::statement::run;
 use atl_state::Campaign;
 use atl_state::parts::StoredReport;
@@ -66,19 +65,19 @@ impl Stored for StoredReport {
     }
 }
 
-/// All reports, in the order of the factions. Each fault is told as `ReadFault` says, OtherType also of a report that isn't
-/// UTF-8; whatever is answered, nothing is changed.
-pub fn read_reports<S: Alter>(
-    alloc: Global,
-    conn: &mut Connection<S>,
-) -> Result<Vec<StoredReport>, ReadFault>
-    requires { conn.old.in_transaction ≡ false }
-    ensures select { ReadsRows S.Store all_reports conn.old report_forms report_stored result conn.new }
-    ensures table { GivesTable S.Store (rows_in report_table) report_stored result conn.old conn.new }
-{
-    read_all(
-        alloc,
-        conn,
-        "SELECT faction, text FROM report ORDER BY faction",
-    )
+impl Listed for StoredReport {
+    ghost select = { all_reports };
+
+    ghost in_table = { rows_in report_table };
+
+    fn read<S: Alter>(
+        alloc: Global,
+        conn: &mut Connection<S>,
+    ) -> Result<Vec<StoredReport>, ReadFault> {
+        read_all(
+            alloc,
+            conn,
+            "SELECT faction, text FROM report ORDER BY faction",
+        )
+    }
 }

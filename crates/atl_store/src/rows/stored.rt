@@ -1,8 +1,9 @@
 //! Rows as they are read.
-ghost use Rattle.std.specs.Prelude.{◌≡◌, ◌≢◌, List, map, length, false, not, IsTrue, IfOk, IfErr};
+ghost use Rattle.std.specs.Prelude.{◌≡◌, ◌≢◌, ℕ, List, map, length, false, not, IsTrue, IfOk, IfErr};
 ghost use Rattle.sqlite.specs.Order.{Row as SqlRow};
+ghost use Rattle.sqlite_trees.specs.Tree.{Trees};
 ghost use Rattle.atl_store.specs.Faults.{is_memory};
-ghost use Rattle.atl_store.specs.Reading.{Asks, ReadsRows};
+ghost use Rattle.atl_store.specs.Reading.{Asks, GivesTable, ReadsRows};
 ghost use Rattle.atl_store.specs.Stored.{Form, first_columns, IsTyped, AreTyped};
 ghost use Rattle.atl_store.specs.declared.fault.ReadFault.TheVariants.{Memory, OtherType};
 
@@ -11,16 +12,33 @@ use sqlite::{Alter, Connection, Error, Row};
 use std::alloc::Global;
 
 /// A row of a table as it stands there, whoever wrote it.
-pub(crate) trait Stored: Drop + Sized {
+pub trait Stored: Drop + Sized {
     // What the columns of the answer are read as, and the row as SQL shows it.
     ghost forms: { List Form };
 
     ghost shown: { Self → SqlRow };
 
+    /// The row whose columns are these. Memory where it finds none, else an error where a value is of another type.
     fn from_row(alloc: Global, row: &Row) -> Result<Self, Error>
         ensures ok { IfOk result (λ stored. shown stored ≡ first_columns (length forms) row.now) }
         ensures typed { IfOk result (λ _. IsTyped forms row.now) }
         ensures other { IfErr result (λ e. IsTrue (not (is_memory e)) → ¬ IsTyped forms row.now) };
+}
+
+/// A row of a table of which all rows are read at once.
+pub trait Listed: Stored {
+    // The SELECT of all its columns, and what the table has.
+    ghost select: { List ℕ };
+
+    ghost in_table: { Trees → List SqlRow };
+
+    /// All rows of the table, in the order of its key; those of what units have and of the books with the places that they
+    /// are kept at, and units without their goods. Each fault is told as `ReadFault` says, OtherType also of a report or a
+    /// world text that isn't UTF-8; whatever is answered, nothing is changed.
+    fn read<S: Alter>(alloc: Global, conn: &mut Connection<S>) -> Result<Vec<Self>, ReadFault>
+        requires { conn.old.in_transaction ≡ false }
+        ensures select { ReadsRows S.Store select conn.old Self.forms Self.shown result conn.new }
+        ensures table { GivesTable S.Store in_table Self.shown result conn.old conn.new };
 }
 
 /// A row of a table that has no number for its rows, with the place that the database keeps it at.

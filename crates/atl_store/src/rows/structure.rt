@@ -5,12 +5,11 @@ ghost use Rattle.atl_store.specs.Rows.{structure_line};
 ghost use Rattle.atl_store.specs.Selects.{all_structures};
 ghost use Rattle.atl_store.specs.StoredRows.{structure_stored, structure_forms};
 ghost use Rattle.atl_store.specs.Sets.{rows_in};
-ghost use Rattle.atl_store.specs.Reading.{ReadsRows, GivesTable};
 
 use crate::fault::ReadFault;
 use crate::kept::Kept;
 use crate::rows::columns::{letters, three_integers, two_integers};
-use crate::rows::stored::{Stored, read_all};
+use crate::rows::stored::{Listed, Stored, read_all};
 use crate::statement::run;
 use atl_state::parts::StoredStructure;
 use atl_state::{Campaign, Structure};
@@ -81,19 +80,19 @@ impl Stored for StoredStructure {
     }
 }
 
-/// All structures, in the order of their numbers. Each fault is told as `ReadFault` says; whatever is answered, nothing is
-/// changed.
-pub fn read_structures<S: Alter>(
-    alloc: Global,
-    conn: &mut Connection<S>,
-) -> Result<Vec<StoredStructure>, ReadFault>
-    requires { conn.old.in_transaction ≡ false }
-    ensures select { ReadsRows S.Store all_structures conn.old structure_forms structure_stored result conn.new }
-    ensures table { GivesTable S.Store (rows_in structure_table) structure_stored result conn.old conn.new }
-{
-    read_all(
-        alloc,
-        conn,
-        "SELECT number, kind, name, region, done, owner FROM structure ORDER BY number",
-    )
+impl Listed for StoredStructure {
+    ghost select = { all_structures };
+
+    ghost in_table = { rows_in structure_table };
+
+    fn read<S: Alter>(
+        alloc: Global,
+        conn: &mut Connection<S>,
+    ) -> Result<Vec<StoredStructure>, ReadFault> {
+        read_all(
+            alloc,
+            conn,
+            "SELECT number, kind, name, region, done, owner FROM structure ORDER BY number",
+        )
+    }
 }

@@ -5,12 +5,11 @@ ghost use Rattle.atl_store.specs.Rows.{unit_line};
 ghost use Rattle.atl_store.specs.Selects.{all_units};
 ghost use Rattle.atl_store.specs.StoredRows.{unit_stored, unit_forms};
 ghost use Rattle.atl_store.specs.Sets.{rows_in};
-ghost use Rattle.atl_store.specs.Reading.{ReadsRows, GivesTable};
 
 use crate::fault::ReadFault;
 use crate::kept::Kept;
 use crate::rows::columns::{letters, three_integers, two_integers};
-use crate::rows::stored::{Stored, read_all};
+use crate::rows::stored::{Listed, Stored, read_all};
 use crate::statement::run;
 use atl_state::parts::StoredUnit;
 use atl_state::{Campaign, Unit};
@@ -82,19 +81,19 @@ impl Stored for StoredUnit {
     }
 }
 
-/// All units, in the order of their numbers, without their goods. Each fault is told as `ReadFault` says; whatever is
-/// answered, nothing is changed.
-pub fn read_units<S: Alter>(
-    alloc: Global,
-    conn: &mut Connection<S>,
-) -> Result<Vec<StoredUnit>, ReadFault>
-    requires { conn.old.in_transaction ≡ false }
-    ensures select { ReadsRows S.Store all_units conn.old unit_forms unit_stored result conn.new }
-    ensures table { GivesTable S.Store (rows_in unit_table) unit_stored result conn.old conn.new }
-{
-    read_all(
-        alloc,
-        conn,
-        "SELECT number, faction, name, region, structure, men, money, guard FROM unit ORDER BY number",
-    )
+impl Listed for StoredUnit {
+    ghost select = { all_units };
+
+    ghost in_table = { rows_in unit_table };
+
+    fn read<S: Alter>(
+        alloc: Global,
+        conn: &mut Connection<S>,
+    ) -> Result<Vec<StoredUnit>, ReadFault> {
+        read_all(
+            alloc,
+            conn,
+            "SELECT number, faction, name, region, structure, men, money, guard FROM unit ORDER BY number",
+        )
+    }
 }

@@ -2,9 +2,9 @@
 
 use super::compare::{is_bytes, is_count, is_text};
 use super::making::visited;
+use atl_state::parts::{StoredReport, StoredUnit};
 use atl_store::ReadFault;
-use atl_store::rows::report::read_reports;
-use atl_store::rows::unit::read_units;
+use atl_store::rows::Listed;
 use sqlite::{Alter, Connection};
 use std::alloc::Global;
 use std::process::Abort;
@@ -30,7 +30,7 @@ fn told_of_units<S: Alter>(alloc: Global, conn: &mut Connection<S>) -> &'static 
     if !conn.is_autocommit() {
         return "a transaction is open";
     }
-    match read_units(alloc, conn) {
+    match StoredUnit::read(alloc, conn) {
         Ok(_) => "read",
         Err(fault) => word(fault),
     }
@@ -41,7 +41,7 @@ fn told_of_reports<S: Alter>(alloc: Global, conn: &mut Connection<S>) -> &'stati
     if !conn.is_autocommit() {
         return "a transaction is open";
     }
-    match read_reports(alloc, conn) {
+    match StoredReport::read(alloc, conn) {
         Ok(_) => "read",
         Err(fault) => word(fault),
     }
@@ -95,7 +95,7 @@ fn has_odd_name<S: Alter>(
     if !conn.is_autocommit() {
         return Err(Fail::new("a transaction is open"));
     }
-    let rows = read_units(alloc, conn)?;
+    let rows = StoredUnit::read(alloc, conn)?;
     is_count(rt, rows.len(), 1);
     is_bytes(rt, rows[0].name.as_slice(), &[255]);
     Ok(())

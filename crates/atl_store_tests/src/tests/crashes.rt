@@ -1,9 +1,11 @@
 //! A disk that stops at each of its calls. What works on the disk takes any disk that can crash.
 ghost use Rattle.std.specs.Prelude.{◌≡◌, false};
 
-use super::counts::{count_books, count_factions, count_units};
+use super::counts::count;
 use super::making::{has_arrived, has_few_things, joined, small};
 use atl_state::Campaign;
+use atl_state::parts::{StoredBooks, StoredFaction, StoredUnit};
+use atl_store::rows::Placed;
 use atl_store::{CreateFault, WriteFault, create, write_join};
 use atl_test_worlds::SMALL;
 use sqlite::{Alter, Connection, FileStore, Options};
@@ -55,9 +57,9 @@ fn factions<S: Alter>(alloc: Global, conn: &mut Connection<S>) -> Result<Option<
     if !conn.is_autocommit() {
         return Err(Fail::new("a transaction is open"));
     }
-    let factions = count_factions(alloc, conn)?;
-    let units = count_units(alloc, conn)?;
-    let books = count_books(alloc, conn)?;
+    let factions = count::<StoredFaction, S>(alloc, conn)?;
+    let units = count::<StoredUnit, S>(alloc, conn)?;
+    let books = count::<Placed<StoredBooks>, S>(alloc, conn)?;
     if units != factions || books != (if factions == 0 { 2 } else { 4 }) {
         return Err(Fail::new("a part of a writing"));
     }

@@ -2,14 +2,14 @@
 ghost use Rattle.std.specs.Prelude.{◌≡◌, false};
 
 use super::compare::{is_bytes, is_count, is_number, is_text};
-use super::counts::{
-    count_factions, count_has, count_mail, count_reports, count_structures, count_units,
-};
+use super::counts::count;
 use super::making::created;
-use atl_state::parts::StoredBooks;
-use atl_store::rows::books::read_books;
-use atl_store::rows::campaign::{StoredCampaign, read_campaign};
-use atl_store::rows::region::read_regions;
+use atl_state::parts::{
+    StoredBooks, StoredFaction, StoredHas, StoredMail, StoredRegion, StoredReport, StoredStructure,
+    StoredUnit,
+};
+use atl_store::rows::campaign::StoredCampaign;
+use atl_store::rows::{Listed, Placed};
 use atl_test_worlds::SMALL;
 use sqlite::{Alter, Connection};
 use std::alloc::Global;
@@ -31,7 +31,7 @@ fn is_head(rt: &impl Abort, row: &StoredCampaign) {
 fn has_head<S: Alter>(rt: &impl Abort, alloc: Global, conn: &mut Connection<S>) -> Result<(), Fail>
     requires { conn.old.in_transaction ≡ false }
 {
-    let rows = read_campaign(alloc, conn)?;
+    let rows = StoredCampaign::read(alloc, conn)?;
     is_count(rt, rows.len(), 1);
     is_head(rt, &rows[0]);
     Ok(())
@@ -50,7 +50,7 @@ fn has_region<S: Alter>(
 ) -> Result<(), Fail>
     requires { conn.old.in_transaction ≡ false }
 {
-    let rows = read_regions(alloc, conn)?;
+    let rows = StoredRegion::read(alloc, conn)?;
     is_count(rt, rows.len(), 1);
     is_number(rt, rows[0].number, 1);
     is_number(rt, rows[0].peasants, 1000);
@@ -74,7 +74,7 @@ pub(crate) fn is_booked(rt: &impl Abort, row: &StoredBooks, entry: i64, thing: i
 fn has_books<S: Alter>(rt: &impl Abort, alloc: Global, conn: &mut Connection<S>) -> Result<(), Fail>
     requires { conn.old.in_transaction ≡ false }
 {
-    let rows = read_books(alloc, conn)?;
+    let rows = Placed::<StoredBooks>::read(alloc, conn)?;
     is_count(rt, rows.len(), 2);
     is_booked(rt, &rows[0].row, 1, 0, 500);
     is_booked(rt, &rows[1].row, 1, 1, 1000);
@@ -94,12 +94,12 @@ fn has_nobody<S: Alter>(
 ) -> Result<(), Fail>
     requires { conn.old.in_transaction ≡ false }
 {
-    is_count(rt, count_factions(alloc, conn)?, 0);
-    is_count(rt, count_units(alloc, conn)?, 0);
-    is_count(rt, count_has(alloc, conn)?, 0);
-    is_count(rt, count_structures(alloc, conn)?, 0);
-    is_count(rt, count_mail(alloc, conn)?, 0);
-    is_count(rt, count_reports(alloc, conn)?, 0);
+    is_count(rt, count::<StoredFaction, S>(alloc, conn)?, 0);
+    is_count(rt, count::<StoredUnit, S>(alloc, conn)?, 0);
+    is_count(rt, count::<Placed<StoredHas>, S>(alloc, conn)?, 0);
+    is_count(rt, count::<StoredStructure, S>(alloc, conn)?, 0);
+    is_count(rt, count::<StoredMail, S>(alloc, conn)?, 0);
+    is_count(rt, count::<StoredReport, S>(alloc, conn)?, 0);
     Ok(())
 }
 

@@ -3,7 +3,8 @@ ghost use Rattle.std.specs.Prelude.{◌≡◌, false, OnOk};
 
 use super::compare::{is_bytes, is_count, is_number, is_text};
 use super::making::created;
-use atl_store::rows::mail::read_mail;
+use atl_state::parts::StoredMail;
+use atl_store::rows::Listed;
 use atl_store::write_mail;
 use sqlite::{Alter, Connection};
 use std::alloc::Global;
@@ -37,7 +38,7 @@ fn mails<S: Alter>(conn: &mut Connection<S>) -> Result<(), Fail>
 fn has_mail<S: Alter>(rt: &impl Abort, alloc: Global, conn: &mut Connection<S>) -> Result<(), Fail>
     requires { conn.old.in_transaction ≡ false }
 {
-    let rows = read_mail(alloc, conn)?;
+    let rows = StoredMail::read(alloc, conn)?;
     is_count(rt, rows.len(), 1);
     is_bytes(rt, rows[0].text.as_slice(), b"#ATLANTIS 1");
     Ok(())

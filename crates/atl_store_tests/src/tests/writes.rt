@@ -2,16 +2,12 @@
 ghost use Rattle.std.specs.Prelude.{◌≡◌, false};
 
 use super::compare::{is_bytes, is_count, is_number, is_text};
-use super::counts::{count_books, count_factions};
+use super::counts::count;
 use super::founding::is_booked;
 use super::making::{created, has_few_things, joined, visited};
 use atl_state::Campaign;
-use atl_state::parts::{StoredFaction, StoredUnit};
-use atl_store::rows::books::read_books;
-use atl_store::rows::faction::read_factions;
-use atl_store::rows::mail::read_mail;
-use atl_store::rows::report::read_reports;
-use atl_store::rows::unit::read_units;
+use atl_state::parts::{StoredBooks, StoredFaction, StoredMail, StoredReport, StoredUnit};
+use atl_store::rows::{Listed, Placed};
 use atl_store::{CreateFault, create};
 use sqlite::{Alter, Connection};
 use std::alloc::Global;
@@ -48,8 +44,8 @@ fn has_nobody<S: Alter>(
 ) -> Result<(), Fail>
     requires { conn.old.in_transaction ≡ false }
 {
-    is_count(rt, count_factions(alloc, conn)?, 0);
-    is_count(rt, count_books(alloc, conn)?, 2);
+    is_count(rt, count::<StoredFaction, S>(alloc, conn)?, 0);
+    is_count(rt, count::<Placed<StoredBooks>, S>(alloc, conn)?, 2);
     Ok(())
 }
 
@@ -86,7 +82,7 @@ fn has_faction<S: Alter>(
 ) -> Result<(), Fail>
     requires { conn.old.in_transaction ≡ false }
 {
-    let rows = read_factions(alloc, conn)?;
+    let rows = StoredFaction::read(alloc, conn)?;
     is_count(rt, rows.len(), 1);
     is_avalon(rt, &rows[0]);
     Ok(())
@@ -101,7 +97,7 @@ fn a_faction_is_kept(rt: HostRuntime) -> Result<(), Fail> {
 fn has_books<S: Alter>(rt: &impl Abort, alloc: Global, conn: &mut Connection<S>) -> Result<(), Fail>
     requires { conn.old.in_transaction ≡ false }
 {
-    let rows = read_books(alloc, conn)?;
+    let rows = Placed::<StoredBooks>::read(alloc, conn)?;
     is_count(rt, rows.len(), 4);
     is_booked(rt, &rows[2].row, 2, 0, 1000);
     is_booked(rt, &rows[3].row, 2, 1, 1);
@@ -128,7 +124,7 @@ fn is_newcomer(rt: &impl Abort, row: &StoredUnit) {
 fn has_unit<S: Alter>(rt: &impl Abort, alloc: Global, conn: &mut Connection<S>) -> Result<(), Fail>
     requires { conn.old.in_transaction ≡ false }
 {
-    let rows = read_units(alloc, conn)?;
+    let rows = StoredUnit::read(alloc, conn)?;
     is_count(rt, rows.len(), 1);
     is_newcomer(rt, &rows[0]);
     Ok(())
@@ -147,7 +143,7 @@ fn has_report<S: Alter>(
 ) -> Result<(), Fail>
     requires { conn.old.in_transaction ≡ false }
 {
-    let rows = read_reports(alloc, conn)?;
+    let rows = StoredReport::read(alloc, conn)?;
     is_count(rt, rows.len(), 1);
     is_number(rt, rows[0].faction, 1);
     is_text(rt, rows[0].text.as_str(), "A report.\n");
@@ -163,7 +159,7 @@ fn a_report_is_kept(rt: HostRuntime) -> Result<(), Fail> {
 fn has_mail<S: Alter>(rt: &impl Abort, alloc: Global, conn: &mut Connection<S>) -> Result<(), Fail>
     requires { conn.old.in_transaction ≡ false }
 {
-    let rows = read_mail(alloc, conn)?;
+    let rows = StoredMail::read(alloc, conn)?;
     is_count(rt, rows.len(), 1);
     is_number(rt, rows[0].faction, 1);
     is_bytes(rt, rows[0].text.as_slice(), b"#ATLANTIS 1");

@@ -3,7 +3,7 @@ use Rattle.atl_store.specs.Sets.{rows_in}
 use Rattle.atl_store.specs.StoredRows.{faction_forms}
 use Rattle.atl_store.proofs.RowsLaws.{gives_table}
 use Rattle.atl_store.proofs.SelectLaws.{reads_faction}
-use Rattle.atl_store.proofs.rows.faction.read_factions.Goals as goal
+use Rattle.atl_store.proofs.rows.faction.StoredFactionListed.read.Goals as goal
 
 pub returns-clause-table : goal.returns-clause-table
 returns-clause-table g c = gives_table g.S.Store _ _ _ faction_forms _ _ (rows_in faction_table) reads_faction c.read_all.ensures

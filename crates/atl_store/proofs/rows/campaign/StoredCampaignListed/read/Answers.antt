@@ -3,7 +3,7 @@ use Rattle.atl_store.specs.Sets.{rows_in}
 use Rattle.atl_store.specs.StoredRows.{campaign_forms}
 use Rattle.atl_store.proofs.RowsLaws.{gives_table}
 use Rattle.atl_store.proofs.SelectLaws.{reads_campaign}
-use Rattle.atl_store.proofs.rows.campaign.read_campaign.Goals as goal
+use Rattle.atl_store.proofs.rows.campaign.StoredCampaignListed.read.Goals as goal
 
 pub returns-clause-table : goal.returns-clause-table
 returns-clause-table g c = gives_table g.S.Store _ _ _ campaign_forms _ _ (rows_in campaign_table) reads_campaign c.read_all.ensures

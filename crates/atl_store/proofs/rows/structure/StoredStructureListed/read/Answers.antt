@@ -3,7 +3,7 @@ use Rattle.atl_store.specs.Sets.{rows_in}
 use Rattle.atl_store.specs.StoredRows.{structure_forms}
 use Rattle.atl_store.proofs.RowsLaws.{gives_table}
 use Rattle.atl_store.proofs.SelectLaws.{reads_structure}
-use Rattle.atl_store.proofs.rows.structure.read_structures.Goals as goal
+use Rattle.atl_store.proofs.rows.structure.StoredStructureListed.read.Goals as goal
 
 pub returns-clause-table : goal.returns-clause-table
 returns-clause-table g c = gives_table g.S.Store _ _ _ structure_forms _ _ (rows_in structure_table) reads_structure c.read_all.ensures

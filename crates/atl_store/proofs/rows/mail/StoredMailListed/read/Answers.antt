@@ -3,7 +3,7 @@ use Rattle.atl_store.specs.Sets.{rows_in}
 use Rattle.atl_store.specs.StoredRows.{mail_forms}
 use Rattle.atl_store.proofs.RowsLaws.{gives_table}
 use Rattle.atl_store.proofs.SelectLaws.{reads_mail}
-use Rattle.atl_store.proofs.rows.mail.read_mail.Goals as goal
+use Rattle.atl_store.proofs.rows.mail.StoredMailListed.read.Goals as goal
 
 pub returns-clause-table : goal.returns-clause-table
 returns-clause-table g c = gives_table g.S.Store _ _ _ mail_forms _ _ (rows_in mail_table) reads_mail c.read_all.ensures

@@ -3,7 +3,7 @@ use Rattle.atl_store.specs.Sets.{rows_in}
 use Rattle.atl_store.specs.StoredRows.{report_forms}
 use Rattle.atl_store.proofs.RowsLaws.{gives_table}
 use Rattle.atl_store.proofs.SelectLaws.{reads_report}
-use Rattle.atl_store.proofs.rows.report.read_reports.Goals as goal
+use Rattle.atl_store.proofs.rows.report.StoredReportListed.read.Goals as goal
 
 pub returns-clause-table : goal.returns-clause-table
 returns-clause-table g c = gives_table g.S.Store _ _ _ report_forms _ _ (rows_in report_table) reads_report c.read_all.ensures

@@ -3,7 +3,7 @@ use Rattle.atl_store.specs.Sets.{rows_in}
 use Rattle.atl_store.specs.StoredRows.{region_forms}
 use Rattle.atl_store.proofs.RowsLaws.{gives_table}
 use Rattle.atl_store.proofs.SelectLaws.{reads_region}
-use Rattle.atl_store.proofs.rows.region.read_regions.Goals as goal
+use Rattle.atl_store.proofs.rows.region.StoredRegionListed.read.Goals as goal
 
 pub returns-clause-table : goal.returns-clause-table
 returns-clause-table g c = gives_table g.S.Store _ _ _ region_forms _ _ (rows_in region_table) reads_region c.read_all.ensures
