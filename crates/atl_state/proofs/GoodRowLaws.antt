@@ -33,7 +33,7 @@ use Rattle.atl_state.proofs.BackHasLaws.{AreHad, goods_of, goods_back}
 use Rattle.atl_state.proofs.EveryLaws.{every-from_each}
 use Rattle.atl_state.proofs.HasLaws.{IsWhole, same}
 use Rattle.atl_state.proofs.OrderLaws.{Apart-keys}
-use Rattle.atl_state.proofs.RuleLaws.{each_numbered, each_before}
+use Rattle.atl_state.proofs.RuleLaws.{each_numbered, every_before}
 use Rattle.atl_state.proofs.SaidLaws.{one_apart, none_or_below, small_size}
 
 -- ---- numbers in a good campaign
@@ -42,7 +42,7 @@ few_numbered : {V : Type 0} (m : FinMap nat_cmp V) (next most : ℕ) → IsNumbe
 few_numbered m next most is few n v there = let range = every-from_each (λ n v. (1 ≤ n) × (n < next)) m (each_numbered m next is) n v there in (range.0, omega (arith, range.1, is.count, few))
 
 few_before : {V : Type 0} (m : FinMap nat_cmp V) (next most : ℕ) → ((n : ℕ) → next ≤ n → get m n ≡ None) → next ≤ most + 1 → Every (λ n v. n ≤ most) m
-few_before m next most free few n v there = let range = every-from_each (λ n v. (0 ≤ n) × (n < next)) m (each_before m next free) n v there in omega (arith, range.1, few)
+few_before m next most free few n v there = let low = every_before m next free n v there in omega (arith, low, few)
 
 small_enough : {V : Type 0} (m : FinMap nat_cmp V) (most : ℕ) → most ≤ most_u32 → Every (λ n v. n ≤ most) m → Every (λ n v. n ≤ most_u32) m
 small_enough m most few every n v there = let here = every n v there in omega (arith, few, here)

@@ -46,3 +46,5 @@ pub mod GoneLaws
 pub mod PostLaws
 pub mod HavingLaws
 pub mod BegunLaws
+pub mod IndexLaws
+pub mod SlotLaws

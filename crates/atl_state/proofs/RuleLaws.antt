@@ -76,11 +76,11 @@ module _ {V : Type 0} (m : FinMap nat_cmp V) (next : ℕ) where
   from_one (suc n) v first is = omega arith
 
   -- the numbers are before the next
-  pub free_behind : EachOf (Between 0) (entries m) → (n : ℕ) → next ≤ n → get m n ≡ None
-  free_behind each n l = free_from m n (λ there. let few = every-from_each (Between 0) m each n there.0 there.1 in omega (arith, few.1))
+  pub free_behind : Every (λ n v. n < next) m → (n : ℕ) → next ≤ n → get m n ≡ None
+  free_behind few n l = free_from m n (λ there. let low = few n there.0 there.1 in omega (arith, low))
 
-  pub each_before : ((n : ℕ) → next ≤ n → get m n ≡ None) → EachOf (Between 0) (entries m)
-  each_before free = each-from_every (Between 0) m (λ n v is. (omega arith, before n v free is))
+  pub every_before : ((n : ℕ) → next ≤ n → get m n ≡ None) → Every (λ n v. n < next) m
+  every_before free n v is = before n v free is
 
   pub numbered : EachOf (Between 1) (entries m) → next ≡ len m + 1 → IsNumbered m next
   numbered each count =

@@ -25,3 +25,6 @@ pub mod State
 pub mod Totals
 pub mod UnitMarks
 pub mod UnitRoom
+pub mod Index
+pub mod Slots
+pub mod SlotLending

@@ -107,6 +107,13 @@ with_peasants c n peasants = region_changed (λ r. record r { peasants = peasant
 abbrev pub with_region_money : State → ℕ → ℕ → State
 with_region_money c n money = region_changed (λ r. record r { money = money }) c n
 
+-- a unit with another name
+abbrev pub with_unit_name : State → ℕ → List ℕ → State
+with_unit_name c n name = unit_changed (λ u. record u { holding = record u.holding { name = name } }) c n
+
+abbrev pub with_men : State → ℕ → ℕ → State
+with_men c n men = unit_changed (λ u. record u { holding = record u.holding { men = men } }) c n
+
 abbrev pub with_money : State → ℕ → ℕ → State
 with_money c n money = unit_changed (λ u. record u { holding = record u.holding { money = money } }) c n
 

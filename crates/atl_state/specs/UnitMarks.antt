@@ -1,5 +1,7 @@
 -- For proofs alone: how the marks on units and on their goods are kept.
 use Rattle.std.specs.Prelude.{ℕ, Option}
+use Rattle.std.specs.FinMap as map
+use Rattle.std.specs.FinSet as set
 use Rattle.std.specs.Borrow.{LendsIf, MutBor, Fml}
 use Rattle.atl_state.specs.declared.records.Unit.{Unit}
 use Rattle.atl_state.specs.contracts.records.Unit as unit
@@ -9,3 +11,7 @@ use Rattle.atl_state.specs.Roster.{Roster, with_unit_at}
 -- r ends with the last value behind u under the number, or as it was
 abbrev pub LendsUnit : MutBor Roster → ℕ → Option (MutBor Unit) → Fml
 LendsUnit r n u = LendsIf the_row unit.the_row r u (with_unit_at r.now n) r.now
+
+-- r ends with the last value behind u under the number, of which the row alone is marked, or as it was
+abbrev pub LendsRow : MutBor Roster → ℕ → Option (MutBor Unit) → Fml
+LendsRow r n u = LendsIf the_row unit.the_row r u (λ w. record r.now { values = map.insert r.now.values n w; marks = set.insert r.now.marks n }) r.now

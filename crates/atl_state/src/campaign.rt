@@ -17,6 +17,7 @@ mod marking;
 mod placing;
 mod setting;
 
+use crate::arena::SlotEntries;
 use crate::books::{Books, Entry, Thing};
 use crate::holding::Holding;
 use crate::lists::{UnitLists, listed};
@@ -219,7 +220,7 @@ impl Campaign {
     }
 
     /// The units with their numbers, in rising order.
-    pub fn units(&self) -> Entries<'_, Unit>
+    pub fn units(&self) -> SlotEntries<'_, Unit>
         ensures { result ≡ map.entries self.now.what.units }
     {
         self.units.iter()

@@ -1,12 +1,14 @@
 //! The state of a campaign: factions, units, regions, structures, mail, reports and books.
 #![tactic(auto)]
 
+mod arena;
 mod assembly;
 pub mod books;
 pub mod campaign;
 mod checking;
 pub mod event;
 pub mod holding;
+mod index;
 mod levels;
 mod limits;
 mod lists;
@@ -19,6 +21,7 @@ mod rules;
 mod totals;
 mod units;
 
+pub use arena::SlotEntries;
 pub use books::{Books, Entry, Thing};
 pub use campaign::{Campaign, founded};
 pub use checking::{CheckFault, Rule, check};

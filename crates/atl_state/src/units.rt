@@ -3,24 +3,30 @@ ghost use Rattle.std.specs.Prelude.{◌≡◌, ◌≤◌, ℕ, IfOk, OnOk, OnErr
 ghost use Rattle.std.specs.FinMap as map;
 ghost use Rattle.std.specs.FinSet as set;
 ghost use Rattle.atl_tables.specs.Tracking.{Lists};
-ghost use Rattle.atl_state.specs.Limits.{holding_limit, most_numbered};
+ghost use Rattle.atl_state.specs.Limits.{holding_limit, men_limit, most_numbered};
 ghost use Rattle.atl_state.specs.Roster.{no_units, with_unit_at, with_row, without_unit_at};
 
+use crate::arena::{Arena, SlotEntries};
 use crate::records::Unit;
-use atl_tables::{Entries, MarkedNumbers, Marks, Numbered, Tracked};
+use atl_tables::{MarkedNumbers, Marks, Text};
 use std::alloc::{AllocError, Global};
 use std::marker::Model;
 
 /// The units by their numbers. Each has a mark on its row and one on its goods; the latter stands only with the former.
 pub(crate) struct Units {
-    rows: Tracked<Unit>,
-    // The units whose goods are marked, with room for each unit.
+    units: Arena<Unit>,
+    // The units whose rows are marked, and those whose goods are, each with room for every unit.
+    rows: Marks,
     goods: Marks,
 }
 
 impl Drop for Units {
     fn drop(self) {
-        let Units { rows: _, goods: _ } = self;
+        let Units {
+            units: _,
+            rows: _,
+            goods: _,
+        } = self;
     }
 }
 
@@ -32,51 +38,56 @@ impl Model for Units {
 
     ghost coded = { roster_code };
 
-    ghost view = { λ a. record { values = a.rows.values; marks = a.rows.marks; goods = a.goods.numbers } };
+    ghost view = { λ a. record { values = a.units; marks = a.rows.numbers; goods = a.goods.numbers } };
 
-    ghost invariant = { λ a. AreUnits a.rows a.goods };
+    ghost invariant = { λ a. AreUnits a.units a.rows a.goods };
 }
 
 impl Units {
     ghost use Rattle.std.specs.Option.{option_copied_mut};
     ghost use Rattle.std.specs.Borrow.{sem};
-    ghost use Rattle.atl_state.specs.UnitMarks.{LendsUnit};
+    ghost use Rattle.atl_state.specs.UnitMarks.{LendsUnit, LendsRow};
 
     pub(crate) fn new(alloc: Global) -> Units
         ensures { result ≡ no_units }
     {
         Units {
-            rows: Tracked::new(alloc),
+            units: Arena::new(alloc),
+            rows: Marks::new(alloc),
             goods: Marks::new(alloc),
         }
     }
 
     /// These units, with nothing marked.
-    pub(crate) fn of(alloc: Global, values: Numbered<Unit>) -> Result<Units, AllocError>
+    pub(crate) fn of(alloc: Global, values: Arena<Unit>) -> Result<Units, AllocError>
         ensures { IfOk result (λ units. units ≡ record { values = values; marks = set.empty; goods = set.empty }) }
     {
+        let rows = Marks::with_room(alloc, values.len())?;
         let goods = Marks::with_room(alloc, values.len())?;
-        let rows = Tracked::of(alloc, values)?;
-        Ok(Units { rows, goods })
+        Ok(Units {
+            units: values,
+            rows,
+            goods,
+        })
     }
 
     pub(crate) fn get(&self, number: u32) -> Option<&Unit>
         ensures { option_copied result ≡ map.get self.now.values number }
     {
-        self.rows.get(number)
+        self.units.get(number)
     }
 
     /// The units with their numbers, in rising order.
-    pub(crate) fn iter(&self) -> Entries<'_, Unit>
+    pub(crate) fn iter(&self) -> SlotEntries<'_, Unit>
         ensures { result ≡ map.entries self.now.values }
     {
-        self.rows.iter()
+        self.units.iter()
     }
 
     pub(crate) fn len(&self) -> usize
         ensures { result ≡ map.len self.now.values }
     {
-        self.rows.len()
+        self.units.len()
     }
 
     /// How many units are marked.
@@ -85,14 +96,14 @@ impl Units {
         ensures small { result ≤ most_numbered }
         ensures goods { (n : ℕ) → IsTrue (set.contains self.now.goods n) → IsTrue (set.contains self.now.marks n) }
     {
-        self.rows.marked()
+        self.rows.len()
     }
 
     /// The numbers whose rows are marked, in rising order.
     pub(crate) fn marked_numbers(&self) -> MarkedNumbers<'_>
         ensures { Lists self.now.marks result }
     {
-        self.rows.marked_numbers()
+        self.rows.iter()
     }
 
     /// The numbers whose goods are marked, in rising order.
@@ -107,10 +118,50 @@ impl Units {
         ensures* writes_back { sem 𝓛 (LendsUnit self.entry number result) }
         ensures value { option_copied_mut result ≡ map.get self.old.values number }
     {
-        self.goods.mark_present(self.rows.values(), number);
-        match self.rows.get_mut(number) {
+        match self.units.get(number) {
+            Some(_) => {}
+            None => return None,
+        }
+        self.rows.add(number);
+        self.goods.add(number);
+        match self.units.get_mut(number) {
             Some(unit) => Some(unit),
             None => None,
+        }
+    }
+
+    /// Lends a unit, and marks its row. It takes no memory.
+    fn row_mut(&mut self, number: u32) -> Option<&mut Unit>
+        ensures* writes_back { sem 𝓛 (LendsRow self.entry number result) }
+        ensures value { option_copied_mut result ≡ map.get self.old.values number }
+    {
+        match self.units.get(number) {
+            Some(_) => {}
+            None => return None,
+        }
+        self.rows.add(number);
+        match self.units.get_mut(number) {
+            Some(unit) => Some(unit),
+            None => None,
+        }
+    }
+
+    /// Sets a unit's name, and marks its row. It takes no memory.
+    pub(crate) fn set_name(&mut self, number: u32, name: Text)
+        ensures { self.new ≡ with_row (λ u. record u { holding = record u.holding { name = name } }) self.old number }
+    {
+        if let Some(unit) = self.row_mut(number) {
+            unit.holding.set_name(name);
+        }
+    }
+
+    /// Sets how many men a unit has, at most 999,999, and marks its row. It takes no memory.
+    pub(crate) fn set_men(&mut self, number: u32, men: u32)
+        requires { men ≤ men_limit }
+        ensures { self.new ≡ with_row (λ u. record u { holding = record u.holding { men = men } }) self.old number }
+    {
+        if let Some(unit) = self.row_mut(number) {
+            unit.holding.set_men(men);
         }
     }
 
@@ -119,7 +170,7 @@ impl Units {
         requires { money ≤ holding_limit }
         ensures { self.new ≡ with_row (λ u. record u { holding = record u.holding { money = money } }) self.old number }
     {
-        if let Some(unit) = self.rows.get_mut(number) {
+        if let Some(unit) = self.row_mut(number) {
             unit.holding.set_money(money);
         }
     }
@@ -128,7 +179,7 @@ impl Units {
     pub(crate) fn set_guard(&mut self, number: u32, guard: bool)
         ensures { self.new ≡ with_row (λ u. record u { holding = record u.holding { guard = guard } }) self.old number }
     {
-        if let Some(unit) = self.rows.get_mut(number) {
+        if let Some(unit) = self.row_mut(number) {
             unit.holding.set_guard(guard);
         }
     }
@@ -137,7 +188,7 @@ impl Units {
     pub(crate) fn set_place(&mut self, number: u32, region: u32, structure: u32)
         ensures { self.new ≡ with_row (λ u. record u { region = region; structure = structure }) self.old number }
     {
-        if let Some(unit) = self.rows.get_mut(number) {
+        if let Some(unit) = self.row_mut(number) {
             unit.region = region;
             unit.structure = structure;
         }
@@ -149,33 +200,30 @@ impl Units {
         ensures ok { OnOk result (self.new ≡ with_unit_at self.old number unit) }
         ensures err { OnErr result (self.new ≡ self.old) }
     {
-        let was_marked = self.rows.is_marked(number);
-        self.rows.insert(number, unit)?;
-        match self.goods.make_room(self.rows.len()) {
-            Ok(()) => {
-                self.goods.add(number);
-                Ok(())
-            }
-            Err(e) => {
-                self.rows.take_out(number, was_marked);
-                Err(e)
-            }
-        }
+        let room = self.units.len() + 1;
+        self.rows.make_room(room)?;
+        self.goods.make_room(room)?;
+        self.units.insert(number, unit)?;
+        self.rows.add(number);
+        self.goods.add(number);
+        Ok(())
     }
 
     /// Takes a unit out, where there is one, and marks its row and its goods. It takes no memory.
     pub(crate) fn remove(&mut self, number: u32)
         ensures { self.new ≡ without_unit_at self.old number }
     {
-        self.goods.mark_present(self.rows.values(), number);
-        self.rows.remove(number);
+        if self.units.remove(number) {
+            self.rows.add(number);
+            self.goods.add(number);
+        }
     }
 
     /// Leaves nothing marked. It takes no memory.
     pub(crate) fn unmark(&mut self)
         ensures { self.new ≡ record { values = self.old.values; marks = set.empty; goods = set.empty } }
     {
+        self.rows.clear();
         self.goods.clear();
-        self.rows.unmark();
     }
 }

@@ -11,6 +11,7 @@ ghost use Rattle.atl_state.specs.RowRules.{unit_in_range, has_in_range};
 
 use super::goods::{groups_of, things_of};
 use super::records::name_of;
+use crate::arena::Arena;
 use crate::holding::Holding;
 use crate::lists::{UnitLists, listing_of};
 use crate::parts::{Parts, StoredHas, StoredUnit};
@@ -51,16 +52,16 @@ fn units_with(
     rows: &[StoredUnit],
     items: &Numbered<Numbered<u32>>,
     days: &Numbered<Numbered<u32>>,
-) -> Result<Numbered<Unit>, AllocError>
+) -> Result<Arena<Unit>, AllocError>
     requires named { list_all (λ r. name_ok r.name) rows.now ≡ true }
     requires range { list_all unit_in_range rows.now ≡ true }
     requires amounts { (n : ℕ) → AreAmounts (group_of items.now n) }
     ensures { IfOk result (λ units. units ≡ by_number (λ r. as_u32 r.number) (λ r. unit_with r (group_of items.now (as_u32 r.number)) (group_of days.now (as_u32 r.number))) rows.now) }
 {
-    let mut units = Numbered::new(alloc);
+    let mut units = Arena::new(alloc);
     for row in rows {
         let unit = unit_of(alloc, row, items, days)?;
-        units.insert(as_u32(row.number), unit)?;
+        units.put(as_u32(row.number), unit)?;
     }
     Ok(units)
 }
@@ -70,7 +71,7 @@ pub(crate) fn units_of(
     alloc: Global,
     rows: &[StoredUnit],
     has: &[StoredHas],
-) -> Result<Numbered<Unit>, AllocError>
+) -> Result<Arena<Unit>, AllocError>
     requires named { list_all (λ r. name_ok r.name) rows.now ≡ true }
     requires range { list_all unit_in_range rows.now ≡ true }
     requires amounts { list_all has_in_range has.now ≡ true }

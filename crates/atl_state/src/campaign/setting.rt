@@ -4,9 +4,9 @@ ghost use Rattle.std.specs.Prelude.{◌≡◌, ◌≤◌, ◌<◌, ◌+ℤ◌, l
 ghost use Rattle.std.specs.Int.{w64};
 ghost use Rattle.std.specs.Int.RustNames.{FitsSigned};
 ghost use Rattle.atl_state.specs.Books.{amount_in, thing_place};
-ghost use Rattle.atl_state.specs.Limits.{holding_limit};
+ghost use Rattle.atl_state.specs.Limits.{holding_limit, men_limit};
 ghost use Rattle.atl_state.specs.Marking.{mark_row, mark_faction, mark_region, mark_structure, mark_unit_row, mark_amount, mark_all_mail};
-ghost use Rattle.atl_state.specs.State.{with_month, with_faction_name, with_gone, with_peasants, with_region_money, with_money, with_guard, with_done, with_structure_name, with_structure_region, with_owner, with_amount, without_mail};
+ghost use Rattle.atl_state.specs.State.{with_month, with_faction_name, with_gone, with_peasants, with_region_money, with_unit_name, with_men, with_money, with_guard, with_done, with_structure_name, with_structure_region, with_owner, with_amount, without_mail};
 
 use super::Campaign;
 use crate::books::{Entry, Thing, amount_number};
@@ -60,6 +60,24 @@ impl Campaign {
         if let Some(found) = self.regions.get_mut(region) {
             found.money = money;
         }
+    }
+
+    /// Sets the name that a unit shows, and marks its row; its goods stay unmarked.
+    pub fn set_unit_name(&mut self, unit: u32, name: Text)
+        ensures what { self.new.what ≡ with_unit_name self.old.what unit name }
+        ensures marks { self.new.marks ≡ mark_unit_row self.old unit }
+    {
+        self.units.set_name(unit, name);
+    }
+
+    /// Sets how many men a unit has, at most MEN_LIMIT, and marks its row; its goods stay unmarked, and its days of study
+    /// stay.
+    pub fn set_men(&mut self, unit: u32, men: u32)
+        requires { men ≤ men_limit }
+        ensures what { self.new.what ≡ with_men self.old.what unit men }
+        ensures marks { self.new.marks ≡ mark_unit_row self.old unit }
+    {
+        self.units.set_men(unit, men);
     }
 
     /// Sets a unit's money, at most HOLDING_LIMIT, and marks its row; its goods stay unmarked.

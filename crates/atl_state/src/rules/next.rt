@@ -42,7 +42,8 @@ fn are_structures_numbered(campaign: &Campaign) -> bool
 fn are_units_before(campaign: &Campaign) -> bool
     ensures { Decides result ((n : ℕ) → campaign.now.what.next_unit ≤ n → map.get campaign.now.what.units n ≡ None) }
 {
-    are_between(campaign.units(), 0, campaign.next_unit())
+    let next = campaign.next_unit();
+    campaign.units().all(|(number, _)| number < next)
 }
 
 /// Whether the numbers that come next are greater than all of their sort, and no faction and no structure is missing

@@ -1,9 +1,14 @@
-use Rattle.std.proofs.Common.{sym}
+use Rattle.std.proofs.Common.{sym, ap}
+use Rattle.std.specs.Prelude.{is_some}
+use Rattle.atl_tables.proofs.TrackLaws.{fits-marked}
 use Rattle.atl_state.proofs.UnitLaws.{AreUnits-lent}
 use Rattle.atl_state.proofs.units.Units.get_mut.Goals as goal
 
-pub mark_present-requires : goal.mark_present-requires
-mark_present-requires c = rw c.values.ensures c.self.invariant.room
+pub add-requires : goal.add-requires
+add-requires c = fits-marked c.self.inside.units c.self.inside.rows.numbers c.self.inside.rows.room c.args.number (ap is_some (sym c.in-Some.ensures)) c.self.invariant.rows_fit
+
+pub add-requires-2 : goal.add-requires-2
+add-requires-2 c = fits-marked c.self.inside.units c.self.inside.goods.numbers c.self.inside.goods.room c.args.number (ap is_some (sym c.in-Some.ensures)) c.self.invariant.goods_fit
 
 pub invariant_of-self-lent : goal.invariant_of-self-lent
-invariant_of-self-lent c w = rw (c.mark_present.ensures, c.values.ensures) (AreUnits-lent c.self.inside.rows c.self.inside.goods c.args.number c.in-Some.unit.now w (sym c.in-Some.ensures.value) c.self.invariant)
+invariant_of-self-lent c w = rw (c.add.ensures, c.add-2.ensures) (AreUnits-lent c.self.inside.units c.self.inside.rows c.self.inside.goods c.args.number c.in-Some-get_mut.unit.now w (sym c.in-Some-get_mut.ensures.value) c.self.invariant)

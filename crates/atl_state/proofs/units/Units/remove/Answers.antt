@@ -1,8 +1,34 @@
+use Rattle.std.proofs.Common.{◌≡◌, None, sym, ap, ◌∙◌}
+use Rattle.std.specs.FinMap.{FinMap, get}
+use Rattle.std.specs.Ordering.{nat_cmp}
+use Rattle.atl_tables.proofs.TrackLaws.{fits-marked, remove_none}
+use Rattle.atl_state.specs.declared.records.Unit.{Unit}
+use Rattle.atl_state.specs.Roster.{Roster, gone_at}
+use Rattle.atl_state.proofs.IndexLaws.{nothing}
 use Rattle.atl_state.proofs.UnitLaws.{AreUnits-gone}
 use Rattle.atl_state.proofs.units.Units.remove.Goals as goal
 
-pub mark_present-requires : goal.mark_present-requires
-mark_present-requires c = rw c.values.ensures c.self.invariant.room
+pub add-requires : goal.add-requires
+add-requires c = fits-marked c.self.inside.units c.self.inside.rows.numbers c.self.inside.rows.room c.args.number (sym c.if-remove.ensures.there) c.self.invariant.rows_fit
+
+pub add-requires-then-remove : goal.add-requires-then-remove
+add-requires-then-remove c = fits-marked c.self.inside.units c.self.inside.goods.numbers c.self.inside.goods.room c.args.number (sym c.if-remove.ensures.there) c.self.invariant.goods_fit
 
 pub invariant_of-self : goal.invariant_of-self
-invariant_of-self c = rw (c.mark_present.ensures, c.values.ensures, c.remove.ensures) (AreUnits-gone c.self.inside.rows c.self.inside.goods c.args.number c.self.invariant)
+invariant_of-self c =
+    rw (c.if-remove.ensures.taken, c.add.ensures, c.add-then-remove.ensures)
+    (AreUnits-gone c.self.inside.units c.self.inside.rows c.self.inside.goods c.args.number (sym c.if-remove.ensures.there) c.self.invariant)
+
+pub invariant_of-self-else-remove : goal.invariant_of-self-else-remove
+invariant_of-self-else-remove c =
+    let none = nothing (get c.self.inside.units c.args.number) (sym c.if-remove.ensures.there) in
+    rw (c.if-remove.ensures.taken, remove_none c.self.inside.units c.args.number none) c.self.invariant
+
+pub returns-else-remove : goal.returns-else-remove
+returns-else-remove c =
+    let units = c.self.inside.units in
+    let n = c.args.number in
+    let none = nothing (get units n) (sym c.if-remove.ensures.there) in
+    let absent : get c.args.self.now.values n ≡ None = ap (λ (r : Roster). get r.values n) (sym c.self.view_is) ∙ none in
+    ap (λ (left : FinMap nat_cmp Unit). record { values = left; marks = c.self.inside.rows.numbers; goods = c.self.inside.goods.numbers }) (c.if-remove.ensures.taken ∙ remove_none units n none)
+    ∙ c.self.view_is ∙ sym (ap (gone_at c.args.self.now n) absent)

@@ -1,0 +1,184 @@
+-- Places whose numbers rise, as the map from their numbers to their slots.
+use Rattle.std.proofs.Common.{◌≡◌, ℕ, zero, suc, ◌+◌, ◌<◌, Bool, true, false, cond, not, ◌&&◌, List, [], ◌∷◌, length, map, get_or, Option, Some, None, refl, sym, ap, ◌∙◌, arith}
+use Rattle.std.specs.Prelude.{Result, Ok, Err, IfOk, IfErr, is_some}
+use Rattle.std.specs.List.{list_any, insert, remove}
+use Rattle.std.specs.List.Sorted.{IsStrictlySortedBy, IsBinarySearchResult, IsSearchInRange, IsNonDecreasingBy}
+use Rattle.std.specs.declared.cmp.Ordering.TheVariants.{Less, Greater}
+use Rattle.std.specs.Ordering.{nat_cmp, eq_by_cmp, is_lt, ordering_index, ordering_reverse}
+use Rattle.std.specs.Cmp.{nat_cmp_total, ranked}
+use Rattle.std.specs.Map.{keys_of}
+use Rattle.std.specs.FinMap as finmap
+use Rattle.std.specs.FinMap.{from_entries, find, nat_cmp-IsAntisymmetric}
+use Rattle.std.specs.FinMap.Entries.{is_some-find}
+use Rattle.std.specs.FinSet as set
+use Rattle.std.proofs.lemmas.Bool.{false≢true}
+use Rattle.std.proofs.lemmas.List.{length-map, get_or-map, get_or_default}
+use Rattle.std.proofs.lemmas.List.Sorted.{searchable_from_sorted}
+use Rattle.std.proofs.lemmas.Map.Keys.{Less-from_sorted}
+use Rattle.atl_tables.specs.Rising.{Stands, Belongs}
+use Rattle.atl_tables.proofs.GeneralLaws.{key_itself, same_key}
+use Rattle.atl_tables.proofs.MarkLaws.{rising-empty, rising-insert, rising-remove, contains-belongs, from_list-remove}
+use Rattle.atl_tables.proofs.Maps.{entries_of, len_of}
+use Rattle.atl_tables.proofs.SumLaws.{taken_back}
+use Rattle.atl_tables.proofs.TrackLaws.{there_itself, remove_none}
+use Rattle.atl_state.specs.declared.index.Place.{Place}
+use Rattle.atl_state.specs.Index.{numbers_of, slots_of}
+
+pub some_none : {X : Type 0} (x : X) {P : Type 0} → Some x ≡ None → P
+some_none x e = cc
+
+abbrev IsRising : List Place → Type 0
+IsRising ps = IsStrictlySortedBy nat_cmp (numbers_of ps)
+
+-- the map that the places are
+abbrev pub as_map : List Place → finmap.FinMap nat_cmp ℕ
+as_map ps = from_entries (slots_of ps)
+
+-- ---- lists with one more, and one less
+module _ {X : Type 0} where
+  put_back : (xs : List X) (i : ℕ) (d : X) → i < length xs → insert (remove xs i) i (get_or xs i d) ≡ xs
+  put_back [] i d l = absurd (omega (arith, l))
+  put_back (x ∷ xs) zero d l = refl
+  put_back (x ∷ xs) (suc i) d l = ap (λ ys. x ∷ ys) (put_back xs i d (omega (arith, l)))
+
+module _ {X Y : Type 0} (f : X → Y) where
+  map-insert : (xs : List X) (i : ℕ) (x : X) → map f (insert xs i x) ≡ insert (map f xs) i (f x)
+  map-insert xs zero x = refl
+  map-insert [] (suc i) x = refl
+  map-insert (y ∷ xs) (suc i) x = ap (λ ys. f y ∷ ys) (map-insert xs i x)
+
+  map-remove : (xs : List X) (i : ℕ) → map f (remove xs i) ≡ remove (map f xs) i
+  map-remove [] zero = refl
+  map-remove [] (suc i) = refl
+  map-remove (y ∷ xs) zero = refl
+  map-remove (y ∷ xs) (suc i) = ap (λ ys. f y ∷ ys) (map-remove xs i)
+
+keys_are : (ps : List Place) → keys_of (slots_of ps) ≡ numbers_of ps
+keys_are [] = refl
+keys_are (p ∷ ps) = ap (λ ns. p.number ∷ ns) (keys_are ps)
+
+-- ---- an entry whose number is new, at any place of a list
+module _ {X : Type 0} where
+  first_apart : (b : Bool) (x : X) (o : Option X) → cond b (Some x) o ≡ None → b ≡ false
+  first_apart true x o h = some_none x h
+  first_apart false x o h = refl
+
+  rest_none : (b : Bool) (x : X) (o : Option X) → cond b (Some x) o ≡ None → o ≡ None
+  rest_none true x o h = some_none x h
+  rest_none false x o h = h
+
+  turned : (q n m : ℕ) (v w o : Option X) → eq_by_cmp nat_cmp n m ≡ false → cond (eq_by_cmp nat_cmp q m) w (cond (eq_by_cmp nat_cmp q n) v o) ≡ cond (eq_by_cmp nat_cmp q n) v (cond (eq_by_cmp nat_cmp q m) w o)
+  turned q n m v w o apart =
+      elim (eq_by_cmp nat_cmp q n) as (λ b. eq_by_cmp nat_cmp q n ≡ b → cond (eq_by_cmp nat_cmp q m) w (cond b v o) ≡ cond b v (cond (eq_by_cmp nat_cmp q m) w o)) [
+        | true ↦ λ e. ap (λ k. cond (eq_by_cmp nat_cmp k m) w v) (same_key q n e) ∙ ap (λ b. cond b w v) apart
+        | false ↦ λ _. refl
+      ] refl
+
+  find-insert : (es : List (ℕ × X)) (i n : ℕ) (v : X) (q : ℕ) → find nat_cmp n es ≡ None → find nat_cmp q (insert es i (n, v)) ≡ cond (eq_by_cmp nat_cmp q n) (Some v) (find nat_cmp q es)
+  find-insert es zero n v q h = refl
+  find-insert [] (suc i) n v q h = refl
+  find-insert (e ∷ es) (suc i) n v q h =
+      ap (cond (eq_by_cmp nat_cmp q e.0) (Some e.1)) (find-insert es i n v q (rest_none _ _ _ h)) ∙ turned q n e.0 (Some v) (Some e.1) (find nat_cmp q es) (first_apart _ _ _ h)
+
+  from_entries-insert : (es : List (ℕ × X)) (i n : ℕ) (v : X) → finmap.get (from_entries {R = nat_cmp} es) n ≡ None → from_entries {R = nat_cmp} (insert es i (n, v)) ≡ finmap.insert (from_entries es) n v
+  from_entries-insert es i n v h = finmap.same_map nat_cmp_total nat_cmp-IsAntisymmetric _ _ (λ q.
+      finmap.get-from_entries nat_cmp_total (insert es i (n, v)) q ∙ find-insert es i n v q (sym (finmap.get-from_entries nat_cmp_total es n) ∙ h)
+      ∙ sym (finmap.get-insert nat_cmp_total (from_entries es) n v q ∙ ap (cond (eq_by_cmp nat_cmp q n) (Some v)) (finmap.get-from_entries nat_cmp_total es q)))
+
+-- ---- what the index has under a number
+pub nothing : {X : Type 0} (o : Option X) → is_some o ≡ false → o ≡ None
+nothing None h = refl
+nothing (Some x) h = absurd (false≢true (sym h))
+
+unlisted : (ps : List Place) (n : ℕ) → set.contains {R = nat_cmp} (set.from_list (numbers_of ps)) n ≡ false → finmap.get (as_map ps) n ≡ None
+unlisted ps n h =
+    finmap.get-from_entries nat_cmp_total (slots_of ps) n
+    ∙ nothing _ (is_some-find nat_cmp n (slots_of ps) ∙ ap (list_any (eq_by_cmp nat_cmp n)) (keys_are ps) ∙ sym (set.contains-from_list nat_cmp_total (numbers_of ps) n) ∙ h)
+
+pub get-belongs : (ps : List Place) (n i : ℕ) → IsRising ps → Belongs (numbers_of ps) n i → finmap.get (as_map ps) n ≡ None
+get-belongs ps n i s b = unlisted ps n (contains-belongs (numbers_of ps) n i s b)
+
+taken : (t : set.FinSet nat_cmp) (n : ℕ) → set.contains (set.remove t n) n ≡ false
+taken t n = set.contains-remove nat_cmp_total t n n ∙ ap (λ b. not b && set.contains t n) (key_itself n)
+
+gone : (ps : List Place) (n i : ℕ) → IsRising ps → Stands (numbers_of ps) n i → finmap.get (as_map (remove ps i)) n ≡ None
+gone ps n i s h =
+    unlisted (remove ps i) n (ap (λ ns. set.contains {R = nat_cmp} (set.from_list ns) n) (map-remove (λ (p : Place). p.number) ps i) ∙ ap (λ t. set.contains t n) (from_list-remove (numbers_of ps) n i s h) ∙ taken (set.from_list (numbers_of ps)) n)
+
+inside : (ps : List Place) (n i : ℕ) → Stands (numbers_of ps) n i → i < length ps
+inside ps n i h = let size = length-map ps (λ (p : Place). p.number) in let l = h.within in omega (arith, size, l)
+
+number-stands : (ps : List Place) (n i : ℕ) (d : Place) → Stands (numbers_of ps) n i → (get_or ps i d).number ≡ n
+number-stands ps n i d h =
+    sym (get_or-map (λ (p : Place). p.number) ps i d d.number (inside ps n i h)) ∙ get_or_default (numbers_of ps) i d.number 0 h.within ∙ h.is
+
+put_again : (ps : List Place) (n i : ℕ) (d : Place) → IsRising ps → Stands (numbers_of ps) n i → as_map ps ≡ finmap.insert (as_map (remove ps i)) n (get_or ps i d).slot
+put_again ps n i d s h =
+    let p = get_or ps i d in
+    sym (ap as_map (put_back ps i d (inside ps n i h))) ∙ ap from_entries (map-insert (λ (p : Place). (p.number, p.slot)) (remove ps i) i p)
+    ∙ ap (λ k. from_entries (insert (slots_of (remove ps i)) i (k, p.slot))) (number-stands ps n i d h) ∙ from_entries-insert (slots_of (remove ps i)) i n p.slot (gone ps n i s h)
+
+pub get-stands : (ps : List Place) (n i : ℕ) (d : Place) → IsRising ps → Stands (numbers_of ps) n i → finmap.get (as_map ps) n ≡ Some (get_or ps i d).slot
+get-stands ps n i d s h = ap (λ m. finmap.get m n) (put_again ps n i d s h) ∙ there_itself (as_map (remove ps i)) n (get_or ps i d).slot
+
+-- ---- a place that comes
+pub map-added : (ps : List Place) (n i k : ℕ) → IsRising ps → Belongs (numbers_of ps) n i → as_map (insert ps i (record { number = n; slot = k })) ≡ finmap.insert (as_map ps) n k
+map-added ps n i k s b =
+    ap from_entries (map-insert (λ (p : Place). (p.number, p.slot)) ps i (record { number = n; slot = k })) ∙ from_entries-insert (slots_of ps) i n k (get-belongs ps n i s b)
+
+pub rising-added : (ps : List Place) (n i k : ℕ) → IsRising ps → Belongs (numbers_of ps) n i → IsRising (insert ps i (record { number = n; slot = k }))
+rising-added ps n i k s b = rw (map-insert (λ (p : Place). p.number) ps i (record { number = n; slot = k })) (rising-insert (numbers_of ps) n i s b)
+
+-- ---- a place that goes
+pub map-without : (ps : List Place) (n i : ℕ) → IsRising ps → Stands (numbers_of ps) n i → as_map (remove ps i) ≡ finmap.remove (as_map ps) n
+map-without ps n i s h =
+    let d : Place = record { number = 0; slot = 0 } in
+    sym (ap (λ m. finmap.remove m n) (put_again ps n i d s h) ∙ taken_back (as_map (remove ps i)) n (get_or ps i d).slot (gone ps n i s h))
+
+pub rising-without : (ps : List Place) (n i : ℕ) → IsRising ps → Stands (numbers_of ps) n i → IsRising (remove ps i)
+rising-without ps n i s h = rw (map-remove (λ (p : Place). p.number) ps i) (rising-remove (numbers_of ps) i s h.within)
+
+pub map-missing : (ps : List Place) (n i : ℕ) → IsRising ps → Belongs (numbers_of ps) n i → as_map ps ≡ finmap.remove (as_map ps) n
+map-missing ps n i s b = sym (remove_none (as_map ps) n (get-belongs ps n i s b))
+
+-- ---- all of them
+pub rising-none : IsRising []
+rising-none = rising-empty
+
+pub entries-places : (ps : List Place) → IsRising ps → finmap.entries (as_map ps) ≡ slots_of ps
+entries-places ps s = entries_of (slots_of ps) (rw (keys_are ps) s)
+
+pub len-places : (ps : List Place) → IsRising ps → finmap.len (as_map ps) ≡ length ps
+len-places ps s = len_of (slots_of ps) (rw (keys_are ps) s) ∙ length-map ps (λ (p : Place). (p.number, p.slot))
+
+-- ---- where a search says that a number stands, or belongs
+pub found-by_search : (ps : List Place) (n : ℕ) (r : Result ℕ ℕ) → IsSearchInRange r (length ps) → IsBinarySearchResult (λ p. nat_cmp p.number n) ps r → IfOk r (λ i. Stands (numbers_of ps) n i)
+found-by_search ps n (Ok i) l h =
+    let d : Place = record { number = 0; slot = 0 } in
+    let size = length-map ps (λ (p : Place). p.number) in
+    record {
+      within = omega (arith, size, l);
+      is = get_or-map (λ (p : Place). p.number) ps i d 0 l ∙ nat_cmp-IsAntisymmetric (get_or ps i d).number n (h d);
+    }
+found-by_search ps n (Err i) l h = tt
+
+searchable : (ps : List Place) (n : ℕ) → IsRising ps → IsNonDecreasingBy (λ (p : Place). ordering_index (nat_cmp p.number n)) ps
+searchable ps n s = searchable_from_sorted nat_cmp_total (λ (p : Place). p.number) ps n (λ k d low h.
+    let ns = numbers_of ps in
+    let size : length ns ≡ length ps = length-map ps (λ (p : Place). p.number) in
+    let at : (i : ℕ) → i < length ps → get_or ns i d.number ≡ (get_or ps i d).number = λ i l. get_or-map (λ (p : Place). p.number) ps i d d.number l in
+    let up = Less-from_sorted nat_cmp ns k (k + 1) d.number s (omega arith) (omega arith) in
+    ap is_lt (λ i. nat_cmp (sym (at (k + 1) h) i) (sym (at k (omega arith)) i)) ∙ ap is_lt (nat_cmp_total.antisymm (get_or ns (k + 1) d.number) (get_or ns k d.number)) ∙ ap (λ r. is_lt (ordering_reverse r)) up)
+
+pub missing-by_search : (ps : List Place) (n : ℕ) (r : Result ℕ ℕ) → IsRising ps → IsSearchInRange r (length ps) → IsBinarySearchResult (λ p. nat_cmp p.number n) ps r → IfErr r (λ i. Belongs (numbers_of ps) n i)
+missing-by_search ps n (Ok i) s l h = tt
+missing-by_search ps n (Err i) s l h =
+    let d : Place = record { number = 0; slot = 0 } in
+    let size = length-map ps (λ (p : Place). p.number) in
+    let parts = h (searchable ps n s) in
+    let at : (k : ℕ) → k < length ps → get_or (numbers_of ps) k 0 ≡ (get_or ps k d).number = λ k m. get_or-map (λ (p : Place). p.number) ps k d 0 m in
+    record {
+      within = omega (arith, size, l);
+      before = λ k m. let less = ranked (get_or ps k d).number n Less (sym (parts.0 k d (omega arith) m)) in let same = at k (omega (arith, m, l)) in omega (arith, less, same);
+      behind = λ k m w. let more = ranked (get_or ps k d).number n Greater (sym (parts.1 k d m (omega (arith, w, size)))) in let same = at k (omega (arith, w, size)) in omega (arith, more, same);
+    }

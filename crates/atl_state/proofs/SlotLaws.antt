@@ -1,0 +1,221 @@
+-- A map whose values stand in slots.
+use Rattle.std.proofs.Common.{◌≡◌, ◌≢◌, ℕ, ◌<◌, Bool, true, false, cond, List, [], ◌∷◌, length, Option, Some, None, ◌⊎◌, inl, inr, refl, sym, ap, ◌∙◌, arith}
+use Rattle.std.specs.Prelude.{is_some, Result, Ok, Err, OnErr}
+use Rattle.std.proofs.lemmas.Bool.{false≢true, and_parts, cases_eq, cases_lt}
+use Rattle.std.proofs.lemmas.List.{length-map, get_or-set_same, get_or-set_other, get_or_past}
+use Rattle.std.specs.List.{AllByRecursion}
+use Rattle.std.specs.List.Sorted.{IsStrictlySortedBy}
+use Rattle.std.specs.Map.{keys_of}
+use Rattle.std.specs.declared.cmp.Ordering.TheVariants.{Less, Equal, Greater}
+use Rattle.std.specs.Ordering.{nat_cmp, is_eq, eq_by_cmp}
+use Rattle.std.specs.Cmp.{nat_cmp_total, ranked}
+use Rattle.std.specs.FinMap.{FinMap, get, find, insert, remove, empty, entries, is_sorted, len, len-entries, get-entries, get-insert, get-remove, get-empty, get-from_entries, from_entries, same_map, nat_cmp-IsAntisymmetric}
+use Rattle.std.specs.FinMap.Entries.{below_all}
+use Rattle.atl_tables.proofs.MadeLaws.{is_less}
+use Rattle.atl_tables.proofs.Maps.{entries-empty, entries_of}
+use Rattle.slab.specs.Slab as slab
+use Rattle.atl_state.specs.Slots.{lodged, lodged_at, values_of, AreInUse, AreLodged}
+use Rattle.atl_state.proofs.EveryLaws.{sorted, each-from_every}
+use Rattle.atl_state.proofs.IndexLaws.{some_none}
+
+same_some : {X : Type 0} {x y : X} {o : Option X} → o ≡ Some x → o ≡ Some y → x ≡ y
+same_some e h = cc
+
+by_number : (q n : ℕ) (P : Bool → Type 0) → (q ≡ n → P true) → (q ≢ n → P false) → P (eq_by_cmp nat_cmp q n)
+by_number q n P same apart =
+    elim (nat_cmp q n) as (λ r. nat_cmp q n ≡ r → P (is_eq r)) [
+      | Less ↦ λ e. apart (λ h. let l = ranked q n Less (sym e) in omega arith)
+      | Equal ↦ λ e. same (nat_cmp-IsAntisymmetric q n e)
+      | Greater ↦ λ e. apart (λ h. let l = ranked q n Greater (sym e) in omega arith)
+    ] refl
+
+module _ {V : Type 0} where
+  -- by way of the list, what stands in the slot
+  abbrev pub through : slab.Slab V → Option ℕ → Option V
+  through s None = None
+  through s (Some k) = slab.get s k
+
+  lodged_step : (n q : ℕ) (o : Option V) (rest : List (ℕ × V)) → is_some o ≡ true → find nat_cmp q (lodged_at n o rest) ≡ cond (eq_by_cmp nat_cmp q n) o (find nat_cmp q rest)
+  lodged_step n q None rest h = absurd (false≢true h)
+  lodged_step n q (Some v) rest h = refl
+
+  through_cond : (b : Bool) (s : slab.Slab V) (k : ℕ) (o : Option ℕ) → cond b (slab.get s k) (through s o) ≡ through s (cond b (Some k) o)
+  through_cond true s k o = refl
+  through_cond false s k o = refl
+
+  find_lodged : (s : slab.Slab V) (q : ℕ) (es : List (ℕ × ℕ)) → AreInUse es s → find nat_cmp q (lodged es s) ≡ through s (find nat_cmp q es)
+  find_lodged s q [] h = refl
+  find_lodged s q (e ∷ es) h =
+      lodged_step e.0 q (slab.get s e.1) (lodged es s) h.0 ∙ ap (cond (eq_by_cmp nat_cmp q e.0) (slab.get s e.1)) (find_lodged s q es h.1)
+      ∙ through_cond (eq_by_cmp nat_cmp q e.0) s e.1 (find nat_cmp q es)
+
+  pub all_in_use : (i : FinMap nat_cmp ℕ) (s : slab.Slab V) → AreLodged i s → AreInUse (entries i) s
+  all_in_use i s held = each-from_every (λ n k. is_some (slab.get s k) ≡ true) i held.in_use
+
+  -- what stands under a number
+  pub get_values : (i : FinMap nat_cmp ℕ) (s : slab.Slab V) → AreLodged i s → (q : ℕ) → get (values_of i s) q ≡ through s (get i q)
+  get_values i s held q =
+      get-from_entries nat_cmp_total (lodged (entries i) s) q
+      ∙ find_lodged s q (entries i) (all_in_use i s held)
+      ∙ ap (through s) (sym (get-entries i q))
+
+  empty_slot : (o : Option V) → is_some o ≡ true → o ≡ None → ⊥
+  empty_slot None h e = false≢true h
+  empty_slot (Some x) h e = some_none x e
+
+  leads_nowhere : (i : FinMap nat_cmp ℕ) (s : slab.Slab V) (n : ℕ) (o : Option ℕ) → get i n ≡ o → AreLodged i s → through s o ≡ None → o ≡ None
+  leads_nowhere i s n None e held h = refl
+  leads_nowhere i s n (Some k) e held h = absurd (empty_slot (slab.get s k) (held.in_use n k e) h)
+
+  -- a number without a value leads to no slot
+  pub unindexed : (i : FinMap nat_cmp ℕ) (s : slab.Slab V) (n : ℕ) → AreLodged i s → get (values_of i s) n ≡ None → get i n ≡ None
+  unindexed i s n held h = leads_nowhere i s n (get i n) refl held (sym (get_values i s held n) ∙ h)
+
+  vacant_slot : (s : slab.Slab V) (j k : ℕ) → j ≡ k → slab.get s k ≡ None → is_some (slab.get s j) ≡ true → ⊥
+  vacant_slot s j k same vacant h = false≢true (sym (ap is_some (ap (slab.get s) same ∙ vacant)) ∙ h)
+
+  lodged_same : (es : List (ℕ × ℕ)) (s t : slab.Slab V) → slab.SameValues s t → lodged es t ≡ lodged es s
+  lodged_same [] s t same = refl
+  lodged_same (e ∷ es) s t same = ap (λ o. lodged_at e.0 o (lodged es t)) (same e.1) ∙ ap (lodged_at e.0 (slab.get s e.1)) (lodged_same es s t same)
+
+  -- a slot that another number leads to stays
+  kept : (s t : slab.Slab V) (k : ℕ) (x : Option V) (o : Option ℕ) → slab.Updates s t k x → ((j : ℕ) → o ≡ Some j → j ≢ k) → through t o ≡ through s o
+  kept s t k x None u h = refl
+  kept s t k x (Some j) u h = u.others j (h j refl)
+
+  -- ---- a value changed in its slot
+  pub AreLodged-changed : (i : FinMap nat_cmp ℕ) (s t : slab.Slab V) (k : ℕ) (x : V) → slab.Updates s t k (Some x) → AreLodged i s → AreLodged i t
+  AreLodged-changed i s t k x u held = record {
+    in_use = λ n j h. elim (cases_eq j k) [
+      | inl same ↦ ap (λ m. is_some (slab.get t m)) same ∙ ap is_some u.changed
+      | inr apart ↦ ap is_some (u.others j apart) ∙ held.in_use n j h
+    ];
+    by_one = held.by_one;
+  }
+
+  pub values_changed : (i : FinMap nat_cmp ℕ) (s t : slab.Slab V) (n k : ℕ) (x : V) → slab.Updates s t k (Some x) → AreLodged i s → get i n ≡ Some k → values_of i t ≡ insert (values_of i s) n x
+  values_changed i s t n k x u held is = same_map nat_cmp_total nat_cmp-IsAntisymmetric _ _ (λ q.
+      get_values i t (AreLodged-changed i s t k x u held) q
+      ∙ by_number q n (λ b. through t (get i q) ≡ cond b (Some x) (through s (get i q)))
+      (λ same. ap (λ m. through t (get i m)) same ∙ ap (through t) is ∙ u.changed)
+      (λ apart. kept s t k (Some x) (get i q) u (λ j h same. apart (held.by_one q n k (h ∙ ap Some same) is)))
+      ∙ sym (get-insert nat_cmp_total (values_of i s) n x q ∙ ap (cond (eq_by_cmp nat_cmp q n) (Some x)) (get_values i s held q)))
+
+  -- ---- a value put in
+  pub AreLodged-added : (i : FinMap nat_cmp ℕ) (s t : slab.Slab V) (n k : ℕ) (x : V) → slab.Updates s t k (Some x) → slab.get s k ≡ None → AreLodged i s → AreLodged (insert i n k) t
+  AreLodged-added i s t n k x u vacant held = record {
+    in_use = λ m j h. by_number m n (λ b. cond b (Some k) (get i m) ≡ Some j → is_some (slab.get t j) ≡ true)
+        (λ same e. ap (λ m. is_some (slab.get t m)) (same_some e refl) ∙ ap is_some u.changed)
+        (λ apart e. ap is_some (u.others j (λ same. vacant_slot s j k same vacant (held.in_use m j e))) ∙ held.in_use m j e)
+        (sym (get-insert nat_cmp_total i n k m) ∙ h);
+    by_one = λ a b j h g. by_number a n (λ c. cond c (Some k) (get i a) ≡ Some j → a ≡ b)
+        (λ a_same e. by_number b n (λ c. cond c (Some k) (get i b) ≡ Some j → a ≡ b)
+        (λ b_same _. a_same ∙ sym b_same)
+        (λ b_apart f. absurd (vacant_slot s j k (same_some e refl) vacant (held.in_use b j f)))
+        (sym (get-insert nat_cmp_total i n k b) ∙ g))
+        (λ a_apart e. by_number b n (λ c. cond c (Some k) (get i b) ≡ Some j → a ≡ b)
+        (λ b_same f. absurd (vacant_slot s j k (same_some f refl) vacant (held.in_use a j e)))
+        (λ b_apart f. held.by_one a b j e f)
+        (sym (get-insert nat_cmp_total i n k b) ∙ g))
+        (sym (get-insert nat_cmp_total i n k a) ∙ h);
+  }
+
+  pub values_added : (i : FinMap nat_cmp ℕ) (s t : slab.Slab V) (n k : ℕ) (x : V) → slab.Updates s t k (Some x) → slab.get s k ≡ None → AreLodged i s → values_of (insert i n k) t ≡ insert (values_of i s) n x
+  values_added i s t n k x u vacant held = same_map nat_cmp_total nat_cmp-IsAntisymmetric _ _ (λ q.
+      get_values (insert i n k) t (AreLodged-added i s t n k x u vacant held) q ∙ ap (through t) (get-insert nat_cmp_total i n k q)
+      ∙ by_number q n (λ b. through t (cond b (Some k) (get i q)) ≡ cond b (Some x) (through s (get i q)))
+      (λ same. u.changed)
+      (λ apart. kept s t k (Some x) (get i q) u (λ j h same. vacant_slot s j k same vacant (held.in_use q j h)))
+      ∙ sym (get-insert nat_cmp_total (values_of i s) n x q ∙ ap (cond (eq_by_cmp nat_cmp q n) (Some x)) (get_values i s held q)))
+
+  -- ---- a value taken out
+  pub AreLodged-removed : (i : FinMap nat_cmp ℕ) (s t : slab.Slab V) (n k : ℕ) → slab.Updates s t k None → get i n ≡ Some k → AreLodged i s → AreLodged (remove i n) t
+  AreLodged-removed i s t n k u is held = record {
+    in_use = λ m j h. by_number m n (λ b. cond b None (get i m) ≡ Some j → is_some (slab.get t j) ≡ true)
+        (λ same e. some_none j (sym e))
+        (λ apart e. ap is_some (u.others j (λ same. apart (held.by_one m n k (e ∙ ap Some same) is))) ∙ held.in_use m j e)
+        (sym (get-remove nat_cmp_total i n m) ∙ h);
+    by_one = λ a b j h g. by_number a n (λ c. cond c None (get i a) ≡ Some j → a ≡ b)
+        (λ same e. some_none j (sym e))
+        (λ apart e. by_number b n (λ c. cond c None (get i b) ≡ Some j → a ≡ b)
+        (λ same f. some_none j (sym f))
+        (λ b_apart f. held.by_one a b j e f)
+        (sym (get-remove nat_cmp_total i n b) ∙ g))
+        (sym (get-remove nat_cmp_total i n a) ∙ h);
+  }
+
+  pub values_removed : (i : FinMap nat_cmp ℕ) (s t : slab.Slab V) (n k : ℕ) → slab.Updates s t k None → get i n ≡ Some k → AreLodged i s → values_of (remove i n) t ≡ remove (values_of i s) n
+  values_removed i s t n k u is held = same_map nat_cmp_total nat_cmp-IsAntisymmetric _ _ (λ q.
+      get_values (remove i n) t (AreLodged-removed i s t n k u is held) q ∙ ap (through t) (get-remove nat_cmp_total i n q)
+      ∙ by_number q n (λ b. through t (cond b None (get i q)) ≡ cond b None (through s (get i q)))
+      (λ same. refl)
+      (λ apart. kept s t k None (get i q) u (λ j h same. apart (held.by_one q n k (h ∙ ap Some same) is)))
+      ∙ sym (get-remove nat_cmp_total (values_of i s) n q ∙ ap (cond (eq_by_cmp nat_cmp q n) None) (get_values i s held q)))
+
+  -- what was put in and taken out again
+  pub nothing_changed : (i : FinMap nat_cmp ℕ) (s t : slab.Slab V) → slab.SameValues s t → values_of i t ≡ values_of i s
+  nothing_changed i s t same = ap from_entries (lodged_same (entries i) s t same)
+
+  pub AreLodged-same : (i : FinMap nat_cmp ℕ) (s t : slab.Slab V) → slab.SameValues s t → AreLodged i s → AreLodged i t
+  AreLodged-same i s t same held = record { in_use = λ n k h. ap is_some (same k) ∙ held.in_use n k h; by_one = held.by_one }
+
+  pub put_back : (s t r : slab.Slab V) (k : ℕ) (x : V) → slab.get s k ≡ None → slab.Updates s t k (Some x) → slab.Updates t r k None → slab.SameValues s r
+  put_back s t r k x vacant u v j = elim (cases_eq j k) [
+    | inl same ↦ ap (slab.get r) same ∙ v.changed ∙ sym (ap (slab.get s) same ∙ vacant)
+    | inr apart ↦ v.others j apart ∙ u.others j apart
+  ]
+
+  inside : (s : slab.Slab V) (k : ℕ) → is_some (slab.get s k) ≡ true → k < length s.slots
+  inside s k h = elim (cases_lt k (length s.slots)) [
+    | inl l ↦ l
+    | inr l ↦ absurd (false≢true (sym (ap is_some (get_or_past s.slots k None l)) ∙ h))
+  ]
+
+  -- a write through `get_mut`
+  pub written : (s : slab.Slab V) (k : ℕ) (x : V) → is_some (slab.get s k) ≡ true → slab.Updates s (slab.with_value s k x) k (Some x)
+  written s k x h = record { changed = get_or-set_same s.slots k (Some x) None (inside s k h); others = λ j ne. get_or-set_other s.slots k j (Some x) None ne }
+
+pub no_values : {V : Type 0} (s : slab.Slab V) → values_of empty s ≡ empty
+no_values s = rw (entries-empty {X = ℕ}) refl
+
+pub AreLodged-empty : {V : Type 0} (s : slab.Slab V) → AreLodged empty s
+AreLodged-empty s = record {
+  in_use = λ n k h. some_none k (sym h ∙ get-empty nat_cmp n);
+  by_one = λ n m k h g. some_none k (sym h ∙ get-empty nat_cmp n);
+}
+
+pub on_err : {A E P : Type 0} (r : Result A E) → P → OnErr r P
+on_err (Ok a) p = tt
+on_err (Err e) p = p
+
+-- what is lent under one name, said in two ways
+pub lent_same : {N W D E : Type 0} (n : N) (F G : W → D) → ((w : W) → F w ≡ G w) → ◌≡◌ {A = (N × (W → D)) ⊎ E} (inl (n, F)) (inl (n, G))
+lent_same n F G h j = inl (n, λ w. h w j)
+
+-- ---- in rising order
+rise : {V : Type 0} (k : ℕ) (es : List (ℕ × V)) → below_all nat_cmp k es ≡ true → AllByRecursion (λ n. nat_cmp k n ≡ Less) (keys_of es)
+rise k [] h = tt
+rise k (e ∷ es) h = (is_less (nat_cmp k e.0) (and_parts _ _ h).0, rise k es (and_parts _ _ h).1)
+
+pub keys_rise : {V : Type 0} (es : List (ℕ × V)) → is_sorted nat_cmp es ≡ true → IsStrictlySortedBy nat_cmp (keys_of es)
+unfolding IsStrictlySortedBy
+keys_rise [] h = tt
+keys_rise (e ∷ es) h = (rise e.0 es (and_parts _ _ h).0, keys_rise es (and_parts _ _ h).1)
+
+module _ {V : Type 0} (s : slab.Slab V) where
+  key_step : (n : ℕ) (o : Option V) (rest : List (ℕ × V)) → is_some o ≡ true → keys_of (lodged_at n o rest) ≡ n ∷ keys_of rest
+  key_step n None rest h = absurd (false≢true h)
+  key_step n (Some v) rest h = refl
+
+  keys_lodged : (es : List (ℕ × ℕ)) → AreInUse es s → keys_of (lodged es s) ≡ keys_of es
+  keys_lodged [] h = refl
+  keys_lodged (e ∷ es) h = key_step e.0 (slab.get s e.1) (lodged es s) h.0 ∙ ap (λ ns. e.0 ∷ ns) (keys_lodged es h.1)
+
+  pub entries_values : (i : FinMap nat_cmp ℕ) → AreLodged i s → entries (values_of i s) ≡ lodged (entries i) s
+  entries_values i held = entries_of (lodged (entries i) s) (rw (keys_lodged (entries i) (all_in_use i s held)) (keys_rise (entries i) (sorted i)))
+
+  pub len_values : (i : FinMap nat_cmp ℕ) → AreLodged i s → len (values_of i s) ≡ len i
+  len_values i held =
+      len-entries (values_of i s) ∙ ap length (entries_values i held)
+      ∙ sym (length-map (lodged (entries i) s) (λ (e : ℕ × V). e.0)) ∙ ap length (keys_lodged (entries i) (all_in_use i s held)) ∙ length-map (entries i) (λ (e : ℕ × ℕ). e.0)
+      ∙ sym (len-entries i)

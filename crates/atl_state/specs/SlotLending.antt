@@ -1,0 +1,11 @@
+-- For proofs alone: what becomes of values in slots after a write through what they lend.
+use Rattle.std.specs.Prelude.{ℕ, Option}
+use Rattle.std.specs.Ordering.{nat_cmp}
+use Rattle.std.specs.FinMap as map
+use Rattle.std.specs.Borrow.{LendsIf, MutBor, Fml}
+use denote.RattleType.{RattleType}
+use Rattle.atl_state.specs.contracts.arena.Arena.{the_row}
+
+-- m ends with the last value behind r under the number, or as it was
+abbrev pub LendsSlot : (V : RattleType) → MutBor (map.FinMap nat_cmp V.Denot) → ℕ → Option (MutBor V.Denot) → Fml
+LendsSlot V m number r = LendsIf (the_row V) V m r (λ w. map.insert m.now number w) m.now

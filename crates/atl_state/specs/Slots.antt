@@ -1,0 +1,28 @@
+-- For proofs alone: a map whose values stand in slots.
+use Rattle.std.specs.Prelude.{◌≡◌, ℕ, true, is_some, List, [], ◌∷◌, Option, Some, None}
+use Rattle.std.specs.Ordering.{nat_cmp}
+use Rattle.std.specs.FinMap.{FinMap, get, entries, from_entries}
+use Rattle.slab.specs.Slab as slab
+use Rattle.atl_state.specs.Deciding.{EachOf}
+
+module _ {V : Type 0} where
+  abbrev pub lodged_at : ℕ → Option V → List (ℕ × V) → List (ℕ × V)
+  lodged_at n None rest = rest
+  lodged_at n (Some v) rest = (n, v) ∷ rest
+
+  -- each number with the value in its slot
+  abbrev pub lodged : List (ℕ × ℕ) → slab.Slab V → List (ℕ × V)
+  lodged [] s = []
+  lodged (e ∷ es) s = lodged_at e.0 (slab.get s e.1) (lodged es s)
+
+  abbrev pub values_of : FinMap nat_cmp ℕ → slab.Slab V → FinMap nat_cmp V
+  values_of i s = from_entries (lodged (entries i) s)
+
+  -- each slot that a number leads to has a value
+  abbrev pub AreInUse : List (ℕ × ℕ) → slab.Slab V → Type 0
+  AreInUse es s = EachOf (λ n k. is_some (slab.get s k) ≡ true) es
+
+  -- and no other number leads there
+  pub record AreLodged (i : FinMap nat_cmp ℕ) (s : slab.Slab V) : Type 0 where
+    pub in_use : (n k : ℕ) → get i n ≡ Some k → is_some (slab.get s k) ≡ true
+    pub by_one : (n m k : ℕ) → get i n ≡ Some k → get i m ≡ Some k → n ≡ m

@@ -1,0 +1,112 @@
+//! Which slot each number leads to.
+ghost use Rattle.std.specs.Prelude.{◌≡◌, ◌<◌, ◌^◌, IfOk, IfErr, OnOk, OnErr, None};
+ghost use Rattle.std.specs.Ordering.{nat_cmp};
+ghost use Rattle.std.specs.List.Sorted.{IsStrictlySortedBy};
+ghost use Rattle.std.specs.Slice.Iter.{iter_rest};
+ghost use Rattle.std.specs.FinMap as map;
+ghost use Rattle.atl_tables.specs.Rising.{Stands, Belongs};
+ghost use Rattle.atl_state.specs.Index.{numbers_of, slots_of};
+
+use std::alloc::{AllocError, Global};
+use std::marker::Model;
+use std::slice::Iter;
+
+/// A number, and the slot that it leads to.
+#[derive(Drop, Clone, Copy)]
+pub(crate) struct Place {
+    pub(crate) number: u32,
+    pub(crate) slot: usize,
+}
+
+/// The slots by their numbers. To find one takes a single search.
+#[derive(Drop)]
+pub(crate) struct Index {
+    // The numbers rise.
+    places: Vec<Place>,
+}
+
+impl Model for Index {
+    ghost use Rattle.std.specs.Prelude.{ℕ};
+    ghost use Rattle.std.specs.Ordering.{nat_cmp};
+    ghost use Rattle.std.specs.List.Sorted.{IsStrictlySortedBy};
+    ghost use Rattle.std.specs.Coded.{coded_ℕ};
+    ghost use Rattle.std.specs.FinMap as map;
+    ghost use Rattle.atl_state.specs.Index.{numbers_of, slots_of};
+
+    ghost Value = { map.FinMap nat_cmp ℕ };
+
+    ghost coded = { map.code coded_ℕ coded_ℕ };
+
+    ghost view = { λ a. map.from_entries (slots_of a.places.items) };
+
+    ghost invariant = { λ a. IsStrictlySortedBy nat_cmp (numbers_of a.places.items) };
+}
+
+impl Index {
+    /// An index of nothing. It takes no memory.
+    pub(crate) fn new(alloc: Global) -> Index
+        ensures { result ≡ map.empty }
+    {
+        Index {
+            places: Vec::new(alloc),
+        }
+    }
+
+    /// The slot that a number leads to, where it leads to one.
+    pub(crate) fn get(&self, number: u32) -> Option<usize>
+        ensures { result ≡ map.get self.now number }
+    {
+        match place_of(&self.places, number) {
+            Ok(place) => Some(self.places[place].slot),
+            Err(_) => None,
+        }
+    }
+
+    /// Leads a number to a slot that led to none. Without memory for it nothing changes.
+    pub(crate) fn insert(&mut self, number: u32, slot: usize) -> Result<(), AllocError>
+        requires { map.get self.old number ≡ None }
+        ensures ok { OnOk result (self.new ≡ map.insert self.old number slot) }
+        ensures err { OnErr result (self.new ≡ self.old) }
+    {
+        match place_of(&self.places, number) {
+            Ok(_) => unreachable!(),
+            Err(place) => self.places.insert(place, Place { number, slot })?,
+        }
+        Ok(())
+    }
+
+    /// Leads a number to no slot any more, and says to which it led, where it led to one. It takes no memory.
+    pub(crate) fn remove(&mut self, number: u32) -> Option<usize>
+        ensures slot { result ≡ map.get self.old number }
+        ensures taken { self.new ≡ map.remove self.old number }
+    {
+        match place_of(&self.places, number) {
+            Ok(place) => Some(self.places.remove(place).slot),
+            Err(_) => None,
+        }
+    }
+
+    /// How many numbers lead to a slot.
+    pub(crate) fn len(&self) -> usize
+        ensures value { result ≡ map.len self.now }
+        ensures small { result < 2 ^ 63 }
+    {
+        self.places.len()
+    }
+
+    /// The numbers with their slots, in rising order.
+    pub(crate) fn iter(&self) -> Iter<'_, Place>
+        ensures { slots_of (iter_rest result) ≡ map.entries self.now }
+    {
+        self.places.iter()
+    }
+}
+
+/// Where a number stands in places whose numbers rise, or else where it belongs.
+fn place_of(places: &[Place], number: u32) -> Result<usize, usize>
+    requires { IsStrictlySortedBy nat_cmp (numbers_of places.now) }
+    ensures found { IfOk result (λ place. Stands (numbers_of places.now) number place) }
+    ensures missing { IfErr result (λ place. Belongs (numbers_of places.now) number place) }
+{
+    places.binary_search_by_key(&number, |place| place.number)
+}
