@@ -12,8 +12,8 @@ use Rattle.atl_store.proofs.loading.others.read_others.Goals as goal
 pub read_two-requires-clause-settled : goal.read_two-requires-clause-settled
 read_two-requires-clause-settled g c = settled_then g.S.Store c.args.conn.now c.read_three.new.conn c.requires.settled c.read_three.ensures.leaves
 
-pub read_three-2-requires-clause-settled : goal.read_three-2-requires-clause-settled
-read_three-2-requires-clause-settled g c =
+pub read_three-requires-2-clause-settled : goal.read_three-requires-2-clause-settled
+read_three-requires-2-clause-settled g c =
     settled_then g.S.Store c.args.conn.now c.read_two.new.conn c.requires.settled (leaves_then g.S.Store c.args.conn.now c.read_three.new.conn c.read_two.new.conn c.read_three.ensures.leaves c.read_two.ensures.leaves)
 
 pub returns-in_err-places : goal.returns-in_err-places

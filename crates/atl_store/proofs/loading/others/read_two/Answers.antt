@@ -3,8 +3,8 @@ use Rattle.atl_store.specs.Gathering.{AreRows}
 use Rattle.atl_store.proofs.GatherLaws.{settled_then, first_fails, second_fails, reads_both, rows_behind}
 use Rattle.atl_store.proofs.loading.others.read_two.Goals as goal
 
-pub read_one-2-requires-clause-settled : goal.read_one-2-requires-clause-settled
-read_one-2-requires-clause-settled g c = settled_then g.S.Store c.args.conn.now c.read_one.new.conn c.requires.settled c.read_one.ensures.leaves
+pub read_one-requires-2-clause-settled : goal.read_one-requires-2-clause-settled
+read_one-requires-2-clause-settled g c = settled_then g.S.Store c.args.conn.now c.read_one.new.conn c.requires.settled c.read_one.ensures.leaves
 
 pub returns-in_err-first : goal.returns-in_err-first
 returns-in_err-first g c =
