@@ -11,5 +11,6 @@ mod making;
 mod marked;
 mod owners;
 mod parts;
+mod rounds;
 mod setting;
 mod walks;

@@ -263,7 +263,7 @@ fn the_first_broken_rule_is_told(rt: HostRuntime) -> Result<(), Fail> {
     tells(&rt, rt.alloc(), &world)
 }
 
-fn checked(alloc: Global, world: &World, rows: Parts) -> Result<Campaign, Fail> {
+pub(crate) fn checked(alloc: Global, world: &World, rows: Parts) -> Result<Campaign, Fail> {
     match check(alloc, world, rows) {
         Ok(campaign) => Ok(campaign),
         Err(_) => Err(Fail::new("the rows are those of a good campaign")),

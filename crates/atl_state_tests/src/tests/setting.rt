@@ -74,6 +74,20 @@ fn sets_money(rt: &impl Abort, campaign: &mut Campaign) -> Result<(), Fail> {
     Ok(())
 }
 
+fn sets_men(rt: &impl Abort, campaign: &mut Campaign) -> Result<(), Fail> {
+    campaign.set_men(1, 999_999);
+    is_amount(rt, unit(campaign)?.holding.men(), 999_999);
+    one_is_marked(rt, campaign);
+    Ok(())
+}
+
+fn sets_unit_name(rt: &impl Abort, alloc: Global, campaign: &mut Campaign) -> Result<(), Fail> {
+    campaign.set_unit_name(1, Text::from_str(alloc, "Bill")?);
+    is_text(rt, unit(campaign)?.holding.name().as_str(), "Bill");
+    one_is_marked(rt, campaign);
+    Ok(())
+}
+
 fn sets_guard(rt: &impl Abort, campaign: &mut Campaign) -> Result<(), Fail> {
     campaign.set_guard(1, true);
     is_so(rt, unit(campaign)?.holding.guard());
@@ -156,6 +170,7 @@ fn sets_numbers_of_nobody(campaign: &mut Campaign) {
     campaign.set_peasants(NOBODY, 1);
     campaign.set_region_money(NOBODY, 1);
     campaign.set_money(NOBODY, 1);
+    campaign.set_men(NOBODY, 1);
     campaign.set_guard(NOBODY, true);
 }
 
@@ -167,6 +182,7 @@ fn sets_structures_of_nobody(campaign: &mut Campaign) {
 
 fn sets_names_of_nobody(alloc: Global, campaign: &mut Campaign) -> Result<(), Fail> {
     campaign.set_faction_name(NOBODY, Text::from_str(alloc, "Bree")?);
+    campaign.set_unit_name(NOBODY, Text::from_str(alloc, "Bill")?);
     campaign.set_structure_name(NOBODY, Text::from_str(alloc, "Hut")?);
     Ok(())
 }
@@ -196,9 +212,14 @@ fn sets_of_factions(rt: &impl Abort, alloc: Global, campaign: &mut Campaign) -> 
     sets_report(rt, alloc, campaign)
 }
 
-fn sets_of_places(rt: &impl Abort, campaign: &mut Campaign) -> Result<(), Fail> {
+fn sets_of_regions(rt: &impl Abort, campaign: &mut Campaign) -> Result<(), Fail> {
     sets_peasants(rt, campaign)?;
-    sets_region_money(rt, campaign)?;
+    sets_region_money(rt, campaign)
+}
+
+fn sets_of_units(rt: &impl Abort, alloc: Global, campaign: &mut Campaign) -> Result<(), Fail> {
+    sets_unit_name(rt, alloc, campaign)?;
+    sets_men(rt, campaign)?;
     sets_money(rt, campaign)?;
     sets_guard(rt, campaign)
 }
@@ -221,7 +242,8 @@ fn begun(alloc: Global, world: &World) -> Result<Campaign, Fail> {
 fn sets_all(rt: &impl Abort, alloc: Global, world: &World) -> Result<(), Fail> {
     let mut campaign = begun(alloc, world)?;
     sets_of_factions(rt, alloc, &mut campaign)?;
-    sets_of_places(rt, &mut campaign)?;
+    sets_of_regions(rt, &mut campaign)?;
+    sets_of_units(rt, alloc, &mut campaign)?;
     sets_of_structures(rt, alloc, &mut campaign)?;
     sets_nobody(rt, alloc, &mut campaign)
 }
