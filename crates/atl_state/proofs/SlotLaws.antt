@@ -59,6 +59,9 @@ module _ {V : Type 0} where
       ∙ find_lodged s q (entries i) (all_in_use i s held)
       ∙ ap (through s) (sym (get-entries i q))
 
+  pub value_under : (i : FinMap nat_cmp ℕ) (s : slab.Slab V) (m : FinMap nat_cmp V) (n : ℕ) (o : Option ℕ) → AreLodged i s → values_of i s ≡ m → o ≡ get i n → through s o ≡ get m n
+  value_under i s m n o held is there = ap (through s) there ∙ sym (get_values i s held n) ∙ ap (λ v. get v n) is
+
   empty_slot : (o : Option V) → is_some o ≡ true → o ≡ None → ⊥
   empty_slot None h e = false≢true h
   empty_slot (Some x) h e = some_none x e

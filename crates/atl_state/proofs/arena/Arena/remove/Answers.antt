@@ -1,9 +1,9 @@
-use Rattle.std.proofs.Common.{◌≡◌, None, sym, ap, ◌∙◌}
+use Rattle.std.proofs.Common.{◌≡◌, Some, None, sym, ap, ◌∙◌}
 use Rattle.std.specs.Prelude.{is_some}
 use Rattle.std.specs.FinMap.{get, remove}
 use Rattle.atl_tables.proofs.TrackLaws.{remove_none}
 use Rattle.atl_state.specs.Slots.{values_of}
-use Rattle.atl_state.proofs.SlotLaws.{get_values, through, AreLodged-removed, values_removed}
+use Rattle.atl_state.proofs.SlotLaws.{value_under, AreLodged-removed, values_removed}
 use Rattle.atl_state.proofs.arena.Arena.remove.Goals as goal
 
 pub invariant_of-self : goal.invariant_of-self
@@ -18,7 +18,7 @@ returns-in-Some g c =
     let i = c.self.inside.index in
     let s = c.self.inside.slots in
     let n = c.args.number in
-    let there = sym c.remove-in-Some.ensures.value ∙ ap (through s) c.in-Some.ensures.slot ∙ sym (get_values i s c.self.invariant n) ∙ ap (λ m. get m n) c.self.view_is in
+    let there = sym c.remove-in-Some.ensures.value ∙ value_under i s c.args.self.now n (Some c.in-Some.slot) c.self.invariant c.self.view_is c.in-Some.ensures.slot in
     record {
       there = ap is_some there;
       taken = rw c.in-Some.ensures.taken (values_removed i s c.remove-in-Some.new.self n c.in-Some.slot c.remove-in-Some.ensures.updates (sym c.in-Some.ensures.slot) c.self.invariant ∙ ap (λ m. remove m n) c.self.view_is);
@@ -29,7 +29,7 @@ returns-in-None g c =
     let i = c.self.inside.index in
     let s = c.self.inside.slots in
     let n = c.args.number in
-    let none : get c.args.self.now n ≡ None = sym (ap (through s) c.in-None.ensures.slot ∙ sym (get_values i s c.self.invariant n) ∙ ap (λ m. get m n) c.self.view_is) in
+    let none : get c.args.self.now n ≡ None = sym (value_under i s c.args.self.now n None c.self.invariant c.self.view_is c.in-None.ensures.slot) in
     record {
       there = ap is_some (sym none);
       taken = ap (λ j. values_of j s) (c.in-None.ensures.taken ∙ remove_none i n (sym c.in-None.ensures.slot)) ∙ c.self.view_is ∙ sym (remove_none c.args.self.now n none);
