@@ -19,11 +19,11 @@ use Rattle.atl_state.specs.declared.records.Structure.{Structure}
 use Rattle.atl_state.specs.declared.records.Unit.{Unit}
 use Rattle.atl_state.specs.Good.{IsEarly, IsOwned, guards}
 use Rattle.atl_state.specs.Held.{Held}
-use Rattle.atl_state.specs.State.{State, with_faction_name, with_guard, with_structure_name}
+use Rattle.atl_state.specs.State.{State, with_faction_name, with_guard, with_structure_name, with_unit_name}
 use Rattle.atl_state.specs.Totals.{held, total}
 use Rattle.atl_state.proofs.HoldingLaws.{MayHold, of_one_faction_kept, steady-held, total-held}
 use Rattle.atl_state.proofs.RegionLaws.{changed-known}
-use Rattle.atl_instant.specs.Name.{name_concerns, name_said, name_step, named, structure_fault, structure_named, with_unit_name}
+use Rattle.atl_instant.specs.Name.{name_concerns, name_said, name_step, named, structure_fault, structure_named}
 use Rattle.atl_instant.specs.Outcomes.{unless}
 use Rattle.atl_instant.specs.PhaseOrders.{Task}
 use Rattle.atl_instant.specs.Staying.{IsNoWorse}

@@ -14,7 +14,7 @@ use Rattle.atl_state.specs.declared.event.Outcome.{Outcome}
 use Rattle.atl_state.specs.declared.event.Outcome.TheVariants.{Done}
 use Rattle.atl_state.specs.declared.records.Structure.{Structure}
 use Rattle.atl_state.specs.Good.{is_ship}
-use Rattle.atl_state.specs.State.{State, unit_changed, with_faction_name, with_guard, with_structure_name}
+use Rattle.atl_state.specs.State.{State, with_faction_name, with_guard, with_structure_name, with_unit_name}
 use Rattle.atl_instant.specs.Meaning.{Keeping, Meaning}
 use Rattle.atl_instant.specs.Outcomes.{first_fault, unless}
 use Rattle.atl_instant.specs.Staying.{IsNoWorse}
@@ -30,10 +30,6 @@ is_naming verbs.Guard = true
 is_naming verb = false
 
 -- ---- names
-
--- a unit with another name
-abbrev pub with_unit_name : State → ℕ → List ℕ → State
-with_unit_name c n name = unit_changed (λ u. record u { holding = record u.holding { name = name } }) c n
 
 -- whether a structure is a ship, or else a building
 abbrev pub is_of_sort : Planet → (ship : Bool) → Structure → Bool

@@ -3,10 +3,10 @@ ghost use Rattle.std.specs.Prelude.{◌≡◌, IfOk, IsTrue, OnOk, false};
 ghost use Rattle.std.specs.FinMap as map;
 ghost use Rattle.atl_tables.specs.Names.{name_ok};
 ghost use Rattle.atl_orders.specs.Orders.{name_in};
-ghost use Rattle.atl_state.specs.State.{with_faction_name, with_guard};
+ghost use Rattle.atl_state.specs.State.{with_faction_name, with_guard, with_unit_name};
 ghost use Rattle.atl_state.specs.Covers.{MarksChanges};
 ghost use Rattle.atl_state.specs.Good.{IsEarly};
-ghost use Rattle.atl_instant.specs.Name.{is_naming, is_of_sort, name_concerns, name_step, named, names, structure_fault, structure_named, unguarded, with_unit_name};
+ghost use Rattle.atl_instant.specs.Name.{is_naming, is_of_sort, name_concerns, name_step, named, names, structure_fault, structure_named, unguarded};
 ghost use Rattle.atl_instant.specs.Steps.{carried};
 
 use crate::month::Month;
@@ -39,10 +39,7 @@ fn name_unit(campaign: &mut Campaign, unit: u32, name: Text)
     ensures what { campaign.new.what ≡ with_unit_name campaign.old.what unit name }
     ensures marks { MarksChanges campaign.old campaign.new }
 {
-    match campaign.unit_mut(unit) {
-        Some(holding) => holding.set_name(name),
-        None => {}
-    }
+    campaign.set_unit_name(unit, name);
 }
 
 /// A faction shows another name.
