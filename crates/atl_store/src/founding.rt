@@ -16,6 +16,7 @@ use crate::goods::put_all_goods;
 use crate::head::put_head;
 use crate::kept::put_each;
 use crate::ledger::put_all_books;
+use crate::rows::unit::put_units;
 use crate::tables::create_tables;
 use atl_state::Campaign;
 use sqlite::{Alter, Connection, Error, Transaction};
@@ -48,7 +49,7 @@ fn put_places<S: Alter>(tx: &mut Transaction<'_, S>, campaign: &Campaign) -> Res
 fn put_people<S: Alter>(tx: &mut Transaction<'_, S>, campaign: &Campaign) -> Result<(), Error>
     ensures { Writes S.Store (Inside HasTables (FillsPeople campaign.now.what)) result tx.old.conn tx.new.conn }
 {
-    put_each(tx, campaign.units())?;
+    put_units(tx, campaign.units())?;
     put_all_goods(tx, campaign.units())?;
     put_each(tx, campaign.mail())
 }

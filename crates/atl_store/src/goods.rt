@@ -6,7 +6,7 @@ ghost use Rattle.atl_store.specs.Inside.{Inside, HasTables, PutsRows};
 ghost use Rattle.atl_store.specs.Rewriting.{RewritesGoods, RewritesAllGoods};
 
 use crate::rows::has::{HasRow, Sort, drop_goods, put_has};
-use atl_state::{Campaign, Holding, Unit};
+use atl_state::{Campaign, Holding, SlotEntries, Unit};
 use atl_tables::Entries;
 use sqlite::{Alter, Error, Transaction};
 
@@ -62,7 +62,7 @@ fn put_goods<S: Alter>(
 /// Puts the rows of all that all units have.
 pub(crate) fn put_all_goods<S: Alter>(
     tx: &mut Transaction<'_, S>,
-    units: Entries<'_, Unit>,
+    units: SlotEntries<'_, Unit>,
 ) -> Result<(), Error>
     ensures { Writes S.Store (Inside HasTables (PutsRows has_table 3 (all_goods_lines units.entry))) result tx.old.conn tx.new.conn }
 {

@@ -1,10 +1,12 @@
 //! The table of units.
 ghost use Rattle.std.specs.Prelude.{◌≡◌, false, refl};
 ghost use Rattle.atl_store.specs.Tables.{unit_table};
-ghost use Rattle.atl_store.specs.Rows.{unit_line};
+ghost use Rattle.atl_store.specs.Rows.{lines_of, unit_line};
 ghost use Rattle.atl_store.specs.Selects.{all_units};
 ghost use Rattle.atl_store.specs.StoredRows.{unit_stored, unit_forms};
 ghost use Rattle.atl_store.specs.Sets.{rows_in};
+ghost use Rattle.atl_store.specs.Writes.{Writes};
+ghost use Rattle.atl_store.specs.Inside.{Inside, HasTables, PutsRows};
 
 use crate::fault::ReadFault;
 use crate::kept::Kept;
@@ -12,7 +14,7 @@ use crate::rows::columns::{letters, three_integers, two_integers};
 use crate::rows::stored::{Listed, Stored, read_all};
 use crate::statement::run;
 use atl_state::parts::StoredUnit;
-use atl_state::{Campaign, Unit};
+use atl_state::{Campaign, SlotEntries, Unit};
 use atl_tables::MarkedNumbers;
 use sqlite::{Alter, Connection, Error, Row, Transaction, params};
 use std::alloc::Global;
@@ -56,6 +58,19 @@ impl Kept for Unit {
     fn take_out<S: Alter>(tx: &mut Transaction<'_, S>, number: u32) -> Result<(), Error> {
         run(tx, "DELETE FROM unit WHERE number = ?1", params![number])
     }
+}
+
+/// Puts the rows of all units.
+pub(crate) fn put_units<S: Alter>(
+    tx: &mut Transaction<'_, S>,
+    units: SlotEntries<'_, Unit>,
+) -> Result<(), Error>
+    ensures { Writes S.Store (Inside HasTables (PutsRows unit_table 1 (lines_of unit_line units.entry))) result tx.old.conn tx.new.conn }
+{
+    for (number, unit) in units {
+        unit.put(tx, number)?;
+    }
+    Ok(())
 }
 
 impl Stored for StoredUnit {

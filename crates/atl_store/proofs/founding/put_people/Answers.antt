@@ -8,10 +8,10 @@ use Rattle.atl_store.proofs.founding.put_people.Goals as goal
 pub returns : goal.returns
 returns g c = three_steps g.S.Store (λ old one two new units goods mail. people_done c.args.campaign.now.what old one two new
     (of_entries unit_table unit_line _ _ old one c.units.ensures units) (goods_of _ _ one two c.units-2.ensures goods) (of_entries mail_table mail_row _ _ two new c.mail.ensures mail))
-    c.in_ok-put_each.ensures c.in_ok-put_all_goods.ensures c.put_each-2.ensures
+    c.in_ok-put_units.ensures c.in_ok-put_all_goods.ensures c.put_each.ensures
 
-pub returns-in_err-put_each : goal.returns-in_err-put_each
-returns-in_err-put_each g c = stops g.S.Store c.in_err-put_each.ensures c.from_residual.ensures
+pub returns-in_err-put_units : goal.returns-in_err-put_units
+returns-in_err-put_units g c = stops g.S.Store c.in_err-put_units.ensures c.from_residual.ensures
 
 pub returns-in_err-put_all_goods : goal.returns-in_err-put_all_goods
-returns-in_err-put_all_goods g c = stops_second g.S.Store c.in_ok-put_each.ensures c.in_err-put_all_goods.ensures c.from_residual-in_err-put_all_goods.ensures
+returns-in_err-put_all_goods g c = stops_second g.S.Store c.in_ok-put_units.ensures c.in_err-put_all_goods.ensures c.from_residual-in_err-put_all_goods.ensures
