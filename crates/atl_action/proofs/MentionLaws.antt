@@ -5,6 +5,7 @@ use Rattle.std.specs.Ordering.{nat_cmp}
 use Rattle.std.specs.Cmp.{nat_cmp_total, unsigned_ties}
 use Rattle.std.specs.FinMap.{FinMap, empty, get, get-empty, get-insert, insert}
 use Rattle.std.proofs.lemmas.Bool.Decides.{nat_tests}
+use Rattle.atl_tables.proofs.GeneralLaws.{is_equal}
 use Rattle.atl_action.specs.Teach.{first_mentions}
 
 -- whether a number wasn't seen yet
@@ -31,11 +32,8 @@ new_behind seen n k = by_test (k == n) ∙ sym (ap (λ o. not (is_some o)) (get-
 new_before : (seen : FinMap nat_cmp ℕ) (n : ℕ) → is_some (get seen n) ≡ true → (k : ℕ) → (not (k == n) && is_new seen k) ≡ is_new seen k
 new_before seen n there k = by_test (k == n) refl
   where
-    same : (a b : ℕ) → (a == b) ≡ true → a ≡ b
-    same a b is = grind (arith, nat_tests)
-
     by_test : (b : Bool) → (k == n) ≡ b → (not b && is_new seen k) ≡ is_new seen k
-    by_test true is = sym (ap (λ j. is_new seen j) (same k n is) ∙ ap not there)
+    by_test true is = sym (ap (λ j. is_new seen j) (is_equal k n is) ∙ ap not there)
     by_test false is = refl
 
 pub mention : (seen : FinMap nat_cmp ℕ) (n : ℕ) (ns : List ℕ) → is_some (get seen n) ≡ false →

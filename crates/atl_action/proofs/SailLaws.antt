@@ -13,6 +13,7 @@ use Rattle.atl_tables.specs.Sums.{changed}
 use Rattle.atl_tables.specs.declared.world.RegionPlan.{RegionPlan}
 use Rattle.atl_tables.specs.declared.direction.Direction.{Direction}
 use Rattle.atl_tables.specs.ByNumber.{is_land_at, neighbour, size_of}
+use Rattle.atl_tables.proofs.GeneralLaws.{is_equal, is_unequal}
 use Rattle.atl_orders.specs.declared.order.Order.TheVariants as orders
 use Rattle.atl_orders.specs.Orders.{Said}
 use Rattle.atl_state.specs.declared.event.EventFault.{EventFault}
@@ -29,6 +30,7 @@ use Rattle.atl_state.specs.Owners.{handed, heir, is_owned_by, placed, with_place
 use Rattle.atl_state.specs.State.{State, numbers_inside, with_guard, with_structure_region}
 use Rattle.atl_state.proofs.EveryLaws.{none_some}
 use Rattle.atl_state.proofs.RemovedLaws.{IsListed, listed_passing, passing_listed}
+use Rattle.atl_state.proofs.ListLaws.{other_number}
 use Rattle.atl_instant.specs.declared.written.Arrangement.TheVariants.{ByUnit}
 use Rattle.atl_instant.specs.Course.{Course}
 use Rattle.atl_instant.specs.Inside.{inside}
@@ -37,7 +39,7 @@ use Rattle.atl_instant.specs.PhaseOrders.{Task, orders_of}
 use Rattle.atl_instant.specs.Steps.{IsOrderly, IsSpared, IsSparing, StepsWell, carried, carried_out, done_for, of_faction, one_order, ordered, spares_others}
 use Rattle.atl_instant.specs.Unbooked.{books_nothing, moves_nothing}
 use Rattle.atl_instant.proofs.OutcomeLaws.{false_true, none_fits}
-use Rattle.atl_instant.proofs.StructureLaws.{at_number, changed_else, equal, get-changed, is_equal, is_unequal, len-changed, unequal}
+use Rattle.atl_instant.proofs.StructureLaws.{at_number, changed_else, equal, get-changed, len-changed}
 use Rattle.atl_instant.proofs.StepLaws.{carried_cases, well_same}
 use Rattle.atl_instant.specs.Staying.{IsUnchanged}
 use Rattle.atl_action.specs.Sail.{AreCarried, IsCarried, SailsWith, capacity, concerns_nobody, crew_needed, crew_of, is_complete_ship, is_sailing, is_way, of_unit, sail, sail_fault, sail_meaning, sail_said, sail_step, sailed, sum_inside, taken_along}
@@ -298,7 +300,7 @@ module _ (w : Planet) (c : State) (ship to : ℕ) (steady : IsSteady w c) (x : S
     where
       by_unit : (o : Option Unit) → structure_in o ≢ ship → option_map (f k) o ≡ o
       by_unit None apart = refl
-      by_unit (Some v) apart = ap (λ b. Some (gone_if ship to b v)) (unequal v.structure ship apart)
+      by_unit (Some v) apart = ap (λ b. Some (gone_if ship to b v)) (other_number v.structure ship apart)
 
   sailed_structure : (q : ℕ) → q ≢ ship → get (sailed c ship to).structures q ≡ get c.structures q
   sailed_structure q apart = ap (λ d. get d.structures q) sailed_is ∙ at_other q apart

@@ -9,6 +9,7 @@ use Rattle.atl_tables.specs.Planet.{Planet, is_land}
 use Rattle.atl_tables.specs.declared.world.RegionPlan.{RegionPlan}
 use Rattle.atl_tables.specs.declared.direction.Direction.{Direction}
 use Rattle.atl_tables.specs.ByNumber.{is_land_at, neighbour}
+use Rattle.atl_tables.proofs.GeneralLaws.{is_equal, is_unequal}
 use Rattle.atl_orders.specs.declared.order.Order.TheVariants as orders
 use Rattle.atl_orders.specs.Orders.{Said}
 use Rattle.atl_state.specs.declared.event.EventFault.{EventFault}
@@ -23,13 +24,14 @@ use Rattle.atl_state.specs.State.{State, numbers_inside, with_guard}
 use Rattle.atl_state.proofs.EveryLaws.{none_some}
 use Rattle.atl_state.proofs.LeavingLaws.{owned_by}
 use Rattle.atl_state.proofs.RemovedLaws.{IsListed, first_of, listed_passing, passing_listed}
+use Rattle.atl_state.proofs.ListLaws.{other_number}
 use Rattle.atl_instant.specs.Outcomes.{unless}
 use Rattle.atl_instant.specs.Staying.{IsNoWorse}
 use Rattle.atl_instant.specs.Steps.{IsOrderly, IsOwnOrder, StepsWell}
 use Rattle.atl_instant.specs.Unbooked.{books_nothing, moves_nothing}
 use Rattle.atl_instant.proofs.OutcomeLaws.{false_true, none_fits}
 use Rattle.atl_instant.proofs.PlacingLaws.{place_stays}
-use Rattle.atl_instant.proofs.StructureLaws.{changed_else, equal, get-handed, handed_is, handed_on, is_equal, is_unequal, len-handed, unequal}
+use Rattle.atl_instant.proofs.StructureLaws.{changed_else, equal, get-handed, handed_is, handed_on, len-handed}
 use Rattle.atl_instant.proofs.StepLaws.{no_worse_spares, well_same}
 use Rattle.atl_instant.proofs.UnbookedLaws.{stays_spared}
 use Rattle.atl_action.specs.Walk.{is_land_there, walk, walk_fault, walk_said, walk_step, walked}
@@ -77,7 +79,7 @@ module _ (w : Planet) (c : State) (n : ℕ) (u : Unit) (to : ℕ) (is : get c.un
   here = units_at n ∙ ap (option_map (f n)) is ∙ ap (λ b. Some (gone_if 0 to b u)) (equal n n refl)
 
   away : (k : ℕ) → k ≢ n → get units k ≡ get c.units k
-  away k apart = units_at k ∙ ap (λ b. option_map (gone_if 0 to b) (get c.units k)) (unequal k n apart) ∙ sym (mapped_itself (get c.units k))
+  away k apart = units_at k ∙ ap (λ b. option_map (gone_if 0 to b) (get c.units k)) (other_number k n apart) ∙ sym (mapped_itself (get c.units k))
 
   every_away : (P : ℕ → Unit → Type 0) → P n (gone 0 to u) → ((k : ℕ) (x : Unit) → k ≢ n → get c.units k ≡ Some x → P k x) → Every P units
   every_away P mine others k x there = elim (cases_eq k n) [
@@ -218,8 +220,8 @@ module _ (w : Planet) (c : State) (n : ℕ) (u : Unit) (to : ℕ) (is : get c.un
   inside_well some =
       behind_well gone_off.structures (λ q y. handed_on 0 0 n q (handed_on old_place n next q y)) given_at
       (len-handed gone_out 0 0 n ∙ len-handed begun old_place n next)
-      (λ q y there. given_same (q == old_place) (y.owner == n) (q == 0) y (unequal q 0 (not_first q y there)))
-      (λ q y there. given_owned some q y there (q == old_place) (y.owner == n) (q == 0) refl refl (unequal q 0 (not_first q y there)))
+      (λ q y there. given_same (q == old_place) (y.owner == n) (q == 0) y (other_number q 0 (not_first q y there)))
+      (λ q y there. given_owned some q y there (q == old_place) (y.owner == n) (q == 0) refl refl (other_number q 0 (not_first q y there)))
 
   off_is : gone_off ≡ record begun { structures = gone_off.structures }
   off_is = handed_is gone_out 0 0 n ∙ ap (λ (d : State). record d { structures = gone_off.structures }) (handed_is begun old_place n next)

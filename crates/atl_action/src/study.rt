@@ -6,8 +6,8 @@ ghost use Rattle.atl_state.specs.declared.books.Entry.TheVariants.{Study};
 ghost use Rattle.atl_state.specs.declared.books.Thing.TheVariants.{Money};
 ghost use Rattle.atl_state.specs.declared.records.Unit.{Unit};
 ghost use Rattle.atl_state.specs.Good.{IsSteady};
-ghost use Rattle.atl_state.specs.Lending.{lent};
 ghost use Rattle.atl_state.specs.Limits.{men_limit};
+ghost use Rattle.atl_instant.specs.Holdings.{ChangesHolding};
 ghost use Rattle.atl_instant.specs.Meaning.{HaveRoom};
 ghost use Rattle.atl_instant.specs.Steps.{carried};
 ghost use Rattle.atl_instant.specs.Staying.{IsUnchanged};
@@ -91,7 +91,7 @@ fn learn_at(
     days: u32,
 ) -> Result<(), AllocError>
     requires { (u : Unit) → map.get campaign.old.what.units unit ≡ Some u → cost ≤ u.holding.money }
-    ensures { OnOk result ((u : Unit) → map.get campaign.old.what.units unit ≡ Some u → campaign.new ≡ lent campaign.old unit (with_study u.holding skill cost days)) }
+    ensures { OnOk result (ChangesHolding campaign.old campaign.new unit (λ h. with_study h skill cost days)) }
 {
     match campaign.unit_mut(unit) {
         Some(holding) => learn(holding, skill, cost, days),

@@ -5,6 +5,7 @@ use Rattle.std.specs.Int.{w64}
 use Rattle.std.specs.Int.RustNames.{FitsSigned}
 use Rattle.std.proofs.lemmas.Int.{ints}
 use Rattle.std.proofs.lemmas.Bool.Decides.{nat_tests}
+use Rattle.atl_tables.proofs.GeneralLaws.{is_unequal}
 use Rattle.atl_state.specs.declared.books.Entry.{Entry}
 use Rattle.atl_state.specs.declared.books.Thing.{Thing}
 use Rattle.atl_state.specs.Books.{IsGrid, IsWithin, amount_in, thing_place, with_booked}
@@ -13,9 +14,6 @@ use Rattle.atl_state.proofs.BookLaws.{amount-with_booked}
 use Rattle.atl_state.proofs.RegionLaws.{amount-other}
 use Rattle.atl_instant.specs.Meaning.{HasRoom, IsNear, Moving, amount_limit, moves_only}
 use Rattle.atl_instant.proofs.MeaningLaws.{near_room}
-
-differ : (a b : ℕ) → (a == b) ≡ false → a ≢ b
-differ a b h = grind (arith, nat_tests)
 
 near_by : (x y z : ℤ) (n : ℕ) → IsWithin n z → (y ≡ x +ℤ z) ⊎ (y ≡ x) → IsNear n x y
 near_by x y z n small h = elim h [
@@ -32,7 +30,7 @@ module _ (things : ℕ) (books : List (List ℤ)) (e : Entry) (t : Thing) (z : �
     where
       by_number : (b : Bool) → (amount_number f u == amount_number e t) ≡ b → IsNear (if b then n else 0) (amount_in books f u) (amount_in (with_booked books e t z) f u)
       by_number true is = near_by _ _ z n small (amount-with_booked things books e t z grid inside f u)
-      by_number false is = near_same _ _ (amount-other things books f e u t z grid inside (differ _ _ is))
+      by_number false is = near_same _ _ (amount-other things books f e u t z grid inside (is_unequal _ _ is))
 
   -- behind it there is room for what else is to be booked
   pub booked-room : (next : Moving) → ((f : Entry) (u : Thing) → HasRoom (moves_only n e t f u + next f u) (amount_in books f u)) → (f : Entry) (u : Thing) → HasRoom (next f u) (amount_in (with_booked books e t z) f u)

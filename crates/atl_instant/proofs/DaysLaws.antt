@@ -1,15 +1,19 @@
--- What TRANSFER makes of the days of each skill.
-use Rattle.std.proofs.Common.{◌≡◌, ℕ, ◌+◌, ◌-◌, ◌/◌, Bool, true, false, cond, List, [], ◌∷◌, map, Option, Some, None, refl, sym, ap, ◌∙◌, arith}
+-- What TRANSFER makes of the days of each skill, as it is said and as the code sets them.
+use Rattle.std.proofs.Common.{◌≡◌, ℕ, ◌+◌, ◌-◌, ◌/◌, ◌≤◌, Bool, true, false, cond, List, [], ◌∷◌, ◌++◌, map, Option, Some, None, refl, sym, ap, subst, ◌∙◌, arith}
 use Rattle.std.proofs.Math.Nat.{zero-div, zero-mul}
 use Rattle.std.specs.Prelude.{fold, is_some, unwrap_or, ◌||◌}
 use Rattle.std.specs.Ordering.{nat_cmp, eq_by_cmp}
-use Rattle.std.specs.FinMap.{FinMap, contains_key-keys, empty, entries, get, get-empty}
+use Rattle.std.specs.FinMap.{FinMap, contains_key-keys, empty, entries, get, get-empty, keys}
 use Rattle.std.specs.List.{list_any}
+use Rattle.std.proofs.lemmas.List.Folds.{list_any-append}
 use Rattle.atl_state.specs.Deciding.{EachOf}
-use Rattle.atl_state.specs.Held.{amount_of, with_amount_of}
-use Rattle.atl_state.proofs.EveryLaws.{each-from_every}
-use Rattle.atl_instant.specs.Transfer.{DaysGoWithMen, days_going, with_days}
-use Rattle.atl_instant.proofs.AmountsLaws.{alike, set_amount}
+use Rattle.atl_state.specs.Good.{Every}
+use Rattle.atl_state.specs.Held.{Held, amount_of, with_amount_of}
+use Rattle.atl_state.proofs.EveryLaws.{each-from_every, every-empty}
+use Rattle.atl_instant.specs.Raising.{raised_list, rest_set, with_days}
+use Rattle.atl_instant.specs.Transfer.{DaysGoWithMen, days_going, going_of, raised_of, staying_of, with_fewer, with_more}
+use Rattle.atl_instant.proofs.AmountsForLaws.{as_said, each_said, same_amounts}
+use Rattle.atl_instant.proofs.AmountsLaws.{alike, every_amount, set_amount}
 
 -- the amounts of some numbers, each set by the one that it has in a map
 module _ (days : FinMap nat_cmp ℕ) (f : ℕ → ℕ → ℕ) (s : ℕ) where
@@ -57,16 +61,68 @@ with_days_mapped : (f : ℕ → ℕ → ℕ) (es : List (ℕ × ℕ)) (all : Fin
 with_days_mapped f [] all = refl
 with_days_mapped f (e ∷ es) all = with_days_mapped f es (with_amount_of all e.0 (f e.0 e.1))
 
+none_listed : (days : FinMap nat_cmp ℕ) (s : ℕ) → list_any (eq_by_cmp nat_cmp s) (keys days) ≡ false → amount_of days s ≡ 0
+none_listed days s none = by_option (get days s) (contains_key-keys days s ∙ none)
+  where
+    by_option : (o : Option ℕ) → is_some o ≡ false → unwrap_or o 0 ≡ 0
+    by_option None is = refl
+    by_option (Some d) is = cc
+
+neither : (a b : Bool) → (a || b) ≡ false → (a ≡ false) × (b ≡ false)
+neither true b h = cc
+neither false b h = (refl, h)
+
+none_stay : (d g : ℕ) → d ≡ 0 → d - g ≡ 0
+none_stay d g e = omega (arith, e)
+
+none_come : (d g : ℕ) → d ≡ 0 → g ≡ 0 → d + g ≡ 0
+none_come d g e f = omega (arith, e, f)
+
+-- of a skill that nobody has none go
+pub none_go : (n : ℕ) (h : Held) (s : ℕ) → amount_of h.days s ≡ 0 → going_of n h s ≡ 0
+none_go n h s none = ap (days_going n h.men) none ∙ nobody_goes n h.men
+
 pub days_go_with_men : DaysGoWithMen
 days_go_with_men n other h s = record {
-  stay = set_each other.days (λ k d. d - days_going n other.men d) s empty (λ none. ap (λ (o : Option ℕ). unwrap_or o 0) (get-empty nat_cmp s) ∙ nothing_left (days_going n other.men 0));
+  stay = as_said (staying_of n other) (keys other.days) s (λ none. none_stay (amount_of other.days s) (going_of n other s) (none_listed other.days s none));
   come =
-      ap (λ (m : FinMap nat_cmp ℕ). amount_of m s) (with_days_mapped (λ k d. amount_of h.days k + days_going n other.men d) (entries other.days) h.days)
-      ∙ set_each other.days (λ k d. amount_of h.days k + days_going n other.men d) s h.days (λ none. nothing_more (amount_of h.days s) (days_going n other.men 0) (nobody_goes n other.men));
+      as_said (raised_of n other h) (keys h.days ++ keys other.days) s (λ none.
+      let apart = neither (list_any (eq_by_cmp nat_cmp s) (keys h.days)) (list_any (eq_by_cmp nat_cmp s) (keys other.days)) (sym (list_any-append (eq_by_cmp nat_cmp s) (keys h.days) (keys other.days)) ∙ none) in
+      none_come (amount_of h.days s) (going_of n other s) (none_listed h.days s apart.0) (none_go n other s (none_listed other.days s apart.1)));
 }
-  where
-    nothing_left : (g : ℕ) → 0 ≡ 0 - g
-    nothing_left g = omega arith
 
+-- ---- what the code sets one by one
+
+every_set : (f : ℕ → ℕ → ℕ) (es : List (ℕ × ℕ)) (left : FinMap nat_cmp ℕ) → Every (λ s d. 1 ≤ d) left → Every (λ s d. 1 ≤ d) (fold (λ (m : FinMap nat_cmp ℕ) (e : ℕ × ℕ). with_amount_of m e.0 (f e.0 e.1)) left es)
+every_set f [] left old = old
+every_set f (e ∷ es) left old = every_set f es (with_amount_of left e.0 (f e.0 e.1)) (every_amount (λ s d. 1 ≤ d) left e.0 (f e.0 e.1) (λ some. some) old)
+
+abbrev rest_days : (n men skill days : ℕ) → ℕ
+rest_days n men k d = d - days_going n men d
+
+pub fewer_is : (n : ℕ) (h : Held) → record h { men = h.men - n; days = rest_set n h.men h.days } ≡ with_fewer n h
+fewer_is n h =
+    ap (λ (m : FinMap nat_cmp ℕ). record h { men = h.men - n; days = m })
+    (same_amounts (rest_set n h.men h.days) (with_fewer n h).days (every_set (rest_days n h.men) (entries h.days) empty (every-empty (λ s d. 1 ≤ d)))
+    (λ s d there. (each_said (staying_of n h) (keys h.days) s d there).0)
+    (λ s.
+    set_each h.days (rest_days n h.men) s empty (λ none. ap (λ (o : Option ℕ). unwrap_or o 0) (get-empty nat_cmp s) ∙ sym (none_stay 0 (days_going n h.men 0) refl))
+    ∙ sym (days_go_with_men n h h s).stay))
+
+abbrev raised_days : (n men : ℕ) → FinMap nat_cmp ℕ → (skill days : ℕ) → ℕ
+raised_days n men had k d = amount_of had k + days_going n men d
+
+pub more_is : (n : ℕ) (other h : Held) → Every (λ s d. 1 ≤ d) h.days → record h { men = h.men + n; days = with_days h.days (raised_list n other.men other.days h.days) } ≡ with_more n other h
+more_is n other h had =
+    let set = with_days_mapped (raised_days n other.men h.days) (entries other.days) h.days in
+    ap (λ (m : FinMap nat_cmp ℕ). record h { men = h.men + n; days = m })
+    (same_amounts (with_days h.days (raised_list n other.men other.days h.days)) (with_more n other h).days
+    (subst (Every (λ s d. 1 ≤ d)) (sym set) (every_set (raised_days n other.men h.days) (entries other.days) h.days had))
+    (λ s d there. (each_said (raised_of n other h) (keys h.days ++ keys other.days) s d there).0)
+    (λ s.
+    ap (λ (m : FinMap nat_cmp ℕ). amount_of m s) set
+    ∙ set_each other.days (raised_days n other.men h.days) s h.days (λ none. nothing_more (amount_of h.days s) (days_going n other.men 0) (nobody_goes n other.men))
+    ∙ sym (days_go_with_men n other h s).come))
+  where
     nothing_more : (a g : ℕ) → g ≡ 0 → a ≡ a + g
     nothing_more a g e = omega arith

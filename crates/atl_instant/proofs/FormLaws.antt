@@ -5,6 +5,7 @@ use Rattle.std.specs.Option.{option_map_or}
 use Rattle.std.specs.Ordering.{nat_cmp}
 use Rattle.std.specs.FinMap.{FinMap, get, values}
 use Rattle.atl_tables.specs.Planet.{Planet}
+use Rattle.atl_tables.proofs.GeneralLaws.{is_equal}
 use Rattle.atl_orders.specs.Mailing.{Reading}
 use Rattle.atl_orders.specs.Orders.{Said}
 use Rattle.atl_state.specs.declared.event.EventFault.TheVariants.{NotYours, UnitLimit}
@@ -24,7 +25,6 @@ use Rattle.atl_instant.specs.declared.written.Arrangement.TheVariants.{ByFaction
 use Rattle.atl_instant.specs.declared.written.Written.{Written}
 use Rattle.atl_instant.proofs.FormingLaws.{begun_stays, begun_well, room}
 use Rattle.atl_instant.proofs.StepLaws.{well_same}
-use Rattle.atl_instant.proofs.StructureLaws.{is_equal}
 use Rattle.atl_instant.specs.Carrying.{found_said, found_written}
 use Rattle.atl_instant.proofs.FoundOrderLaws.{found_all, found_stays}
 

@@ -59,11 +59,11 @@ own_guards c region faction none m v there guarding here =
 
 -- ---- the campaign behind it
 
-module _ (w : Planet) (c : State) (n : ℕ) (u : Unit) (is : get c.units n ≡ Some u) where
-  abbrev guarding : Unit
+module _ (c : State) (n : ℕ) (u : Unit) (is : get c.units n ≡ Some u) where
+  abbrev pub guarding : Unit
   guarding = record u { holding = record u.holding { guard = true } }
 
-  abbrev flagged : State
+  abbrev pub flagged : State
   flagged = record c { units = insert c.units n guarding }
 
   abbrev Agree : Unit → Unit → Type 0
@@ -76,40 +76,41 @@ module _ (w : Planet) (c : State) (n : ℕ) (u : Unit) (is : get c.units n ≡ S
       (every-insert (λ m y. Agree guarding y) c.units n guarding (λ g k same. refl) (λ m y there g k same. sym (own m y there k (sym same))))
       (λ k x here. every-insert (λ m y. Agree x y) c.units n guarding (λ g h same. own k x here g same) (old k x here))
 
-  pub steady-flagged : is_guarded_against c u.region u.faction ≡ false → IsSteady w c → IsSteady w flagged
-  steady-flagged none steady =
-      let may = may_have w c n u is steady in
-      let limits = may.limits in
-      steady-having w c n u guarding.holding is
-      (record { limits = record { men = limits.men; money = limits.money; items = limits.items }; name = may.name; items = may.items; skills = may.skills; days = may.days })
-      (guards_kept none steady.guarded) steady
-
-  held_same : (t : Thing) → held t (record u.holding { guard = true }) ≡ held t u.holding
-  held_same Money = refl
-  held_same People = refl
-  held_same (Item i) = refl
-
-  total_same : (t : Thing) → total flagged t ≡ total c t
-  total_same t = same (total flagged t) (total c t) (held t u.holding) (held t (record u.holding { guard = true })) (total-held w c n u (record u.holding { guard = true }) is t) (held_same t)
-    where
-      same : (a b x y : ℕ) → a + x ≡ b + y → y ≡ x → a ≡ b
-      same a b x y e f = omega arith
-
-  flagged_is : with_guard c n true ≡ flagged
+  pub flagged_is : with_guard c n true ≡ flagged
   flagged_is = ap (λ m. record c { units = m }) (changed-known (λ (x : Unit). record x { holding = record x.holding { guard = true } }) c.units n u is)
-
-  pub flag_steps_well : is_guarded_against c u.region u.faction ≡ false → IsSteady w c → StepsWell IsSteady (λ d e t. 0) w c (with_guard c n true)
-  flag_steps_well none steady =
-      subst (λ d. StepsWell IsSteady (λ d e t. 0) w c d) (sym flagged_is) (record {
-        holds_still = steady-flagged none steady;
-        same_month = record { month = refl; reports = refl; count = refl; factions = λ k there. there };
-        balances = λ old t. ap pos (total_same t) ∙ old t;
-        drawn = λ e t. drawn_same 0 (amount_in c.books e t);
-      })
 
   pub flag_spares : (k : ℕ) (x : Unit) → get c.units k ≡ Some x → k ≢ n → IsSpared IsNoWorse (with_guard c n true) k x
   flag_spares k x there apart =
       subst (λ d. IsSpared IsNoWorse d k x) (sym flagged_is) (record { unit = x; there = get-insert_other c.units n k guarding apart ∙ there; spared = no_worse x })
+
+  module _ (w : Planet) where
+    pub steady-flagged : is_guarded_against c u.region u.faction ≡ false → IsSteady w c → IsSteady w flagged
+    steady-flagged none steady =
+        let may = may_have w c n u is steady in
+        let limits = may.limits in
+        steady-having w c n u guarding.holding is
+        (record { limits = record { men = limits.men; money = limits.money; items = limits.items }; name = may.name; items = may.items; skills = may.skills; days = may.days })
+        (guards_kept none steady.guarded) steady
+
+    held_same : (t : Thing) → held t (record u.holding { guard = true }) ≡ held t u.holding
+    held_same Money = refl
+    held_same People = refl
+    held_same (Item i) = refl
+
+    total_same : (t : Thing) → total flagged t ≡ total c t
+    total_same t = same (total flagged t) (total c t) (held t u.holding) (held t (record u.holding { guard = true })) (total-held w c n u (record u.holding { guard = true }) is t) (held_same t)
+      where
+        same : (a b x y : ℕ) → a + x ≡ b + y → y ≡ x → a ≡ b
+        same a b x y e f = omega arith
+
+    pub flag_steps_well : is_guarded_against c u.region u.faction ≡ false → IsSteady w c → StepsWell IsSteady (λ d e t. 0) w c (with_guard c n true)
+    flag_steps_well none steady =
+        subst (λ d. StepsWell IsSteady (λ d e t. 0) w c d) (sym flagged_is) (record {
+          holds_still = steady-flagged none steady;
+          same_month = record { month = refl; reports = refl; count = refl; factions = λ k there. there };
+          balances = λ old t. ap pos (total_same t) ∙ old t;
+          drawn = λ e t. drawn_same 0 (amount_in c.books e t);
+        })
 
 pub flag_marks : (c d : Marked) (n : ℕ) → d.what ≡ with_guard c.what n true → d.marks ≡ mark_unit_row c n → MarksChanges c d
 flag_marks c d n what marks =
@@ -131,11 +132,11 @@ guard_cases P c n u same flag = by_fault (guard_fault c u) refl
         flag two.0
 
 guard_steps_well : (w : Planet) (c : State) (n : ℕ) (u : Unit) → get c.units n ≡ Some u → IsSteady w c → StepsWell IsSteady (λ d e t. 0) w c (guard n c u).0
-guard_steps_well w c n u is steady = guard_cases (λ d. StepsWell IsSteady (λ d e t. 0) w c d) c n u (well_same w c steady) (λ none. flag_steps_well w c n u is none steady)
+guard_steps_well w c n u is steady = guard_cases (λ d. StepsWell IsSteady (λ d e t. 0) w c d) c n u (well_same w c steady) (λ none. flag_steps_well c n u is w none steady)
 
 guard_spares : (w : Planet) (c : State) (n : ℕ) (u : Unit) → get c.units n ≡ Some u → (k : ℕ) (x : Unit) → get c.units k ≡ Some x → k ≢ n → IsSpared IsNoWorse (guard n c u).0 k x
 guard_spares w c n u is k x there apart =
-    guard_cases (λ d. IsSpared IsNoWorse d k x) c n u (record { unit = x; there = there; spared = no_worse x }) (λ none. flag_spares w c n u is k x there apart)
+    guard_cases (λ d. IsSpared IsNoWorse d k x) c n u (record { unit = x; there = there; spared = no_worse x }) (λ none. flag_spares c n u is k x there apart)
 
 -- ---- the phase
 

@@ -4,6 +4,7 @@ pub mod StandingLaws
 pub mod MappedLaws
 pub mod OrderLaws
 pub mod WrittenLaws
+pub mod StandOnceLaws
 pub mod FoundOrderLaws
 pub mod MeaningLaws
 pub mod RoomLaws
@@ -12,11 +13,13 @@ pub mod StayingLaws
 pub mod StepLaws
 pub mod OutcomeLaws
 pub mod AmountsLaws
+pub mod AmountsForLaws
 pub mod MovingLaws
 pub mod GiveLaws
-pub mod TransferLaws
 pub mod DaysLaws
+pub mod TransferLaws
 pub mod GuardingLaws
+pub mod HolderLaws
 pub mod MarkLaws
 pub mod FactionLaws
 pub mod StructureLaws

@@ -6,6 +6,7 @@ use Rattle.std.specs.Option.{option_map_or}
 use Rattle.std.specs.FinMap.{get}
 use Rattle.atl_tables.specs.Planet.{Planet}
 use Rattle.atl_tables.specs.ByNumber.{is_land_at}
+use Rattle.atl_tables.proofs.GeneralLaws.{is_equal, is_unequal}
 use Rattle.atl_orders.specs.declared.order.Order.{Order}
 use Rattle.atl_orders.specs.declared.order.Order.TheVariants as orders
 use Rattle.atl_orders.specs.declared.order.Span.{Span}
@@ -30,7 +31,7 @@ use Rattle.atl_instant.specs.Steps.{IsOrderly, IsOwnOrder, StepsWell}
 use Rattle.atl_instant.specs.Unbooked.{books_nothing, moves_nothing}
 use Rattle.atl_instant.proofs.PlacingLaws.{place_stays, place_well}
 use Rattle.atl_instant.proofs.RefitLaws.{IsRelabelled, early-relabelled}
-use Rattle.atl_instant.proofs.StructureLaws.{at_number, get-changed, is_equal, is_unequal, len-changed}
+use Rattle.atl_instant.proofs.StructureLaws.{at_number, get-changed, len-changed}
 use Rattle.atl_instant.proofs.StepLaws.{no_worse_spares, well_same}
 use Rattle.atl_instant.proofs.UnbookedLaws.{same_total_of, stays_spared, unbooked_well}
 

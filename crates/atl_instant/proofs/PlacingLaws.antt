@@ -5,6 +5,7 @@ use Rattle.std.specs.Prelude.{option_map, if◌then◌else◌}
 use Rattle.std.specs.FinMap.{get}
 use Rattle.atl_tables.specs.Planet.{Planet}
 use Rattle.atl_tables.specs.ByNumber.{is_land_at}
+use Rattle.atl_tables.proofs.GeneralLaws.{is_equal, is_unequal}
 use Rattle.atl_state.specs.declared.records.Structure.{Structure}
 use Rattle.atl_state.specs.declared.records.Unit.{Unit}
 use Rattle.atl_state.specs.Good.{Every, IsEarly, IsOwned, IsSteady, is_ship}
@@ -16,10 +17,11 @@ use Rattle.atl_state.proofs.EveryLaws.{every-insert, get-insert_other}
 use Rattle.atl_state.proofs.LeavingLaws.{owned_by}
 use Rattle.atl_state.proofs.RegionLaws.{changed-known, get-insert_same}
 use Rattle.atl_state.proofs.RemovedLaws.{IsListed, every-insert_other, first_of, listed_passing, passing_listed}
+use Rattle.atl_state.proofs.ListLaws.{other_number}
 use Rattle.atl_instant.specs.Steps.{StepsWell}
 use Rattle.atl_instant.specs.Unbooked.{books_nothing}
 use Rattle.atl_instant.proofs.RefitLaws.{IsRefit, IsRelabelled, early-refitted, refitted, steady-refitted, total-refitted}
-use Rattle.atl_instant.proofs.StructureLaws.{changed_else, equal, get-handed, handed_is, handed_on, is_equal, is_unequal, len-handed, unequal}
+use Rattle.atl_instant.proofs.StructureLaws.{changed_else, equal, get-handed, handed_is, handed_on, len-handed}
 use Rattle.atl_instant.proofs.UnbookedLaws.{unbooked_well}
 
 mapped_twice : (f g : Structure → Structure) (o : Option Structure) → option_map f (option_map g o) ≡ option_map (λ y. f (g y)) o
@@ -61,7 +63,7 @@ module _ (w : Planet) (c : State) (n : ℕ) (u : Unit) (s : ℕ) (is : get c.uni
 
   placed_is : with_place c n u.region s ≡ gone_in
   unfolding with_place
-  placed_is = ap (with_place_at c n u.region s) is ∙ ap (λ b. if b then begun else gone_in) (unequal old_place s apart)
+  placed_is = ap (with_place_at c n u.region s) is ∙ ap (λ b. if b then begun else gone_in) (other_number old_place s apart)
 
   behind_is : gone_in ≡ behind
   behind_is =

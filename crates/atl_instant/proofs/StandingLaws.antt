@@ -6,6 +6,7 @@ use Rattle.std.specs.Cmp.{nat_cmp_total, unsigned_ties}
 use Rattle.std.specs.FinMap.{get, insert, empty, get-insert, get-empty}
 use Rattle.std.proofs.lemmas.Bool.Decides.{nat_tests}
 use Rattle.atl_tables.specs.Groups.{group_of}
+use Rattle.atl_tables.proofs.GeneralLaws.{equal_turned, is_equal}
 use Rattle.atl_orders.specs.declared.mailing.Entry.{Entry}
 use Rattle.atl_orders.specs.declared.order.Order.{Order}
 use Rattle.atl_orders.specs.declared.order.Order.TheVariants as orders
@@ -40,12 +41,6 @@ verb_of-said text (orders.Study skill) = refl
 verb_of-said text (orders.Produce item) = refl
 verb_of-said text orders.Work = refl
 
-same : (u v : ℕ) → (u == v) ≡ true → u ≡ v
-same u v h = grind (arith, nat_tests)
-
-turned : (u v : ℕ) → (u == v) ≡ (v == u)
-turned u v = grind (arith, nat_tests)
-
 -- the line of a unit in a slot, once a line is noted
 module _ (lines : Lines) (k u line : ℕ) where
   group_at : (j : ℕ) → group_of (with_line lines k u line) j ≡ (if j == k then insert (group_of lines k) u (max (line_in lines k u) line) else group_of lines j)
@@ -60,9 +55,9 @@ module _ (lines : Lines) (k u line : ℕ) where
   in_group : (unit n : ℕ) → max (unwrap_or (get (insert (group_of lines k) u (max (line_in lines k u) line)) unit) 0) n ≡ max (line_in lines k unit) (max (if (u == unit) && true then line else 0) n)
   in_group unit n =
       ap (λ o. max (unwrap_or o 0) n) (get-insert nat_cmp_total (group_of lines k) u (max (line_in lines k u) line) unit)
-      ∙ ap (λ b. max (unwrap_or (cond b (Some (max (line_in lines k u) line)) (get (group_of lines k) unit)) 0) n) (sym (unsigned_ties unit u) ∙ turned unit u)
+      ∙ ap (λ b. max (unwrap_or (cond b (Some (max (line_in lines k u) line)) (get (group_of lines k) unit)) 0) n) (sym (unsigned_ties unit u) ∙ equal_turned unit u)
       ∙ elim (u == unit) as (λ b. (u == unit) ≡ b → max (unwrap_or (cond b (Some (max (line_in lines k u) line)) (get (group_of lines k) unit)) 0) n ≡ max (line_in lines k unit) (max (if b && true then line else 0) n)) [
-        | true ↦ λ e. let here : line_in lines k u ≡ line_in lines k unit = ap (line_in lines k) (same u unit e) in three (line_in lines k u) (line_in lines k unit) line n here
+        | true ↦ λ e. let here : line_in lines k u ≡ line_in lines k unit = ap (line_in lines k) (is_equal u unit e) in three (line_in lines k u) (line_in lines k unit) line n here
         | false ↦ λ _. two (line_in lines k unit) n
       ] refl
     where
@@ -76,7 +71,7 @@ module _ (lines : Lines) (k u line : ℕ) where
   noted_at j unit n =
       ap (λ g. max (unwrap_or (get g unit) 0) n) (group_at j)
       ∙ elim (j == k) as (λ b. (j == k) ≡ b → max (unwrap_or (get (if b then insert (group_of lines k) u (max (line_in lines k u) line) else group_of lines j) unit) 0) n ≡ max (line_in lines j unit) (max (if (u == unit) && b then line else 0) n)) [
-        | true ↦ λ e. in_group unit n ∙ ap (λ i. max (line_in lines i unit) (max (if (u == unit) && true then line else 0) n)) (sym (same j k e))
+        | true ↦ λ e. in_group unit n ∙ ap (λ i. max (line_in lines i unit) (max (if (u == unit) && true then line else 0) n)) (sym (is_equal j k e))
         | false ↦ λ _. other (u == unit) (line_in lines j unit)
       ] refl
     where

@@ -8,6 +8,7 @@ use Rattle.std.specs.FinMap.{FinMap, get, values}
 use Rattle.std.specs.Ordering.{nat_cmp}
 use Rattle.std.proofs.lemmas.Int.{ints}
 use Rattle.atl_tables.specs.Planet.{Planet}
+use Rattle.atl_tables.proofs.GeneralLaws.{is_equal}
 use Rattle.atl_orders.specs.declared.verb.Verb.{Verb}
 use Rattle.atl_orders.specs.Bounds.{IsEntry, IsOrderOf, IsReading}
 use Rattle.atl_orders.specs.Mailing.{EntrySaid, Reading}
@@ -30,7 +31,6 @@ use Rattle.atl_instant.specs.Steps.{AreSpared, Concern, IsDrawn, IsOrderly, IsSp
 use Rattle.atl_instant.specs.declared.written.Arrangement.TheVariants.{ByUnit}
 use Rattle.atl_instant.proofs.MeaningLaws.{less_room, same_month}
 use Rattle.atl_instant.proofs.StayingLaws.{no_worse, no_worse_twice}
-use Rattle.atl_instant.proofs.StructureLaws.{is_equal}
 use Rattle.atl_instant.proofs.WrittenLaws.{orders_are_in_mailings}
 use Rattle.atl_instant.proofs.FoundOrderLaws.{found_all, found_stays}
 

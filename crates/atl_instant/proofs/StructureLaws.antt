@@ -12,18 +12,10 @@ use Rattle.atl_state.specs.State.{State, with_owner}
 use Rattle.atl_state.proofs.EveryLaws.{get-insert_other}
 use Rattle.atl_state.proofs.LeavingLaws.{owned_by}
 use Rattle.atl_state.proofs.RegionLaws.{get-insert_same, same_len}
+use Rattle.atl_state.proofs.ListLaws.{other_number}
 
 pub equal : (a b : ℕ) → a ≡ b → (a == b) ≡ true
 equal a b same = grind (arith, nat_tests)
-
-pub unequal : (a b : ℕ) → a ≢ b → (a == b) ≡ false
-unequal a b apart = grind (arith, nat_tests)
-
-pub is_equal : (a b : ℕ) → (a == b) ≡ true → a ≡ b
-is_equal a b test = grind (arith, nat_tests)
-
-pub is_unequal : (a b : ℕ) → (a == b) ≡ false → a ≢ b
-is_unequal a b test = grind (arith, nat_tests)
 
 -- ---- a value of a map that is changed
 
@@ -53,7 +45,7 @@ module _ {V : Type 0} (f : V → V) (m : FinMap nat_cmp V) (k : ℕ) where
     | inl same ↦
         ap (get (changed f m k)) same ∙ changed_here (get m k) refl ∙ ap (λ j. option_map f (get m j)) (sym same)
         ∙ mapped_here q (equal q k same) (get m q)
-    | inr apart ↦ changed_else q apart (get m k) ∙ mapped_else q (unequal q k apart) (get m q)
+    | inr apart ↦ changed_else q apart (get m k) ∙ mapped_else q (other_number q k apart) (get m q)
   ]
 
   len_by : (o : Option V) → get m k ≡ o → len (changed_at f m k o) ≡ len m
@@ -87,7 +79,7 @@ module _ (c : State) (k from to : ℕ) where
 
   unmoved : (q : ℕ) → q ≢ k → (o : Option Structure) → o ≡ option_map (handed_on k from to q) o
   unmoved q apart None = refl
-  unmoved q apart (Some y) = ap (λ b. Some (if b && y.owner == from then owned_by to y else y)) (sym (unequal q k apart))
+  unmoved q apart (Some y) = ap (λ b. Some (if b && y.owner == from then owned_by to y else y)) (sym (other_number q k apart))
 
   pub get-handed : (q : ℕ) → get (handed c k from to).structures q ≡ option_map (handed_on k from to q) (get c.structures q)
   get-handed q = elim (cases_eq q k) [

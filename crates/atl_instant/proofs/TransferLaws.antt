@@ -1,12 +1,13 @@
 -- TRANSFER leaves a campaign well.
-use Rattle.std.proofs.Common.{◌≡◌, ◌≢◌, ◌==◌, ℕ, ◌+◌, ◌-◌, ◌*◌, ◌/◌, ◌≤◌, ◌<◌, Bool, true, false, cond, not, ◌&&◌, List, [], ◌∷◌, map, length, Option, Some, None, refl, sym, ap, subst, ◌∙◌, inl, inr, arith}
-use Rattle.std.specs.Prelude.{IfSome, fold, nat_lt, unwrap_or, if◌then◌else◌}
+use Rattle.std.proofs.Common.{◌≡◌, ◌≢◌, ◌==◌, ℕ, ◌+◌, ◌-◌, ◌*◌, ◌/◌, ◌≤◌, ◌<◌, Bool, true, false, not, ◌&&◌, [], ◌∷◌, ◌++◌, ◌⊎◌, length, Option, Some, None, refl, sym, ap, subst, ◌∙◌, inl, inr, arith}
+use Rattle.std.specs.Prelude.{IfSome, nat_lt, unwrap_or, if◌then◌else◌}
 use Rattle.std.proofs.lemmas.Bool.Decides.{nat_tests}
 use Rattle.std.proofs.lemmas.Bool.{cases_lt}
 use Rattle.std.proofs.Math.Nat.{div-le_of_le-mul, le-div_iff_mul-le, mul-le-mul_right}
-use Rattle.std.specs.Ordering.{nat_cmp, eq_by_cmp}
-use Rattle.std.specs.FinMap.{FinMap, empty, entries, get}
+use Rattle.std.specs.Ordering.{nat_cmp}
+use Rattle.std.specs.FinMap.{FinMap, get, keys}
 use Rattle.atl_tables.specs.Planet.{Planet}
+use Rattle.atl_tables.proofs.GeneralLaws.{is_equal}
 use Rattle.atl_orders.specs.declared.order.Order.TheVariants as orders
 use Rattle.atl_orders.specs.Orders.{Said}
 use Rattle.atl_state.specs.declared.books.Thing.{Thing}
@@ -15,21 +16,20 @@ use Rattle.atl_state.specs.declared.event.EventFault.{EventFault}
 use Rattle.atl_state.specs.declared.event.EventFault.TheVariants.{NoRoom, NotEnough, NotHere, NotYours}
 use Rattle.atl_state.specs.declared.event.Outcome.TheVariants.{Done}
 use Rattle.atl_state.specs.declared.records.Unit.{Unit}
-use Rattle.atl_state.specs.Deciding.{EachOf}
 use Rattle.atl_state.specs.Good.{Every, IsEarly}
-use Rattle.atl_state.specs.Held.{Held, amount_of, with_amount_of}
+use Rattle.atl_state.specs.Held.{Held, amount_of}
 use Rattle.atl_state.specs.Lending.{with_held}
 use Rattle.atl_state.specs.Limits.{men_limit, most_days}
 use Rattle.atl_state.specs.State.{State}
 use Rattle.atl_state.specs.Totals.{held}
-use Rattle.atl_state.proofs.EveryLaws.{each-from_every, every-empty}
 use Rattle.atl_instant.specs.Course.{Aliases}
 use Rattle.atl_instant.specs.Outcomes.{unless}
 use Rattle.atl_instant.specs.Staying.{IsNoWorse}
 use Rattle.atl_instant.specs.PhaseOrders.{Task, unit_of}
 use Rattle.atl_instant.specs.Steps.{IsOrderly, IsOwnOrder, IsSpared, IsUnitOf, StepsWell}
-use Rattle.atl_instant.specs.Transfer.{days_going, sent, transfer, transfer_fault, transfer_said, transfer_step, transfer_to, with_days, with_fewer, with_more}
-use Rattle.atl_instant.proofs.AmountsLaws.{alike, every_amount, set_amount}
+use Rattle.atl_instant.specs.Transfer.{days_going, going_of, raised_of, sent, staying_of, transfer, transfer_fault, transfer_said, transfer_step, transfer_to, with_fewer, with_more}
+use Rattle.atl_instant.proofs.AmountsForLaws.{each_said}
+use Rattle.atl_instant.proofs.DaysLaws.{days_go_with_men, none_go}
 use Rattle.atl_state.proofs.HavingLaws.{MayHave, may_have}
 use Rattle.atl_instant.proofs.MovingLaws.{early-moved, moved, receiver_still, spared-moved, steps-moved}
 use Rattle.atl_instant.proofs.OutcomeLaws.{none_fits, not_apart, not_less, unless_itself}
@@ -71,9 +71,6 @@ sent_is c d e from to n u v h k apart sender receiver h_is k_is first second =
     rw (second still, first, h_is, k_is, other) refl
 
 -- ---- days
-
-abbrev IsStudied : Planet → (men skill days : ℕ) → Type 0
-IsStudied w men skill days = (skill < length w.skills) × (1 ≤ days) × (days ≤ most_days * men)
 
 -- at most so many days of a skill
 pub days_within : (all : FinMap nat_cmp ℕ) (most skill : ℕ) → Every (λ s days. (1 ≤ days) × (days ≤ most)) all → amount_of all skill ≤ most
@@ -125,59 +122,63 @@ rest_most n men days fewer some most =
     some_men : (men days : ℕ) → 1 ≤ days → days ≤ most_days * men → 0 < men
     some_men men days some most = omega arith
 
--- each skill of those who stay
-left_each : (w : Planet) (n men : ℕ) → n ≤ men → (es : List (ℕ × ℕ)) (left : FinMap nat_cmp ℕ) → Every (IsStudied w (men - n)) left → EachOf (IsStudied w men) es
-    → Every (IsStudied w (men - n)) (fold (λ (m : FinMap nat_cmp ℕ) (e : ℕ × ℕ). with_amount_of m e.0 (e.1 - days_going n men e.1)) left es)
-left_each w n men fewer [] left old each = old
-left_each w n men fewer ((skill, days) ∷ es) left old ((known, some, most), each) =
-    left_each w n men fewer es (with_amount_of left skill (days - days_going n men days))
-    (every_amount (IsStudied w (men - n)) left skill (days - days_going n men days) (λ left_some. (known, left_some, rest_most n men days fewer some most)) old) each
+-- ---- what both may hold
 
--- and of those to whom others come
-raised_each : (w : Planet) (n men more : ℕ) (had : FinMap nat_cmp ℕ) → Every (λ s days. (1 ≤ days) × (days ≤ most_days * more)) had → (es : List (ℕ × ℕ)) (all : FinMap nat_cmp ℕ) → Every (IsStudied w (more + n)) all → EachOf (IsStudied w men) es
-    → Every (IsStudied w (more + n)) (with_days all (map (λ e. (e.0, amount_of had e.0 + days_going n men e.1)) es))
-raised_each w n men more had each_had [] all old each = old
-raised_each w n men more had each_had ((skill, days) ∷ es) all old ((known, some, most), each) =
-    let sum : amount_of had skill + days_going n men days ≤ most_days * (more + n) = both most_days more n (amount_of had skill) (days_going n men days) (days_within had (most_days * more) skill each_had) (going_most n men days most) in
-    raised_each w n men more had each_had es (with_amount_of all skill (amount_of had skill + days_going n men days))
-    (every_amount (IsStudied w (more + n)) all skill (amount_of had skill + days_going n men days) (λ raised_some. (known, raised_some, sum)) old) each
+-- a skill of which there are days is known
+known_skill : (w : Planet) (h : Held) (s : ℕ) → MayHave w h → 1 ≤ amount_of h.days s → s < length w.skills
+known_skill w h s may some = by_option (get h.days s) refl some
   where
+    by_option : (o : Option ℕ) → get h.days s ≡ o → 1 ≤ unwrap_or o 0 → s < length w.skills
+    by_option None there l = absurd (omega (arith, l))
+    by_option (Some d) there l = may.skills s d there
+
+days_may : (w : Planet) (h : Held) (s : ℕ) → MayHave w h → amount_of h.days s ≤ most_days * h.men
+days_may w h s may = days_within h.days (most_days * h.men) s may.days
+
+pub may_have_fewer : (w : Planet) (n : ℕ) (h : Held) → n ≤ h.men → MayHave w h → MayHave w (with_fewer n h)
+may_have_fewer w n h fewer may = record {
+  limits = record { men = omega (arith, may.limits.men); money = may.limits.money; items = may.limits.items };
+  name = may.name;
+  items = may.items;
+  skills = λ s d there. let (some, is) = each_said (staying_of n h) (keys h.days) s d there in known_skill w h s may (had (amount_of h.days s) (going_of n h s) d is some);
+  days = λ s d there.
+      let (some, is) = each_said (staying_of n h) (keys h.days) s d there in
+      (some, subst (λ x. x ≤ most_days * (h.men - n)) (sym is) (rest_most n h.men (amount_of h.days s) fewer (had (amount_of h.days s) (going_of n h s) d is some) (days_may w h s may)));
+}
+  where
+    had : (a g d : ℕ) → d ≡ a - g → 1 ≤ d → 1 ≤ a
+    had a g d is some = omega (arith, is, some)
+
+pub may_have_more : (w : Planet) (n : ℕ) (other h : Held) → h.men + n ≤ men_limit → MayHave w other → MayHave w h → MayHave w (with_more n other h)
+may_have_more w n other h room from may = record {
+  limits = record { men = room; money = may.limits.money; items = may.limits.items };
+  name = may.name;
+  items = may.items;
+  skills = λ s d there. let (some, is) = each_said (raised_of n other h) (keys h.days ++ keys other.days) s d there in known s (some_of (amount_of h.days s) (going_of n other s) d is some);
+  days = λ s d there.
+      let (some, is) = each_said (raised_of n other h) (keys h.days ++ keys other.days) s d there in
+      (some, subst (λ x. x ≤ most_days * (h.men + n)) (sym is) (both most_days h.men n (amount_of h.days s) (going_of n other s) (days_may w h s may) (going_most n other.men (amount_of other.days s) (days_may w other s from))));
+}
+  where
+    some_of : (a g d : ℕ) → d ≡ a + g → 1 ≤ d → (1 ≤ a) ⊎ (1 ≤ g)
+    some_of a g d is some = elim (cases_lt 0 a) [
+      | inl l ↦ inl (omega (arith, l))
+      | inr l ↦ inr (omega (arith, l, is, some))
+    ]
+
+    came : (s : ℕ) → 1 ≤ going_of n other s → (b : Bool) → (amount_of other.days s == 0) ≡ b → 1 ≤ amount_of other.days s
+    came s some true none = let zero = none_go n other s (is_equal (amount_of other.days s) 0 none) in absurd (omega (arith, some, zero))
+    came s some false there = grind (arith, nat_tests)
+
+    known : (s : ℕ) → (1 ≤ amount_of h.days s) ⊎ (1 ≤ going_of n other s) → s < length w.skills
+    known s (inl some) = known_skill w h s may some
+    known s (inr some) = known_skill w other s from (came s some (amount_of other.days s == 0) refl)
+
     both : (k m n a b : ℕ) → a ≤ k * m → b ≤ k * n → a + b ≤ k * (m + n)
     both k m n a b f g = rw (spread k m n) (omega (arith, f, g))
       where
         spread : (k s n : ℕ) → k * (s + n) ≡ k * s + k * n
         spread k s n = grind arith
-
--- ---- what both may hold
-
-studied : (w : Planet) (h : Held) → MayHave w h → Every (IsStudied w h.men) h.days
-studied w h may s days there = let range = may.days s days there in (may.skills s days there, range.0, range.1)
-
-pub may_have_fewer : (w : Planet) (n : ℕ) (h : Held) → n ≤ h.men → MayHave w h → MayHave w (with_fewer n h)
-may_have_fewer w n h fewer may =
-    let days = left_each w n h.men fewer (entries h.days) empty (every-empty (IsStudied w (h.men - n))) (each-from_every (IsStudied w h.men) h.days (studied w h may)) in
-    record {
-      limits = record { men = omega (arith, may.limits.men); money = may.limits.money; items = may.limits.items };
-      name = may.name;
-      items = may.items;
-      skills = λ s d there. (days s d there).0;
-      days = λ s d there. let (known, some, most) = days s d there in (some, most);
-    }
-
-pub may_have_more : (w : Planet) (n : ℕ) (other h : Held) → h.men + n ≤ men_limit → MayHave w other → MayHave w h → MayHave w (with_more n other h)
-may_have_more w n other h room from may =
-    let old : Every (IsStudied w (h.men + n)) h.days = (λ s d there. let (known, some, most) = studied w h may s d there in (known, some, wider d h.men n most)) in
-    let days = raised_each w n other.men h.men h.days may.days (entries other.days) h.days old (each-from_every (IsStudied w other.men) other.days (studied w other from)) in
-    record {
-      limits = record { men = room; money = may.limits.money; items = may.limits.items };
-      name = may.name;
-      items = may.items;
-      skills = λ s d there. (days s d there).0;
-      days = λ s d there. let (known, some, most) = days s d there in (some, most);
-    }
-  where
-    wider : (d m n : ℕ) → d ≤ most_days * m → d ≤ most_days * (m + n)
-    wider d m n l = omega arith
 
 pub both_hold : (n : ℕ) (h k : Held) → n ≤ h.men → (t : Thing) → held t (with_fewer n h) + held t (with_more n h k) ≡ held t h + held t k
 both_hold n h k l things.Money = refl
@@ -185,20 +186,6 @@ both_hold n h k l things.People = omega (arith, l)
 both_hold n h k l (things.Item i) = refl
 
 -- ---- no worse off
-
-raised_more : (n men : ℕ) (had : FinMap nat_cmp ℕ) (j : ℕ) (es : List (ℕ × ℕ)) (all : FinMap nat_cmp ℕ) → amount_of had j ≤ amount_of all j
-    → amount_of had j ≤ amount_of (with_days all (map (λ e. (e.0, amount_of had e.0 + days_going n men e.1)) es)) j
-raised_more n men had j [] all more = more
-raised_more n men had j (e ∷ es) all more =
-    raised_more n men had j es (with_amount_of all e.0 (amount_of had e.0 + days_going n men e.1))
-    (subst (λ x. amount_of had j ≤ x) (sym (set_amount all e.0 (amount_of had e.0 + days_going n men e.1) j)) (by_test (eq_by_cmp nat_cmp j e.0) refl))
-  where
-    here : (x y n : ℕ) → x ≡ y → x ≤ y + n
-    here x y n is = omega arith
-
-    by_test : (q : Bool) → eq_by_cmp nat_cmp j e.0 ≡ q → amount_of had j ≤ cond q (amount_of had e.0 + days_going n men e.1) (amount_of all j)
-    by_test true is = here (amount_of had j) (amount_of had e.0) (days_going n men e.1) (ap (amount_of had) (alike e.0 j is))
-    by_test false is = more
 
 pub better_off : (n : ℕ) (other : Held) (v : Unit) → IsNoWorse v (record v { holding = with_more n other v.holding })
 better_off n other v = record {
@@ -210,7 +197,7 @@ better_off n other v = record {
   men = omega arith;
   money = omega arith;
   items = λ i. omega arith;
-  days = λ s. raised_more n other.men v.holding.days s (entries other.days) v.holding.days (omega arith);
+  days = λ s. subst (λ x. amount_of v.holding.days s ≤ x) (sym (days_go_with_men n other v.holding s).come) (omega arith);
 }
 
 -- ---- one order

@@ -4,6 +4,7 @@ use Rattle.std.specs.Prelude.{IfSome, fold, if◌then◌else◌}
 use Rattle.std.specs.Ordering.{nat_cmp}
 use Rattle.std.specs.FinMap.{FinMap, entries, get, remove, values}
 use Rattle.atl_tables.specs.Planet.{Planet}
+use Rattle.atl_tables.proofs.GeneralLaws.{is_equal}
 use Rattle.atl_orders.specs.declared.order.NameKind.{NameKind}
 use Rattle.atl_orders.specs.declared.order.NameKind.TheVariants as kinds
 use Rattle.atl_orders.specs.declared.order.Order.TheVariants as orders
@@ -35,7 +36,7 @@ use Rattle.atl_instant.specs.declared.give.Gift.TheVariants.{Item, Money}
 use Rattle.atl_instant.specs.declared.written.Arrangement.TheVariants.{ByFaction}
 use Rattle.atl_instant.proofs.GiveLaws.{give_cases}
 use Rattle.atl_instant.proofs.MovingLaws.{moved, receiver_still}
-use Rattle.atl_instant.proofs.StructureLaws.{handed_is, is_equal}
+use Rattle.atl_instant.proofs.StructureLaws.{handed_is}
 use Rattle.atl_instant.proofs.TransferLaws.{transfer_cases}
 use Rattle.atl_instant.proofs.UnmailedLaws.{HasItsMen, HaveTheirMen, LeavesUnmailed, OthersHaveMen, SparesMen, carried_leaves, items_of_no_worse, men_changed, men_put, men_same, men_stay, men_twice, men_unless, others_men, own_faction, told_of_order, unmailed_spared, whole_leaves}
 

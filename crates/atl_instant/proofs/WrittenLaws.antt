@@ -6,7 +6,7 @@ use Rattle.std.specs.Ordering.{nat_cmp}
 use Rattle.std.specs.Cmp.{IsTotalOrder}
 use Rattle.std.specs.Cmp.Lexicographic.{slice_cmp, nat_list_cmp_total}
 use Rattle.std.specs.List.{AllByRecursion}
-use Rattle.std.specs.FinMap.{FinMap, entries, entries-insert, from_entries, get, put}
+use Rattle.std.specs.FinMap.{FinMap, IsAntisymmetric, entries, entries-insert, from_entries, get, nat_cmp-IsAntisymmetric, put, slice_cmp-IsAntisymmetric}
 use Rattle.std.specs.FinMap.Entries.{by_order}
 use Rattle.std.proofs.lemmas.List.Elements.{All-from_recursion}
 use Rattle.atl_orders.specs.Mailing.{EntrySaid, Reading}
@@ -17,33 +17,34 @@ use Rattle.atl_instant.specs.Course.{Aliases}
 use Rattle.atl_instant.specs.PhaseOrders.{IsInMailing, OrdersAreInMailings, Task, key_of, tasks_for, tasks_from, tasks_of}
 use Rattle.atl_instant.proofs.MappedLaws.{no_entries}
 
--- ---- what is so of each value is so of each that a map lists
+-- ---- what is so of each entry is so of each that a map lists
 
-module _ {K X : Type 0} (R : K → K → Ordering) (P : X → Type 0) where
-  abbrev Values : List (K × X) → Type 0
-  Values = AllByRecursion (λ e. P e.1)
+module _ {K X : Type 0} (R : K → K → Ordering) (P : K → X → Type 0) where
+  abbrev pub Entries : List (K × X) → Type 0
+  Entries = AllByRecursion (λ e. P e.0 e.1)
 
-  values-put : (k : K) (v : X) (es : List (K × X)) → P v → Values es → Values (put R k v es)
-  values-put k v [] h all = (h, tt)
-  values-put k v (e ∷ es) h all =
-      elim (R k e.0) as (λ r. Values (by_order r ((k, v) ∷ e ∷ es) ((e.0, v) ∷ es) (e ∷ put R k v es))) [
-        | Less ↦ (h, all)
-        | Equal ↦ (h, all.1)
-        | Greater ↦ (all.0, values-put k v es h all.1)
-      ]
+  entries-put : IsAntisymmetric R → (k : K) (v : X) (es : List (K × X)) → P k v → Entries es → Entries (put R k v es)
+  entries-put anti k v [] h all = (h, tt)
+  entries-put anti k v (e ∷ es) h all =
+      elim (R k e.0) as (λ r. R k e.0 ≡ r → Entries (by_order r ((k, v) ∷ e ∷ es) ((e.0, v) ∷ es) (e ∷ put R k v es))) [
+        | Less ↦ λ o. (h, all)
+        | Equal ↦ λ o. (subst (λ j. P j v) (anti k e.0 o) h, all.1)
+        | Greater ↦ λ o. (all.0, entries-put anti k v es h all.1)
+      ] refl
 
-  values-listed : IsTotalOrder R → (es : List (K × X)) → Values es → Values (entries (from_entries {R = R} es))
-  values-listed o [] all = subst Values (sym (no_entries R)) tt
-  values-listed o (e ∷ es) all =
-      subst Values (sym (entries-insert o (from_entries es) e.0 e.1)) (values-put e.0 e.1 (entries (from_entries es)) all.0 (values-listed o es all.1))
+  pub entries-listed : IsTotalOrder R → IsAntisymmetric R → (es : List (K × X)) → Entries es → Entries (entries (from_entries {R = R} es))
+  entries-listed o anti [] all = subst Entries (sym (no_entries R)) tt
+  entries-listed o anti (e ∷ es) all =
+      subst Entries (sym (entries-insert o (from_entries es) e.0 e.1)) (entries-put anti e.0 e.1 (entries (from_entries es)) all.0 (entries-listed o anti es all.1))
 
-  keyed_values : (key : X → K) (xs : List X) → AllByRecursion P xs → Values (map (λ x. (key x, x)) xs)
-  keyed_values key [] all = tt
-  keyed_values key (x ∷ xs) all = (all.0, keyed_values key xs all.1)
+  pub keyed_entries : (key : X → K) (xs : List X) → AllByRecursion (λ x. P (key x) x) xs → Entries (map (λ x. (key x, x)) xs)
+  keyed_entries key [] all = tt
+  keyed_entries key (x ∷ xs) all = (all.0, keyed_entries key xs all.1)
 
-  unkeyed_values : (es : List (K × X)) → Values es → AllByRecursion P (map (λ e. e.1) es)
-  unkeyed_values [] all = tt
-  unkeyed_values (e ∷ es) all = (all.0, unkeyed_values es all.1)
+-- and of each value
+unkeyed_values : {K X : Type 0} (P : X → Type 0) (es : List (K × X)) → AllByRecursion (λ e. P e.1) es → AllByRecursion P (map (λ e. e.1) es)
+unkeyed_values P [] all = tt
+unkeyed_values P (e ∷ es) all = (all.0, unkeyed_values P es all.1)
 
 -- ---- the orders of a mailing
 
@@ -69,7 +70,7 @@ module _ (aliases : Aliases) (readings : FinMap nat_cmp Reading) where
       kept ts t true h r = (h, r)
       kept ts t false h r = r
 
-  in_mailings : (is_of : _) (es : List (ℕ × Reading)) → EachOf (λ f r. get readings f ≡ Some r) es → AllByRecursion (IsInMailing aliases readings) (flat_map (λ e. tasks_for is_of (tasks_of aliases e.0 e.1)) es)
+  pub in_mailings : (is_of : _) (es : List (ℕ × Reading)) → EachOf (λ f r. get readings f ≡ Some r) es → AllByRecursion (IsInMailing aliases readings) (flat_map (λ e. tasks_for is_of (tasks_of aliases e.0 e.1)) es)
   in_mailings is_of [] h = tt
   in_mailings is_of (e ∷ es) h =
       append_each (IsInMailing aliases readings) (tasks_for is_of (tasks_of aliases e.0 e.1)) (flat_map (λ e. tasks_for is_of (tasks_of aliases e.0 e.1)) es)
@@ -80,6 +81,6 @@ orders_are_in_mailings is_of a aliases readings =
     let P = IsInMailing aliases readings in
     let ts = flat_map (λ e. tasks_for is_of (tasks_of aliases e.0 e.1)) (entries readings) in
     let es = map (λ t. (key_of a t, t)) ts in
-    All-from_recursion P _ (unkeyed_values (slice_cmp nat_cmp) P (entries (from_entries es))
-    (values-listed (slice_cmp nat_cmp) P nat_list_cmp_total es (keyed_values (slice_cmp nat_cmp) P (key_of a) ts
+    All-from_recursion P _ (unkeyed_values P (entries (from_entries es))
+    (entries-listed (slice_cmp nat_cmp) (λ k t. P t) nat_list_cmp_total (slice_cmp-IsAntisymmetric nat_cmp-IsAntisymmetric) es (keyed_entries (slice_cmp nat_cmp) (λ k t. P t) (key_of a) ts
     (in_mailings aliases readings is_of (entries readings) (each-from_every (λ f r. get readings f ≡ Some r) readings (λ f r is. is))))))

@@ -1,7 +1,6 @@
 -- TRANSFER. See docs/RULES.md, "Transferring".
-use Rattle.std.specs.Prelude.{◌≡◌, ℕ, ◌+◌, ◌-◌, ◌*◌, ◌/◌, ◌==◌, ◌&&◌, not, nat_lt, Bool, true, false, List, [], ◌∷◌, map, fold, Option, Some, None, if◌then◌else◌}
-use Rattle.std.specs.Ordering.{nat_cmp}
-use Rattle.std.specs.FinMap.{FinMap, empty, entries, get}
+use Rattle.std.specs.Prelude.{◌≡◌, ℕ, ◌+◌, ◌-◌, ◌*◌, ◌/◌, ◌==◌, ◌&&◌, not, nat_lt, Bool, true, false, [], ◌∷◌, ◌++◌, Option, Some, None, if◌then◌else◌}
+use Rattle.std.specs.FinMap.{get, keys}
 use Rattle.atl_orders.specs.declared.order.Order.TheVariants as orders
 use Rattle.atl_orders.specs.declared.verb.Verb.{Verb}
 use Rattle.atl_orders.specs.declared.verb.Verb.TheVariants as verbs
@@ -11,10 +10,11 @@ use Rattle.atl_state.specs.declared.event.EventFault.TheVariants.{NoRoom, NotEno
 use Rattle.atl_state.specs.declared.event.Outcome.{Outcome}
 use Rattle.atl_state.specs.declared.event.Outcome.TheVariants.{Done}
 use Rattle.atl_state.specs.declared.records.Unit.{Unit}
-use Rattle.atl_state.specs.Held.{Held, amount_of, with_amount_of}
+use Rattle.atl_state.specs.Held.{Held, amount_of}
 use Rattle.atl_state.specs.Lending.{with_held}
 use Rattle.atl_state.specs.Limits.{men_limit}
 use Rattle.atl_state.specs.State.{State}
+use Rattle.atl_instant.specs.Amounts.{amounts_for}
 use Rattle.atl_instant.specs.Course.{Aliases}
 use Rattle.atl_instant.specs.Meaning.{Keeping, Meaning}
 use Rattle.atl_instant.specs.Outcomes.{first_fault, unless}
@@ -34,30 +34,30 @@ is_transferring verb = false
 abbrev pub days_going : (n men days : ℕ) → ℕ
 days_going n men days = days * n / men
 
--- of each skill the rest stays
-abbrev pub days_left : (n men : ℕ) → FinMap nat_cmp ℕ → FinMap nat_cmp ℕ
-days_left n men days = fold (λ left e. with_amount_of left e.0 (e.1 - days_going n men e.1)) empty (entries days)
+-- those that go with n of a unit's men, and those that stay
+abbrev pub going_of : (n : ℕ) → Held → (skill : ℕ) → ℕ
+going_of n h s = days_going n h.men (amount_of h.days s)
 
--- what others then have of each of these skills, who had more
-abbrev pub days_raised : (n men : ℕ) → (days more : FinMap nat_cmp ℕ) → List (ℕ × ℕ)
-days_raised n men days more = map (λ e. (e.0, amount_of more e.0 + days_going n men e.1)) (entries days)
+abbrev pub staying_of : (n : ℕ) → Held → (skill : ℕ) → ℕ
+staying_of n h s = amount_of h.days s - going_of n h s
 
-abbrev pub with_days : FinMap nat_cmp ℕ → List (ℕ × ℕ) → FinMap nat_cmp ℕ
-with_days days list = fold (λ all e. with_amount_of all e.0 e.1) days list
+-- those of a unit to which n men of another come
+abbrev pub raised_of : (n : ℕ) → (other h : Held) → (skill : ℕ) → ℕ
+raised_of n other h s = amount_of h.days s + going_of n other s
 
 -- n men less
 abbrev pub with_fewer : (n : ℕ) → Held → Held
-with_fewer n h = record h { men = h.men - n; days = days_left n h.men h.days }
+with_fewer n h = record h { men = h.men - n; days = amounts_for (staying_of n h) (keys h.days) }
 
 -- n men of another unit more
 abbrev pub with_more : (n : ℕ) → (other h : Held) → Held
-with_more n other h = record h { men = h.men + n; days = with_days h.days (days_raised n other.men other.days h.days) }
+with_more n other h = record h { men = h.men + n; days = amounts_for (raised_of n other h) (keys h.days ++ keys other.days) }
 
--- ---- a law: what both have of a skill, once n men went
+-- ---- a law: so both have of any skill, once n men went
 
 pub record HaveDaysOf (n : ℕ) (other h : Held) (skill : ℕ) : Type 0 where
-  pub stay : amount_of (with_fewer n other).days skill ≡ amount_of other.days skill - days_going n other.men (amount_of other.days skill)
-  pub come : amount_of (with_more n other h).days skill ≡ amount_of h.days skill + days_going n other.men (amount_of other.days skill)
+  pub stay : amount_of (with_fewer n other).days skill ≡ staying_of n other skill
+  pub come : amount_of (with_more n other h).days skill ≡ raised_of n other h skill
 
 abbrev pub DaysGoWithMen : Type 0
 DaysGoWithMen = (n : ℕ) (other h : Held) (skill : ℕ) → HaveDaysOf n other h skill

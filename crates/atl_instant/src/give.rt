@@ -5,9 +5,10 @@ ghost use Rattle.std.specs.Option.{option_copied};
 ghost use Rattle.atl_state.specs.Covers.{MarksChanges};
 ghost use Rattle.atl_state.specs.Good.{Every, IsEarly};
 ghost use Rattle.atl_state.specs.Held.{IsHolding, with_amount_of};
-ghost use Rattle.atl_state.specs.Lending.{lent, with_held};
+ghost use Rattle.atl_state.specs.Lending.{with_held};
 ghost use Rattle.atl_state.specs.declared.records.Unit.{Unit};
 ghost use Rattle.atl_state.specs.Limits.{holding_limit};
+ghost use Rattle.atl_instant.specs.Holdings.{ChangesHolding};
 ghost use Rattle.atl_instant.specs.Give.{give, give_fault, give_step, given, held_of, is_giving, with_held_of};
 ghost use Rattle.atl_instant.specs.Steps.{carried};
 
@@ -77,7 +78,7 @@ fn give_fault(
 /// Sets how much of an item a unit holds that is there.
 fn set_item(campaign: &mut Campaign, number: u32, item: u32, amount: u32) -> Result<(), AllocError>
     requires { amount ≤ holding_limit }
-    ensures { OnOk result ((u : Unit) → map.get campaign.old.what.units number ≡ Some u → campaign.new ≡ lent campaign.old number (record u.holding { items = with_amount_of u.holding.items item amount })) }
+    ensures { OnOk result (ChangesHolding campaign.old campaign.new number (λ h. record h { items = with_amount_of h.items item amount })) }
 {
     match campaign.unit_mut(number) {
         Some(holding) => holding.set_amount(item, amount),

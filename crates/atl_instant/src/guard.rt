@@ -1,17 +1,24 @@
 //! GUARD 1.
-ghost use Rattle.std.specs.Prelude.{◌≡◌};
-ghost use Rattle.std.specs.FinMap.{get};
+ghost use Rattle.std.specs.Prelude.{◌≡◌, IfOk, List, OnOk, ℕ};
+ghost use Rattle.atl_tables.specs.Planet.{Planet};
+ghost use Rattle.atl_orders.specs.Orders.{said};
 ghost use Rattle.atl_state.specs.Covers.{MarksChanges};
 ghost use Rattle.atl_state.specs.Good.{IsSteady};
-ghost use Rattle.atl_instant.specs.Guard.{guard, guard_concerns, guard_fault, guard_step, guards_against, is_guarded_against, is_guarding};
-ghost use Rattle.atl_instant.specs.Steps.{carried};
+ghost use Rattle.atl_state.specs.State.{State};
+ghost use Rattle.atl_instant.specs.Carrying.{found_written};
+ghost use Rattle.atl_instant.specs.Guard.{guard, guard_fault, guard_keeps, guard_meaning, guard_said, guard_step, is_guarding};
+ghost use Rattle.atl_instant.specs.Holders.{AreHolders};
+ghost use Rattle.atl_instant.specs.Steps.{carried, one_order, ordered};
+ghost use Rattle.atl_instant.specs.Unbooked.{moves_nothing};
 
+use crate::holders::Holders;
 use crate::month::Month;
 use crate::orders::PhaseVerbs;
 use crate::outcome::failed;
-use crate::steps::{OrderPhase, PlainPhase, own_unit};
-use crate::written::Written;
-use atl_orders::{Mailing, Order, Verb};
+use crate::phase::Phase;
+use crate::steps::own_unit;
+use crate::written::{Arrangement, Written};
+use atl_orders::{Order, Verb};
 use atl_state::{Campaign, EventFault, Outcome, Unit};
 use atl_tables::World;
 use std::alloc::{AllocError, Global};
@@ -20,34 +27,14 @@ use std::alloc::{AllocError, Global};
 #[derive(Drop, Clone, Copy)]
 pub struct GuardPhase;
 
-/// Whether a unit is there, of another faction, and on guard.
-fn guards_against(campaign: &Campaign, faction: u32, number: u32) -> bool
-    ensures { result ≡ guards_against faction (get campaign.now.what.units number) }
-{
-    match campaign.unit(number) {
-        Some(unit) => unit.holding.guard() && unit.holding.men() > 0 && unit.faction != faction,
-        None => false,
-    }
-}
-
-/// Whether a unit of another faction guards a region.
-fn is_guarded_against(campaign: &Campaign, region: u32, faction: u32) -> bool
-    ensures { result ≡ is_guarded_against campaign.now.what region faction }
-{
-    campaign
-        .in_region(region)
-        .iter()
-        .any(|number| guards_against(campaign, faction, *number))
-}
-
-/// Why a unit can't guard.
-fn guard_fault(campaign: &Campaign, unit: &Unit) -> Option<EventFault>
-    ensures { result ≡ guard_fault campaign.now.what unit.now }
+/// Why a unit can't guard, in a campaign whose regions are so held.
+fn guard_fault(holders: &Holders, unit: &Unit) -> Option<EventFault>
+    ensures { (c : State) → AreHolders c holders.now → result ≡ guard_fault c unit.now }
 {
     if unit.holding.men() == 0 {
         return Some(EventFault::NoMen);
     }
-    if is_guarded_against(campaign, unit.region, unit.faction) {
+    if holders.is_held_against(unit.region, unit.faction) {
         return Some(EventFault::Guarded);
     }
     None
@@ -55,18 +42,65 @@ fn guard_fault(campaign: &Campaign, unit: &Unit) -> Option<EventFault>
 
 /// A unit begins to guard, or nothing changes where a fault fits.
 #[tactic(auto, unfolding(crate::specs::Guard::guard))]
-fn guard(campaign: &mut Campaign, order: Written) -> Outcome
-    ensures what { (campaign.new.what, result) ≡ carried (guard order.unit) campaign.old.what order.faction order.unit }
-    ensures marks { MarksChanges campaign.old campaign.new }
+fn guard(
+    campaign: &mut Campaign,
+    holders: &mut Holders,
+    order: Written,
+) -> Result<Outcome, AllocError>
+    requires held { AreHolders campaign.old.what holders.old }
+    ensures what { IfOk result (λ outcome. (campaign.new.what, outcome) ≡ carried (guard order.unit) campaign.old.what order.faction order.unit) }
+    ensures held { OnOk result (AreHolders campaign.new.what holders.new) }
+    ensures marks { OnOk result (MarksChanges campaign.old campaign.new) }
 {
     let Some(unit) = own_unit(campaign, order) else {
-        return failed(EventFault::NotYours);
+        return Ok(failed(EventFault::NotYours));
     };
-    if let Some(fault) = guard_fault(campaign, unit) {
-        return failed(fault);
+    if let Some(fault) = guard_fault(holders, unit) {
+        return Ok(failed(fault));
     }
+    holders.set(unit.region, unit.faction)?;
     campaign.set_guard(order.unit, true);
-    Outcome::Done(0)
+    Ok(Outcome::Done(0))
+}
+
+/// What comes of an order, or None where it is passed over, as GUARD 0 is.
+fn carry_out(
+    campaign: &mut Campaign,
+    holders: &mut Holders,
+    order: Written,
+    what: &Order,
+) -> Result<Option<Outcome>, AllocError>
+    requires held { AreHolders campaign.old.what holders.old }
+    ensures what { (text : List ℕ) → IfOk result (λ outcome. (campaign.new.what, outcome) ≡ ordered (guard_said order.unit (said text what.now)) campaign.old.what order.faction order.unit) }
+    ensures held { OnOk result (AreHolders campaign.new.what holders.new) }
+    ensures marks { OnOk result (MarksChanges campaign.old campaign.new) }
+{
+    match what {
+        Order::Guard(true) => Ok(Some(guard(campaign, holders, order)?)),
+        _ => Ok(None),
+    }
+}
+
+/// Carries out an order, and tells of it.
+fn guard_one(
+    campaign: &mut Campaign,
+    holders: &mut Holders,
+    month: &mut Month,
+    order: Written,
+) -> Result<(), AllocError>
+    requires held { AreHolders campaign.old.what holders.old }
+    ensures step { (w : Planet) → OnOk result ((campaign.new.what, month.new) ≡ found_written (one_order guard_step w) month.old.readings (campaign.old.what, month.old) order) }
+    ensures held { OnOk result (AreHolders campaign.new.what holders.new) }
+    ensures marks { OnOk result (MarksChanges campaign.old campaign.new) }
+{
+    let Some((_, what)) = month.order(order.faction, order.place) else {
+        return Ok(());
+    };
+    let verb = what.verb();
+    match carry_out(campaign, holders, order, what)? {
+        Some(outcome) => month.tell(order.event(verb, outcome)),
+        None => Ok(()),
+    }
 }
 
 impl PhaseVerbs for GuardPhase {
@@ -77,34 +111,29 @@ impl PhaseVerbs for GuardPhase {
     }
 }
 
-impl OrderPhase for GuardPhase {
-    ghost step = { λ _. guard_step };
+impl Phase for GuardPhase {
+    ghost meaning = { guard_meaning };
 
-    ghost holds = { IsSteady };
+    ghost needs = { IsSteady };
 
-    ghost concerns = { guard_concerns };
+    ghost leaves = { IsSteady };
 
-    fn carry_out(
+    ghost moving = { moves_nothing };
+
+    ghost keeps = { guard_keeps };
+
+    fn run(
         &self,
-        _: Global,
-        _: &World,
-        campaign: &mut Campaign,
-        _: &Month,
-        order: Written,
-        _: &Mailing,
-        what: &Order,
-    ) -> Result<Option<Outcome>, AllocError> {
-        match what {
-            Order::Guard(true) => Ok(Some(guard(campaign, order))),
-            _ => Ok(None),
+        alloc: Global,
+        _world: &World,
+        mut campaign: Campaign,
+        mut month: Month,
+    ) -> Result<(Campaign, Month), AllocError> {
+        let mut holders = Holders::of(alloc, &campaign)?;
+        let orders = month.orders(alloc, self, Arrangement::ByUnit)?;
+        for order in &orders {
+            guard_one(&mut campaign, &mut holders, &mut month, *order)?;
         }
+        Ok((campaign, month))
     }
-
-    fn is_orderly(&self) {}
-}
-
-impl PlainPhase for GuardPhase {
-    ghost makes = { guard_step };
-
-    fn is_plain(&self) {}
 }

@@ -8,6 +8,7 @@ ghost use Rattle.atl_orders.specs.declared.verb.Verb.{Verb};
 ghost use Rattle.atl_orders.specs.Mailing.{reading_of};
 ghost use Rattle.atl_instant.specs.Course.{by_faction};
 ghost use Rattle.atl_instant.specs.PhaseOrders.{OrdersAreInMailings, is_month_long, tasks_of, tasks_for, orders_of, written};
+ghost use Rattle.atl_instant.specs.StandOnce.{OneOrderStands};
 ghost use Rattle.atl_instant.specs.Collecting.{AreByFaction, AreLastLines, all_tasks, key_by};
 
 use crate::standing::{LastLines, Slot, is_slot, last_lines, slot_of, stands, unit_of};
@@ -129,4 +130,10 @@ fn sort(list: &mut Vec<Written>, arrangement: Arrangement)
 /// Each order of a phase stands in the mailing of its faction, at its place there.
 pub fn orders_are_in_mailings()
     ensures { OrdersAreInMailings }
+{}
+
+/// Of the verbs that share a slot, at most one order stands for a unit in a faction's mailing. See docs/RULES.md, "Orders of a
+/// month".
+pub fn one_order_stands()
+    ensures { OneOrderStands }
 {}

@@ -5,10 +5,11 @@ ghost use Rattle.std.specs.Option.{option_copied};
 ghost use Rattle.atl_state.specs.Covers.{MarksChanges};
 ghost use Rattle.atl_state.specs.Good.{AreDays, Every, IsEarly};
 ghost use Rattle.atl_state.specs.Held.{with_amount_of};
-ghost use Rattle.atl_state.specs.Lending.{lent};
 ghost use Rattle.atl_state.specs.Limits.{men_limit, most_days};
 ghost use Rattle.atl_state.specs.declared.records.Unit.{Unit};
-ghost use Rattle.atl_instant.specs.Transfer.{DaysGoWithMen, days_going, days_left, days_raised, is_transferring, sent, transfer, transfer_fault, transfer_step, with_days};
+ghost use Rattle.atl_instant.specs.Holdings.{ChangesHolding};
+ghost use Rattle.atl_instant.specs.Raising.{raised_list, rest_set, with_days};
+ghost use Rattle.atl_instant.specs.Transfer.{DaysGoWithMen, days_going, is_transferring, sent, transfer, transfer_fault, transfer_step};
 ghost use Rattle.atl_instant.specs.Steps.{carried};
 
 use crate::month::Month;
@@ -50,7 +51,7 @@ fn set_days(all: &mut Numbered<u32>, skill: u32, days: u32) -> Result<(), AllocE
 fn days_left(alloc: Global, going: u32, holding: &Holding) -> Result<Numbered<u32>, AllocError>
     requires fewer { going ≤ holding.now.men }
     requires days { Every (λ s days. (1 ≤ days) × (days ≤ most_days * holding.now.men)) holding.now.days }
-    ensures { IfOk result (λ left. left ≡ days_left going holding.now.men holding.now.days) }
+    ensures { IfOk result (λ left. left ≡ rest_set going holding.now.men holding.now.days) }
 {
     let men = holding.men();
     let mut left = Numbered::new(alloc);
@@ -72,7 +73,7 @@ fn days_raised(
     requires sent { Every (λ s days. (1 ≤ days) × (days ≤ most_days * sender.now.men)) sender.now.days }
     requires room { receiver.now.men + going ≤ men_limit }
     requires had { Every (λ s days. (1 ≤ days) × (days ≤ most_days * receiver.now.men)) receiver.now.days }
-    ensures { IfOk result (λ list. list.items ≡ days_raised going sender.now.men sender.now.days receiver.now.days) }
+    ensures { IfOk result (λ list. list.items ≡ raised_list going sender.now.men sender.now.days receiver.now.days) }
 {
     let men = sender.men();
     let mut list = Vec::new(alloc);
@@ -96,7 +97,7 @@ fn set_each(holding: &mut Holding, list: &[(u32, u32)]) -> Result<(), AllocError
 /// Men go from a unit that is there, and the rest of the days stays.
 fn take_men(campaign: &mut Campaign, number: u32, men: u32, days: Numbered<u32>)
     requires { men ≤ men_limit }
-    ensures { (u : Unit) → map.get campaign.old.what.units number ≡ Some u → campaign.new ≡ lent campaign.old number (record u.holding { men = men; days = days }) }
+    ensures { ChangesHolding campaign.old campaign.new number (λ h. record h { men = men; days = days }) }
 {
     if let Some(holding) = campaign.unit_mut(number) {
         holding.set_men(men);
@@ -112,7 +113,7 @@ fn add_men(
     list: &[(u32, u32)],
 ) -> Result<(), AllocError>
     requires { men ≤ men_limit }
-    ensures { OnOk result ((u : Unit) → map.get campaign.old.what.units number ≡ Some u → campaign.new ≡ lent campaign.old number (record u.holding { men = men; days = with_days u.holding.days list.now })) }
+    ensures { OnOk result (ChangesHolding campaign.old campaign.new number (λ h. record h { men = men; days = with_days h.days list.now })) }
 {
     match campaign.unit_mut(number) {
         Some(holding) => {

@@ -12,6 +12,7 @@ use Rattle.atl_state.specs.declared.event.Event.{Event}
 use Rattle.atl_state.specs.declared.records.Region.{Region}
 use Rattle.atl_state.specs.declared.records.Unit.{Unit}
 use Rattle.atl_state.specs.State.{State}
+use Rattle.atl_state.proofs.ListLaws.{other_number}
 use Rattle.atl_instant.specs.Course.{Course}
 use Rattle.atl_instant.specs.Meaning.{Keeping, Meaning}
 use Rattle.atl_instant.specs.PhaseOrders.{Task, orders_of, written}
@@ -19,7 +20,6 @@ use Rattle.atl_instant.specs.Staying.{AreNoWorse}
 use Rattle.atl_instant.specs.Unmailed.{starved_in, starved_told}
 use Rattle.atl_instant.specs.declared.written.Arrangement.TheVariants.{ByUnit}
 use Rattle.atl_instant.specs.declared.written.Written.{Written}
-use Rattle.atl_instant.proofs.StructureLaws.{unequal}
 use Rattle.atl_instant.proofs.UnmailedLaws.{HasItsItems, HasItsMen, HaveTheirMen, LeavesUnmailed, UnmailedAre, items_of_no_worse, men_changed, men_in_turn, men_stay, none_ordered, whole_leaves}
 use Rattle.atl_market.specs.PotPhase.{PotMeaning, event_of, events_by, given_by, pots_meaning, shared_out}
 use Rattle.atl_market.specs.Asking.{asked_of, count_in}
@@ -106,7 +106,7 @@ work_leaves = shared_leave (λ c m. work_pots) work_orders (paid_men (λ c m. wo
 
 none_listed : (n f : ℕ) (ts : List Task) → AllByRecursion (λ t. t.faction ≢ f) ts → list_any (λ o. o.unit == n && o.faction == f) (map written ts) ≡ false
 none_listed n f [] h = refl
-none_listed n f (t ∷ ts) h = neither (t.unit == n) (t.faction == f) _ (unequal t.faction f h.0) (none_listed n f ts h.1)
+none_listed n f (t ∷ ts) h = neither (t.unit == n) (t.faction == f) _ (other_number t.faction f h.0) (none_listed n f ts h.1)
   where
     neither : (a b d : Bool) → b ≡ false → d ≡ false → (a && b || d) ≡ false
     neither true b d e g = rw (e, g) refl

@@ -15,6 +15,7 @@ use Rattle.std.proofs.lemmas.Bool.{and_parts, cases_eq, false_from_ne_true, fals
 use Rattle.std.proofs.lemmas.Bool.Decides.{nat_tests}
 use Rattle.std.proofs.lemmas.List.{map-append}
 use Rattle.std.proofs.lemmas.List.Sorted.{IsPermutation-map}
+use Rattle.atl_tables.proofs.GeneralLaws.{equal_turned}
 use Rattle.atl_state.specs.Deciding.{EachOf}
 use Rattle.atl_state.specs.State.{State}
 use Rattle.atl_state.specs.declared.records.Unit.{Unit}
@@ -209,13 +210,10 @@ writes_own c (o ∷ os) n u is m =
     put_elsewhere true apart = get-insert_other m o.unit n o.faction apart
     put_elsewhere false apart = refl
 
-    both_ways : (a b : ℕ) → (a == b) ≡ (b == a)
-    both_ways a b = grind (arith, nat_tests)
-
     one : is_some (get (with_each m (own_unit c o)) n) ≡ ((o.unit == n && o.faction == u.faction) || is_some (get m n))
     one = elim (cases_eq n o.unit) [
       | inl same ↦
-          put_for (is_of_faction o.faction (get c.units o.unit)) (sym same) ∙ ap (λ b. b || is_some (get m n)) (here (sym same) ∙ both_ways u.faction o.faction)
+          put_for (is_of_faction o.faction (get c.units o.unit)) (sym same) ∙ ap (λ b. b || is_some (get m n)) (here (sym same) ∙ equal_turned u.faction o.faction)
           ∙ sym (ap (λ b. (b && o.faction == u.faction) || is_some (get m n)) (ap (λ k. o.unit == k) same ∙ same_number o.unit))
       | inr apart ↦
           ap is_some (put_elsewhere (is_of_faction o.faction (get c.units o.unit)) apart)

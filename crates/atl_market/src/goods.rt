@@ -3,9 +3,9 @@ ghost use Rattle.std.specs.Prelude.{◌≡◌, ◌≤◌, OnOk, Some};
 ghost use Rattle.std.specs.FinMap as map;
 ghost use Rattle.atl_state.specs.Covers.{MarksChanges};
 ghost use Rattle.atl_state.specs.Held.{amount_of, with_amount_of};
-ghost use Rattle.atl_state.specs.Lending.{lent};
 ghost use Rattle.atl_state.specs.Limits.{holding_limit};
 ghost use Rattle.atl_state.specs.declared.records.Unit.{Unit};
+ghost use Rattle.atl_instant.specs.Holdings.{ChangesHolding};
 ghost use Rattle.atl_market.specs.Goods.{CanMake, CanUse, with_made, with_used};
 
 use atl_instant::book_taken;
@@ -26,7 +26,7 @@ fn held_of(campaign: &Campaign, number: u32, item: u16) -> u32
 /// Sets how much of an item a unit holds that is there.
 fn set_item(campaign: &mut Campaign, number: u32, item: u16, amount: u32) -> Result<(), AllocError>
     requires { amount ≤ holding_limit }
-    ensures { OnOk result ((u : Unit) → map.get campaign.old.what.units number ≡ Some u → campaign.new ≡ lent campaign.old number (record u.holding { items = with_amount_of u.holding.items item amount })) }
+    ensures { OnOk result (ChangesHolding campaign.old campaign.new number (λ h. record h { items = with_amount_of h.items item amount })) }
 {
     match campaign.unit_mut(number) {
         Some(holding) => holding.set_amount(u32::from(item), amount),

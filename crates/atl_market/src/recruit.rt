@@ -6,9 +6,9 @@ ghost use Rattle.atl_state.specs.declared.books.Thing.TheVariants.{Money};
 ghost use Rattle.atl_state.specs.Books.{IsGrid};
 ghost use Rattle.atl_state.specs.Covers.{MarksChanges};
 ghost use Rattle.atl_state.specs.Good.{IsEarly};
-ghost use Rattle.atl_state.specs.Lending.{lent};
 ghost use Rattle.atl_state.specs.Limits.{holding_limit, men_limit};
 ghost use Rattle.atl_state.specs.State.{with_amount, with_peasants};
+ghost use Rattle.atl_instant.specs.Holdings.{ChangesHolding};
 ghost use Rattle.atl_instant.specs.Meaning.{HaveRoom, most_moved};
 ghost use Rattle.atl_market.specs.Asking.{asked_of, count_in};
 ghost use Rattle.atl_market.specs.Recruit.{is_recruit, recruit_keeps, recruit_meaning, recruit_moves, recruit_orders, recruit_pots, recruit_tasks, recruited, recruits_at, with_men};
@@ -78,7 +78,7 @@ fn join_holding(holding: &mut Holding, recruits: u32, cost: u32)
 fn join_unit(campaign: &mut Campaign, unit: u32, recruits: u32, cost: u32)
     requires fits { (u : Unit) → finmap.get campaign.old.what.units unit ≡ Some u → u.holding.men + recruits ≤ men_limit }
     requires payable { (u : Unit) → finmap.get campaign.old.what.units unit ≡ Some u → cost ≤ u.holding.money }
-    ensures { (u : Unit) → finmap.get campaign.old.what.units unit ≡ Some u → campaign.new ≡ lent campaign.old unit (with_men u.holding recruits cost) }
+    ensures { ChangesHolding campaign.old campaign.new unit (λ h. with_men h recruits cost) }
 {
     if let Some(holding) = campaign.unit_mut(unit) {
         join_holding(holding, recruits, cost);

@@ -10,11 +10,11 @@ use Rattle.atl_state.specs.Books.{entry_place, thing_place}
 use Rattle.atl_state.specs.Limits.{entry_count}
 use Rattle.atl_state.specs.Marks.{amount_number}
 use Rattle.atl_state.proofs.EveryEntryLaws.{entry_small}
+use Rattle.atl_state.proofs.ListLaws.{other_number}
 use Rattle.atl_instant.specs.Meaning.{Moving, both_move, most_moved, moves_only}
 use Rattle.atl_instant.specs.Quit.{quit_terms}
 use Rattle.atl_instant.specs.Terms.{EachPhase, Moved, MovesItsOwn, PhaseTerms, may_move, nothing_moved}
 use Rattle.atl_instant.specs.Unbooked.{moves_nothing}
-use Rattle.atl_instant.proofs.StructureLaws.{unequal}
 use Rattle.atl_instant.proofs.TermsLaws.{CloseTogether, Leaves}
 use Rattle.atl_instant.proofs.UnmailedStepLaws.{form_leaves, give_leaves, guard_leaves, name_leaves, place_leaves, quit_leaves, transfer_leaves}
 use Rattle.atl_action.proofs.UnmailedLearnLaws.{learn_leaves}
@@ -59,7 +59,7 @@ same_thing a x y false e true f = absurd (grind (arith, nat_tests, e, f))
 
 -- and those of two
 other_thing : (m n : ℕ) → m ≢ n → (if m == n then most_moved else 0) ≤ 0
-other_thing m n apart = subst (λ q. (if q then most_moved else 0) ≤ 0) (sym (unequal m n apart)) (omega arith)
+other_thing m n apart = subst (λ q. (if q then most_moved else 0) ≤ 0) (sym (other_number m n apart)) (omega arith)
 
 money_alone : (k : Entry) → MovesAlone (moves_only most_moved k Money) (record { money = k ∷ []; people = []; items = [] })
 money_alone k e Money = same_thing 0 (entry_place e) (entry_place k) (entry_place e == entry_place k) refl (amount_number e Money == amount_number k Money) refl

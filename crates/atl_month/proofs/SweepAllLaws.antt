@@ -9,6 +9,7 @@ use Rattle.std.specs.FinMap.{FinMap, entries, get, len-entries}
 use Rattle.atl_tables.specs.Planet.{Planet}
 use Rattle.atl_tables.specs.Limits.{most_amount}
 use Rattle.atl_tables.proofs.SumLaws.{chosen-cons}
+use Rattle.atl_tables.proofs.GeneralLaws.{is_equal, is_unequal}
 use Rattle.atl_state.specs.Books.{amount_in, entry_place, thing_place}
 use Rattle.atl_state.specs.declared.books.Entry.{Entry}
 use Rattle.atl_state.specs.declared.books.Entry.TheVariants.{Lost}
@@ -32,12 +33,6 @@ use Rattle.atl_state.specs.Limits.{most_units}
 
 -- ---- one unit
 
-without : (n : ℕ) → (n == 0) ≡ true → n ≡ 0
-without n t = grind (arith, nat_tests)
-
-has_some : (n : ℕ) → (n == 0) ≡ false → n ≢ 0
-has_some n t = grind (arith, nat_tests)
-
 module _ (w : Planet) (c : State) (n : ℕ) (steady : IsSteady w c) where
   pub swept_at_leaves_well : LeavesWell IsSteady (loses_by most_amount) w c (swept_at c n)
   unfolding swept_at
@@ -45,7 +40,7 @@ module _ (w : Planet) (c : State) (n : ℕ) (steady : IsSteady w c) where
     where
       by_men : (u : Unit) → get c.units n ≡ Some u → (b : Bool) → (u.holding.men == 0) ≡ b → LeavesWell IsSteady (loses_by most_amount) w c (swept_in c n (Some u))
       by_men u is true t =
-          subst (λ b. LeavesWell IsSteady (loses_by most_amount) w c (if b then without_unit (passed_on c (receiver c u.region u.faction) u) n else c)) (sym t) (swept_leaves_well w c n u is (without u.holding.men t) steady)
+          subst (λ b. LeavesWell IsSteady (loses_by most_amount) w c (if b then without_unit (passed_on c (receiver c u.region u.faction) u) n else c)) (sym t) (swept_leaves_well w c n u is (is_equal u.holding.men 0 t) steady)
       by_men u is false t = subst (λ b. LeavesWell IsSteady (loses_by most_amount) w c (if b then without_unit (passed_on c (receiver c u.region u.faction) u) n else c)) (sym t) (well_unchanged (loses_by most_amount) w c steady)
 
       by_unit : (o : Option Unit) → get c.units n ≡ o → LeavesWell IsSteady (loses_by most_amount) w c (swept_in c n o)
@@ -71,7 +66,7 @@ module _ (w : Planet) (c : State) (n : ℕ) (steady : IsSteady w c) where
           absurd (omega (arith, men, none, some)))
 
       by_men : (u : Unit) → get c.units n ≡ Some u → (b : Bool) → (u.holding.men == 0) ≡ b → Kept (swept_in c n (Some u))
-      by_men u is true t = subst (λ b. Kept (if b then without_unit (passed_on c (receiver c u.region u.faction) u) n else c)) (sym t) (all_but_it u is (without u.holding.men t))
+      by_men u is true t = subst (λ b. Kept (if b then without_unit (passed_on c (receiver c u.region u.faction) u) n else c)) (sym t) (all_but_it u is (is_equal u.holding.men 0 t))
       by_men u is false t = subst (λ b. Kept (if b then without_unit (passed_on c (receiver c u.region u.faction) u) n else c)) (sym t) same
 
       by_unit : (o : Option Unit) → get c.units n ≡ o → Kept (swept_in c n o)
@@ -89,13 +84,13 @@ module _ (w : Planet) (c : State) (n : ℕ) (steady : IsSteady w c) where
       by_men : (u : Unit) → get c.units n ≡ Some u → (b : Bool) → (u.holding.men == 0) ≡ b → Were (swept_in c n (Some u))
       by_men u is true t =
           subst (λ b. Were (if b then without_unit (passed_on c (receiver c u.region u.faction) u) n else c)) (sym t)
-          (λ m v there. let (apart, was) = others_were w c n u is (without u.holding.men t) steady m v there in (λ none. apart, was))
+          (λ m v there. let (apart, was) = others_were w c n u is (is_equal u.holding.men 0 t) steady m v there in (λ none. apart, was))
       by_men u is false t =
           subst (λ b. Were (if b then without_unit (passed_on c (receiver c u.region u.faction) u) n else c)) (sym t)
           (λ m v there. (
             λ none own.
                 let one : Some v ≡ Some u = sym there ∙ ap (get c.units) own ∙ is in
-                has_some u.holding.men t (sym (ap (λ (y : Unit). y.holding.men) (same_Some v u one)) ∙ none),
+                is_unequal u.holding.men 0 t (sym (ap (λ (y : Unit). y.holding.men) (same_Some v u one)) ∙ none),
             (v, there, kept-refl v),
           ))
 
@@ -117,8 +112,8 @@ at_least_one : (n : ℕ) → (n ≡ 0 → ⊥) → 1 ≤ n
 at_least_one n some = by_test (n == 0) refl
   where
     by_test : (b : Bool) → (n == 0) ≡ b → 1 ≤ n
-    by_test true t = absurd (some (without n t))
-    by_test false t = let one = has_some n t in grind (arith, nat_tests)
+    by_test true t = absurd (some (is_equal n 0 t))
+    by_test false t = let one = is_unequal n 0 t in grind (arith, nat_tests)
 
 module _ (w : Planet) where
   pub all_have_men : (ns : List ℕ) (c : State) → IsSteady w c → AreListed ns c → HaveMen (fold swept_at c ns)

@@ -6,16 +6,18 @@ use Rattle.std.specs.FinMap.{FinMap, get}
 use Rattle.std.proofs.lemmas.Bool.{cases_eq}
 use Rattle.std.proofs.lemmas.List.Sums.{sum_by-append, sum_by-cons}
 use Rattle.atl_tables.specs.Planet.{Planet}
+use Rattle.atl_tables.proofs.GeneralLaws.{is_equal}
 use Rattle.atl_state.specs.declared.event.Event.{Event}
 use Rattle.atl_state.specs.declared.records.Unit.{Unit}
 use Rattle.atl_state.specs.Held.{Held}
 use Rattle.atl_state.specs.State.{State}
 use Rattle.atl_state.proofs.EveryLaws.{get-insert_other}
 use Rattle.atl_state.proofs.RegionLaws.{get-insert_same}
+use Rattle.atl_state.proofs.ListLaws.{other_number}
 use Rattle.atl_instant.specs.Course.{Course}
 use Rattle.atl_instant.specs.Steps.{IsSpared}
 use Rattle.atl_instant.specs.Unmailed.{IsLessBy, starved_in, starved_told}
-use Rattle.atl_instant.proofs.StructureLaws.{equal, is_equal, unequal}
+use Rattle.atl_instant.proofs.StructureLaws.{equal}
 use Rattle.atl_instant.proofs.UnmailedLaws.{ClosesUnmailed, LeavesUnmailed, men_same, whole_leaves}
 use Rattle.atl_month.specs.declared.settling.Settled.{Settled}
 use Rattle.atl_month.specs.Season.{season_keeps, season_meaning}
@@ -67,7 +69,7 @@ supplied_at c s n u there = elim (cases_eq n s.unit) [
       let behind : get (upkeep_at c s).units n ≡ Some (supplied_unit s u) = ap (λ k. get (upkeep_at c s).units k) own ∙ ap (λ o. get (upkeep_in c s o).units s.unit) here ∙ get-insert_same c.units s.unit (supplied_unit s u) in
       record { unit = supplied_unit s u; there = behind; spared = subst (λ b. IsLessBy (if b then s.starved else 0) u (supplied_unit s u)) (sym (equal s.unit n (sym own))) (fewer_by s u) }
   | inr apart ↦
-      record { unit = u; there = by_unit apart (get c.units s.unit) ∙ there; spared = subst (λ b. IsLessBy (if b then s.starved else 0) u u) (sym (unequal s.unit n (λ same. apart (sym same)))) (nobody_less u) }
+      record { unit = u; there = by_unit apart (get c.units s.unit) ∙ there; spared = subst (λ b. IsLessBy (if b then s.starved else 0) u u) (sym (other_number s.unit n (λ same. apart (sym same)))) (nobody_less u) }
 ]
   where
     by_unit : n ≢ s.unit → (o : Option Unit) → get (upkeep_in c s o).units n ≡ get c.units n

@@ -1,17 +1,15 @@
 //! The sweep of a month.
-ghost use Rattle.std.specs.Prelude.{ℕ, ◌≡◌, ◌≤◌, ◌<◌, ◌+◌, IfOk, OnOk, Some, fold, length};
-ghost use Rattle.std.specs.FinMap as map;
+ghost use Rattle.std.specs.Prelude.{ℕ, ◌≡◌, ◌≤◌, ◌<◌, ◌+◌, IfOk, OnOk, fold, length};
 ghost use Rattle.atl_tables.specs.Limits.{most_amount};
 ghost use Rattle.atl_state.specs.Books.{IsGrid, amount_in, thing_place};
 ghost use Rattle.atl_state.specs.Covers.{MarksChanges};
 ghost use Rattle.atl_state.specs.Deciding.{EachOf};
 ghost use Rattle.atl_state.specs.Good.{IsSteady};
 ghost use Rattle.atl_state.specs.Held.{with_amount_of};
-ghost use Rattle.atl_state.specs.Lending.{lent};
 ghost use Rattle.atl_state.specs.Marking.{mark_amount};
 ghost use Rattle.atl_state.specs.declared.books.Entry.TheVariants.{Lost};
 ghost use Rattle.atl_state.specs.declared.books.Thing.TheVariants.{Item, Money};
-ghost use Rattle.atl_state.specs.declared.records.Unit.{Unit};
+ghost use Rattle.atl_instant.specs.Holdings.{ChangesHolding};
 ghost use Rattle.atl_instant.specs.Meaning.{HasRoom, HaveRoom, most_moved, moved_times};
 ghost use Rattle.atl_instant.specs.LostItems.{moving_items};
 ghost use Rattle.atl_month.specs.Sweep.{faction_swept, loses_by, menless, passed_item, passed_money, sweep_keeps, sweep_meaning, swept_at, taken_of, with_lost};
@@ -73,7 +71,7 @@ fn set_amount(
     amount: u32,
 ) -> Result<(), AllocError>
     requires { amount ≤ most_amount }
-    ensures { OnOk result ((u : Unit) → map.get campaign.old.what.units number ≡ Some u → campaign.new ≡ lent campaign.old number (record u.holding { items = with_amount_of u.holding.items item amount })) }
+    ensures { OnOk result (ChangesHolding campaign.old campaign.new number (λ h. record h { items = with_amount_of h.items item amount })) }
 {
     match campaign.unit_mut(number) {
         Some(holding) => holding.set_amount(item, amount),

@@ -2,7 +2,8 @@ use Rattle.std.proofs.Common.{◌≡◌, ◌≤◌, ◌+◌, ◌*◌, ◌++◌, 
 use Rattle.atl_state.specs.Deciding.{EachOf}
 use Rattle.atl_state.specs.Held.{amount_of}
 use Rattle.atl_state.specs.Limits.{most_days}
-use Rattle.atl_instant.specs.Transfer.{days_going, days_raised}
+use Rattle.atl_instant.specs.Raising.{raised_list}
+use Rattle.atl_instant.specs.Transfer.{days_going}
 use Rattle.atl_instant.proofs.transfer.days_raised.Given as goal
 
 abbrev pub invariant-loop-skill : goal.invariant-loop-skill
@@ -10,4 +11,4 @@ invariant-loop-skill l =
     (goal.iterator-loop-skill).can_next l.skill-iterator ×
     (goal.iterator-loop-skill).is_finite l.skill-iterator ×
     EachOf (λ s days. (1 ≤ days) × (days ≤ most_days * l.sender.men)) l.skill-iterator ×
-    (l.list.items ++ map (λ e. (e.0, amount_of l.receiver.days e.0 + days_going l.going l.men e.1)) l.skill-iterator ≡ days_raised l.going l.sender.men l.sender.days l.receiver.days)
+    (l.list.items ++ map (λ e. (e.0, amount_of l.receiver.days e.0 + days_going l.going l.men e.1)) l.skill-iterator ≡ raised_list l.going l.sender.men l.sender.days l.receiver.days)

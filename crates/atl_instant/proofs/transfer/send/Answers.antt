@@ -1,9 +1,13 @@
-use Rattle.std.proofs.Common.{◌≡◌, ◌+◌, ◌-◌, Some, refl, sym, ap, ◌∙◌}
+use Rattle.std.proofs.Common.{◌≡◌, ℕ, ◌≤◌, ◌+◌, ◌-◌, Some, sym, ap, ◌∙◌}
 use Rattle.std.specs.FinMap.{get}
+use Rattle.atl_state.specs.Good.{Every}
 use Rattle.atl_state.specs.Held.{Held}
 use Rattle.atl_state.specs.State.{State}
+use Rattle.atl_state.specs.declared.records.Unit.{Unit}
 use Rattle.atl_state.proofs.CoverLaws.{marks-trans}
-use Rattle.atl_instant.specs.Transfer.{with_days, with_fewer, with_more}
+use Rattle.atl_instant.specs.Raising.{with_days}
+use Rattle.atl_instant.specs.Transfer.{with_fewer, with_more}
+use Rattle.atl_instant.proofs.DaysLaws.{fewer_is, more_is}
 use Rattle.atl_instant.proofs.MovingLaws.{lent_marks, lent_what, receiver_still}
 use Rattle.atl_instant.proofs.TransferLaws.{sent_is}
 use Rattle.atl_instant.proofs.transfer.send.Goals as goal
@@ -16,10 +20,11 @@ returns-clause-what c =
     let v = c.in-Some-Some.receiver.now in
     let sender = sym c.in-Some-Some.ensures in
     let receiver = sym c.in-Some-Some.ensures' in
+    let listed : (x : Unit) (n : ℕ) → get before.what.units n ≡ Some x → Every (λ s days. 1 ≤ days) x.holding.days = (λ x n is s days there. (c.requires.days n x is s days there).0) in
     let h : Held = record u.holding { men = c.men.result - c.args.going; days = c.in_ok-left.left } in
     let k : Held = record v.holding { men = c.men-2.result + c.args.going; days = with_days v.holding.days c.deref.result.now } in
-    let h_is : h ≡ with_fewer c.args.going u.holding = rw (c.men.ensures.value, c.in_ok-left.ensures) refl in
-    let k_is : k ≡ with_more c.args.going u.holding v.holding = rw (c.men-2.ensures.value, c.deref.ensures.value, c.in_ok-raised.ensures) refl in
+    let h_is : h ≡ with_fewer c.args.going u.holding = rw (c.men.ensures.value, c.in_ok-left.ensures) (fewer_is c.args.going u.holding) in
+    let k_is : k ≡ with_more c.args.going u.holding v.holding = rw (c.men-2.ensures.value, c.deref.ensures.value, c.in_ok-raised.ensures) (more_is c.args.going u.holding v.holding (listed v c.args.to receiver)) in
     rw (sender, receiver)
     (sent_is before.what between.what c.add_men.new.campaign.what c.args.from c.args.to c.args.going u v h k c.requires.apart sender receiver h_is k_is
     (lent_what before between c.args.from u h sender (c.take_men.ensures u sender))

@@ -1,5 +1,5 @@
 use Rattle.std.proofs.Common.{◌≡◌, drop}
-use Rattle.atl_instant.specs.Transfer.{with_days}
+use Rattle.atl_instant.specs.Raising.{with_days}
 use Rattle.atl_instant.proofs.transfer.set_each.Given as goal
 
 abbrev pub invariant-loop-skill : goal.invariant-loop-skill

@@ -1,0 +1,76 @@
+-- Amounts that are each said on their own.
+use Rattle.std.proofs.Common.{◌≡◌, ◌==◌, ℕ, ◌≤◌, Bool, true, false, not, ◌||◌, cond, List, [], ◌∷◌, map, filter, Option, Some, None, refl, sym, ap, subst, ◌∙◌, arith}
+use Rattle.std.specs.Prelude.{unwrap_or}
+use Rattle.std.specs.List.{list_any}
+use Rattle.std.proofs.lemmas.Bool.Decides.{nat_tests}
+use Rattle.std.specs.Ordering.{nat_cmp, eq_by_cmp}
+use Rattle.std.specs.Cmp.{nat_cmp_total}
+use Rattle.std.specs.FinMap.{FinMap, find, get, get-from_entries, nat_cmp-IsAntisymmetric, same_map}
+use Rattle.atl_tables.proofs.GeneralLaws.{is_equal, same_key}
+use Rattle.atl_state.specs.Deciding.{EachOf}
+use Rattle.atl_state.specs.Good.{Every}
+use Rattle.atl_state.specs.Held.{amount_of}
+use Rattle.atl_state.proofs.EveryLaws.{found_of}
+use Rattle.atl_instant.specs.Amounts.{amounts_for}
+
+at_least_one : (n : ℕ) → (n == 0) ≡ false → 1 ≤ n
+at_least_one n some = grind (arith, nat_tests)
+
+module _ (f : ℕ → ℕ) where
+  abbrev IsSome : ℕ → ℕ → Type 0
+  IsSome n amount = (1 ≤ amount) × (amount ≡ f n)
+
+  abbrev listed : List ℕ → List (ℕ × ℕ)
+  listed ns = filter (λ e. not (e.1 == 0)) (map (λ n. (n, f n)) ns)
+
+  each_some : (ns : List ℕ) → EachOf IsSome (listed ns)
+  each_some [] = tt
+  each_some (n ∷ ns) = by_test (each_some ns) (f n == 0) refl
+    where
+      by_test : EachOf IsSome (listed ns) → (b : Bool) → (f n == 0) ≡ b → EachOf IsSome (cond (not b) ((n, f n) ∷ listed ns) (listed ns))
+      by_test rest true is = rest
+      by_test rest false is = ((at_least_one (f n) is, refl), rest)
+
+  -- what is listed is no 0, and as it is said
+  pub each_said : (ns : List ℕ) → Every IsSome (amounts_for f ns)
+  unfolding amounts_for
+  each_said ns n amount is = found_of IsSome (listed ns) n amount (each_some ns) (sym (get-from_entries nat_cmp_total (listed ns) n) ∙ is)
+
+  abbrev found : ℕ → List ℕ → ℕ
+  found q ns = unwrap_or (find nat_cmp q (listed ns)) 0
+
+  abbrev is_among : ℕ → List ℕ → Bool
+  is_among q ns = list_any (eq_by_cmp nat_cmp q) ns
+
+  found_said : (q : ℕ) (ns : List ℕ) → found q ns ≡ cond (is_among q ns) (f q) 0
+  found_said q [] = refl
+  found_said q (n ∷ ns) = by_tests (found_said q ns) (f n == 0) (eq_by_cmp nat_cmp q n) refl refl
+    where
+      both : (b : Bool) → 0 ≡ f q → cond b (f q) 0 ≡ f q
+      both true none = refl
+      both false none = none
+
+      by_tests : found q ns ≡ cond (is_among q ns) (f q) 0 → (b k : Bool) → (f n == 0) ≡ b → eq_by_cmp nat_cmp q n ≡ k → unwrap_or (find nat_cmp q (cond (not b) ((n, f n) ∷ listed ns) (listed ns))) 0 ≡ cond (k || is_among q ns) (f q) 0
+      by_tests rest true true none same = rest ∙ both (is_among q ns) (sym (ap f (same_key q n same) ∙ is_equal (f n) 0 none))
+      by_tests rest true false none other = rest
+      by_tests rest false true some same = ap (λ k. unwrap_or (cond k (Some (f n)) (find nat_cmp q (listed ns))) 0) same ∙ ap f (sym (same_key q n same))
+      by_tests rest false false some other = ap (λ k. unwrap_or (cond k (Some (f n)) (find nat_cmp q (listed ns))) 0) other ∙ rest
+
+  -- each amount is as it is said, where those that are not listed are 0
+  pub as_said : (ns : List ℕ) (q : ℕ) → (list_any (eq_by_cmp nat_cmp q) ns ≡ false → f q ≡ 0) → amount_of (amounts_for f ns) q ≡ f q
+  unfolding amounts_for
+  as_said ns q others = ap (λ (o : Option ℕ). unwrap_or o 0) (get-from_entries nat_cmp_total (listed ns) q) ∙ found_said q ns ∙ by_test (is_among q ns) refl
+    where
+      by_test : (b : Bool) → is_among q ns ≡ b → cond b (f q) 0 ≡ f q
+      by_test true is = refl
+      by_test false is = sym (others is)
+
+-- maps of the same amounts, of which none is 0, are one
+pub same_amounts : (m o : FinMap nat_cmp ℕ) → Every (λ n amount. 1 ≤ amount) m → Every (λ n amount. 1 ≤ amount) o → ((n : ℕ) → amount_of m n ≡ amount_of o n) → m ≡ o
+same_amounts m o some also same = same_map nat_cmp_total nat_cmp-IsAntisymmetric m o (λ n. by_options n (get m n) (get o n) refl refl (same n))
+  where
+    by_options : (n : ℕ) (a b : Option ℕ) → get m n ≡ a → get o n ≡ b → unwrap_or a 0 ≡ unwrap_or b 0 → a ≡ b
+    by_options n None None one two e = refl
+    by_options n None (Some y) one two e = let l = also n y two in absurd (omega (arith, l, e))
+    by_options n (Some x) None one two e = let l = some n x one in absurd (omega (arith, l, e))
+    by_options n (Some x) (Some y) one two e = ap Some e

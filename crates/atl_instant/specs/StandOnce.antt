@@ -1,0 +1,29 @@
+-- A law: of the verbs that share a slot, at most one order stands for a unit in a faction's mailing. See docs/RULES.md, "Orders of a month".
+use Rattle.std.specs.Prelude.{ℕ, Bool, false, ◌&&◌, ◌==◌, Option, Some, None}
+use Rattle.std.specs.List.{IsDistinct}
+use Rattle.std.specs.Ordering.{nat_cmp}
+use Rattle.std.specs.FinMap.{FinMap, values}
+use Rattle.atl_tables.specs.Planet.{Planet}
+use Rattle.atl_orders.specs.declared.verb.Verb.{Verb}
+use Rattle.atl_orders.specs.Mailing.{Reading}
+use Rattle.atl_orders.specs.Orders.{verb_of_order}
+use Rattle.atl_instant.specs.declared.standing.Slot.{Slot}
+use Rattle.atl_instant.specs.declared.written.Arrangement.{Arrangement}
+use Rattle.atl_instant.specs.Course.{Aliases}
+use Rattle.atl_instant.specs.Fit.{AreFit}
+use Rattle.atl_instant.specs.PhaseOrders.{Task, is_slot, orders_of, slot_of}
+
+-- both verbs take a slot, and it is the same
+abbrev pub are_of_slot : Option Slot → Option Slot → Bool
+are_of_slot None other = false
+are_of_slot (Some slot) other = is_slot slot other
+
+-- two orders of one faction for one unit in one slot
+abbrev pub share_slot : Task → Task → Bool
+share_slot t o = t.unit == o.unit && (t.faction == o.faction && are_of_slot (slot_of (verb_of_order t.said)) (slot_of (verb_of_order o.said)))
+
+-- no two orders of a phase are, in mailings as they can be read
+abbrev pub OneOrderStands : Type 0
+OneOrderStands =
+    (w : Planet) (is_of : Verb → Bool) (arrangement : Arrangement) (aliases : Aliases) (readings : FinMap nat_cmp Reading) → AreFit w readings →
+    IsDistinct share_slot (values (orders_of is_of arrangement aliases readings))
