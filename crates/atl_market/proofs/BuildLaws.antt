@@ -1,7 +1,7 @@
 -- BUILD leaves a campaign well, and spares who doesn't order it.
 use Rattle.std.proofs.Common.{◌≡◌, ◌≢◌, ◌==◌, ℕ, ◌+◌, ◌-◌, ◌*◌, ◌≤◌, ◌<◌, Bool, true, false, not, List, [], ◌∷◌, length, sum_by, Option, Some, None, refl, sym, ap, subst, ◌∙◌, arith}
 use Rattle.std.proofs.lemmas.Bool.{not-false, true≢false}
-use Rattle.std.specs.Prelude.{IfSome, min, nat_le, nat_lt, if◌then◌else◌}
+use Rattle.std.specs.Prelude.{IfSome, min, nat_le, nat_lt, option_and_then, option_map, if◌then◌else◌}
 use Rattle.std.specs.List.{slice_get}
 use Rattle.std.specs.Option.{option_map_or}
 use Rattle.std.proofs.lemmas.Bool.Decides.{nat_tests}
@@ -44,7 +44,7 @@ use Rattle.atl_instant.proofs.PlacingLaws.{place_stays}
 use Rattle.atl_instant.proofs.QuitLaws.{sum_within}
 use Rattle.atl_instant.proofs.StepLaws.{no_worse_spares, well_same, well_twice}
 use Rattle.atl_instant.proofs.UnbookedLaws.{stays_spared}
-use Rattle.atl_market.specs.Build.{CanBuild, begin, begin_fault, begin_with, build_moves, build_reserve, build_said, build_step, go_on, go_on_at, go_on_with, gone_on, inside_fault, is_structure_limit, new_structure, size_added, started, with_new}
+use Rattle.atl_market.specs.Build.{CanBuild, begin, begin_fault, build_moves, build_reserve, build_said, build_step, built_at, go_on, go_on_at, gone_on, inside_fault, is_structure_limit, new_structure, size_added, started, with_kind, with_new}
 use Rattle.atl_market.specs.Goods.{CanUse}
 use Rattle.atl_market.proofs.BuildBegunLaws.{built_well, raised_well, sort_name_ok}
 use Rattle.atl_market.proofs.BuildPlaceLaws.{place_well}
@@ -242,18 +242,14 @@ module _ (w : Planet) (c : State) (n : ℕ) (u : Unit) (s : Structure) (k : Kind
 -- ---- an order
 
 -- what is so of the campaign as it is, and of that in which the structure is begun, is so of the campaign behind the order
-begin_cases : (P : State → Type 0) (w : Planet) (c : State) (n kind : ℕ) (u : Unit) → P c
-    → ((k : Kind) → slice_get w.kinds kind ≡ Some k → CanBegin w c u k → P (started c n kind k u.region (size_added k u.holding 0))) → P (begin w n kind c u).0
+begin_cases : (P : State → Type 0) (w : Planet) (c : State) (n kind : ℕ) (k : Kind) (u : Unit) → P c
+    → (CanBegin w c u k → P (started c n kind k u.region (size_added k u.holding 0))) → P (begin w n kind k c u).0
 unfolding begin
-begin_cases P w c n kind u same go = by_kind (slice_get w.kinds kind) refl
+begin_cases P w c n kind k u same go = by_fault (begin_fault w c u k) refl
   where
-    by_fault : (k : Kind) → slice_get w.kinds kind ≡ Some k → (o : Option EventFault) → begin_fault w c u k ≡ o → P (unless c o (started c n kind k u.region (size_added k u.holding 0), Done (size_added k u.holding 0))).0
-    by_fault k kind_is (Some fault) e = same
-    by_fault k kind_is None e = go k kind_is (can_begin w c u k e)
-
-    by_kind : (o : Option Kind) → slice_get w.kinds kind ≡ o → P (begin_with w c n kind u o).0
-    by_kind None kind_is = same
-    by_kind (Some k) kind_is = by_fault k kind_is (begin_fault w c u k) refl
+    by_fault : (o : Option EventFault) → begin_fault w c u k ≡ o → P (unless c o (started c n kind k u.region (size_added k u.holding 0), Done (size_added k u.holding 0))).0
+    by_fault (Some fault) e = same
+    by_fault None e = go (can_begin w c u k e)
 
 -- and so where a unit goes on
 go_on_cases : (P : State → Type 0) (w : Planet) (c : State) (n : ℕ) (u : Unit) → P c
@@ -267,27 +263,27 @@ go_on_cases P w c n u same go = by_structure (get c.structures u.structure) refl
     by_fault s k there kind_is (Some fault) e = same
     by_fault s k there kind_is None e = go s k there kind_is (can_go_on u s k e)
 
-    by_kind : (s : Structure) → get c.structures u.structure ≡ Some s → (o : Option Kind) → slice_get w.kinds s.kind ≡ o → P (go_on_with c n u s o).0
-    by_kind s there None kind_is = same
-    by_kind s there (Some k) kind_is = by_fault s k there kind_is (inside_fault u s k) refl
-
     outside : (b : Bool) → P (unless c (if b then Some NoMen else Some NotInside) (c, Done 0)).0
     outside true = same
     outside false = same
 
-    by_structure : (o : Option Structure) → get c.structures u.structure ≡ o → P (go_on_at w c n u o).0
+    by_kind : (s : Structure) → get c.structures u.structure ≡ Some s → (o : Option Kind) → slice_get w.kinds s.kind ≡ o → P (go_on_at c n u (option_map (λ k. (s, k)) o)).0
+    by_kind s there None kind_is = outside (u.holding.men == 0)
+    by_kind s there (Some k) kind_is = by_fault s k there kind_is (inside_fault u s k) refl
+
+    by_structure : (o : Option Structure) → get c.structures u.structure ≡ o → P (go_on_at c n u (option_and_then (with_kind w) o)).0
     by_structure None there = outside (u.holding.men == 0)
     by_structure (Some s) there = by_kind s there (slice_get w.kinds s.kind) refl
 
 module _ (w : Planet) (c : State) (n : ℕ) (u : Unit) (is : get c.units n ≡ Some u) where
-  begin_well : (kind : ℕ) → CanBuild w c → StepsWell CanBuild build_reserve w c (begin w n kind c u).0
-  begin_well kind can = begin_cases (λ d. StepsWell CanBuild build_reserve w c d) w c n kind u (well_same w c can) (λ k kind_is fit. begun_well w c n kind u k is kind_is can fit)
+  begin_well : (kind : ℕ) (k : Kind) → slice_get w.kinds kind ≡ Some k → CanBuild w c → StepsWell CanBuild build_reserve w c (begin w n kind k c u).0
+  begin_well kind k kind_is can = begin_cases (λ d. StepsWell CanBuild build_reserve w c d) w c n kind k u (well_same w c can) (λ fit. begun_well w c n kind u k is kind_is can fit)
 
   go_on_well : CanBuild w c → StepsWell CanBuild build_reserve w c (go_on w n c u).0
   go_on_well can = go_on_cases (λ d. StepsWell CanBuild build_reserve w c d) w c n u (well_same w c can) (λ s k there kind_is fit. on_well w c n u s k is there kind_is can fit)
 
-  begin_stays : (kind j : ℕ) → j ≢ n → get (begin w n kind c u).0.units j ≡ get c.units j
-  begin_stays kind j apart = begin_cases (λ d. get d.units j ≡ get c.units j) w c n kind u refl (λ k kind_is fit. begun_stays w c n kind u k is j apart)
+  begin_stays : (kind : ℕ) (k : Kind) (j : ℕ) → j ≢ n → get (begin w n kind k c u).0.units j ≡ get c.units j
+  begin_stays kind k j apart = begin_cases (λ d. get d.units j ≡ get c.units j) w c n kind k u refl (λ fit. begun_stays w c n kind u k is j apart)
 
   go_on_stays : (j : ℕ) → j ≢ n → get (go_on w n c u).0.units j ≡ get c.units j
   go_on_stays j apart = go_on_cases (λ d. get d.units j ≡ get c.units j) w c n u refl (λ s k there kind_is fit. on_stays w c n u s k is j apart)
@@ -329,12 +325,20 @@ build_orderly = record {
 }
   where
     well : (w : Planet) (c : State) (n : ℕ) (x : Unit) → get c.units n ≡ Some x → CanBuild w c → (s : Said) → IfSome (build_said w n s) (λ deed. StepsWell CanBuild build_reserve w c (deed c x).0)
-    well w c n x is can (orders.Build (Some kind)) = begin_well w c n x is kind can
+    well w c n x is can (orders.Build (Some kind)) = by_kind (slice_get w.kinds kind) refl
+      where
+        by_kind : (o : Option Kind) → slice_get w.kinds kind ≡ o → IfSome (option_map (begin w n kind) o) (λ deed. StepsWell CanBuild build_reserve w c (deed c x).0)
+        by_kind None kind_is = tt
+        by_kind (Some k) kind_is = begin_well w c n x is kind k kind_is can
     well w c n x is can (orders.Build None) = go_on_well w c n x is can
     well w c n x is can other = tt
 
     stays : (w : Planet) (c : State) (n : ℕ) (x : Unit) → get c.units n ≡ Some x → (j : ℕ) → j ≢ n → (s : Said) → IfSome (build_said w n s) (λ deed. get (deed c x).0.units j ≡ get c.units j)
-    stays w c n x is j apart (orders.Build (Some kind)) = begin_stays w c n x is kind j apart
+    stays w c n x is j apart (orders.Build (Some kind)) = by_kind (slice_get w.kinds kind)
+      where
+        by_kind : (o : Option Kind) → IfSome (option_map (begin w n kind) o) (λ deed. get (deed c x).0.units j ≡ get c.units j)
+        by_kind None = tt
+        by_kind (Some k) = begin_stays w c n x is kind k j apart
     stays w c n x is j apart (orders.Build None) = go_on_stays w c n x is j apart
     stays w c n x is j apart other = tt
 
@@ -355,18 +359,22 @@ can_use w c n item amount u is enough known can room = record {
 
 -- ---- what the code does is what is said
 
+-- a structure and its kind that stand under a number
+built_is_both : (w : Planet) (c : State) (place : ℕ) (s : Structure) (k : Kind) → get c.structures place ≡ Some s → slice_get w.kinds s.kind ≡ Some k → built_at w c place ≡ Some (s, k)
+built_is_both w c place s k there kind_is = ap (option_and_then (with_kind w)) there ∙ ap (option_map {U = Structure × Kind} (λ x. (s, x))) kind_is
+
 abbrev begun_told : State → (n kind : ℕ) → Kind → (region size : ℕ) → State × Outcome
 begun_told c n kind k region size = (started c n kind k region size, Done size)
 
 abbrev on_told : State → (n material size place done : ℕ) → State × Outcome
 on_told c n material size place done = (gone_on c n material size place done, Done size)
 
-pub begin_done : (w : Planet) (c d : State) (f n kind : ℕ) (u : Unit) (k : Kind) (size told : ℕ) → of_faction f (get c.units n) ≡ Some u → slice_get w.kinds kind ≡ Some k → begin_fault w c u k ≡ None
-    → d ≡ started c n kind k u.region size → told ≡ size → size ≡ size_added k u.holding 0 → (d, Done told) ≡ carried (begin w n kind) c f n
+pub begin_done : (w : Planet) (c d : State) (f n kind : ℕ) (u : Unit) (k : Kind) (size told : ℕ) → of_faction f (get c.units n) ≡ Some u → begin_fault w c u k ≡ None
+    → d ≡ started c n kind k u.region size → told ≡ size → size ≡ size_added k u.holding 0 → (d, Done told) ≡ carried (begin w n kind k) c f n
 unfolding begin
-begin_done w c d f n kind u k size told is kind_is none first told_is size_is =
+begin_done w c d f n kind u k size told is none first told_is size_is =
     let whole = begun_told c n kind k u.region (size_added k u.holding 0) in
-    let chain : carried (begin w n kind) c f n ≡ whole = ap (done_for (begin w n kind) c) is ∙ ap (begin_with w c n kind u) kind_is ∙ ap (λ o. unless c o whole) none in
+    let chain : carried (begin w n kind k) c f n ≡ whole = ap (done_for (begin w n kind k) c) is ∙ ap (λ o. unless c o whole) none in
     rw (first, told_is, size_is) (sym chain)
 
 pub go_on_done : (w : Planet) (c d : State) (f n : ℕ) (u : Unit) (s : Structure) (k : Kind) (size told : ℕ) → of_faction f (get c.units n) ≡ Some u → get c.structures u.structure ≡ Some s → slice_get w.kinds s.kind ≡ Some k
@@ -375,7 +383,7 @@ unfolding go_on
 go_on_done w c d f n u s k size told is there kind_is none first told_is size_is =
     let added = size_added k u.holding s.done in
     let whole = on_told c n k.material added u.structure (s.done + added) in
-    let chain : carried (go_on w n) c f n ≡ whole = ap (done_for (go_on w n) c) is ∙ ap (go_on_at w c n u) there ∙ ap (go_on_with c n u s) kind_is ∙ ap (λ o. unless c o whole) none in
+    let chain : carried (go_on w n) c f n ≡ whole = ap (done_for (go_on w n) c) is ∙ ap (go_on_at c n u) (built_is_both w c u.structure s k there kind_is) ∙ ap (λ o. unless c o whole) none in
     rw (first, told_is, size_is) (sym chain)
 
 -- what is done then isn't more than the kind's size

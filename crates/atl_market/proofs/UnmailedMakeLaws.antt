@@ -1,6 +1,6 @@
 -- What BUILD and PRODUCE leave to the units of a faction that sent no mailing.
 use Rattle.std.proofs.Common.{◌≡◌, ◌+◌, ◌-◌, ◌*◌, ℕ, Option, Some, None, refl}
-use Rattle.std.specs.Prelude.{IfSome}
+use Rattle.std.specs.Prelude.{IfSome, option_and_then, option_map}
 use Rattle.std.specs.List.{slice_get}
 use Rattle.std.specs.Ordering.{nat_cmp}
 use Rattle.std.specs.FinMap.{FinMap, get}
@@ -18,7 +18,7 @@ use Rattle.atl_state.specs.State.{State}
 use Rattle.atl_instant.specs.Course.{Course}
 use Rattle.atl_instant.proofs.UnmailedLaws.{HaveTheirMen, LeavesUnmailed, OthersHaveMen, SparesMen, carried_leaves, items_of_no_worse, men_put, men_same, men_stay, men_twice, men_unless, others_men, own_faction, unmailed_spared}
 use Rattle.atl_instant.proofs.UnmailedStepLaws.{place_men}
-use Rattle.atl_market.specs.Build.{begin, begin_fault, begin_with, build_keeps, build_meaning, build_said, build_step, go_on, go_on_at, go_on_with, gone_on, inside_fault, is_building, outside_fault, size_added, started, with_new}
+use Rattle.atl_market.specs.Build.{begin, begin_fault, build_keeps, build_meaning, build_said, build_step, go_on, go_on_at, gone_on, inside_fault, is_building, outside_fault, size_added, started, with_kind, with_new}
 use Rattle.atl_market.specs.Goods.{made_to, used_by, with_made, with_used}
 use Rattle.atl_market.specs.Asking.{asked_of, item_in}
 use Rattle.atl_market.specs.PotPhase.{PotMeaning}
@@ -47,13 +47,9 @@ begun_men c n kind k region size =
     men_twice c used (with_place new n region c.next_structure) (used_men c n k.material size)
     (men_twice used new (with_place new n region c.next_structure) (men_same used new refl) (place_men new n region c.next_structure))
 
-begin_men : (w : Planet) (c : State) (n kind : ℕ) (u : Unit) → HaveTheirMen c (begin w n kind c u).0
+begin_men : (w : Planet) (c : State) (n kind : ℕ) (k : Kind) (u : Unit) → HaveTheirMen c (begin w n kind k c u).0
 unfolding begin
-begin_men w c n kind u = by_kind (slice_get w.kinds kind)
-  where
-    by_kind : (o : Option Kind) → HaveTheirMen c (begin_with w c n kind u o).0
-    by_kind None = men_stay c
-    by_kind (Some k) = let size = size_added k u.holding 0 in men_unless c (started c n kind k u.region size) (Done size) (begin_fault w c u k) (begun_men c n kind k u.region size)
+begin_men w c n kind k u = let size = size_added k u.holding 0 in men_unless c (started c n kind k u.region size) (Done size) (begin_fault w c u k) (begun_men c n kind k u.region size)
 
 gone_on_men : (c : State) (n material size place done : ℕ) → HaveTheirMen c (gone_on c n material size place done)
 gone_on_men c n material size place done = let used = with_used c n material size in men_twice c used (gone_on c n material size place done) (used_men c n material size) (men_same used (gone_on c n material size place done) refl)
@@ -62,16 +58,20 @@ go_on_men : (w : Planet) (c : State) (n : ℕ) (u : Unit) → HaveTheirMen c (go
 unfolding go_on
 go_on_men w c n u = by_structure (get c.structures u.structure)
   where
-    by_kind : (s : Structure) (o : Option Kind) → HaveTheirMen c (go_on_with c n u s o).0
-    by_kind s None = men_stay c
+    by_kind : (s : Structure) (o : Option Kind) → HaveTheirMen c (go_on_at c n u (option_map (λ k. (s, k)) o)).0
+    by_kind s None = men_unless c c (Done 0) (outside_fault u) (men_stay c)
     by_kind s (Some k) = let size = size_added k u.holding s.done in men_unless c (gone_on c n k.material size u.structure (s.done + size)) (Done size) (inside_fault u s k) (gone_on_men c n k.material size u.structure (s.done + size))
 
-    by_structure : (o : Option Structure) → HaveTheirMen c (go_on_at w c n u o).0
+    by_structure : (o : Option Structure) → HaveTheirMen c (go_on_at c n u (option_and_then (with_kind w) o)).0
     by_structure None = men_unless c c (Done 0) (outside_fault u) (men_stay c)
     by_structure (Some s) = by_kind s (slice_get w.kinds s.kind)
 
 built_men : (w : Planet) (c : State) (f n : ℕ) (x : Unit) (s : Said) → IfSome (build_said w n s) (λ deed. OthersHaveMen f c (deed c x).0)
-built_men w c f n x (orders.Build (Some kind)) = others_men f c (begin w n kind c x).0 (begin_men w c n kind x)
+built_men w c f n x (orders.Build (Some kind)) = by_kind (slice_get w.kinds kind)
+  where
+    by_kind : (o : Option Kind) → IfSome (option_map (begin w n kind) o) (λ deed. OthersHaveMen f c (deed c x).0)
+    by_kind None = tt
+    by_kind (Some k) = others_men f c (begin w n kind k c x).0 (begin_men w c n kind k x)
 built_men w c f n x (orders.Build None) = others_men f c (go_on w n c x).0 (go_on_men w c n x)
 built_men w c f n x other = tt
 

@@ -1,5 +1,5 @@
 -- BUILD: units begin structures, and go on with those that they are inside. See docs/RULES.md, "Building".
-use Rattle.std.specs.Prelude.{◌≡◌, length, ◌++◌, ℕ, ◌+◌, ◌-◌, ◌*◌, ◌==◌, min, nat_le, nat_lt, not, Bool, true, false, List, [], ◌∷◌, codes, Option, Some, None, if◌then◌else◌}
+use Rattle.std.specs.Prelude.{◌≡◌, length, ◌++◌, ℕ, ◌+◌, ◌-◌, ◌*◌, ◌==◌, min, nat_le, nat_lt, not, Bool, true, false, List, [], ◌∷◌, codes, Option, Some, None, option_and_then, option_map, if◌then◌else◌}
 use Rattle.std.specs.Fmt.{decimal}
 use Rattle.std.specs.List.{slice_get}
 use Rattle.std.specs.FinMap.{get, len}
@@ -76,14 +76,10 @@ with_new c kind k region size = with_structure_begun c (new_structure c.next_str
 abbrev pub started : State → (n kind : ℕ) → Kind → (region size : ℕ) → State
 started c n kind k region size = with_place (with_new (with_used c n k.material size) kind k region size) n region c.next_structure
 
-abbrev pub begin_with : Planet → State → (n kind : ℕ) → Unit → Option Kind → State × Outcome
-begin_with w c n kind u None = (c, Done 0)
-begin_with w c n kind u (Some k) =
+unfoldable pub begin : Planet → (n kind : ℕ) → Kind → Deed
+begin w n kind k c u =
     let size = size_added k u.holding 0 in
     unless c (begin_fault w c u k) (started c n kind k u.region size, Done size)
-
-unfoldable pub begin : Planet → (n kind : ℕ) → Deed
-begin w n kind c u = begin_with w c n kind u (slice_get w.kinds kind)
 
 -- ---- BUILD
 
@@ -104,23 +100,27 @@ inside_fault u s k = first_fault (
 abbrev pub gone_on : State → (n material size place done : ℕ) → State
 gone_on c n material size place done = with_done (with_used c n material size) place done
 
-abbrev pub go_on_with : State → (n : ℕ) → Unit → Structure → Option Kind → State × Outcome
-go_on_with c n u s None = (c, Done 0)
-go_on_with c n u s (Some k) =
+-- a structure with its kind
+abbrev pub with_kind : Planet → Structure → Option (Structure × Kind)
+with_kind w s = option_map (λ k. (s, k)) (slice_get w.kinds s.kind)
+
+-- those under a number
+abbrev pub built_at : Planet → State → (place : ℕ) → Option (Structure × Kind)
+built_at w c place = option_and_then (with_kind w) (get c.structures place)
+
+abbrev pub go_on_at : State → (n : ℕ) → Unit → Option (Structure × Kind) → State × Outcome
+go_on_at c n u None = unless c (outside_fault u) (c, Done 0)
+go_on_at c n u (Some (s, k)) =
     let size = size_added k u.holding s.done in
     unless c (inside_fault u s k) (gone_on c n k.material size u.structure (s.done + size), Done size)
 
-abbrev pub go_on_at : Planet → State → (n : ℕ) → Unit → Option Structure → State × Outcome
-go_on_at w c n u None = unless c (outside_fault u) (c, Done 0)
-go_on_at w c n u (Some s) = go_on_with c n u s (slice_get w.kinds s.kind)
-
 unfoldable pub go_on : Planet → (n : ℕ) → Deed
-go_on w n c u = go_on_at w c n u (get c.structures u.structure)
+go_on w n c u = go_on_at c n u (built_at w c u.structure)
 
 -- ---- the step
 
 abbrev pub build_said : Planet → (n : ℕ) → Said → Option Deed
-build_said w n (orders.Build (Some kind)) = Some (begin w n kind)
+build_said w n (orders.Build (Some kind)) = option_map (begin w n kind) (slice_get w.kinds kind)
 build_said w n (orders.Build None) = Some (go_on w n)
 build_said w n other = None
 

@@ -162,33 +162,32 @@ fn start(
     Ok(())
 }
 
-/// A unit begins a structure of a kind, or nothing changes where a fault fits.
+/// A unit begins a structure of a kind, by its number, or nothing changes where a fault fits.
 #[tactic(auto, unfolding(crate::specs::Build::begin))]
 fn begin(
     alloc: Global,
     world: &World,
     campaign: &mut Campaign,
     order: Written,
-    kind: u16,
+    number: u16,
+    kind: &Kind,
 ) -> Result<Outcome, AllocError>
+    requires kind { slice_get world.now.kinds number ≡ Some kind.now }
     requires can { CanBuild world.now campaign.old.what }
     requires room { HaveRoom (build_reserve campaign.old.what) campaign.old.what }
-    ensures what { IfOk result (λ outcome. (campaign.new.what, outcome) ≡ carried (begin world.now order.unit kind) campaign.old.what order.faction order.unit) }
+    ensures what { IfOk result (λ outcome. (campaign.new.what, outcome) ≡ carried (begin world.now order.unit number kind.now) campaign.old.what order.faction order.unit) }
     ensures marks { OnOk result (MarksChanges campaign.old campaign.new) }
 {
     let Some(unit) = own_unit(campaign, order) else {
         return Ok(failed(EventFault::NotYours));
     };
-    let Some(found) = kind_of(world, kind) else {
-        return Ok(Outcome::Done(0));
-    };
-    if let Some(fault) = begin_fault(world, campaign, unit, found) {
+    if let Some(fault) = begin_fault(world, campaign, unit, kind) {
         return Ok(failed(fault));
     }
-    let size = size_added(found, &unit.holding, 0);
+    let size = size_added(kind, &unit.holding, 0);
     let region = unit.region;
     start(
-        alloc, world, campaign, order.unit, kind, found, region, size,
+        alloc, world, campaign, order.unit, number, kind, region, size,
     )?;
     Ok(Outcome::Done(u64::from(size)))
 }
@@ -228,7 +227,7 @@ fn go_on(world: &World, campaign: &mut Campaign, order: Written) -> Result<Outco
         return Ok(failed(outside_fault(unit)));
     };
     let Some(kind) = kind_of(world, structure.kind) else {
-        return Ok(Outcome::Done(0));
+        return Ok(failed(outside_fault(unit)));
     };
     if let Some(fault) = inside_fault(unit, structure, kind) {
         return Ok(failed(fault));
@@ -275,7 +274,10 @@ impl OrderPhase for BuildPhase {
         what: &Order,
     ) -> Result<Option<Outcome>, AllocError> {
         match what {
-            Order::Build(Some(kind)) => Ok(Some(begin(alloc, world, campaign, order, *kind)?)),
+            Order::Build(Some(number)) => match kind_of(world, *number) {
+                Some(kind) => Ok(Some(begin(alloc, world, campaign, order, *number, kind)?)),
+                None => Ok(None),
+            },
             Order::Build(None) => Ok(Some(go_on(world, campaign, order)?)),
             _ => Ok(None),
         }
