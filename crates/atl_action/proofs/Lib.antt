@@ -10,3 +10,4 @@ pub mod MentionLaws
 pub mod OnceLaws
 pub mod StudyLaws
 pub mod UnmailedLearnLaws
+pub mod StudyAloneLaws

@@ -151,7 +151,7 @@ payable_fee h cost e =
     not_less h.money cost two.0
 
 -- what is so of the campaign as it is, and of that in which the unit studied, is so of the campaign behind the order
-study_cases : (P : State → Type 0) (w : Planet) (taught : ℕ) (c : State) (n s : ℕ) (u : Unit) → P c
+pub study_cases : (P : State → Type 0) (w : Planet) (taught : ℕ) (c : State) (n s : ℕ) (u : Unit) → P c
     → ((days : ℕ) → fee_of w s * u.holding.men ≤ u.holding.money → days ≤ most_days * u.holding.men → P (studied c n u s (fee_of w s * u.holding.men) days))
     → P (study w taught n s c u).0
 unfolding study
@@ -170,7 +170,7 @@ study_well w taught c n s u is steady known =
     study_cases (λ d. StepsWell IsSteady study_reserve w c d) w taught c n s u (well_same w c steady)
     (λ days payable most. studied_well w c n u s (fee_of w s * u.holding.men) days is steady payable known most)
 
-study_stays : (w : Planet) (taught : ℕ) (c : State) (n s : ℕ) (u : Unit) (k : ℕ) → k ≢ n → get (study w taught n s c u).0.units k ≡ get c.units k
+pub study_stays : (w : Planet) (taught : ℕ) (c : State) (n s : ℕ) (u : Unit) (k : ℕ) → k ≢ n → get (study w taught n s c u).0.units k ≡ get c.units k
 study_stays w taught c n s u k apart =
     study_cases (λ d. get d.units k ≡ get c.units k) w taught c n s u refl
     (λ days payable most. get-insert_other c.units n k (record u { holding = with_study u.holding s (fee_of w s * u.holding.men) days }) apart)

@@ -24,10 +24,10 @@ use Rattle.atl_action.specs.Teach.{Taught, is_teaching, listed, taught_out, teac
 -- ---- TEACH tells its events and changes nothing else of the month
 
 -- the month with as many who starved, and the same mailings and aliases
-record IsTold (before after : Course) : Type 0 where
-  readings : after.readings ≡ before.readings
-  aliases : after.aliases ≡ before.aliases
-  starved : (n : ℕ) → starved_in after.events n ≡ starved_in before.events n
+pub record IsTold (before after : Course) : Type 0 where
+  pub readings : after.readings ≡ before.readings
+  pub aliases : after.aliases ≡ before.aliases
+  pub starved : (n : ℕ) → starved_in after.events n ≡ starved_in before.events n
 
 lesson_told : (c : State) (learning : Learning) (p : Taught × Course) (t : Task) → IsTold p.1 (teach_order c learning p t).1
 lesson_told c learning (taught, m) t = record {
@@ -43,7 +43,7 @@ lessons_told c learning p (t ∷ ts) =
     let rest = lessons_told c learning (teach_order c learning p t) ts in
     record { readings = rest.readings ∙ one.readings; aliases = rest.aliases ∙ one.aliases; starved = λ n. rest.starved n ∙ one.starved n }
 
-taught_told : (c : State) (learning : Learning) (m : Course) → IsTold m (taught_out c learning m).1
+pub taught_told : (c : State) (learning : Learning) (m : Course) → IsTold m (taught_out c learning m).1
 unfolding taught_out
 taught_told c learning m = lessons_told c learning (empty, m) (values (orders_of is_teaching ByUnit m.aliases m.readings))
 

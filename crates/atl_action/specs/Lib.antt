@@ -5,3 +5,4 @@ pub mod Sail
 pub mod Learners
 pub mod Teach
 pub mod Study
+pub mod StudyAlone

@@ -1,6 +1,7 @@
 //! TEACH and STUDY.
 ghost use Rattle.atl_state.specs.Good.{IsSteady};
 ghost use Rattle.atl_action.specs.Study.{learn_keeps, learn_meaning, study_moves};
+ghost use Rattle.atl_action.specs.StudyAlone.{UnitsStudyAsBegun};
 
 use crate::learners::learners;
 use crate::study::Studying;
@@ -39,3 +40,9 @@ impl Phase for LearnPhase {
         Ok((campaign, month))
     }
 }
+
+/// Does nothing. Its clause is the law of STUDY: behind the phase a unit is as its own order makes it alone, in the campaign as
+/// the phase began. See docs/RULES.md, "Learning".
+pub fn units_study_as_begun()
+    ensures { UnitsStudyAsBegun }
+{}

@@ -10,7 +10,7 @@ mod teach;
 mod walk;
 mod ways;
 
-pub use learn::LearnPhase;
+pub use learn::{LearnPhase, units_study_as_begun};
 pub use learners::units_learn_by_orders;
 pub use sail::SailPhase;
 pub use teach::nobody_is_taught_twice;

@@ -1,6 +1,8 @@
 //! Calls that only state a law.
-use atl_action::{nobody_is_taught_twice, units_learn_by_orders};
-use atl_instant::{days_go_with_men, mailings_have_no_order, orders_are_in_mailings};
+use atl_action::{nobody_is_taught_twice, units_learn_by_orders, units_study_as_begun};
+use atl_instant::{
+    days_go_with_men, mailings_have_no_order, one_order_stands, orders_are_in_mailings,
+};
 use atl_market::pots::{each_pot_is_shared, takers_alone_get};
 use atl_market::produce::units_produce_all_at_once;
 use atl_market::recruit::recruits_join_all_at_once;
@@ -15,6 +17,7 @@ use atl_month::{
 fn laws_are_called() {
     mailings_have_no_order();
     orders_are_in_mailings();
+    one_order_stands();
     takers_alone_get();
     each_pot_is_shared();
     splitting_keeps_others();
@@ -25,6 +28,7 @@ fn laws_are_called() {
     work_pays_all_at_once();
     nobody_is_taught_twice();
     units_learn_by_orders();
+    units_study_as_begun();
     months_have_no_order();
     phases_move_little();
     one_phase_has_room();
