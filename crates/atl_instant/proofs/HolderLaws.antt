@@ -2,7 +2,7 @@
 use Rattle.std.proofs.Common.{◌≡◌, ◌==◌, ℕ, Bool, true, false, not, ◌&&◌, ◌||◌, List, [], ◌∷◌, Option, Some, None, refl, sym, ap, subst, ◌∙◌, inl, inr, arith}
 use Rattle.std.specs.Prelude.{if◌then◌else◌, nat_lt}
 use Rattle.std.specs.List.{list_any}
-use Rattle.std.proofs.lemmas.Bool.{cases_eq, false_from_ne_true}
+use Rattle.std.proofs.lemmas.Bool.{cases_eq}
 use Rattle.std.proofs.lemmas.Bool.Decides.{nat_tests}
 use Rattle.std.proofs.lemmas.Option.{same_Some}
 use Rattle.std.specs.FinMap.{empty, entries, get, get-empty, insert}
@@ -14,7 +14,6 @@ use Rattle.atl_state.specs.Deciding.{EachOf}
 use Rattle.atl_state.specs.Good.{AreOfOneFaction, Every, guards}
 use Rattle.atl_state.specs.State.{State, numbers_in, with_guard}
 use Rattle.atl_state.proofs.EveryLaws.{each-from_every, every-from_each, every-insert, get-insert_other, none_some}
-use Rattle.atl_state.proofs.ListLaws.{other_number}
 use Rattle.atl_state.proofs.RegionLaws.{get-insert_same}
 use Rattle.atl_state.proofs.RemovedLaws.{IsListed, listed_passing, passing_listed}
 use Rattle.atl_instant.specs.Guard.{guard_fault, guards_against, is_guarded_against}

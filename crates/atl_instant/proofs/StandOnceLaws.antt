@@ -5,7 +5,6 @@ use Rattle.std.proofs.lemmas.Option.{same_Some}
 use Rattle.std.specs.declared.cmp.Ordering.{Ordering}
 use Rattle.std.specs.declared.cmp.Ordering.TheVariants.{Less, Equal, Greater}
 use Rattle.std.specs.Ordering.{is_lt, nat_cmp, ordering_reverse}
-use Rattle.std.specs.Cmp.{IsTotalOrder}
 use Rattle.std.specs.Cmp.Lexicographic.{slice_cmp, nat_list_cmp_total}
 use Rattle.std.specs.List.{AllByRecursion, IsDistinct}
 use Rattle.std.specs.FinMap.{FinMap, entries, entries_sorted, from_entries, get, is_sorted, nat_cmp-IsAntisymmetric, slice_cmp-IsAntisymmetric}
@@ -24,7 +23,7 @@ use Rattle.atl_instant.specs.declared.standing.Slot.TheVariants.{MonthLong, Taxi
 use Rattle.atl_instant.specs.declared.written.Arrangement.{Arrangement}
 use Rattle.atl_instant.specs.Course.{Aliases}
 use Rattle.atl_instant.specs.Fit.{AreFit}
-use Rattle.atl_instant.specs.PhaseOrders.{IsInMailing, Task, is_slot, key_of, last_line, slot_number, slot_of, stands, stands_in, tasks_for, tasks_from, tasks_of, unit_of}
+use Rattle.atl_instant.specs.PhaseOrders.{IsInMailing, Task, key_of, last_line, slot_number, slot_of, stands, stands_in, tasks_for, tasks_from, tasks_of, unit_of}
 use Rattle.atl_instant.specs.StandOnce.{OneOrderStands, are_of_slot, share_slot}
 use Rattle.atl_instant.proofs.WrittenLaws.{entries-listed, in_mailings, keyed_entries}
 

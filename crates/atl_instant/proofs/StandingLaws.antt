@@ -4,7 +4,6 @@ use Rattle.std.specs.Prelude.{unwrap_or}
 use Rattle.std.specs.Ordering.{nat_cmp}
 use Rattle.std.specs.Cmp.{nat_cmp_total, unsigned_ties}
 use Rattle.std.specs.FinMap.{get, insert, empty, get-insert, get-empty}
-use Rattle.std.proofs.lemmas.Bool.Decides.{nat_tests}
 use Rattle.atl_tables.specs.Groups.{group_of}
 use Rattle.atl_tables.proofs.GeneralLaws.{equal_turned, is_equal}
 use Rattle.atl_orders.specs.declared.mailing.Entry.{Entry}

@@ -12,7 +12,6 @@ use Rattle.atl_orders.specs.Orders.{Said}
 use Rattle.atl_state.specs.declared.event.EventFault.{EventFault}
 use Rattle.atl_state.specs.declared.event.Outcome.TheVariants.{Done}
 use Rattle.atl_state.specs.declared.records.Unit.{Unit}
-use Rattle.atl_state.specs.Good.{Every}
 use Rattle.atl_state.specs.Held.{Held}
 use Rattle.atl_state.specs.Lending.{with_held}
 use Rattle.atl_state.specs.Owners.{handed, heir, placed, with_place, with_place_at, without_unit, without_unit_at}

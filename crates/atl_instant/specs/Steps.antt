@@ -1,5 +1,5 @@
 -- A phase that carries its orders out one by one: each sees what the one before left. See docs/RULES.md, "Orders of a month".
-use Rattle.std.specs.Prelude.{ℕ, ℤ, pos, ◌≡◌, ◌≤◌, ◌+ℤ◌, ◌≤ℤ◌, ◌==◌, ◌++◌, Bool, true, false, List, [], ◌∷◌, Option, Some, None, IfSome, fold, if◌then◌else◌}
+use Rattle.std.specs.Prelude.{ℕ, ℤ, pos, ◌≡◌, ◌≤◌, ◌+ℤ◌, ◌≤ℤ◌, ◌==◌, ◌++◌, Bool, false, List, [], ◌∷◌, Option, Some, None, IfSome, fold, if◌then◌else◌}
 use Rattle.std.specs.List.{All}
 use Rattle.std.specs.FinMap.{get, values}
 use Rattle.atl_tables.specs.Planet.{Planet}
