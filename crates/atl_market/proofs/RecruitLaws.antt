@@ -1,13 +1,15 @@
 -- Recruiting leaves a campaign well.
-use Rattle.std.proofs.Common.{◌≡◌, ◌≢◌, ◌==◌, ℕ, ◌+◌, ◌-◌, ◌*◌, ◌/◌, ◌≤◌, false, cond, Option, Some, None, List, [], ◌∷◌, length, refl, sym, ap, subst, ◌∙◌, arith}
+use Rattle.std.proofs.Common.{◌≡◌, ◌≢◌, ◌==◌, ℕ, ◌+◌, ◌-◌, ◌*◌, ◌/◌, ◌≤◌, Bool, true, false, cond, Option, Some, None, List, [], ◌∷◌, length, refl, sym, ap, subst, ◌∙◌, arith}
 use Rattle.std.specs.Prelude.{ℤ, fold, pos, neg_ℤ, ◌+ℤ◌, min}
 use Rattle.std.specs.List.{AllByRecursion}
-use Rattle.std.specs.Ordering.{nat_cmp}
-use Rattle.std.specs.FinMap.{FinMap, entries, get, insert}
+use Rattle.std.specs.Ordering.{eq_by_cmp, nat_cmp}
+use Rattle.std.specs.Cmp.{nat_cmp_total}
+use Rattle.std.specs.FinMap.{FinMap, entries, get, get-insert, insert, nat_cmp-IsAntisymmetric, same_map}
 use Rattle.std.proofs.lemmas.Int.{ints}
 use Rattle.std.proofs.lemmas.Bool.Decides.{nat_tests}
 use Rattle.std.proofs.Math.Nat.{div-le_self, mul-div-le, mul-le-mul_right, mul_comm}
 use Rattle.atl_tables.specs.Planet.{Planet}
+use Rattle.atl_tables.specs.Sums.{changed, changed_at}
 use Rattle.atl_state.specs.declared.books.Entry.{Entry}
 use Rattle.atl_state.specs.declared.books.Entry.TheVariants.{Recruiting}
 use Rattle.atl_state.specs.declared.books.Thing.{Thing}
@@ -19,17 +21,18 @@ use Rattle.atl_state.specs.Covers.{MarksChanges}
 use Rattle.atl_state.specs.Founding.{things_of}
 use Rattle.atl_state.specs.Good.{Every, IsEarly}
 use Rattle.atl_state.specs.Held.{Held, amount_of}
-use Rattle.atl_state.specs.Lending.{lent, with_held}
+use Rattle.atl_state.specs.Lending.{with_held, with_holding}
 use Rattle.atl_state.specs.Limits.{holding_limit, men_limit, most_units}
-use Rattle.atl_state.specs.Marking.{mark_amount, mark_region}
-use Rattle.atl_state.specs.State.{Marked, State, region_changed, with_amount, with_peasants}
+use Rattle.atl_state.specs.Marking.{mark_amount, mark_region, mark_unit_row}
+use Rattle.atl_state.specs.State.{Marked, State, region_changed, with_amount, with_money, with_peasants}
+use Rattle.atl_state.specs.State as state
 use Rattle.atl_state.specs.Totals.{held, kept, total}
 use Rattle.atl_state.proofs.BackLaws.{Rise, entries_rise}
 use Rattle.atl_state.proofs.BookLaws.{booked-with_booked, share_of}
 use Rattle.atl_state.proofs.CoverLaws.{marks-amount, marks-region, marks-trans}
 use Rattle.atl_state.proofs.EveryLaws.{each-from_every, get-insert_other}
-use Rattle.atl_state.proofs.HoldingLaws.{marks-lent, total-held}
-use Rattle.atl_state.proofs.RegionLaws.{IsRegion-peasants, steady-amount, steady-region, total-amount, total-region}
+use Rattle.atl_state.proofs.HoldingLaws.{marks-unit_row, total-held}
+use Rattle.atl_state.proofs.RegionLaws.{IsRegion-peasants, get-insert_same, steady-amount, steady-region, total-amount, total-region}
 use Rattle.atl_instant.specs.Meaning.{HaveRoom, LeavesWell, Moving, moved_times, most_moved}
 use Rattle.atl_instant.specs.declared.written.Written.{Written}
 use Rattle.atl_instant.proofs.BookingLaws.{booked-near, within-neg}
@@ -137,12 +140,36 @@ leaving_marks things c d e region peasants z d_is d_marks e_is e_marks grid two 
     marks-trans c d e (marks_by c d _ d_is d_marks (marks-region (λ r. record r { peasants = peasants }) c region))
     (marks_by d e _ e_is e_marks (marks-amount things d Recruiting Money z d_grid (omega arith)))
 
--- a unit that is there was lent its holding
-pub lent_is : (c d : Marked) (n : ℕ) (u : Unit) (h : Held) → get c.what.units n ≡ Some u → d ≡ lent c n h → d.what ≡ record c.what { units = insert c.what.units n (record u { holding = h }) }
-lent_is c d n u h is same = ap (λ (m : Marked). m.what) same ∙ ap (with_held c.what n h) is
+-- what comes last under a number stands there
+insert_over : {V : Type 0} (m : FinMap nat_cmp V) (n : ℕ) (x y : V) → insert (insert m n x) n y ≡ insert m n y
+insert_over m n x y = same_map nat_cmp_total nat_cmp-IsAntisymmetric _ _ (λ q.
+    get-insert nat_cmp_total (insert m n x) n y q ∙ ap (cond (eq_by_cmp nat_cmp q n) (Some y)) (get-insert nat_cmp_total m n x q)
+    ∙ twice (eq_by_cmp nat_cmp q n) (get m q) ∙ sym (get-insert nat_cmp_total m n y q))
+  where
+    twice : (b : Bool) (o : Option V) → cond b (Some y) (cond b (Some x) o) ≡ cond b (Some y) o
+    twice true o = refl
+    twice false o = refl
 
-pub recruit_marks : (c d e : Marked) (n : ℕ) (h : Held) → d ≡ lent c n h → MarksChanges d e → MarksChanges c e
-recruit_marks c d e n h is behind = marks-trans c d e (subst (MarksChanges c) (sym is) (marks-lent c n h)) behind
+-- a unit that is there has another holding
+pub held_is : (c d : State) (n : ℕ) (u : Unit) (h : Held) → get c.units n ≡ Some u → d ≡ with_holding c n h → d ≡ record c { units = insert c.units n (record u { holding = h }) }
+held_is c d n u h is same = same ∙ ap (with_held c n h) is
+
+-- it has other men, and then other money
+pub joined_is : (a b c : State) (n : ℕ) (u : Unit) (men money : ℕ) → get a.units n ≡ Some u → b ≡ state.with_men a n men → c ≡ with_money b n money → c ≡ with_holding a n (record u.holding { men = men; money = money })
+joined_is a b c n u men money is b_is c_is =
+    let peopled = record u { holding = record u.holding { men = men } } in
+    let paid = record u { holding = record u.holding { men = men; money = money } } in
+    let first : changed (λ u. record u { holding = record u.holding { men = men } }) a.units n ≡ insert a.units n peopled = ap (changed_at _ a.units n) is in
+    let units : b.units ≡ insert a.units n peopled = ap (λ (s : State). s.units) b_is ∙ first in
+    let there : get b.units n ≡ Some peopled = ap (λ m. get m n) units ∙ get-insert_same a.units n peopled in
+    let second : changed (λ u. record u { holding = record u.holding { money = money } }) b.units n ≡ insert a.units n paid = ap (changed_at _ b.units n) there ∙ ap (λ m. insert m n paid) units ∙ insert_over a.units n peopled paid in
+    c_is ∙ ap (λ m. record b { units = m }) second ∙ ap (λ (s : State). record s { units = insert a.units n paid }) b_is ∙ sym (ap (with_held a n (record u.holding { men = men; money = money })) is)
+
+-- and its row alone is marked
+pub joined_marks : (a b c : Marked) (n men money : ℕ) → b.what ≡ state.with_men a.what n men → b.marks ≡ mark_unit_row a n → c.what ≡ with_money b.what n money → c.marks ≡ mark_unit_row b n → MarksChanges a c
+joined_marks a b c n men money b_is b_marks c_is c_marks =
+    marks-trans a b c (marks_by a b _ b_is b_marks (marks-unit_row (λ u. record u { holding = record u.holding { men = men } }) (λ u. refl) a n))
+    (marks_by b c _ c_is c_marks (marks-unit_row (λ u. record u { holding = record u.holding { money = money } }) (λ u. refl) b n))
 
 -- ---- one step
 

@@ -6,9 +6,9 @@ ghost use Rattle.atl_state.specs.declared.books.Thing.TheVariants.{Money};
 ghost use Rattle.atl_state.specs.Books.{IsGrid};
 ghost use Rattle.atl_state.specs.Covers.{MarksChanges};
 ghost use Rattle.atl_state.specs.Good.{IsEarly};
+ghost use Rattle.atl_state.specs.Lending.{with_holding};
 ghost use Rattle.atl_state.specs.Limits.{holding_limit, men_limit};
 ghost use Rattle.atl_state.specs.State.{with_amount, with_peasants};
-ghost use Rattle.atl_instant.specs.Holdings.{ChangesHolding};
 ghost use Rattle.atl_instant.specs.Meaning.{HaveRoom, most_moved};
 ghost use Rattle.atl_market.specs.Asking.{asked_of, count_in};
 ghost use Rattle.atl_market.specs.Recruit.{is_recruit, recruit_keeps, recruit_meaning, recruit_moves, recruit_orders, recruit_pots, recruit_tasks, recruited, recruits_at, with_men};
@@ -20,7 +20,7 @@ use crate::pot_phase::{PotPhase, share_out, tell_all};
 use crate::pots::{Pots, pot_shares};
 use atl_instant::{Arrangement, Month, Phase, PhaseVerbs, Written, book_taken};
 use atl_orders::Verb;
-use atl_state::{Campaign, Entry, EventFault, Holding, MEN_LIMIT, Thing, Unit};
+use atl_state::{Campaign, Entry, EventFault, MEN_LIMIT, Thing, Unit};
 use atl_tables::{Numbered, World};
 use std::alloc::{AllocError, Global};
 
@@ -62,26 +62,18 @@ impl<'a> Pots for Recruitable<'a> {
     }
 }
 
-/// Recruits join, and are paid for.
-fn join_holding(holding: &mut Holding, recruits: u32, cost: u32)
-    requires fits { holding.old.men + recruits ≤ men_limit }
-    requires payable { cost ≤ holding.old.money }
-    ensures { holding.new ≡ with_men holding.old recruits cost }
-{
-    let men = holding.men() + recruits;
-    let money = holding.money() - cost;
-    holding.set_men(men);
-    holding.set_money(money);
-}
-
-/// Recruits join a unit that is there, which pays for them.
+/// Recruits join a unit that is there, which pays for them. Its goods stay as they are, and unmarked.
 fn join_unit(campaign: &mut Campaign, unit: u32, recruits: u32, cost: u32)
     requires fits { (u : Unit) → finmap.get campaign.old.what.units unit ≡ Some u → u.holding.men + recruits ≤ men_limit }
     requires payable { (u : Unit) → finmap.get campaign.old.what.units unit ≡ Some u → cost ≤ u.holding.money }
-    ensures { ChangesHolding campaign.old campaign.new unit (λ h. with_men h recruits cost) }
+    ensures what { (u : Unit) → finmap.get campaign.old.what.units unit ≡ Some u → campaign.new.what ≡ with_holding campaign.old.what unit (with_men u.holding recruits cost) }
+    ensures marks { MarksChanges campaign.old campaign.new }
 {
-    if let Some(holding) = campaign.unit_mut(unit) {
-        join_holding(holding, recruits, cost);
+    if let Some(found) = campaign.unit(unit) {
+        let men = found.holding.men() + recruits;
+        let money = found.holding.money() - cost;
+        campaign.set_men(unit, men);
+        campaign.set_money(unit, money);
     }
 }
 
