@@ -2,6 +2,7 @@
 mod closing;
 mod commands;
 mod compare;
+mod courses;
 mod crashes;
 mod damage;
 mod files;

@@ -1,5 +1,7 @@
-//! World texts that the crates of tests share.
+//! Texts that the crates of tests share: worlds, and a month.
 #![tactic(auto)]
+
+pub mod month;
 
 /// A world with one region: who joins has so much money, so many find work there, and so many peasants live there. Behind it
 /// stands more of its text.

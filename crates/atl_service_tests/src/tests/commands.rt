@@ -2,7 +2,7 @@
 use super::closing::{AFTER_MONTH_ONE, AFTER_WORK, MONTH_ONE};
 use super::compare::{is_count, is_text};
 use super::making::{begun, told};
-use super::script::{Asked, Step, command_of, plays};
+use super::script::{Asked, Step, commands_of, plays};
 use super::tables::{
     AFTER_JOINING, BOOKED, FACTIONS, MAIL_BYTES, MAILINGS, MONEY, NEXT, REPORT_BYTES, UNITS, holds,
 };
@@ -112,22 +112,6 @@ const AFTER_CLUB: [(&str, Option<i64>); 8] = [
     (MAILINGS, Some(1)),
     (MAIL_BYTES, Some(19)),
 ];
-
-fn fill(alloc: Global, commands: &mut Vec<Command>, steps: &[Step]) -> Result<(), Fail> {
-    for step in steps {
-        if let Step::Told(asked, _) = step {
-            commands.push(command_of(alloc, asked)?)?;
-        }
-    }
-    Ok(())
-}
-
-/// The commands of these steps.
-fn commands_of(alloc: Global, steps: &[Step]) -> Result<Vec<Command>, Fail> {
-    let mut commands = Vec::new(alloc);
-    fill(alloc, &mut commands, steps)?;
-    Ok(commands)
-}
 
 fn is_told(rt: &impl Abort, answer: &Answer, step: &Step) {
     match step {

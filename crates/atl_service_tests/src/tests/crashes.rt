@@ -1,71 +1,22 @@
-//! A disk that stops at each of its calls, while a campaign is founded, a faction joins and sends its orders, and two months are
-//! closed. What works on the disk takes any disk that can crash.
-use super::closing::MONTH_ONE;
-use super::commands::AVALON;
+//! A disk that stops at each of its calls, while a campaign is founded, a faction joins, mailings are kept, and months are closed. What
+//! works on the disk takes any disk that can crash.
 use super::compare::is_text;
+use super::courses::COURSES;
 use super::files::connected;
 use super::founding::told as cause_of;
-use super::making::{begun, told};
+use super::making::{begun, filled, told};
 use super::opening::rows_in;
-use super::script::{Asked, Step, command_of, plays};
-use super::tables::{BOOKED, FACTIONS, MAILINGS, MONEY, MONTH, NEXT, REGION_MONEY, UNITS};
+use super::script::{Course, commands_of};
 use atl_service::{Answer, Command, Refused, Service, found, open};
-use atl_test_worlds::SMALL;
 use sqlite::{Alter, Connection, Options};
-use sqlite_disk::{Crash, Disk, Files, Fuse, Memory};
+use sqlite_disk::{Crash, Files, Fuse, Memory};
 use std::alloc::Global;
 use std::process::Abort;
 use std::test::Fail;
 
-/// Who guards from the first month on takes taxes in the second.
-const FIRST_MAIL: Asked = Asked::Mail(
-    1,
-    "pw",
-    "#ATLANTIS 1 pw\nUNIT 1\nGUARD 1\nNAME UNIT \"Wardens of Vale\"\n",
-);
-
-/// Of the units that are formed one has a man and a name then, and one has money alone, and is swept.
-const SECOND_MAIL: Asked = Asked::Mail(
-    1,
-    "pw",
-    "#ATLANTIS 1 pw\nUNIT 1\nFORM 1\nEND\nFORM 2\nRECRUIT 1\nNAME UNIT Scouts\nEND\nPAY NEW 1 100\nPAY NEW 2 70\nTAX\n",
-);
-
-const MONTH_TWO: Asked = Asked::Close(2, "gm", &[0]);
-
-/// What is asked of the campaign that was founded.
-const ASKED: [Asked; 5] = [AVALON, FIRST_MAIL, MONTH_ONE, SECOND_MAIL, MONTH_TWO];
-
-/// What is answered where no disk stops.
-const ANSWERED: [Step; 5] = [
-    Step::Joined(AVALON, 1, 1),
-    Step::Mailed(FIRST_MAIL, 2, &[]),
-    Step::Closed(MONTH_ONE, 1),
-    Step::Mailed(SECOND_MAIL, 7, &[]),
-    Step::Closed(MONTH_TWO, 2),
-];
-
-/// Of 1,000 money unit 1 has 1,002 after its first month, in which it works for 12 and pays 10. It pays 170, takes 10 in tax, works and
-/// pays 10 again, and gets the 100 of unit 2, which is swept: 944. Unit 3 recruits for 50, works and pays 10: 22. The region has 500, gets
-/// 1,000 and, of a peasant less, 999, and gives the tax. The people are 1,001.
-const AFTER_BOTH: [(&str, Option<i64>); 8] = [
-    (MONTH, Some(2)),
-    (NEXT, Some(200004)),
-    (FACTIONS, Some(1)),
-    (UNITS, Some(2)),
-    (MAILINGS, Some(0)),
-    (MONEY, Some(966)),
-    (REGION_MONEY, Some(2489)),
-    (BOOKED, Some(4456)),
-];
-
-#[test]
-fn both_months_are_closed(rt: HostRuntime) -> Result<(), Fail> {
-    plays(&rt, rt.alloc(), SMALL, &ANSWERED, &AFTER_BOTH)
-}
-
-/// The commands, and all rows of the campaign behind the founding and behind each of them.
+/// What is done, and all rows of the campaign behind so many of the writings, the founding among them; behind none there are no rows.
 struct Plan {
+    course: Course,
     commands: Vec<Command>,
     stages: Vec<String>,
 }
@@ -73,43 +24,70 @@ struct Plan {
 impl Drop for Plan {
     fn drop(self) {
         let Plan {
+            course: _,
             commands: _,
             stages: _,
         } = self;
     }
 }
 
-fn commands(alloc: Global) -> Result<Vec<Command>, Fail> {
-    let mut commands = Vec::new(alloc);
-    for asked in ASKED.iter() {
-        commands.push(command_of(alloc, asked)?)?;
+/// The campaign before its commands; its rows are noted behind each writing.
+fn set_up<S: Alter + Drop>(
+    alloc: Global,
+    conn: Connection<S>,
+    course: &Course,
+    stages: &mut Vec<String>,
+) -> Result<Service<S>, Fail> {
+    let service = begun(alloc, conn, course.world)?;
+    stages.push(rows_in(alloc, &service)?)?;
+    if course.rows.is_empty() {
+        return Ok(service);
     }
-    Ok(commands)
+    let service = filled(alloc, service.end(), course.rows)?;
+    stages.push(rows_in(alloc, &service)?)?;
+    Ok(service)
 }
 
-fn stages<S: Alter>(
+/// Runs the commands, and notes the rows behind each.
+fn run_noted<S: Alter>(
     alloc: Global,
     service: &mut Service<S>,
     commands: &[Command],
-) -> Result<Vec<String>, Fail> {
-    let mut stages = Vec::new(alloc);
-    stages.push(rows_in(alloc, service)?)?;
+    stages: &mut Vec<String>,
+) -> Result<(), Fail> {
     for command in commands {
         let _answer = service.run(command);
         stages.push(rows_in(alloc, service)?)?;
     }
+    Ok(())
+}
+
+/// The rows behind each writing where no disk stops.
+fn stages<S: Alter + Drop>(
+    alloc: Global,
+    conn: Connection<S>,
+    course: &Course,
+    commands: &[Command],
+) -> Result<Vec<String>, Fail> {
+    let mut stages = Vec::new(alloc);
+    stages.push(String::new(alloc))?;
+    let mut service = set_up(alloc, conn, course, &mut stages)?;
+    run_noted(alloc, &mut service, commands, &mut stages)?;
     Ok(stages)
 }
 
-/// What the commands come to where no disk stops.
-fn planned<S: Alter + Drop>(alloc: Global, conn: Connection<S>) -> Result<Plan, Fail> {
-    let commands = commands(alloc)?;
-    let mut service = begun(alloc, conn, SMALL)?;
-    let stages = stages(alloc, &mut service, &commands);
-    let _conn = service.end();
+/// What a course comes to where no disk stops.
+fn planned<S: Alter + Drop>(
+    alloc: Global,
+    conn: Connection<S>,
+    course: &Course,
+) -> Result<Plan, Fail> {
+    let commands = commands_of(alloc, course.steps)?;
+    let stages = stages(alloc, conn, course, &commands)?;
     Ok(Plan {
+        course: *course,
         commands,
-        stages: stages?,
+        stages,
     })
 }
 
@@ -138,42 +116,68 @@ fn run_each<S: Alter>(rt: &impl Abort, service: &mut Service<S>, commands: &[Com
     done
 }
 
-/// Founds a campaign and runs the commands. Tells how many writings are done, the founding among them.
-fn works<S: Alter>(
+/// A service, or its connection where a disk stopped.
+fn served<S: Alter>(
+    rt: &impl Abort,
+    tried: Result<Service<S>, Refused<S>>,
+) -> Result<Service<S>, Connection<S>> {
+    match tried {
+        Ok(service) => Ok(service),
+        Err(Refused { why, conn }) => {
+            is_text(rt, cause_of(&why), "store");
+            Err(conn)
+        }
+    }
+}
+
+/// Runs the commands behind so many writings.
+fn runs<S: Alter>(
+    rt: &impl Abort,
+    service: Service<S>,
+    plan: &Plan,
+    writings: usize,
+) -> (usize, Connection<S>) {
+    let mut service = service;
+    let done = run_each(rt, &mut service, &plan.commands);
+    (done.saturating_add(writings), service.end())
+}
+
+/// Puts the rows in and opens the campaign again.
+fn goes_on<S: Alter + Drop>(
     rt: &impl Abort,
     alloc: Global,
     conn: Connection<S>,
     plan: &Plan,
 ) -> (usize, Connection<S>) {
-    match found(alloc, conn, SMALL, b"gm") {
-        Ok(mut service) => {
-            let done = run_each(rt, &mut service, &plan.commands);
-            (done.saturating_add(1), service.end())
-        }
-        Err(Refused { why, conn }) => {
-            is_text(rt, cause_of(&why), "store");
-            (0, conn)
-        }
+    let mut conn = conn;
+    if conn.execute_batch(plan.course.rows).is_err() {
+        return (1, conn);
+    }
+    match served(rt, open(alloc, conn)) {
+        Ok(service) => runs(rt, service, plan, 2),
+        Err(conn) => (2, conn),
     }
 }
 
-/// The same in files, where none is done if they can't be opened. The files come back.
-fn works_in<D: Disk + Drop>(
+/// Founds a campaign, puts its rows in and runs the commands. Tells how many writings are done.
+fn works<S: Alter + Drop>(
     rt: &impl Abort,
     alloc: Global,
-    files: Files<D>,
+    conn: Connection<S>,
     plan: &Plan,
-) -> Result<(usize, Files<D>), Fail> {
-    if !files.may_be_used() {
-        return Err(Fail::new("the files can't be used"));
+) -> (usize, Connection<S>) {
+    match served(rt, found(alloc, conn, plan.course.world, b"gm")) {
+        Ok(service) if plan.course.rows.is_empty() => runs(rt, service, plan, 1),
+        Ok(service) => goes_on(rt, alloc, service.end(), plan),
+        Err(conn) => (0, conn),
     }
-    match Connection::open_files(alloc, files, Options::new(2)) {
-        Ok(conn) => {
-            let (done, conn) = works(rt, alloc, conn, plan);
-            Ok((done, conn.into_store().close()))
-        }
-        Err((_, left)) => Ok((0, left.into_files())),
-    }
+}
+
+/// Before each writing the log is copied into the database, whose disk is called in each then.
+fn options() -> Options {
+    let mut options = Options::new(2);
+    options.checkpoint_frames = 1;
+    options
 }
 
 fn crashed<D: Crash>(files: Files<D>) -> Files<D> {
@@ -183,48 +187,51 @@ fn crashed<D: Crash>(files: Files<D>) -> Files<D> {
     Files { log, db }
 }
 
-/// Behind how many writings these rows are.
-fn place_of(plan: &Plan, rows: &str) -> Result<usize, Fail> {
-    for (place, stage) in plan.stages.iter().enumerate() {
-        if stage.as_str() == rows {
-            return Ok(place.saturating_add(1));
-        }
+/// Whether these are the rows behind so many writings.
+fn is_stage(plan: &Plan, writings: usize, rows: &str) -> bool {
+    match plan.stages.get(writings) {
+        Some(stage) => stage.as_str() == rows,
+        None => false,
     }
-    Err(Fail::new("a part of a writing"))
 }
 
-fn place_in<S: Alter>(alloc: Global, service: &Service<S>, plan: &Plan) -> Result<usize, Fail> {
-    let rows = rows_in(alloc, service)?;
-    place_of(plan, rows.as_str())
-}
-
-/// Behind how many writings a database is, when it is opened as a campaign.
-fn left_in<S: Alter + Drop>(
+/// All rows of the campaign that a database holds, or none where it holds no campaign.
+fn rows_left<S: Alter + Drop>(
     rt: &impl Abort,
     alloc: Global,
     conn: Connection<S>,
-    plan: &Plan,
-) -> Result<usize, Fail> {
+) -> Result<String, Fail> {
     match open(alloc, conn) {
-        Ok(service) => place_in(alloc, &service, plan),
+        Ok(service) => rows_in(alloc, &service),
         Err(Refused { why, conn: _ }) => {
             is_text(rt, cause_of(&why), "not a campaign");
-            Ok(0)
+            Ok(String::new(alloc))
         }
     }
 }
 
-/// Works in these files, and tells how many writings are done. A crash leaves the campaign behind them, or that behind the next one.
+/// Works in these files, and tells how many writings are done: none where they can't be opened. A crash leaves the campaign behind them,
+/// or that behind the next one.
 fn stopped<D: Crash + Drop>(
     rt: &impl Abort,
     alloc: Global,
     files: Files<D>,
     plan: &Plan,
 ) -> Result<usize, Fail> {
-    let (done, files) = works_in(rt, alloc, files, plan)?;
+    if !files.may_be_used() {
+        return Err(Fail::new("the files can't be used"));
+    }
+    let (done, files) = match Connection::open_files(alloc, files, options()) {
+        Ok(conn) => {
+            let (done, conn) = works(rt, alloc, conn, plan);
+            (done, conn.into_store().close())
+        }
+        Err((_, left)) => (0, left.into_files()),
+    };
     let conn = connected(alloc, crashed(files))?;
-    let left = left_in(rt, alloc, conn, plan)?;
-    assert!(rt; left == done || left == done.saturating_add(1));
+    let rows = rows_left(rt, alloc, conn)?;
+    let rows = rows.as_str();
+    assert!(rt; is_stage(plan, done, rows) || is_stage(plan, done.saturating_add(1), rows));
     Ok(done)
 }
 
@@ -254,7 +261,7 @@ const MANY_CALLS: u64 = 1_000;
 fn stops(rt: &impl Abort, alloc: Global, plan: &Plan, which: WhichDisk) -> Result<(), Fail> {
     for calls in 0..MANY_CALLS {
         let done = stopped(rt, alloc, stopping(alloc, which, calls), plan)?;
-        if done == plan.stages.len() {
+        if done.saturating_add(1) == plan.stages.len() {
             assert!(rt; calls > 0);
             return Ok(());
         }
@@ -262,14 +269,21 @@ fn stops(rt: &impl Abort, alloc: Global, plan: &Plan, which: WhichDisk) -> Resul
     Err(Fail::new("stopped each time"))
 }
 
+/// A disk stops in each course.
+fn stops_each(rt: &impl Abort, alloc: Global, which: WhichDisk) -> Result<(), Fail> {
+    for course in COURSES.iter() {
+        let plan = planned(alloc, Connection::open_in_memory(alloc)?, course)?;
+        stops(rt, alloc, &plan, which)?;
+    }
+    Ok(())
+}
+
 #[test]
 fn the_log_stops(rt: HostRuntime) -> Result<(), Fail> {
-    let plan = planned(rt.alloc(), Connection::open_in_memory(rt.alloc())?)?;
-    stops(&rt, rt.alloc(), &plan, WhichDisk::Log)
+    stops_each(&rt, rt.alloc(), WhichDisk::Log)
 }
 
 #[test]
 fn the_database_stops(rt: HostRuntime) -> Result<(), Fail> {
-    let plan = planned(rt.alloc(), Connection::open_in_memory(rt.alloc())?)?;
-    stops(&rt, rt.alloc(), &plan, WhichDisk::Database)
+    stops_each(&rt, rt.alloc(), WhichDisk::Database)
 }

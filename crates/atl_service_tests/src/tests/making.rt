@@ -81,6 +81,17 @@ pub(crate) fn opened<S: Alter + Drop>(
     }
 }
 
+/// A campaign in whose tables these statements put rows by hand.
+pub(crate) fn filled<S: Alter + Drop>(
+    alloc: Global,
+    conn: Connection<S>,
+    rows: &str,
+) -> Result<Service<S>, Fail> {
+    let mut conn = conn;
+    conn.execute_batch(rows)?;
+    opened(alloc, conn)
+}
+
 /// An answer in words.
 pub(crate) fn told(answer: &Answer) -> &str {
     match answer {

@@ -1,6 +1,6 @@
 //! A test as a table of steps: what is asked of a service, and what is wanted of it.
 use super::compare::{is_count, is_number, is_text};
-use super::making::{begun, close, join, long_mail, mail, report, tells};
+use super::making::{begun, close, filled, join, long_mail, mail, report, tells};
 use super::tables::holds;
 use atl_service::{Answer, Command, Service};
 use sqlite::{Alter, Connection};
@@ -44,7 +44,7 @@ pub(crate) enum Step {
     Books(&'static str),
 }
 
-pub(crate) fn command_of(alloc: Global, asked: &Asked) -> Result<Command, Fail> {
+fn command_of(alloc: Global, asked: &Asked) -> Result<Command, Fail> {
     match asked {
         Asked::Join(name, pass, word) => join(alloc, name, pass, *word),
         Asked::Mail(faction, pass, text) => mail(alloc, *faction, pass, text),
@@ -52,6 +52,33 @@ pub(crate) fn command_of(alloc: Global, asked: &Asked) -> Result<Command, Fail> 
         Asked::Close(month, pass, words) => close(alloc, *month, pass, words),
         Asked::Report(faction, pass) => report(alloc, *faction, pass),
     }
+}
+
+/// What a step asks of a service.
+fn asked_by(step: &Step) -> Option<&Asked> {
+    match step {
+        Step::Told(asked, _)
+        | Step::Joined(asked, _, _)
+        | Step::Mailed(asked, _, _)
+        | Step::Closed(asked, _) => Some(asked),
+        _ => None,
+    }
+}
+
+fn fill(alloc: Global, commands: &mut Vec<Command>, steps: &[Step]) -> Result<(), Fail> {
+    for step in steps {
+        if let Some(asked) = asked_by(step) {
+            commands.push(command_of(alloc, asked)?)?;
+        }
+    }
+    Ok(())
+}
+
+/// The commands of these steps.
+pub(crate) fn commands_of(alloc: Global, steps: &[Step]) -> Result<Vec<Command>, Fail> {
+    let mut commands = Vec::new(alloc);
+    fill(alloc, &mut commands, steps)?;
+    Ok(commands)
 }
 
 fn asks<S: Alter>(
@@ -267,4 +294,32 @@ pub(crate) fn plays(
 ) -> Result<(), Fail> {
     let conn = Connection::open_in_memory(alloc)?;
     play(rt, alloc, conn, world, steps, rows)
+}
+
+/// A campaign of a world: statements that put rows in by hand once it is founded, the steps behind them, and what the tables hold then.
+#[derive(Clone, Copy)]
+pub(crate) struct Course {
+    pub(crate) world: &'static str,
+    pub(crate) rows: &'static str,
+    pub(crate) steps: &'static [Step],
+    pub(crate) after: &'static [(&'static str, Option<i64>)],
+}
+
+fn play_course<S: Alter + Drop>(
+    rt: &impl Abort,
+    alloc: Global,
+    conn: Connection<S>,
+    course: &Course,
+) -> Result<(), Fail> {
+    let conn = begun(alloc, conn, course.world)?.end();
+    let mut service = filled(alloc, conn, course.rows)?;
+    let done = follow(rt, alloc, &mut service, course.steps);
+    holds(rt, &mut service.end(), course.after);
+    done
+}
+
+/// The campaign in memory. It is opened again once the rows are in.
+pub(crate) fn plays_course(rt: &impl Abort, alloc: Global, course: &Course) -> Result<(), Fail> {
+    let conn = Connection::open_in_memory(alloc)?;
+    play_course(rt, alloc, conn, course)
 }

@@ -24,6 +24,17 @@ pub(crate) const MONTH: &str = "SELECT month FROM campaign";
 
 pub(crate) const REGION_MONEY: &str = "SELECT sum(money) FROM region";
 
+/// What all units have of items, and their days of skills.
+pub(crate) const GOODS: &str = "SELECT sum(amount) FROM has WHERE sort = 0";
+
+pub(crate) const DAYS: &str = "SELECT sum(amount) FROM has WHERE sort = 1";
+
+/// What is done of all structures.
+pub(crate) const DONE: &str = "SELECT sum(done) FROM structure";
+
+/// What is booked of people who starved.
+pub(crate) const STARVED: &str = "SELECT amount FROM books WHERE entry = 10 AND thing = 1";
+
 /// What is booked of money: income, wages and upkeep.
 pub(crate) const INCOME: &str = "SELECT amount FROM books WHERE entry = 3 AND thing = 0";
 

@@ -1,11 +1,7 @@
 //! A month in which ten units of two factions have orders of every sort, beside what the rules make of it by hand.
-use super::making::{begun, opened};
-use super::script::{Asked, Step, follow};
-use super::tables::{MAILINGS, MONTH, NEXT, UNITS, holds};
+use super::script::{Asked, Course, Step, plays_course};
+use super::tables::{MAILINGS, MONTH, NEXT, UNITS};
 use atl_test_worlds::ISLE;
-use sqlite::{Alter, Connection};
-use std::alloc::Global;
-use std::process::Abort;
 use std::test::Fail;
 
 /// Two factions, ten units, and a boat with a unit of each; all that they hold is booked as brought by joining.
@@ -170,25 +166,14 @@ const BEHIND: [(&str, Option<i64>); 4] = [
     (MAILINGS, Some(0)),
 ];
 
-/// The isle's campaign with the ten units.
-fn filled<S: Alter + Drop>(alloc: Global, conn: Connection<S>) -> Result<Connection<S>, Fail> {
-    let mut conn = begun(alloc, conn, ISLE)?.end();
-    conn.execute_batch(BEFORE)?;
-    Ok(conn)
-}
-
-fn plays_a_month<S: Alter + Drop>(
-    rt: &impl Abort,
-    alloc: Global,
-    conn: Connection<S>,
-) -> Result<(), Fail> {
-    let mut service = opened(alloc, filled(alloc, conn)?)?;
-    let done = follow(rt, alloc, &mut service, &MONTH_OF_ORDERS);
-    holds(rt, &mut service.end(), &BEHIND);
-    done
-}
+const MONTH_OF_TEN: Course = Course {
+    world: ISLE,
+    rows: BEFORE,
+    steps: &MONTH_OF_ORDERS,
+    after: &BEHIND,
+};
 
 #[test]
 fn ten_units_carry_out_all_orders(rt: HostRuntime) -> Result<(), Fail> {
-    plays_a_month(&rt, rt.alloc(), Connection::open_in_memory(rt.alloc())?)
+    plays_course(&rt, rt.alloc(), &MONTH_OF_TEN)
 }
