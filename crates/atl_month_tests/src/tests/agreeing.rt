@@ -1,5 +1,4 @@
 //! The phases that share pots, and upkeep, come to what they come to when they are reckoned plainly.
-ghost use Rattle.std.specs.Prelude.{◌≤◌, All, IsTrue, IfOk};
 ghost use Rattle.atl_state.specs.Good.{IsGood};
 ghost use Rattle.atl_instant.specs.Fit.{AreFit};
 

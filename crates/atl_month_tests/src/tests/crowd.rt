@@ -1,28 +1,27 @@
 //! A campaign of 300 units of four factions in twelve regions, and a month of their orders. What each unit is, has and is told to do
 //! is dealt out by its number, from tables whose lengths have no common factor.
-ghost use Rattle.std.specs.Prelude.{◌≡◌, ◌≤◌, All, IfOk, length};
+ghost use Rattle.std.specs.Prelude.{◌≤◌, IfOk, length};
 ghost use Rattle.atl_state.specs.Good.{IsGood};
 ghost use Rattle.atl_instant.specs.Fit.{AreFit};
 
 use super::months::month;
 use atl_instant::Month;
 use atl_state::parts::{
-    Parts, StoredBooks, StoredFaction, StoredHas, StoredHead, StoredRegion, StoredReport,
-    StoredUnit,
+    Parts, StoredBooks, StoredFaction, StoredHas, StoredHead, StoredReport, StoredUnit,
 };
 use atl_state::{Campaign, check, founded};
 use atl_tables::{Sequence, Text, World, read_world};
 use std::alloc::{AllocError, Global};
 use std::test::Fail;
 
-const UNITS: usize = 300;
+const UNITS: u32 = 300;
 
-const FACTIONS: usize = 4;
+const FACTIONS: u32 = 4;
 
-const REGIONS: usize = 12;
+const REGIONS: u32 = 12;
 
 /// So many units in a row stand in one region, one of each faction.
-const IN_A_ROW: usize = FACTIONS;
+const IN_A_ROW: u32 = FACTIONS;
 
 const RULES: &str = r#"[rules]
 maintenance = 60
@@ -91,9 +90,9 @@ name = "carpentry"
 fee = 9
 "#;
 
-const ITEMS: usize = 5;
+const ITEMS: u32 = 5;
 
-const SKILLS: usize = 4;
+const SKILLS: u32 = 4;
 
 /// Terrain, peasants and money of regions.
 const LANDS: [(&str, u32, u32); 7] = [
@@ -111,7 +110,7 @@ const MEN: [i64; 11] = [1, 1, 2, 3, 5, 8, 13, 40, 90, 2, 1];
 const MONEY: [i64; 7] = [0, 3, 20, 150, 900, 0, 4_000];
 
 /// One of so many units has room for hardly more money.
-const RICH: usize = 37;
+const RICH: u32 = 37;
 
 const FULL_PURSE: i64 = 999_999_990;
 
@@ -137,7 +136,7 @@ const MONTH_LONG: [&str; 9] = [
 const RECRUITED: [u32; 5] = [1, 20, 3, 7, 400];
 
 /// The orders of one of so many units are for the next one, which is another faction's.
-const ASTRAY: usize = 29;
+const ASTRAY: u32 = 29;
 
 const JOINING: i64 = 2;
 
@@ -147,15 +146,15 @@ const PEOPLE_BOOKED: i64 = 1;
 
 const FIRST_ITEM_BOOKED: i64 = 2;
 
-fn dealt<T: Copy + Drop>(table: &[T], number: usize) -> T
+fn dealt<T: Copy + Drop>(table: &[T], number: u32) -> T
     requires { 1 ≤ length table.now }
 {
-    table[number % table.len()]
+    table[number as usize % table.len()]
 }
 
 // ---- the world
 
-fn add_region(alloc: Global, number: usize, text: &mut String) -> Result<(), AllocError> {
+fn add_region(alloc: Global, number: u32, text: &mut String) -> Result<(), AllocError> {
     let (terrain, peasants, money) = dealt(&LANDS, number);
     let table = format!(in alloc;
         "[[region]]\nnumber = {number}\nname = \"Vale\"\nterrain = \"{terrain}\"\npeasants = {peasants}\nmoney = {money}\n"
@@ -173,20 +172,20 @@ pub(crate) fn crowd_world(alloc: Global) -> Result<World, Fail> {
 
 // ---- the units
 
-fn faction_of(number: usize) -> usize {
+fn faction_of(number: u32) -> u32 {
     number % FACTIONS + 1
 }
 
-fn region_of(number: usize) -> usize {
+fn region_of(number: u32) -> u32 {
     number / IN_A_ROW % REGIONS + 1
 }
 
 /// Units of one faction alone guard a region, and not all of them do.
-fn guards(number: usize) -> bool {
+fn guards(number: u32) -> bool {
     region_of(number) % FACTIONS + 1 == faction_of(number) && number % 5 != 0
 }
 
-fn money_of(number: usize) -> i64 {
+fn money_of(number: u32) -> i64 {
     if number % RICH == 0 {
         FULL_PURSE
     } else {
@@ -194,12 +193,12 @@ fn money_of(number: usize) -> i64 {
     }
 }
 
-fn unit(alloc: Global, number: usize) -> Result<StoredUnit, AllocError> {
+fn unit(alloc: Global, number: u32) -> Result<StoredUnit, AllocError> {
     Ok(StoredUnit {
-        number: number as i64,
-        faction: faction_of(number) as i64,
+        number: i64::from(number),
+        faction: i64::from(faction_of(number)),
         name: Sequence::from_slice(alloc, b"A unit")?,
-        region: region_of(number) as i64,
+        region: i64::from(region_of(number)),
         structure: 0,
         men: dealt(&MEN, number),
         money: money_of(number),
@@ -217,9 +216,9 @@ fn units(alloc: Global) -> Result<Sequence<StoredUnit>, AllocError> {
 
 /// Adds what a unit has, if it has any.
 fn add_good(
-    number: usize,
+    number: u32,
     sort: i64,
-    thing: usize,
+    thing: u32,
     amount: i64,
     has: &mut Sequence<StoredHas>,
 ) -> Result<(), AllocError> {
@@ -227,25 +226,25 @@ fn add_good(
         return Ok(());
     }
     has.push(StoredHas {
-        unit: number as i64,
+        unit: i64::from(number),
         sort,
-        thing: thing as i64,
+        thing: i64::from(thing),
         amount,
     })
 }
 
-fn pieces(number: usize, item: usize) -> i64 {
+fn pieces(number: u32, item: u32) -> i64 {
     dealt(&PIECES, number.wrapping_add(item))
 }
 
-fn add_items(number: usize, has: &mut Sequence<StoredHas>) -> Result<(), AllocError> {
+fn add_items(number: u32, has: &mut Sequence<StoredHas>) -> Result<(), AllocError> {
     for item in 0..ITEMS {
         add_good(number, 0, item, pieces(number, item), has)?;
     }
     Ok(())
 }
 
-fn add_days(number: usize, has: &mut Sequence<StoredHas>) -> Result<(), AllocError> {
+fn add_days(number: u32, has: &mut Sequence<StoredHas>) -> Result<(), AllocError> {
     for skill in 0..SKILLS {
         let each = dealt(&DAYS, number.wrapping_add(skill));
         let days = each.wrapping_mul(dealt(&MEN, number));
@@ -271,18 +270,18 @@ fn head(alloc: Global) -> Result<Sequence<StoredHead>, AllocError> {
         id: 1,
         format: 1,
         month: 0,
-        next_faction: FACTIONS as i64 + 1,
-        next_unit: UNITS as i64 + 1,
+        next_faction: i64::from(FACTIONS) + 1,
+        next_unit: i64::from(UNITS) + 1,
         next_structure: 1,
         pass: Sequence::from_slice(alloc, b"gm")?,
     })?;
     Ok(all)
 }
 
-fn faction(alloc: Global, number: usize) -> Result<StoredFaction, AllocError> {
+fn faction(alloc: Global, number: u32) -> Result<StoredFaction, AllocError> {
     let name = format!(in alloc; "F{number}")?;
     Ok(StoredFaction {
-        number: number as i64,
+        number: i64::from(number),
         joined_as: Sequence::from_slice(alloc, name.as_bytes())?,
         name: Sequence::from_slice(alloc, name.as_bytes())?,
         pass: Sequence::from_slice(alloc, b"pw")?,
@@ -302,7 +301,7 @@ fn reports(alloc: Global) -> Result<Sequence<StoredReport>, AllocError> {
     let mut all = Sequence::new(alloc);
     for number in 1..=FACTIONS {
         all.push(StoredReport {
-            faction: number as i64,
+            faction: i64::from(number),
             text: Text::from_str(alloc, "A report.\n")?,
         })?;
     }
@@ -333,7 +332,7 @@ fn money_and_men() -> (i64, i64) {
 }
 
 /// How much of an item all units have.
-fn all_pieces(item: usize) -> i64 {
+fn all_pieces(item: u32) -> i64 {
     let mut all: i64 = 0;
     for number in 1..=UNITS {
         all = all.wrapping_add(pieces(number, item));
@@ -346,7 +345,7 @@ fn book_all(books: &mut Sequence<StoredBooks>) -> Result<(), AllocError> {
     book(MONEY_BOOKED, money, books)?;
     book(PEOPLE_BOOKED, men, books)?;
     for item in 0..ITEMS {
-        let thing = FIRST_ITEM_BOOKED.wrapping_add(item as i64);
+        let thing = FIRST_ITEM_BOOKED.wrapping_add(i64::from(item));
         book(thing, all_pieces(item), books)?;
     }
     Ok(())
@@ -374,7 +373,7 @@ pub(crate) fn crowd(alloc: Global, world: &World) -> Result<Campaign, Fail>
 // ---- the month
 
 /// The unit that an order of a faction is for.
-fn told_unit(number: usize) -> usize {
+fn told_unit(number: u32) -> u32 {
     if number % ASTRAY == 0 {
         number.wrapping_add(1)
     } else {
@@ -382,7 +381,7 @@ fn told_unit(number: usize) -> usize {
     }
 }
 
-fn add_orders(alloc: Global, number: usize, mailing: &mut String) -> Result<(), AllocError> {
+fn add_orders(alloc: Global, number: u32, mailing: &mut String) -> Result<(), AllocError> {
     let unit = told_unit(number);
     let men = dealt(&RECRUITED, number);
     let all_month = dealt(&MONTH_LONG, number);
@@ -390,7 +389,7 @@ fn add_orders(alloc: Global, number: usize, mailing: &mut String) -> Result<(), 
     mailing.push_str(orders.as_str())
 }
 
-fn mailing(alloc: Global, faction: usize) -> Result<String, AllocError> {
+fn mailing(alloc: Global, faction: u32) -> Result<String, AllocError> {
     let mut mailing = format!(in alloc; "#ATLANTIS {faction}\n")?;
     for number in 1..=UNITS {
         if faction_of(number) == faction {
