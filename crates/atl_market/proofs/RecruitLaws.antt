@@ -141,12 +141,12 @@ leaving_marks things c d e region peasants z d_is d_marks e_is e_marks grid two 
     (marks_by d e _ e_is e_marks (marks-amount things d Recruiting Money z d_grid (omega arith)))
 
 -- what comes last under a number stands there
-insert_over : {V : Type 0} (m : FinMap nat_cmp V) (n : ℕ) (x y : V) → insert (insert m n x) n y ≡ insert m n y
-insert_over m n x y = same_map nat_cmp_total nat_cmp-IsAntisymmetric _ _ (λ q.
+insert_over : {X : Type 0} (m : FinMap nat_cmp X) (n : ℕ) (x y : X) → insert (insert m n x) n y ≡ insert m n y
+insert_over {X = X} m n x y = same_map nat_cmp_total nat_cmp-IsAntisymmetric _ _ (λ q.
     get-insert nat_cmp_total (insert m n x) n y q ∙ ap (cond (eq_by_cmp nat_cmp q n) (Some y)) (get-insert nat_cmp_total m n x q)
     ∙ twice (eq_by_cmp nat_cmp q n) (get m q) ∙ sym (get-insert nat_cmp_total m n y q))
   where
-    twice : (b : Bool) (o : Option V) → cond b (Some y) (cond b (Some x) o) ≡ cond b (Some y) o
+    twice : (b : Bool) (o : Option X) → cond b (Some y) (cond b (Some x) o) ≡ cond b (Some y) o
     twice true o = refl
     twice false o = refl
 
