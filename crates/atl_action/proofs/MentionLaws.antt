@@ -1,10 +1,9 @@
 -- Each number at its first mention, as the numbers that were seen are noted.
-use Rattle.std.proofs.Common.{◌≡◌, ◌==◌, ℕ, ◌&&◌, not, Bool, true, false, cond, List, [], ◌∷◌, filter, Some, refl, sym, ap, ◌∙◌, arith}
+use Rattle.std.proofs.Common.{◌≡◌, ◌==◌, ℕ, ◌&&◌, not, Bool, true, false, cond, List, [], ◌∷◌, filter, Some, refl, sym, ap, ◌∙◌}
 use Rattle.std.specs.Prelude.{is_some}
 use Rattle.std.specs.Ordering.{nat_cmp}
 use Rattle.std.specs.Cmp.{nat_cmp_total, unsigned_ties}
 use Rattle.std.specs.FinMap.{FinMap, empty, get, get-empty, get-insert, insert}
-use Rattle.std.proofs.lemmas.Bool.Decides.{nat_tests}
 use Rattle.atl_tables.proofs.GeneralLaws.{is_equal}
 use Rattle.atl_action.specs.Teach.{first_mentions}
 

@@ -1,5 +1,5 @@
 -- A unit behind STUDY is as its own order makes it alone.
-use Rattle.std.proofs.Common.{◌≡◌, ◌≢◌, ◌==◌, ℕ, suc, zero, ◌-◌, ◌*◌, ◌<◌, Bool, true, false, ◌&&◌, List, [], ◌∷◌, length, Option, Some, None, refl, sym, ap, subst, ◌∙◌, inl, inr, arith}
+use Rattle.std.proofs.Common.{◌≡◌, ◌==◌, ℕ, suc, zero, ◌-◌, ◌*◌, ◌<◌, Bool, true, false, ◌&&◌, List, [], ◌∷◌, length, Option, Some, None, refl, sym, ap, subst, ◌∙◌, inl, inr, arith}
 use Rattle.std.specs.Prelude.{IfSome, fold, if◌then◌else◌}
 use Rattle.std.proofs.lemmas.Bool.{cases_eq}
 use Rattle.std.proofs.lemmas.Option.{same_Some}
@@ -29,7 +29,7 @@ use Rattle.atl_instant.specs.declared.written.Arrangement.TheVariants.{ByUnit}
 use Rattle.atl_instant.proofs.StandOnceLaws.{one_order_stands}
 use Rattle.atl_instant.proofs.StepLaws.{ordered_cases}
 use Rattle.atl_action.specs.Learners.{is_studying, learners, study_tasks}
-use Rattle.atl_action.specs.Study.{days_after, is_helpful, learn_meaning, studied, study, study_fault, study_said, study_step, with_study}
+use Rattle.atl_action.specs.Study.{days_after, is_helpful, studied, study, study_fault, study_said, study_step, with_study}
 use Rattle.atl_action.specs.StudyAlone.{UnitsStudyAsBegun}
 use Rattle.atl_action.specs.Teach.{Taught, taught_out}
 use Rattle.atl_action.proofs.StudyLaws.{study_cases, study_stays}

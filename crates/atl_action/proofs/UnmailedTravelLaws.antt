@@ -1,5 +1,5 @@
 -- What MOVE and SAIL leave to the units of a faction that sent no mailing.
-use Rattle.std.proofs.Common.{ℕ, false, Option, Some, None, refl}
+use Rattle.std.proofs.Common.{ℕ, false, refl}
 use Rattle.std.specs.Prelude.{IfSome, fold, unwrap_or}
 use Rattle.std.specs.FinMap.{get}
 use Rattle.atl_tables.specs.Planet.{Planet}
