@@ -2,19 +2,15 @@
 use Rattle.std.proofs.Common.{◌≡◌, ◌≤◌, ◌<◌, ℕ, Bool, true, false, cond, List, [], ◌∷◌, ◌++◌, ◌+◌, drop, get_or, map, length, Option, Some, None, option_map, Result, Ok, Err, refl, sym, ap, ap₂, ◌∙◌, subst, arith}
 use Rattle.std.specs.Prelude.{All, OnOk, filter, fold, nat_lt, not, unwrap_or}
 use Rattle.std.proofs.lemmas.Bool.Decides.{nat_tests}
-use Rattle.std.proofs.lemmas.Bool.{and_parts}
 use Rattle.std.proofs.lemmas.List.{append-nil, append_assoc, drop_more, map-append}
 use Rattle.std.proofs.lemmas.List.Elements.{All-push}
 use Rattle.std.proofs.lemmas.Map.Keys.{IsDistinct-from_sorted}
 use Rattle.std.specs.List.{AllByRecursion, IsDistinct, flat_map}
-use Rattle.std.specs.declared.cmp.Ordering.TheVariants.{Less}
-use Rattle.std.specs.List.Sorted.{IsStrictlySortedBy}
 use Rattle.std.specs.Ordering.{nat_cmp, eq_by_cmp}
-use Rattle.std.specs.FinMap.{FinMap, empty, entries, get, insert, is_sorted, same_entries_map}
-use Rattle.std.specs.FinMap.Entries.{below_all}
+use Rattle.std.specs.FinMap.{FinMap, empty, entries, get, insert, same_entries_map}
 use Rattle.atl_tables.specs.Planet.{Planet, IsWorld}
 use Rattle.atl_tables.specs.Sums.{mapped, numbers_among}
-use Rattle.atl_tables.proofs.MadeLaws.{entries-mapped, insert_last, is_less}
+use Rattle.atl_tables.proofs.MadeLaws.{entries-mapped, insert_last}
 use Rattle.atl_tables.proofs.Maps.{entries-empty}
 use Rattle.atl_orders.specs.declared.fault.FaultyLine.{FaultyLine}
 use Rattle.atl_orders.specs.declared.fault.MailFault.{MailFault}
@@ -36,6 +32,7 @@ use Rattle.atl_state.proofs.CoverLaws.{marks-trans}
 use Rattle.atl_state.proofs.EveryLaws.{each-from_every, get-mapped, sorted}
 use Rattle.atl_state.proofs.GoodLaws.{IsGood-with_report}
 use Rattle.atl_state.proofs.PostLaws.{marks-month, marks-no_mail, marks-report}
+use Rattle.atl_state.proofs.SlotLaws.{keys_rise}
 use Rattle.atl_instant.specs.Course.{HaveOwnFactions, by_faction}
 use Rattle.atl_month.specs.Month.{finished, month_of}
 use Rattle.atl_report.specs.Report.{report_of}
@@ -88,15 +85,6 @@ module _ (w : Planet) where
       let (r, is, own) = reads w e.0 e.1 h.0 in
       ap (λ read. map (λ r. r.faction) (read_of read ++ texts_read es)) is ∙ ap₂ (λ n ns. n ∷ ns) own (factions_read es h.1)
 
-rise : {V : Type 0} (k : ℕ) (es : List (ℕ × V)) → below_all nat_cmp k es ≡ true → AllByRecursion (λ n. nat_cmp k n ≡ Less) (map (λ e. e.0) es)
-rise k [] h = tt
-rise k (e ∷ es) h = (is_less (nat_cmp k e.0) (and_parts _ _ h).0, rise k es (and_parts _ _ h).1)
-
-rising : {V : Type 0} (es : List (ℕ × V)) → is_sorted nat_cmp es ≡ true → IsStrictlySortedBy nat_cmp (map (λ e. e.0) es)
-unfolding IsStrictlySortedBy
-rising [] h = tt
-rising (e ∷ es) h = (rise e.0 es (and_parts _ _ h).0, rising es (and_parts _ _ h).1)
-
 factions_of : (ms : List Mailing) → map (λ r. r.faction) (map reading_of ms) ≡ map (λ m. m.faction) ms
 factions_of [] = refl
 factions_of (m ∷ ms) = ap (λ ns. m.faction ∷ ns) (factions_of ms)
@@ -111,7 +99,7 @@ own_factions w c ms good is =
     let numbers = map (λ e. e.0) (entries c.mail) in
     let sent = sent_by w c good in
     let same : map (λ m. m.faction) ms ≡ numbers = sym (factions_of ms) ∙ ap (map (λ r. r.faction)) is ∙ factions_read w (entries c.mail) sent in
-    subst (IsDistinct (eq_by_cmp nat_cmp)) (sym same) (IsDistinct-from_sorted nat_cmp numbers (rising (entries c.mail) (sorted c.mail)))
+    subst (IsDistinct (eq_by_cmp nat_cmp)) (sym same) (IsDistinct-from_sorted nat_cmp numbers (keys_rise (entries c.mail) (sorted c.mail)))
 
 -- ---- what is wrong with each mail
 

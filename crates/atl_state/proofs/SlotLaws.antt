@@ -1,20 +1,21 @@
 -- A map whose values stand in slots.
-use Rattle.std.proofs.Common.{◌≡◌, ◌≢◌, ℕ, ◌<◌, Bool, true, false, cond, List, [], ◌∷◌, length, Option, Some, None, ◌⊎◌, inl, inr, refl, sym, ap, ◌∙◌, arith}
-use Rattle.std.specs.Prelude.{is_some, Result, Ok, Err, OnErr}
+use Rattle.std.proofs.Common.{◌≡◌, ◌≢◌, ℕ, ◌+◌, ◌-◌, ◌<◌, Bool, true, false, cond, List, [], ◌∷◌, length, Option, Some, None, ◌⊎◌, inl, inr, refl, sym, ap, ◌∙◌, arith}
+use Rattle.std.specs.Prelude.{count_by, is_some, Result, Ok, Err, OnErr}
 use Rattle.std.proofs.lemmas.Bool.{false≢true, and_parts, cases_eq, cases_lt}
 use Rattle.std.proofs.lemmas.List.{length-map, get_or-set_same, get_or-set_other, get_or_past}
+use Rattle.std.proofs.lemmas.List.Sums.{sum_by-set}
 use Rattle.std.specs.List.{AllByRecursion}
 use Rattle.std.specs.List.Sorted.{IsStrictlySortedBy}
 use Rattle.std.specs.Map.{keys_of}
 use Rattle.std.specs.declared.cmp.Ordering.TheVariants.{Less, Equal, Greater}
 use Rattle.std.specs.Ordering.{nat_cmp, is_eq, eq_by_cmp}
 use Rattle.std.specs.Cmp.{nat_cmp_total, ranked}
-use Rattle.std.specs.FinMap.{FinMap, get, find, insert, remove, empty, entries, is_sorted, len, len-entries, get-entries, get-insert, get-remove, get-empty, get-from_entries, from_entries, same_map, nat_cmp-IsAntisymmetric}
+use Rattle.std.specs.FinMap.{FinMap, get, find, insert, remove, empty, entries, is_sorted, len, len-entries, len-empty, len-insert, len-remove, get-entries, get-insert, get-remove, get-empty, get-from_entries, from_entries, same_map, nat_cmp-IsAntisymmetric}
 use Rattle.std.specs.FinMap.Entries.{below_all}
 use Rattle.atl_tables.proofs.MadeLaws.{is_less}
 use Rattle.atl_tables.proofs.Maps.{entries-empty, entries_of}
 use Rattle.slab.specs.Slab as slab
-use Rattle.atl_state.specs.Slots.{lodged, lodged_at, values_of, AreInUse, AreLodged}
+use Rattle.atl_state.specs.Slots.{lodged, lodged_at, values_of, AreInUse, AreLodged, IsArena}
 use Rattle.atl_state.proofs.EveryLaws.{sorted, each-from_every}
 use Rattle.atl_state.proofs.IndexLaws.{some_none}
 
@@ -186,6 +187,37 @@ AreLodged-empty s = record {
   in_use = λ n k h. some_none k (sym h ∙ get-empty nat_cmp n);
   by_one = λ n m k h g. some_none k (sym h ∙ get-empty nat_cmp n);
 }
+
+-- ---- as many slots are in use as numbers lead to one
+module _ {V : Type 0} where
+  pub len_written : (s : slab.Slab V) (k : ℕ) (w : V) → is_some (slab.get s k) ≡ true → slab.slab_len (slab.with_value s k w) ≡ slab.slab_len s
+  len_written s k w h =
+      let change = sum_by-set (λ (o : Option V). cond (is_some o) 1 0) s.slots k (Some w) None (inside s k h) in
+      let counts : Bool → ℕ = λ b. cond b 1 0 in
+      let one : counts (is_some (slab.get s k)) ≡ counts true = ap counts h in
+      omega (arith, change, one)
+
+  pub IsArena-added : (i : FinMap nat_cmp ℕ) (s t : slab.Slab V) (n k : ℕ) (x : V) → slab.Updates s t k (Some x) → slab.get s k ≡ None → slab.slab_len t ≡ slab.slab_len s + 1 → get i n ≡ None → IsArena i s → IsArena (insert i n k) t
+  IsArena-added i s t n k x u vacant more fresh held =
+      let same = held.none_idle in
+      let size : len (insert i n k) ≡ len i + 1 = len-insert nat_cmp_total i n k ∙ ap (λ o. cond (is_some o) (len i) (len i + 1)) fresh in
+      record { lodged = AreLodged-added i s t n k x u vacant held.lodged; none_idle = omega (arith, same, size, more) }
+
+  pub IsArena-removed : (i : FinMap nat_cmp ℕ) (s t : slab.Slab V) (n k : ℕ) → slab.Updates s t k None → slab.slab_len t + 1 ≡ slab.slab_len s → get i n ≡ Some k → IsArena i s → IsArena (remove i n) t
+  IsArena-removed i s t n k u less is held =
+      let same = held.none_idle in
+      let size : len (remove i n) ≡ len i - 1 = len-remove nat_cmp_total i n ∙ ap (λ o. cond (is_some o) (len i - 1) (len i)) is in
+      record { lodged = AreLodged-removed i s t n k u is held.lodged; none_idle = omega (arith, same, size, less) }
+
+  pub IsArena-changed : (i : FinMap nat_cmp ℕ) (s : slab.Slab V) (k : ℕ) (w : V) → is_some (slab.get s k) ≡ true → IsArena i s → IsArena i (slab.with_value s k w)
+  IsArena-changed i s k w used held = record { lodged = AreLodged-changed i s (slab.with_value s k w) k w (written s k w used) held.lodged; none_idle = len_written s k w used ∙ held.none_idle }
+
+  -- what was put in and taken out again
+  pub IsArena-same : (i : FinMap nat_cmp ℕ) (s t : slab.Slab V) → slab.SameValues s t → slab.slab_len t ≡ slab.slab_len s → IsArena i s → IsArena i t
+  IsArena-same i s t same as_many held = record { lodged = AreLodged-same i s t same held.lodged; none_idle = as_many ∙ held.none_idle }
+
+  pub IsArena-empty : (s : slab.Slab V) → s.slots ≡ [] → IsArena empty s
+  IsArena-empty s none = record { lodged = AreLodged-empty s; none_idle = ap (count_by is_some) none ∙ sym (len-empty nat_cmp ℕ) }
 
 pub on_err : {A E P : Type 0} (r : Result A E) → P → OnErr r P
 on_err (Ok a) p = tt

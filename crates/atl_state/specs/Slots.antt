@@ -1,7 +1,7 @@
 -- For proofs alone: a map whose values stand in slots.
 use Rattle.std.specs.Prelude.{◌≡◌, ℕ, true, is_some, List, [], ◌∷◌, Option, Some, None}
 use Rattle.std.specs.Ordering.{nat_cmp}
-use Rattle.std.specs.FinMap.{FinMap, get, entries, from_entries}
+use Rattle.std.specs.FinMap.{FinMap, get, entries, len, from_entries}
 use Rattle.slab.specs.Slab as slab
 use Rattle.atl_state.specs.Deciding.{EachOf}
 
@@ -26,3 +26,8 @@ module _ {V : Type 0} where
   pub record AreLodged (i : FinMap nat_cmp ℕ) (s : slab.Slab V) : Type 0 where
     pub in_use : (n k : ℕ) → get i n ≡ Some k → is_some (slab.get s k) ≡ true
     pub by_one : (n m k : ℕ) → get i n ≡ Some k → get i m ≡ Some k → n ≡ m
+
+  -- and no slot is in use to which no number leads
+  pub record IsArena (i : FinMap nat_cmp ℕ) (s : slab.Slab V) : Type 0 where
+    pub lodged : AreLodged i s
+    pub none_idle : slab.slab_len s ≡ len i

@@ -25,7 +25,7 @@ impl<V> Model for Arena<V> {
     ghost use Rattle.std.specs.Ordering.{nat_cmp};
     ghost use Rattle.std.specs.Coded.{coded_ℕ};
     ghost use Rattle.std.specs.FinMap as map;
-    ghost use Rattle.atl_state.specs.Slots.{values_of, AreLodged};
+    ghost use Rattle.atl_state.specs.Slots.{values_of, IsArena};
 
     ghost Value = { map.FinMap nat_cmp V };
 
@@ -33,7 +33,7 @@ impl<V> Model for Arena<V> {
 
     ghost view = { λ a. values_of a.index a.slots };
 
-    ghost invariant = { λ a. AreLodged a.index a.slots };
+    ghost invariant = { λ a. IsArena a.index a.slots };
 }
 
 impl<V: Drop> Arena<V> {
