@@ -1,11 +1,10 @@
 //! What opening tells of a database that was changed by hand.
-use super::files::{connected, new_files, reopened};
+use super::files::{connected, new_files};
 use super::making::begun;
 use super::script::{Asked, Step, follow};
 use atl_service::{Cause, Refused, open};
 use atl_test_worlds::ISLE;
-use sqlite::{Alter, Connection, FileStore};
-use sqlite_disk::Disk;
+use sqlite::{Alter, Connection};
 use std::alloc::Global;
 use std::process::Abort;
 use std::test::Fail;
@@ -219,25 +218,29 @@ fn island<S: Alter + Drop>(
     Ok(conn)
 }
 
-/// Changes the island's database by hand, and asserts what opening it is answered once its files were closed and opened.
-fn is_judged<D: Disk + Drop>(
+/// The island's database, changed by hand.
+fn changed<S: Alter + Drop>(
     rt: &impl Abort,
     alloc: Global,
-    conn: Connection<FileStore<D>>,
+    conn: Connection<S>,
     sql: &str,
-    wanted: Told,
-) -> Result<(), Fail> {
+) -> Result<Connection<S>, Fail> {
     let mut conn = island(rt, alloc, conn)?;
     conn.execute_batch(sql)?;
-    let conn = reopened(alloc, conn)?;
+    Ok(conn)
+}
+
+/// Asserts what opening is answered once the files were closed and opened.
+fn is_judged(rt: &impl Abort, alloc: Global, sql: &str, wanted: Told) -> Result<(), Fail> {
+    let conn = changed(rt, alloc, connected(alloc, new_files(alloc))?, sql)?;
+    let conn = connected(alloc, conn.into_store().close())?;
     is_told(rt, asked(alloc, conn), wanted, sql);
     Ok(())
 }
 
 fn are_judged(rt: &impl Abort, alloc: Global, cases: &[(&str, Told)]) -> Result<(), Fail> {
     for (sql, wanted) in cases {
-        let conn = connected(alloc, new_files(alloc))?;
-        is_judged(rt, alloc, conn, sql, *wanted)?;
+        is_judged(rt, alloc, sql, *wanted)?;
     }
     Ok(())
 }
@@ -280,8 +283,7 @@ fn waits_for_the_end<S: Alter + Drop>(
     conn: Connection<S>,
     sql: &str,
 ) -> Result<(), Fail> {
-    let mut conn = island(rt, alloc, conn)?;
-    conn.execute_batch(sql)?;
+    let conn = changed(rt, alloc, conn, sql)?;
     is_told(rt, asked(alloc, conn), Told::Store, sql);
     Ok(())
 }

@@ -1,4 +1,4 @@
-//! A database in files that stand in memory, and are opened again.
+//! A database in files that stand in memory.
 use sqlite::{Connection, FileStore, Options};
 use sqlite_disk::{Disk, Files, Memory};
 use std::alloc::Global;
@@ -23,12 +23,4 @@ pub(crate) fn connected<D: Disk + Drop>(
         Ok(conn) => Ok(conn),
         Err(_) => Err(Fail::new("the files can't be opened")),
     }
-}
-
-/// The same database, once its files were closed and opened.
-pub(crate) fn reopened<D: Disk + Drop>(
-    alloc: Global,
-    conn: Connection<FileStore<D>>,
-) -> Result<Connection<FileStore<D>>, Fail> {
-    connected(alloc, conn.into_store().close())
 }

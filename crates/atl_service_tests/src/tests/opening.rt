@@ -2,7 +2,7 @@
 use super::closing::{AFTER_WORK, MONTH_ONE};
 use super::commands::{AVALON, FIRST_REPORT, SECOND_REPORT};
 use super::compare::is_text;
-use super::files::{connected, new_files, reopened};
+use super::files::{connected, new_files};
 use super::founding::is_refused;
 use super::making::{begun, opened};
 use super::script::{Asked, Step, follow};
@@ -11,11 +11,20 @@ use atl_service::Service;
 use atl_state::{Campaign, check};
 use atl_tables::World;
 use atl_test_worlds::SMALL;
-use sqlite::{Alter, Connection, FileStore};
-use sqlite_disk::Disk;
+use sqlite::{Alter, Connection};
+use sqlite_disk::{Files, Memory};
 use std::alloc::Global;
 use std::process::Abort;
 use std::test::Fail;
+
+/// What is done with a database before it is opened again: a campaign of this world is founded, or, with none, the one that is there is
+/// opened; then come steps, statements by hand, and what the tables hold.
+pub(crate) struct Session {
+    pub(crate) world: Option<&'static str>,
+    pub(crate) steps: &'static [Step],
+    pub(crate) by_hand: &'static str,
+    pub(crate) after: &'static [(&'static str, Option<i64>)],
+}
 
 /// The first faction joins and sends its orders.
 const AVALON_COMES: [Step; 3] = [
@@ -70,19 +79,6 @@ fn rows_after<S: Alter>(
     rows_in(alloc, service)
 }
 
-/// Founds a campaign and takes the steps. The database comes back with the rows then.
-fn begins<S: Alter + Drop>(
-    rt: &impl Abort,
-    alloc: Global,
-    conn: Connection<S>,
-    steps: &[Step],
-) -> Result<(String, Connection<S>), Fail> {
-    let mut service = begun(alloc, conn, SMALL)?;
-    let rows = rows_after(rt, alloc, &mut service, steps);
-    let conn = service.end();
-    Ok((rows?, conn))
-}
-
 fn has_rows<S: Alter>(
     rt: &impl Abort,
     alloc: Global,
@@ -94,19 +90,69 @@ fn has_rows<S: Alter>(
     Ok(())
 }
 
-/// Opens the campaign, asserts its rows, and takes the steps. The database comes back with the rows then.
-fn goes_on<S: Alter + Drop>(
+fn served<S: Alter + Drop>(
+    alloc: Global,
+    conn: Connection<S>,
+    world: Option<&str>,
+) -> Result<Service<S>, Fail> {
+    match world {
+        Some(world) => begun(alloc, conn, world),
+        None => opened(alloc, conn),
+    }
+}
+
+/// One session. The campaign has the rows with which the one before has ended, if there was one, and the database comes back with the
+/// rows then.
+fn played<S: Alter + Drop>(
     rt: &impl Abort,
     alloc: Global,
     conn: Connection<S>,
+    session: &Session,
     rows: &str,
-    steps: &[Step],
 ) -> Result<(String, Connection<S>), Fail> {
-    let mut service = opened(alloc, conn)?;
-    has_rows(rt, alloc, &service, rows)?;
-    let rows = rows_after(rt, alloc, &mut service, steps);
-    let conn = service.end();
-    Ok((rows?, conn))
+    let mut service = served(alloc, conn, session.world)?;
+    if !rows.is_empty() {
+        has_rows(rt, alloc, &service, rows)?;
+    }
+    let rows = rows_after(rt, alloc, &mut service, session.steps);
+    let mut conn = service.end();
+    let rows = rows?;
+    conn.execute_batch(session.by_hand)?;
+    holds(rt, &mut conn, session.after);
+    Ok((rows, conn))
+}
+
+/// Sessions on one connection.
+fn on_connection<S: Alter + Drop>(
+    rt: &impl Abort,
+    alloc: Global,
+    conn: Connection<S>,
+    sessions: &[Session],
+) -> Result<(String, Connection<S>), Fail> {
+    let mut conn = conn;
+    let mut rows = String::new(alloc);
+    for session in sessions {
+        (rows, conn) = played(rt, alloc, conn, session, rows.as_str())?;
+    }
+    Ok((rows, conn))
+}
+
+/// The same, where the files are closed and opened in between.
+pub(crate) fn in_files(
+    rt: &impl Abort,
+    alloc: Global,
+    files: Files<Memory>,
+    sessions: &[Session],
+) -> Result<(), Fail> {
+    let mut files = files;
+    let mut rows = String::new(alloc);
+    for session in sessions {
+        let conn = connected(alloc, files)?;
+        let (told, conn) = played(rt, alloc, conn, session, rows.as_str())?;
+        rows = told;
+        files = conn.into_store().close();
+    }
+    Ok(())
 }
 
 /// The campaign that the rules of the tables make of another one's rows.
@@ -143,14 +189,28 @@ fn stands<S: Alter + Drop>(
     is_made_of(rt, alloc, service.world(), campaign, rows)
 }
 
+const MONTH_STANDS: [Session; 2] = [
+    Session {
+        world: Some(SMALL),
+        steps: &A_MONTH,
+        by_hand: "",
+        after: &[],
+    },
+    Session {
+        world: None,
+        steps: &AFTER_A_MONTH,
+        by_hand: "",
+        after: &[],
+    },
+];
+
 /// A month is closed, and neither a second closing nor another founding changes a row of the tables.
 fn a_month_stands<S: Alter + Drop>(
     rt: &impl Abort,
     alloc: Global,
     conn: Connection<S>,
 ) -> Result<(), Fail> {
-    let (rows, conn) = begins(rt, alloc, conn, &A_MONTH)?;
-    let (_, conn) = goes_on(rt, alloc, conn, rows.as_str(), &AFTER_A_MONTH)?;
+    let (rows, conn) = on_connection(rt, alloc, conn, &MONTH_STANDS)?;
     let conn = is_refused(rt, alloc, conn, SMALL, "gm", "not empty");
     stands(rt, alloc, conn, rows.as_str())
 }
@@ -161,15 +221,34 @@ fn a_closed_month_is_opened_again(rt: HostRuntime) -> Result<(), Fail> {
     a_month_stands(&rt, rt.alloc(), conn)
 }
 
+const COMES_BACK: [Session; 3] = [
+    Session {
+        world: Some(SMALL),
+        steps: &AVALON_COMES,
+        by_hand: "",
+        after: &[],
+    },
+    Session {
+        world: None,
+        steps: &BREE_COMES,
+        by_hand: "",
+        after: &[],
+    },
+    Session {
+        world: None,
+        steps: &BOTH_ARE_THERE,
+        by_hand: "",
+        after: &[],
+    },
+];
+
 /// Opens a campaign twice on its connection, where no other is founded then.
 fn comes_back<S: Alter + Drop>(
     rt: &impl Abort,
     alloc: Global,
     conn: Connection<S>,
 ) -> Result<(), Fail> {
-    let (rows, conn) = begins(rt, alloc, conn, &AVALON_COMES)?;
-    let (rows, conn) = goes_on(rt, alloc, conn, rows.as_str(), &BREE_COMES)?;
-    let (_, conn) = goes_on(rt, alloc, conn, rows.as_str(), &BOTH_ARE_THERE)?;
+    let (_, conn) = on_connection(rt, alloc, conn, &COMES_BACK)?;
     is_refused(rt, alloc, conn, SMALL, "gm", "not empty");
     Ok(())
 }
@@ -180,24 +259,9 @@ fn a_campaign_is_opened_on_its_connection(rt: HostRuntime) -> Result<(), Fail> {
     comes_back(&rt, rt.alloc(), conn)
 }
 
-/// The same, where the files are closed and opened in between.
-fn comes_back_from_files<D: Disk + Drop>(
-    rt: &impl Abort,
-    alloc: Global,
-    conn: Connection<FileStore<D>>,
-) -> Result<(), Fail> {
-    let (rows, conn) = begins(rt, alloc, conn, &AVALON_COMES)?;
-    let conn = reopened(alloc, conn)?;
-    let (rows, conn) = goes_on(rt, alloc, conn, rows.as_str(), &BREE_COMES)?;
-    let conn = reopened(alloc, conn)?;
-    goes_on(rt, alloc, conn, rows.as_str(), &BOTH_ARE_THERE)?;
-    Ok(())
-}
-
 #[test]
 fn a_campaign_is_opened_from_its_files(rt: HostRuntime) -> Result<(), Fail> {
-    let conn = connected(rt.alloc(), new_files(rt.alloc()))?;
-    comes_back_from_files(&rt, rt.alloc(), conn)
+    in_files(&rt, rt.alloc(), new_files(rt.alloc()), &COMES_BACK)
 }
 
 const NOTES: &str = "CREATE TABLE notes (number INTEGER NOT NULL, words TEXT NOT NULL);
@@ -214,23 +278,28 @@ pub(crate) const NOTED: [(&str, Option<i64>); 2] = [
 ];
 
 /// A table of a person's own, with an index, is carried along.
-fn carries_notes<D: Disk + Drop>(
-    rt: &impl Abort,
-    alloc: Global,
-    conn: Connection<FileStore<D>>,
-) -> Result<(), Fail> {
-    let (rows, mut conn) = begins(rt, alloc, conn, &AVALON_COMES)?;
-    conn.execute_batch(NOTES)?;
-    let conn = reopened(alloc, conn)?;
-    let (rows, conn) = goes_on(rt, alloc, conn, rows.as_str(), &BREE_COMES)?;
-    let conn = reopened(alloc, conn)?;
-    let (_, mut conn) = goes_on(rt, alloc, conn, rows.as_str(), &BOTH_ARE_THERE)?;
-    holds(rt, &mut conn, &NOTED);
-    Ok(())
-}
+const WITH_NOTES: [Session; 3] = [
+    Session {
+        world: Some(SMALL),
+        steps: &AVALON_COMES,
+        by_hand: NOTES,
+        after: &NOTED,
+    },
+    Session {
+        world: None,
+        steps: &BREE_COMES,
+        by_hand: "",
+        after: &NOTED,
+    },
+    Session {
+        world: None,
+        steps: &BOTH_ARE_THERE,
+        by_hand: "",
+        after: &NOTED,
+    },
+];
 
 #[test]
 fn a_table_of_a_persons_own_is_carried_along(rt: HostRuntime) -> Result<(), Fail> {
-    let conn = connected(rt.alloc(), new_files(rt.alloc()))?;
-    carries_notes(&rt, rt.alloc(), conn)
+    in_files(&rt, rt.alloc(), new_files(rt.alloc()), &WITH_NOTES)
 }

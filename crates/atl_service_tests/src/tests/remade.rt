@@ -1,13 +1,9 @@
 //! A database that sqlite3 wrote, after ANALYZE, REINDEX and VACUUM and with a table and an index of a person's own.
-use super::files::{connected, new_files, reopened};
-use super::making::opened;
-use super::opening::{BOTH_ARE_THERE, BREE_COMES, NOTED};
-use super::script::{Step, follow};
-use super::tables::holds;
-use sqlite::{Alter, Connection, FileStore};
+use super::files::new_files;
+use super::opening::{BOTH_ARE_THERE, BREE_COMES, NOTED, Session, in_files};
+use super::script::Step;
 use sqlite_disk::{Disk, Files, Memory};
 use std::alloc::Global;
-use std::process::Abort;
 use std::test::Fail;
 
 /// The length of the file.
@@ -132,35 +128,29 @@ fn remade(alloc: Global) -> Result<Files<Memory>, Fail> {
 /// The first faction is as it was.
 const AVALON_IS_THERE: [Step; 1] = [Step::Numbers(2, 2, 1)];
 
-fn is_there<S: Alter + Drop>(
-    rt: &impl Abort,
-    alloc: Global,
-    conn: Connection<S>,
-    steps: &[Step],
-) -> Result<Connection<S>, Fail> {
-    let mut service = opened(alloc, conn)?;
-    let done = follow(rt, alloc, &mut service, steps);
-    let mut conn = service.end();
-    done?;
-    holds(rt, &mut conn, &NOTED);
-    Ok(conn)
-}
-
 /// The campaign is opened, goes on, and is opened once more.
-fn goes_on_from_files<D: Disk + Drop>(
-    rt: &impl Abort,
-    alloc: Global,
-    conn: Connection<FileStore<D>>,
-) -> Result<(), Fail> {
-    let conn = is_there(rt, alloc, conn, &AVALON_IS_THERE)?;
-    let conn = is_there(rt, alloc, conn, &BREE_COMES)?;
-    let conn = reopened(alloc, conn)?;
-    is_there(rt, alloc, conn, &BOTH_ARE_THERE)?;
-    Ok(())
-}
+const GOES_ON: [Session; 3] = [
+    Session {
+        world: None,
+        steps: &AVALON_IS_THERE,
+        by_hand: "",
+        after: &NOTED,
+    },
+    Session {
+        world: None,
+        steps: &BREE_COMES,
+        by_hand: "",
+        after: &NOTED,
+    },
+    Session {
+        world: None,
+        steps: &BOTH_ARE_THERE,
+        by_hand: "",
+        after: &NOTED,
+    },
+];
 
 #[test]
 fn a_database_that_sqlite3_wrote_is_opened(rt: HostRuntime) -> Result<(), Fail> {
-    let conn = connected(rt.alloc(), remade(rt.alloc())?)?;
-    goes_on_from_files(&rt, rt.alloc(), conn)
+    in_files(&rt, rt.alloc(), remade(rt.alloc())?, &GOES_ON)
 }
