@@ -1,4 +1,5 @@
-//! What a closing marks of units that work, pay each other and pay their upkeep: their rows, and none of their goods.
+//! What a closing marks of units that take names, pay each other, recruit, work and pay their upkeep: their rows, and none
+//! of their goods.
 ghost use Rattle.std.specs.Prelude.{◌≡◌, All, IfOk};
 ghost use Rattle.atl_state.specs.Good.{IsGood};
 
@@ -39,8 +40,8 @@ fn two_factions(alloc: Global, world: &World) -> Result<Campaign, Fail>
     joined(alloc, world, campaign, "Bree")
 }
 
-/// The first unit pays the second, and both work.
-const PAYING: [&str; 1] = ["#ATLANTIS 1\nUNIT 1\nPAY 2 10\n"];
+/// The first unit takes a name, pays the second and recruits a man, and both work.
+const PAYING: [&str; 1] = ["#ATLANTIS 1\nUNIT 1\nNAME UNIT Watch\nPAY 2 10\nRECRUIT 1\n"];
 
 fn paid(alloc: Global, world: &World) -> Result<Campaign, Fail> {
     let campaign = two_factions(alloc, world)?;
@@ -56,13 +57,21 @@ fn is_so(rt: &impl Abort, told: bool) {
     assert!(rt; told);
 }
 
+fn has_a_recruit(campaign: &Campaign) -> bool {
+    match campaign.unit(1) {
+        Some(unit) => unit.holding.men() == 2 && unit.holding.name().as_str() == "Watch",
+        None => false,
+    }
+}
+
 fn only_rows_are_marked(rt: &impl Abort, campaign: &Campaign) {
+    is_so(rt, has_a_recruit(campaign));
     is_so(rt, campaign.marked_units().eq([1, 2]));
     is_so(rt, campaign.marked_goods().next().is_none());
 }
 
 #[test]
-fn pay_and_upkeep_mark_no_goods(rt: HostRuntime) -> Result<(), Fail> {
+fn names_pay_recruits_and_upkeep_mark_no_goods(rt: HostRuntime) -> Result<(), Fail> {
     let world = small_world(rt.alloc())?;
     let campaign = paid(rt.alloc(), &world)?;
     only_rows_are_marked(&rt, &campaign);
