@@ -98,7 +98,7 @@ fn has_unit(rt: &impl Abort, campaign: &Campaign) {
     are_numbers(rt, campaign.in_region(2), &[]);
     are_numbers(rt, campaign.of_faction(1), &[1]);
     are_numbers(rt, campaign.of_faction(2), &[]);
-    is_count(rt, campaign.units().count(), 1);
+    is_count(rt, campaign.unit_count(), 1);
 }
 
 fn joins(rt: &impl Abort, alloc: Global, world: &World) -> Result<(), Fail> {

@@ -25,11 +25,14 @@ fn walks_regions(rt: &impl Abort, campaign: &Campaign) -> Result<(), Fail> {
 }
 
 fn walks_units(rt: &impl Abort, campaign: &Campaign) -> Result<(), Fail> {
-    is_count(rt, campaign.units().count(), 1);
-    let (number, unit) = campaign.units().next().ok_or("a unit")?;
+    let mut units = campaign.units();
+    let (number, unit) = units.next().ok_or("a unit")?;
     is_amount(rt, number, 1);
     is_amount(rt, unit.region, FAR);
-    Ok(())
+    match units.next() {
+        Some(_) => Err(Fail::new("one unit alone")),
+        None => Ok(()),
+    }
 }
 
 fn walks_structures(rt: &impl Abort, campaign: &Campaign) -> Result<(), Fail> {
