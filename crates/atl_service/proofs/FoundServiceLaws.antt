@@ -16,7 +16,7 @@ use Rattle.atl_store.specs.declared.fault.CreateFault.{CreateFault}
 use Rattle.atl_store.specs.declared.fault.CreateFault.TheVariants.{NotEmpty, Store, Memory}
 use Rattle.atl_store.proofs.WorldTextLaws.{world_text_is}
 use Rattle.atl_store.specs.Keeps.{HoldsCampaign}
-use Rattle.atl_service.specs.Engine.{Stands}
+use Rattle.atl_service.specs.ServiceState.{Stands}
 use Rattle.atl_service.specs.declared.command.Cause.{Cause}
 use Rattle.atl_service.specs.declared.command.Cause.TheVariants.{World as BadWorld, BadPassText}
 use Rattle.atl_service.specs.declared.command.Cause.TheVariants as none

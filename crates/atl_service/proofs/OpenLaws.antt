@@ -14,7 +14,7 @@ use Rattle.atl_store.specs.WorldText.{world_text}
 use Rattle.atl_store.proofs.AlikeLaws.{holds_one, one_text}
 use Rattle.atl_store.proofs.OneWorldLaws.{holds_one_world}
 use Rattle.atl_store.proofs.StayLaws.{later, spares_itself}
-use Rattle.atl_service.specs.Engine.{IsService}
+use Rattle.atl_service.specs.ServiceState.{IsService}
 use Rattle.atl_service.specs.Opened.{ComesBack, Opens, RefusesOpening, of_loading}
 use Rattle.sqlite.specs.State.{HasCleanDisk}
 

@@ -17,10 +17,10 @@ use Rattle.atl_store.specs.declared.fault.CreateFault.TheVariants as create
 use Rattle.atl_service.specs.declared.command.Cause.{Cause}
 use Rattle.atl_service.specs.declared.command.Cause.TheVariants.{World as BadWorld, BadPassText, NotEmpty, NotACampaign, Damaged, Store, Memory}
 use Rattle.atl_service.specs.Causes.{FailsToWrite, LacksMemory}
-use Rattle.atl_service.specs.Engine.{Engine, text_in}
+use Rattle.atl_service.specs.ServiceState.{ServiceState, text_in}
 
 -- where no table campaign was there, the service is open, with the world of the text and the founded campaign, and its tables hold the rows of both
-pub record Founds {S : Type 0} (g : Ghosts S) (old : Held S) (text pass : List ℕ) (made : Engine S) : Type 0 where
+pub record Founds {S : Type 0} (g : Ghosts S) (old : Held S) (text pass : List ℕ) (made : ServiceState S) : Type 0 where
   pub fresh : has_campaign old.schema ≡ false
   pub world : world_of text ≡ Ok made.world
   pub pass_is_good : pass_ok pass ≡ true

@@ -13,10 +13,10 @@ use Rattle.atl_store.specs.declared.fault.StoreFault.{StoreFault}
 use Rattle.atl_store.specs.declared.fault.StoreFault.TheVariants as load
 use Rattle.atl_service.specs.declared.command.Cause.{Cause}
 use Rattle.atl_service.specs.declared.command.Cause.TheVariants.{NotACampaign, Damaged, Store, Memory}
-use Rattle.atl_service.specs.Engine.{Engine, text_in}
+use Rattle.atl_service.specs.ServiceState.{ServiceState, text_in}
 
 -- The service is open, with the world and the good campaign that the tables hold, and the tables are as they were.
-pub record Opens {S : Type 0} (g : Ghosts S) (old : Held S) (made : Engine S) : Type 0 where
+pub record Opens {S : Type 0} (g : Ghosts S) (old : Held S) (made : ServiceState S) : Type 0 where
   pub campaign : Marked
   pub is_open : made.campaign ≡ Some campaign.what
   pub loads : Loads g old made.conn made.world campaign
@@ -24,7 +24,7 @@ pub record Opens {S : Type 0} (g : Ghosts S) (old : Held S) (made : Engine S) : 
   pub later : IsLater (state g old) (state g made.conn)
 
 -- A world text and a good campaign of its world that the connection held are those of the service.
-abbrev pub ComesBack : {S : Type 0} → Ghosts S → Held S → Engine S → Type 0
+abbrev pub ComesBack : {S : Type 0} → Ghosts S → Held S → ServiceState S → Type 0
 ComesBack g old made =
     HasCleanDisk (state g made.conn) → (text : List ℕ) (w : Planet) (c : Campaign) → world_of text ≡ Ok w → IsGood w c → HoldsCampaign g old text c
     → (text_in g made.conn ≡ text) × (made.world ≡ w) × (made.campaign ≡ Some c)

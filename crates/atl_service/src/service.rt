@@ -44,11 +44,11 @@ impl<S: Alter + Drop> Drop for Service<S> {
 
 impl<S: Alter> Model for Service<S> {
     ghost use Rattle.std.specs.Prelude.{Some, None, cond};
-    ghost use Rattle.atl_service.specs.Engine.{Engine, engine_code, IsService};
+    ghost use Rattle.atl_service.specs.ServiceState.{ServiceState, service_code, IsService};
 
-    ghost Value = { Engine S };
+    ghost Value = { ServiceState S };
 
-    ghost coded = { engine_code S.code };
+    ghost coded = { service_code S.code };
 
     ghost view = { λ a. record { conn = a.conn; world = a.world; campaign = cond a.is_open (Some a.campaign.what) None } };
 
@@ -59,7 +59,7 @@ impl<S: Alter> Service<S> {
     ghost use Rattle.atl_state.specs.Good.{IsGood};
     ghost use Rattle.atl_state.specs.Marks.{no_marks};
     ghost use Rattle.atl_store.specs.Keeps.{HoldsCampaign, IsLater, SparesOthers};
-    ghost use Rattle.atl_service.specs.Engine.{text_in};
+    ghost use Rattle.atl_service.specs.ServiceState.{text_in};
     ghost use Rattle.atl_service.specs.Runs.{Runs, RunsAll, HeadlineAt};
 
     /// Runs one command. A command that is refused, or answered with a report, changes nothing. Fault Store comes only where

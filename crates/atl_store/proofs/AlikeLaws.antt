@@ -1,5 +1,5 @@
 -- Two good campaigns whose rows one database holds are one campaign.
-use Rattle.std.proofs.Common.{◌≡◌, ◌≢◌, ◌+◌, ◌≤◌, ◌<◌, ◌∙◌, ℕ, ℤ, zero, suc, pos, negsuc, Bool, true, false, cond, List, [], get_or, length, Some, inl, inr, refl, sym, ap, arith}
+use Rattle.std.proofs.Common.{◌≡◌, ◌≢◌, ◌+◌, ◌<◌, ◌∙◌, ℕ, ℤ, zero, suc, pos, negsuc, Bool, true, false, List, [], get_or, length, Some, inl, inr, refl, sym, ap, arith}
 use Rattle.std.specs.Prelude.{◌⊎◌, slice_index_or}
 use Rattle.std.specs.Ordering.{nat_cmp}
 use Rattle.std.specs.FinMap.{FinMap, get}
@@ -10,8 +10,6 @@ use Rattle.atl_tables.specs.Planet.{Planet}
 use Rattle.atl_state.specs.Books.{amount_in, entry_place, thing_at, thing_place, IsGrid}
 use Rattle.atl_state.specs.Founding as founding
 use Rattle.atl_state.specs.Good.{Every, IsGood}
-use Rattle.atl_state.specs.Held.{Held}
-use Rattle.atl_state.specs.Limits.{entry_count}
 use Rattle.atl_state.specs.State.{State}
 use Rattle.atl_state.specs.declared.books.Entry.{Entry}
 use Rattle.atl_state.specs.declared.books.Thing.{Thing}

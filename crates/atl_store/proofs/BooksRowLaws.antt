@@ -1,5 +1,5 @@
 -- What the statements on the table books mean, and what they do.
-use Rattle.std.proofs.Common.{◌≡◌, ℕ, ℤ, pos, true, List, [], ◌∷◌, codes, refl, sym, inl, inr, true≢false}
+use Rattle.std.proofs.Common.{◌≡◌, ℕ, ℤ, pos, true, List, [], ◌∷◌, refl, sym, inl, inr, true≢false}
 use Rattle.std.proofs.lemmas.Bool.{and_parts, not-true}
 use Rattle.sqlite_tied.specs.Compute.{everything}
 use Rattle.sqlite.specs.declared.types.Value.TheVariants.{Null}
@@ -16,6 +16,7 @@ use Rattle.sqlite_schema.specs.Rules.{passes}
 use Rattle.atl_store.specs.Tables.{books_table, books_unique}
 use Rattle.atl_store.specs.Shown.{books_key, books_row}
 use Rattle.atl_store.specs.Inside.{Puts, Drops}
+use Rattle.atl_store.specs.Statements.{put_books, drop_books}
 use Rattle.atl_store.proofs.KeyLaws.{int_by, cons_is}
 use Rattle.atl_store.proofs.KeyedRowLaws.{AreInts, HasKey, IsPutUnder, IsTakeOut, MakesValues, puts_keyed, drops_keyed}
 use Rattle.atl_store.proofs.StatementLaws.{AlwaysPlain, DoneBy}
@@ -49,9 +50,6 @@ has_key = record {
 
 -- ---- a row is put
 
-abbrev pub put_books : List ℕ
-put_books = codes "INSERT INTO books (entry, thing, amount) VALUES (?1, ?2, ?3) ON CONFLICT (entry, thing) DO UPDATE SET amount = ?3"
-
 abbrev terms : List Term
 terms = lit Null ∷ col 0 0 ∷ col 0 1 ∷ col 0 2 ∷ []
 
@@ -84,9 +82,6 @@ pub puts_books : (entry thing : ℕ) (amount : ℤ) → DoneBy put_books (books_
 puts_books entry thing amount = puts_keyed books_table.tree _ _ books_unique 8 has_key put_books 4 3 terms project put_is put_plain (books_row entry thing amount) (makes_row entry thing amount)
 
 -- ---- the row of a key is taken out
-
-abbrev pub drop_books : List ℕ
-drop_books = codes "DELETE FROM books WHERE entry = ?1 AND thing = ?2"
 
 abbrev of_key : List Term
 of_key = op2 (Compare Eq Binary) (col 1 1) (col 0 0) ∷ op2 (Compare Eq Binary) (col 1 2) (col 0 1) ∷ []

@@ -1,5 +1,5 @@
 -- Where the error of a call comes from, as it goes up.
-use Rattle.std.proofs.Common.{◌≡◌, ◌⊎◌, ◌≤◌, ℕ, List, true, false, true≢false, Result, Ok, Err, IsErrAnd, IfErr, refl, sym, ap, ◌∙◌, subst, inl, inr, arith}
+use Rattle.std.proofs.Common.{◌≡◌, ◌⊎◌, ◌≤◌, ℕ, List, zero, suc, true, false, true≢false, IsTrue, Result, Ok, Err, IsErrAnd, IfErr, refl, sym, ap, ◌∙◌, subst, inl, inr, arith}
 use Rattle.std.proofs.lemmas.Bool.{cases_Bool}
 use Rattle.sqlite_disk.specs.Disk.{MoreFaults}
 use Rattle.sqlite_trees.specs.declared.store.Store.{Ghosts}
@@ -13,7 +13,7 @@ use Rattle.sqlite.specs.Order.{Row}
 use Rattle.sqlite.specs.State.{State, HasCleanDisk, Survives, KeepsCommit, ExecutesIn, IsNotRun, Fails, HasCause, store_error, shows_rows}
 use Rattle.sqlite.proofs.InsideLemmas.{keeps_then}
 use Rattle.atl_store.specs.Faults.{is_memory}
-use Rattle.atl_store.specs.Causes.{IsGiven, IsBroken, IsRefused, Gives}
+use Rattle.atl_store.specs.Causes.{IsGiven, IsBroken, IsRefused, Gives, Leads, IsReached}
 
 more_later : (a b c : ℕ) → b ≤ c → MoreFaults a b → MoreFaults a c
 more_later a b c later more = omega (arith, later, more)
@@ -51,21 +51,35 @@ module _ (old new : State) where
   ]
 
   by_call : (e : Error) → IsGiven e old new → is_memory e ≡ false → Caused e
-  by_call e (inl ran) other = elim ran.2 [ inl whole ↦ by_execution ran.0 ran.1 e whole.0 other | inr ends ↦ inr (inr ends.2) ]
-  by_call e (inr (inl failed)) other = by_failure _ e failed other
-  by_call e (inr (inr late)) other = inr (inr late.2)
+  by_call e (inl ran) other = elim ran.3 [ inl whole ↦ by_execution ran.0 ran.1 e whole.0 other | inr ends ↦ inr (inr ends.2) ]
+  by_call e (inr (inside, inl failed)) other = by_failure _ e failed other
+  by_call e (inr (inside, inr late)) other = inr (inr late.2)
+
+-- ---- one statement after another
+
+module _ {S : Type 0} (g : Ghosts S) where
+  pub reached_then : (count : ℕ) (a b c : Held S) → Leads g count a b → IsReached g b c → IsReached g a c
+  reached_then zero a b c same rest = subst (λ h. IsReached g h c) (sym same) rest
+  reached_then (suc count) a b c first rest = let whole = reached_then count first.0 b c first.2 rest in (suc whole.0, (first.0, first.1, whole.1))
 
 -- ---- as it goes up
 
 module _ {S : Type 0} (g : Ghosts S) (e : Error) where
-  pub gives : (old new : Held S) → IsGiven e (state g old) (state g new) → Gives g e old new
-  gives old new given = record { before = old; after = new; kept = record { was_open = λ up. up; committed = λ _. refl }; given = given; cause = by_call (state g old) (state g new) e given }
+  -- a connection in a transaction
+  as_begun : (old : Held S) → IsTrue (state g old).in_transaction → record old { in_transaction = true } ≡ old
+  as_begun old inside = ap (λ b. record old { in_transaction = b }) (sym inside)
+
+  pub gives : (old new : Held S) → IsTrue (state g old).in_transaction → IsGiven e (state g old) (state g new) → Gives g e old new
+  gives old new inside given = record { before = old; after = new; reached = (0, as_begun old inside); kept = record { was_open = λ up. up; committed = λ _. refl }; given = given; cause = by_call (state g old) (state g new) e given }
 
   -- some calls later
-  pub gives_after : (old mid new : Held S) → HasCleanDisk (state g mid) → KeepsCommit (state g old) (state g mid) → Survives (state g old) (state g mid) (λ _. ⊥) → (state g mid).faults ≤ (state g new).faults → Gives g e mid new → Gives g e old new
-  gives_after old mid new clean kept survives counts gave = record {
+  pub gives_after : (old mid new : Held S) → IsTrue (state g old).in_transaction → IsTrue (state g mid).in_transaction → IsReached g old mid → HasCleanDisk (state g mid) → KeepsCommit (state g old) (state g mid) → Survives (state g old) (state g mid) (λ _. ⊥) → (state g mid).faults ≤ (state g new).faults → Gives g e mid new → Gives g e old new
+  gives_after old mid new was is reached clean kept survives counts gave = record {
     before = gave.before;
     after = gave.after;
+    reached =
+        let rest = subst (λ h. IsReached g h gave.before) (as_begun mid is) gave.reached in
+        subst (λ h. IsReached g h gave.before) (sym (as_begun old was)) (reached_then g reached.0 _ _ _ reached.1 rest);
     kept = keeps_then (state g old) (state g mid) (state g gave.before) kept gave.kept;
     given = gave.given;
     cause = λ other. elim (gave.cause other) [
@@ -83,6 +97,7 @@ module _ {S : Type 0} (g : Ghosts S) (e : Error) where
   gives_until old mid new counts gave = record {
     before = gave.before;
     after = gave.after;
+    reached = gave.reached;
     kept = gave.kept;
     given = gave.given;
     cause = λ other. elim (gave.cause other) [ inl (inl more) ↦ inl (inl (more_later _ _ _ counts more)) | inl (inr shut) ↦ inl (inr shut) | inr refused ↦ inr refused ];
@@ -95,6 +110,7 @@ module _ {S : Type 0} (g : Ghosts S) (e : Error) where
       record {
         before = same.before;
         after = same.after;
+        reached = same.reached;
         kept = record { was_open = same.kept.was_open; committed = same.kept.committed };
         given = same.given;
         cause = same.cause;

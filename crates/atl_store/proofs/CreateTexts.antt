@@ -1,5 +1,5 @@
 -- The nine texts that make the tables, and what each does.
-use Rattle.std.proofs.Common.{◌≡◌, ◌++◌, ◌∷◌, ℕ, false, List, [], Ok, codes, refl, sym, subst}
+use Rattle.std.proofs.Common.{◌≡◌, ◌++◌, ◌∷◌, ℕ, false, List, [], Ok, refl, sym, subst}
 use Rattle.sqlite_tied.specs.Compute.{everything}
 use Rattle.sqlite.specs.Change.{created, next_tree}
 use Rattle.sqlite.specs.Compile.{table_defined_by}
@@ -13,6 +13,7 @@ use Rattle.sqlite.proofs.Callers.{IsPlain, command_of, statement_of}
 use Rattle.atl_store.specs.Tables.{campaign_table, faction_table, region_table, unit_table, has_table, structure_table, mail_table, report_table, books_table, first_tables}
 use Rattle.atl_store.specs.Making.{Extends}
 use Rattle.atl_store.specs.Writes.{Runs}
+use Rattle.atl_store.specs.Statements.{create_campaign, create_faction, create_region, create_unit, create_has, create_structure, create_mail, create_report, create_books}
 use Rattle.atl_store.proofs.Made.{Creates}
 use Rattle.atl_store.proofs.CreateLaws.{creates}
 use Rattle.atl_store.proofs.MakingLaws.{extends}
@@ -38,64 +39,37 @@ makes before after table text is old new (inside, count, h) =
     (λ has. subst (λ s. Creates before s table.tree old.now new.now) is.after_is (subst (λ tree. Creates before (created before (record table { tree = 0 })) tree old.now new.now) is.tree_is
     (creates before (record table { tree = 0 }) text old new count is.command is.whole is.defines is.plain uncounted has h.0)))
 
-abbrev pub create_campaign : List ℕ
-create_campaign = codes "CREATE TABLE campaign (id INTEGER NOT NULL PRIMARY KEY CHECK (id = 1), format INTEGER NOT NULL, month INTEGER NOT NULL, next_faction INTEGER NOT NULL, next_unit INTEGER NOT NULL, next_structure INTEGER NOT NULL, pass TEXT NOT NULL, world TEXT NOT NULL) STRICT"
-
 pub makes_campaign : Makes (first_tables 0 0) (first_tables 1 0) create_campaign
 unfolding understood everything
 makes_campaign = makes (first_tables 0 0) (first_tables 1 0) campaign_table create_campaign (record { command = refl; whole = refl; defines = refl; plain = (refl, refl); after_is = refl; tree_is = refl; last = refl; uncounted = refl })
-
-abbrev pub create_faction : List ℕ
-create_faction = codes "CREATE TABLE faction (number INTEGER NOT NULL PRIMARY KEY, joined_as TEXT NOT NULL UNIQUE, name TEXT NOT NULL, pass TEXT NOT NULL, gone INTEGER NOT NULL) STRICT"
 
 pub makes_faction : Makes (first_tables 1 0) (first_tables 2 1) create_faction
 unfolding understood everything
 makes_faction = makes (first_tables 1 0) (first_tables 2 1) faction_table create_faction (record { command = refl; whole = refl; defines = refl; plain = (refl, refl); after_is = refl; tree_is = refl; last = refl; uncounted = refl })
 
-abbrev pub create_region : List ℕ
-create_region = codes "CREATE TABLE region (number INTEGER NOT NULL PRIMARY KEY, peasants INTEGER NOT NULL, money INTEGER NOT NULL) STRICT"
-
 pub makes_region : Makes (first_tables 2 1) (first_tables 3 1) create_region
 unfolding understood everything
 makes_region = makes (first_tables 2 1) (first_tables 3 1) region_table create_region (record { command = refl; whole = refl; defines = refl; plain = (refl, refl); after_is = refl; tree_is = refl; last = refl; uncounted = refl })
-
-abbrev pub create_unit : List ℕ
-create_unit = codes "CREATE TABLE unit (number INTEGER NOT NULL PRIMARY KEY, faction INTEGER NOT NULL, name TEXT NOT NULL, region INTEGER NOT NULL, structure INTEGER NOT NULL, men INTEGER NOT NULL, money INTEGER NOT NULL, guard INTEGER NOT NULL) STRICT"
 
 pub makes_unit : Makes (first_tables 3 1) (first_tables 4 1) create_unit
 unfolding understood everything
 makes_unit = makes (first_tables 3 1) (first_tables 4 1) unit_table create_unit (record { command = refl; whole = refl; defines = refl; plain = (refl, refl); after_is = refl; tree_is = refl; last = refl; uncounted = refl })
 
-abbrev pub create_has : List ℕ
-create_has = codes "CREATE TABLE has (unit INTEGER NOT NULL, sort INTEGER NOT NULL, thing INTEGER NOT NULL, amount INTEGER NOT NULL, PRIMARY KEY (unit, sort, thing)) STRICT"
-
 pub makes_has : Makes (first_tables 4 1) (first_tables 5 2) create_has
 unfolding understood everything
 makes_has = makes (first_tables 4 1) (first_tables 5 2) has_table create_has (record { command = refl; whole = refl; defines = refl; plain = (refl, refl); after_is = refl; tree_is = refl; last = refl; uncounted = refl })
-
-abbrev pub create_structure : List ℕ
-create_structure = codes "CREATE TABLE structure (number INTEGER NOT NULL PRIMARY KEY, kind INTEGER NOT NULL, name TEXT NOT NULL, region INTEGER NOT NULL, done INTEGER NOT NULL, owner INTEGER NOT NULL) STRICT"
 
 pub makes_structure : Makes (first_tables 5 2) (first_tables 6 2) create_structure
 unfolding understood everything
 makes_structure = makes (first_tables 5 2) (first_tables 6 2) structure_table create_structure (record { command = refl; whole = refl; defines = refl; plain = (refl, refl); after_is = refl; tree_is = refl; last = refl; uncounted = refl })
 
-abbrev pub create_mail : List ℕ
-create_mail = codes "CREATE TABLE mail (faction INTEGER NOT NULL PRIMARY KEY, text BLOB NOT NULL) STRICT"
-
 pub makes_mail : Makes (first_tables 6 2) (first_tables 7 2) create_mail
 unfolding understood everything
 makes_mail = makes (first_tables 6 2) (first_tables 7 2) mail_table create_mail (record { command = refl; whole = refl; defines = refl; plain = (refl, refl); after_is = refl; tree_is = refl; last = refl; uncounted = refl })
 
-abbrev pub create_report : List ℕ
-create_report = codes "CREATE TABLE report (faction INTEGER NOT NULL PRIMARY KEY, text TEXT NOT NULL) STRICT"
-
 pub makes_report : Makes (first_tables 7 2) (first_tables 8 2) create_report
 unfolding understood everything
 makes_report = makes (first_tables 7 2) (first_tables 8 2) report_table create_report (record { command = refl; whole = refl; defines = refl; plain = (refl, refl); after_is = refl; tree_is = refl; last = refl; uncounted = refl })
-
-abbrev pub create_books : List ℕ
-create_books = codes "CREATE TABLE books (entry INTEGER NOT NULL, thing INTEGER NOT NULL, amount INTEGER NOT NULL, PRIMARY KEY (entry, thing)) STRICT"
 
 pub makes_books : Makes (first_tables 8 2) (first_tables 9 3) create_books
 unfolding understood everything

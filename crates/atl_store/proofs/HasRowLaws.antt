@@ -1,5 +1,5 @@
 -- What the statements on the table has mean, and what they do.
-use Rattle.std.proofs.Common.{◌≡◌, ℕ, pos, true, List, [], ◌∷◌, codes, refl, sym, inl, inr, true≢false}
+use Rattle.std.proofs.Common.{◌≡◌, ℕ, pos, true, List, [], ◌∷◌, refl, sym, inl, inr, true≢false}
 use Rattle.std.proofs.lemmas.Bool.{and_parts, not-true}
 use Rattle.sqlite_tied.specs.Compute.{everything}
 use Rattle.sqlite.specs.declared.types.Value.TheVariants.{Null}
@@ -16,6 +16,7 @@ use Rattle.sqlite_schema.specs.Rules.{passes}
 use Rattle.atl_store.specs.Tables.{has_table, has_unique}
 use Rattle.atl_store.specs.Shown.{int, has_row}
 use Rattle.atl_store.specs.Inside.{Puts, Drops}
+use Rattle.atl_store.specs.Statements.{put_has, drop_goods}
 use Rattle.atl_store.proofs.KeyLaws.{int_by, cons_is}
 use Rattle.atl_store.proofs.KeyedRowLaws.{AreInts, HasKey, IsPutUnder, IsTakeOut, MakesValues, puts_keyed, drops_keyed}
 use Rattle.atl_store.proofs.StatementLaws.{AlwaysPlain, DoneBy}
@@ -52,9 +53,6 @@ has_key = record {
 
 -- ---- a row is put
 
-abbrev pub put_has : List ℕ
-put_has = codes "INSERT INTO has (unit, sort, thing, amount) VALUES (?1, ?2, ?3, ?4) ON CONFLICT (unit, sort, thing) DO UPDATE SET amount = ?4"
-
 abbrev terms : List Term
 terms = lit Null ∷ col 0 0 ∷ col 0 1 ∷ col 0 2 ∷ col 0 3 ∷ []
 
@@ -88,9 +86,6 @@ pub puts_has : (unit sort thing amount : ℕ) → DoneBy put_has (has_row unit s
 puts_has unit sort thing amount = puts_keyed has_table.tree _ _ has_unique 4 has_key put_has 5 4 terms project put_is put_plain (has_row unit sort thing amount) (makes_row unit sort thing amount)
 
 -- ---- all rows of a unit are taken out
-
-abbrev pub drop_goods : List ℕ
-drop_goods = codes "DELETE FROM has WHERE unit = ?1"
 
 abbrev of_unit : List Term
 of_unit = op2 (Compare Eq Binary) (col 1 1) (col 0 0) ∷ []

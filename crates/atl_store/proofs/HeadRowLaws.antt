@@ -1,5 +1,5 @@
 -- What the statement on the table campaign means, and what it does: the row is put, or changed but for its format and its world text.
-use Rattle.std.proofs.Common.{IsTrue, ◌≡◌, ℕ, pos, true, List, [], ◌∷◌, codes, Some, Ok, refl, sym, ap, ◌∙◌, subst, inl, take}
+use Rattle.std.proofs.Common.{IsTrue, ◌≡◌, ℕ, pos, true, List, [], ◌∷◌, Some, Ok, refl, sym, ap, ◌∙◌, subst, inl, take}
 use Rattle.sqlite_tied.specs.Compute.{everything}
 use Rattle.sqlite.specs.declared.types.Value.TheVariants.{Null, Int, Text}
 use Rattle.sqlite.specs.Command.TheVariants.{InsertOr}
@@ -25,6 +25,7 @@ use Rattle.sqlite.specs.Table.{Table}
 use Rattle.sqlite_schema.specs.declared.schema.Index.{Index}
 use Rattle.atl_store.specs.Inside.{Inside, HasTables, Done, Puts}
 use Rattle.atl_store.specs.PutsHead.{PutsHead}
+use Rattle.atl_store.specs.Statements.{put_campaign}
 use Rattle.atl_store.proofs.ListLaws.{has_map, map_has}
 use Rattle.atl_store.proofs.UpsertLaws.{Upserted, hits, update_query, clause_on}
 use Rattle.atl_store.proofs.StatementLaws.{upserting}
@@ -34,9 +35,6 @@ use Rattle.atl_store.proofs.Terms.{cast_null, cast_int, head_is, by_number, one_
 
 ours : Has all_tables campaign_table
 ours = inl refl
-
-abbrev pub put_campaign : List ℕ
-put_campaign = codes "INSERT INTO campaign (id, format, month, next_faction, next_unit, next_structure, pass, world) VALUES (1, 1, ?1, ?2, ?3, ?4, ?5, ?6) ON CONFLICT (id) DO UPDATE SET month = ?1, next_faction = ?2, next_unit = ?3, next_structure = ?4, pass = ?5"
 
 abbrev terms : List Term
 terms = lit (Int (pos 1)) ∷ lit Null ∷ lit (Int (pos 1)) ∷ col 0 0 ∷ col 0 1 ∷ col 0 2 ∷ col 0 3 ∷ col 0 4 ∷ col 0 5 ∷ []

@@ -1,5 +1,5 @@
 -- What the statements on the six tables under a number mean, and what they do.
-use Rattle.std.proofs.Common.{ℕ, pos, Bool, if◌then◌else◌, List, [], ◌∷◌, codes, refl, inl, inr}
+use Rattle.std.proofs.Common.{ℕ, pos, Bool, if◌then◌else◌, List, [], ◌∷◌, refl, inl, inr}
 use Rattle.sqlite_tied.specs.Compute.{everything}
 use Rattle.sqlite.specs.declared.types.Value.TheVariants.{Text, Blob}
 use Rattle.sqlite.specs.Listing.{understood}
@@ -7,17 +7,12 @@ use Rattle.sqlite.specs.Order.{Row}
 use Rattle.atl_store.specs.Tables.{faction_table, region_table, unit_table, structure_table, mail_table, report_table}
 use Rattle.atl_store.specs.Shown.{int, flag, faction_row, region_row, unit_row, structure_row, mail_row, report_row}
 use Rattle.atl_store.specs.Inside.{Puts, Drops}
+use Rattle.atl_store.specs.Statements.{put_faction, drop_faction, put_region, drop_region, put_unit, drop_unit, put_structure, drop_structure, put_mail, drop_mail, put_report, drop_report}
 use Rattle.atl_store.proofs.NumberedLaws.{IsNumbered, MakesRow, puts_numbered, drops_numbered}
 use Rattle.atl_store.proofs.StatementLaws.{DoneBy}
 use Rattle.atl_store.proofs.Terms.{cast_null, cast_int}
 
 -- ---- faction
-
-abbrev pub put_faction : List ℕ
-put_faction = codes "INSERT INTO faction (number, joined_as, name, pass, gone) VALUES (?1, ?2, ?3, ?4, ?5) ON CONFLICT (number) DO UPDATE SET joined_as = ?2, name = ?3, pass = ?4, gone = ?5"
-
-abbrev pub drop_faction : List ℕ
-drop_faction = codes "DELETE FROM faction WHERE number = ?1"
 
 faction_statements : IsNumbered faction_table 1 4 put_faction drop_faction
 unfolding understood everything
@@ -53,12 +48,6 @@ drops_faction = drops_numbered faction_table.tree _ _ _ _ 1 4 put_faction drop_f
 
 -- ---- region
 
-abbrev pub put_region : List ℕ
-put_region = codes "INSERT INTO region (number, peasants, money) VALUES (?1, ?2, ?3) ON CONFLICT (number) DO UPDATE SET peasants = ?2, money = ?3"
-
-abbrev pub drop_region : List ℕ
-drop_region = codes "DELETE FROM region WHERE number = ?1"
-
 region_statements : IsNumbered region_table 2 2 put_region drop_region
 unfolding understood everything
 region_statements = record {
@@ -92,12 +81,6 @@ pub drops_region : (number : ℕ) → DoneBy drop_region (int number ∷ []) (Dr
 drops_region = drops_numbered region_table.tree _ _ _ _ 2 2 put_region drop_region region_statements
 
 -- ---- unit
-
-abbrev pub put_unit : List ℕ
-put_unit = codes "INSERT INTO unit (number, faction, name, region, structure, men, money, guard) VALUES (?1, ?2, ?3, ?4, ?5, ?6, ?7, ?8) ON CONFLICT (number) DO UPDATE SET faction = ?2, name = ?3, region = ?4, structure = ?5, men = ?6, money = ?7, guard = ?8"
-
-abbrev pub drop_unit : List ℕ
-drop_unit = codes "DELETE FROM unit WHERE number = ?1"
 
 unit_statements : IsNumbered unit_table 3 7 put_unit drop_unit
 unfolding understood everything
@@ -134,12 +117,6 @@ drops_unit = drops_numbered unit_table.tree _ _ _ _ 3 7 put_unit drop_unit unit_
 
 -- ---- structure
 
-abbrev pub put_structure : List ℕ
-put_structure = codes "INSERT INTO structure (number, kind, name, region, done, owner) VALUES (?1, ?2, ?3, ?4, ?5, ?6) ON CONFLICT (number) DO UPDATE SET kind = ?2, name = ?3, region = ?4, done = ?5, owner = ?6"
-
-abbrev pub drop_structure : List ℕ
-drop_structure = codes "DELETE FROM structure WHERE number = ?1"
-
 structure_statements : IsNumbered structure_table 5 5 put_structure drop_structure
 unfolding understood everything
 structure_statements = record {
@@ -175,12 +152,6 @@ drops_structure = drops_numbered structure_table.tree _ _ _ _ 5 5 put_structure 
 
 -- ---- mail
 
-abbrev pub put_mail : List ℕ
-put_mail = codes "INSERT INTO mail (faction, text) VALUES (?1, ?2) ON CONFLICT (faction) DO UPDATE SET text = ?2"
-
-abbrev pub drop_mail : List ℕ
-drop_mail = codes "DELETE FROM mail WHERE faction = ?1"
-
 mail_statements : IsNumbered mail_table 6 1 put_mail drop_mail
 unfolding understood everything
 mail_statements = record {
@@ -213,12 +184,6 @@ pub drops_mail : (faction : ℕ) → DoneBy drop_mail (int faction ∷ []) (Drop
 drops_mail = drops_numbered mail_table.tree _ _ _ _ 6 1 put_mail drop_mail mail_statements
 
 -- ---- report
-
-abbrev pub put_report : List ℕ
-put_report = codes "INSERT INTO report (faction, text) VALUES (?1, ?2) ON CONFLICT (faction) DO UPDATE SET text = ?2"
-
-abbrev pub drop_report : List ℕ
-drop_report = codes "DELETE FROM report WHERE faction = ?1"
 
 report_statements : IsNumbered report_table 7 1 put_report drop_report
 unfolding understood everything

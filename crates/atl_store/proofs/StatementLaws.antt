@@ -1,5 +1,5 @@
 -- What the statements on one table make of a database.
-use Rattle.std.proofs.Common.{IsTrue, ◌≡◌, ◌/◌, ℕ, ℤ, Bool, false, List, [], ◌∷◌, ◌++◌, length, slice_get, Option, Some, None, Ok, sym, ap, ◌∙◌, subst}
+use Rattle.std.proofs.Common.{IsTrue, ◌≡◌, ◌/◌, ℕ, ℤ, Bool, true, false, List, [], ◌∷◌, ◌++◌, length, slice_get, Option, Some, None, Ok, sym, ap, ◌∙◌, subst}
 use Rattle.sqlite_value.specs.Order.{Row, column}
 use Rattle.sqlite_trees.specs.Tree.{Trees, rowid}
 use Rattle.sqlite_sql.specs.Term.{Term}
@@ -27,6 +27,8 @@ use Rattle.sqlite.specs.Effect.{Database, Answers, value_rows}
 use Rattle.sqlite.specs.Rows.{Written, Task, Then, Gives, TriesEach, Counts, InsertsOr, count_of, nothing, mended, shown}
 use Rattle.sqlite.specs.Does.{Tally, Does, AtPlace, OnRows, Concludes}
 use Rattle.atl_store.specs.Sets.{table, IsKeyed}
+use Rattle.atl_store.specs.Stored.{Form}
+use Rattle.atl_store.specs.Statements.{writings, have_forms, IsWriting}
 use Rattle.atl_store.proofs.EditLaws.{Loses, deletes, went, same_value}
 use Rattle.atl_store.proofs.ListLaws.{AreFound}
 use Rattle.atl_store.proofs.UpsertLaws.{update_query, clause_on, Upserted, upserts}
@@ -120,6 +122,10 @@ module _ (schema : Schema) (tree : ℕ) (name : List ℕ) (columns : List Column
 -- whatever came behind the nine tables, the statement of this text commits nothing by itself
 abbrev pub AlwaysPlain : List ℕ → Type 0
 AlwaysPlain sql = (more : List Table) (indexes : List Index) → IsPlain (understood (nine_and more indexes) sql)
+
+-- a statement of a writing has the values of a row that fits it
+pub writing : (at : ℕ) (forms : List Form) (sql : List ℕ) (params row : Row) → slice_get writings at ≡ Some (sql, forms) → have_forms forms row ≡ true → params ≡ row → IsWriting sql params
+writing at forms sql params row listed fits same = (at, forms, listed, subst (λ p. have_forms forms p ≡ true) (sym same) fits)
 
 -- inside a transaction this is done by the statement of this text with these parameters
 abbrev pub DoneBy : List ℕ → Row → (Database → Database → Type 0) → Type 1

@@ -97,7 +97,9 @@ module _ {S : Type 0} (g : Ghosts S) (old : Held S) (begun mid : MutBor (Held S)
         if_err r (λ e failed. elim failed [ inl fails ↦ rolled_back (did.kept before) fails.3 | inr late ↦ absurd (true≢false (sym inside ∙ late.1)) ]) (fails clean);
     told = λ clean.
         let before : HasCleanDisk (state g mid.now) = omega (arith, survives.clean) in
-        if_err r (λ e failed. gives_begun g e old begun.now end begins (gives_after g e begun.now mid.now end before (did.kept before) did.survives survives.counts (gives g e mid.now end (inr failed)))) (fails clean);
+        let inside : IsTrue (state g mid.now).in_transaction = (did.does before).0 ∙ ap (λ (h : Held S). h.in_transaction) begins in
+        let reached = did.reaches before inside_begun in
+        if_err r (λ e failed. gives_begun g e old begun.now end begins (gives_after g e begun.now mid.now end inside_begun inside reached before (did.kept before) did.survives survives.counts (gives g e mid.now end inside (inr (inside, failed))))) (fails clean);
     crash = crash_after g old begun.now mid.now end begins Before Does did.survives did.does survives;
     idle = over;
   }

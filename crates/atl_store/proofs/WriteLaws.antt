@@ -11,7 +11,8 @@ use Rattle.sqlite.specs.Order.{Row}
 use Rattle.sqlite.specs.State.{State, HasCleanDisk, Survives, KeepsCommit, ExecutesInside}
 use Rattle.sqlite.proofs.InsideLemmas.{inside_keeps}
 use Rattle.atl_store.specs.Writes.{Writes, Runs}
-use Rattle.atl_store.proofs.CauseLaws.{gives, gives_after, errs_as}
+use Rattle.atl_store.specs.Statements.{IsWriting}
+use Rattle.atl_store.proofs.CauseLaws.{gives, gives_after, reached_then, errs_as}
 use Rattle.atl_store.proofs.KeepLaws.{survives_more, keeps_more, on_ok, if_err}
 
 -- with an error nothing has to be done
@@ -41,7 +42,7 @@ Any old new = Unit {0}
 module _ {S : Type 0} (g : Ghosts S) where
   -- ---- one statement
 
-  module _ (old new : MutBor (Held S)) (sql : List ℕ) (params : Row) (same : new.ghost_name ≡ old.ghost_name) (survives : Survives (state g old.now) (state g new.now) (λ _. ⊥)) where
+  module _ (old new : MutBor (Held S)) (sql : List ℕ) (params : Row) (own : IsWriting sql params) (same : new.ghost_name ≡ old.ghost_name) (survives : Survives (state g old.now) (state g new.now) (λ _. ⊥)) where
     abbrev Ended : Result ℕ Error → Type 0
     Ended r = (state g old.now).in_transaction ≡ false → (r ≡ Err (SqliteFailure TransactionState)) × (new.now ≡ old.now)
 
@@ -59,7 +60,8 @@ module _ {S : Type 0} (g : Ghosts S) where
       same_reference = same;
       does = λ _. not_ok result _ failed.0;
       goes_on = λ _. not_ok result _ failed.0;
-      told = λ clean inside. errs_as _ result e failed.1 (gives g e old.now new.now (inl (sql, params, ran clean inside)));
+      reaches = λ clean inside. not_ok result _ failed.0;
+      told = λ clean inside. errs_as _ result e failed.1 (gives g e old.now new.now inside (inl (sql, params, own, ran clean inside)));
       kept = keeps (Err e) ended ran;
       survives = survives;
     }
@@ -75,6 +77,7 @@ module _ {S : Type 0} (g : Ghosts S) where
         | inl inside ↦ (ran clean inside).1.mode ∙ sym inside
         | inr outside ↦ absurd (let e = (ended outside).0 in cc)
       ];
+      reaches = λ clean inside. (1, (new.now, (sql, params, own, count, ran clean inside), refl));
       told = λ clean inside. tt;
       kept = keeps (Ok count) ended ran;
       survives = survives;
@@ -84,7 +87,7 @@ module _ {S : Type 0} (g : Ghosts S) where
 
   -- what is done, said otherwise
   pub weaker : {First Does : State → State → Type 0} {A : Type 0} {r : Result A Error} {a b : MutBor (Held S)} → ((old new : State) → First old new → Does old new) → Writes g First r a b → Writes g Does r a b
-  weaker {r = r} less one = record { same_reference = one.same_reference; does = λ clean. on_ok r (less _ _) (one.does clean); goes_on = one.goes_on; told = one.told; kept = one.kept; survives = one.survives }
+  weaker {r = r} less one = record { same_reference = one.same_reference; does = λ clean. on_ok r (less _ _) (one.does clean); goes_on = one.goes_on; reaches = one.reaches; told = one.told; kept = one.kept; survives = one.survives }
 
   -- it gives what its second step gives
   pub two_steps : {First Second Does : State → State → Type 0} {A X : Type 0} {x : X} {r : Result A Error} {a b c : MutBor (Held S)}
@@ -95,7 +98,12 @@ module _ {S : Type 0} (g : Ghosts S) where
         same_reference = two.same_reference ∙ one.same_reference;
         does = λ clean. on_ok r (both _ _ _ (one.does (before clean))) (two.does clean);
         goes_on = λ clean. on_ok r (λ same. same ∙ one.goes_on (before clean)) (two.goes_on clean);
-        told = λ clean inside. if_err r (λ e. gives_after g e a.now b.now c.now (before clean) (one.kept (before clean)) one.survives two.survives.counts) (two.told clean (subst IsTrue (sym (one.goes_on (before clean))) inside));
+        reaches = λ clean inside.
+            let first = one.reaches (before clean) inside in
+            on_ok r (reached_then g first.0 _ _ _ first.1) (two.reaches clean (subst IsTrue (sym (one.goes_on (before clean))) inside));
+        told = λ clean inside.
+            let still : IsTrue (state g b.now).in_transaction = subst IsTrue (sym (one.goes_on (before clean))) inside in
+            if_err r (λ e. gives_after g e a.now b.now c.now inside still (one.reaches (before clean) inside) (before clean) (one.kept (before clean)) one.survives two.survives.counts) (two.told clean still);
         kept = keeps_more _ _ _ two.survives one.kept two.kept;
         survives = survives_more _ _ _ one.survives two.survives;
       }
@@ -106,6 +114,7 @@ module _ {S : Type 0} (g : Ghosts S) where
     same_reference = one.same_reference;
     does = λ _. not_ok r _ failed.0;
     goes_on = λ _. not_ok r _ failed.0;
+    reaches = λ clean inside. not_ok r _ failed.0;
     told = λ clean inside. errs_as _ r e failed.1 (one.told clean inside);
     kept = one.kept;
     survives = one.survives;
@@ -132,6 +141,7 @@ module _ {S : Type 0} (g : Ghosts S) where
             let before : HasCleanDisk (state g c.now) = omega (arith, three.survives.clean) in
             on_ok r (all _ _ _ _ (one.does (omega (arith, before, two.survives.clean))) (two.does before)) (three.does clean);
         goes_on = whole.goes_on;
+        reaches = whole.reaches;
         told = whole.told;
         kept = whole.kept;
         survives = whole.survives;
@@ -150,6 +160,7 @@ module _ {S : Type 0} (g : Ghosts S) where
             let first : HasCleanDisk (state g c.now) = omega (arith, before, three.survives.clean) in
             on_ok r (all _ _ _ _ _ (one.does (omega (arith, first, two.survives.clean))) (two.does first) (three.does before)) (four.does clean);
         goes_on = whole.goes_on;
+        reaches = whole.reaches;
         told = whole.told;
         kept = whole.kept;
         survives = whole.survives;
@@ -161,4 +172,4 @@ module _ {S : Type 0} (g : Ghosts S) where
 
   -- nothing is done yet
   pub begins : {Does : State → State → Type 0} {A : Type 0} {a : A} {b : MutBor (Held S)} → ((s : State) → Does s s) → Writes g Does (Ok a) b b
-  begins none = record { same_reference = refl; does = λ _. none _; goes_on = λ _. refl; told = λ clean inside. tt; kept = λ _. record { was_open = λ up. up; committed = λ _. refl }; survives = survives_start _ }
+  begins none = record { same_reference = refl; does = λ _. none _; goes_on = λ _. refl; reaches = λ clean inside. (0, refl); told = λ clean inside. tt; kept = λ _. record { was_open = λ up. up; committed = λ _. refl }; survives = survives_start _ }

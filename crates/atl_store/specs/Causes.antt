@@ -1,5 +1,5 @@
 -- Why the database gives an error inside a transaction.
-use Rattle.std.specs.Prelude.{◌≡◌, ◌⊎◌, ℕ, List, false, Err}
+use Rattle.std.specs.Prelude.{◌≡◌, ◌⊎◌, ℕ, zero, suc, List, true, false, IsTrue, Ok, Err}
 use Rattle.sqlite_disk.specs.Disk.{MoreFaults}
 use Rattle.sqlite_trees.specs.declared.store.Store.{Ghosts}
 use Rattle.sqlite.specs.declared.error.Error.{Error}
@@ -10,10 +10,23 @@ use Rattle.sqlite.specs.Order.{Row}
 use Rattle.sqlite.specs.State.{State, KeepsCommit, IsUnchanged, ExecutesInside}
 use Rattle.sqlite.specs.Steps.{FailsToCommit}
 use Rattle.atl_store.specs.Faults.{is_memory}
+use Rattle.atl_store.specs.Statements.{IsWriting}
 
--- a statement gave this error, or the commit
+-- a statement of a writing ran
+abbrev pub RunsWriting : State → State → Type 0
+RunsWriting before after = (sql : List ℕ) × (params : Row) × IsWriting sql params × (count : ℕ) × ExecutesInside 0 sql params before after (Ok count)
+
+-- so many of them lead from the one to the other
+abbrev pub Leads : {S : Type 0} → Ghosts S → ℕ → Held S → Held S → Type 0
+Leads g zero old new = old ≡ new
+Leads {S} g (suc count) old new = (mid : Held S) × RunsWriting (state g old) (state g mid) × Leads g count mid new
+
+abbrev pub IsReached : {S : Type 0} → Ghosts S → Held S → Held S → Type 0
+IsReached g old new = (count : ℕ) × Leads g count old new
+
+-- a statement of a writing gave this error, or the commit of the transaction
 abbrev pub IsGiven : Error → State → State → Type 0
-IsGiven e before after = ((sql : List ℕ) × (params : Row) × ExecutesInside 0 sql params before after (Err e)) ⊎ FailsToCommit before after e
+IsGiven e before after = ((sql : List ℕ) × (params : Row) × IsWriting sql params × ExecutesInside 0 sql params before after (Err e)) ⊎ (IsTrue before.in_transaction × FailsToCommit before after e)
 
 -- the disk failed since, or the connection was shut
 abbrev pub IsBroken : State → State → Type 0
@@ -23,16 +36,18 @@ IsBroken old new = MoreFaults old.faults new.faults ⊎ (old.is_open ≡ false)
 abbrev pub IsRefused : Error → State → State → Type 0
 IsRefused e before after = (e ≡ SqliteFailure TooBig) ⊎ IsUnchanged before after
 
--- A call of a transaction on this connection gave this error. Of want of memory the database tells no cause; any other error has one.
+-- A call of a writing's transaction on this connection gave this error. Of want of memory the database tells no cause; any other error has one.
 pub record Gives {S : Type 0} (g : Ghosts S) (e : Error) (old new : Held S) : Type 0 where
   -- the connection as the call found it, and as it left it
   pub before : Held S
   pub after : Held S
-  -- nothing was committed before the call
+  -- behind the beginning of the transaction, statements of writings alone ran before the call
+  pub reached : IsReached g (record old { in_transaction = true }) before
+  -- nothing was committed before it
   pub kept : KeepsCommit (state g old) (state g before)
   pub given : IsGiven e (state g before) (state g after)
   pub cause : is_memory e ≡ false → IsBroken (state g old) (state g new) ⊎ IsRefused e (state g before) (state g after)
 
--- A fault tells an error that a call of a transaction on this connection gave.
+-- A fault tells an error that a call of a writing's transaction on this connection gave.
 abbrev pub IsTold : {S F : Type 0} → Ghosts S → (Error → F) → Held S → Held S → F → Type 0
 IsTold g fault_of old new fault = (e : Error) × (fault ≡ fault_of e) × Gives g e old new

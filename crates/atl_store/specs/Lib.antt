@@ -7,6 +7,7 @@ pub mod Shown
 pub mod PutsHead
 pub mod Written
 pub mod Faults
+pub mod Statements
 pub mod Causes
 pub mod Stored
 pub mod Selects

@@ -8,7 +8,7 @@ use Rattle.sqlite.specs.Effect.{Database}
 use Rattle.sqlite.specs.Order.{Row}
 use Rattle.sqlite.specs.State.{State, HasCleanDisk, Survives, KeepsCommit, ExecutesInside}
 use Rattle.atl_store.specs.Inside.{Commits, LeavesOff, MayLeave}
-use Rattle.atl_store.specs.Causes.{Gives}
+use Rattle.atl_store.specs.Causes.{Gives, IsReached}
 
 -- A step inside a transaction, which stays on the connection that it is on.
 pub record Writes {S : Type 0} (g : Ghosts S) (Does : State → State → Type 0) {A : Type 0} (result : Result A Error) (old new : MutBor (Held S)) : Type 0 where
@@ -18,6 +18,8 @@ pub record Writes {S : Type 0} (g : Ghosts S) (Does : State → State → Type 0
   pub does : HasCleanDisk (state g new.now) → OnOk result (Does (state g old.now) (state g new.now))
   -- With Ok the transaction goes on.
   pub goes_on : HasCleanDisk (state g new.now) → OnOk result ((state g new.now).in_transaction ≡ (state g old.now).in_transaction)
+  -- With Ok it has run statements of writings alone, where the transaction was going on.
+  pub reaches : HasCleanDisk (state g new.now) → IsTrue (state g old.now).in_transaction → OnOk result (IsReached g old.now new.now)
   -- Its error is one that a call gave, where the transaction was going on.
   pub told : HasCleanDisk (state g new.now) → IsTrue (state g old.now).in_transaction → IfErr result (λ e. Gives g e old.now new.now)
   -- It has committed nothing.
@@ -35,7 +37,7 @@ pub record Transacts {S : Type 0} (g : Ghosts S) (Before : Database → Type 0) 
   pub ok : HasCleanDisk (state g new) → OnOk result (Commits Before Does (state g old) (state g new))
   -- With an error it has done nothing.
   pub err : HasCleanDisk (state g new) → OnErr result (LeavesOff (state g old) (state g new))
-  -- Its error is one that a statement gave, or the commit.
+  -- Its error is one that a statement of the writing gave, or the commit.
   pub told : HasCleanDisk (state g new) → IfErr result (λ e. Gives g e old new)
   -- A crash leaves what it could have left before, or what is done.
   pub crash : Survives (state g old) (state g new) (MayLeave Before Does (state g old))

@@ -1,6 +1,6 @@
 use Rattle.std.proofs.Common.{Some, true, sym, ap, subst}
 use Rattle.atl_state.specs.State.{State, Marked}
-use Rattle.atl_service.specs.Engine.{Stands}
+use Rattle.atl_service.specs.ServiceState.{Stands}
 use Rattle.atl_service.specs.Found.{Founds}
 use Rattle.atl_service.proofs.FoundServiceLaws.{spared, founded_stands, founds_on, refused_by_store}
 use Rattle.atl_service.proofs.service.found.Goals as goal

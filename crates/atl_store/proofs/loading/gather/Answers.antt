@@ -1,4 +1,4 @@
-use Rattle.std.proofs.Common.{subst, inl, arith, IfErr, Some, None}
+use Rattle.std.proofs.Common.{subst, inl, arith, IfErr}
 use Rattle.sqlite.specs.Held.{state}
 use Rattle.sqlite.specs.State.{HasCleanDisk}
 use Rattle.atl_store.specs.Gathering.{Found, FailsToRead, AreOthers, IsMadeOf}

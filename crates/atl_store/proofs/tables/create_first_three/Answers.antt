@@ -1,3 +1,4 @@
+use Rattle.std.proofs.Common.{refl}
 use Rattle.atl_store.specs.Tables.{first_tables}
 use Rattle.atl_store.proofs.CreateTexts.{makes_campaign, makes_faction, makes_region}
 use Rattle.atl_store.proofs.MakingLaws.{extends_three}
@@ -14,3 +15,12 @@ returns-in_err-run g c = stops g.S.Store c.in_err-run.ensures c.from_residual.en
 
 pub returns-in_err-run-2 : goal.returns-in_err-run-2
 returns-in_err-run-2 g c = stops_second g.S.Store (weaker g.S.Store makes_campaign c.in_ok-run.ensures) c.in_err-run-2.ensures c.from_residual-in_err-run-2.ensures
+
+pub run-requires : goal.run-requires
+run-requires g c = record { own = (17, _, refl, refl) }
+
+pub run-requires-2 : goal.run-requires-2
+run-requires-2 g c = record { own = (18, _, refl, refl) }
+
+pub run-requires-3 : goal.run-requires-3
+run-requires-3 g c = record { own = (19, _, refl, refl) }

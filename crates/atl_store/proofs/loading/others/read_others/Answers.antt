@@ -1,4 +1,4 @@
-use Rattle.std.proofs.Common.{List, ◌++◌, Ok, Err, refl}
+use Rattle.std.proofs.Common.{◌++◌, Ok, Err, refl}
 use Rattle.std.specs.Prelude.{⊤}
 use Rattle.std.specs.Option.{option_zip}
 use Rattle.atl_store.specs.Gathering.{AreTwo, AreThree, place_selects, people_selects, work_selects}

@@ -1,4 +1,4 @@
-use Rattle.std.proofs.Common.{List, [], ◌∷◌}
+use Rattle.std.proofs.Common.{[], ◌∷◌}
 use Rattle.atl_store.specs.Gathering.{AreRows}
 use Rattle.atl_store.proofs.GatherLaws.{settled_then, first_fails, second_fails, reads_both, rows_behind}
 use Rattle.atl_store.proofs.loading.others.read_three.Goals as goal

@@ -13,13 +13,13 @@ use Rattle.atl_store.specs.Keeps.{HoldsCampaign}
 use Rattle.atl_store.specs.WorldText.{world_text}
 
 -- the connection, the world, and the campaign, which is there while the service is open
-pub record Engine (S : Type 0) : Type 0 where
+pub record ServiceState (S : Type 0) : Type 0 where
   pub conn : Held S
   pub world : Planet
   pub campaign : Option Campaign
 
-abbrev pub engine_code : {S : Type 0} → Coded S → Coded (Engine S)
-engine_code {S} store =
+abbrev pub service_code : {S : Type 0} → Coded S → Coded (ServiceState S)
+service_code {S} store =
     code_by (Held S × (Planet × Option Campaign)) (coded× (held_code store) (coded× planet_code (coded_option state_code)))
     (λ e. (e.conn, (e.world, e.campaign)))
     (λ p. record { conn = p.0; world = p.1.0; campaign = p.1.1 })
