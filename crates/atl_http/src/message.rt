@@ -4,6 +4,7 @@ ghost use Rattle.http.specs.StatusCode.{reason_phrase};
 ghost use Rattle.atl_http.specs.Replies.{json, allow_line, head_of, error_body, problem_reply};
 ghost use Rattle.atl_http.specs.Moving.{Says};
 
+use atl_tables::let_go;
 use crate::problem::Problem;
 use crate::route::Route;
 use http::StatusCode;
@@ -27,10 +28,7 @@ pub struct Message {
 
 impl Drop for Message {
     fn drop(self) {
-        let Message {
-            status: _,
-            bytes: _,
-        } = self;
+        let_go!(self: Message { status, bytes });
     }
 }
 

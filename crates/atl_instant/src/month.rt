@@ -11,7 +11,7 @@ use crate::standing::unit_of;
 use crate::written::{Arrangement, Written};
 use atl_orders::{Mailing, Order, UnitRef};
 use atl_state::Event;
-use atl_tables::Numbered;
+use atl_tables::{Numbered, let_go};
 use std::alloc::{AllocError, Global};
 use std::marker::Model;
 
@@ -28,12 +28,7 @@ pub struct Month {
 
 impl Drop for Month {
     fn drop(self) {
-        let Month {
-            mailings: _,
-            aliases: _,
-            words: _,
-            events: _,
-        } = self;
+        let_go!(self: Month { mailings, aliases, words, events });
     }
 }
 

@@ -1,4 +1,5 @@
 //! The calls that are tried, and what comes of each where memory is ample.
+use atl_tables::let_go;
 use crate::setting::{all_commands, begun, close, founded, join, next_mail, report};
 use crate::texts::{books, rows, told};
 use atl_service::{Command, Service};
@@ -88,14 +89,7 @@ pub struct Case {
 
 impl Drop for Case {
     fn drop(self) {
-        let Case {
-            call: _,
-            commands: _,
-            later: _,
-            told: _,
-            rows: _,
-            books: _,
-        } = self;
+        let_go!(self: Case { call, commands, later, told, rows, books });
     }
 }
 

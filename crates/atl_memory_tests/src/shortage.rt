@@ -1,4 +1,5 @@
 //! The two ways to be without memory.
+use atl_tables::let_go;
 use crate::drought::Drought;
 use crate::fuse;
 use std::alloc::Global;
@@ -22,11 +23,7 @@ pub struct Shortage {
 
 impl Drop for Shortage {
     fn drop(self) {
-        let Shortage {
-            limit: _,
-            was_refused: _,
-            drought: _,
-        } = self;
+        let_go!(self: Shortage { limit, was_refused, drought });
     }
 }
 

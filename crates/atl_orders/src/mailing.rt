@@ -22,7 +22,7 @@ use crate::order::{Order, Span, UnitRef};
 use crate::reading::{Outcome, Place, read_line};
 use crate::words::{Cursor, begins, next_word, number};
 use atl_tables::lookup::letter_of;
-use atl_tables::{Sequence, World};
+use atl_tables::{Sequence, World, let_go};
 use std::alloc::{AllocError, Global};
 
 /// An order for a unit.
@@ -51,12 +51,7 @@ pub struct Mailing {
 
 impl Drop for Mailing {
     fn drop(self) {
-        let Mailing {
-            faction: _,
-            text: _,
-            entries: _,
-            faults: _,
-        } = self;
+        let_go!(self: Mailing { faction, text, entries, faults });
     }
 }
 
@@ -182,10 +177,7 @@ struct Body {
 
 impl Drop for Body {
     fn drop(self) {
-        let Body {
-            entries: _,
-            faults: _,
-        } = self;
+        let_go!(self: Body { entries, faults });
     }
 }
 

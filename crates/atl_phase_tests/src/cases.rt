@@ -6,7 +6,7 @@ use crate::script::{Case, take_case, take_setting};
 use crate::settings::{Setting, campaign_of};
 use anyhow::{Context, Result, bail};
 use atl_state::{Event, Outcome};
-use atl_tables::{World, read_world};
+use atl_tables::{World, let_go, read_world};
 use std::alloc::{AllocError, Global};
 use std::fs;
 
@@ -57,14 +57,7 @@ struct Player {
 
 impl Drop for Player {
     fn drop(self) {
-        let Player {
-            world: _,
-            setting: _,
-            run: _,
-            case: _,
-            played: _,
-            told: _,
-        } = self;
+        let_go!(self: Player { world, setting, run, case, played, told });
     }
 }
 

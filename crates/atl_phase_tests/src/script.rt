@@ -2,7 +2,7 @@
 use crate::runs::Run;
 use crate::settings::{Built, Had, Setting, Stood};
 use anyhow::{Context, Result, bail};
-use atl_tables::World;
+use atl_tables::{World, let_go};
 use std::alloc::{AllocError, Global};
 
 /// A case: what it begins with, the mailings and the words of its month, and the lines that are to be told of it.
@@ -15,12 +15,7 @@ pub(crate) struct Case {
 
 impl Drop for Case {
     fn drop(self) {
-        let Case {
-            title: _,
-            mailings: _,
-            words: _,
-            wanted: _,
-        } = self;
+        let_go!(self: Case { title, mailings, words, wanted });
     }
 }
 

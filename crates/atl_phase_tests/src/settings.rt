@@ -9,7 +9,7 @@ use atl_state::parts::{
     StoredUnit,
 };
 use atl_state::{Campaign, check, founded};
-use atl_tables::{Numbered, Sequence, Text, World};
+use atl_tables::{Numbered, Sequence, Text, World, let_go};
 use std::alloc::{AllocError, Global};
 
 /// A unit of faction 1 or 2.
@@ -53,13 +53,7 @@ pub(crate) struct Setting {
 
 impl Drop for Setting {
     fn drop(self) {
-        let Setting {
-            units: _,
-            has: _,
-            structures: _,
-            menless: _,
-            next_unit: _,
-        } = self;
+        let_go!(self: Setting { units, has, structures, menless, next_unit });
     }
 }
 

@@ -1,5 +1,5 @@
 //! What a report shows, and nothing else.
-use atl_tables::{Sequence, Text};
+use atl_tables::{Sequence, Text, let_go};
 
 /// What a faction sees of a campaign.
 pub struct View {
@@ -15,12 +15,7 @@ pub struct View {
 
 impl Drop for View {
     fn drop(self) {
-        let View {
-            month: _,
-            faction: _,
-            name: _,
-            regions: _,
-        } = self;
+        let_go!(self: View { month, faction, name, regions });
     }
 }
 
@@ -37,13 +32,7 @@ pub struct RegionView {
 
 impl Drop for RegionView {
     fn drop(self) {
-        let RegionView {
-            number: _,
-            peasants: _,
-            money: _,
-            structures: _,
-            units: _,
-        } = self;
+        let_go!(self: RegionView { number, peasants, money, structures, units });
     }
 }
 
@@ -74,14 +63,7 @@ pub struct UnitView {
 
 impl Drop for UnitView {
     fn drop(self) {
-        let UnitView {
-            number: _,
-            name: _,
-            men: _,
-            guard: _,
-            structure: _,
-            side: _,
-        } = self;
+        let_go!(self: UnitView { number, name, men, guard, structure, side });
     }
 }
 

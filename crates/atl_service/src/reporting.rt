@@ -12,7 +12,7 @@ use crate::sorting::{listed, sorted};
 use atl_orders::FaultyLine;
 use atl_report::{Sites, report_text, sites_of, view_over};
 use atl_state::{Campaign, Event};
-use atl_tables::{Numbered, Sequence, Text, World};
+use atl_tables::{Numbered, Sequence, Text, World, let_go};
 use std::alloc::{AllocError, Global};
 
 /// What is told of a month: to which factions, what is wrong with the mail of each, and what came of the orders.
@@ -24,11 +24,7 @@ pub(crate) struct Told {
 
 impl Drop for Told {
     fn drop(self) {
-        let Told {
-            factions: _,
-            faults: _,
-            events: _,
-        } = self;
+        let_go!(self: Told { factions, faults, events });
     }
 }
 

@@ -15,7 +15,7 @@ use crate::founding::prepared;
 use atl_report::books_text;
 use atl_state::Campaign;
 use atl_store::{create, load};
-use atl_tables::World;
+use atl_tables::{World, let_go};
 use sqlite::{Alter, Connection};
 use std::alloc::{AllocError, Global};
 use std::marker::Model;
@@ -32,13 +32,7 @@ pub struct Service<S: Alter> {
 
 impl<S: Alter + Drop> Drop for Service<S> {
     fn drop(self) {
-        let Service {
-            alloc: _,
-            conn: _,
-            world: _,
-            campaign: _,
-            is_open: _,
-        } = self;
+        let_go!(self: Service { alloc, conn, world, campaign, is_open });
     }
 }
 

@@ -25,7 +25,7 @@ use crate::records::{Faction, Region, Structure, Unit};
 use crate::totals::{regions_total, units_total};
 use crate::units::Units;
 pub(crate) use assembling::assembled;
-use atl_tables::{Entries, Marks, Sequence, Text, Tracked};
+use atl_tables::{Entries, Marks, Sequence, Text, Tracked, let_go};
 pub use founding::founded;
 use std::alloc::{AllocError, Global};
 use std::marker::Model;
@@ -56,24 +56,10 @@ pub struct Campaign {
 
 impl Drop for Campaign {
     fn drop(self) {
-        let Campaign {
-            alloc: _,
-            month: _,
-            pass: _,
-            next_faction: _,
-            next_unit: _,
-            next_structure: _,
-            factions: _,
-            regions: _,
-            units: _,
-            structures: _,
-            mail: _,
-            reports: _,
-            books: _,
-            amounts_marked: _,
-            row_marked: _,
-            lists: _,
-        } = self;
+        let_go!(self: Campaign {
+            alloc, month, pass, next_faction, next_unit, next_structure, factions, regions, units, structures, mail, reports,
+            books, amounts_marked, row_marked, lists
+        });
     }
 }
 

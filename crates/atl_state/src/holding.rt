@@ -4,7 +4,7 @@ ghost use Rattle.std.specs.FinMap as map;
 ghost use Rattle.atl_state.specs.Limits.{men_limit, holding_limit};
 ghost use Rattle.atl_state.specs.Held.{amount_of, with_amount_of, AreAmounts};
 
-use atl_tables::{Entries, Numbered, Text};
+use atl_tables::{Entries, Numbered, Text, let_go};
 use std::alloc::AllocError;
 use std::marker::Model;
 
@@ -24,14 +24,7 @@ pub struct Holding {
 
 impl Drop for Holding {
     fn drop(self) {
-        let Holding {
-            name: _,
-            men: _,
-            money: _,
-            guard: _,
-            items: _,
-            days: _,
-        } = self;
+        let_go!(self: Holding { name, men, money, guard, items, days });
     }
 }
 

@@ -6,7 +6,7 @@ ghost use Rattle.atl_state.specs.Ordered.{put_number, take_number};
 
 use crate::numbers::Numbers;
 use crate::records::Unit;
-use atl_tables::Numbered;
+use atl_tables::{Numbered, let_go};
 use std::alloc::{AllocError, Global};
 
 /// The numbers of the units of each region, of each faction and of each structure, in rising order. Those inside no
@@ -19,11 +19,7 @@ pub(crate) struct UnitLists {
 
 impl Drop for UnitLists {
     fn drop(self) {
-        let UnitLists {
-            by_region: _,
-            by_faction: _,
-            by_structure: _,
-        } = self;
+        let_go!(self: UnitLists { by_region, by_faction, by_structure });
     }
 }
 

@@ -2,7 +2,7 @@
 //! is sure to keep a range or a rule; what each number has to be is said for rows that keep them. See docs/FORMATS.md,
 //! "Rules of the tables".
 
-use atl_tables::{Sequence, Text};
+use atl_tables::{Sequence, Text, let_go};
 
 /// The rows of a campaign's tables, in any order. See docs/FORMATS.md, "Tables".
 #[derive(Debug)]
@@ -29,17 +29,7 @@ pub struct Parts {
 
 impl Drop for Parts {
     fn drop(self) {
-        let Parts {
-            campaign: _,
-            factions: _,
-            regions: _,
-            units: _,
-            has: _,
-            structures: _,
-            mail: _,
-            reports: _,
-            books: _,
-        } = self;
+        let_go!(self: Parts { campaign, factions, regions, units, has, structures, mail, reports, books });
     }
 }
 
@@ -64,15 +54,7 @@ pub struct StoredHead {
 
 impl Drop for StoredHead {
     fn drop(self) {
-        let StoredHead {
-            id: _,
-            format: _,
-            month: _,
-            next_faction: _,
-            next_unit: _,
-            next_structure: _,
-            pass: _,
-        } = self;
+        let_go!(self: StoredHead { id, format, month, next_faction, next_unit, next_structure, pass });
     }
 }
 
@@ -93,13 +75,7 @@ pub struct StoredFaction {
 
 impl Drop for StoredFaction {
     fn drop(self) {
-        let StoredFaction {
-            number: _,
-            joined_as: _,
-            name: _,
-            pass: _,
-            gone: _,
-        } = self;
+        let_go!(self: StoredFaction { number, joined_as, name, pass, gone });
     }
 }
 
@@ -137,16 +113,7 @@ pub struct StoredUnit {
 
 impl Drop for StoredUnit {
     fn drop(self) {
-        let StoredUnit {
-            number: _,
-            faction: _,
-            name: _,
-            region: _,
-            structure: _,
-            men: _,
-            money: _,
-            guard: _,
-        } = self;
+        let_go!(self: StoredUnit { number, faction, name, region, structure, men, money, guard });
     }
 }
 
@@ -169,14 +136,7 @@ pub struct StoredStructure {
 
 impl Drop for StoredStructure {
     fn drop(self) {
-        let StoredStructure {
-            number: _,
-            kind: _,
-            name: _,
-            region: _,
-            done: _,
-            owner: _,
-        } = self;
+        let_go!(self: StoredStructure { number, kind, name, region, done, owner });
     }
 }
 
@@ -191,10 +151,7 @@ pub struct StoredMail {
 
 impl Drop for StoredMail {
     fn drop(self) {
-        let StoredMail {
-            faction: _,
-            text: _,
-        } = self;
+        let_go!(self: StoredMail { faction, text });
     }
 }
 
@@ -209,10 +166,7 @@ pub struct StoredReport {
 
 impl Drop for StoredReport {
     fn drop(self) {
-        let StoredReport {
-            faction: _,
-            text: _,
-        } = self;
+        let_go!(self: StoredReport { faction, text });
     }
 }
 

@@ -1,6 +1,6 @@
 //! What a campaign consists of.
 use crate::holding::Holding;
-use atl_tables::Text;
+use atl_tables::{Text, let_go};
 use std::error::Error;
 use std::fmt;
 
@@ -20,13 +20,7 @@ pub struct Faction {
 
 impl Drop for Faction {
     fn drop(self) {
-        let Faction {
-            number: _,
-            joined_as: _,
-            name: _,
-            pass: _,
-            gone: _,
-        } = self;
+        let_go!(self: Faction { number, joined_as, name, pass, gone });
     }
 }
 
@@ -44,12 +38,7 @@ pub struct Unit {
 
 impl Drop for Unit {
     fn drop(self) {
-        let Unit {
-            faction: _,
-            region: _,
-            structure: _,
-            holding: _,
-        } = self;
+        let_go!(self: Unit { faction, region, structure, holding });
     }
 }
 

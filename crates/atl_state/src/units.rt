@@ -8,7 +8,7 @@ ghost use Rattle.atl_state.specs.Roster.{no_units, with_unit_at, with_row, witho
 
 use crate::arena::{Arena, SlotEntries};
 use crate::records::Unit;
-use atl_tables::{MarkedNumbers, Marks, Text};
+use atl_tables::{MarkedNumbers, Marks, Text, let_go};
 use std::alloc::{AllocError, Global};
 use std::marker::Model;
 
@@ -22,11 +22,7 @@ pub(crate) struct Units {
 
 impl Drop for Units {
     fn drop(self) {
-        let Units {
-            units: _,
-            rows: _,
-            goods: _,
-        } = self;
+        let_go!(self: Units { units, rows, goods });
     }
 }
 

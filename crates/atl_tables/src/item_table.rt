@@ -11,6 +11,7 @@ ghost use Rattle.atl_tables.specs.Titles.{number_of, known_or_absent};
 use crate::elements::Element;
 use crate::fault::WorldFault;
 use crate::keys::{self, indexed, path};
+use crate::let_go;
 use crate::limits::{LAST_LEVEL, MOST_RAW_COUNT, MOST_WEIGHT};
 use crate::tables::{Draft, Tables};
 use crate::text::Text;
@@ -33,12 +34,7 @@ pub struct Making {
 
 impl Drop for Making {
     fn drop(self) {
-        let Making {
-            skill: _,
-            level: _,
-            raw: _,
-            raw_count: _,
-        } = self;
+        let_go!(self: Making { skill, level, raw, raw_count });
     }
 }
 
@@ -55,12 +51,7 @@ pub struct ItemDraft {
 
 impl Drop for ItemDraft {
     fn drop(self) {
-        let ItemDraft {
-            name: _,
-            weight: _,
-            carry: _,
-            making: _,
-        } = self;
+        let_go!(self: ItemDraft { name, weight, carry, making });
     }
 }
 

@@ -7,6 +7,7 @@ ghost use Rattle.atl_tables.specs.Planet.{IsKind};
 use crate::elements::Element;
 use crate::fault::WorldFault;
 use crate::keys::{self, indexed};
+use crate::let_go;
 use crate::limits::{LAST_LEVEL, MOST_AMOUNT, MOST_SIZE};
 use crate::tables::{Draft, Tables};
 use crate::text::Text;
@@ -29,12 +30,7 @@ pub struct Building {
 
 impl Drop for Building {
     fn drop(self) {
-        let Building {
-            material: _,
-            size: _,
-            skill: _,
-            level: _,
-        } = self;
+        let_go!(self: Building { material, size, skill, level });
     }
 }
 
@@ -61,12 +57,7 @@ pub struct KindDraft {
 
 impl Drop for KindDraft {
     fn drop(self) {
-        let KindDraft {
-            name: _,
-            ship: _,
-            building: _,
-            purpose: _,
-        } = self;
+        let_go!(self: KindDraft { name, ship, building, purpose });
     }
 }
 

@@ -8,6 +8,7 @@ mod fault;
 mod item_table;
 mod keys;
 mod kind_table;
+mod letting_go;
 pub mod letters;
 pub mod limits;
 pub mod lookup;

@@ -10,6 +10,7 @@ ghost use Rattle.atl_tables.specs.Planet.{IsRegionPlan};
 use crate::elements::Element;
 use crate::fault::WorldFault;
 use crate::keys::{self, indexed};
+use crate::let_go;
 use crate::limits::{LAST_REGION, MOST_AMOUNT};
 use crate::tables::{Draft, Tables};
 use crate::text::Text;
@@ -34,13 +35,7 @@ pub struct Place {
 
 impl Drop for Place {
     fn drop(self) {
-        let Place {
-            number: _,
-            name: _,
-            terrain: _,
-            peasants: _,
-            money: _,
-        } = self;
+        let_go!(self: Place { number, name, terrain, peasants, money });
     }
 }
 

@@ -10,6 +10,7 @@ ghost use Rattle.atl_tables.specs.RulesTable.{price_keys, prices_from, peasant_k
 use crate::elements::Element;
 use crate::fault::WorldFault;
 use crate::keys;
+use crate::let_go;
 use crate::limits::{
     MOST_AMOUNT, MOST_FRACTION, MOST_GROWTH, MOST_PER_HEAD, MOST_PRICE, MOST_WEIGHT,
 };
@@ -65,11 +66,7 @@ pub struct SkillNames {
 
 impl Drop for SkillNames {
     fn drop(self) {
-        let SkillNames {
-            observation: _,
-            stealth: _,
-            sailing: _,
-        } = self;
+        let_go!(self: SkillNames { observation, stealth, sailing });
     }
 }
 

@@ -11,6 +11,7 @@ ghost use Rattle.atl_tables.specs.declared.tables.Tables.{Tables};
 use crate::fault::WorldFault;
 use crate::item_table::ItemDraft;
 use crate::kind_table::KindDraft;
+use crate::let_go;
 use crate::region_table::RegionDraft;
 use crate::rules_table::RulesDraft;
 use crate::sequence::Sequence;
@@ -47,14 +48,7 @@ impl Tables {
 
 impl Drop for Tables {
     fn drop(self) {
-        let Tables {
-            rules: _,
-            terrains: _,
-            items: _,
-            skills: _,
-            kinds: _,
-            regions: _,
-        } = self;
+        let_go!(self: Tables { rules, terrains, items, skills, kinds, regions });
     }
 }
 

@@ -10,6 +10,7 @@ ghost use Rattle.atl_tables.specs.TerrainTable.{economy_keys, economy_from, terr
 use crate::elements::Element;
 use crate::fault::WorldFault;
 use crate::keys::{self, indexed, path};
+use crate::let_go;
 use crate::limits::{MOST_AMOUNT, MOST_PRICE};
 use crate::output_table::{Output, amounts_of, known_keys, no_twin_keys, outputs};
 use crate::sequence::Sequence;
@@ -46,12 +47,7 @@ pub struct TerrainDraft {
 
 impl Drop for TerrainDraft {
     fn drop(self) {
-        let TerrainDraft {
-            name: _,
-            land: _,
-            economy: _,
-            output: _,
-        } = self;
+        let_go!(self: TerrainDraft { name, land, economy, output });
     }
 }
 

@@ -5,6 +5,7 @@ ghost use Rattle.std.specs.FinSet as set;
 ghost use Rattle.atl_tables.specs.Limits.{number_count};
 ghost use Rattle.atl_tables.specs.Tracking.{marked_with, with_value, without_value, without_values, taken_out, Lists};
 
+use crate::let_go;
 use crate::marked::MarkedNumbers;
 use crate::marks::Marks;
 use crate::numbered::{Entries, Numbered};
@@ -20,10 +21,7 @@ pub struct Tracked<V> {
 
 impl<V: Drop> Drop for Tracked<V> {
     fn drop(self) {
-        let Tracked {
-            values: _,
-            marks: _,
-        } = self;
+        let_go!(self: Tracked { values, marks });
     }
 }
 

@@ -4,6 +4,7 @@ ghost use Rattle.std.specs.Option.{option_copied};
 ghost use Rattle.std.specs.FinMap as map;
 
 use crate::direction::Direction;
+use crate::let_go;
 use crate::numbered::Numbered;
 use crate::sequence::Sequence;
 use crate::text::Text;
@@ -59,15 +60,7 @@ pub struct Terrain {
 
 impl Drop for Terrain {
     fn drop(self) {
-        let Terrain {
-            name: _,
-            land: _,
-            wage: _,
-            places: _,
-            money_limit: _,
-            peasant_limit: _,
-            output: _,
-        } = self;
+        let_go!(self: Terrain { name, land, wage, places, money_limit, peasant_limit, output });
     }
 }
 
@@ -178,15 +171,7 @@ pub struct World {
 
 impl Drop for World {
     fn drop(self) {
-        let World {
-            rules: _,
-            terrains: _,
-            items: _,
-            skills: _,
-            kinds: _,
-            regions: _,
-            land: _,
-        } = self;
+        let_go!(self: World { rules, terrains, items, skills, kinds, regions, land });
     }
 }
 

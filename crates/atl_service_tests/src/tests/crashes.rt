@@ -1,5 +1,6 @@
 //! A disk that stops at each of its calls, while a campaign is founded, a faction joins, mailings are kept, and months are closed. What
 //! works on the disk takes any disk that can crash.
+use atl_tables::let_go;
 use super::compare::is_text;
 use super::courses::COURSES;
 use super::files::connected;
@@ -23,11 +24,7 @@ struct Plan {
 
 impl Drop for Plan {
     fn drop(self) {
-        let Plan {
-            course: _,
-            commands: _,
-            stages: _,
-        } = self;
+        let_go!(self: Plan { course, commands, stages });
     }
 }
 

@@ -1,5 +1,6 @@
 //! A campaign as lists of numbers.
 use atl_state::{Campaign, Event, Unit};
+use atl_tables::let_go;
 use std::alloc::{AllocError, Global};
 
 /// A unit without its goods.
@@ -40,12 +41,7 @@ pub(crate) struct Plain {
 
 impl Drop for Plain {
     fn drop(self) {
-        let Plain {
-            people: _,
-            goods: _,
-            lands: _,
-            events: _,
-        } = self;
+        let_go!(self: Plain { people, goods, lands, events });
     }
 }
 
