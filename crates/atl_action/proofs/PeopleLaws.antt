@@ -15,6 +15,7 @@ use Rattle.atl_state.specs.Books.{amount_in, booked}
 use Rattle.atl_state.specs.Held.{amount_of}
 use Rattle.atl_state.specs.State.{State, numbers_inside, numbers_of}
 use Rattle.atl_state.specs.Totals.{held, kept, total}
+use Rattle.atl_state.proofs.InsideLaws.{inside_as_before}
 use Rattle.atl_state.proofs.RegionLaws.{same_len}
 use Rattle.atl_instant.specs.Meaning.{IsSameMonth}
 use Rattle.atl_instant.specs.Steps.{StepsWell}
@@ -94,7 +95,7 @@ module _ (structure to : ℕ) where
       ∙ elsewhere_by m n k (k == n) refl (get m k)
 
   inside_changed : (f : Unit → Unit) (m : FinMap nat_cmp Unit) (n q : ℕ) (v : Unit) → get m n ≡ Some v → (v.structure == q) ≡ ((f v).structure == q) → numbers_inside q (changed f m n) ≡ numbers_inside q m
-  inside_changed f m n q v is same = ap (λ o. numbers_inside q (changed_at f m n o)) is ∙ numbers_where-insert_known (λ (x : Unit). x.structure == q) m n v (f v) is same
+  inside_changed f m n q v is same = ap (λ o. numbers_inside q (changed_at f m n o)) is ∙ inside_as_before q m (insert m n (f v)) (numbers_where-insert_known (λ (x : Unit). x.structure == q) m n v (f v) is same)
 
   -- who is inside goes along, and everybody is inside what it was inside
   pub elsewhere_inside : (m : FinMap nat_cmp Unit) (n q : ℕ) (v : Unit) → get m n ≡ Some v → v.structure ≡ structure → numbers_inside q (elsewhere m n) ≡ numbers_inside q m

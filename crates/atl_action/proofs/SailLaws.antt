@@ -29,7 +29,8 @@ use Rattle.atl_state.specs.Levels.{load_of}
 use Rattle.atl_state.specs.Owners.{handed, heir, is_owned_by, placed, with_place, with_place_at}
 use Rattle.atl_state.specs.State.{State, numbers_inside, with_guard, with_structure_region}
 use Rattle.atl_state.proofs.EveryLaws.{none_some}
-use Rattle.atl_state.proofs.RemovedLaws.{IsListed, listed_passing, passing_listed}
+use Rattle.atl_state.proofs.InsideLaws.{inside_is_listed, is_no_zero, listed_is_inside}
+use Rattle.atl_state.proofs.RemovedLaws.{IsListed}
 use Rattle.atl_state.proofs.ListLaws.{other_number}
 use Rattle.atl_instant.specs.declared.written.Arrangement.TheVariants.{ByUnit}
 use Rattle.atl_instant.specs.Course.{Course}
@@ -153,22 +154,25 @@ module _ (w : Planet) (c : State) (ship to : ℕ) (steady : IsSteady w c) (x : S
   behind = travelled w c units structures f g
 
   is_inside : (k : ℕ) → IsListed k ns → IsInside ship to c.units k
-  is_inside k listed = let (v, there, t) = listed_passing (λ (y : Unit). y.structure == ship) c.units k listed in (v, there, is_equal v.structure ship t)
+  is_inside k listed = listed_is_inside ship c.units k listed
 
   sailed_is : sailed c ship to ≡ behind
   unfolding sailed
   sailed_is = ap (λ d. with_structure_region d ship to) (all_is ship to c ns (all_listed (IsInside ship to c.units) ns is_inside))
 
+  some_ship : ship ≢ 0
+  some_ship = is_no_zero c.structures c.next_structure steady.next.structures ship x is
+
   -- who goes along is who is inside
   member_by : (k : ℕ) (v : Unit) → get c.units k ≡ Some v → (a b : Bool) → (v.structure == ship) ≡ a → list_any (λ n. k == n) ns ≡ b → b ≡ a
   member_by k v there true true t e = refl
   member_by k v there false false t e = refl
-  member_by k v there true false t e = sym e ∙ any_listed k ns (passing_listed (λ (y : Unit). y.structure == ship) c.units k v there t)
+  member_by k v there true false t e = sym e ∙ any_listed k ns (inside_is_listed ship c.units some_ship k v there (is_equal v.structure ship t))
   member_by k v there false true t e =
-      let (u, at, inside) = listed_passing (λ (y : Unit). y.structure == ship) c.units k (listed_any k ns e) in
+      let (u, at, inside) = listed_is_inside ship c.units k (listed_any k ns e) in
       let one : Some u ≡ Some v = sym at ∙ there in
       let unit : u ≡ v = cc in
-      sym inside ∙ ap (λ (y : Unit). y.structure == ship) unit ∙ t
+      sym (equal u.structure ship inside) ∙ ap (λ (y : Unit). y.structure == ship) unit ∙ t
 
   units_by : (k : ℕ) (o : Option Unit) → get c.units k ≡ o → option_map (gone_if ship to (list_any (λ n. k == n) ns)) o ≡ option_map (f k) o
   units_by k None there = refl
@@ -443,7 +447,7 @@ module _ (w : Planet) (begun : State) (number faction : ℕ) where
         ∙ sum_same (λ n. of_unit f (get c.units n)) (λ n. of_unit f (get begun.units n)) (numbers_inside s begun.units) (λ k listed. ap (of_unit f) (same.units k (is_in k listed)))
       where
         is_in : (k : ℕ) → IsListed k (numbers_inside s begun.units) → inside begun k ≡ s
-        is_in k listed = let (v, there, t) = listed_passing (λ (y : Unit). y.structure == s) begun.units k listed in ap structure_in there ∙ is_equal v.structure s t
+        is_in k listed = let (v, there, here) = listed_is_inside s begun.units k listed in ap structure_in there ∙ here
 
     fault_same : (n : ℕ) (u : Unit) (to : Option ℕ) → u.structure ≡ s → sail_fault w c n u (get c.structures u.structure) to ≡ sail_fault w begun n u (get begun.structures u.structure) to
     fault_same n u to here =

@@ -22,8 +22,9 @@ use Rattle.atl_state.specs.Levels.{carried_by, goods_of}
 use Rattle.atl_state.specs.Owners.{handed, heir, placed, with_place, with_place_at}
 use Rattle.atl_state.specs.State.{State, numbers_inside, with_guard}
 use Rattle.atl_state.proofs.EveryLaws.{none_some}
+use Rattle.atl_state.proofs.InsideLaws.{inside_is_listed, listed_is_inside}
 use Rattle.atl_state.proofs.LeavingLaws.{owned_by}
-use Rattle.atl_state.proofs.RemovedLaws.{IsListed, first_of, listed_passing, passing_listed}
+use Rattle.atl_state.proofs.RemovedLaws.{IsListed, first_of}
 use Rattle.atl_state.proofs.ListLaws.{other_number}
 use Rattle.atl_instant.specs.Outcomes.{unless}
 use Rattle.atl_instant.specs.Staying.{IsNoWorse}
@@ -118,11 +119,8 @@ module _ (w : Planet) (c : State) (n : ℕ) (u : Unit) (to : ℕ) (is : get c.un
         let unit : v ≡ u = cc in
         other (sym inside ∙ ap (λ (x : Unit). x.structure) unit)
 
-    abbrev within : Unit → Bool
-    within v = v.structure == old_place
-
     listed_low : (k : ℕ) → IsListed k (numbers_inside old_place c.units) → 1 ≤ k
-    listed_low k h = let (v, at, t) = listed_passing within c.units k h in low k v at
+    listed_low k h = let (v, at, inside) = listed_is_inside old_place c.units k h in low k v at
 
     heir_owns : old_place ≢ 0 → (y : Structure) → IsOwned behind old_place (owned_by next y)
     heir_owns some_place y =
@@ -130,10 +128,10 @@ module _ (w : Planet) (c : State) (n : ℕ) (u : Unit) (to : ℕ) (is : get c.un
         record {
           owned = λ some.
               let (listed, other) = first.0 some in
-              let (v, at, t) = listed_passing within c.units next listed in
-              (v, away next (is_unequal next n (not-true (next == n) other)) ∙ at, is_equal v.structure old_place t);
+              let (v, at, inside) = listed_is_inside old_place c.units next listed in
+              (v, away next (is_unequal next n (not-true (next == n) other)) ∙ at, inside);
           ownerless = λ none. every_away (λ m v. v.structure ≢ old_place) (λ zero. some_place (sym zero))
-              (λ m v other at inside. other (is_equal m n (not-false (m == n) (first.1 none m (passing_listed within c.units m v at (equal v.structure old_place inside))))));
+              (λ m v other at inside. other (is_equal m n (not-false (m == n) (first.1 none m (inside_is_listed old_place c.units some_place m v at inside)))));
         }
 
     -- g gives the structures, which are where they were

@@ -14,9 +14,10 @@ use Rattle.atl_state.specs.Owners.{handed, heir, is_owned_by, placed, with_place
 use Rattle.atl_state.specs.State.{State, numbers_inside, with_owner}
 use Rattle.atl_state.specs.Totals.{total}
 use Rattle.atl_state.proofs.EveryLaws.{every-insert, get-insert_other}
+use Rattle.atl_state.proofs.InsideLaws.{inside_is_listed, is_no_zero, listed_is_inside}
 use Rattle.atl_state.proofs.LeavingLaws.{owned_by}
 use Rattle.atl_state.proofs.RegionLaws.{changed-known, get-insert_same}
-use Rattle.atl_state.proofs.RemovedLaws.{IsListed, every-insert_other, first_of, listed_passing, passing_listed}
+use Rattle.atl_state.proofs.RemovedLaws.{IsListed, every-insert_other, first_of}
 use Rattle.atl_state.proofs.ListLaws.{other_number}
 use Rattle.atl_instant.specs.Steps.{StepsWell}
 use Rattle.atl_instant.specs.Unbooked.{books_nothing}
@@ -88,22 +89,19 @@ module _ (w : Planet) (c : State) (n : ℕ) (u : Unit) (s : ℕ) (is : get c.uni
   low : Every (λ k v. 1 ≤ k) c.units
   low k v there = (steady.numbers.units k v there).0
 
-  abbrev within : Unit → Bool
-  within v = v.structure == old_place
-
   listed_low : (k : ℕ) → IsListed k (numbers_inside old_place c.units) → 1 ≤ k
-  listed_low k h = let (v, there, t) = listed_passing within c.units k h in low k v there
+  listed_low k h = let (v, there, inside) = listed_is_inside old_place c.units k h in low k v there
 
-  heir_owns : (y : Structure) → IsOwned behind old_place (owned_by next y)
-  heir_owns y =
+  heir_owns : old_place ≢ 0 → (y : Structure) → IsOwned behind old_place (owned_by next y)
+  heir_owns some_place y =
       let first = first_of (λ k. not (k == n)) (numbers_inside old_place c.units) listed_low in
       record {
         owned = λ some.
             let (listed, other) = first.0 some in
-            let (v, there, t) = listed_passing within c.units next listed in
-            (v, get-insert_other c.units n next moved (is_unequal next n (not-true (next == n) other)) ∙ there, is_equal v.structure old_place t);
+            let (v, there, inside) = listed_is_inside old_place c.units next listed in
+            (v, get-insert_other c.units n next moved (is_unequal next n (not-true (next == n) other)) ∙ there, inside);
         ownerless = λ none. every-insert_other (λ m v. v.structure ≢ old_place) c.units n moved (λ back. apart (sym back))
-            (λ m v other there here. other (is_equal m n (not-false (m == n) (first.1 none m (passing_listed within c.units m v there (equal v.structure old_place here))))));
+            (λ m v other there here. other (is_equal m n (not-false (m == n) (first.1 none m (inside_is_listed old_place c.units some_place m v there here)))));
       }
 
   -- a structure that keeps its owner
@@ -140,7 +138,7 @@ module _ (w : Planet) (c : State) (n : ℕ) (u : Unit) (s : ℕ) (is : get c.uni
 
   by_tests : (q : ℕ) (y : Structure) → get c.structures q ≡ Some y → (a e b : Bool) → (q == old_place) ≡ a → (y.owner == n) ≡ e → (q == s) ≡ b → IsOwned behind q (given a e b y)
   by_tests q y there true e true p r t = absurd (apart (sym (is_equal q old_place p) ∙ is_equal q s t))
-  by_tests q y there true true false p r t = subst (λ k. IsOwned behind k (owned_by next y)) (sym (is_equal q old_place p)) (heir_owns y)
+  by_tests q y there true true false p r t = subst (λ k. IsOwned behind k (owned_by next y)) (sym (is_equal q old_place p)) (heir_owns (λ zero. is_no_zero c.structures c.next_structure steady.next.structures q y there (is_equal q old_place p ∙ zero)) y)
   by_tests q y there true false false p r t = still_owned q y there (is_unequal y.owner n r) (λ none here. is_unequal q s t (sym here))
   by_tests q y there false e true p r t = entered_owned q y there (is_unequal q old_place p) (is_equal q s t) (y.owner == 0) refl
   by_tests q y there false e false p r t = still_owned q y there (not_owner q y there (is_unequal q old_place p)) (λ none here. is_unequal q s t (sym here))

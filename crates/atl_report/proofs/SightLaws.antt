@@ -1,9 +1,10 @@
 -- The regions gathered from a faction's units are those that it sees.
-use Rattle.std.proofs.Common.{◌≡◌, ◌==◌, ℕ, Bool, true, false, cond, ◌&&◌, ◌||◌, nat_lt, List, [], ◌∷◌, filter, Option, Some, None, refl, sym, ap, ◌∙◌}
+use Rattle.std.proofs.Common.{◌≡◌, ◌==◌, ℕ, Bool, true, false, cond, ◌&&◌, ◌||◌, nat_lt, List, [], ◌∷◌, filter, map, Option, Some, None, refl, sym, ap, ◌∙◌, T}
+use Rattle.std.specs.Prelude.{option_map}
 use Rattle.std.specs.declared.cmp.Ordering.TheVariants.{Less, Equal, Greater}
 use Rattle.std.specs.Ordering.{nat_cmp, eq_by_cmp, is_eq, is_lt, ordering_reverse}
 use Rattle.std.specs.Cmp.{nat_cmp_total}
-use Rattle.std.specs.List.{list_any}
+use Rattle.std.specs.List.{filter_map, list_any}
 use Rattle.std.specs.FinMap.{FinMap, get, get-entries, get-empty, get-insert, get-from_sorted, find, empty, entries, entries_sorted, entries-from_sorted, from_sorted, is_sorted, same_map, nat_cmp-IsAntisymmetric}
 use Rattle.std.specs.FinMap.Entries.{below_all, where_key, is_sorted-where_key, find-where_key}
 use Rattle.std.proofs.lemmas.Bool.{false≢true, and_parts}
@@ -14,7 +15,9 @@ use Rattle.atl_tables.proofs.TrackLaws.{is_true}
 use Rattle.atl_tables.proofs.GeneralLaws.{key_turned}
 use Rattle.atl_state.specs.declared.records.Region.{Region}
 use Rattle.atl_state.specs.declared.records.Unit.{Unit}
+use Rattle.atl_state.specs.Deciding.{EachOf}
 use Rattle.atl_state.specs.State.{State, numbers_of}
+use Rattle.atl_state.proofs.EveryLaws.{each-from_every}
 use Rattle.atl_report.specs.Watching.{is_watching, sees_region}
 use Rattle.atl_report.specs.Gathering.{with_region, with_watched, gathered}
 
@@ -80,29 +83,60 @@ seen_by c f q =
     ∙ ap (λ (t : ℕ × Unit → Bool). list_any t (entries c.units)) (λ i e. regrouped (e.1.faction == f) (nat_lt 0 e.1.holding.men) (eq_by_cmp nat_cmp q e.1.region) (e.1.region == q) (key_turned q e.1.region) i)
     ∙ sym (some_where (λ (u : Unit). u.region == q) (is_watching f) c.units)
 
--- ---- the regions gathered
+-- ---- the numbers gathered
+
+abbrev nothing_of : {V : Type 0} → V → Prim.Unit {0}
+nothing_of v = tt
+
+-- an entry's number alone
+abbrev number_alone : {V : Type 0} → ℕ × V → ℕ × Prim.Unit {0}
+number_alone e = (e.0, tt)
+
+module _ {V : Type 0} where
+  find-alone : (q : ℕ) (es : List (ℕ × V)) → find nat_cmp q (map number_alone es) ≡ option_map nothing_of (find nat_cmp q es)
+  find-alone q [] = refl
+  find-alone q (e ∷ es) = elim (is_eq (nat_cmp q e.0)) as (λ b. cond b (Some tt) (find nat_cmp q (map number_alone es)) ≡ option_map nothing_of (cond b (Some e.1) (find nat_cmp q es))) [
+    | true ↦ refl
+    | false ↦ find-alone q es
+  ]
+
+  below-alone : (k : ℕ) (es : List (ℕ × V)) → below_all nat_cmp k (map number_alone es) ≡ below_all nat_cmp k es
+  below-alone k [] = refl
+  below-alone k (e ∷ es) = ap (λ b. is_lt (nat_cmp k e.0) && b) (below-alone k es)
+
+  sorted-alone : (es : List (ℕ × V)) → is_sorted nat_cmp (map number_alone es) ≡ is_sorted nat_cmp es
+  sorted-alone [] = refl
+  sorted-alone (e ∷ es) = ap (λ b. b && is_sorted nat_cmp (map number_alone es)) (below-alone e.0 es) ∙ ap (λ b. below_all nat_cmp e.0 es && b) (sorted-alone es)
+
+  alone_chosen : (b : Bool) (o : Option V) → option_map nothing_of (cond b o None) ≡ cond b (option_map nothing_of o) None
+  alone_chosen true o = refl
+  alone_chosen false o = refl
 
 module _ (c : State) (f q : ℕ) where
-  one_region : (seen : FinMap nat_cmp Region) (k : ℕ) (b : Bool) (o : Option Region) → get c.regions k ≡ o → get seen q ≡ cond b (get c.regions q) None → get (with_region seen k o) q ≡ cond (eq_by_cmp nat_cmp q k || b) (get c.regions q) None
-  one_region seen k b None is was = was ∙ elim (nat_cmp q k) as (λ o. nat_cmp q k ≡ o → cond b (get c.regions q) None ≡ cond (is_eq o || b) (get c.regions q) None) [
+  -- whether a region is there
+  abbrev there : ℕ → Option (Prim.Unit {0})
+  there k = option_map nothing_of (get c.regions k)
+
+  one_region : (seen : FinMap nat_cmp (Prim.Unit {0})) (k : ℕ) (b : Bool) (o : Option Region) → get c.regions k ≡ o → get seen q ≡ cond b (there q) None → get (with_region seen k o) q ≡ cond (eq_by_cmp nat_cmp q k || b) (there q) None
+  one_region seen k b None is was = was ∙ elim (nat_cmp q k) as (λ o. nat_cmp q k ≡ o → cond b (there q) None ≡ cond (is_eq o || b) (there q) None) [
     | Less ↦ λ _. refl
-    | Equal ↦ λ e. absent b (get c.regions q) (ap (get c.regions) (nat_cmp-IsAntisymmetric q k e) ∙ is)
+    | Equal ↦ λ e. absent b (there q) (ap there (nat_cmp-IsAntisymmetric q k e) ∙ ap (option_map nothing_of) is)
     | Greater ↦ λ _. refl
   ] refl
     where
-      absent : (b : Bool) (o : Option Region) → o ≡ None → cond b o None ≡ o
+      absent : (b : Bool) (o : Option (Prim.Unit {0})) → o ≡ None → cond b o None ≡ o
       absent true o h = refl
       absent false o h = sym h
-  one_region seen k b (Some r) is was = get-insert nat_cmp_total seen k r q ∙ elim (nat_cmp q k) as (λ o. nat_cmp q k ≡ o → cond (is_eq o) (Some r) (get seen q) ≡ cond (is_eq o || b) (get c.regions q) None) [
+  one_region seen k b (Some r) is was = get-insert nat_cmp_total seen k tt q ∙ elim (nat_cmp q k) as (λ o. nat_cmp q k ≡ o → cond (is_eq o) (Some tt) (get seen q) ≡ cond (is_eq o || b) (there q) None) [
     | Less ↦ λ _. was
-    | Equal ↦ λ e. sym (ap (get c.regions) (nat_cmp-IsAntisymmetric q k e) ∙ is)
+    | Equal ↦ λ e. sym (ap there (nat_cmp-IsAntisymmetric q k e) ∙ ap (option_map nothing_of) is)
     | Greater ↦ λ _. was
   ] refl
 
-  one_watched : (seen : FinMap nat_cmp Region) (b : Bool) (o : Option Unit) → get seen q ≡ cond b (get c.regions q) None → get (with_watched c f seen o) q ≡ cond (watches_in f q o || b) (get c.regions q) None
+  one_watched : (seen : FinMap nat_cmp (Prim.Unit {0})) (b : Bool) (o : Option Unit) → get seen q ≡ cond b (there q) None → get (with_watched c f seen o) q ≡ cond (watches_in f q o || b) (there q) None
   one_watched seen b None was = was
   one_watched seen b (Some u) was =
-      elim (is_watching f (Some u)) as (λ w. get (cond w (with_region seen u.region (get c.regions u.region)) seen) q ≡ cond ((w && eq_by_cmp nat_cmp q u.region) || b) (get c.regions q) None) [
+      elim (is_watching f (Some u)) as (λ w. get (cond w (with_region seen u.region (get c.regions u.region)) seen) q ≡ cond ((w && eq_by_cmp nat_cmp q u.region) || b) (there q) None) [
         | true ↦ one_region seen u.region b (get c.regions u.region) refl was
         | false ↦ was
       ]
@@ -113,29 +147,44 @@ module _ (c : State) (f q : ℕ) where
   or_order false true b = refl
   or_order false false b = refl
 
-  all_watched : (ns : List ℕ) (seen : FinMap nat_cmp Region) (b : Bool) → get seen q ≡ cond b (get c.regions q) None
-      → get (gathered c f ns seen) q ≡ cond (list_any (λ n. watches_in f q (get c.units n)) ns || b) (get c.regions q) None
+  all_watched : (ns : List ℕ) (seen : FinMap nat_cmp (Prim.Unit {0})) (b : Bool) → get seen q ≡ cond b (there q) None
+      → get (gathered c f ns seen) q ≡ cond (list_any (λ n. watches_in f q (get c.units n)) ns || b) (there q) None
   all_watched [] seen b was = was
   all_watched (n ∷ ns) seen b was =
       all_watched ns (with_watched c f seen (get c.units n)) (watches_in f q (get c.units n) || b) (one_watched seen b (get c.units n) was)
-      ∙ ap (λ t. cond t (get c.regions q) None) (or_order (list_any (λ n. watches_in f q (get c.units n)) ns) (watches_in f q (get c.units n)) b)
+      ∙ ap (λ t. cond t (there q) None) (or_order (list_any (λ n. watches_in f q (get c.units n)) ns) (watches_in f q (get c.units n)) b)
 
   or_none : (a : Bool) → (a || false) ≡ a
   or_none true = refl
   or_none false = refl
 
-  get-gathered : get (gathered c f (numbers_of f c.units) empty) q ≡ cond (sees_region c f q) (get c.regions q) None
+  get-gathered : get (gathered c f (numbers_of f c.units) empty) q ≡ cond (sees_region c f q) (there q) None
   get-gathered =
       all_watched (numbers_of f c.units) empty false (get-empty nat_cmp q)
-      ∙ ap (λ t. cond t (get c.regions q) None) (or_none (list_any (λ n. watches_in f q (get c.units n)) (numbers_of f c.units)) ∙ seen_by c f q)
+      ∙ ap (λ t. cond t (there q) None) (or_none (list_any (λ n. watches_in f q (get c.units n)) (numbers_of f c.units)) ∙ seen_by c f q)
 
--- the regions gathered from the faction's units are those that it sees
-pub entries-gathered : (c : State) (f : ℕ) → entries (gathered c f (numbers_of f c.units) empty) ≡ filter (λ e. sees_region c f e.0) (entries c.regions)
+-- the numbers gathered from the faction's units are those of the regions that it sees
+pub entries-gathered : (c : State) (f : ℕ) → entries (gathered c f (numbers_of f c.units) empty) ≡ map (λ e. (e.0, tt)) (filter (λ e. sees_region c f e.0) (entries c.regions))
 entries-gathered c f =
     let seen = where_key nat_cmp (sees_region c f) (entries c.regions) in
-    let sorted = is_sorted-where_key nat_cmp (sees_region c f) (entries c.regions) (entries_sorted c.regions) in
-    ap entries (same_map nat_cmp_total nat_cmp-IsAntisymmetric (gathered c f (numbers_of f c.units) empty) (from_sorted seen) (λ q.
-    get-gathered c f q ∙ sym (get-from_sorted nat_cmp seen q sorted
-    ∙ find-where_key nat_cmp (sees_region c f) q (λ x e. ap (sees_region c f) (sym (nat_cmp-IsAntisymmetric q x e))) (entries c.regions)
-    ∙ ap (λ o. cond (sees_region c f q) o None) (sym (get-entries c.regions q)))))
-    ∙ entries-from_sorted nat_cmp seen sorted
+    let numbers : List (ℕ × Prim.Unit {0}) = map number_alone seen in
+    let sorted : T (is_sorted nat_cmp numbers) = rw (sorted-alone seen) (is_sorted-where_key nat_cmp (sees_region c f) (entries c.regions) (entries_sorted c.regions)) in
+    ap entries (same_map nat_cmp_total nat_cmp-IsAntisymmetric (gathered c f (numbers_of f c.units) empty) (from_sorted numbers) (λ q.
+    get-gathered c f q ∙ sym (get-from_sorted nat_cmp numbers q sorted ∙ find-alone q seen
+    ∙ ap (option_map nothing_of) (find-where_key nat_cmp (sees_region c f) q (λ x e. ap (sees_region c f) (sym (nat_cmp-IsAntisymmetric q x e))) (entries c.regions) ∙ ap (λ o. cond (sees_region c f q) o None) (sym (get-entries c.regions q)))
+    ∙ alone_chosen (sees_region c f q) (get c.regions q))))
+    ∙ entries-from_sorted nat_cmp numbers sorted
+
+-- what is made of the regions looked up by the numbers of some is what is made of these
+module _ {A : Type 0} (m : FinMap nat_cmp Region) (make : ℕ → Region → A) where
+  looked_up : (p : ℕ × Region → Bool) (es : List (ℕ × Region)) → EachOf (λ n r. get m n ≡ Some r) es
+      → filter_map (λ (e : ℕ × Prim.Unit {0}). option_map (make e.0) (get m e.0)) (map number_alone (filter p es)) ≡ map (λ e. make e.0 e.1) (filter p es)
+  looked_up p [] h = refl
+  looked_up p (e ∷ es) h =
+      elim (p e) as (λ b. filter_map (λ (e : ℕ × Prim.Unit {0}). option_map (make e.0) (get m e.0)) (map number_alone (cond b (e ∷ filter p es) (filter p es))) ≡ map (λ e. make e.0 e.1) (cond b (e ∷ filter p es) (filter p es))) [
+        | true ↦ rw h.0 (ap (λ l. make e.0 e.1 ∷ l) (looked_up p es h.1))
+        | false ↦ looked_up p es h.1
+      ]
+
+pub regions_looked_up : {A : Type 0} (m : FinMap nat_cmp Region) (make : ℕ → Region → A) (p : ℕ × Region → Bool) → filter_map (λ (e : ℕ × Prim.Unit {0}). option_map (make e.0) (get m e.0)) (map (λ e. (e.0, tt)) (filter p (entries m))) ≡ map (λ e. make e.0 e.1) (filter p (entries m))
+regions_looked_up m make p = looked_up m make p (entries m) (each-from_every (λ n r. get m n ≡ Some r) m (λ n r is. is))

@@ -1,4 +1,4 @@
--- For proofs alone: the regions that a faction sees, gathered from its units.
+-- For proofs alone: the numbers of the regions that a faction sees, gathered from its units.
 use Rattle.std.specs.Prelude.{ℕ, List, [], ◌∷◌, if◌then◌else◌, Option, Some, None}
 use Rattle.std.specs.Ordering.{nat_cmp}
 use Rattle.std.specs.FinMap.{FinMap, get, insert}
@@ -7,17 +7,17 @@ use Rattle.atl_state.specs.declared.records.Unit.{Unit}
 use Rattle.atl_state.specs.State.{State}
 use Rattle.atl_report.specs.Watching.{is_watching}
 
--- the regions with one more, where it is there
-abbrev pub with_region : FinMap nat_cmp Region → ℕ → Option Region → FinMap nat_cmp Region
+-- the numbers of regions with one more, where that region is there
+abbrev pub with_region : FinMap nat_cmp (Prim.Unit {0}) → ℕ → Option Region → FinMap nat_cmp (Prim.Unit {0})
 with_region seen n None = seen
-with_region seen n (Some r) = insert seen n r
+with_region seen n (Some r) = insert seen n tt
 
--- the regions with that of a unit, where the unit watches
-abbrev pub with_watched : State → ℕ → FinMap nat_cmp Region → Option Unit → FinMap nat_cmp Region
+-- the numbers with that of a unit's region, where the unit watches
+abbrev pub with_watched : State → ℕ → FinMap nat_cmp (Prim.Unit {0}) → Option Unit → FinMap nat_cmp (Prim.Unit {0})
 with_watched c f seen None = seen
 with_watched c f seen (Some u) = if is_watching f (Some u) then with_region seen u.region (get c.regions u.region) else seen
 
--- the regions with those of some units
-abbrev pub gathered : State → ℕ → List ℕ → FinMap nat_cmp Region → FinMap nat_cmp Region
+-- the numbers with those of the regions of some units
+abbrev pub gathered : State → ℕ → List ℕ → FinMap nat_cmp (Prim.Unit {0}) → FinMap nat_cmp (Prim.Unit {0})
 gathered c f [] seen = seen
 gathered c f (n ∷ ns) seen = gathered c f ns (with_watched c f seen (get c.units n))

@@ -1,5 +1,5 @@
 //! What a faction sees.
-ghost use Rattle.std.specs.Prelude.{◌≡◌, IfOk, OnOk, Some, filter};
+ghost use Rattle.std.specs.Prelude.{◌≡◌, IfOk, OnOk, Some, filter, map};
 ghost use Rattle.std.specs.FinMap.{get, entries};
 ghost use Rattle.atl_report.specs.Watching.{sees_region};
 ghost use Rattle.atl_report.specs.Sight.{side_of, item_views, skill_views, unit_view, unit_views, shown_owner, structure_view, structure_views, region_view, region_views, view_of, shown_name};
@@ -183,22 +183,22 @@ fn region_view(
 }
 
 /// Adds a region of the campaign to those that are seen.
-fn see(seen: &mut Numbered<Region>, campaign: &Campaign, number: u32) -> Result<(), AllocError>
+fn see(seen: &mut Numbered<()>, campaign: &Campaign, number: u32) -> Result<(), AllocError>
     ensures { OnOk result (seen.new ≡ with_region seen.old number (get campaign.now.what.regions number)) }
 {
-    if let Some(region) = campaign.region(number) {
-        seen.insert(number, *region)?;
+    if campaign.region(number).is_some() {
+        seen.insert(number, ())?;
     }
     Ok(())
 }
 
-/// The regions where the faction has a unit with men, gone to from its units.
+/// The numbers of the regions where the faction has a unit with men, gone to from its units.
 fn regions_seen(
     alloc: Global,
     campaign: &Campaign,
     faction: u32,
-) -> Result<Numbered<Region>, AllocError>
-    ensures { IfOk result (λ seen. entries seen ≡ filter (λ e. sees_region campaign.now.what faction e.0) (entries campaign.now.what.regions)) }
+) -> Result<Numbered<()>, AllocError>
+    ensures { IfOk result (λ seen. entries seen ≡ map (λ e. (e.0, tt)) (filter (λ e. sees_region campaign.now.what faction e.0) (entries campaign.now.what.regions))) }
 {
     let mut seen = Numbered::new(alloc);
     for number in campaign.of_faction(faction) {
@@ -224,9 +224,11 @@ fn region_views(
 {
     let seen = regions_seen(alloc, campaign, faction)?;
     let mut regions = Sequence::new(alloc);
-    for (number, region) in seen.iter() {
-        let watch = watch_over(world, campaign, faction, number);
-        regions.push(region_view(alloc, world, campaign, sites, watch, region)?)?;
+    for (number, ()) in seen.iter() {
+        if let Some(region) = campaign.region(number) {
+            let watch = watch_over(world, campaign, faction, number);
+            regions.push(region_view(alloc, world, campaign, sites, watch, region)?)?;
+        }
     }
     Ok(regions)
 }

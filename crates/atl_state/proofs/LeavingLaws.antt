@@ -24,9 +24,10 @@ use Rattle.atl_state.specs.Totals.{held, total}
 use Rattle.atl_state.proofs.CoverLaws.{apart_by, marks-refl, marks-trans, put_stays}
 use Rattle.atl_state.proofs.EveryLaws.{every-insert, get-insert_other, none_some}
 use Rattle.atl_state.proofs.HoldingLaws.{structure_in}
+use Rattle.atl_state.proofs.InsideLaws.{inside_is_listed, is_no_zero, listed_is_inside}
 use Rattle.atl_state.proofs.OwnerLaws.{gone-what, taken_none}
 use Rattle.atl_state.proofs.RegionLaws.{changed-known, get-insert_same, same_len}
-use Rattle.atl_state.proofs.RemovedLaws.{IsListed, every-insert_other, every-remove, fewer, first_of, get-remove_other, listed_passing, none_passing, nothing_listed, passing_listed, still, sum_over-remove}
+use Rattle.atl_state.proofs.RemovedLaws.{IsListed, every-insert_other, every-remove, fewer, first_of, get-remove_other, none_passing, nothing_listed, still, sum_over-remove}
 
 -- a structure with another owner
 abbrev pub owned_by : ℕ → Structure → Structure
@@ -189,7 +190,7 @@ module _ (w : Planet) (c : State) (n : ℕ) (u : Unit) (is : get c.units n ≡ S
         not_owner k x there own = owner_test (get c.structures u.structure) x (ap (get c.structures) (owns_own k x there own) ∙ there) own free
 
     -- where it owns the structure that it is inside
-    module _ (mine : Structure) (here : get c.structures u.structure ≡ Some mine) where
+    module _ (mine : Structure) (here : get c.structures u.structure ≡ Some mine) (some_place : u.structure ≢ 0) where
       abbrev next : ℕ
       next = heir c u.structure n
 
@@ -209,17 +210,8 @@ module _ (w : Planet) (c : State) (n : ℕ) (u : Unit) (is : get c.units n ≡ S
       is_same : (k : ℕ) → not (k == n) ≡ false → k ≡ n
       is_same k t = let e : (k == n) ≡ true = not-false (k == n) t in grind (arith, nat_tests)
 
-      inside_test : (v : Unit) (k : ℕ) → (v.structure == k) ≡ true → v.structure ≡ k
-      inside_test v k t = grind (arith, nat_tests)
-
-      inside_passes : (v : Unit) (k : ℕ) → v.structure ≡ k → (v.structure == k) ≡ true
-      inside_passes v k e = grind (arith, nat_tests)
-
-      abbrev inside : Unit → Bool
-      inside v = v.structure == u.structure
-
       listed_low : (k : ℕ) → IsListed k among → 1 ≤ k
-      listed_low k h = let (v, at, t) = listed_passing inside c.units k h in low k v at
+      listed_low k h = let (v, at, inside) = listed_is_inside u.structure c.units k h in low k v at
 
       heir_owns : IsOwned (reduced handed_on) u.structure (owned_by next mine)
       heir_owns =
@@ -227,11 +219,11 @@ module _ (w : Planet) (c : State) (n : ℕ) (u : Unit) (is : get c.units n ≡ S
           record {
             owned = λ some.
                 let (listed, other) = first.0 some in
-                let (v, at, t) = listed_passing inside c.units next listed in
-                (v, get-remove_other c.units n next (is_other next other) ∙ at, inside_test v u.structure t);
+                let (v, at, inside) = listed_is_inside u.structure c.units next listed in
+                (v, get-remove_other c.units n next (is_other next other) ∙ at, inside);
             ownerless = λ none k v there within.
                 let (apart, at) = still c.units n k v there in
-                apart (is_same k (first.1 none k (passing_listed inside c.units k v at (inside_passes v u.structure within))));
+                apart (is_same k (first.1 none k (inside_is_listed u.structure c.units some_place k v at within)));
           }
 
       as_handed_on : AreReowned handed_on
@@ -273,7 +265,7 @@ module _ (w : Planet) (c : State) (n : ℕ) (u : Unit) (is : get c.units n ≡ S
           → IsSteady w (if b then with_owner gone_from u.structure (heir c u.structure n) else gone_from)
       by_test s here true t =
           subst (λ (m : FinMap nat_cmp Structure). IsSteady w (reduced m)) (sym (changed-known (owned_by (heir c u.structure n)) c.structures u.structure s here))
-          (steady_left (insert c.structures u.structure (owned_by (heir c u.structure n) s)) (as_handed_on old.owners low s here) old)
+          (steady_left (insert c.structures u.structure (owned_by (heir c u.structure n) s)) (as_handed_on old.owners low s here (is_no_zero c.structures c.next_structure old.next.structures u.structure s here)) old)
       by_test s here false t = steady_left c.structures (as_they_were old.owners low t) old
 
       by_owner : (o : Option Structure) → get c.structures u.structure ≡ o → IsSteady w (if is_owned_by o n then with_owner gone_from u.structure (heir c u.structure n) else gone_from)

@@ -48,3 +48,4 @@ pub mod HavingLaws
 pub mod BegunLaws
 pub mod IndexLaws
 pub mod SlotLaws
+pub mod InsideLaws

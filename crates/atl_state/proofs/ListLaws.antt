@@ -11,7 +11,7 @@ use Rattle.atl_tables.proofs.SumLaws.{numbers_where-insert_other, numbers_where-
 use Rattle.atl_tables.specs.Sums.{changed, changed_at, numbers_where}
 use Rattle.atl_tables.proofs.Maps.{entries-empty}
 use Rattle.atl_state.specs.Ordered.{put_number, take_number}
-use Rattle.atl_state.specs.Kept.{AreLists, AreUnitLists, SameLists, ListsUnit, UnlistsUnit, list_of, listing_of, listed_apart, unlisted_apart}
+use Rattle.atl_state.specs.Kept.{AreInsideLists, AreLists, AreUnitLists, SameLists, ListsUnit, UnlistsUnit, list_of, listing_of, listed_apart, relisted_inside, unlisted_apart}
 use Rattle.atl_state.specs.declared.lists.Listing.{Listing}
 use Rattle.atl_state.specs.declared.lists.UnitLists.{UnitLists}
 use Rattle.atl_state.specs.declared.records.Unit.{Unit}
@@ -88,7 +88,11 @@ module _ (belongs_to : Unit → ℕ) (units : FinMap nat_cmp Unit) (old new : Fi
       AreLists-same belongs_to (remove units n) (insert old key (take_number n (list_of old key))) new same
       (subst (λ k. AreLists belongs_to (remove units n) (insert old k (take_number n (list_of old k)))) own (AreLists-removed belongs_to units old n u there is))
 
--- a list that is put is there
+-- a list that is put leaves the others
+pub listed_else : (lists : FinMap nat_cmp (List ℕ)) (k : ℕ) (xs : List ℕ) (r : ℕ) → k ≢ r → list_of (insert lists k xs) r ≡ list_of lists r
+listed_else lists k xs r = by_key lists k xs (λ q ys. k ≢ q → ys ≡ list_of lists q) (λ apart. absurd (apart refl)) (λ q _ _. refl) r
+
+-- and is there
 pub listed_there : (lists : FinMap nat_cmp (List ℕ)) (k : ℕ) (xs : List ℕ) → list_of (insert lists k xs) k ≡ xs
 listed_there lists k xs = ap (λ o. unwrap_or o []) (get-insert nat_cmp_total lists k xs k ∙ ap (λ b. cond b (Some xs) (get lists k)) (itself k))
 
@@ -99,7 +103,7 @@ AreLists-undone_at belongs_to units old mid new n key put same is =
     AreLists-same belongs_to units (insert mid key (take_number n (list_of mid key))) new same
     (by_key mid key (take_number n (list_of mid key)) (λ r xs. xs ≡ numbers_where (λ v. belongs_to v == r) units)
     (ap (take_number n) (ap (λ l. list_of l key) put ∙ listed_there old key (put_number n (list_of old key))) ∙ taken_put n (list_of old key) ∙ is key)
-    (λ r ne. ap (λ l. list_of l r) put ∙ by_key old key (put_number n (list_of old key)) (λ q xs. key ≢ q → xs ≡ list_of old q) (λ apart. absurd (apart refl)) (λ q _ _. refl) r ne ∙ is r))
+    (λ r ne. ap (λ l. list_of l r) put ∙ listed_else old key (put_number n (list_of old key)) r ne ∙ is r))
 
 -- a number taken where there is no list
 pub none_taken : (lists : FinMap nat_cmp (List ℕ)) (key n : ℕ) → get lists key ≡ None → SameLists lists (insert lists key (take_number n (list_of lists key)))
@@ -108,15 +112,76 @@ none_taken lists key n none k =
     sym (by_key lists key (take_number n (list_of lists key)) (λ q xs. xs ≡ list_of lists q)
     (ap (λ o. take_number n (unwrap_or o [])) none ∙ sym (ap (λ o. unwrap_or o []) none)) (λ q ne. refl) k)
 
+-- ---- the lists of structures, which are lists by a key but for that under 0
+
+-- some lists are others with nobody under 0
+abbrev AreBare : (some all : FinMap nat_cmp (List ℕ)) → Type 0
+AreBare some all = (k : ℕ) → list_of some k ≡ cond (k == 0) [] (list_of all k)
+
+-- a list changed in both
+bare_put : (f : List ℕ → List ℕ) (some all : FinMap nat_cmp (List ℕ)) (key : ℕ) → AreBare some all → AreBare (cond (key == 0) some (insert some key (f (list_of some key)))) (insert all key (f (list_of all key)))
+bare_put f some all key bare =
+    elim (cases_eq key 0) [
+      | inl none ↦ rw none (by_key all 0 (f (list_of all 0)) (λ r xs. list_of some r ≡ cond (r == 0) [] xs) (bare 0) (λ r _. bare r))
+      | inr there ↦ rw (other_number key 0 there)
+          (by_key some key (f (list_of some key)) (λ r xs. xs ≡ cond (r == 0) [] (list_of (insert all key (f (list_of all key))) r))
+          (rw (other_number key 0 there, listed_there all key (f (list_of all key))) (ap f (rw (other_number key 0 there) at (bare key))))
+          (λ r ne. rw (listed_else all key (f (list_of all key)) r ne) (bare r)))
+    ]
+
+module _ (units : FinMap nat_cmp Unit) (lists : FinMap nat_cmp (List ℕ)) (are : AreInsideLists units lists) where
+  outside : List ℕ
+  outside = numbers_where (λ u. u.structure == 0) units
+
+  -- the lists with those that are inside nothing under 0
+  whole : FinMap nat_cmp (List ℕ)
+  whole = insert lists 0 outside
+
+  whole_listed : AreLists (λ u. u.structure) units whole
+  unfolding whole outside
+  whole_listed = by_key lists 0 outside (λ r xs. xs ≡ numbers_where (λ u. u.structure == r) units) refl (λ r ne. rw (other_number r 0 (λ e. ne (sym e))) at (are r))
+
+  whole_bare : AreBare lists whole
+  unfolding whole
+  whole_bare = by_key lists 0 outside (λ r xs. list_of lists r ≡ cond (r == 0) [] xs) (are 0) (λ r ne. rw (other_number r 0 (λ e. ne (sym e))) refl)
+
+bare_inside : (units : FinMap nat_cmp Unit) (some all : FinMap nat_cmp (List ℕ)) → AreBare some all → AreLists (λ u. u.structure) units all → AreInsideLists units some
+bare_inside units some all bare are k = bare k ∙ ap (cond (k == 0) []) (are k)
+
+module _ (units : FinMap nat_cmp Unit) (old new : FinMap nat_cmp (List ℕ)) (n key : ℕ) (u : Unit) (own : u.structure ≡ key) where
+  pub AreInsideLists-came : get units n ≡ None → new ≡ listed_apart old n key 0 → AreInsideLists units old → AreInsideLists (insert units n u) new
+  AreInsideLists-came fresh put is =
+      let all = whole units old is in
+      rw put
+      (bare_inside (insert units n u) _ (insert all key (put_number n (list_of all key))) (bare_put (put_number n) old all key (whole_bare units old is))
+      (AreLists-came (λ v. v.structure) units all _ n key u own fresh refl (whole_listed units old is)))
+
+  pub AreInsideLists-went : get units n ≡ Some u → SameLists new (unlisted_apart old n key 0) → AreInsideLists units old → AreInsideLists (remove units n) new
+  AreInsideLists-went there same is k =
+      let all = whole units old is in
+      same k
+      ∙ bare_inside (remove units n) _ (insert all key (take_number n (list_of all key))) (bare_put (take_number n) old all key (whole_bare units old is))
+      (AreLists-went (λ v. v.structure) units all _ n key u own there (λ r. refl) (whole_listed units old is)) k
+
+AreInsideLists-kept : (units : FinMap nat_cmp Unit) (lists : FinMap nat_cmp (List ℕ)) (n : ℕ) (u v : Unit) → get units n ≡ Some u → u.structure ≡ v.structure → AreInsideLists units lists → AreInsideLists (insert units n v) lists
+AreInsideLists-kept units lists n u v there same is =
+    bare_inside (insert units n v) lists (whole units lists is) (whole_bare units lists is) (AreLists-kept (λ w. w.structure) units _ n u v there same (whole_listed units lists is))
+
 -- ---- nobody is listed
 nobody_listed : (belongs_to : Unit → ℕ) → AreLists belongs_to empty empty
 nobody_listed belongs_to k = ap (λ o. unwrap_or o []) (get-empty nat_cmp k) ∙ sym (ap (λ es. map (λ e. e.0) (filter (λ e. belongs_to e.1 == k) es)) entries-empty)
+
+nobody_bare : AreBare empty empty
+nobody_bare k = elim (k == 0) as (λ b. list_of empty k ≡ cond b [] (list_of empty k)) [
+  | true ↦ ap (λ o. unwrap_or o []) (get-empty nat_cmp k)
+  | false ↦ refl
+]
 
 pub AreUnitLists-nobody : AreUnitLists empty (record { by_region = empty; by_faction = empty; by_structure = empty })
 AreUnitLists-nobody = record {
   regions = nobody_listed (λ u. u.region);
   factions = nobody_listed (λ u. u.faction);
-  structures = nobody_listed (λ u. u.structure);
+  structures = bare_inside empty empty empty nobody_bare (nobody_listed (λ u. u.structure));
 }
 
 -- ---- units that change, or come and go again
@@ -126,7 +191,7 @@ pub AreUnitLists-kept : (units : FinMap nat_cmp Unit) (lists : UnitLists) (n : �
 AreUnitLists-kept units lists n u v is same old = record {
   regions = AreLists-kept (λ w. w.region) units lists.by_region n u v is (ap (λ (l : Listing). l.region) same) old.regions;
   factions = AreLists-kept (λ w. w.faction) units lists.by_faction n u v is (ap (λ (l : Listing). l.faction) same) old.factions;
-  structures = AreLists-kept (λ w. w.structure) units lists.by_structure n u v is (ap (λ (l : Listing). l.structure) same) old.structures;
+  structures = AreInsideLists-kept units lists.by_structure n u v is (ap (λ (l : Listing). l.structure) same) old.structures;
 }
 
 put_there : (units : FinMap nat_cmp Unit) (n : ℕ) (u : Unit) → get (insert units n u) n ≡ Some u
@@ -152,9 +217,6 @@ module _ (belongs_to : Unit → ℕ) where
       (λ _. ap (put_number k) (old to) ∙ sym (numbers_where-gained (λ w. belongs_to w == to) units k u v is (other_number from to apart) (same_number to)))
       (λ q ne2 ne3. old q ∙ sym (numbers_where-insert_known (λ w. belongs_to w == q) units k u v is (other_number from q ne3 ∙ sym (other_number to q ne2)))) r ne)
 
-  stands_still : (lists : FinMap nat_cmp (List ℕ)) (n from to : ℕ) → from ≢ to → list_of (insert lists to (put_number n (list_of lists to))) from ≡ list_of lists from
-  stands_still lists n from to ne = by_key lists to (put_number n (list_of lists to)) (λ r xs. to ≢ r → xs ≡ list_of lists r) (λ apart. absurd (apart refl)) (λ r _ _. refl) from (λ e. ne (sym e))
-
   relisted : (units : FinMap nat_cmp Unit) (lists : FinMap nat_cmp (List ℕ)) (k : ℕ) (u v : Unit) → get units k ≡ Some u → AreLists belongs_to units lists
       → AreLists belongs_to (insert units k v) (unlisted_apart (listed_apart lists k (belongs_to v) (belongs_to u)) k (belongs_to u) (belongs_to v))
   relisted units lists k u v is old =
@@ -162,7 +224,7 @@ module _ (belongs_to : Unit → ℕ) where
       let to = belongs_to v in
       elim (cases_eq from to) [
         | inl same ↦ rw (ap (λ q. from == q) (sym same) ∙ same_number from, ap (λ q. to == q) same ∙ same_number to) (AreLists-kept belongs_to units lists k u v is same old)
-        | inr apart ↦ rw (other_number from to apart, other_number to from (λ e. apart (sym e)), stands_still lists k from to apart) (AreLists-moved units lists k u v is apart old)
+        | inr apart ↦ rw (other_number from to apart, other_number to from (λ e. apart (sym e)), listed_else lists to (put_number k (list_of lists to)) from (λ e. apart (sym e))) (AreLists-moved units lists k u v is apart old)
       ]
 
   pub AreLists-relisted : (units : FinMap nat_cmp Unit) (old mid new : FinMap nat_cmp (List ℕ)) (n from to : ℕ) (u v : Unit) → get units n ≡ Some u → belongs_to u ≡ from → belongs_to v ≡ to → mid ≡ listed_apart old n to from → SameLists new (unlisted_apart mid n from to)
@@ -179,6 +241,22 @@ module _ (belongs_to : Unit → ℕ) where
         | true ↦ λ p s. AreLists-same belongs_to units mid new s (subst (λ m. AreLists belongs_to units m) (sym p) is)
         | false ↦ λ p s. AreLists-undone_at belongs_to units old mid new n key p s is
       ] put same
+
+pub AreInsideLists-relisted : (units : FinMap nat_cmp Unit) (old new : FinMap nat_cmp (List ℕ)) (n from to : ℕ) (u v : Unit) → get units n ≡ Some u → u.structure ≡ from → v.structure ≡ to → SameLists new (relisted_inside old n from to)
+    → AreInsideLists units old → AreInsideLists (insert units n v) new
+AreInsideLists-relisted units old new n from to u v is own goes same lists =
+    elim (cases_eq from to) [
+      | inl one ↦ λ k. same k ∙ rw (ap (λ q. from == q) (sym one) ∙ same_number from) (AreInsideLists-kept units old n u v is (own ∙ one ∙ sym goes) lists k)
+      | inr apart ↦
+          let all = whole units old lists in
+          let put = insert all to (put_number n (list_of all to)) in
+          let taken = insert put from (take_number n (list_of put from)) in
+          let bare = bare_put (take_number n) (listed_apart old n to 0) put from (bare_put (put_number n) old all to (whole_bare units old lists)) in
+          λ k.
+          same k ∙ rw (other_number from to apart)
+          (bare_inside (insert units n v) _ taken bare
+          (AreLists-relisted (λ w. w.structure) units all put taken n from to u v is own goes (rw (other_number to from (λ e. apart (sym e))) refl) (λ r. rw (other_number from to apart) refl) (whole_listed units old lists)) k)
+    ]
 
 -- a unit that may have changed, and goes on being listed where it was
 pub AreUnitLists-changed : (f : Unit → Unit) → ((u : Unit) → listing_of u ≡ listing_of (f u)) → (units : FinMap nat_cmp Unit) (lists : UnitLists) (n : ℕ) → AreUnitLists units lists → AreUnitLists (changed f units n) lists

@@ -8,6 +8,7 @@ use Rattle.atl_state.specs.Limits.{entry_count}
 use Rattle.atl_state.specs.Marks.{AreOfThings}
 use Rattle.atl_state.specs.declared.records.Unit.{Unit}
 use Rattle.atl_state.specs.Ordered.{put_number, take_number}
+use Rattle.atl_state.specs.State.{numbers_inside}
 use Rattle.atl_state.specs.declared.lists.Listing.{Listing}
 use Rattle.atl_state.specs.declared.lists.UnitLists.{UnitLists}
 
@@ -31,11 +32,19 @@ listed_apart lists n key other = if key == other then lists else insert lists ke
 abbrev pub unlisted_apart : FinMap nat_cmp (List ℕ) → ℕ → ℕ → ℕ → FinMap nat_cmp (List ℕ)
 unlisted_apart lists n key other = if key == other then lists else insert lists key (take_number n (list_of lists key))
 
--- each number stands in the list of its region, of its faction and of its structure
+-- under each structure stand, in rising order, the units inside, and under 0 nobody
+abbrev pub AreInsideLists : FinMap nat_cmp Unit → FinMap nat_cmp (List ℕ) → Type 0
+AreInsideLists units lists = (s : ℕ) → list_of lists s ≡ numbers_inside s units
+
+-- the lists with a number moved from one structure to another, where neither is listed that is 0
+abbrev pub relisted_inside : FinMap nat_cmp (List ℕ) → ℕ → ℕ → ℕ → FinMap nat_cmp (List ℕ)
+relisted_inside lists n from to = if from == to then lists else unlisted_apart (listed_apart lists n to 0) n from 0
+
+-- each number stands in the list of its region, of its faction and of its structure, where it has one
 pub record AreUnitLists (units : FinMap nat_cmp Unit) (lists : UnitLists) : Type 0 where
   pub regions : AreLists (λ u. u.region) units lists.by_region
   pub factions : AreLists (λ u. u.faction) units lists.by_faction
-  pub structures : AreLists (λ u. u.structure) units lists.by_structure
+  pub structures : AreInsideLists units lists.by_structure
 
 -- where a unit is listed
 abbrev pub listing_of : Unit → Listing

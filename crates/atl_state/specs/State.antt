@@ -1,5 +1,5 @@
 -- What a contract sees of a campaign.
-use Rattle.std.specs.Prelude.{◌==◌, ◌+◌, not, List, ℕ, ℤ, Bool, true, refl}
+use Rattle.std.specs.Prelude.{◌==◌, ◌+◌, not, if◌then◌else◌, List, [], ℕ, ℤ, Bool, true, refl}
 use Rattle.std.specs.Ordering.{nat_cmp}
 use Rattle.std.specs.Coded.{Coded, code_by, coded×, coded_ℕ, coded_ℤ, coded_list}
 use Rattle.std.specs.FinMap.{FinMap, code, empty, insert}
@@ -75,9 +75,9 @@ numbers_in r units = numbers_where (λ u. u.region == r) units
 abbrev pub numbers_of : ℕ → FinMap nat_cmp Unit → List ℕ
 numbers_of f units = numbers_where (λ u. u.faction == f) units
 
--- the numbers of the units inside a structure, in rising order; of those inside none, where it is 0
+-- the numbers of the units inside a structure, in rising order; none where it is 0, which is no structure
 abbrev pub numbers_inside : ℕ → FinMap nat_cmp Unit → List ℕ
-numbers_inside s units = numbers_where (λ u. u.structure == s) units
+numbers_inside s units = if s == 0 then [] else numbers_where (λ u. u.structure == s) units
 
 -- ---- one entry changed. Where there is none under the number nothing is
 

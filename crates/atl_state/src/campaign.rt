@@ -309,7 +309,7 @@ impl Campaign {
         listed(&self.lists.by_faction, faction)
     }
 
-    /// The numbers of the units inside a structure, in rising order; of those inside none, where it is 0.
+    /// The numbers of the units inside a structure, in rising order; none where it is 0, which is no structure.
     pub fn inside(&self, structure: u32) -> &[u32]
         ensures { result.now ≡ numbers_inside structure self.now.what.units }
     {

@@ -1,7 +1,7 @@
 //! Rising lists of numbers, each under a number that they belong to.
 ghost use Rattle.std.specs.Prelude.{◌≡◌, OnOk, OnErr};
 ghost use Rattle.std.specs.FinMap as map;
-ghost use Rattle.atl_state.specs.Kept.{list_of, listing_of, listed_apart, unlisted_apart, AreUnitLists, SameLists, ListsUnit, KeepsLists, KeepsAll, UnlistsUnit, RelistsUnit};
+ghost use Rattle.atl_state.specs.Kept.{list_of, listing_of, listed_apart, unlisted_apart, relisted_inside, AreUnitLists, SameLists, ListsUnit, KeepsLists, KeepsAll, UnlistsUnit, RelistsUnit};
 ghost use Rattle.atl_state.specs.Ordered.{put_number, take_number};
 
 use crate::numbers::Numbers;
@@ -9,8 +9,8 @@ use crate::records::Unit;
 use atl_tables::{Numbered, let_go};
 use std::alloc::{AllocError, Global};
 
-/// The numbers of the units of each region, of each faction and of each structure, in rising order. Those inside no
-/// structure stand under 0.
+/// The numbers of the units of each region, of each faction and of each structure, in rising order. Under the structure 0
+/// stands nobody: units with that one are inside none.
 pub(crate) struct UnitLists {
     pub(crate) by_region: Numbered<Numbers>,
     pub(crate) by_faction: Numbered<Numbers>,
@@ -71,7 +71,7 @@ impl UnitLists {
                 return Err(e);
             }
         }
-        match list_number(alloc, &mut self.by_structure, listing.structure, number) {
+        match list_apart(alloc, &mut self.by_structure, number, listing.structure, 0) {
             Ok(()) => Ok(()),
             Err(e) => {
                 unlist_number(&mut self.by_region, listing.region, number);
@@ -87,7 +87,7 @@ impl UnitLists {
     {
         unlist_number(&mut self.by_region, listing.region, number);
         unlist_number(&mut self.by_faction, listing.faction, number);
-        unlist_number(&mut self.by_structure, listing.structure, number);
+        unlist_apart(&mut self.by_structure, number, listing.structure, 0);
     }
 
     /// Lists a unit in another region and structure. Without memory for it nothing changes.
@@ -103,12 +103,12 @@ impl UnitLists {
         ensures err { OnErr result (KeepsAll self.old self.new) }
     {
         list_apart(alloc, &mut self.by_region, number, to.region, from.region)?;
-        match list_apart(
+        match relist_inside(
             alloc,
             &mut self.by_structure,
             number,
-            to.structure,
             from.structure,
+            to.structure,
         ) {
             Ok(()) => {}
             Err(e) => {
@@ -117,9 +117,28 @@ impl UnitLists {
             }
         }
         unlist_apart(&mut self.by_region, number, from.region, to.region);
-        unlist_apart(&mut self.by_structure, number, from.structure, to.structure);
         Ok(())
     }
+}
+
+/// Moves a number from the list of one structure into that of another; 0 has no list. Without memory for it nothing
+/// changes.
+fn relist_inside(
+    alloc: Global,
+    lists: &mut Numbered<Numbers>,
+    number: u32,
+    from: u32,
+    to: u32,
+) -> Result<(), AllocError>
+    ensures ok { OnOk result (SameLists lists.new (relisted_inside lists.old number from to)) }
+    ensures err { OnErr result (lists.new ≡ lists.old) }
+{
+    if from == to {
+        return Ok(());
+    }
+    list_apart(alloc, lists, number, to, 0)?;
+    unlist_apart(lists, number, from, 0);
+    Ok(())
 }
 
 /// Puts a number into the list under a key, where that is another than a second one. Without memory for it nothing
