@@ -4,6 +4,7 @@ pub mod Texts
 pub mod Names
 pub mod Faults
 pub mod Keys
+pub mod KeyByKey
 pub mod Each
 pub mod Arrays
 pub mod Titles
