@@ -1,6 +1,7 @@
 pub mod Limits
 pub mod Letters
 pub mod Texts
+pub mod Steps
 pub mod Names
 pub mod Faults
 pub mod Keys
