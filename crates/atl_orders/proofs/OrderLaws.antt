@@ -18,7 +18,8 @@ use Rattle.atl_orders.specs.declared.fault.LineFault.TheVariants.{BadNumber, Unk
 use Rattle.atl_orders.specs.declared.verb.Verb.{Verb}
 use Rattle.atl_orders.specs.declared.verb.Verb.TheVariants as verbs
 use Rattle.atl_orders.specs.Words.{WordText, is_word, number_of}
-use Rattle.atl_orders.specs.Operands.{◌>>=◌, or_fault, not_zero, word_at, count_at, number_at, alias_at, unit_at, item_at, skill_at, kind_at, direction_at, numbered, named_new, and_then_units, units_of, some_units_at}
+use Rattle.atl_tables.specs.Steps.{◌>>=◌}
+use Rattle.atl_orders.specs.Operands.{or_fault, not_zero, word_at, count_at, number_at, alias_at, unit_at, item_at, skill_at, kind_at, direction_at, numbered, named_new, and_then_units, units_of, some_units_at}
 use Rattle.atl_orders.specs.declared.order.Order.TheVariants as orders
 use Rattle.atl_orders.specs.Orders.{Said, kind_of_name, form_at, name_at, guard_at, enter_at, promote_at, give_at, pay_at, transfer_at, recruit_at, quit_at, move_at, sail_at, build_at, teach_at, study_at, produce_at, said_by}
 use Rattle.atl_orders.specs.Bounds.{IsWithin, IsNumber, IsAlias, IsUnitRef, IsOrderOf}

@@ -2,6 +2,7 @@
 use Rattle.std.specs.Prelude.{ℕ, List, [], ◌∷◌, codes, Option, Some, None, Result, Ok, Err, ◌==◌, if◌then◌else◌}
 use Rattle.atl_orders.specs.Limits.{last_alias, most_number}
 use Rattle.atl_tables.specs.Planet.{Planet}
+use Rattle.atl_tables.specs.Steps.{◌>>=◌}
 use Rattle.atl_tables.specs.Lookup.{item_named, skill_named, kind_named}
 use Rattle.atl_orders.specs.declared.order.UnitRef.{UnitRef}
 use Rattle.atl_orders.specs.declared.order.UnitRef.TheVariants.{Number, Alias}
@@ -10,12 +11,6 @@ use Rattle.atl_tables.specs.declared.direction.Direction.TheVariants.{North, Sou
 use Rattle.atl_orders.specs.declared.fault.LineFault.{LineFault}
 use Rattle.atl_orders.specs.declared.fault.LineFault.TheVariants.{BadNumber, UnknownThing, MissingWord, BadAlias, BadDirection}
 use Rattle.atl_orders.specs.Words.{WordText, is_word, number_of}
-
--- A step of reading is a value, or the first fault.
-infixl 10 ◌>>=◌
-abbrev pub ◌>>=◌ : {A B : Type 0} → Result A LineFault → (A → Result B LineFault) → Result B LineFault
-(Ok x) >>= f = f x
-(Err e) >>= f = Err e
 
 -- a value that there has to be
 abbrev pub or_fault : {X : Type 0} → LineFault → Option X → Result X LineFault

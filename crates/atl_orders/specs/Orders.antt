@@ -14,7 +14,8 @@ use Rattle.atl_orders.specs.declared.fault.LineFault.TheVariants.{BadNumber, Unk
 use Rattle.atl_orders.specs.declared.verb.Verb.{Verb}
 use Rattle.atl_orders.specs.declared.verb.Verb.TheVariants as verbs
 use Rattle.atl_orders.specs.Words.{WordText, is_word, number_of}
-use Rattle.atl_orders.specs.Operands.{◌>>=◌, or_fault, word_at, number_at, alias_at, unit_at, item_at, skill_at, kind_at, direction_at, some_units_at}
+use Rattle.atl_tables.specs.Steps.{◌>>=◌}
+use Rattle.atl_orders.specs.Operands.{or_fault, word_at, number_at, alias_at, unit_at, item_at, skill_at, kind_at, direction_at, some_units_at}
 
 -- An order, with a name by its bytes; items, skills and kinds are by their numbers in the world.
 abbrev pub Said : Type 0

@@ -11,7 +11,7 @@ use Rattle.atl_orders.specs.declared.reading.Outcome.TheVariants as outcomes
 use Rattle.atl_orders.specs.declared.words.Word.{Word}
 use Rattle.atl_orders.specs.Lines.{lines}
 use Rattle.atl_orders.specs.Mailing.{EntrySaid, entry_said, Headed}
-use Rattle.atl_orders.specs.Operands.{◌>>=◌}
+use Rattle.atl_tables.specs.Steps.{◌>>=◌}
 use Rattle.atl_orders.specs.Orders.{said}
 use Rattle.atl_orders.specs.Reading.{Effect, nothing, faulty, says}
 use Rattle.atl_orders.specs.Words.{WordText}

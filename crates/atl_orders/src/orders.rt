@@ -1,5 +1,5 @@
 //! What each order says by the words behind its verb, or the first fault of these words from left to right.
-ghost use Rattle.std.specs.Prelude.{List, ℕ, ◌≡◌, IfOk};
+ghost use Rattle.std.specs.Prelude.{◌≡◌, IfOk};
 ghost use Rattle.atl_orders.specs.Words.{words};
 ghost use Rattle.atl_orders.specs.Views.{word_text, Gives};
 ghost use Rattle.atl_orders.specs.Standing.{IsCursor};
@@ -17,10 +17,10 @@ use std::alloc::{AllocError, Global};
 
 /// FORM and its alias, else MissingWord or BadAlias.
 #[tactic(auto, unfolding(crate::specs::Orders::form_at))]
-fn form_at(line: &[u8]) -> Result<Order, LineFault>
-    ensures { (text : List ℕ) → Gives (said text) result (form_at (words line.now)) }
+fn form_at(cursor: Cursor) -> Result<Order, LineFault>
+    ensures { Gives (said cursor.entry.text.now) result (form_at (words cursor.entry.rest.now)) }
 {
-    let (alias, _) = alias_at(line)?;
+    let (alias, _) = alias_at(cursor.rest)?;
     Ok(Order::Form(alias))
 }
 
@@ -64,38 +64,38 @@ fn name_at(cursor: Cursor) -> Result<Order, LineFault>
 
 /// GUARD and 0 or 1, else MissingWord or BadNumber.
 #[tactic(auto, unfolding(crate::specs::Orders::guard_at))]
-fn guard_at(line: &[u8]) -> Result<Order, LineFault>
-    ensures { (text : List ℕ) → Gives (said text) result (guard_at (words line.now)) }
+fn guard_at(cursor: Cursor) -> Result<Order, LineFault>
+    ensures { Gives (said cursor.entry.text.now) result (guard_at (words cursor.entry.rest.now)) }
 {
-    let (word, _) = word_at(line)?;
+    let (word, _) = word_at(cursor.rest)?;
     let flag = number(word.bytes, 1).ok_or(LineFault::BadNumber)?;
     Ok(Order::Guard(flag == 1))
 }
 
 /// ENTER and the number of a structure, else MissingWord or BadNumber.
 #[tactic(auto, unfolding(crate::specs::Orders::enter_at))]
-fn enter_at(line: &[u8]) -> Result<Order, LineFault>
-    ensures { (text : List ℕ) → Gives (said text) result (enter_at (words line.now)) }
+fn enter_at(cursor: Cursor) -> Result<Order, LineFault>
+    ensures { Gives (said cursor.entry.text.now) result (enter_at (words cursor.entry.rest.now)) }
 {
-    let (structure, _) = number_at(line)?;
+    let (structure, _) = number_at(cursor.rest)?;
     Ok(Order::Enter(structure))
 }
 
 /// PROMOTE and a unit, else MissingWord, BadNumber or BadAlias.
 #[tactic(auto, unfolding(crate::specs::Orders::promote_at))]
-fn promote_at(line: &[u8]) -> Result<Order, LineFault>
-    ensures { (text : List ℕ) → Gives (said text) result (promote_at (words line.now)) }
+fn promote_at(cursor: Cursor) -> Result<Order, LineFault>
+    ensures { Gives (said cursor.entry.text.now) result (promote_at (words cursor.entry.rest.now)) }
 {
-    let (unit, _) = unit_at(line)?;
+    let (unit, _) = unit_at(cursor.rest)?;
     Ok(Order::Promote(unit))
 }
 
 /// GIVE, a unit, an amount and an item, else MissingWord, BadNumber, BadAlias or UnknownThing.
 #[tactic(auto, unfolding(crate::specs::Orders::give_at))]
-fn give_at(world: &World, line: &[u8]) -> Result<Order, LineFault>
-    ensures { (text : List ℕ) → Gives (said text) result (give_at world.now (words line.now)) }
+fn give_at(world: &World, cursor: Cursor) -> Result<Order, LineFault>
+    ensures { Gives (said cursor.entry.text.now) result (give_at world.now (words cursor.entry.rest.now)) }
 {
-    let (to, rest) = unit_at(line)?;
+    let (to, rest) = unit_at(cursor.rest)?;
     let (amount, rest) = number_at(rest)?;
     let item = item_at(world, rest)?;
     Ok(Order::Give { to, amount, item })
@@ -103,81 +103,81 @@ fn give_at(world: &World, line: &[u8]) -> Result<Order, LineFault>
 
 /// PAY, a unit and an amount of money, else MissingWord, BadNumber or BadAlias.
 #[tactic(auto, unfolding(crate::specs::Orders::pay_at))]
-fn pay_at(line: &[u8]) -> Result<Order, LineFault>
-    ensures { (text : List ℕ) → Gives (said text) result (pay_at (words line.now)) }
+fn pay_at(cursor: Cursor) -> Result<Order, LineFault>
+    ensures { Gives (said cursor.entry.text.now) result (pay_at (words cursor.entry.rest.now)) }
 {
-    let (to, rest) = unit_at(line)?;
+    let (to, rest) = unit_at(cursor.rest)?;
     let (amount, _) = number_at(rest)?;
     Ok(Order::Pay { to, amount })
 }
 
 /// TRANSFER, a unit and a number of men, else MissingWord, BadNumber or BadAlias.
 #[tactic(auto, unfolding(crate::specs::Orders::transfer_at))]
-fn transfer_at(line: &[u8]) -> Result<Order, LineFault>
-    ensures { (text : List ℕ) → Gives (said text) result (transfer_at (words line.now)) }
+fn transfer_at(cursor: Cursor) -> Result<Order, LineFault>
+    ensures { Gives (said cursor.entry.text.now) result (transfer_at (words cursor.entry.rest.now)) }
 {
-    let (to, rest) = unit_at(line)?;
+    let (to, rest) = unit_at(cursor.rest)?;
     let (men, _) = number_at(rest)?;
     Ok(Order::Transfer { to, men })
 }
 
 /// RECRUIT and a number of men, else MissingWord or BadNumber.
 #[tactic(auto, unfolding(crate::specs::Orders::recruit_at))]
-fn recruit_at(line: &[u8]) -> Result<Order, LineFault>
-    ensures { (text : List ℕ) → Gives (said text) result (recruit_at (words line.now)) }
+fn recruit_at(cursor: Cursor) -> Result<Order, LineFault>
+    ensures { Gives (said cursor.entry.text.now) result (recruit_at (words cursor.entry.rest.now)) }
 {
-    let (men, _) = number_at(line)?;
+    let (men, _) = number_at(cursor.rest)?;
     Ok(Order::Recruit(men))
 }
 
 /// QUIT and the number of a faction, else MissingWord or BadNumber.
 #[tactic(auto, unfolding(crate::specs::Orders::quit_at))]
-fn quit_at(line: &[u8]) -> Result<Order, LineFault>
-    ensures { (text : List ℕ) → Gives (said text) result (quit_at (words line.now)) }
+fn quit_at(cursor: Cursor) -> Result<Order, LineFault>
+    ensures { Gives (said cursor.entry.text.now) result (quit_at (words cursor.entry.rest.now)) }
 {
-    let (faction, _) = number_at(line)?;
+    let (faction, _) = number_at(cursor.rest)?;
     Ok(Order::Quit(faction))
 }
 
 /// MOVE and a direction, else MissingWord or BadDirection.
 #[tactic(auto, unfolding(crate::specs::Orders::move_at))]
-fn move_at(line: &[u8]) -> Result<Order, LineFault>
-    ensures { (text : List ℕ) → Gives (said text) result (move_at (words line.now)) }
+fn move_at(cursor: Cursor) -> Result<Order, LineFault>
+    ensures { Gives (said cursor.entry.text.now) result (move_at (words cursor.entry.rest.now)) }
 {
-    let direction = direction_at(line)?;
+    let direction = direction_at(cursor.rest)?;
     Ok(Order::Move(direction))
 }
 
 /// SAIL and a direction, else MissingWord or BadDirection.
 #[tactic(auto, unfolding(crate::specs::Orders::sail_at))]
-fn sail_at(line: &[u8]) -> Result<Order, LineFault>
-    ensures { (text : List ℕ) → Gives (said text) result (sail_at (words line.now)) }
+fn sail_at(cursor: Cursor) -> Result<Order, LineFault>
+    ensures { Gives (said cursor.entry.text.now) result (sail_at (words cursor.entry.rest.now)) }
 {
-    let direction = direction_at(line)?;
+    let direction = direction_at(cursor.rest)?;
     Ok(Order::Sail(direction))
 }
 
 /// BUILD, with or without a kind, else UnknownThing.
 #[tactic(auto, unfolding(crate::specs::Orders::build_at))]
-fn build_at(world: &World, line: &[u8]) -> Result<Order, LineFault>
-    ensures { (text : List ℕ) → Gives (said text) result (build_at world.now (words line.now)) }
+fn build_at(world: &World, cursor: Cursor) -> Result<Order, LineFault>
+    ensures { Gives (said cursor.entry.text.now) result (build_at world.now (words cursor.entry.rest.now)) }
 {
-    if next_word(line).is_none() {
+    if next_word(cursor.rest).is_none() {
         return Ok(Order::Build(None));
     }
-    let kind = kind_at(world, line)?;
+    let kind = kind_at(world, cursor.rest)?;
     Ok(Order::Build(Some(kind)))
 }
 
 /// TEACH and one unit or more up to the line's end, else MissingWord, BadNumber or BadAlias.
 #[tactic(auto, unfolding(crate::specs::Orders::teach_at, crate::specs::Operands::some_units_at))]
-fn teach_at(alloc: Global, line: &[u8]) -> Result<Result<Order, LineFault>, AllocError>
-    ensures { IfOk result (λ read. (text : List ℕ) → Gives (said text) read (teach_at (words line.now))) }
+fn teach_at(alloc: Global, cursor: Cursor) -> Result<Result<Order, LineFault>, AllocError>
+    ensures { IfOk result (λ read. Gives (said cursor.entry.text.now) read (teach_at (words cursor.entry.rest.now))) }
 {
-    if next_word(line).is_none() {
+    if next_word(cursor.rest).is_none() {
         return Ok(Err(LineFault::MissingWord));
     }
-    match units_of(alloc, line)? {
+    match units_of(alloc, cursor.rest)? {
         Ok(units) => Ok(Ok(Order::Teach(units))),
         Err(fault) => Ok(Err(fault)),
     }
@@ -185,19 +185,19 @@ fn teach_at(alloc: Global, line: &[u8]) -> Result<Result<Order, LineFault>, Allo
 
 /// STUDY and a skill, else MissingWord or UnknownThing.
 #[tactic(auto, unfolding(crate::specs::Orders::study_at))]
-fn study_at(world: &World, line: &[u8]) -> Result<Order, LineFault>
-    ensures { (text : List ℕ) → Gives (said text) result (study_at world.now (words line.now)) }
+fn study_at(world: &World, cursor: Cursor) -> Result<Order, LineFault>
+    ensures { Gives (said cursor.entry.text.now) result (study_at world.now (words cursor.entry.rest.now)) }
 {
-    let skill = skill_at(world, line)?;
+    let skill = skill_at(world, cursor.rest)?;
     Ok(Order::Study(skill))
 }
 
 /// PRODUCE and an item, else MissingWord or UnknownThing.
 #[tactic(auto, unfolding(crate::specs::Orders::produce_at))]
-fn produce_at(world: &World, line: &[u8]) -> Result<Order, LineFault>
-    ensures { (text : List ℕ) → Gives (said text) result (produce_at world.now (words line.now)) }
+fn produce_at(world: &World, cursor: Cursor) -> Result<Order, LineFault>
+    ensures { Gives (said cursor.entry.text.now) result (produce_at world.now (words cursor.entry.rest.now)) }
 {
-    let item = item_at(world, line)?;
+    let item = item_at(world, cursor.rest)?;
     Ok(Order::Produce(item))
 }
 
@@ -213,26 +213,25 @@ pub fn said_by(
     ensures { IfOk result (λ read. Gives (said cursor.entry.text.now) read
         (said_by world.now verb (words cursor.entry.rest.now))) }
 {
-    let line = cursor.rest;
     match verb {
-        Verb::Form => Ok(form_at(line)),
+        Verb::Form => Ok(form_at(cursor)),
         Verb::Name => Ok(name_at(cursor)),
-        Verb::Guard => Ok(guard_at(line)),
-        Verb::Enter => Ok(enter_at(line)),
+        Verb::Guard => Ok(guard_at(cursor)),
+        Verb::Enter => Ok(enter_at(cursor)),
         Verb::Leave => Ok(Ok(Order::Leave)),
-        Verb::Promote => Ok(promote_at(line)),
-        Verb::Give => Ok(give_at(world, line)),
-        Verb::Pay => Ok(pay_at(line)),
-        Verb::Transfer => Ok(transfer_at(line)),
+        Verb::Promote => Ok(promote_at(cursor)),
+        Verb::Give => Ok(give_at(world, cursor)),
+        Verb::Pay => Ok(pay_at(cursor)),
+        Verb::Transfer => Ok(transfer_at(cursor)),
         Verb::Tax => Ok(Ok(Order::Tax)),
-        Verb::Recruit => Ok(recruit_at(line)),
-        Verb::Quit => Ok(quit_at(line)),
-        Verb::Move => Ok(move_at(line)),
-        Verb::Sail => Ok(sail_at(line)),
-        Verb::Build => Ok(build_at(world, line)),
-        Verb::Teach => teach_at(alloc, line),
-        Verb::Study => Ok(study_at(world, line)),
-        Verb::Produce => Ok(produce_at(world, line)),
+        Verb::Recruit => Ok(recruit_at(cursor)),
+        Verb::Quit => Ok(quit_at(cursor)),
+        Verb::Move => Ok(move_at(cursor)),
+        Verb::Sail => Ok(sail_at(cursor)),
+        Verb::Build => Ok(build_at(world, cursor)),
+        Verb::Teach => teach_at(alloc, cursor),
+        Verb::Study => Ok(study_at(world, cursor)),
+        Verb::Produce => Ok(produce_at(world, cursor)),
         Verb::Work => Ok(Ok(Order::Work)),
     }
 }

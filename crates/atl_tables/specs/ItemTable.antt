@@ -1,8 +1,9 @@
 -- A table `[[item]]`: its keys in order, with their ranges, and the item that they give.
 use Rattle.std.specs.Prelude.{ℕ, ◌==◌, if◌then◌else◌, List, [], ◌∷◌, codes, Option, Some, None, option_and_then}
 use Rattle.toml.specs.Data.{Members}
-use Rattle.atl_tables.specs.Faults.{Conditions, fault_of, value_or}
-use Rattle.atl_tables.specs.Keys.{Key, path, indexed, number_at, name_at, number_or_at, optional_text_at}
+use Rattle.atl_tables.specs.Faults.{Conditions}
+use Rattle.atl_tables.specs.KeyByKey.{Table, conditions_of, value_of, ◌>>=◌, says, part, number_key, number_or_key, name_key, optional_text_key}
+use Rattle.atl_tables.specs.Keys.{path, indexed}
 use Rattle.atl_tables.specs.Limits.{most_weight, last_level, most_raw_count}
 use Rattle.atl_tables.specs.Titles.{known_or_absent, skill_number, item_number}
 use Rattle.atl_tables.specs.declared.item_table.ItemDraft.{ItemDraft}
@@ -11,49 +12,28 @@ use Rattle.atl_tables.specs.declared.tables.Tables.{Tables}
 use Rattle.atl_tables.specs.declared.world.Item.{Item}
 
 -- what making it takes
-abbrev pub level_at : Key ℕ
-level_at = number_or_at 1 1 last_level (codes "level")
-
-abbrev pub raw_count_at : Key ℕ
-raw_count_at = number_or_at 1 1 most_raw_count (codes "raw_count")
-
-unfoldable pub making_keys : List ℕ → Members → Conditions
-making_keys at t =
-    fault_of (optional_text_at (codes "skill") at t)
-    ∷ fault_of (level_at at t)
-    ∷ fault_of (optional_text_at (codes "raw") at t)
-    ∷ fault_of (raw_count_at at t)
-    ∷ []
-
-unfoldable pub making_from : List ℕ → Members → Making
-making_from at t = record {
-  skill = value_or None (optional_text_at (codes "skill") at t);
-  level = value_or 1 (level_at at t);
-  raw = value_or None (optional_text_at (codes "raw") at t);
-  raw_count = value_or 1 (raw_count_at at t);
-}
+unfoldable pub making_at : Table Making
+making_at = do
+  skill ← optional_text_key (codes "skill")
+  level ← number_or_key 1 1 last_level (codes "level")
+  raw ← optional_text_key (codes "raw")
+  raw_count ← number_or_key 1 1 most_raw_count (codes "raw_count")
+  says (record { skill = skill; level = level; raw = raw; raw_count = raw_count })
 
 -- the whole table
-abbrev pub weight_at : Key ℕ
-weight_at = number_at 0 most_weight (codes "weight")
+unfoldable pub item_at : Table ItemDraft
+item_at = do
+  name ← name_key (codes "name")
+  weight ← number_key 0 most_weight (codes "weight")
+  carry ← number_key 0 most_weight (codes "carry")
+  making ← part making_at
+  says (record { name = name; weight = weight; carry = carry; making = making })
 
-abbrev pub carry_at : Key ℕ
-carry_at = number_at 0 most_weight (codes "carry")
+abbrev pub item_keys : List ℕ → Members → Conditions
+item_keys = conditions_of item_at
 
-unfoldable pub item_keys : List ℕ → Members → Conditions
-item_keys at t =
-    fault_of (name_at (codes "name") at t)
-    ∷ fault_of (weight_at at t)
-    ∷ fault_of (carry_at at t)
-    ∷ making_keys at t
-
-unfoldable pub item_from : List ℕ → Members → ItemDraft
-item_from at t = record {
-  name = value_or [] (name_at (codes "name") at t);
-  weight = value_or 0 (weight_at at t);
-  carry = value_or 0 (carry_at at t);
-  making = making_from at t;
-}
+abbrev pub item_from : List ℕ → Members → ItemDraft
+item_from = value_of item_at
 
 -- an item other than the i-th
 abbrev pub other_than : ℕ → Option ℕ → Option ℕ

@@ -1,8 +1,9 @@
 -- A table `[[kind]]`: its keys in order, with their ranges, and the kind that they give.
-use Rattle.std.specs.Prelude.{ℕ, List, [], ◌∷◌, codes, false, None, unwrap_or, option_and_then}
+use Rattle.std.specs.Prelude.{ℕ, List, [], ◌∷◌, codes, unwrap_or, option_and_then}
 use Rattle.toml.specs.Data.{Members}
-use Rattle.atl_tables.specs.Faults.{Conditions, fault_of, first_fault, value_or}
-use Rattle.atl_tables.specs.Keys.{Key, path, indexed, number_at, name_at, text_at, flag_at, number_or_at, optional_text_at}
+use Rattle.atl_tables.specs.Faults.{Conditions}
+use Rattle.atl_tables.specs.KeyByKey.{Table, conditions_of, value_of, ◌>>=◌, says, part, number_key, number_or_key, name_key, text_key, optional_text_key, flag_key}
+use Rattle.atl_tables.specs.Keys.{path, indexed}
 use Rattle.atl_tables.specs.Limits.{most_amount, last_level, most_size}
 use Rattle.atl_tables.specs.Titles.{known, known_or_absent, skill_number, item_number}
 use Rattle.atl_tables.specs.declared.kind_table.Building.{Building}
@@ -12,64 +13,36 @@ use Rattle.atl_tables.specs.declared.tables.Tables.{Tables}
 use Rattle.atl_tables.specs.declared.world.Kind.{Kind}
 
 -- what building it takes
-abbrev pub size_at : Key ℕ
-size_at = number_at 1 most_size (codes "size")
-
-abbrev pub level_at : Key ℕ
-level_at = number_at 1 last_level (codes "level")
-
-unfoldable pub building_keys : List ℕ → Members → Conditions
-building_keys at t =
-    fault_of (text_at (codes "material") at t)
-    ∷ fault_of (size_at at t)
-    ∷ fault_of (text_at (codes "skill") at t)
-    ∷ fault_of (level_at at t)
-    ∷ []
-
-unfoldable pub building_from : List ℕ → Members → Building
-building_from at t = record {
-  material = value_or [] (text_at (codes "material") at t);
-  size = value_or 0 (size_at at t);
-  skill = value_or [] (text_at (codes "skill") at t);
-  level = value_or 0 (level_at at t);
-}
+unfoldable pub building_at : Table Building
+building_at = do
+  material ← text_key (codes "material")
+  size ← number_key 1 most_size (codes "size")
+  skill ← text_key (codes "skill")
+  level ← number_key 1 last_level (codes "level")
+  says (record { material = material; size = size; skill = skill; level = level })
 
 -- what it is good for
-abbrev pub capacity_at : Key ℕ
-capacity_at = number_or_at 0 0 most_amount (codes "capacity")
-
-abbrev pub crew_at : Key ℕ
-crew_at = number_or_at 0 0 most_size (codes "crew")
-
-unfoldable pub purpose_keys : List ℕ → Members → Conditions
-purpose_keys at t =
-    fault_of (capacity_at at t)
-    ∷ fault_of (crew_at at t)
-    ∷ fault_of (optional_text_at (codes "helps") at t)
-    ∷ []
-
-unfoldable pub purpose_from : List ℕ → Members → Purpose
-purpose_from at t = record {
-  capacity = value_or 0 (capacity_at at t);
-  crew = value_or 0 (crew_at at t);
-  helps = value_or None (optional_text_at (codes "helps") at t);
-}
+unfoldable pub purpose_at : Table Purpose
+purpose_at = do
+  capacity ← number_or_key 0 0 most_amount (codes "capacity")
+  crew ← number_or_key 0 0 most_size (codes "crew")
+  helps ← optional_text_key (codes "helps")
+  says (record { capacity = capacity; crew = crew; helps = helps })
 
 -- the whole table
-unfoldable pub kind_keys : List ℕ → Members → Conditions
-kind_keys at t =
-    fault_of (name_at (codes "name") at t)
-    ∷ fault_of (flag_at (codes "ship") at t)
-    ∷ first_fault (building_keys at t)
-    ∷ purpose_keys at t
+unfoldable pub kind_at : Table KindDraft
+kind_at = do
+  name ← name_key (codes "name")
+  ship ← flag_key (codes "ship")
+  building ← part building_at
+  purpose ← part purpose_at
+  says (record { name = name; ship = ship; building = building; purpose = purpose })
 
-unfoldable pub kind_from : List ℕ → Members → KindDraft
-kind_from at t = record {
-  name = value_or [] (name_at (codes "name") at t);
-  ship = value_or false (flag_at (codes "ship") at t);
-  building = building_from at t;
-  purpose = purpose_from at t;
-}
+abbrev pub kind_keys : List ℕ → Members → Conditions
+kind_keys = conditions_of kind_at
+
+abbrev pub kind_from : List ℕ → Members → KindDraft
+kind_from = value_of kind_at
 
 -- its names stand for an item and for skills
 unfoldable pub kind_known : Tables → ℕ → KindDraft → Conditions

@@ -1,9 +1,11 @@
 pub mod Limits
 pub mod Letters
 pub mod Texts
+pub mod Steps
 pub mod Names
 pub mod Faults
 pub mod Keys
+pub mod KeyByKey
 pub mod Each
 pub mod Arrays
 pub mod Titles

@@ -1,5 +1,5 @@
 -- The limits of worlds.
-use Rattle.std.specs.Prelude.{ℕ}
+use Rattle.std.specs.Prelude.{ℕ, ◌-◌, ◌^◌}
 
 -- ---- how many of each a world has at most
 abbrev pub most_terrains : ℕ
@@ -19,19 +19,19 @@ most_regions = 2500
 
 -- things of one sort are numbered from 0 in 16 bits, so no sort has more
 abbrev pub most_numbered : ℕ
-most_numbered = 65536
+most_numbered = 2 ^ 16
 
 -- so many numbers of 32 bits there are, under which values stand
 abbrev pub number_count : ℕ
-number_count = 4294967296
+number_count = 2 ^ 32
 
 -- the highest number of a region
 abbrev pub last_region : ℕ
 last_region = 9999
 
--- the largest amount of money, of one item or of peasants
+-- the largest amount of money, of one item or of peasants has nine digits
 abbrev pub most_amount : ℕ
-most_amount = 999999999
+most_amount = 10 ^ 9 - 1
 
 -- the most bytes of a name or of a pass text
 abbrev pub most_name_bytes : ℕ
@@ -65,6 +65,6 @@ last_level = 5
 abbrev pub most_raw_count : ℕ
 most_raw_count = 1000
 
--- the size or the crew of a structure
+-- the size or the crew of a structure, of six digits
 abbrev pub most_size : ℕ
-most_size = 999999
+most_size = 10 ^ 6 - 1

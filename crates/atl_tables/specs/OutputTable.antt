@@ -6,6 +6,7 @@ use Rattle.std.specs.Ordering.{nat_cmp, is_lt}
 use Rattle.std.specs.Cmp.Lexicographic.{slice_cmp}
 use Rattle.toml.specs.Data.{Data, Members, no_members, member, as_integer}
 use Rattle.atl_tables.specs.Faults.{Conditions, fault_of, value_or}
+use Rattle.atl_tables.specs.KeyByKey.{Table}
 use Rattle.atl_tables.specs.Keys.{path, ranged, optional_table_at}
 use Rattle.atl_tables.specs.Limits.{most_amount}
 use Rattle.atl_tables.specs.Titles.{known, item_number}
@@ -41,11 +42,11 @@ output_path at = path at (codes "output")
 abbrev pub output_table : List ℕ → Members → Members
 output_table at t = value_or no_members (optional_table_at (codes "output") at t)
 
-unfoldable pub output_keys : List ℕ → Members → Conditions
-output_keys at t = fault_of (optional_table_at (codes "output") at t) ∷ amounts_keys (output_path at) (in_byte_order (output_table at t))
-
-unfoldable pub output_from : List ℕ → Members → List Output
-output_from at t = amounts_from (output_path at) (in_byte_order (output_table at t))
+unfoldable pub output_at : Table (List Output)
+output_at = λ at t. record {
+  conditions = fault_of (optional_table_at (codes "output") at t) ∷ amounts_keys (output_path at) (in_byte_order (output_table at t));
+  value = amounts_from (output_path at) (in_byte_order (output_table at t));
+}
 
 -- no key before this one is equal to it, ignoring ASCII case
 unfoldable pub twin_key_at : List ℕ → List Output → ℕ → Output → Conditions

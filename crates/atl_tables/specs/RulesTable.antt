@@ -1,8 +1,9 @@
 -- The table `[rules]`: its keys in order, with their ranges, and the rules that they give.
-use Rattle.std.specs.Prelude.{ℕ, List, [], ◌∷◌, codes, None, option_and_then}
+use Rattle.std.specs.Prelude.{List, [], ◌∷◌, codes, option_and_then}
 use Rattle.toml.specs.Data.{Members, no_members}
-use Rattle.atl_tables.specs.Faults.{Conditions, fault_of, first_fault, value_or}
-use Rattle.atl_tables.specs.Keys.{Key, path, number_at, optional_text_at, table_at}
+use Rattle.atl_tables.specs.Faults.{Conditions, fault_of, value_or}
+use Rattle.atl_tables.specs.KeyByKey.{Table, conditions_of, value_of, ◌>>=◌, says, part, number_key, optional_text_key}
+use Rattle.atl_tables.specs.Keys.{path, table_at}
 use Rattle.atl_tables.specs.Limits.{most_amount, most_per_head, most_price, most_fraction, most_growth, most_weight}
 use Rattle.atl_tables.specs.Titles.{known_or_absent, skill_number}
 use Rattle.atl_tables.specs.declared.rules_table.MenRules.{MenRules}
@@ -14,117 +15,55 @@ use Rattle.atl_tables.specs.declared.tables.Tables.{Tables}
 use Rattle.atl_tables.specs.declared.world.Rules.{Rules}
 
 -- what men cost and bring
-abbrev pub maintenance_at : Key ℕ
-maintenance_at = number_at 1 most_per_head (codes "maintenance")
-
-abbrev pub tax_per_man_at : Key ℕ
-tax_per_man_at = number_at 0 most_per_head (codes "tax_per_man")
-
-abbrev pub recruit_price_at : Key ℕ
-recruit_price_at = number_at 1 most_price (codes "recruit_price")
-
-unfoldable pub price_keys : List ℕ → Members → Conditions
-price_keys at t =
-    fault_of (maintenance_at at t)
-    ∷ fault_of (tax_per_man_at at t)
-    ∷ fault_of (recruit_price_at at t)
-    ∷ []
-
-unfoldable pub prices_from : List ℕ → Members → Prices
-prices_from at t = record {
-  maintenance = value_or 0 (maintenance_at at t);
-  tax_per_man = value_or 0 (tax_per_man_at at t);
-  recruit_price = value_or 0 (recruit_price_at at t);
-}
+unfoldable pub prices_at : Table Prices
+prices_at = do
+  maintenance ← number_key 1 most_per_head (codes "maintenance")
+  tax_per_man ← number_key 0 most_per_head (codes "tax_per_man")
+  recruit_price ← number_key 1 most_price (codes "recruit_price")
+  says (record { maintenance = maintenance; tax_per_man = tax_per_man; recruit_price = recruit_price })
 
 -- what peasants do in a month
-abbrev pub recruit_fraction_at : Key ℕ
-recruit_fraction_at = number_at 1 most_fraction (codes "recruit_fraction")
-
-abbrev pub growth_at : Key ℕ
-growth_at = number_at 0 most_growth (codes "growth")
-
-abbrev pub income_at : Key ℕ
-income_at = number_at 0 most_per_head (codes "income")
-
-unfoldable pub peasant_keys : List ℕ → Members → Conditions
-peasant_keys at t =
-    fault_of (recruit_fraction_at at t)
-    ∷ fault_of (growth_at at t)
-    ∷ fault_of (income_at at t)
-    ∷ []
-
-unfoldable pub peasants_from : List ℕ → Members → PeasantRules
-peasants_from at t = record {
-  recruit_fraction = value_or 0 (recruit_fraction_at at t);
-  growth = value_or 0 (growth_at at t);
-  income = value_or 0 (income_at at t);
-}
+unfoldable pub peasants_at : Table PeasantRules
+peasants_at = do
+  recruit_fraction ← number_key 1 most_fraction (codes "recruit_fraction")
+  growth ← number_key 0 most_growth (codes "growth")
+  income ← number_key 0 most_per_head (codes "income")
+  says (record { recruit_fraction = recruit_fraction; growth = growth; income = income })
 
 -- what men start with, weigh and carry
-abbrev pub start_money_at : Key ℕ
-start_money_at = number_at 0 most_amount (codes "start_money")
-
-abbrev pub man_weight_at : Key ℕ
-man_weight_at = number_at 0 most_weight (codes "man_weight")
-
-abbrev pub man_carry_at : Key ℕ
-man_carry_at = number_at 0 most_weight (codes "man_carry")
-
-unfoldable pub men_keys : List ℕ → Members → Conditions
-men_keys at t =
-    fault_of (start_money_at at t)
-    ∷ fault_of (man_weight_at at t)
-    ∷ fault_of (man_carry_at at t)
-    ∷ []
-
-unfoldable pub men_from : List ℕ → Members → MenRules
-men_from at t = record {
-  start_money = value_or 0 (start_money_at at t);
-  man_weight = value_or 0 (man_weight_at at t);
-  man_carry = value_or 0 (man_carry_at at t);
-}
+unfoldable pub men_at : Table MenRules
+men_at = do
+  start_money ← number_key 0 most_amount (codes "start_money")
+  man_weight ← number_key 0 most_weight (codes "man_weight")
+  man_carry ← number_key 0 most_weight (codes "man_carry")
+  says (record { start_money = start_money; man_weight = man_weight; man_carry = man_carry })
 
 -- the skills that the rules speak of
-unfoldable pub skill_name_keys : List ℕ → Members → Conditions
-skill_name_keys at t =
-    fault_of (optional_text_at (codes "observation") at t)
-    ∷ fault_of (optional_text_at (codes "stealth") at t)
-    ∷ fault_of (optional_text_at (codes "sailing") at t)
-    ∷ []
-
-unfoldable pub skill_names_from : List ℕ → Members → SkillNames
-skill_names_from at t = record {
-  observation = value_or None (optional_text_at (codes "observation") at t);
-  stealth = value_or None (optional_text_at (codes "stealth") at t);
-  sailing = value_or None (optional_text_at (codes "sailing") at t);
-}
+unfoldable pub skill_names_at : Table SkillNames
+skill_names_at = do
+  observation ← optional_text_key (codes "observation")
+  stealth ← optional_text_key (codes "stealth")
+  sailing ← optional_text_key (codes "sailing")
+  says (record { observation = observation; stealth = stealth; sailing = sailing })
 
 -- all of them, in this order
-unfoldable pub rules_keys : List ℕ → Members → Conditions
-rules_keys at t =
-    first_fault (price_keys at t)
-    ∷ first_fault (peasant_keys at t)
-    ∷ first_fault (men_keys at t)
-    ∷ skill_name_keys at t
-
-unfoldable pub rules_from : List ℕ → Members → RulesDraft
-rules_from at t = record {
-  prices = prices_from at t;
-  peasants = peasants_from at t;
-  men = men_from at t;
-  skills = skill_names_from at t;
-}
+unfoldable pub rules_at : Table RulesDraft
+rules_at = do
+  prices ← part prices_at
+  peasants ← part peasants_at
+  men ← part men_at
+  skills ← part skill_names_at
+  says (record { prices = prices; peasants = peasants; men = men; skills = skills })
 
 -- the table of the document
 abbrev pub rules_table : Members → Members
 rules_table doc = value_or no_members (table_at (codes "rules") doc)
 
 unfoldable pub rules_conditions : Members → Conditions
-rules_conditions doc = fault_of (table_at (codes "rules") doc) ∷ rules_keys (codes "rules") (rules_table doc)
+rules_conditions doc = fault_of (table_at (codes "rules") doc) ∷ conditions_of rules_at (codes "rules") (rules_table doc)
 
 unfoldable pub rules_in : Members → RulesDraft
-rules_in doc = rules_from (codes "rules") (rules_table doc)
+rules_in doc = value_of rules_at (codes "rules") (rules_table doc)
 
 -- its names stand for skills
 unfoldable pub rules_known : Tables → Conditions

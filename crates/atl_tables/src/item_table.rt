@@ -2,7 +2,8 @@
 ghost use Rattle.std.specs.Prelude.{◌≡◌, ◌≢◌, ◌≤◌, ◌<◌, codes, length, IfOk, IfSome, Some, option_and_then};
 ghost use Rattle.atl_tables.specs.Drafts.{IsMaking, IsItemDraft};
 ghost use Rattle.atl_tables.specs.Given.{Gives};
-ghost use Rattle.atl_tables.specs.ItemTable.{making_keys, making_from, item_keys, item_from, other_than, item_known, item_of};
+ghost use Rattle.atl_tables.specs.ItemTable.{making_at, item_keys, item_from, other_than, item_known, item_of};
+ghost use Rattle.atl_tables.specs.KeyByKey.{conditions_of, value_of};
 ghost use Rattle.atl_tables.specs.Keys.{path};
 ghost use Rattle.atl_tables.specs.Limits.{most_numbered};
 ghost use Rattle.atl_tables.specs.Planet.{IsItem};
@@ -56,13 +57,13 @@ impl Drop for ItemDraft {
 }
 
 impl Element for Making {
-    ghost conditions = { making_keys };
+    ghost conditions = { conditions_of making_at };
 
-    ghost record_of = { making_from };
+    ghost record_of = { value_of making_at };
 
     ghost is_sound = { IsMaking };
 
-    #[tactic(auto, unfolding(crate::specs::ItemTable::making_keys, crate::specs::ItemTable::making_from))]
+    #[tactic(auto, unfolding(crate::specs::ItemTable::making_at))]
     fn read(alloc: Global, at: &str, table: &Table) -> Result<Making, WorldFault> {
         let skill = keys::optional_text(alloc, "skill", at, table)?;
         let level = keys::number_or(alloc, 1, 1, LAST_LEVEL, "level", at, table)?;
@@ -84,7 +85,7 @@ impl Element for ItemDraft {
 
     ghost is_sound = { IsItemDraft };
 
-    #[tactic(auto, unfolding(crate::specs::ItemTable::item_keys, crate::specs::ItemTable::item_from))]
+    #[tactic(auto, unfolding(crate::specs::ItemTable::item_at))]
     fn read(alloc: Global, at: &str, table: &Table) -> Result<ItemDraft, WorldFault> {
         let name = keys::name(alloc, "name", at, table)?;
         let weight = keys::number(alloc, 0, MOST_WEIGHT, "weight", at, table)?;

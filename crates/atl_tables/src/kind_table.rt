@@ -1,7 +1,8 @@
 //! The tables `[[kind]]`. See docs/FORMATS.md, "The world file".
 ghost use Rattle.std.specs.Prelude.{length};
 ghost use Rattle.atl_tables.specs.Drafts.{IsBuilding, IsPurpose, IsKindDraft};
-ghost use Rattle.atl_tables.specs.KindTable.{building_keys, building_from, purpose_keys, purpose_from, kind_keys, kind_from, kind_known, kind_of};
+ghost use Rattle.atl_tables.specs.KeyByKey.{conditions_of, value_of};
+ghost use Rattle.atl_tables.specs.KindTable.{building_at, purpose_at, kind_keys, kind_from, kind_known, kind_of};
 ghost use Rattle.atl_tables.specs.Planet.{IsKind};
 
 use crate::elements::Element;
@@ -62,13 +63,13 @@ impl Drop for KindDraft {
 }
 
 impl Element for Building {
-    ghost conditions = { building_keys };
+    ghost conditions = { conditions_of building_at };
 
-    ghost record_of = { building_from };
+    ghost record_of = { value_of building_at };
 
     ghost is_sound = { IsBuilding };
 
-    #[tactic(auto, unfolding(crate::specs::KindTable::building_keys, crate::specs::KindTable::building_from))]
+    #[tactic(auto, unfolding(crate::specs::KindTable::building_at))]
     fn read(alloc: Global, at: &str, table: &Table) -> Result<Building, WorldFault> {
         let material = keys::text(alloc, "material", at, table)?;
         let size = keys::number(alloc, 1, MOST_SIZE, "size", at, table)?;
@@ -84,13 +85,13 @@ impl Element for Building {
 }
 
 impl Element for Purpose {
-    ghost conditions = { purpose_keys };
+    ghost conditions = { conditions_of purpose_at };
 
-    ghost record_of = { purpose_from };
+    ghost record_of = { value_of purpose_at };
 
     ghost is_sound = { IsPurpose };
 
-    #[tactic(auto, unfolding(crate::specs::KindTable::purpose_keys, crate::specs::KindTable::purpose_from))]
+    #[tactic(auto, unfolding(crate::specs::KindTable::purpose_at))]
     fn read(alloc: Global, at: &str, table: &Table) -> Result<Purpose, WorldFault> {
         let capacity = keys::number_or(alloc, 0, 0, MOST_AMOUNT, "capacity", at, table)?;
         let crew = keys::number_or(alloc, 0, 0, MOST_SIZE, "crew", at, table)?;
@@ -110,7 +111,7 @@ impl Element for KindDraft {
 
     ghost is_sound = { IsKindDraft };
 
-    #[tactic(auto, unfolding(crate::specs::KindTable::kind_keys, crate::specs::KindTable::kind_from))]
+    #[tactic(auto, unfolding(crate::specs::KindTable::kind_at))]
     fn read(alloc: Global, at: &str, table: &Table) -> Result<KindDraft, WorldFault> {
         let name = keys::name(alloc, "name", at, table)?;
         let ship = keys::flag(alloc, "ship", at, table)?;

@@ -6,8 +6,9 @@ ghost use Rattle.atl_tables.specs.Drafts.{AreTables, IsOutput};
 ghost use Rattle.atl_tables.specs.Each.{each};
 ghost use Rattle.atl_tables.specs.Faults.{first_fault};
 ghost use Rattle.atl_tables.specs.Given.{Gives};
+ghost use Rattle.atl_tables.specs.KeyByKey.{conditions_of, value_of};
 ghost use Rattle.atl_tables.specs.Limits.{most_amount};
-ghost use Rattle.atl_tables.specs.OutputTable.{in_byte_order, amounts_keys, amounts_from, output_keys, output_from, twin_key_at, known_key_at, amount_of};
+ghost use Rattle.atl_tables.specs.OutputTable.{in_byte_order, amounts_keys, amounts_from, output_at, twin_key_at, known_key_at, amount_of};
 
 use crate::fault::WorldFault;
 use crate::item_table::ItemDraft;
@@ -51,13 +52,13 @@ fn amounts(alloc: Global, at: &str, table: &Table) -> Result<Sequence<Output>, W
 }
 
 /// The output of a terrain, in byte order, or none where the file has none; else the first fault of the table.
-#[tactic(auto, unfolding(crate::specs::OutputTable::output_keys, crate::specs::OutputTable::output_from, crate::specs::OutputTable::in_byte_order, crate::specs::Keys::optional_table_at))]
+#[tactic(auto, unfolding(crate::specs::OutputTable::output_at, crate::specs::OutputTable::in_byte_order, crate::specs::Keys::optional_table_at))]
 pub(crate) fn outputs(
     alloc: Global,
     at: &str,
     table: &Table,
 ) -> Result<Sequence<Output>, WorldFault>
-    ensures value { Gives (λ v. v) result (first_fault (output_keys at.now (table_view table.now))) (output_from at.now (table_view table.now)) }
+    ensures value { Gives (λ v. v) result (first_fault (conditions_of output_at at.now (table_view table.now))) (value_of output_at at.now (table_view table.now)) }
     ensures sound { IfOk result (λ v. All IsOutput v) }
 {
     match member(table, "output") {

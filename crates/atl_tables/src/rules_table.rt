@@ -4,8 +4,9 @@ ghost use Rattle.toml.specs.View.{table_view};
 ghost use Rattle.atl_tables.specs.Drafts.{ArePrices, ArePeasantRules, AreMenRules, AreRulesDraft, AreTables};
 ghost use Rattle.atl_tables.specs.Faults.{first_fault};
 ghost use Rattle.atl_tables.specs.Given.{Gives};
+ghost use Rattle.atl_tables.specs.KeyByKey.{conditions_of, value_of};
 ghost use Rattle.atl_tables.specs.Planet.{AreRules};
-ghost use Rattle.atl_tables.specs.RulesTable.{price_keys, prices_from, peasant_keys, peasants_from, men_keys, men_from, skill_name_keys, skill_names_from, rules_keys, rules_from, rules_conditions, rules_in, rules_known, rules_of};
+ghost use Rattle.atl_tables.specs.RulesTable.{prices_at, peasants_at, men_at, skill_names_at, rules_at, rules_conditions, rules_in, rules_known, rules_of};
 
 use crate::elements::Element;
 use crate::fault::WorldFault;
@@ -80,13 +81,13 @@ pub struct RulesDraft {
 }
 
 impl Element for Prices {
-    ghost conditions = { price_keys };
+    ghost conditions = { conditions_of prices_at };
 
-    ghost record_of = { prices_from };
+    ghost record_of = { value_of prices_at };
 
     ghost is_sound = { ArePrices };
 
-    #[tactic(auto, unfolding(crate::specs::RulesTable::price_keys, crate::specs::RulesTable::prices_from))]
+    #[tactic(auto, unfolding(crate::specs::RulesTable::prices_at, crate::specs::Keys::number_at))]
     fn read(alloc: Global, at: &str, table: &Table) -> Result<Prices, WorldFault> {
         let maintenance = keys::number(alloc, 1, MOST_PER_HEAD, "maintenance", at, table)?;
         let tax_per_man = keys::number(alloc, 0, MOST_PER_HEAD, "tax_per_man", at, table)?;
@@ -100,13 +101,13 @@ impl Element for Prices {
 }
 
 impl Element for PeasantRules {
-    ghost conditions = { peasant_keys };
+    ghost conditions = { conditions_of peasants_at };
 
-    ghost record_of = { peasants_from };
+    ghost record_of = { value_of peasants_at };
 
     ghost is_sound = { ArePeasantRules };
 
-    #[tactic(auto, unfolding(crate::specs::RulesTable::peasant_keys, crate::specs::RulesTable::peasants_from))]
+    #[tactic(auto, unfolding(crate::specs::RulesTable::peasants_at, crate::specs::Keys::number_at))]
     fn read(alloc: Global, at: &str, table: &Table) -> Result<PeasantRules, WorldFault> {
         let recruit_fraction = keys::number(
             alloc,
@@ -127,13 +128,13 @@ impl Element for PeasantRules {
 }
 
 impl Element for MenRules {
-    ghost conditions = { men_keys };
+    ghost conditions = { conditions_of men_at };
 
-    ghost record_of = { men_from };
+    ghost record_of = { value_of men_at };
 
     ghost is_sound = { AreMenRules };
 
-    #[tactic(auto, unfolding(crate::specs::RulesTable::men_keys, crate::specs::RulesTable::men_from))]
+    #[tactic(auto, unfolding(crate::specs::RulesTable::men_at, crate::specs::Keys::number_at))]
     fn read(alloc: Global, at: &str, table: &Table) -> Result<MenRules, WorldFault> {
         let start_money = keys::number(alloc, 0, MOST_AMOUNT, "start_money", at, table)?;
         let man_weight = keys::number(alloc, 0, MOST_WEIGHT, "man_weight", at, table)?;
@@ -146,9 +147,9 @@ impl Element for MenRules {
     }
 }
 
-#[tactic(auto, unfolding(crate::specs::RulesTable::skill_name_keys, crate::specs::RulesTable::skill_names_from))]
+#[tactic(auto, unfolding(crate::specs::RulesTable::skill_names_at, crate::specs::Keys::optional_text_at))]
 fn skill_names(alloc: Global, at: &str, table: &Table) -> Result<SkillNames, WorldFault>
-    ensures { Gives (λ s. s) result (first_fault (skill_name_keys at.now (table_view table.now))) (skill_names_from at.now (table_view table.now)) }
+    ensures { Gives (λ s. s) result (first_fault (conditions_of skill_names_at at.now (table_view table.now))) (value_of skill_names_at at.now (table_view table.now)) }
 {
     let observation = keys::optional_text(alloc, "observation", at, table)?;
     let stealth = keys::optional_text(alloc, "stealth", at, table)?;
@@ -161,13 +162,13 @@ fn skill_names(alloc: Global, at: &str, table: &Table) -> Result<SkillNames, Wor
 }
 
 impl Element for RulesDraft {
-    ghost conditions = { rules_keys };
+    ghost conditions = { conditions_of rules_at };
 
-    ghost record_of = { rules_from };
+    ghost record_of = { value_of rules_at };
 
     ghost is_sound = { AreRulesDraft };
 
-    #[tactic(auto, unfolding(crate::specs::RulesTable::rules_keys, crate::specs::RulesTable::rules_from))]
+    #[tactic(auto, unfolding(crate::specs::RulesTable::rules_at))]
     fn read(alloc: Global, at: &str, table: &Table) -> Result<RulesDraft, WorldFault> {
         let prices = Prices::read(alloc, at, table)?;
         let peasants = PeasantRules::read(alloc, at, table)?;

@@ -19,7 +19,7 @@ impl Element for Skill {
 
     ghost is_sound = { IsSkill };
 
-    #[tactic(auto, unfolding(crate::specs::SkillTable::skill_keys, crate::specs::SkillTable::skill_from))]
+    #[tactic(auto, unfolding(crate::specs::SkillTable::skill_at))]
     fn read(alloc: Global, at: &str, table: &Table) -> Result<Skill, WorldFault> {
         let name = keys::name(alloc, "name", at, table)?;
         let fee = keys::number(alloc, 0, MOST_PRICE, "fee", at, table)?;

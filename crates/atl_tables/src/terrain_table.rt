@@ -4,8 +4,9 @@ ghost use Rattle.atl_tables.specs.Drafts.{IsEconomy, IsTerrainDraft};
 ghost use Rattle.atl_tables.specs.Each.{each};
 ghost use Rattle.atl_tables.specs.Faults.{first_fault};
 ghost use Rattle.atl_tables.specs.Given.{Gives};
+ghost use Rattle.atl_tables.specs.KeyByKey.{conditions_of, value_of};
 ghost use Rattle.atl_tables.specs.Planet.{IsTerrain};
-ghost use Rattle.atl_tables.specs.TerrainTable.{economy_keys, economy_from, terrain_keys, terrain_from, terrain_twins, terrain_known, terrain_of};
+ghost use Rattle.atl_tables.specs.TerrainTable.{economy_at, terrain_keys, terrain_from, terrain_twins, terrain_known, terrain_of};
 
 use crate::elements::Element;
 use crate::fault::WorldFault;
@@ -52,13 +53,13 @@ impl Drop for TerrainDraft {
 }
 
 impl Element for Economy {
-    ghost conditions = { economy_keys };
+    ghost conditions = { conditions_of economy_at };
 
-    ghost record_of = { economy_from };
+    ghost record_of = { value_of economy_at };
 
     ghost is_sound = { IsEconomy };
 
-    #[tactic(auto, unfolding(crate::specs::TerrainTable::economy_keys, crate::specs::TerrainTable::economy_from))]
+    #[tactic(auto, unfolding(crate::specs::TerrainTable::economy_at, crate::specs::Keys::number_at))]
     fn read(alloc: Global, at: &str, table: &Table) -> Result<Economy, WorldFault> {
         let wage = keys::number(alloc, 1, MOST_PRICE, "wage", at, table)?;
         let places = keys::number(alloc, 0, MOST_AMOUNT, "places", at, table)?;
@@ -80,7 +81,7 @@ impl Element for TerrainDraft {
 
     ghost is_sound = { IsTerrainDraft };
 
-    #[tactic(auto, unfolding(crate::specs::TerrainTable::terrain_keys, crate::specs::TerrainTable::terrain_from))]
+    #[tactic(auto, unfolding(crate::specs::TerrainTable::terrain_at))]
     fn read(alloc: Global, at: &str, table: &Table) -> Result<TerrainDraft, WorldFault> {
         let name = keys::name(alloc, "name", at, table)?;
         let land = keys::flag(alloc, "land", at, table)?;

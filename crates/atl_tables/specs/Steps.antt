@@ -1,0 +1,7 @@
+-- A step that gives a value or an error, and then the next one.
+use Rattle.std.specs.Prelude.{Result, Ok, Err}
+
+infixl 10 ◌>>=◌
+abbrev pub ◌>>=◌ : {A B E : Type 0} → Result A E → (A → Result B E) → Result B E
+(Ok x) >>= next = next x
+(Err e) >>= next = Err e
