@@ -1,5 +1,5 @@
 -- The limits of worlds.
-use Rattle.std.specs.Prelude.{ℕ, ◌-◌, ◌^◌}
+use Rattle.std.specs.Prelude.{ℕ, ◌^◌}
 
 -- ---- how many of each a world has at most
 abbrev pub most_terrains : ℕ
@@ -29,9 +29,9 @@ number_count = 2 ^ 32
 abbrev pub last_region : ℕ
 last_region = 9999
 
--- the largest amount of money, of one item or of peasants has nine digits
+-- the largest amount of money, of one item or of peasants
 abbrev pub most_amount : ℕ
-most_amount = 10 ^ 9 - 1
+most_amount = 999999999
 
 -- the most bytes of a name or of a pass text
 abbrev pub most_name_bytes : ℕ
@@ -65,6 +65,6 @@ last_level = 5
 abbrev pub most_raw_count : ℕ
 most_raw_count = 1000
 
--- the size or the crew of a structure, of six digits
+-- the size or the crew of a structure
 abbrev pub most_size : ℕ
-most_size = 10 ^ 6 - 1
+most_size = 999999
