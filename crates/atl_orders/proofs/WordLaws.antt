@@ -1,9 +1,11 @@
 -- Laws of words.
-use Rattle.std.proofs.Common.{◌≡◌, ℕ, zero, suc, ◌+◌, ◌-◌, ◌<◌, ◌≤◌, Bool, ◌||◌, not, true, false, cond, eqb, List, [], ◌∷◌, ◌++◌, length, get_or, take, drop, min, Some, None, nat_lt, refl, sym, ap, ◌∙◌, arith}
+use Rattle.std.proofs.Common.{◌≡◌, ℕ, zero, suc, ◌+◌, ◌*◌, ◌-◌, ◌<◌, ◌≤◌, Bool, ◌||◌, not, true, false, cond, eqb, List, [], ◌∷◌, ◌++◌, length, get_or, take, drop, min, Some, None, nat_lt, refl, sym, ap, ◌∙◌, arith}
 use Rattle.std.specs.List.{slice_range, position, position_or_len, before_first}
 use Rattle.std.specs.Option.{unwrap_or}
 use Rattle.std.proofs.lemmas.List.Sums.{prefix_len-le-length}
 use Rattle.std.specs.Char.{is_ascii_digit, digit_value}
+use Rattle.std.specs.Str.Parse.{digits_value}
+use Rattle.std.proofs.lemmas.Int.Digits.{digits_value_more}
 use Rattle.std.proofs.lemmas.Bool.Decides.{nat_tests}
 use Rattle.std.proofs.lemmas.Bool.{cond-true, cond-false, or_parts, true≢false}
 use Rattle.std.proofs.lemmas.List.{length-append, drop_at, take_at, drop-drop, take-append-drop, append_assoc, drop_min, take_rest, at_drop_more, at_drop_all}
@@ -73,8 +75,12 @@ words-bare_line (b ∷ bs) p h = words-bare b bs h
 pub behind_closing : (bs : List ℕ) (closing : ℕ) → closing ≡ min (length bs) 1 → take (length bs - closing) (drop closing bs) ≡ drop 1 bs
 behind_closing bs closing e = take_rest bs closing ∙ ap (λ n. drop n bs) (e ∙ min_comm (length bs) 1) ∙ drop_min 1 bs
 
-pub digit_value_of : (b : ℕ) → is_ascii_digit b ≡ true → digit_value b ≡ b - 48
+digit_value_of : (b : ℕ) → is_ascii_digit b ≡ true → digit_value b ≡ b - 48
 digit_value_of b h = grind (arith, nat_tests)
+
+-- the value of the digits up to the i-th
+pub one_digit_more : (bytes : List ℕ) (i : ℕ) → i < length bytes → is_ascii_digit (get_or bytes i 0) ≡ true → digits_value 10 (take (i + 1) bytes) ≡ digits_value 10 (take i bytes) * 10 + (get_or bytes i 0 - 48)
+one_digit_more bytes i h digit = digits_value_more 10 bytes i h ∙ ap (λ n. digits_value 10 (take i bytes) * 10 + n) (digit_value_of (get_or bytes i 0) digit)
 
 -- one step of a loop over a line
 pub comment_at : (line : List ℕ) (i : ℕ) → i < length line → get_or line i 0 ≡ semicolon → words (drop i line) ≡ []
