@@ -112,18 +112,10 @@ module _ (structure to : ℕ) where
   guards_stay true x g = false_true g
   guards_stay false x g = refl
 
--- ---- the totals, and a step of which the books see nothing
+-- ---- the totals
 
 pub total_people : (c d : State) → AreSamePeople c.units d.units → d.regions ≡ c.regions → (t : Thing) → total d t ≡ total c t
 unfolding total
 total_people c d people regions t =
     let keep = λ (r : Region). kept t r in
     ap (λ m. sum_over (λ (x : Unit). held t x.holding) d.units + sum_over keep m) regions ∙ ap (λ n. n + sum_over keep c.regions) (people.hold t)
-
-pub steady_well : (w : Planet) (c d : State) → IsSteady w d → IsSameMonth c d → d.books ≡ c.books → ((t : Thing) → total d t ≡ total c t) → StepsWell IsSteady books_nothing w c d
-steady_well w c d steady same books totals = record {
-  holds_still = steady;
-  same_month = same;
-  balances = λ old t. ap pos (totals t) ∙ old t ∙ ap (λ b. booked b t) (sym books);
-  drawn = λ e t. not_drawn 0 0 (amount_in c.books e t) (amount_in d.books e t) refl (ap (λ b. amount_in b e t) books);
-}

@@ -40,13 +40,15 @@ use Rattle.atl_instant.specs.PhaseOrders.{Task, orders_of}
 use Rattle.atl_instant.specs.Steps.{IsOrderly, IsSpared, IsSparing, StepsWell, carried, carried_out, done_for, of_faction, one_order, ordered, spares_others}
 use Rattle.atl_instant.specs.Unbooked.{books_nothing, moves_nothing}
 use Rattle.atl_instant.proofs.OutcomeLaws.{false_true, none_fits}
+use Rattle.atl_instant.proofs.RefitLaws.{under}
 use Rattle.atl_instant.proofs.StructureLaws.{at_number, changed_else, equal, get-changed, len-changed}
 use Rattle.atl_instant.proofs.StepLaws.{carried_cases, well_same}
 use Rattle.atl_instant.specs.Staying.{IsUnchanged}
-use Rattle.atl_action.specs.Sail.{AreCarried, IsCarried, SailsWith, capacity, concerns_nobody, crew_needed, crew_of, is_complete_ship, is_sailing, is_way, of_unit, sail, sail_fault, sail_meaning, sail_said, sail_step, sailed, sum_inside, taken_along}
+use Rattle.atl_instant.proofs.UnbookedLaws.{stays_well}
+use Rattle.atl_action.specs.Sail.{AreCarried, IsCarried, SailsWith, capacity, concerns_nobody, crew_needed, crew_of, is_complete_ship, is_sailing, is_way, of_unit, sail, sail_fault, sail_said, sail_step, sail_terms, sailed, sum_inside, taken_along}
 use Rattle.atl_action.specs.Ways.{is_region}
-use Rattle.atl_action.proofs.PeopleLaws.{AreSamePeople, elsewhere, elsewhere_at, elsewhere_inside, elsewhere_people, gone_if, gone_same, guards_stay, people_same, people_twice, steady_well, total_people}
-use Rattle.atl_action.proofs.TravelLaws.{AreTravelled, IsPut, IsSameStructure, steady-travelled, travelled, under}
+use Rattle.atl_action.proofs.PeopleLaws.{AreSamePeople, elsewhere, elsewhere_at, elsewhere_inside, elsewhere_people, gone_if, gone_same, guards_stay, people_same, people_twice, total_people}
+use Rattle.atl_action.proofs.TravelLaws.{AreTravelled, IsPut, IsSameStructure, steady-travelled, travelled}
 
 abbrev structure_in : Option Unit → ℕ
 structure_in o = option_map_or (λ (x : Unit). x.structure) o 0
@@ -263,7 +265,7 @@ module _ (w : Planet) (c : State) (ship to : ℕ) (steady : IsSteady w c) (x : S
     pub sailed_well : StepsWell IsSteady books_nothing w c (sailed c ship to)
     sailed_well =
         subst (StepsWell IsSteady books_nothing w c) (sym sailed_is)
-        (steady_well w c behind (steady-travelled w c units structures f g are steady)
+        (stays_well IsSteady w c behind (steady-travelled w c units structures f g are steady)
         (record { month = refl; reports = refl; count = refl; factions = λ k there. there }) refl (total_people c behind (all_people ship to c.units ns) refl))
 
   -- ---- what stays of each unit
@@ -501,7 +503,7 @@ module _ (w : Planet) (begun : State) (number faction : ℕ) where
       let next = one_order sail_step w (c, m) t in
       tasks_stay next.0 next.1 ts (task_stays c same m t others.0) others.1
 
-pub sail_spares_others : (w : Planet) (c : State) (m : Course) → IsSteady w c → spares_others (SailsWith w c) IsUnchanged is_sailing w m c (sail_meaning w c m).0
+pub sail_spares_others : (w : Planet) (c : State) (m : Course) → IsSteady w c → spares_others (SailsWith w c) IsUnchanged is_sailing w m c (sail_terms.meaning w c m).0
 unfolding carried_out
 sail_spares_others w c m steady n u there others =
     let ts = values (orders_of is_sailing ByUnit m.aliases m.readings) in

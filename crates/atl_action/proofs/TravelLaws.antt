@@ -12,7 +12,7 @@ use Rattle.atl_state.specs.declared.records.Unit.{Unit}
 use Rattle.atl_state.specs.Good.{AreAfloat, AreInRange, AreKnown, AreNumbered, AreOfOneFaction, Every, IsAboard, IsBuilt, IsOwned, IsPlaced, IsSteady, IsThere, guards, is_ship}
 use Rattle.atl_state.specs.Held.{IsHolding}
 use Rattle.atl_state.specs.State.{State, numbers_of}
-use Rattle.atl_state.proofs.EveryLaws.{none_some}
+use Rattle.atl_instant.proofs.RefitLaws.{in_range_replaced, named_replaced, numbered_replaced, under}
 
 -- the same unit, but for where it is and its flag
 pub record IsSameUnit (before after : Unit) : Type 0 where
@@ -28,10 +28,6 @@ pub record IsSameStructure (before after : Structure) : Type 0 where
   pub kind : after.kind ≡ before.kind
   pub done : after.done ≡ before.done
   pub name : after.name ≡ before.name
-
-pub under : {A B : Type 0} (f : A → B) (o : Option A) (x : B) → option_map f o ≡ Some x → (v : A) × (o ≡ Some v) × (f v ≡ x)
-under f None x is = none_some x is
-under f (Some v) x is = let same : f v ≡ x = cc in (v, refl, same)
 
 module _ (w : Planet) (c : State) (units : FinMap nat_cmp Unit) (structures : FinMap nat_cmp Structure) (f : ℕ → Unit → Unit) (g : ℕ → Structure → Structure) where
   abbrev pub travelled : State
@@ -76,23 +72,13 @@ module _ (w : Planet) (c : State) (units : FinMap nat_cmp Unit) (structures : Fi
     no_structure k none = are.structures_at k ∙ ap (option_map (g k)) none
 
     numbers_kept : AreInRange w c → AreInRange w travelled
-    numbers_kept old = record {
-      month = old.month;
-      few_factions = old.few_factions;
-      few_regions = old.few_regions;
-      few_units = omega (arith, are.unit_count, old.few_units);
-      few_structures = omega (arith, are.structure_count, old.few_structures);
-      next_unit_least = old.next_unit_least;
-      next_unit_most = old.next_unit_most;
-      factions = old.factions;
-      regions = old.regions;
-      units = every_unit (λ k x. (1 ≤ k) × IsHolding x.holding) (λ k u was.
-          let s = are.same_units k u was in
-          let h = old.units k u was in
-          (h.0, record { men = rw s.men h.1.men; money = rw s.money h.1.money; items = rw s.items h.1.items }));
-      structures = every_structure (λ k x. (1 ≤ x.done) × (x.done ≤ size_of w x.kind)) (λ k y was. let s = are.same_structures k y was in rw (s.done, s.kind) (old.structures k y was));
-      books = old.books;
-    }
+    numbers_kept old =
+        in_range_replaced c units structures w are.unit_count are.structure_count
+        (every_unit (λ k x. (1 ≤ k) × IsHolding x.holding) (λ k u was.
+        let s = are.same_units k u was in
+        let h = old.units k u was in
+        (h.0, record { men = rw s.men h.1.men; money = rw s.money h.1.money; items = rw s.items h.1.items })))
+        (every_structure (λ k x. (1 ≤ x.done) × (x.done ≤ size_of w x.kind)) (λ k y was. let s = are.same_structures k y was in rw (s.done, s.kind) (old.structures k y was))) old
 
     placed_kept : AreKnown w c → Every (λ k x. IsPlaced w travelled x) units
     placed_kept old = every_unit (λ k x. IsPlaced w travelled x) (λ k u was.
@@ -111,11 +97,7 @@ module _ (w : Planet) (c : State) (units : FinMap nat_cmp Unit) (structures : Fi
         })
 
     next_kept : AreNumbered c → AreNumbered travelled
-    next_kept old = record {
-      factions = old.factions;
-      structures = record { first = no_structure 0 old.structures.first; count = old.structures.count ∙ ap (λ l. l + 1) (sym are.structure_count); free = λ k l. no_structure k (old.structures.free k l) };
-      units = λ k l. no_unit k (old.units k l);
-    }
+    next_kept = numbered_replaced c units structures are.structure_count no_unit no_structure
 
     water_kept : AreAfloat w travelled
     water_kept = record {
@@ -143,13 +125,9 @@ module _ (w : Planet) (c : State) (units : FinMap nat_cmp Unit) (structures : Fi
     pub steady-travelled : IsSteady w c → IsSteady w travelled
     steady-travelled old = record {
       numbers = numbers_kept old.numbers;
-      names = record {
-        pass = old.names.pass;
-        factions = old.names.factions;
-        joined = old.names.joined;
-        units = every_unit (λ k x. IsTrue (name_ok x.holding.name)) (λ k u was. let s = are.same_units k u was in rw s.name (old.names.units k u was));
-        structures = every_structure (λ k x. IsTrue (name_ok x.name)) (λ k y was. let s = are.same_structures k y was in rw s.name (old.names.structures k y was));
-      };
+      names =
+          named_replaced c units structures (every_unit (λ k x. IsTrue (name_ok x.holding.name)) (λ k u was. let s = are.same_units k u was in rw s.name (old.names.units k u was)))
+          (every_structure (λ k x. IsTrue (name_ok x.name)) (λ k y was. let s = are.same_structures k y was in rw s.name (old.names.structures k y was))) old.names;
       known = record { regions = old.known.regions; units = placed_kept old.known; structures = built_kept old.known; mail = old.known.mail; reports = old.known.reports };
       next = next_kept old.next;
       days = every_unit (λ k x. Every (λ j days. (1 ≤ days) × (days ≤ most_days * x.holding.men)) x.holding.days) (λ k u was. let s = are.same_units k u was in rw (s.days, s.men) (old.days k u was));

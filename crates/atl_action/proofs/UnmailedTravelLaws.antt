@@ -11,9 +11,10 @@ use Rattle.atl_state.specs.declared.event.Outcome.TheVariants.{Done}
 use Rattle.atl_state.specs.declared.records.Unit.{Unit}
 use Rattle.atl_state.specs.Owners.{with_place}
 use Rattle.atl_state.specs.State.{State, numbers_inside, with_guard, with_structure_region}
-use Rattle.atl_action.specs.Sail.{IsCarried, is_sailing, sail, sail_fault, sail_keeps, sail_meaning, sail_said, sail_step, sailed, taken_along}
-use Rattle.atl_action.specs.Walk.{is_walking, walk, walk_fault, walk_keeps, walk_meaning, walk_said, walk_step, walked}
-use Rattle.atl_instant.proofs.UnmailedLaws.{HasItsItems, HaveTheirMen, LeavesUnmailed, OthersHaveMen, SparesMen, carried_leaves, items_of_no_worse, men_in_turn, men_same, men_twice, men_unless, others_men, own_faction, unmailed_spared}
+use Rattle.atl_action.specs.Sail.{IsCarried, is_sailing, sail, sail_fault, sail_said, sail_step, sail_terms, sailed, taken_along}
+use Rattle.atl_action.specs.Walk.{is_walking, walk, walk_fault, walk_said, walk_step, walk_terms, walked}
+use Rattle.atl_instant.proofs.TermsLaws.{Leaves}
+use Rattle.atl_instant.proofs.UnmailedLaws.{HasItsItems, HaveTheirMen, OthersHaveMen, SparesMen, carried_leaves, items_of_no_worse, men_in_turn, men_same, men_twice, men_unless, others_men, own_faction, unmailed_spared}
 use Rattle.atl_instant.proofs.UnmailedStepLaws.{guard_men, place_men}
 
 -- a unit that is put elsewhere, with its flag cleared
@@ -35,7 +36,7 @@ walked_men w c f n x other = tt
 walk_spares : SparesMen walk_step
 walk_spares w a c t x own = walked_men w c t.faction t.unit x t.said
 
-pub walk_leaves : LeavesUnmailed walk_meaning walk_keeps
+pub walk_leaves : Leaves walk_terms
 walk_leaves = carried_leaves walk_step is_walking walk_spares (unmailed_spared is_walking own_faction items_of_no_worse)
 
 -- ---- SAIL
@@ -63,7 +64,7 @@ sail_spares w a c t x own = sailing_men w c t.faction t.unit x t.said
 items_of_carried : (u v : Unit) → IsCarried u v → HasItsItems u v
 items_of_carried u v h = record { name = h.name; items = h.items }
 
-pub sail_leaves : LeavesUnmailed sail_meaning sail_keeps
+pub sail_leaves : Leaves sail_terms
 sail_leaves =
     carried_leaves sail_step is_sailing sail_spares
     (λ w c d m keeps n u there none. let one = keeps.0 n u there in record { unit = one.unit; there = one.there; spared = items_of_carried u one.unit one.spared })

@@ -31,12 +31,12 @@ use Rattle.atl_instant.specs.Staying.{IsNoWorse}
 use Rattle.atl_instant.specs.Steps.{IsOrderly, IsOwnOrder, StepsWell}
 use Rattle.atl_instant.specs.Unbooked.{books_nothing, moves_nothing}
 use Rattle.atl_instant.proofs.OutcomeLaws.{false_true, none_fits}
-use Rattle.atl_instant.proofs.PlacingLaws.{place_stays}
+use Rattle.atl_instant.proofs.PlacingLaws.{owns_no_other, place_stays}
 use Rattle.atl_instant.proofs.StructureLaws.{changed_else, equal, get-handed, handed_is, handed_on, len-handed}
 use Rattle.atl_instant.proofs.StepLaws.{no_worse_spares, well_same}
-use Rattle.atl_instant.proofs.UnbookedLaws.{stays_spared}
+use Rattle.atl_instant.proofs.UnbookedLaws.{stays_spared, stays_well}
 use Rattle.atl_action.specs.Walk.{is_land_there, walk, walk_fault, walk_said, walk_step, walked}
-use Rattle.atl_action.proofs.PeopleLaws.{AreSamePeople, elsewhere, elsewhere_at, elsewhere_people, gone, gone_if, gone_same, guards_stay, steady_well, total_people}
+use Rattle.atl_action.proofs.PeopleLaws.{AreSamePeople, elsewhere, elsewhere_at, elsewhere_people, gone, gone_if, gone_same, guards_stay, total_people}
 use Rattle.atl_action.proofs.TravelLaws.{AreTravelled, IsPut, IsSameStructure, steady-travelled, travelled}
 
 mapped_twice : {A : Type 0} (f g : A → A) (o : Option A) → option_map f (option_map g o) ≡ option_map (λ y. f (g y)) o
@@ -111,14 +111,6 @@ module _ (w : Planet) (c : State) (n : ℕ) (u : Unit) (to : ℕ) (is : get c.un
           ownerless = λ none. every_away (λ m v. v.structure ≢ q) (λ zero. not_first q y there (sym zero)) (λ m v apart at. o.ownerless none m v at);
         }
 
-    not_owner : (q : ℕ) (y : Structure) → get c.structures q ≡ Some y → q ≢ old_place → y.owner ≢ n
-    not_owner q y there other own =
-        let least = low n u is in
-        let (v, at, inside) = (steady.owners q y there).owned (λ none. absurd (omega (arith, own, none, least))) in
-        let one : Some v ≡ Some u = sym at ∙ ap (get c.units) own ∙ is in
-        let unit : v ≡ u = cc in
-        other (sym inside ∙ ap (λ (x : Unit). x.structure) unit)
-
     listed_low : (k : ℕ) → IsListed k (numbers_inside old_place c.units) → 1 ≤ k
     listed_low k h = let (v, at, inside) = listed_is_inside old_place c.units k h in low k v at
 
@@ -172,13 +164,13 @@ module _ (w : Planet) (c : State) (n : ℕ) (u : Unit) (to : ℕ) (is : get c.un
 
       behind_well : StepsWell IsSteady books_nothing w c behind
       behind_well =
-          steady_well w c behind (steady-travelled w c units structures f g are steady)
+          stays_well IsSteady w c behind (steady-travelled w c units structures f g are steady)
           (record { month = refl; reports = refl; count = refl; factions = λ k there. there }) refl (total_people c behind same_people refl)
 
   -- ---- a unit that was inside no structure
 
   unowned : old_place ≡ 0 → (q : ℕ) (y : Structure) → get c.structures q ≡ Some y → IsOwned (behind c.structures) q y
-  unowned outside q y there = still_owned c.structures q y there (not_owner c.structures q y there (λ same. not_first q y there (same ∙ outside)))
+  unowned outside q y there = still_owned c.structures q y there (owns_no_other w c n u is steady q y there (λ same. not_first q y there (same ∙ outside)))
 
   outside_well : old_place ≡ 0 → StepsWell IsSteady books_nothing w c (behind c.structures)
   outside_well outside =
@@ -207,7 +199,7 @@ module _ (w : Planet) (c : State) (n : ℕ) (u : Unit) (to : ℕ) (is : get c.un
   given_owned : old_place ≢ 0 → (q : ℕ) (y : Structure) → get c.structures q ≡ Some y → (a e b : Bool) → (q == old_place) ≡ a → (y.owner == n) ≡ e → b ≡ false → IsOwned (behind gone_off.structures) q (given a e b y)
   given_owned some q y there true true b p r high = rw high (subst (λ k. IsOwned (behind gone_off.structures) k (owned_by next y)) (sym (is_equal q old_place p)) (heir_owns gone_off.structures some y))
   given_owned some q y there true false b p r high = rw high (still_owned gone_off.structures q y there (is_unequal y.owner n r))
-  given_owned some q y there false e b p r high = rw high (still_owned gone_off.structures q y there (not_owner gone_off.structures q y there (is_unequal q old_place p)))
+  given_owned some q y there false e b p r high = rw high (still_owned gone_off.structures q y there (owns_no_other w c n u is steady q y there (is_unequal q old_place p)))
 
   given_at : (q : ℕ) → get gone_off.structures q ≡ option_map (λ y. handed_on 0 0 n q (handed_on old_place n next q y)) (get c.structures q)
   given_at q =

@@ -14,8 +14,7 @@ use Rattle.atl_state.specs.Good.{IsThere}
 use Rattle.atl_state.specs.Held.{Held}
 use Rattle.atl_state.specs.State.{State}
 use Rattle.atl_instant.specs.Course.{Course}
-use Rattle.atl_instant.specs.PhaseOrders.{Task, orders_of}
-use Rattle.atl_instant.specs.declared.written.Arrangement.TheVariants.{ByUnit}
+use Rattle.atl_instant.specs.PhaseOrders.{Task, orders_by_unit}
 
 abbrev pub is_studying : Verb → Bool
 is_studying verbs.Study = true
@@ -49,7 +48,7 @@ with_learner w c learning t = with_skill w c learning t (skill_of t.said)
 
 -- the orders of STUDY that stand
 abbrev pub study_tasks : Course → List Task
-study_tasks m = values (orders_of is_studying ByUnit m.aliases m.readings)
+study_tasks = orders_by_unit is_studying
 
 -- At most one order of STUDY stands for a unit in the mailing of its own faction.
 unfoldable pub learners : Planet → State → Course → Learning

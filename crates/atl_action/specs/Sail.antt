@@ -12,7 +12,6 @@ use Rattle.atl_orders.specs.declared.verb.Verb.TheVariants as verbs
 use Rattle.atl_orders.specs.Orders.{Said}
 use Rattle.atl_state.specs.declared.event.EventFault.{EventFault}
 use Rattle.atl_state.specs.declared.event.EventFault.TheVariants.{NoCrew, NoMen, NotComplete, NotInside, NotOwner, NoWay, TooHeavy}
-use Rattle.atl_state.specs.declared.event.Outcome.{Outcome}
 use Rattle.atl_state.specs.declared.event.Outcome.TheVariants.{Done}
 use Rattle.atl_state.specs.declared.records.Structure.{Structure}
 use Rattle.atl_state.specs.declared.records.Unit.{Unit}
@@ -22,14 +21,13 @@ use Rattle.atl_state.specs.Levels.{level_in_any, load_of}
 use Rattle.atl_state.specs.Owners.{is_owned_by, with_place}
 use Rattle.atl_state.specs.State.{State, numbers_inside, with_guard, with_structure_region}
 use Rattle.atl_instant.specs.Inside.{inside}
-use Rattle.atl_instant.specs.Meaning.{Keeping, Meaning}
+use Rattle.atl_instant.specs.Meaning.{Keeping}
 use Rattle.atl_instant.specs.Outcomes.{first_fault, unless}
 use Rattle.atl_instant.specs.PhaseOrders.{Task}
 use Rattle.atl_instant.specs.Steps.{Concern, Deed, IsSpared, Step, carried_out, ordered, spares_others}
 use Rattle.atl_instant.specs.Staying.{IsUnchanged}
 use Rattle.atl_action.specs.Ways.{is_region}
-use Rattle.atl_instant.specs.Terms.{PhaseTerms, nothing_moved}
-use Rattle.atl_instant.specs.Unbooked.{moves_nothing}
+use Rattle.atl_instant.specs.Terms.{PhaseTerms, books_none}
 
 -- ---- which orders are of the phase
 
@@ -91,11 +89,10 @@ taken_along ship to c n = with_guard (with_place c n to ship) n false
 unfoldable pub sailed : State → (ship to : ℕ) → State
 sailed c ship to = with_structure_region (fold (taken_along ship to) c (numbers_inside ship c.units)) ship to
 
-abbrev pub sail_to : Planet → State → (n : ℕ) → Unit → (to : Option ℕ) → State × Outcome
-sail_to w c n u to = unless c (sail_fault w c n u (get c.structures u.structure) to) (sailed c u.structure (unwrap_or to 0), Done 0)
-
 unfoldable pub sail : Planet → (n : ℕ) → Direction → Deed
-sail w n direction c u = sail_to w c n u (neighbour w u.region direction)
+sail w n direction c u =
+    let to = neighbour w u.region direction in
+    unless c (sail_fault w c n u (get c.structures u.structure) to) (sailed c u.structure (unwrap_or to 0), Done 0)
 
 abbrev pub sail_said : Planet → (n : ℕ) → Said → Option Deed
 sail_said w n (orders.Sail direction) = Some (sail w n direction)
@@ -105,9 +102,6 @@ abbrev pub sail_step : Step
 sail_step w aliases t = sail_said w t.unit t.said
 
 -- ---- the phase
-
-abbrev pub sail_meaning : Meaning
-sail_meaning = carried_out sail_step is_sailing
 
 -- a unit that keeps its name and no less of anything, and stays inside what it was inside; where that is nothing, it stays in its region
 -- and keeps its flag
@@ -142,9 +136,4 @@ abbrev pub sail_keeps : Keeping
 sail_keeps w m before after = AreCarried before after × spares_others (SailsWith w before) IsUnchanged is_sailing w m before after
 
 abbrev pub sail_terms : PhaseTerms
-sail_terms = record {
-  meaning = sail_meaning;
-  moving = moves_nothing;
-  moved = nothing_moved;
-  keeps = sail_keeps;
-}
+sail_terms = books_none (carried_out sail_step is_sailing) sail_keeps

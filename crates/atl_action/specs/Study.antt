@@ -26,7 +26,7 @@ use Rattle.atl_instant.specs.Staying.{IsUnchanged}
 use Rattle.atl_action.specs.Learners.{is_studying, learners}
 use Rattle.atl_action.specs.Limits.{helped_days, month_days, taught_days}
 use Rattle.atl_action.specs.Teach.{Taught, taught_out}
-use Rattle.atl_instant.specs.Terms.{PhaseTerms}
+use Rattle.atl_instant.specs.Terms.{PhaseTerms, books_money}
 
 -- ---- days
 
@@ -95,9 +95,4 @@ abbrev pub study_moves : Moving
 study_moves = moves_only most_moved Study Money
 
 abbrev pub learn_terms : PhaseTerms
-learn_terms = record {
-  meaning = learn_meaning;
-  moving = study_moves;
-  moved = record { money = Study ∷ []; people = []; items = [] };
-  keeps = learn_keeps;
-}
+learn_terms = books_money Study learn_meaning learn_keeps

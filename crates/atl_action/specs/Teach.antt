@@ -20,9 +20,8 @@ use Rattle.atl_state.specs.State.{State}
 use Rattle.atl_instant.specs.Course.{Aliases, Course}
 use Rattle.atl_instant.specs.Inside.{region_of}
 use Rattle.atl_instant.specs.Outcomes.{first_fault}
-use Rattle.atl_instant.specs.PhaseOrders.{Task, orders_of, unit_of}
+use Rattle.atl_instant.specs.PhaseOrders.{Task, orders_by_unit, unit_of}
 use Rattle.atl_instant.specs.Steps.{told}
-use Rattle.atl_instant.specs.declared.written.Arrangement.TheVariants.{ByUnit}
 use Rattle.atl_instant.specs.Dealing.{dealt}
 use Rattle.atl_action.specs.Learners.{Learning}
 use Rattle.atl_action.specs.Limits.{places_each}
@@ -125,7 +124,7 @@ teach_order c learning (taught, m) t = and_taught m t (teach c m.aliases learnin
 
 -- who was taught, and what is told
 unfoldable pub taught_out : State → Learning → Course → Taught × Course
-taught_out c learning m = fold (teach_order c learning) (empty, m) (values (orders_of is_teaching ByUnit m.aliases m.readings))
+taught_out c learning m = fold (teach_order c learning) (empty, m) (orders_by_unit is_teaching m)
 
 -- ---- a law: of no unit more men are taught in a month than it has
 

@@ -10,18 +10,15 @@ use Rattle.atl_orders.specs.declared.verb.Verb.TheVariants as verbs
 use Rattle.atl_orders.specs.Orders.{Said}
 use Rattle.atl_state.specs.declared.event.EventFault.{EventFault}
 use Rattle.atl_state.specs.declared.event.EventFault.TheVariants.{AtSea, NoMen, NoWay, TooHeavy}
-use Rattle.atl_state.specs.declared.event.Outcome.{Outcome}
 use Rattle.atl_state.specs.declared.event.Outcome.TheVariants.{Done}
 use Rattle.atl_state.specs.declared.records.Unit.{Unit}
 use Rattle.atl_state.specs.Levels.{carried_by, goods_of}
 use Rattle.atl_state.specs.Owners.{with_place}
 use Rattle.atl_state.specs.State.{State, with_guard}
-use Rattle.atl_instant.specs.Meaning.{Keeping, Meaning}
 use Rattle.atl_instant.specs.Outcomes.{first_fault, unless}
 use Rattle.atl_instant.specs.Staying.{IsNoWorse}
-use Rattle.atl_instant.specs.Steps.{Deed, IsOwnOrder, Step, carried_out, spares_others}
-use Rattle.atl_instant.specs.Terms.{PhaseTerms, nothing_moved}
-use Rattle.atl_instant.specs.Unbooked.{moves_nothing}
+use Rattle.atl_instant.specs.Steps.{Deed, IsOwnOrder, Step}
+use Rattle.atl_instant.specs.Terms.{PhaseTerms, goes_by_orders}
 
 -- ---- which orders are of the phase
 
@@ -48,11 +45,10 @@ walk_fault w u to = first_fault (
 abbrev pub walked : State → (n to : ℕ) → State
 walked c n to = with_guard (with_place c n to 0) n false
 
-abbrev pub walk_to : Planet → State → (n : ℕ) → Unit → (to : Option ℕ) → State × Outcome
-walk_to w c n u to = unless c (walk_fault w u to) (walked c n (unwrap_or to 0), Done 0)
-
 unfoldable pub walk : Planet → (n : ℕ) → Direction → Deed
-walk w n direction c u = walk_to w c n u (neighbour w u.region direction)
+walk w n direction c u =
+    let to = neighbour w u.region direction in
+    unless c (walk_fault w u to) (walked c n (unwrap_or to 0), Done 0)
 
 abbrev pub walk_said : Planet → (n : ℕ) → Said → Option Deed
 walk_said w n (orders.Move direction) = Some (walk w n direction)
@@ -63,17 +59,6 @@ walk_step w aliases t = walk_said w t.unit t.said
 
 -- ---- the phase
 
-abbrev pub walk_meaning : Meaning
-walk_meaning = carried_out walk_step is_walking
-
 -- who gives no such order stays
-abbrev pub walk_keeps : Keeping
-walk_keeps = spares_others IsOwnOrder IsNoWorse is_walking
-
 abbrev pub walk_terms : PhaseTerms
-walk_terms = record {
-  meaning = walk_meaning;
-  moving = moves_nothing;
-  moved = nothing_moved;
-  keeps = walk_keeps;
-}
+walk_terms = goes_by_orders walk_step is_walking IsOwnOrder IsNoWorse

@@ -6,6 +6,7 @@ use Rattle.std.specs.Ordering.{nat_cmp}
 use Rattle.std.specs.FinMap.{FinMap, values}
 use Rattle.std.proofs.lemmas.List.Elements.{recursion_from_All}
 use Rattle.atl_orders.specs.declared.verb.Verb.{Verb}
+use Rattle.atl_orders.specs.declared.verb.Verb.TheVariants.{Form}
 use Rattle.atl_orders.specs.Mailing.{EntrySaid, Reading}
 use Rattle.atl_orders.specs.Orders.{Said}
 use Rattle.atl_instant.specs.Course.{Aliases, order_at, order_in}
@@ -14,6 +15,10 @@ use Rattle.atl_instant.specs.declared.written.Arrangement.{Arrangement}
 use Rattle.atl_instant.specs.declared.written.Written.{Written}
 use Rattle.atl_instant.proofs.WrittenLaws.{orders_are_in_mailings}
 use Rattle.atl_instant.specs.Carrying.{found_said, found_written, task_of}
+
+-- what stands where nothing is read
+abbrev pub no_order : Written
+no_order = record { unit = 0; line = 0; faction = 0; verb = Form; place = 0 }
 
 module _ {A : Type 0} (f : A → Task → A) (aliases : Aliases) (readings : FinMap nat_cmp Reading) where
   found : (a : A) (t : Task) → IsInMailing aliases readings t → found_written f readings a (written t) ≡ f a t

@@ -6,6 +6,7 @@ pub mod OrderLaws
 pub mod WrittenLaws
 pub mod StandOnceLaws
 pub mod FoundOrderLaws
+pub mod FoldLaws
 pub mod MeaningLaws
 pub mod RoomLaws
 pub mod BookingLaws

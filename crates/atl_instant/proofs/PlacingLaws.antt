@@ -36,6 +36,15 @@ relabelled_if false to y = record { kind = refl; region = refl; done = refl; nam
 relabelled_twice : (x y z : Structure) → IsRelabelled x y → IsRelabelled y z → IsRelabelled x z
 relabelled_twice x y z one two = record { kind = two.kind ∙ one.kind; region = two.region ∙ one.region; done = two.done ∙ one.done; name = λ old. two.name (one.name old) }
 
+-- a unit owns no structure but the one that it is inside
+pub owns_no_other : (w : Planet) (c : State) (n : ℕ) (u : Unit) → get c.units n ≡ Some u → IsSteady w c → (q : ℕ) (y : Structure) → get c.structures q ≡ Some y → q ≢ u.structure → y.owner ≢ n
+owns_no_other w c n u is steady q y there other own =
+    let least = (steady.numbers.units n u is).0 in
+    let (v, here, inside) = (steady.owners q y there).owned (λ none. absurd (omega (arith, own, none, least))) in
+    let one : Some v ≡ Some u = sym here ∙ ap (get c.units) own ∙ is in
+    let unit : v ≡ u = cc in
+    other (sym inside ∙ ap (λ (x : Unit). x.structure) unit)
+
 module _ (w : Planet) (c : State) (n : ℕ) (u : Unit) (s : ℕ) (is : get c.units n ≡ Some u) (steady : IsSteady w c) (apart : u.structure ≢ s) where
   abbrev old_place : ℕ
   old_place = u.structure
@@ -117,21 +126,12 @@ module _ (w : Planet) (c : State) (n : ℕ) (u : Unit) (s : ℕ) (is : get c.uni
   structure_in (Some x) v = x.structure
   structure_in None v = v.structure
 
-  -- the unit owns no other structure
-  not_owner : (q : ℕ) (y : Structure) → get c.structures q ≡ Some y → q ≢ old_place → y.owner ≢ n
-  not_owner q y there other own =
-      let least = low n u is in
-      let (v, here, inside) = (steady.owners q y there).owned (λ none. absurd (omega (arith, own, none, least))) in
-      let one : Some v ≡ Some u = sym here ∙ ap (get c.units) own ∙ is in
-      let unit : v ≡ u = cc in
-      other (sym inside ∙ ap (λ (x : Unit). x.structure) unit)
-
   entered_owned : (q : ℕ) (y : Structure) → get c.structures q ≡ Some y → q ≢ old_place → q ≡ s → (z : Bool) → (y.owner == 0) ≡ z → IsOwned behind q (if z then owned_by n y else y)
   entered_owned q y there other here true t = record {
     owned = λ some. (moved, get-insert_same c.units n moved, sym here);
     ownerless = λ none. let least = low n u is in absurd (omega (arith, none, least));
   }
-  entered_owned q y there other here false t = still_owned q y there (not_owner q y there other) (λ none. absurd (true≢false (sym (equal y.owner 0 none) ∙ t)))
+  entered_owned q y there other here false t = still_owned q y there (owns_no_other w c n u is steady q y there other) (λ none. absurd (true≢false (sym (equal y.owner 0 none) ∙ t)))
 
   abbrev given : (a e b : Bool) → Structure → Structure
   given a e b y = let x = if a && e then owned_by next y else y in if b && x.owner == 0 then owned_by n x else x
@@ -141,7 +141,7 @@ module _ (w : Planet) (c : State) (n : ℕ) (u : Unit) (s : ℕ) (is : get c.uni
   by_tests q y there true true false p r t = subst (λ k. IsOwned behind k (owned_by next y)) (sym (is_equal q old_place p)) (heir_owns (λ zero. is_no_zero c.structures c.next_structure steady.next.structures q y there (is_equal q old_place p ∙ zero)) y)
   by_tests q y there true false false p r t = still_owned q y there (is_unequal y.owner n r) (λ none here. is_unequal q s t (sym here))
   by_tests q y there false e true p r t = entered_owned q y there (is_unequal q old_place p) (is_equal q s t) (y.owner == 0) refl
-  by_tests q y there false e false p r t = still_owned q y there (not_owner q y there (is_unequal q old_place p)) (λ none here. is_unequal q s t (sym here))
+  by_tests q y there false e false p r t = still_owned q y there (owns_no_other w c n u is steady q y there (is_unequal q old_place p)) (λ none here. is_unequal q s t (sym here))
 
   -- ---- the campaign
 

@@ -1,9 +1,10 @@
 -- QUIT leaves a campaign well.
-use Rattle.std.proofs.Common.{◌≡◌, ◌≢◌, ◌==◌, ℕ, ◌+◌, ◌*◌, ◌≤◌, ◌<◌, not, Bool, true, false, cond, List, [], ◌∷◌, length, Option, Some, None, sum_by, refl, sym, ap, subst, ◌∙◌, inl, inr, arith}
+use Rattle.std.proofs.Common.{◌≡◌, ◌≢◌, ◌==◌, ℕ, ◌+◌, ◌*◌, ◌≤◌, ◌<◌, not, Bool, true, false, cond, List, [], ◌∷◌, length, drop, get_or, Option, Some, None, sum_by, refl, sym, ap, subst, ◌∙◌, inl, inr, arith}
 use Rattle.std.specs.Prelude.{ℤ, pos, neg_ℤ, ◌+ℤ◌, IfSome, fold, unwrap_or, if◌then◌else◌}
 use Rattle.std.proofs.lemmas.Int.{ints}
 use Rattle.std.proofs.lemmas.Bool.Decides.{nat_tests}
 use Rattle.std.proofs.lemmas.Bool.{and_parts}
+use Rattle.std.proofs.lemmas.List.{drop_more}
 use Rattle.std.proofs.lemmas.List.Sums.{sum_by-cons}
 use Rattle.std.proofs.Math.Nat.{suc-mul}
 use Rattle.std.specs.declared.cmp.Ordering.TheVariants.{Less, Equal, Greater}
@@ -32,7 +33,7 @@ use Rattle.atl_state.specs.Good.{Every, IsSteady, IsThere}
 use Rattle.atl_state.specs.Held.{Held, IsHolding}
 use Rattle.atl_state.specs.Limits.{entry_count, holding_limit, most_units}
 use Rattle.atl_state.specs.Marks.{amount_number}
-use Rattle.atl_state.specs.Owners.{without_unit}
+use Rattle.atl_state.specs.Owners.{heir, without_unit, without_unit_at}
 use Rattle.atl_state.specs.State.{Marked, State, numbers_of}
 use Rattle.atl_state.specs.Totals.{Balances, held, total}
 use Rattle.atl_state.proofs.BookLaws.{IsGrid-with_booked, booked-with_booked}
@@ -55,6 +56,7 @@ use Rattle.atl_instant.proofs.MeaningLaws.{less_room, near_more, near_same, near
 use Rattle.atl_instant.proofs.OutcomeLaws.{none_fits, not_apart}
 use Rattle.atl_instant.proofs.StayingLaws.{no_worse}
 use Rattle.atl_instant.proofs.StepLaws.{drawn_near, no_worse_spares, well_same, well_twice}
+use Rattle.atl_instant.proofs.StructureLaws.{handed_is}
 use Rattle.atl_instant.specs.LostItems.{moving_items}
 
 -- ---- things and entries
@@ -253,6 +255,25 @@ first_room t amount next c room =
 pub rest_room : (things : ℕ) (t : Thing) (amount : ℕ) (next : Moving) (c : State) → IsGrid things c.books → thing_place t < things → HaveRoom (both_move (moves_only amount (gone_under t) t) next) c → HaveRoom next (with_gone_amount c t amount)
 rest_room things t amount next c grid inside room = booked-room things c.books (gone_under t) t (neg_ℤ (pos amount)) amount grid inside (within-neg amount amount (omega arith)) next room
 
+-- there is room for the items ahead, while the code goes through them
+pub room_ahead : (xs : List (ℕ × ℕ)) (i : ℕ) (c : State) → i < length xs → HaveRoom (moving_items (drop i xs)) c
+    → HaveRoom (moving_items (get_or xs i (0, 0) ∷ drop (i + 1) xs)) c
+room_ahead xs i c inside room = subst (λ l. HaveRoom (moving_items l) c) (drop_more xs i (0, 0) inside) room
+
+-- and for the next of them
+pub next_room : (xs : List (ℕ × ℕ)) (i : ℕ) (c : State) → i < length xs → HaveRoom (moving_items (drop i xs)) c
+    → HasRoom (get_or xs i (0, 0)).1 (amount_in c.books Lost (Item (get_or xs i (0, 0)).0))
+next_room xs i c inside room = let x : ℕ × ℕ = get_or xs i (0, 0) in first_room (Item x.0) x.1 (moving_items (drop (i + 1) xs)) c (room_ahead xs i c inside room)
+
+-- the items ahead are of the world
+pub known_ahead : (w : Planet) (xs : List (ℕ × ℕ)) (i : ℕ) → i < length xs → EachOf (λ j a. j < length w.items) (drop i xs)
+    → EachOf (λ j a. j < length w.items) (get_or xs i (0, 0) ∷ drop (i + 1) xs)
+known_ahead w xs i inside known = subst (EachOf (λ j a. j < length w.items)) (drop_more xs i (0, 0) inside) known
+
+-- the items of a unit are
+pub known_held : (w : Planet) (c : State) (n : ℕ) (u : Unit) → get c.units n ≡ Some u → IsSteady w c → EachOf (λ j a. j < length w.items) (entries u.holding.items)
+known_held w c n u is steady = each-from_every (λ j a. j < length w.items) u.holding.items (steady.known.units n u is).items
+
 -- there is room for what a unit has
 pub held_room : (c : State) (n : ℕ) (u : Unit) → get c.units n ≡ Some u → HaveRoom (quit_reserve c) c → HaveRoom (held_moves u.holding) c
 held_room c n u is room = room_less (held_moves u.holding) (quit_reserve c) c (λ e t. within (held_moves u.holding e t) (leaves e t u.holding) (sum_over (λ (x : Unit). leaves e t x.holding) (remove c.units n)) (quit_reserve c e t) (moves_what_leaves u.holding e t) (sum_over-remove c.units n (λ (x : Unit). leaves e t x.holding) u is)) room
@@ -325,13 +346,25 @@ left_well w c n steady = by_unit (get c.units n) refl
     by_unit (Some u) is = leaving_well w c n u is steady
 
 -- another unit stays as it is
-left_others : (w : Planet) (c : State) (n k : ℕ) → IsSteady w c → k ≢ n → get (left_at c n).units k ≡ get c.units k
+without_others : (c : State) (n k : ℕ) → k ≢ n → get (without_unit c n).units k ≡ get c.units k
+unfolding without_unit
+without_others c n k apart = elim (get c.units n) as (λ o. get (without_unit_at c n o).units k ≡ get c.units k) [
+  | None ↦ refl
+  | Some u ↦
+      ap (λ (d : State). get d.units k) (handed_is (record c { units = remove c.units n }) u.structure n (heir c u.structure n)) ∙ get-remove_other c.units n k apart
+]
+
+booked_units : (c : State) (es : List (ℕ × ℕ)) → (fold item_gone c es).units ≡ c.units
+booked_units c [] = refl
+booked_units c (e ∷ es) = booked_units (item_gone c e) es
+
+left_others : (c : State) (n k : ℕ) → k ≢ n → get (left_at c n).units k ≡ get c.units k
 unfolding left_at
-left_others w c n k steady apart = by_unit (get c.units n) refl
+left_others c n k apart = by_unit (get c.units n)
   where
-    by_unit : (o : Option Unit) → get c.units n ≡ o → get (left_by c n o).units k ≡ get c.units k
-    by_unit None is = refl
-    by_unit (Some u) is = ap (λ (m : FinMap nat_cmp Unit). get m k) (units_behind w c n u is steady) ∙ get-remove_other c.units n k apart
+    by_unit : (o : Option Unit) → get (left_by c n o).units k ≡ get c.units k
+    by_unit None = refl
+    by_unit (Some u) = without_others (booked_off c u.holding) n k apart ∙ ap (λ (m : FinMap nat_cmp Unit). get m k) (booked_units _ (entries u.holding.items))
 
 -- ---- all units of a faction
 
@@ -341,10 +374,9 @@ all_left_well w c (n ∷ ns) steady =
     let one = left_well w c n steady in
     well_twice w c (left_at c n) (fold left_at (left_at c n) ns) one (all_left_well w (left_at c n) ns one.holds_still)
 
-all_left_others : (w : Planet) (c : State) (ns : List ℕ) (k : ℕ) → IsSteady w c → ((n : ℕ) → IsListed n ns → k ≢ n) → get (fold left_at c ns).units k ≡ get c.units k
-all_left_others w c [] k steady apart = refl
-all_left_others w c (n ∷ ns) k steady apart =
-    all_left_others w (left_at c n) ns k (left_well w c n steady).holds_still (λ m listed. apart m (inr listed)) ∙ left_others w c n k steady (apart n (inl refl))
+pub all_left_others : (c : State) (ns : List ℕ) (k : ℕ) → ((n : ℕ) → IsListed n ns → k ≢ n) → get (fold left_at c ns).units k ≡ get c.units k
+all_left_others c [] k apart = refl
+all_left_others c (n ∷ ns) k apart = all_left_others (left_at c n) ns k (λ m listed. apart m (inr listed)) ∙ left_others c n k (apart n (inl refl))
 
 -- ---- one order
 
@@ -363,7 +395,7 @@ quit_well w c number u steady = quit_cases (λ d. StepsWell IsSteady quit_reserv
 quit_spares : (w : Planet) (c : State) (number : ℕ) (u : Unit) (k : ℕ) (x : Unit) → IsSteady w c → get c.units k ≡ Some x → (number ≡ u.faction → u.faction ≢ x.faction) → IsSpared IsNoWorse (quit number c u).0 k x
 quit_spares w c number u k x steady here other =
     quit_cases (λ d. IsSpared IsNoWorse d k x) c number u (record { unit = x; there = here; spared = no_worse x })
-    (λ own. record { unit = x; there = all_left_others w c (numbers_of u.faction c.units) k steady (λ m listed. stays (other own) m listed) ∙ here; spared = no_worse x })
+    (λ own. record { unit = x; there = all_left_others c (numbers_of u.faction c.units) k (λ m listed. stays (other own) m listed) ∙ here; spared = no_worse x })
   where
     stays : u.faction ≢ x.faction → (m : ℕ) → IsListed m (numbers_of u.faction c.units) → k ≢ m
     stays apart m listed same =

@@ -13,7 +13,7 @@ use Rattle.atl_state.specs.declared.books.Thing.{Thing}
 use Rattle.atl_state.specs.declared.records.Region.{Region}
 use Rattle.atl_state.specs.declared.records.Structure.{Structure}
 use Rattle.atl_state.specs.declared.records.Unit.{Unit}
-use Rattle.atl_state.specs.Good.{AreAfloat, AreInRange, AreKnown, AreNumbered, AreOfOneFaction, Every, GoneHaveNone, IsAboard, IsBuilt, IsEarly, IsOwned, IsPlaced, IsSteady, guards, is_ship}
+use Rattle.atl_state.specs.Good.{AreAfloat, AreInRange, AreKnown, AreNamed, AreNumbered, AreOfOneFaction, Every, GoneHaveNone, IsAboard, IsBuilt, IsEarly, IsOwned, IsPlaced, IsSteady, guards, is_ship}
 use Rattle.atl_state.specs.Held.{IsHolding}
 use Rattle.atl_state.specs.State.{State}
 use Rattle.atl_state.specs.Totals.{held, kept, total}
@@ -27,9 +27,42 @@ pub record IsRelabelled (before after : Structure) : Type 0 where
   pub done : after.done ≡ before.done
   pub name : IsTrue (name_ok before.name) → IsTrue (name_ok after.name)
 
-under : {A B : Type 0} (f : A → B) (o : Option A) (x : B) → option_map f o ≡ Some x → (v : A) × (o ≡ Some v) × (f v ≡ x)
+pub under : {A B : Type 0} (f : A → B) (o : Option A) (x : B) → option_map f o ≡ Some x → (v : A) × (o ≡ Some v) × (f v ≡ x)
 under f None x is = none_some x is
 under f (Some v) x is = let same : f v ≡ x = cc in (v, refl, same)
+
+-- other units and structures, but as many
+module _ (c : State) (units : FinMap nat_cmp Unit) (structures : FinMap nat_cmp Structure) where
+  abbrev pub replaced : State
+  replaced = record c { units = units; structures = structures }
+
+  pub in_range_replaced : (w : Planet) → len units ≡ len c.units → len structures ≡ len c.structures → Every (λ k x. (1 ≤ k) × IsHolding x.holding) units
+      → Every (λ k x. (1 ≤ x.done) × (x.done ≤ size_of w x.kind)) structures → AreInRange w c → AreInRange w replaced
+  in_range_replaced w unit_count structure_count new_units new_structures old = record {
+    month = old.month;
+    few_factions = old.few_factions;
+    few_regions = old.few_regions;
+    few_units = omega (arith, unit_count, old.few_units);
+    few_structures = omega (arith, structure_count, old.few_structures);
+    next_unit_least = old.next_unit_least;
+    next_unit_most = old.next_unit_most;
+    factions = old.factions;
+    regions = old.regions;
+    units = new_units;
+    structures = new_structures;
+    books = old.books;
+  }
+
+  pub named_replaced : Every (λ k x. IsTrue (name_ok x.holding.name)) units → Every (λ k x. IsTrue (name_ok x.name)) structures → AreNamed c → AreNamed replaced
+  named_replaced new_units new_structures old = record { pass = old.pass; factions = old.factions; joined = old.joined; units = new_units; structures = new_structures }
+
+  pub numbered_replaced : len structures ≡ len c.structures → ((k : ℕ) → get c.units k ≡ None → get units k ≡ None) → ((k : ℕ) → get c.structures k ≡ None → get structures k ≡ None)
+      → AreNumbered c → AreNumbered replaced
+  numbered_replaced count no_unit no_structure old = record {
+    factions = old.factions;
+    structures = record { first = no_structure 0 old.structures.first; count = old.structures.count ∙ ap (λ l. l + 1) (sym count); free = λ k l. no_structure k (old.structures.free k l) };
+    units = λ k l. no_unit k (old.units k l);
+  }
 
 module _ (w : Planet) (c : State) (n : ℕ) (u : Unit) (s : ℕ) (is : get c.units n ≡ Some u) (structures : FinMap nat_cmp Structure) (g : ℕ → Structure → Structure) where
   abbrev pub moved_unit : Unit
@@ -63,20 +96,10 @@ module _ (w : Planet) (c : State) (n : ℕ) (u : Unit) (s : ℕ) (is : get c.uni
     none_kept k none = refit.at k ∙ ap (option_map (g k)) none
 
     numbers_kept : AreInRange w c → AreInRange w refitted
-    numbers_kept old = record {
-      month = old.month;
-      few_factions = old.few_factions;
-      few_regions = old.few_regions;
-      few_units = omega (arith, same_len c.units n u moved_unit is, old.few_units);
-      few_structures = omega (arith, refit.count, old.few_structures);
-      next_unit_least = old.next_unit_least;
-      next_unit_most = old.next_unit_most;
-      factions = old.factions;
-      regions = old.regions;
-      units = every-insert (λ k x. (1 ≤ k) × IsHolding x.holding) c.units n moved_unit (old.units n u is) old.units;
-      structures = every_structure (λ k x. (1 ≤ x.done) × (x.done ≤ size_of w x.kind)) (λ k y was. let r = refit.same k y was in rw (r.done, r.kind) (old.structures k y was));
-      books = old.books;
-    }
+    numbers_kept old =
+        in_range_replaced c units structures w (same_len c.units n u moved_unit is) refit.count
+        (every-insert (λ k x. (1 ≤ k) × IsHolding x.holding) c.units n moved_unit (old.units n u is) old.units)
+        (every_structure (λ k x. (1 ≤ x.done) × (x.done ≤ size_of w x.kind)) (λ k y was. let r = refit.same k y was in rw (r.done, r.kind) (old.structures k y was))) old
 
     still_inside : (j region : ℕ) → (x : Structure) × (get c.structures j ≡ Some x) × (x.region ≡ region) → (x : Structure) × (get structures j ≡ Some x) × (x.region ≡ region)
     still_inside j region (x, there, here) = (g j x, forth j x there, (refit.same j x there).region ∙ here)
@@ -100,11 +123,9 @@ module _ (w : Planet) (c : State) (n : ℕ) (u : Unit) (s : ℕ) (is : get c.uni
     }
 
     next_kept : AreNumbered c → AreNumbered refitted
-    next_kept old = record {
-      factions = old.factions;
-      structures = record { first = none_kept 0 old.structures.first; count = old.structures.count ∙ ap (λ l. l + 1) (sym refit.count); free = λ k l. none_kept k (old.structures.free k l) };
-      units = λ k above. get-insert_other c.units n k moved_unit (λ same. none_some u (sym (old.units k above) ∙ ap (get c.units) same ∙ is)) ∙ old.units k above;
-    }
+    next_kept =
+        numbered_replaced c units structures refit.count
+        (λ k none. get-insert_other c.units n k moved_unit (λ same. none_some u (sym none ∙ ap (get c.units) same ∙ is)) ∙ none) none_kept
 
     gone_kept : GoneHaveNone c → GoneHaveNone refitted
     gone_kept old m f there gone = numbers_where-insert_known (λ x. x.faction == m) c.units n u moved_unit is refl ∙ old m f there gone
@@ -133,13 +154,9 @@ module _ (w : Planet) (c : State) (n : ℕ) (u : Unit) (s : ℕ) (is : get c.uni
     pub steady-refitted : IsSteady w c → IsSteady w refitted
     steady-refitted old = record {
       numbers = numbers_kept old.numbers;
-      names = record {
-        pass = old.names.pass;
-        factions = old.names.factions;
-        joined = old.names.joined;
-        units = every-insert (λ k x. IsTrue (name_ok x.holding.name)) c.units n moved_unit (old.names.units n u is) old.names.units;
-        structures = every_structure (λ k x. IsTrue (name_ok x.name)) (λ k y was. (refit.same k y was).name (old.names.structures k y was));
-      };
+      names =
+          named_replaced c units structures (every-insert (λ k x. IsTrue (name_ok x.holding.name)) c.units n moved_unit (old.names.units n u is) old.names.units)
+          (every_structure (λ k x. IsTrue (name_ok x.name)) (λ k y was. (refit.same k y was).name (old.names.structures k y was))) old.names;
       known = known_kept old.known;
       next = next_kept old.next;
       days = every-insert (λ k x. Every (λ j days. (1 ≤ days) × (days ≤ most_days * x.holding.men)) x.holding.days) c.units n moved_unit (old.days n u is) old.days;

@@ -12,7 +12,7 @@ use Rattle.atl_state.specs.Books.{amount_in, booked}
 use Rattle.atl_state.specs.Good.{IsEarly}
 use Rattle.atl_state.specs.State.{State}
 use Rattle.atl_state.specs.Totals.{held, kept, total}
-use Rattle.atl_instant.specs.Meaning.{IsSameMonth}
+use Rattle.atl_instant.specs.Meaning.{Condition, IsSameMonth}
 use Rattle.atl_instant.specs.PhaseOrders.{Task}
 use Rattle.atl_instant.specs.Staying.{IsNoWorse}
 use Rattle.atl_instant.specs.Steps.{Deed, IsOwnOrder, IsSpared, IsUnitOf, StepsWell}
@@ -21,13 +21,16 @@ use Rattle.atl_instant.proofs.StayingLaws.{no_worse}
 use Rattle.atl_instant.proofs.StepLaws.{not_drawn}
 
 -- where books and totals stay
-pub unbooked_well : (w : Planet) (c d : State) → IsEarly w d → IsSameMonth c d → d.books ≡ c.books → ((t : Thing) → total d t ≡ total c t) → StepsWell IsEarly books_nothing w c d
-unbooked_well w c d early same books totals = record {
-  holds_still = early;
+pub stays_well : (holds : Condition) (w : Planet) (c d : State) → holds w d → IsSameMonth c d → d.books ≡ c.books → ((t : Thing) → total d t ≡ total c t) → StepsWell holds books_nothing w c d
+stays_well holds w c d still same books totals = record {
+  holds_still = still;
   same_month = same;
   balances = λ old t. ap pos (totals t) ∙ old t ∙ ap (λ b. booked b t) (sym books);
   drawn = λ e t. not_drawn 0 0 (amount_in c.books e t) (amount_in d.books e t) refl (ap (λ b. amount_in b e t) books);
 }
+
+pub unbooked_well : (w : Planet) (c d : State) → IsEarly w d → IsSameMonth c d → d.books ≡ c.books → ((t : Thing) → total d t ≡ total c t) → StepsWell IsEarly books_nothing w c d
+unbooked_well = stays_well IsEarly
 
 -- the same units and regions hold the same
 pub same_total_of : (c d : State) → d.units ≡ c.units → d.regions ≡ c.regions → (t : Thing) → total d t ≡ total c t

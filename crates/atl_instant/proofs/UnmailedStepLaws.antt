@@ -20,22 +20,24 @@ use Rattle.atl_state.proofs.EveryLaws.{get-insert_other}
 use Rattle.atl_state.proofs.RemovedLaws.{IsListed, get-remove_other, listed_passing}
 use Rattle.atl_instant.specs.Course.{Aliases, Course}
 use Rattle.atl_instant.specs.Form.{form_by, form_keeps, form_meaning, form_order, is_forming}
-use Rattle.atl_instant.specs.Give.{give_keeps, give_meaning, give_said, give_step, is_giving, held_of, with_held_of, give}
-use Rattle.atl_instant.specs.Guard.{guard, guard_concerns, guard_fault, guard_keeps, guard_meaning, guard_said, guard_step, is_guarding}
-use Rattle.atl_instant.specs.Name.{is_naming, name_concerns, name_keeps, name_meaning, name_said, name_step, named, names}
+use Rattle.atl_instant.specs.Give.{give, give_said, give_step, give_terms, held_of, is_giving, with_held_of}
+use Rattle.atl_instant.specs.Guard.{guard, guard_concerns, guard_fault, guard_said, guard_step, guard_terms, is_guarding}
+use Rattle.atl_instant.specs.Name.{is_naming, name_concerns, name_said, name_step, name_terms, named, names}
 use Rattle.atl_instant.specs.Outcomes.{unless}
-use Rattle.atl_instant.specs.Place.{enter_fault, entered, entered_other, is_placing, leave_fault, left, place_keeps, place_meaning, place_said, place_step, promote_fault, promoted}
+use Rattle.atl_instant.specs.Place.{enter_fault, entered, entered_other, is_placing, leave_fault, left, place_said, place_step, place_terms, promote_fault, promoted}
 use Rattle.atl_instant.specs.PhaseOrders.{Task, orders_of, unit_of}
 use Rattle.atl_instant.specs.Quit.{QuitsFrom, booked_off, is_quitting, item_gone, left_at, left_by, quit, quit_fault, quit_keeps, quit_meaning, quit_said, quit_step}
 use Rattle.atl_instant.specs.Steps.{IsSpared, IsUnitOf}
-use Rattle.atl_instant.specs.Transfer.{is_transferring, transfer, transfer_keeps, transfer_meaning, transfer_said, transfer_step, with_fewer, with_more}
+use Rattle.atl_instant.specs.Transfer.{is_transferring, transfer, transfer_said, transfer_step, transfer_terms, with_fewer, with_more}
 use Rattle.atl_instant.specs.Unmailed.{starved_in}
 use Rattle.atl_instant.specs.declared.give.Gift.{Gift}
 use Rattle.atl_instant.specs.declared.give.Gift.TheVariants.{Item, Money}
 use Rattle.atl_instant.specs.declared.written.Arrangement.TheVariants.{ByFaction}
 use Rattle.atl_instant.proofs.GiveLaws.{give_cases}
 use Rattle.atl_instant.proofs.MovingLaws.{moved, receiver_still}
+use Rattle.atl_instant.proofs.QuitLaws.{all_left_others}
 use Rattle.atl_instant.proofs.StructureLaws.{handed_is}
+use Rattle.atl_instant.proofs.TermsLaws.{Leaves}
 use Rattle.atl_instant.proofs.TransferLaws.{transfer_cases}
 use Rattle.atl_instant.proofs.UnmailedLaws.{HasItsMen, HaveTheirMen, LeavesUnmailed, OthersHaveMen, SparesMen, carried_leaves, items_of_no_worse, men_changed, men_put, men_same, men_stay, men_twice, men_unless, others_men, own_faction, told_of_order, unmailed_spared, whole_leaves}
 
@@ -80,7 +82,7 @@ name_men w c f n x other = tt
 name_spares : SparesMen name_step
 name_spares w a c t x own = name_men w c t.faction t.unit x t.said
 
-pub name_leaves : LeavesUnmailed name_meaning name_keeps
+pub name_leaves : Leaves name_terms
 name_leaves = carried_leaves name_step is_naming name_spares (unmailed_spared {concerns = name_concerns} is_naming (λ t n f h. own_faction t n f h.0) items_of_no_worse)
 
 -- ---- LEAVE, ENTER and PROMOTE
@@ -126,7 +128,7 @@ places_men w a c f n x other = tt
 place_spares : SparesMen place_step
 place_spares w a c t x own = places_men w a c t.faction t.unit x t.said
 
-pub place_leaves : LeavesUnmailed place_meaning place_keeps
+pub place_leaves : Leaves place_terms
 place_leaves = carried_leaves place_step is_placing place_spares (unmailed_spared is_placing own_faction items_of_no_worse)
 
 -- ---- GIVE and PAY
@@ -158,7 +160,7 @@ given_men a c f from x here other = tt
 give_spares : SparesMen give_step
 give_spares w a c t x own = given_men a c t.faction t.unit x own.there t.said
 
-pub give_leaves : LeavesUnmailed give_meaning give_keeps
+pub give_leaves : Leaves give_terms
 give_leaves = carried_leaves give_step is_giving give_spares (unmailed_spared is_giving own_faction items_of_no_worse)
 
 -- ---- TRANSFER
@@ -187,7 +189,7 @@ transferred a c t x own o = tt
 transfer_spares : SparesMen transfer_step
 transfer_spares w a c t x own = transferred a c t x own t.said
 
-pub transfer_leaves : LeavesUnmailed transfer_meaning transfer_keeps
+pub transfer_leaves : Leaves transfer_terms
 transfer_leaves = carried_leaves transfer_step is_transferring transfer_spares (unmailed_spared is_transferring own_faction items_of_no_worse)
 
 -- ---- GUARD 1
@@ -203,35 +205,10 @@ guarded_men c f n x other = tt
 guard_spares : SparesMen guard_step
 guard_spares w a c t x own = guarded_men c t.faction t.unit x t.said
 
-pub guard_leaves : LeavesUnmailed guard_meaning guard_keeps
+pub guard_leaves : Leaves guard_terms
 guard_leaves = carried_leaves guard_step is_guarding guard_spares (unmailed_spared {concerns = guard_concerns} is_guarding (λ t n f h. own_faction t n f h.0) items_of_no_worse)
 
 -- ---- QUIT
-
-booked_units : (c : State) (es : List (ℕ × ℕ)) → (fold item_gone c es).units ≡ c.units
-booked_units c [] = refl
-booked_units c (e ∷ es) = booked_units (item_gone c e) es
-
-without_others : (c : State) (n k : ℕ) → k ≢ n → get (without_unit c n).units k ≡ get c.units k
-unfolding without_unit
-without_others c n k apart = by_unit (get c.units n)
-  where
-    by_unit : (o : Option Unit) → get (without_unit_at c n o).units k ≡ get c.units k
-    by_unit None = refl
-    by_unit (Some u) =
-        ap (λ (d : State). get d.units k) (handed_is (record c { units = remove c.units n }) u.structure n (heir c u.structure n)) ∙ get-remove_other c.units n k apart
-
-left_others : (c : State) (n k : ℕ) → k ≢ n → get (left_at c n).units k ≡ get c.units k
-unfolding left_at
-left_others c n k apart = by_unit (get c.units n)
-  where
-    by_unit : (o : Option Unit) → get (left_by c n o).units k ≡ get c.units k
-    by_unit None = refl
-    by_unit (Some u) = without_others (booked_off c u.holding) n k apart ∙ ap (λ (m : FinMap nat_cmp Unit). get m k) (booked_units _ (entries u.holding.items))
-
-all_left_others : (c : State) (ns : List ℕ) (k : ℕ) → ((n : ℕ) → IsListed n ns → k ≢ n) → get (fold left_at c ns).units k ≡ get c.units k
-all_left_others c [] k apart = refl
-all_left_others c (n ∷ ns) k apart = all_left_others (left_at c n) ns k (λ m listed. apart m (inr listed)) ∙ left_others c n k (apart n (inl refl))
 
 quit_others : (c : State) (number : ℕ) (x : Unit) → OthersHaveMen x.faction c (quit number c x).0
 unfolding quit

@@ -21,8 +21,7 @@ use Rattle.atl_instant.specs.Outcomes.{first_fault, unless}
 use Rattle.atl_instant.specs.PhaseOrders.{Task, orders_of}
 use Rattle.atl_instant.specs.Steps.{is_of_faction, told}
 use Rattle.atl_instant.specs.declared.written.Arrangement.TheVariants.{ByFaction}
-use Rattle.atl_instant.specs.Terms.{PhaseTerms, nothing_moved}
-use Rattle.atl_instant.specs.Unbooked.{moves_nothing}
+use Rattle.atl_instant.specs.Terms.{PhaseTerms, books_none}
 
 abbrev pub is_forming : Verb → Bool
 is_forming verbs.Form = true
@@ -82,9 +81,4 @@ abbrev pub form_keeps : Keeping
 form_keeps w m before after = Every (λ n u. get after.units n ≡ Some u) before.units
 
 abbrev pub form_terms : PhaseTerms
-form_terms = record {
-  meaning = form_meaning;
-  moving = moves_nothing;
-  moved = nothing_moved;
-  keeps = form_keeps;
-}
+form_terms = books_none form_meaning form_keeps

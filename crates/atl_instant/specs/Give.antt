@@ -15,15 +15,13 @@ use Rattle.atl_state.specs.Lending.{with_held}
 use Rattle.atl_state.specs.Limits.{holding_limit}
 use Rattle.atl_state.specs.State.{State}
 use Rattle.atl_instant.specs.Course.{Aliases}
-use Rattle.atl_instant.specs.Meaning.{Keeping, Meaning}
 use Rattle.atl_instant.specs.Outcomes.{first_fault, unless}
 use Rattle.atl_instant.specs.PhaseOrders.{unit_of}
 use Rattle.atl_instant.specs.Staying.{IsNoWorse}
-use Rattle.atl_instant.specs.Steps.{Deed, IsOwnOrder, Step, carried_out, spares_others}
+use Rattle.atl_instant.specs.Steps.{Deed, IsOwnOrder, Step}
 use Rattle.atl_instant.specs.declared.give.Gift.{Gift}
 use Rattle.atl_instant.specs.declared.give.Gift.TheVariants.{Item, Money}
-use Rattle.atl_instant.specs.Terms.{PhaseTerms, nothing_moved}
-use Rattle.atl_instant.specs.Unbooked.{moves_nothing}
+use Rattle.atl_instant.specs.Terms.{PhaseTerms, goes_by_orders}
 
 abbrev pub is_giving : Verb → Bool
 is_giving verbs.Give = true
@@ -77,17 +75,6 @@ give_step w aliases t = give_said aliases t.faction t.unit t.said
 
 -- ---- the phase
 
-abbrev pub give_meaning : Meaning
-give_meaning = carried_out give_step is_giving
-
 -- a unit for which its own faction wrote no such order is no worse off
-abbrev pub give_keeps : Keeping
-give_keeps = spares_others IsOwnOrder IsNoWorse is_giving
-
 abbrev pub give_terms : PhaseTerms
-give_terms = record {
-  meaning = give_meaning;
-  moving = moves_nothing;
-  moved = nothing_moved;
-  keeps = give_keeps;
-}
+give_terms = goes_by_orders give_step is_giving IsOwnOrder IsNoWorse

@@ -12,12 +12,10 @@ use Rattle.atl_state.specs.declared.event.Outcome.TheVariants.{Done}
 use Rattle.atl_state.specs.declared.records.Unit.{Unit}
 use Rattle.atl_state.specs.Good.{guards}
 use Rattle.atl_state.specs.State.{State, numbers_in, with_guard}
-use Rattle.atl_instant.specs.Meaning.{Keeping, Meaning}
 use Rattle.atl_instant.specs.Outcomes.{first_fault, unless}
 use Rattle.atl_instant.specs.Staying.{IsNoWorse}
-use Rattle.atl_instant.specs.Steps.{Concern, Deed, IsOwnOrder, Step, carried_out, spares_others}
-use Rattle.atl_instant.specs.Terms.{PhaseTerms, nothing_moved}
-use Rattle.atl_instant.specs.Unbooked.{moves_nothing}
+use Rattle.atl_instant.specs.Steps.{Concern, Deed, IsOwnOrder, Step}
+use Rattle.atl_instant.specs.Terms.{PhaseTerms, goes_by_orders}
 
 abbrev pub is_guarding : Verb → Bool
 is_guarding verbs.Guard = true
@@ -57,17 +55,6 @@ guard_concerns t number faction = IsOwnOrder t number faction × (t.said ≡ ord
 
 -- ---- the phase
 
-abbrev pub guard_meaning : Meaning
-guard_meaning = carried_out guard_step is_guarding
-
 -- a unit for which its own faction wrote no such order is no worse off
-abbrev pub guard_keeps : Keeping
-guard_keeps = spares_others guard_concerns IsNoWorse is_guarding
-
 abbrev pub guard_terms : PhaseTerms
-guard_terms = record {
-  meaning = guard_meaning;
-  moving = moves_nothing;
-  moved = nothing_moved;
-  keeps = guard_keeps;
-}
+guard_terms = goes_by_orders guard_step is_guarding guard_concerns IsNoWorse

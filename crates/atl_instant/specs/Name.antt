@@ -15,12 +15,10 @@ use Rattle.atl_state.specs.declared.event.Outcome.TheVariants.{Done}
 use Rattle.atl_state.specs.declared.records.Structure.{Structure}
 use Rattle.atl_state.specs.Good.{is_ship}
 use Rattle.atl_state.specs.State.{State, with_faction_name, with_guard, with_structure_name, with_unit_name}
-use Rattle.atl_instant.specs.Meaning.{Keeping, Meaning}
 use Rattle.atl_instant.specs.Outcomes.{first_fault, unless}
 use Rattle.atl_instant.specs.Staying.{IsNoWorse}
-use Rattle.atl_instant.specs.Steps.{Concern, Deed, IsOwnOrder, Step, carried_out, spares_others}
-use Rattle.atl_instant.specs.Terms.{PhaseTerms, nothing_moved}
-use Rattle.atl_instant.specs.Unbooked.{moves_nothing}
+use Rattle.atl_instant.specs.Steps.{Concern, Deed, IsOwnOrder, Step}
+use Rattle.atl_instant.specs.Terms.{PhaseTerms, goes_by_orders}
 
 -- ---- which orders are of the phase
 
@@ -72,17 +70,6 @@ name_concerns t number faction = IsOwnOrder t number faction × (t.said ≢ orde
 
 -- ---- the phase
 
-abbrev pub name_meaning : Meaning
-name_meaning = carried_out name_step is_naming
-
 -- a unit for which its own faction wrote no such order is no worse off
-abbrev pub name_keeps : Keeping
-name_keeps = spares_others name_concerns IsNoWorse is_naming
-
 abbrev pub name_terms : PhaseTerms
-name_terms = record {
-  meaning = name_meaning;
-  moving = moves_nothing;
-  moved = nothing_moved;
-  keeps = name_keeps;
-}
+name_terms = goes_by_orders name_step is_naming name_concerns IsNoWorse

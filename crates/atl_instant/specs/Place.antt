@@ -16,13 +16,11 @@ use Rattle.atl_state.specs.Owners.{is_owned_by, with_place}
 use Rattle.atl_state.specs.State.{State, with_owner}
 use Rattle.atl_instant.specs.Course.{Aliases}
 use Rattle.atl_instant.specs.Inside.{inside}
-use Rattle.atl_instant.specs.Meaning.{Keeping, Meaning}
 use Rattle.atl_instant.specs.Outcomes.{first_fault, unless}
 use Rattle.atl_instant.specs.PhaseOrders.{unit_of}
 use Rattle.atl_instant.specs.Staying.{IsNoWorse}
-use Rattle.atl_instant.specs.Steps.{Deed, IsOwnOrder, Step, carried_out, spares_others}
-use Rattle.atl_instant.specs.Terms.{PhaseTerms, nothing_moved}
-use Rattle.atl_instant.specs.Unbooked.{moves_nothing}
+use Rattle.atl_instant.specs.Steps.{Deed, IsOwnOrder, Step}
+use Rattle.atl_instant.specs.Terms.{PhaseTerms, goes_by_orders}
 
 -- ---- which orders are of the phase
 
@@ -84,17 +82,6 @@ place_step w a t = place_said w a t.faction t.unit t.said
 
 -- ---- the phase
 
-abbrev pub place_meaning : Meaning
-place_meaning = carried_out place_step is_placing
-
 -- who gives no order of the phase stays
-abbrev pub place_keeps : Keeping
-place_keeps = spares_others IsOwnOrder IsNoWorse is_placing
-
 abbrev pub place_terms : PhaseTerms
-place_terms = record {
-  meaning = place_meaning;
-  moving = moves_nothing;
-  moved = nothing_moved;
-  keeps = place_keeps;
-}
+place_terms = goes_by_orders place_step is_placing IsOwnOrder IsNoWorse

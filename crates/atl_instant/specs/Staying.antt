@@ -5,6 +5,7 @@ use Rattle.atl_state.specs.declared.records.Unit.{Unit}
 use Rattle.atl_state.specs.Good.{Every}
 use Rattle.atl_state.specs.Held.{amount_of}
 use Rattle.atl_state.specs.State.{State}
+use Rattle.atl_instant.specs.Meaning.{Keeping}
 
 -- a unit that stays as it is
 abbrev pub IsUnchanged : Unit → Unit → Type 0
@@ -25,3 +26,7 @@ pub record IsNoWorse (before after : Unit) : Type 0 where
 -- each unit is still there, and no worse off
 abbrev pub AreNoWorse : State → State → Type 0
 AreNoWorse before after = Every (λ n u. (v : Unit) × (get after.units n ≡ Some v) × IsNoWorse u v) before.units
+
+-- a phase that takes nothing from any unit
+abbrev pub spares_all : Keeping
+spares_all w m before after = AreNoWorse before after

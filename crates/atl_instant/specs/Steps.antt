@@ -1,7 +1,7 @@
 -- A phase that carries its orders out one by one: each sees what the one before left. See docs/RULES.md, "Orders of a month".
 use Rattle.std.specs.Prelude.{ℕ, ℤ, pos, ◌≡◌, ◌≤◌, ◌+ℤ◌, ◌≤ℤ◌, ◌==◌, ◌++◌, Bool, false, List, [], ◌∷◌, Option, Some, None, IfSome, fold, if◌then◌else◌}
 use Rattle.std.specs.List.{All}
-use Rattle.std.specs.FinMap.{get, values}
+use Rattle.std.specs.FinMap.{get}
 use Rattle.atl_tables.specs.Planet.{Planet}
 use Rattle.atl_orders.specs.declared.verb.Verb.{Verb}
 use Rattle.atl_orders.specs.Orders.{verb_of_order}
@@ -20,8 +20,7 @@ use Rattle.atl_state.specs.Totals.{Balances}
 use Rattle.atl_instant.specs.Course.{Aliases, Course}
 use Rattle.atl_orders.specs.Bounds.{IsOrderOf}
 use Rattle.atl_instant.specs.Meaning.{Condition, IsSameMonth, Keeping, Meaning, Moving}
-use Rattle.atl_instant.specs.PhaseOrders.{Task, orders_of}
-use Rattle.atl_instant.specs.declared.written.Arrangement.TheVariants.{ByUnit}
+use Rattle.atl_instant.specs.PhaseOrders.{Task, orders_by_unit}
 
 -- ---- the orders in turn
 
@@ -73,7 +72,7 @@ one_order step w (c, m) t = let after = ordered (step w m.aliases t) c t.faction
 
 -- all of them
 unfoldable pub carried_out : Step → (Verb → Bool) → Meaning
-carried_out step is_of w c m = fold (one_order step w) (c, m) (values (orders_of is_of ByUnit m.aliases m.readings))
+carried_out step is_of w c m = fold (one_order step w) (c, m) (orders_by_unit is_of m)
 
 -- ---- what a step leaves
 
@@ -122,7 +121,7 @@ AreSpared concerns spares ts before after =
 
 -- each unit that no order of a phase concerns
 abbrev pub spares_others : Concern → Sparing → (Verb → Bool) → Keeping
-spares_others concerns spares is_of w m before after = AreSpared concerns spares (values (orders_of is_of ByUnit m.aliases m.readings)) before after
+spares_others concerns spares is_of w m before after = AreSpared concerns spares (orders_by_unit is_of m) before after
 
 -- ---- what a phase has to show of its step
 

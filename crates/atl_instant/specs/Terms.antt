@@ -1,10 +1,13 @@
 -- A phase as a month takes it: what it makes, how far it may move the books, and what it keeps. See docs/RULES.md, "Closing a month".
 use Rattle.std.specs.Prelude.{⊤, ℕ, ◌+◌, ◌≤◌, ◌==◌, ◌||◌, Bool, false, List, [], ◌∷◌, if◌then◌else◌}
+use Rattle.atl_orders.specs.declared.verb.Verb.{Verb}
 use Rattle.atl_state.specs.declared.books.Entry.{Entry}
 use Rattle.atl_state.specs.declared.books.Thing.{Thing}
 use Rattle.atl_state.specs.declared.books.Thing.TheVariants.{Item, Money, People}
 use Rattle.atl_state.specs.Books.{entry_place}
-use Rattle.atl_instant.specs.Meaning.{Keeping, Meaning, Moving, both_keep, both_move, most_moved, then_also}
+use Rattle.atl_instant.specs.Meaning.{Keeping, Meaning, Moving, both_keep, both_move, most_moved, moves_only, then_also}
+use Rattle.atl_instant.specs.Steps.{Concern, Sparing, Step, carried_out, spares_others}
+use Rattle.atl_instant.specs.Unbooked.{moves_nothing}
 
 -- ---- the books
 
@@ -41,6 +44,32 @@ pub record PhaseTerms : Type 1 where
 -- A phase moves the amounts of its own entries alone, and each by less than 10^14.
 abbrev pub MovesItsOwn : PhaseTerms → Type 0
 MovesItsOwn phase = (e : Entry) (t : Thing) → phase.moving e t ≤ (if may_move phase.moved e t then most_moved else 0)
+
+-- a phase that moves no amount of the books
+abbrev pub books_none : Meaning → Keeping → PhaseTerms
+books_none meaning keeps = record { meaning = meaning; moving = moves_nothing; moved = nothing_moved; keeps = keeps }
+
+-- one that moves none, carries its orders out one by one, and spares the units that none of them concerns
+abbrev pub goes_by_orders : Step → (Verb → Bool) → Concern → Sparing → PhaseTerms
+goes_by_orders step is_of concerns spares = books_none (carried_out step is_of) (spares_others concerns spares is_of)
+
+-- one that moves the money of one entry alone
+abbrev pub books_money : Entry → Meaning → Keeping → PhaseTerms
+books_money entry meaning keeps = record {
+  meaning = meaning;
+  moving = moves_only most_moved entry Money;
+  moved = record { money = entry ∷ []; people = []; items = [] };
+  keeps = keeps;
+}
+
+-- one that moves the money of one entry and the people of another
+abbrev pub books_money_and_people : (money people : Entry) → Meaning → Keeping → PhaseTerms
+books_money_and_people money people meaning keeps = record {
+  meaning = meaning;
+  moving = both_move (moves_only most_moved money Money) (moves_only most_moved people People);
+  moved = record { money = money ∷ []; people = people ∷ []; items = [] };
+  keeps = keeps;
+}
 
 -- ---- some phases, one after the other
 

@@ -16,13 +16,11 @@ use Rattle.atl_state.specs.Limits.{men_limit}
 use Rattle.atl_state.specs.State.{State}
 use Rattle.atl_instant.specs.Amounts.{amounts_for}
 use Rattle.atl_instant.specs.Course.{Aliases}
-use Rattle.atl_instant.specs.Meaning.{Keeping, Meaning}
 use Rattle.atl_instant.specs.Outcomes.{first_fault, unless}
 use Rattle.atl_instant.specs.PhaseOrders.{unit_of}
 use Rattle.atl_instant.specs.Staying.{IsNoWorse}
-use Rattle.atl_instant.specs.Steps.{Deed, IsOwnOrder, Step, carried_out, spares_others}
-use Rattle.atl_instant.specs.Terms.{PhaseTerms, nothing_moved}
-use Rattle.atl_instant.specs.Unbooked.{moves_nothing}
+use Rattle.atl_instant.specs.Steps.{Deed, IsOwnOrder, Step}
+use Rattle.atl_instant.specs.Terms.{PhaseTerms, goes_by_orders}
 
 abbrev pub is_transferring : Verb → Bool
 is_transferring verbs.Transfer = true
@@ -96,17 +94,6 @@ transfer_step w aliases t = transfer_said aliases t.faction t.unit t.said
 
 -- ---- the phase
 
-abbrev pub transfer_meaning : Meaning
-transfer_meaning = carried_out transfer_step is_transferring
-
 -- a unit for which its own faction wrote no such order is no worse off
-abbrev pub transfer_keeps : Keeping
-transfer_keeps = spares_others IsOwnOrder IsNoWorse is_transferring
-
 abbrev pub transfer_terms : PhaseTerms
-transfer_terms = record {
-  meaning = transfer_meaning;
-  moving = moves_nothing;
-  moved = nothing_moved;
-  keeps = transfer_keeps;
-}
+transfer_terms = goes_by_orders transfer_step is_transferring IsOwnOrder IsNoWorse

@@ -6,7 +6,7 @@ ghost use Rattle.atl_state.specs.Covers.{MarksChanges};
 ghost use Rattle.atl_state.specs.Good.{IsSteady};
 ghost use Rattle.atl_state.specs.State.{State};
 ghost use Rattle.atl_instant.specs.Carrying.{found_written};
-ghost use Rattle.atl_instant.specs.Guard.{guard, guard_fault, guard_keeps, guard_meaning, guard_said, guard_step, is_guarding};
+ghost use Rattle.atl_instant.specs.Guard.{guard, guard_fault, guard_said, guard_step, guard_terms, is_guarding};
 ghost use Rattle.atl_instant.specs.Holders.{AreHolders};
 ghost use Rattle.atl_instant.specs.Steps.{carried, one_order, ordered};
 ghost use Rattle.atl_instant.specs.Unbooked.{moves_nothing};
@@ -112,7 +112,7 @@ impl PhaseVerbs for GuardPhase {
 }
 
 impl Phase for GuardPhase {
-    ghost meaning = { guard_meaning };
+    ghost meaning = { guard_terms.meaning };
 
     ghost needs = { IsSteady };
 
@@ -120,7 +120,7 @@ impl Phase for GuardPhase {
 
     ghost moving = { moves_nothing };
 
-    ghost keeps = { guard_keeps };
+    ghost keeps = { guard_terms.keeps };
 
     fn run(
         &self,

@@ -31,7 +31,7 @@ use Rattle.atl_instant.proofs.MeaningLaws.{less_room, near_more}
 use Rattle.atl_instant.proofs.StepLaws.{drawn_near}
 use Rattle.atl_market.specs.Build.{CanBuild, build_reserve, usable}
 use Rattle.atl_market.specs.Goods.{used_by, with_item, with_used}
-use Rattle.atl_market.proofs.GoodsLaws.{used_is, used_up_to}
+use Rattle.atl_market.proofs.GoodsLaws.{either_way, used_is, used_up_to}
 
 -- ---- what a unit holds less
 
@@ -131,18 +131,10 @@ module _ (w : Planet) (c : State) (n item amount : ℕ) (u : Unit) (is : get c.u
 
 -- the structures, and the number that comes next
 pub same_structures : (c : State) (n item amount : ℕ) → (with_used c n item amount).structures ≡ c.structures
-same_structures c n item amount = by_unit (get c.units n)
-  where
-    by_unit : (o : Option Unit) → (used_by c n item amount o).structures ≡ c.structures
-    by_unit None = refl
-    by_unit (Some u) = refl
+same_structures c n item amount = either_way (λ o. (used_by c n item amount o).structures) c.structures refl (λ u. refl) (get c.units n)
 
 pub same_next : (c : State) (n item amount : ℕ) → (with_used c n item amount).next_structure ≡ c.next_structure
-same_next c n item amount = by_unit (get c.units n)
-  where
-    by_unit : (o : Option Unit) → (used_by c n item amount o).next_structure ≡ c.next_structure
-    by_unit None = refl
-    by_unit (Some u) = refl
+same_next c n item amount = either_way (λ o. (used_by c n item amount o).next_structure) c.next_structure refl (λ u. refl) (get c.units n)
 
 -- ---- there is room for what a unit may use
 

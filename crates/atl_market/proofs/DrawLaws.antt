@@ -8,10 +8,11 @@ use Rattle.std.specs.Cmp.{ranked}
 use Rattle.std.specs.FinMap.{FinMap, entries, get, insert}
 use Rattle.std.proofs.lemmas.Bool.{cases_eq, eqb-true}
 use Rattle.std.proofs.lemmas.List.Sums.{sum_by-cons}
+use Rattle.atl_tables.specs.Planet.{Planet}
 use Rattle.atl_state.specs.declared.records.Region.{Region}
 use Rattle.atl_state.specs.declared.records.Unit.{Unit}
 use Rattle.atl_state.specs.Deciding.{EachOf}
-use Rattle.atl_state.specs.Good.{IsThere}
+use Rattle.atl_state.specs.Good.{IsEarly, IsThere}
 use Rattle.atl_state.specs.State.{State, region_changed}
 use Rattle.atl_state.proofs.BackLaws.{Rise, entries_rise}
 use Rattle.atl_state.proofs.EveryLaws.{each-from_every, get-insert_other}
@@ -230,3 +231,24 @@ module _ (c : State) where
   pub untouched : (es : List (ℕ × ℕ)) → AreUntouched c es
   untouched [] = tt
   untouched (e ∷ es) = (refl, untouched es)
+
+-- ---- shares of the units of regions, one after the other
+
+-- c as the phase began, d as it is: each share that is still to come fits its unit, and each region has enough for them
+pub record AreReady (left : Region → ℕ) (Fits : ℕ × ℕ → Type 0) (w : Planet) (c d : State) (es : List (ℕ × ℕ)) : Type 0 where
+  pub early : IsEarly w d
+  pub rise : Rise es
+  pub same : AreUntouched c d es
+  pub fits : AllByRecursion Fits es
+  pub enough : HaveEnough (region_pots c.units left) d es
+
+pub ready_behind : (left : Region → ℕ) {Fits : ℕ × ℕ → Type 0} (w : Planet) (c d : State) (e : ℕ × ℕ) (es : List (ℕ × ℕ)) (after : State)
+    → AreReady left Fits w c d (e ∷ es) → IsEarly w after → ((k : ℕ) → k ≢ e.0 → get after.units k ≡ get d.units k)
+    → Drains (region_pots c.units left) d e after → AreReady left Fits w c after es
+ready_behind left w c d e es after ready early others drains = record {
+  early = early;
+  rise = ready.rise.1;
+  same = still c d after e.0 es others ready.rise.0 ready.same.1;
+  fits = ready.fits.1;
+  enough = others_draw (region_pots c.units left) d e es ready.enough after drains;
+}

@@ -40,6 +40,11 @@ moved x y t k a l z e f g h = omega (arith, ints, e, f, g, h)
 unmoved : (x y t k : ℕ) → x ≡ y → y + k ≡ t + k → pos x ≡ pos t +ℤ pos 0
 unmoved x y t k e f = omega (arith, ints, e, f)
 
+-- what is the same whether a unit is there or not
+pub either_way : {A : Type 0} (of : Option Unit → A) (same : A) → of None ≡ same → ((u : Unit) → of (Some u) ≡ same) → (o : Option Unit) → of o ≡ same
+either_way of same without with None = without
+either_way of same without with (Some u) = with u
+
 -- ---- a unit holds another amount of an item, which is booked
 
 module _ (w : Planet) (c : State) (n : ℕ) (u : Unit) (i amount : ℕ) (is : get c.units n ≡ Some u) where

@@ -19,7 +19,7 @@ use Rattle.atl_market.specs.Recruit.{recruit_pots, recruited, recruits_at, with_
 use Rattle.atl_market.specs.Tax.{money_at, tax_pots, taxed}
 use Rattle.atl_market.specs.Work.{earned, places_at, work_pots, worked}
 use Rattle.atl_market.proofs.AtOnceLaws.{Pays, all_at_once}
-use Rattle.atl_market.proofs.GoodsLaws.{made_unit, used_unit}
+use Rattle.atl_market.proofs.GoodsLaws.{either_way, made_unit, used_unit}
 use Rattle.atl_market.proofs.PotLaws.{only_takers_get, pots_give}
 use Rattle.atl_market.proofs.ProduceLaws.{given_can, produced_others}
 use Rattle.atl_market.proofs.PurseLaws.{others_stay, paid_unit}
@@ -107,18 +107,10 @@ works_at_once w c os =
 
 module _ (asked : FinMap nat_cmp ℕ) (w : Planet) where
   used_regions : (d : State) (n i amount : ℕ) → (with_used d n i amount).regions ≡ d.regions
-  used_regions d n i amount = by_unit (get d.units n)
-    where
-      by_unit : (o : Option Unit) → (used_by d n i amount o).regions ≡ d.regions
-      by_unit None = refl
-      by_unit (Some u) = refl
+  used_regions d n i amount = either_way (λ o. (used_by d n i amount o).regions) d.regions refl (λ u. refl) (get d.units n)
 
   made_regions : (d : State) (n i amount : ℕ) → (with_made d n i amount).regions ≡ d.regions
-  made_regions d n i amount = by_unit (get d.units n)
-    where
-      by_unit : (o : Option Unit) → (made_to d n i amount o).regions ≡ d.regions
-      by_unit None = refl
-      by_unit (Some u) = refl
+  made_regions d n i amount = either_way (λ o. (made_to d n i amount o).regions) d.regions refl (λ u. refl) (get d.units n)
 
   produced_regions : (d : State) (e : ℕ × ℕ) → (produced asked w d e).regions ≡ d.regions
   unfolding produced

@@ -1,7 +1,6 @@
 -- Recruiting leaves a campaign well.
 use Rattle.std.proofs.Common.{◌≡◌, ◌≢◌, ◌==◌, ℕ, ◌+◌, ◌-◌, ◌*◌, ◌/◌, ◌≤◌, Bool, true, false, cond, Option, Some, None, List, [], ◌∷◌, length, refl, sym, ap, subst, ◌∙◌, arith}
 use Rattle.std.specs.Prelude.{ℤ, fold, pos, neg_ℤ, ◌+ℤ◌, min}
-use Rattle.std.specs.List.{AllByRecursion}
 use Rattle.std.specs.Ordering.{eq_by_cmp, nat_cmp}
 use Rattle.std.specs.Cmp.{nat_cmp_total}
 use Rattle.std.specs.FinMap.{FinMap, entries, get, get-insert, insert, nat_cmp-IsAntisymmetric, same_map}
@@ -27,7 +26,7 @@ use Rattle.atl_state.specs.Marking.{mark_amount, mark_region, mark_unit_row}
 use Rattle.atl_state.specs.State.{Marked, State, region_changed, with_amount, with_money, with_peasants}
 use Rattle.atl_state.specs.State as state
 use Rattle.atl_state.specs.Totals.{held, kept, total}
-use Rattle.atl_state.proofs.BackLaws.{Rise, entries_rise}
+use Rattle.atl_state.proofs.BackLaws.{entries_rise}
 use Rattle.atl_state.proofs.BookLaws.{booked-with_booked, share_of}
 use Rattle.atl_state.proofs.CoverLaws.{marks-amount, marks-region, marks-trans}
 use Rattle.atl_state.proofs.EveryLaws.{each-from_every, get-insert_other}
@@ -41,7 +40,7 @@ use Rattle.atl_instant.proofs.MeaningLaws.{room_less, well_within}
 use Rattle.atl_market.specs.PotPhase.{CanInTurn, given_by, shared_out}
 use Rattle.atl_market.specs.Recruit.{recruit_moves, recruit_pots, recruited, recruited_by, recruited_from, recruits_at, recruits_in, with_men, with_recruits}
 use Rattle.atl_market.specs.Unordered.{OthersAreNoWorse}
-use Rattle.atl_market.proofs.DrawLaws.{AreUntouched, Drains, DrawnPots, HaveEnough, all_pairs, drawn, one_drains, one_draws, others_draw, pot_is_enough, region_pots, still, untouched, who_stand}
+use Rattle.atl_market.proofs.DrawLaws.{AreReady, Drains, DrawnPots, HaveEnough, all_pairs, drawn, one_drains, one_draws, pot_is_enough, ready_behind, region_pots, untouched, who_stand}
 use Rattle.atl_state.proofs.HavingLaws.{MayHave, early-having, may_have}
 use Rattle.atl_market.proofs.OrderedLaws.{others_no_worse}
 use Rattle.atl_market.proofs.TurnLaws.{few_holdings, first_room, later_room, turns_leave_well}
@@ -181,17 +180,17 @@ module _ (w : Planet) (c : State) (e : ℕ × ℕ) where
   unfolding recruited
   recruited_is u q is around = ap (recruited_by w c e) is ∙ ap (recruited_from w c e u) around
 
-  made_is : (can : CanRecruit w c e) → recruited w c e ≡ recruited_to c e.0 can.unit can.region e.1 price
-  made_is can = recruited_is can.unit can.region can.there can.around ∙ recruits_are w c e.0 can.unit can.region e.1 price can.there can.around
+  made_is : (can : CanRecruit w c e) → recruited w c e ≡ recruited_to c e.0 can.at.unit can.at.region e.1 price
+  made_is can = recruited_is can.at.unit can.at.region can.at.there can.at.around ∙ recruits_are w c e.0 can.at.unit can.at.region e.1 price can.at.there can.at.around
 
   pub recruited_well : CanRecruit w c e → LeavesWell IsEarly (recruit_moves holding_limit) w c (recruited w c e)
   recruited_well can =
       subst (λ d. LeavesWell IsEarly (recruit_moves holding_limit) w c d) (sym (made_is can))
-      (recruits_leave_well w c e.0 can.unit can.region e.1 price can.there can.around can.fits can.payable can.enough can.early)
+      (recruits_leave_well w c e.0 can.at.unit can.at.region e.1 price can.at.there can.at.around can.fits can.payable can.enough can.early)
 
-  recruited_drains : (can : CanRecruit w c e) (units : FinMap nat_cmp Unit) → get units e.0 ≡ Some can.unit → Drains (region_pots units peasants_of) c e (recruited w c e)
+  recruited_drains : (can : CanRecruit w c e) (units : FinMap nat_cmp Unit) → get units e.0 ≡ Some can.at.unit → Drains (region_pots units peasants_of) c e (recruited w c e)
   recruited_drains can units there =
-      one_drains units peasants_of c e can.unit can.region there can.around (recruited w c e) (leave can.region e.1) (ap (λ (d : State). d.regions) (made_is can)) (less can.region.peasants can.enough)
+      one_drains units peasants_of c e can.at.unit can.at.region there can.at.around (recruited w c e) (leave can.at.region e.1) (ap (λ (d : State). d.regions) (made_is can)) (less can.at.region.peasants can.enough)
     where
       less : (all : ℕ) → e.1 ≤ all → all - e.1 + e.1 ≡ all
       less all enough = omega (arith, enough)
@@ -225,37 +224,30 @@ module _ (w : Planet) (c : State) where
   abbrev CanHave : ℕ × ℕ → Type 0
   CanHave e = (u : Unit) × (get c.units e.0 ≡ Some u) × (u.holding.men + e.1 ≤ men_limit) × (e.1 * w.rules.recruit_price ≤ u.holding.money)
 
-  -- c as the phase began, d as it is, with the recruits still to come
-  record AreReady (d : State) (es : List (ℕ × ℕ)) : Type 0 where
-    early : IsEarly w d
-    rise : Rise es
-    same : AreUntouched c d es
-    fits : AllByRecursion CanHave es
-    enough : HaveEnough pots d es
-    room : HaveRoom (moved_times (length es) step_moves) d
+  abbrev AreToJoin : State → List (ℕ × ℕ) → Type 0
+  AreToJoin = AreReady peasants_of CanHave w c
 
-  first_can : (d : State) (e : ℕ × ℕ) (es : List (ℕ × ℕ)) → AreReady d (e ∷ es) → CanRecruit w d e
-  first_can d e es ready =
+  -- there is room in the books for their price
+  abbrev CanBook : State → List (ℕ × ℕ) → Type 0
+  CanBook d es = HaveRoom (moved_times (length es) step_moves) d
+
+  first_can : (d : State) (e : ℕ × ℕ) (es : List (ℕ × ℕ)) → AreToJoin d (e ∷ es) → CanBook d (e ∷ es) → CanRecruit w d e
+  first_can d e es ready room =
       let (u, there, fits, payable) = ready.fits.0 in
       let now : get d.units e.0 ≡ Some u = ready.same.0 ∙ there in
       let (q, around) = (ready.early.steady.known.units e.0 u now).region in
       let draws = one_draws c.units peasants_of d e u q there around es ready.enough in
-      record { unit = u; there = now; region = q; around = around; fits = fits; payable = payable; enough = draws; early = ready.early; room = first_room step_moves d e es ready.room }
+      record { at = record { unit = u; there = now; region = q; around = around }; fits = fits; payable = payable; enough = draws; early = ready.early; room = first_room step_moves d e es room }
 
-  all_can : (d : State) (es : List (ℕ × ℕ)) → AreReady d es → CanInTurn (CanRecruit w) (recruited w) d es
-  all_can d [] ready = tt
-  all_can d (e ∷ es) ready =
-      let can = first_can d e es ready in
-      let well = recruited_well w d e can in (
+  all_can : (d : State) (es : List (ℕ × ℕ)) → AreToJoin d es → CanBook d es → CanInTurn (CanRecruit w) (recruited w) d es
+  all_can d [] ready room = tt
+  all_can d (e ∷ es) ready room =
+      let can = first_can d e es ready room in
+      let well = recruited_well w d e can in
+      let joined = recruited w d e in (
         can,
-        all_can (recruited w d e) es (record {
-          early = well.leaves_it;
-          rise = ready.rise.1;
-          same = still c d (recruited w d e) e.0 es (recruited_others w d e) ready.rise.0 ready.same.1;
-          fits = ready.fits.1;
-          enough = others_draw pots d e es ready.enough (recruited w d e) (recruited_drains w d e can c.units (sym ready.same.0 ∙ can.there));
-          room = later_room step_moves w d (recruited w d e) e es well ready.room;
-        }),
+        all_can joined es (ready_behind peasants_of w c d e es joined ready well.leaves_it (recruited_others w d e) (recruited_drains w d e can c.units (sym ready.same.0 ∙ can.at.there)))
+            (later_room step_moves w d joined e es well room),
       )
 
   module _ (early : IsEarly w c) (asked : FinMap nat_cmp ℕ) (os : List Written) (room : HaveRoom (recruit_moves most_moved) c) where
@@ -296,8 +288,7 @@ module _ (w : Planet) (c : State) where
       same = untouched c shares;
       fits = all_pairs CanHave shares (each-from_every (λ n share. CanHave (n, share)) (given_by (recruit_pots asked) w c os) each_fits);
       enough = all_enough;
-      room = room_less (moved_times (length shares) step_moves) (recruit_moves most_moved) c little room;
-    })
+    }) (room_less (moved_times (length shares) step_moves) (recruit_moves most_moved) c little room)
 
     pub all_recruits_leave_well : LeavesWell IsEarly (recruit_moves most_moved) w c (shared_out (recruit_pots asked) w c os)
     unfolding shared_out

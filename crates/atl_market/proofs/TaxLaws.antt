@@ -1,7 +1,6 @@
 -- Tax leaves a campaign well.
 use Rattle.std.proofs.Common.{◌≡◌, ◌≢◌, ℕ, ◌+◌, ◌-◌, ◌≤◌, Option, Some, None, List, [], ◌∷◌, length, refl, sym, ap, subst, ◌∙◌, arith}
 use Rattle.std.specs.Prelude.{fold, pos, min}
-use Rattle.std.specs.List.{AllByRecursion}
 use Rattle.std.specs.Option.{option_map_or}
 use Rattle.std.specs.Ordering.{nat_cmp}
 use Rattle.std.specs.FinMap.{FinMap, entries, get}
@@ -18,20 +17,21 @@ use Rattle.atl_state.specs.Limits.{holding_limit}
 use Rattle.atl_state.specs.Marking.{mark_region, mark_unit_row}
 use Rattle.atl_state.specs.State.{Marked, State, region_changed, with_money, with_region_money}
 use Rattle.atl_state.specs.Totals.{held, kept, total}
-use Rattle.atl_state.proofs.BackLaws.{Rise, entries_rise}
+use Rattle.atl_state.proofs.BackLaws.{entries_rise}
 use Rattle.atl_state.proofs.CoverLaws.{marks-region, marks-trans}
 use Rattle.atl_state.proofs.EveryLaws.{each-from_every}
 use Rattle.atl_state.proofs.HoldingLaws.{marks-unit_row, may_hold_money, of_one_faction_kept, steady-held, total-held}
 use Rattle.atl_state.proofs.RegionLaws.{IsRegion-money, steady-region, total-region}
 use Rattle.atl_instant.specs.Meaning.{LeavesWell, moved_times}
 use Rattle.atl_instant.specs.Staying.{AreNoWorse}
+use Rattle.atl_instant.specs.Unbooked.{moves_nothing}
 use Rattle.atl_instant.specs.declared.written.Written.{Written}
 use Rattle.atl_instant.proofs.MarkLaws.{marks_by}
 use Rattle.atl_instant.proofs.MeaningLaws.{near_same, well_within}
 use Rattle.atl_instant.proofs.StayingLaws.{are_no_worse, are_no_worse_twice}
 use Rattle.atl_market.specs.PotPhase.{CanInTurn, given_by, shared_out}
-use Rattle.atl_market.specs.Tax.{money_at, tax_moves, tax_pots, taxed, taxed_by, taxed_from, with_tax}
-use Rattle.atl_market.proofs.DrawLaws.{AreUntouched, Drains, DrawnPots, HaveEnough, all_pairs, drawn, one_drains, one_draws, others_draw, pot_is_enough, region_pots, still, untouched, who_stand}
+use Rattle.atl_market.specs.Tax.{money_at, tax_pots, taxed, taxed_by, taxed_from, with_tax}
+use Rattle.atl_market.proofs.DrawLaws.{AreReady, Drains, DrawnPots, HaveEnough, all_pairs, drawn, one_drains, one_draws, pot_is_enough, ready_behind, region_pots, untouched, who_stand}
 use Rattle.atl_market.proofs.PurseLaws.{others_stay, paid, richer, richer_is, richer_no_worse}
 use Rattle.atl_market.proofs.TurnLaws.{turns_leave_well}
 use Rattle.atl_market.proofs.PotLaws.{pots_give}
@@ -66,7 +66,7 @@ module _ (w : Planet) (c : State) (n : ℕ) (u : Unit) (q : Region) (share : ℕ
         same : (x y z k : ℕ) → x + 0 ≡ y + 0 → y + k ≡ z + k → x ≡ z
         same x y z k a b = omega (arith, a, b)
 
-    pub tax_leaves_well : u.holding.money + share ≤ holding_limit → IsEarly w c → LeavesWell IsEarly tax_moves w c after
+    pub tax_leaves_well : u.holding.money + share ≤ holding_limit → IsEarly w c → LeavesWell IsEarly moves_nothing w c after
     tax_leaves_well fits early =
         let steady = early.steady in
         let within = steady.numbers.regions u.region q around in
@@ -96,18 +96,18 @@ module _ (w : Planet) (c : State) (e : ℕ × ℕ) where
   unfolding taxed
   taxed_is u q is around = ap (taxed_by c e) is ∙ ap (taxed_from c e u) around ∙ tax_is w c e.0 u q e.1 is around
 
-  pub taxed_well : CanTax w c e → LeavesWell IsEarly tax_moves w c (taxed c e)
+  pub taxed_well : CanTax w c e → LeavesWell IsEarly moves_nothing w c (taxed c e)
   taxed_well can =
-      subst (λ d. LeavesWell IsEarly tax_moves w c d) (sym (taxed_is can.unit can.region can.there can.around))
-      (tax_leaves_well w c e.0 can.unit can.region e.1 can.there can.around can.enough can.fits can.early)
+      subst (λ d. LeavesWell IsEarly moves_nothing w c d) (sym (taxed_is can.at.unit can.at.region can.at.there can.at.around))
+      (tax_leaves_well w c e.0 can.at.unit can.at.region e.1 can.at.there can.at.around can.enough can.fits can.early)
 
   taxed_others : CanTax w c e → (k : ℕ) → k ≢ e.0 → get (taxed c e).units k ≡ get c.units k
-  taxed_others can k apart = ap (λ (d : State). get d.units k) (taxed_is can.unit can.region can.there can.around) ∙ others_stay c e.0 can.unit e.1 can.there k apart
+  taxed_others can k apart = ap (λ (d : State). get d.units k) (taxed_is can.at.unit can.at.region can.at.there can.at.around) ∙ others_stay c e.0 can.at.unit e.1 can.at.there k apart
 
-  taxed_drains : (can : CanTax w c e) (units : FinMap nat_cmp Unit) → get units e.0 ≡ Some can.unit → Drains (region_pots units money_of) c e (taxed c e)
+  taxed_drains : (can : CanTax w c e) (units : FinMap nat_cmp Unit) → get units e.0 ≡ Some can.at.unit → Drains (region_pots units money_of) c e (taxed c e)
   taxed_drains can units there =
-      one_drains units money_of c e can.unit can.region there can.around (taxed c e) (drain can.region e.1)
-      (ap (λ (d : State). d.regions) (taxed_is can.unit can.region can.there can.around)) (less can.region.money can.enough)
+      one_drains units money_of c e can.at.unit can.at.region there can.at.around (taxed c e) (drain can.at.region e.1)
+      (ap (λ (d : State). d.regions) (taxed_is can.at.unit can.at.region can.at.there can.at.around)) (less can.at.region.money can.enough)
     where
       less : (all : ℕ) → e.1 ≤ all → all - e.1 + e.1 ≡ all
       less all enough = omega (arith, enough)
@@ -143,35 +143,24 @@ module _ (w : Planet) (c : State) where
   abbrev HasRoomFor : ℕ × ℕ → Type 0
   HasRoomFor e = (u : Unit) × (get c.units e.0 ≡ Some u) × (u.holding.money + e.1 ≤ holding_limit)
 
-  -- c as the phase began, d as it is, with what is still to be taken
-  record AreReady (d : State) (es : List (ℕ × ℕ)) : Type 0 where
-    early : IsEarly w d
-    rise : Rise es
-    same : AreUntouched c d es
-    fits : AllByRecursion HasRoomFor es
-    enough : HaveEnough pots d es
+  abbrev AreTaken : State → List (ℕ × ℕ) → Type 0
+  AreTaken = AreReady money_of HasRoomFor w c
 
-  first_can : (d : State) (e : ℕ × ℕ) (es : List (ℕ × ℕ)) → AreReady d (e ∷ es) → CanTax w d e
+  first_can : (d : State) (e : ℕ × ℕ) (es : List (ℕ × ℕ)) → AreTaken d (e ∷ es) → CanTax w d e
   first_can d e es ready =
       let (u, there, fits) = ready.fits.0 in
       let now : get d.units e.0 ≡ Some u = ready.same.0 ∙ there in
       let (q, around) = (ready.early.steady.known.units e.0 u now).region in
       let draws = one_draws c.units money_of d e u q there around es ready.enough in
-      record { unit = u; there = now; region = q; around = around; fits = fits; enough = draws; early = ready.early }
+      record { at = record { unit = u; there = now; region = q; around = around }; fits = fits; enough = draws; early = ready.early }
 
-  all_can : (d : State) (es : List (ℕ × ℕ)) → AreReady d es → CanInTurn (CanTax w) taxed d es
+  all_can : (d : State) (es : List (ℕ × ℕ)) → AreTaken d es → CanInTurn (CanTax w) taxed d es
   all_can d [] ready = tt
   all_can d (e ∷ es) ready =
-      let (u, there, fits) = ready.fits.0 in
-      let can = first_can d e es ready in (
+      let can = first_can d e es ready in
+      let early = (taxed_well w d e can).leaves_it in (
         can,
-        all_can (taxed d e) es (record {
-          early = (taxed_well w d e can).leaves_it;
-          rise = ready.rise.1;
-          same = still c d (taxed d e) e.0 es (taxed_others w d e can) ready.rise.0 ready.same.1;
-          fits = ready.fits.1;
-          enough = others_draw pots d e es ready.enough (taxed d e) (taxed_drains w d e can c.units (sym ready.same.0 ∙ can.there));
-        }),
+        all_can (taxed d e) es (ready_behind money_of w c d e es (taxed d e) ready early (taxed_others w d e can) (taxed_drains w d e can c.units (sym ready.same.0 ∙ can.at.there))),
       )
 
   module _ (early : IsEarly w c) (os : List Written) where
@@ -198,8 +187,8 @@ module _ (w : Planet) (c : State) where
       enough = all_enough;
     })
 
-    pub all_taxes_leave_well : LeavesWell IsEarly tax_moves w c (shared_out tax_pots w c os)
+    pub all_taxes_leave_well : LeavesWell IsEarly moves_nothing w c (shared_out tax_pots w c os)
     unfolding shared_out
     all_taxes_leave_well =
-        well_within (moved_times (length shares) tax_moves) tax_moves w c (fold taxed c shares) (λ e t. omega arith)
-        (turns_leave_well tax_moves w (CanTax w) taxed (taxed_well w) c shares early can_share_out)
+        well_within (moved_times (length shares) moves_nothing) moves_nothing w c (fold taxed c shares) (λ e t. omega arith)
+        (turns_leave_well moves_nothing w (CanTax w) taxed (taxed_well w) c shares early can_share_out)

@@ -16,14 +16,16 @@ use Rattle.atl_state.specs.Held.{amount_of, with_amount_of}
 use Rattle.atl_state.specs.Owners.{with_place}
 use Rattle.atl_state.specs.State.{State}
 use Rattle.atl_instant.specs.Course.{Course}
-use Rattle.atl_instant.proofs.UnmailedLaws.{HaveTheirMen, LeavesUnmailed, OthersHaveMen, SparesMen, carried_leaves, items_of_no_worse, men_put, men_same, men_stay, men_twice, men_unless, others_men, own_faction, unmailed_spared}
+use Rattle.atl_instant.specs.PhaseOrders.{orders_by_unit}
+use Rattle.atl_instant.proofs.TermsLaws.{Leaves}
+use Rattle.atl_instant.proofs.UnmailedLaws.{HaveTheirMen, OthersHaveMen, SparesMen, carried_leaves, items_of_no_worse, men_put, men_same, men_stay, men_twice, men_unless, others_men, own_faction, unmailed_spared}
 use Rattle.atl_instant.proofs.UnmailedStepLaws.{place_men}
-use Rattle.atl_market.specs.Build.{begin, begin_fault, build_keeps, build_meaning, build_said, build_step, go_on, go_on_at, gone_on, inside_fault, is_building, outside_fault, size_added, started, with_kind, with_new}
+use Rattle.atl_market.specs.Build.{begin, begin_fault, build_said, build_step, build_terms, go_on, go_on_at, gone_on, inside_fault, is_building, outside_fault, size_added, started, with_kind, with_new}
 use Rattle.atl_market.specs.Goods.{made_to, used_by, with_made, with_used}
-use Rattle.atl_market.specs.Asking.{asked_of, item_in}
+use Rattle.atl_market.specs.Asking.{asked_of, asked_pots, item_in}
 use Rattle.atl_market.specs.PotPhase.{PotMeaning}
 use Rattle.atl_market.specs.Produce as produce
-use Rattle.atl_market.proofs.UnmailedPotLaws.{others_items, paid_men, shared_leave}
+use Rattle.atl_market.proofs.UnmailedPotLaws.{others_items, paid_men, shared_leave, written_of}
 
 -- ---- what a unit uses
 
@@ -78,7 +80,7 @@ built_men w c f n x other = tt
 build_spares : SparesMen build_step
 build_spares w a c t x own = built_men w c t.faction t.unit x t.said
 
-pub build_leaves : LeavesUnmailed build_meaning build_keeps
+pub build_leaves : Leaves build_terms
 build_leaves = carried_leaves build_step is_building build_spares (unmailed_spared is_building own_faction items_of_no_worse)
 
 -- ---- PRODUCE
@@ -109,10 +111,10 @@ produced_men asked w c e = by_item (get asked e.0)
     by_item (Some i) = by_kind i (slice_get w.items i)
 
 abbrev as_asked : State → Course → PotMeaning
-as_asked c m = produce.produce_pots (asked_of item_in c (produce.produce_tasks m))
+as_asked = asked_pots produce.produce_pots item_in produce.is_produce
 
-pub produce_leaves : LeavesUnmailed produce.produce_meaning produce.produce_keeps
+pub produce_leaves : Leaves produce.produce_terms
 produce_leaves =
-    shared_leave as_asked (λ c m. produce.produce_orders m)
-    (paid_men as_asked (λ c m. produce.produce_orders m) (λ w c m. produced_men (asked_of item_in c (produce.produce_tasks m)) w))
+    shared_leave as_asked (written_of produce.is_produce)
+    (paid_men as_asked (written_of produce.is_produce) (λ w c m. produced_men (asked_of item_in c (orders_by_unit produce.is_produce m)) w))
     (λ w c d m. others_items produce.is_produce m c d)

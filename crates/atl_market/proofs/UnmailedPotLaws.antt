@@ -15,23 +15,27 @@ use Rattle.atl_state.specs.State.{State}
 use Rattle.atl_state.proofs.ListLaws.{other_number}
 use Rattle.atl_instant.specs.Course.{Course}
 use Rattle.atl_instant.specs.Meaning.{Keeping, Meaning}
-use Rattle.atl_instant.specs.PhaseOrders.{Task, orders_of, written}
+use Rattle.atl_instant.specs.PhaseOrders.{Task, orders_by_unit, written, written_by_unit}
 use Rattle.atl_instant.specs.Staying.{AreNoWorse}
 use Rattle.atl_instant.specs.Unmailed.{starved_in, starved_told}
 use Rattle.atl_instant.specs.declared.written.Arrangement.TheVariants.{ByUnit}
 use Rattle.atl_instant.specs.declared.written.Written.{Written}
+use Rattle.atl_instant.proofs.TermsLaws.{Leaves}
 use Rattle.atl_instant.proofs.UnmailedLaws.{HasItsItems, HasItsMen, HaveTheirMen, LeavesUnmailed, UnmailedAre, items_of_no_worse, men_changed, men_in_turn, men_stay, none_ordered, whole_leaves}
 use Rattle.atl_market.specs.PotPhase.{PotMeaning, event_of, events_by, given_by, pots_meaning, shared_out}
-use Rattle.atl_market.specs.Asking.{asked_of, count_in}
-use Rattle.atl_market.specs.Recruit.{is_recruit, recruit_keeps, recruit_meaning, recruit_orders, recruit_pots, recruit_tasks, recruits_at}
-use Rattle.atl_market.specs.Tax.{tax_keeps, tax_meaning, tax_orders, tax_pots, taxed, taxed_by, taxed_from}
+use Rattle.atl_market.specs.Asking.{asked_pots, count_in}
+use Rattle.atl_market.specs.Recruit.{is_recruit, recruit_pots, recruit_terms, recruits_at}
+use Rattle.atl_market.specs.Tax.{is_tax, tax_pots, tax_terms, taxed, taxed_by, taxed_from}
 use Rattle.atl_market.specs.Unordered.{OthersAreNoWorse, is_ordered}
-use Rattle.atl_market.specs.Work.{earned, work_keeps, work_meaning, work_orders, work_pots, worked, worked_by}
+use Rattle.atl_market.specs.Work.{earned, work_orders, work_pots, work_terms, worked, worked_by}
 use Rattle.atl_market.proofs.OrderedLaws.{unordered_stays}
 use Rattle.atl_market.proofs.PotLaws.{pots_give}
 use Rattle.atl_market.proofs.RecruitLaws.{recruited_others}
 
 -- ---- all phases with pots
+
+abbrev pub written_of : (Verb → Bool) → State → Course → List Written
+written_of is_of c = written_by_unit is_of
 
 module _ (p : PotMeaning) (w : Planet) (c : State) where
   none_starve : (given : FinMap nat_cmp ℕ) (os : List Written) (n : ℕ) → starved_in (map (event_of p w c given) os) n ≡ 0
@@ -86,8 +90,8 @@ tax_men w c e = by_unit (get c.units e.0)
     by_unit None = men_stay c
     by_unit (Some u) = by_region u (get c.regions u.region)
 
-pub tax_leaves : LeavesUnmailed tax_meaning tax_keeps
-tax_leaves = shared_leave (λ c m. tax_pots) tax_orders (paid_men (λ c m. tax_pots) tax_orders (λ w c m. tax_men w)) none_worse
+pub tax_leaves : Leaves tax_terms
+tax_leaves = shared_leave (λ c m. tax_pots) (written_of is_tax) (paid_men (λ c m. tax_pots) (written_of is_tax) (λ w c m. tax_men w)) none_worse
 
 -- ---- WORK
 
@@ -99,7 +103,7 @@ work_men w c e = by_unit (get c.units e.0)
     by_unit None = men_stay c
     by_unit (Some u) = men_changed (λ v. record v { holding = record v.holding { money = u.holding.money + earned w u.region e.1 } }) (λ v. record { faction = refl; men = refl }) c (worked_by w c e (Some u)) e.0 refl
 
-pub work_leaves : LeavesUnmailed work_meaning work_keeps
+pub work_leaves : Leaves work_terms
 work_leaves = shared_leave (λ c m. work_pots) work_orders (paid_men (λ c m. work_pots) work_orders (λ w c m. work_men w)) none_worse
 
 -- ---- RECRUIT
@@ -113,26 +117,26 @@ none_listed n f (t ∷ ts) h = neither (t.unit == n) (t.faction == f) _ (other_n
     neither false b d e g = g
 
 module _ (is_of : Verb → Bool) (m : Course) where
-  abbrev os : List Written
-  os = map written (values (orders_of is_of ByUnit m.aliases m.readings))
-
   -- a unit of a faction that sent no mailing has no order
-  pub unordered : (n : ℕ) (u : Unit) → get m.readings u.faction ≡ None → is_ordered os n u ≡ false
+  pub unordered : (n : ℕ) (u : Unit) → get m.readings u.faction ≡ None → is_ordered (written_by_unit is_of m) n u ≡ false
   unordered n u none =
-      let ts = values (orders_of is_of ByUnit m.aliases m.readings) in
+      let ts = orders_by_unit is_of m in
       none_listed n u.faction ts (recursion_from_All (λ t. t.faction ≢ u.faction) ts (none_ordered is_of ByUnit m u.faction none))
 
   -- a phase that takes nothing from units without an order takes nothing from it
-  pub others_items : (c d : State) → OthersAreNoWorse os c d → UnmailedAre HasItsItems m c d
+  pub others_items : (c d : State) → OthersAreNoWorse (written_by_unit is_of m) c d → UnmailedAre HasItsItems m c d
   others_items c d h n u there none = let (v, behind, better) = h n u there (unordered n u none) in record { unit = v; there = behind; spared = items_of_no_worse u v better }
 
-pub recruit_leaves : LeavesUnmailed recruit_meaning recruit_keeps
+abbrev recruit_asked : State → Course → PotMeaning
+recruit_asked = asked_pots recruit_pots count_in is_recruit
+
+pub recruit_leaves : Leaves recruit_terms
 recruit_leaves =
-    shared_leave (λ c m. recruit_pots (asked_of count_in c (recruit_tasks m))) (λ c m. recruit_orders m)
+    shared_leave recruit_asked (written_of is_recruit)
     (λ w c m n u there none.
     record {
       unit = u;
-      there = unordered_stays (recruit_pots (asked_of count_in c (recruit_tasks m))) w (recruited_others w) c (pots_give (recruits_at w c) c) (recruit_orders m) n u there (unordered is_recruit m n u none) ∙ there;
+      there = unordered_stays (recruit_asked c m) w (recruited_others w) c (pots_give (recruits_at w c) c) (written_of is_recruit c m) n u there (unordered is_recruit m n u none) ∙ there;
       spared = record { faction = refl; men = refl };
     })
     (λ w c d m. others_items is_recruit m c d)

@@ -28,7 +28,7 @@ use Rattle.atl_state.proofs.OrderLaws.{each_so}
 use Rattle.atl_orders.specs.declared.verb.Verb.TheVariants as verbs
 use Rattle.atl_orders.specs.Orders.{verb_of_order}
 use Rattle.atl_instant.specs.Course.{Course}
-use Rattle.atl_instant.specs.PhaseOrders.{Task, is_month_long, key_of, orders_of, written}
+use Rattle.atl_instant.specs.PhaseOrders.{Task, is_month_long, key_of, orders_by_unit, orders_of, written}
 use Rattle.atl_instant.specs.declared.written.Arrangement.TheVariants.{ByUnit}
 use Rattle.atl_instant.specs.declared.written.Written.{Written}
 use Rattle.atl_instant.proofs.ListedLaws.{entries-sorted, keyed_order}
@@ -37,7 +37,7 @@ use Rattle.atl_instant.specs.Steps.{is_of_faction}
 use Rattle.atl_market.specs.Puts.{with_each}
 use Rattle.atl_market.specs.Idle.{all_idle, all_written, idle_written, own_unit, own_writers, work_key}
 use Rattle.atl_market.specs.Unordered.{is_ordered}
-use Rattle.atl_market.specs.Work.{all_work, idle_at, idle_task, idle_work, is_work, long_tasks, work_orders}
+use Rattle.atl_market.specs.Work.{all_work, idle_at, idle_task, idle_work, is_work, work_orders}
 use Rattle.atl_market.proofs.PotLaws.{some_new, still_some}
 use Rattle.atl_market.proofs.WantLaws.{appended_entries}
 
@@ -95,7 +95,7 @@ keys_tie a b h = slice_cmp-IsAntisymmetric nat_cmp-IsAntisymmetric (work_key a) 
 apart_by : (a b : Written) → (a.unit ≡ b.unit → a.faction ≡ b.faction → ⊥) → same_work a b ≡ false
 apart_by a b differ = false_from_ne_true (same_work a b) (λ h. let e = keys_tie a b h in differ (ap (λ k. get_or k 0 0) e) (ap (λ k. get_or k 2 0) e))
 
-long_apart : (m : Course) → IsDistinct same_work (map written (long_tasks m))
+long_apart : (m : Course) → IsDistinct same_work (map written (orders_by_unit is_month_long m))
 long_apart m =
     let ts = values (orders_of is_month_long ByUnit m.aliases m.readings) in
     IsDistinct-map written same_work ts (values_apart (slice_cmp nat_cmp) (slice_cmp-IsAntisymmetric nat_cmp-IsAntisymmetric) (key_of ByUnit) nat_list_cmp_total _)
@@ -272,11 +272,11 @@ by_keys ts =
     ap (λ es. values (from_entries {R = slice_cmp nat_cmp} es)) (keyed_written ts) ∙ ap (map (λ e. e.1)) (entries-with_value (slice_cmp nat_cmp) written nat_list_cmp_total (map keyed_task ts))
     ∙ values_written (entries (from_entries (map keyed_task ts)))
 
-pub work_sorted : (c : State) (m : Course) (list : List Written) → IsPermutation (all_written c (map written (long_tasks m))) list → IsSortedByKey work_key (slice_cmp nat_cmp) list → list ≡ work_orders c m
+pub work_sorted : (c : State) (m : Course) (list : List Written) → IsPermutation (all_written c (map written (orders_by_unit is_month_long m))) list → IsSortedByKey work_key (slice_cmp nat_cmp) list → list ≡ work_orders c m
 unfolding work_orders
 work_sorted c m list moved up =
-    let os = map written (long_tasks m) in
+    let os = map written (orders_by_unit is_month_long m) in
     let all = all_written c os in
     let apart = subst (IsDistinct (eq_by_cmp (slice_cmp nat_cmp))) (sym (keys-keyed all)) (IsDistinct-map work_key (eq_by_cmp (slice_cmp nat_cmp)) all (work_apart c os (long_apart m))) in
     let listed = entries-sorted nat_list_cmp_total (slice_cmp-IsAntisymmetric nat_cmp-IsAntisymmetric) (map keyed all) (map keyed list) (IsPermutation-map keyed all list moved) apart (keyed_order (slice_cmp nat_cmp) work_key list up) in
-    sym (unkeyed list) ∙ ap (map (λ e. e.1)) listed ∙ ap (λ ws. values (from_entries {R = slice_cmp nat_cmp} (map keyed ws))) (all_are c (long_tasks m)) ∙ by_keys (all_work c (long_tasks m))
+    sym (unkeyed list) ∙ ap (map (λ e. e.1)) listed ∙ ap (λ ws. values (from_entries {R = slice_cmp nat_cmp} (map keyed ws))) (all_are c (orders_by_unit is_month_long m)) ∙ by_keys (all_work c (orders_by_unit is_month_long m))

@@ -1,13 +1,17 @@
 -- What orders ask for: the item that one names, or the number.
-use Rattle.std.specs.Prelude.{ℕ, List, [], ◌∷◌, reverse, Option, Some, None, if◌then◌else◌}
+use Rattle.std.specs.Prelude.{ℕ, Bool, List, [], ◌∷◌, reverse, Option, Some, None, if◌then◌else◌}
 use Rattle.std.specs.List.{flat_map}
 use Rattle.std.specs.Ordering.{nat_cmp}
 use Rattle.std.specs.FinMap.{FinMap, from_entries}
 use Rattle.atl_orders.specs.declared.order.Order.TheVariants as orders
 use Rattle.atl_orders.specs.Orders.{Said}
+use Rattle.atl_orders.specs.declared.verb.Verb.{Verb}
 use Rattle.atl_state.specs.State.{State}
-use Rattle.atl_instant.specs.PhaseOrders.{Task}
+use Rattle.atl_instant.specs.Course.{Course}
+use Rattle.atl_instant.specs.Meaning.{Meaning}
+use Rattle.atl_instant.specs.PhaseOrders.{Task, orders_by_unit, written_by_unit}
 use Rattle.atl_instant.specs.Steps.{is_own}
+use Rattle.atl_market.specs.PotPhase.{PotMeaning, pots_meaning}
 
 -- the item that an order names, where it names one
 abbrev pub item_in : Said → Option ℕ
@@ -30,3 +34,10 @@ asked_by asks c t = if is_own c t then entry_of t.unit (asks t.said) else []
 -- By unit, what its own faction asks it for by these orders: by the last, if there were more than one.
 abbrev pub asked_of : (Said → Option ℕ) → State → List Task → FinMap nat_cmp ℕ
 asked_of asks c ts = from_entries (reverse (flat_map (asked_by asks c) ts))
+
+-- the pots of a phase, by what its orders ask each unit for
+abbrev pub asked_pots : (FinMap nat_cmp ℕ → PotMeaning) → (Said → Option ℕ) → (Verb → Bool) → State → Course → PotMeaning
+asked_pots pots asks is_of c m = pots (asked_of asks c (orders_by_unit is_of m))
+
+abbrev pub asked_meaning : (FinMap nat_cmp ℕ → PotMeaning) → (Said → Option ℕ) → (Verb → Bool) → Meaning
+asked_meaning pots asks is_of = pots_meaning (asked_pots pots asks is_of) (λ c m. written_by_unit is_of m)

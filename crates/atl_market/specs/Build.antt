@@ -28,11 +28,11 @@ use Rattle.atl_state.specs.Levels.{level_in}
 use Rattle.atl_state.specs.Limits.{most_structures}
 use Rattle.atl_state.specs.Owners.{with_place}
 use Rattle.atl_state.specs.State.{State, with_done, with_structure_begun}
-use Rattle.atl_instant.specs.Meaning.{Keeping, Meaning, Moving, most_moved}
+use Rattle.atl_instant.specs.Meaning.{Moving, most_moved}
 use Rattle.atl_instant.specs.Outcomes.{first_fault, unless}
 use Rattle.atl_instant.specs.Staying.{IsNoWorse}
-use Rattle.atl_instant.specs.Steps.{Deed, IsOwnOrder, Reserve, Step, carried_out, spares_others}
-use Rattle.atl_instant.specs.Terms.{PhaseTerms}
+use Rattle.atl_instant.specs.Steps.{Deed, IsOwnOrder, Reserve, Step}
+use Rattle.atl_instant.specs.Terms.{PhaseTerms, goes_by_orders}
 use Rattle.atl_market.specs.Goods.{with_used}
 
 abbrev pub is_building : Verb → Bool
@@ -127,15 +127,6 @@ build_said w n other = None
 abbrev pub build_step : Step
 build_step w aliases t = build_said w t.unit t.said
 
--- ---- the phase
-
-abbrev pub build_meaning : Meaning
-build_meaning = carried_out build_step is_building
-
--- a unit for which its own faction wrote no such order is no worse off
-abbrev pub build_keeps : Keeping
-build_keeps = spares_others IsOwnOrder IsNoWorse is_building
-
 -- ---- how far it moves the books
 
 -- what of a thing a unit may use: all that it holds of an item
@@ -151,15 +142,16 @@ abbrev pub build_moves : Moving
 build_moves e (Item i) = if entry_place e == entry_place Used then most_moved else 0
 build_moves e t = 0
 
+-- ---- the phase
+
 -- a steady campaign, in a world whose kinds are of its items and skills
 pub record CanBuild (w : Planet) (c : State) : Type 0 where
   pub steady : IsSteady w c
   pub kinds : (i : ℕ) (k : Kind) → slice_get w.kinds i ≡ Some k → IsKind (length w.items) (length w.skills) k
 
+-- a unit for which its own faction wrote no such order is no worse off; the items that are used are booked
 abbrev pub build_terms : PhaseTerms
-build_terms = record {
-  meaning = build_meaning;
+build_terms = record (goes_by_orders build_step is_building IsOwnOrder IsNoWorse) {
   moving = build_moves;
   moved = record { money = []; people = []; items = Used ∷ [] };
-  keeps = build_keeps;
 }

@@ -11,25 +11,26 @@ use Rattle.atl_instant.specs.Meaning.{HaveRoom}
 use Rattle.atl_market.specs.Recruit.{recruit_moves}
 use Rattle.atl_market.specs.Work.{earned, work_moves}
 
--- a unit, by its number, can take so much: it is there, and has room for it, and the region has it
-pub record CanTax (w : Planet) (c : State) (e : ℕ × ℕ) : Type 0 where
+-- a unit, by its number, is there, and so is its region
+pub record IsSomewhere (c : State) (n : ℕ) : Type 0 where
   pub unit : Unit
-  pub there : get c.units e.0 ≡ Some unit
+  pub there : get c.units n ≡ Some unit
   pub region : Region
   pub around : get c.regions unit.region ≡ Some region
-  pub fits : unit.holding.money + e.1 ≤ holding_limit
-  pub enough : e.1 ≤ region.money
+
+-- a unit, by its number, can take so much: it has room for it, and its region has it
+pub record CanTax (w : Planet) (c : State) (e : ℕ × ℕ) : Type 0 where
+  pub at : IsSomewhere c e.0
+  pub fits : at.unit.holding.money + e.1 ≤ holding_limit
+  pub enough : e.1 ≤ at.region.money
   pub early : IsEarly w c
 
--- a unit, by its number, can get so many recruits: it is there, and can pay for them and has room for them, and the region and the books have
+-- a unit, by its number, can get so many recruits: it can pay for them and has room for them, and its region and the books have
 pub record CanRecruit (w : Planet) (c : State) (e : ℕ × ℕ) : Type 0 where
-  pub unit : Unit
-  pub there : get c.units e.0 ≡ Some unit
-  pub region : Region
-  pub around : get c.regions unit.region ≡ Some region
-  pub fits : unit.holding.men + e.1 ≤ men_limit
-  pub payable : e.1 * w.rules.recruit_price ≤ unit.holding.money
-  pub enough : e.1 ≤ region.peasants
+  pub at : IsSomewhere c e.0
+  pub fits : at.unit.holding.men + e.1 ≤ men_limit
+  pub payable : e.1 * w.rules.recruit_price ≤ at.unit.holding.money
+  pub enough : e.1 ≤ at.region.peasants
   pub early : IsEarly w c
   pub room : HaveRoom (recruit_moves holding_limit) c
 

@@ -1,8 +1,8 @@
 -- PRODUCE: units make items, of raw items (specs/Craft) or of what the terrain of their region gives (specs/Outputs). See docs/RULES.md, "Producing".
-use Rattle.std.specs.Prelude.{◌*◌, ℕ, Bool, true, false, List, map, Option, Some, None, [], ◌∷◌}
+use Rattle.std.specs.Prelude.{◌*◌, ℕ, Bool, true, false, Option, Some, None, [], ◌∷◌}
 use Rattle.std.specs.List.{slice_get}
 use Rattle.std.specs.Ordering.{nat_cmp}
-use Rattle.std.specs.FinMap.{FinMap, get, values}
+use Rattle.std.specs.FinMap.{FinMap, get}
 use Rattle.atl_tables.specs.Planet.{Planet}
 use Rattle.atl_tables.specs.declared.world.Item.{Item}
 use Rattle.atl_orders.specs.declared.verb.Verb.{Verb}
@@ -10,14 +10,10 @@ use Rattle.atl_orders.specs.declared.verb.Verb.TheVariants as verbs
 use Rattle.atl_state.specs.declared.books.Entry.TheVariants.{Made, Used}
 use Rattle.atl_state.specs.declared.books.Thing.TheVariants as things
 use Rattle.atl_state.specs.State.{State}
-use Rattle.atl_instant.specs.Course.{Course}
 use Rattle.atl_instant.specs.Meaning.{Keeping, Meaning, Moving, most_moved}
-use Rattle.atl_instant.specs.PhaseOrders.{Task, orders_of, written}
-use Rattle.atl_instant.specs.declared.written.Arrangement.TheVariants.{ByUnit}
-use Rattle.atl_instant.specs.declared.written.Written.{Written}
-use Rattle.atl_market.specs.Asking.{asked_of, item_in}
-use Rattle.atl_market.specs.PotPhase.{PotMeaning, pots_meaning}
-use Rattle.atl_market.specs.Unordered.{OthersAreNoWorse}
+use Rattle.atl_market.specs.Asking.{asked_meaning, item_in}
+use Rattle.atl_market.specs.PotPhase.{PotMeaning}
+use Rattle.atl_market.specs.Unordered.{spares_unordered}
 use Rattle.atl_market.specs.Goods.{with_made, with_used}
 use Rattle.atl_market.specs.Craft.{can_make, item_of, make_fault}
 use Rattle.atl_market.specs.Outputs.{makes}
@@ -26,13 +22,6 @@ use Rattle.atl_instant.specs.Terms.{PhaseTerms}
 abbrev pub is_produce : Verb → Bool
 is_produce verbs.Produce = true
 is_produce verb = false
-
--- the orders of PRODUCE that stand
-abbrev pub produce_tasks : Course → List Task
-produce_tasks m = values (orders_of is_produce ByUnit m.aliases m.readings)
-
-abbrev pub produce_orders : Course → List Written
-produce_orders m = map written (produce_tasks m)
 
 -- ---- what changes
 
@@ -64,7 +53,7 @@ produce_pots asked = record {
 }
 
 abbrev pub produce_meaning : Meaning
-produce_meaning = pots_meaning (λ c m. produce_pots (asked_of item_in c (produce_tasks m))) (λ c m. produce_orders m)
+produce_meaning = asked_meaning produce_pots item_in is_produce
 
 -- what is made and what is used is of items
 abbrev pub produce_moves : ℕ → Moving
@@ -74,7 +63,7 @@ produce_moves most e t = 0
 
 -- producing takes nothing from a unit whose own faction wrote no order of it
 abbrev pub produce_keeps : Keeping
-produce_keeps w m before after = OthersAreNoWorse (produce_orders m) before after
+produce_keeps = spares_unordered is_produce
 
 abbrev pub produce_terms : PhaseTerms
 produce_terms = record {

@@ -1,7 +1,7 @@
 -- RECRUIT: peasants of a region join its units, at a price. See docs/RULES.md, "Recruiting".
-use Rattle.std.specs.Prelude.{◌+◌, ◌-◌, ◌*◌, ◌/◌, ℕ, Bool, true, false, List, map, min, pos, neg_ℤ, nat_lt, Option, Some, None, [], ◌∷◌}
+use Rattle.std.specs.Prelude.{◌+◌, ◌-◌, ◌*◌, ◌/◌, ℕ, Bool, true, false, min, pos, neg_ℤ, nat_lt, Option, Some, None, [], ◌∷◌}
 use Rattle.std.specs.Ordering.{nat_cmp}
-use Rattle.std.specs.FinMap.{FinMap, get, values}
+use Rattle.std.specs.FinMap.{FinMap, get}
 use Rattle.atl_tables.specs.Planet.{Planet}
 use Rattle.atl_orders.specs.declared.verb.Verb.{Verb}
 use Rattle.atl_orders.specs.declared.verb.Verb.TheVariants as verbs
@@ -15,28 +15,17 @@ use Rattle.atl_state.specs.Held.{Held, amount_of}
 use Rattle.atl_state.specs.Lending.{with_holding}
 use Rattle.atl_state.specs.Limits.{men_limit}
 use Rattle.atl_state.specs.State.{State, with_amount, with_peasants}
-use Rattle.atl_instant.specs.Course.{Course}
-use Rattle.atl_instant.specs.Meaning.{Keeping, Meaning, Moving, moves_only, most_moved}
-use Rattle.atl_instant.specs.PhaseOrders.{Task, orders_of, written}
-use Rattle.atl_instant.specs.declared.written.Arrangement.TheVariants.{ByUnit}
-use Rattle.atl_instant.specs.declared.written.Written.{Written}
+use Rattle.atl_instant.specs.Meaning.{Keeping, Meaning, Moving, moves_only}
 use Rattle.atl_instant.specs.Outcomes.{first_fault}
 use Rattle.atl_market.specs.Pots.{pot_shares}
-use Rattle.atl_market.specs.Asking.{asked_of, count_in}
-use Rattle.atl_market.specs.PotPhase.{PotMeaning, pots_meaning}
-use Rattle.atl_market.specs.Unordered.{OthersAreNoWorse}
-use Rattle.atl_instant.specs.Terms.{PhaseTerms}
+use Rattle.atl_market.specs.Asking.{asked_meaning, count_in}
+use Rattle.atl_market.specs.PotPhase.{PotMeaning}
+use Rattle.atl_market.specs.Unordered.{spares_unordered}
+use Rattle.atl_instant.specs.Terms.{PhaseTerms, books_money}
 
 abbrev pub is_recruit : Verb → Bool
 is_recruit verbs.Recruit = true
 is_recruit verb = false
-
--- the orders of RECRUIT that stand
-abbrev pub recruit_tasks : Course → List Task
-recruit_tasks m = values (orders_of is_recruit ByUnit m.aliases m.readings)
-
-abbrev pub recruit_orders : Course → List Written
-recruit_orders m = map written (recruit_tasks m)
 
 -- why a unit recruits nobody
 abbrev pub recruit_fault : Planet → Unit → Option EventFault
@@ -87,7 +76,7 @@ recruit_pots asked = record {
 }
 
 abbrev pub recruit_meaning : Meaning
-recruit_meaning = pots_meaning (λ c m. recruit_pots (asked_of count_in c (recruit_tasks m))) (λ c m. recruit_orders m)
+recruit_meaning = asked_meaning recruit_pots count_in is_recruit
 
 -- what is paid for recruits is of money
 abbrev pub recruit_moves : ℕ → Moving
@@ -95,12 +84,7 @@ recruit_moves most = moves_only most Recruiting Money
 
 -- recruiting takes nothing from a unit whose own faction wrote no order of it
 abbrev pub recruit_keeps : Keeping
-recruit_keeps w m before after = OthersAreNoWorse (recruit_orders m) before after
+recruit_keeps = spares_unordered is_recruit
 
 abbrev pub recruit_terms : PhaseTerms
-recruit_terms = record {
-  meaning = recruit_meaning;
-  moving = recruit_moves most_moved;
-  moved = record { money = Recruiting ∷ []; people = []; items = [] };
-  keeps = recruit_keeps;
-}
+recruit_terms = books_money Recruiting recruit_meaning recruit_keeps

@@ -1,7 +1,7 @@
 -- TAX: the units on guard share the money of their region. See docs/RULES.md, "Tax".
-use Rattle.std.specs.Prelude.{◌+◌, ◌-◌, ◌*◌, ◌==◌, ℕ, Bool, true, false, List, map, min, Option, Some, None, not, [], ◌∷◌}
+use Rattle.std.specs.Prelude.{◌+◌, ◌-◌, ◌*◌, ◌==◌, ℕ, Bool, true, false, min, Option, Some, None, not, [], ◌∷◌}
 use Rattle.std.specs.Option.{option_map_or}
-use Rattle.std.specs.FinMap.{get, values}
+use Rattle.std.specs.FinMap.{get}
 use Rattle.atl_tables.specs.Planet.{Planet}
 use Rattle.atl_orders.specs.declared.verb.Verb.{Verb}
 use Rattle.atl_orders.specs.declared.verb.Verb.TheVariants as verbs
@@ -11,24 +11,17 @@ use Rattle.atl_state.specs.declared.records.Region.{Region}
 use Rattle.atl_state.specs.declared.records.Unit.{Unit}
 use Rattle.atl_state.specs.Limits.{holding_limit}
 use Rattle.atl_state.specs.State.{State, with_money, with_region_money}
-use Rattle.atl_instant.specs.Course.{Course}
-use Rattle.atl_instant.specs.Meaning.{Keeping, Meaning, Moving}
-use Rattle.atl_instant.specs.PhaseOrders.{orders_of, written}
-use Rattle.atl_instant.specs.Staying.{AreNoWorse}
-use Rattle.atl_instant.specs.declared.written.Arrangement.TheVariants.{ByUnit}
-use Rattle.atl_instant.specs.declared.written.Written.{Written}
+use Rattle.atl_instant.specs.Meaning.{Meaning}
+use Rattle.atl_instant.specs.PhaseOrders.{written_by_unit}
+use Rattle.atl_instant.specs.Staying.{spares_all}
 use Rattle.atl_instant.specs.Outcomes.{first_fault}
 use Rattle.atl_market.specs.Pots.{pot_shares}
 use Rattle.atl_market.specs.PotPhase.{PotMeaning, pots_meaning}
-use Rattle.atl_instant.specs.Terms.{PhaseTerms, nothing_moved}
+use Rattle.atl_instant.specs.Terms.{PhaseTerms, books_none}
 
 abbrev pub is_tax : Verb → Bool
 is_tax verbs.Tax = true
 is_tax verb = false
-
--- the orders of TAX that stand
-abbrev pub tax_orders : State → Course → List Written
-tax_orders c m = map written (values (orders_of is_tax ByUnit m.aliases m.readings))
 
 -- why a unit takes no tax
 abbrev pub tax_fault : Unit → Option EventFault
@@ -69,20 +62,8 @@ tax_pots = record {
 }
 
 abbrev pub tax_meaning : Meaning
-tax_meaning = pots_meaning (λ c m. tax_pots) tax_orders
+tax_meaning = pots_meaning (λ c m. tax_pots) (λ c m. written_by_unit is_tax m)
 
 -- what a region's people pay was theirs: no entry of the books changes
-abbrev pub tax_moves : Moving
-tax_moves e t = 0
-
--- tax takes nothing from any unit
-abbrev pub tax_keeps : Keeping
-tax_keeps w m before after = AreNoWorse before after
-
 abbrev pub tax_terms : PhaseTerms
-tax_terms = record {
-  meaning = tax_meaning;
-  moving = tax_moves;
-  moved = nothing_moved;
-  keeps = tax_keeps;
-}
+tax_terms = books_none tax_meaning spares_all

@@ -20,22 +20,18 @@ use Rattle.atl_state.specs.declared.records.Unit.{Unit}
 use Rattle.atl_state.specs.Limits.{holding_limit}
 use Rattle.atl_state.specs.State.{State, with_amount, with_money}
 use Rattle.atl_instant.specs.Course.{Course}
-use Rattle.atl_instant.specs.Meaning.{Keeping, Meaning, Moving, moves_only, most_moved}
-use Rattle.atl_instant.specs.PhaseOrders.{is_month_long, orders_of, written, Task, key_of}
-use Rattle.atl_instant.specs.Staying.{AreNoWorse}
+use Rattle.atl_instant.specs.Meaning.{Meaning, Moving, moves_only}
+use Rattle.atl_instant.specs.PhaseOrders.{Task, is_month_long, key_of, orders_by_unit, written}
+use Rattle.atl_instant.specs.Staying.{spares_all}
 use Rattle.atl_instant.specs.declared.written.Arrangement.TheVariants.{ByUnit}
 use Rattle.atl_instant.specs.declared.written.Written.{Written}
 use Rattle.atl_instant.specs.Outcomes.{first_fault}
 use Rattle.atl_market.specs.Unordered.{is_ordered}
 use Rattle.atl_market.specs.PotPhase.{PotMeaning, pots_meaning}
 use Rattle.atl_market.specs.Pots.{pot_shares}
-use Rattle.atl_instant.specs.Terms.{PhaseTerms}
+use Rattle.atl_instant.specs.Terms.{PhaseTerms, books_money}
 
 -- ---- who works
-
--- the month-long orders of all mailings that stand
-abbrev pub long_tasks : Course → List Task
-long_tasks m = values (orders_of is_month_long ByUnit m.aliases m.readings)
 
 -- the work of a unit that has none: with line 0, as if its faction had written it
 abbrev pub idle_task : (unit faction : ℕ) → Task
@@ -57,7 +53,7 @@ all_work c ts = filter (λ t. is_work (verb_of_order t.said)) ts ++ idle_work c 
 
 -- The orders of WORK, in the order of their keys: those that are written, and the work of those who have none.
 unfoldable pub work_orders : State → Course → List Written
-work_orders c m = map written (values (from_entries {R = slice_cmp nat_cmp} (map (λ t. (key_of ByUnit t, t)) (all_work c (long_tasks m)))))
+work_orders c m = map written (values (from_entries {R = slice_cmp nat_cmp} (map (λ t. (key_of ByUnit t, t)) (all_work c (orders_by_unit is_month_long m)))))
 
 -- ---- what they earn
 
@@ -107,14 +103,5 @@ work_meaning = pots_meaning (λ c m. work_pots) work_orders
 abbrev pub work_moves : ℕ → Moving
 work_moves most = moves_only most Wages Money
 
--- work takes nothing from any unit
-abbrev pub work_keeps : Keeping
-work_keeps w m before after = AreNoWorse before after
-
 abbrev pub work_terms : PhaseTerms
-work_terms = record {
-  meaning = work_meaning;
-  moving = work_moves most_moved;
-  moved = record { money = Wages ∷ []; people = []; items = [] };
-  keeps = work_keeps;
-}
+work_terms = books_money Wages work_meaning spares_all

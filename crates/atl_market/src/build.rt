@@ -10,7 +10,7 @@ ghost use Rattle.atl_state.specs.Limits.{last_unit, most_structures};
 ghost use Rattle.atl_state.specs.declared.records.Unit.{Unit};
 ghost use Rattle.atl_instant.specs.Meaning.{HaveRoom};
 ghost use Rattle.atl_instant.specs.Steps.{carried};
-ghost use Rattle.atl_market.specs.Build.{CanBuild, begin, begin_fault, build_keeps, build_meaning, build_moves, build_reserve, build_step, go_on, gone_on, inside_fault, is_building, is_structure_limit, outside_fault, size_added, sort_of, started, with_new};
+ghost use Rattle.atl_market.specs.Build.{CanBuild, begin, begin_fault, build_moves, build_reserve, build_step, build_terms, go_on, gone_on, inside_fault, is_building, is_structure_limit, outside_fault, size_added, sort_of, started, with_new};
 ghost use Rattle.atl_market.specs.Goods.{CanUse};
 
 use crate::goods::use_item;
@@ -287,7 +287,7 @@ impl OrderPhase for BuildPhase {
 }
 
 impl Phase for BuildPhase {
-    ghost meaning = { build_meaning };
+    ghost meaning = { build_terms.meaning };
 
     ghost needs = { IsSteady };
 
@@ -295,7 +295,7 @@ impl Phase for BuildPhase {
 
     ghost moving = { build_moves };
 
-    ghost keeps = { build_keeps };
+    ghost keeps = { build_terms.keeps };
 
     fn run(
         &self,

@@ -21,7 +21,7 @@ pub(crate) fn item_of(world: &World, asked: Option<u16>) -> Option<&Item>
     ensures value { option_copied result ≡ item_of world.now asked }
     ensures bounds { IfSome result (λ item. 1 ≤ item.now.raw_count) }
 {
-    world.items().get(usize::from(asked?))
+    world.item(asked?)
 }
 
 /// Whether a unit hasn't the skill to make an item.

@@ -3,9 +3,10 @@ ghost use Rattle.std.specs.Prelude.{◌≡◌, IfOk};
 ghost use Rattle.atl_tables.specs.Planet.{IsWorld};
 ghost use Rattle.atl_state.specs.Good.{IsSteady};
 ghost use Rattle.atl_instant.specs.Meaning.{most_moved};
+ghost use Rattle.atl_instant.specs.PhaseOrders.{orders_by_unit, written_by_unit};
 ghost use Rattle.atl_market.specs.Making.{CanProduce};
 ghost use Rattle.atl_market.specs.Asking.{asked_of, item_in};
-ghost use Rattle.atl_market.specs.Produce.{is_produce, produce_keeps, produce_meaning, produce_moves, produce_orders, produce_pots, produce_tasks, produced};
+ghost use Rattle.atl_market.specs.Produce.{is_produce, produce_keeps, produce_meaning, produce_moves, produce_pots, produced};
 ghost use Rattle.atl_market.specs.Paid.{ProducesAtOnce};
 
 use crate::asking::items_found;
@@ -87,8 +88,8 @@ fn items_asked(
     month: &Month,
     orders: &[Written],
 ) -> Result<Numbered<u16>, AllocError>
-    requires { orders.now ≡ produce_orders month.now }
-    ensures { IfOk result (λ asked. asked ≡ asked_of item_in campaign.now.what (produce_tasks month.now)) }
+    requires { orders.now ≡ written_by_unit is_produce month.now }
+    ensures { IfOk result (λ asked. asked ≡ asked_of item_in campaign.now.what (orders_by_unit is_produce month.now)) }
 {
     let asked = items_found(alloc, campaign, month, orders)?;
     Ok(asked)

@@ -10,8 +10,9 @@ ghost use Rattle.atl_state.specs.Lending.{with_holding};
 ghost use Rattle.atl_state.specs.Limits.{holding_limit, men_limit};
 ghost use Rattle.atl_state.specs.State.{with_amount, with_peasants};
 ghost use Rattle.atl_instant.specs.Meaning.{HaveRoom, most_moved};
+ghost use Rattle.atl_instant.specs.PhaseOrders.{orders_by_unit, written_by_unit};
 ghost use Rattle.atl_market.specs.Asking.{asked_of, count_in};
-ghost use Rattle.atl_market.specs.Recruit.{is_recruit, recruit_keeps, recruit_meaning, recruit_moves, recruit_orders, recruit_pots, recruit_tasks, recruited, recruits_at, with_men};
+ghost use Rattle.atl_market.specs.Recruit.{is_recruit, recruit_keeps, recruit_meaning, recruit_moves, recruit_pots, recruited, recruits_at, with_men};
 ghost use Rattle.atl_market.specs.Payable.{CanRecruit};
 ghost use Rattle.atl_market.specs.Paid.{RecruitsAtOnce};
 
@@ -155,8 +156,8 @@ fn men_asked(
     month: &Month,
     orders: &[Written],
 ) -> Result<Numbered<u32>, AllocError>
-    requires { orders.now ≡ recruit_orders month.now }
-    ensures { IfOk result (λ asked. asked ≡ asked_of count_in campaign.now.what (recruit_tasks month.now)) }
+    requires { orders.now ≡ written_by_unit is_recruit month.now }
+    ensures { IfOk result (λ asked. asked ≡ asked_of count_in campaign.now.what (orders_by_unit is_recruit month.now)) }
 {
     let asked = counts_found(alloc, campaign, month, orders)?;
     Ok(asked)

@@ -5,7 +5,9 @@ ghost use Rattle.atl_state.specs.Covers.{MarksChanges};
 ghost use Rattle.atl_state.specs.Good.{IsEarly};
 ghost use Rattle.atl_state.specs.Limits.{holding_limit};
 ghost use Rattle.atl_state.specs.State.{with_money, with_region_money};
-ghost use Rattle.atl_market.specs.Tax.{is_tax, money_at, tax_keeps, tax_meaning, tax_moves, tax_pots, taxed};
+ghost use Rattle.atl_instant.specs.Staying.{spares_all};
+ghost use Rattle.atl_instant.specs.Unbooked.{moves_nothing};
+ghost use Rattle.atl_market.specs.Tax.{is_tax, money_at, tax_meaning, tax_pots, taxed};
 ghost use Rattle.atl_market.specs.Payable.{CanTax};
 ghost use Rattle.atl_market.specs.Paid.{TaxesAtOnce};
 
@@ -122,9 +124,9 @@ impl Phase for TaxPhase {
 
     ghost leaves = { IsEarly };
 
-    ghost moving = { tax_moves };
+    ghost moving = { moves_nothing };
 
-    ghost keeps = { tax_keeps };
+    ghost keeps = { spares_all };
 
     fn run(
         &self,

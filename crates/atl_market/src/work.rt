@@ -8,8 +8,9 @@ ghost use Rattle.atl_state.specs.Covers.{MarksChanges};
 ghost use Rattle.atl_state.specs.Good.{IsSteady};
 ghost use Rattle.atl_state.specs.Limits.{holding_limit};
 ghost use Rattle.atl_instant.specs.Meaning.{HaveRoom, most_moved};
+ghost use Rattle.atl_instant.specs.Staying.{spares_all};
 ghost use Rattle.atl_tables.specs.ByNumber.{terrain_of};
-ghost use Rattle.atl_market.specs.Work.{earned, is_work, places_at, wage_at, with_wages, work_keeps, work_meaning, work_moves, work_orders, work_pots};
+ghost use Rattle.atl_market.specs.Work.{earned, is_work, places_at, wage_at, with_wages, work_meaning, work_moves, work_orders, work_pots};
 ghost use Rattle.atl_market.specs.Idle.{all_idle, own_writers, work_key};
 ghost use Rattle.atl_market.specs.Paid.{WorksAtOnce};
 ghost use Rattle.atl_market.specs.Payable.{CanWork};
@@ -234,7 +235,7 @@ impl Phase for WorkPhase {
 
     ghost moving = { work_moves most_moved };
 
-    ghost keeps = { work_keeps };
+    ghost keeps = { spares_all };
 
     fn run(
         &self,

@@ -32,6 +32,7 @@ use Rattle.atl_instant.proofs.MeaningLaws.{near_same, near_twice}
 use Rattle.atl_instant.proofs.AmountsLaws.{amount_within, every_amount, set_amount}
 use Rattle.atl_instant.proofs.BookingLaws.{booked-near, within-neg}
 use Rattle.atl_instant.proofs.QuitLaws.{owing_items, part_of}
+use Rattle.atl_instant.proofs.StayingLaws.{no_worse, no_worse_twice}
 use Rattle.atl_instant.specs.LostItems.{moving_items}
 use Rattle.atl_month.specs.Sweep.{IsKept, item_to, money_to, passed_item, passed_money, taken_of, with_lost}
 
@@ -44,20 +45,18 @@ Owes c s more = pos (total c s) ≡ booked c.books s +ℤ pos more
 -- ---- a unit that keeps all
 
 pub kept-refl : (u : Unit) → IsKept u u
-kept-refl u =
-    record { faction = refl; region = refl; structure = refl; name = refl; men = refl; guard = refl; days = refl; money = omega arith; items = λ i. omega arith }
+kept-refl u = record { no_worse = no_worse u; men = refl; days = refl }
 
 pub kept-trans : (u v x : Unit) → IsKept u v → IsKept v x → IsKept u x
-kept-trans u v x one two = record {
-  faction = two.faction ∙ one.faction;
-  region = two.region ∙ one.region;
-  structure = two.structure ∙ one.structure;
-  name = two.name ∙ one.name;
-  men = two.men ∙ one.men;
-  guard = two.guard ∙ one.guard;
-  days = two.days ∙ one.days;
-  money = omega (arith, one.money, two.money);
-  items = λ i. omega (arith, one.items i, two.items i);
+kept-trans u v x one two = record { no_worse = no_worse_twice u v x one.no_worse two.no_worse; men = two.men ∙ one.men; days = two.days ∙ one.days }
+
+-- with so much money, and these items
+kept-with : (u : Unit) (money : ℕ) (items : FinMap nat_cmp ℕ) → u.holding.money ≤ money → ((i : ℕ) → amount_of u.holding.items i ≤ amount_of items i)
+    → IsKept u (record u { holding = record u.holding { money = money; items = items } })
+kept-with u money items more all = record {
+  no_worse = record { faction = refl; region = refl; structure = refl; name = refl; guard = refl; men = omega arith; money = more; items = all; days = λ s. omega arith };
+  men = refl;
+  days = refl;
 }
 
 -- ---- what passing on does
@@ -251,7 +250,7 @@ module _ (w : Planet) (c : State) (n k : ℕ) (apart : n ≢ k) (steady : IsStea
           (sym (changed-known (λ u. record u { holding = record u.holding { money = money } }) c.units k v is)))
           (subst (λ a. Passed Money a (with_lost (with_held c k h (Some v)) Money (amount - taken))) (whole amount v.holding.money)
           (part_lost w c n Money (omega arith) steady k v h is apart (may_hold_money w c k money v is (fits amount v.holding.money most) steady)
-          (record { faction = refl; region = refl; structure = refl; name = refl; men = refl; guard = refl; days = refl; money = omega arith; items = λ i. omega arith })
+          (kept-with v money v.holding.items (omega arith) (λ i. omega arith))
           taken (amount - taken) (more_money v.holding taken)))
 
   more_item : (h : Held) (i n : ℕ) (s : Thing)
@@ -291,17 +290,7 @@ module _ (w : Planet) (c : State) (n k : ℕ) (apart : n ≢ k) (steady : IsStea
             days = steady.days k v is;
             guard = λ g. g;
           })
-          (record {
-            faction = refl;
-            region = refl;
-            structure = refl;
-            name = refl;
-            men = refl;
-            guard = refl;
-            days = refl;
-            money = omega arith;
-            items = λ j. omega (arith, more_amount v.holding.items i taken j);
-          })
+          (kept-with v v.holding.money items (omega arith) (λ j. omega (arith, more_amount v.holding.items i taken j)))
           taken (amount - taken) (more_item v.holding i taken))
 
 -- ---- all that a unit has

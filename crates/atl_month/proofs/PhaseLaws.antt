@@ -76,9 +76,6 @@ money_and_people k j e Money = omega (arith, money_alone k e Money, people_alone
 money_and_people k j e People = omega (arith, money_alone k e People, people_alone j e People)
 money_and_people k j e (Item i) = omega (arith, money_alone k e (Item i), people_alone j e (Item i))
 
-people_and_money : (j k : Entry) → MovesAlone (both_move (moves_only most_moved j People) (moves_only most_moved k Money)) (record { money = k ∷ []; people = j ∷ []; items = [] })
-people_and_money j k e t = omega (arith, money_and_people k j e t)
-
 quit_alone : MovesItsOwn quit_terms
 quit_alone e Money = omega arith
 quit_alone e People = omega arith
@@ -101,7 +98,7 @@ pub upkeep_alone : MovesItsOwn upkeep_terms
 upkeep_alone = money_and_people entries.Upkeep entries.Starved
 
 pub season_alone : MovesItsOwn season_terms
-season_alone = people_and_money entries.Births entries.Income
+season_alone = money_and_people entries.Income entries.Births
 
 both_hold : (a b : Bool) → (if a && b then most_moved else 0) ≤ (if a then most_moved else 0)
 both_hold true true = omega arith

@@ -84,8 +84,8 @@ module _ {V : Type 0} (p : V → Bool) where
 module _ (w : Planet) (c : State) (n : ℕ) (steady : IsSteady w c) where
   passes_still : (region faction : ℕ) (u v : Unit) → IsKept u v → receives region faction u ≡ receives region faction v
   passes_still region faction u v kept =
-      ap (λ r. (r == region) && ((u.faction == faction) && nat_lt 0 u.holding.men)) (sym kept.region)
-      ∙ ap (λ f. (v.region == region) && ((f == faction) && nat_lt 0 u.holding.men)) (sym kept.faction)
+      ap (λ r. (r == region) && ((u.faction == faction) && nat_lt 0 u.holding.men)) (sym kept.no_worse.region)
+      ∙ ap (λ f. (v.region == region) && ((f == faction) && nat_lt 0 u.holding.men)) (sym kept.no_worse.faction)
       ∙ ap (λ m. (v.region == region) && ((v.faction == faction) && nat_lt 0 m)) (sym kept.men)
 
   has_men : (region faction : ℕ) (u : Unit) → receives region faction u ≡ true → 1 ≤ u.holding.men

@@ -28,9 +28,9 @@ use Rattle.atl_state.proofs.BookLaws.{IsGrid-with_booked, booked-with_booked, sh
 use Rattle.atl_state.proofs.CoverLaws.{marks-amount, marks-region, marks-trans}
 use Rattle.atl_state.proofs.RegionLaws.{IsRegion-money, IsRegion-peasants, region-changed, steady-amount, steady-region, total-amount, total-region}
 use Rattle.atl_state.proofs.EveryLaws.{none_some}
-use Rattle.atl_instant.specs.Meaning.{HaveRoom, IsNear, LeavesWell, moved_times, moves_only, most_moved}
+use Rattle.atl_instant.specs.Meaning.{HaveRoom, IsNear, LeavesWell, both_move, most_moved, moved_times, moves_only}
 use Rattle.atl_instant.proofs.MarkLaws.{marks_by}
-use Rattle.atl_instant.proofs.MeaningLaws.{fold_leaves_well, near_twice, room_behind_one, room_for_one, well_unchanged, well_within}
+use Rattle.atl_instant.proofs.MeaningLaws.{fold_leaves_well, near_more, near_twice, room_behind_one, room_for_one, room_less, well_unchanged, well_within}
 use Rattle.atl_instant.proofs.BookingLaws.{booked-near, within-pos}
 use Rattle.atl_month.specs.Season.{births, grows_by, income, season, season_at, season_in, with_growth}
 
@@ -111,9 +111,12 @@ module _ (w : Planet) (c : State) (n : ℕ) (r : Region) (born earned : ℕ) (is
 
     growth_near : born ≤ most_amount → earned ≤ most_amount → (e : Entry) (t : Thing) → IsNear (grows_by most_amount e t) (amount_in c.books e t) (amount_in (with_growth c n r born earned).books e t)
     growth_near b m e t =
-        near_twice (moves_only most_amount Births People e t) (moves_only most_amount Income Money e t) _ _ _
+        let people = moves_only most_amount Births People e t in
+        let money = moves_only most_amount Income Money e t in
+        near_more (people + money) (money + people) _ _ (omega arith)
+        (near_twice people money _ _ _
         (booked-near (things_of w) c.books Births People (pos born) most_amount grid (omega arith) (within-pos born most_amount b) e t)
-        (booked-near (things_of w) one_booked Income Money (pos earned) most_amount grid_one (omega arith) (within-pos earned most_amount m) e t)
+        (booked-near (things_of w) one_booked Income Money (pos earned) most_amount grid_one (omega arith) (within-pos earned most_amount m) e t))
 
   pub growth_leaves_well : r.peasants + born ≤ most_amount → r.money + earned ≤ most_amount → IsSteady w c → LeavesWell IsSteady (grows_by most_amount) w c (with_growth c n r born earned)
   growth_leaves_well p m steady = record {
@@ -122,6 +125,10 @@ module _ (w : Planet) (c : State) (n : ℕ) (r : Region) (born earned : ℕ) (is
     balances = growth_balances steady.numbers.books;
     near = growth_near steady.numbers.books (omega arith) (omega arith);
   }
+
+-- there is room for the births first as well
+pub births_first : (c : State) → HaveRoom (grows_by most_amount) c → HaveRoom (both_move (moves_only most_amount Births People) (moves_only most_amount Income Money)) c
+births_first c room = room_less (both_move (moves_only most_amount Births People) (moves_only most_amount Income Money)) (grows_by most_amount) c (λ e t. omega arith) room
 
 -- ---- what the growth of a region marks
 
@@ -180,7 +187,7 @@ length-zip (x ∷ xs) [] = omega arith
 length-zip (x ∷ xs) (y ∷ ys) = omega (arith, length-zip xs ys)
 
 pub grows_little : (k : ℕ) → k ≤ most_regions → (e : Entry) (t : Thing) → moved_times k (grows_by most_amount) e t ≤ grows_by most_moved e t
-grows_little k few e t = scaled (amount_number e t == amount_number Births People) (amount_number e t == amount_number Income Money)
+grows_little k few e t = scaled (amount_number e t == amount_number Income Money) (amount_number e t == amount_number Births People)
   where
     scaled : (a b : Bool) → k * ((if a then most_amount else 0) + (if b then most_amount else 0)) ≤ (if a then most_moved else 0) + (if b then most_moved else 0)
     scaled true true = omega (arith, few)

@@ -71,16 +71,6 @@ pub near_leaves_room : (j k : Moving) (c d : State) → ((e : Entry) (t : Thing)
     → HaveRoom (both_move j k) c → HaveRoom k d
 near_leaves_room j k c d near room e t = near_room (j e t) (k e t) (amount_in c.books e t) (amount_in d.books e t) (near e t) (room e t)
 
-pub first_room : (x : ℕ × ℕ) (xs : List (ℕ × ℕ)) (c : State) → HaveRoom (moving_items (x ∷ xs)) c → HasRoom x.1 (amount_in c.books Lost (Item x.0))
-first_room x xs c room =
-    less_room x.1 (moving_items (x ∷ xs) Lost (Item x.0)) (amount_in c.books Lost (Item x.0))
-    (at_least (amount_number Lost (Item x.0) == amount_number Lost (Item x.0)) (moving_items xs Lost (Item x.0))
-    (same_number (amount_number Lost (Item x.0)))) (room Lost (Item x.0))
-  where
-    at_least : (b : Bool) (m : ℕ) → b ≡ true → x.1 ≤ (if b then x.1 else 0) + m
-    at_least true m t = omega arith
-    at_least false m t = cc
-
 another : (n : ℕ) → suc n ≢ n
 another n same = omega (arith, same)
 

@@ -136,7 +136,7 @@ sweep_closes = record {
   told = λ w c m n. omega arith;
   left = λ w c m keeps n u there none some.
       let (v, behind, kept) = keeps n u there (some_men (starved_in m.events n) u.holding.men some) in
-      record { unit = v; there = behind; spared = record { faction = kept.faction; name = kept.name; men = nobody (starved_in m.events n) u.holding.men v.holding.men kept.men; items = kept.items } };
+      record { unit = v; there = behind; spared = record { faction = kept.no_worse.faction; name = kept.no_worse.name; men = nobody (starved_in m.events n) u.holding.men v.holding.men kept.men; items = kept.no_worse.items } };
 }
   where
     some_men : (x a : ℕ) → x - x < a → 1 ≤ a

@@ -1,5 +1,5 @@
 -- The season of a month: what each region has of births and of income. See docs/RULES.md, "Season".
-use Rattle.std.specs.Prelude.{◌≡◌, ℕ, pos, ◌+◌, ◌-◌, ◌*◌, ◌/◌, ◌%◌, min, List, map, fold, zip, Option, Some, None, [], ◌∷◌}
+use Rattle.std.specs.Prelude.{◌≡◌, ℕ, pos, ◌+◌, ◌-◌, ◌*◌, ◌/◌, ◌%◌, min, List, map, fold, zip, Option, Some, None}
 use Rattle.std.specs.FinMap.{entries, get}
 use Rattle.atl_tables.specs.Planet.{Planet}
 use Rattle.atl_tables.specs.declared.world.Terrain.{Terrain}
@@ -9,9 +9,9 @@ use Rattle.atl_state.specs.declared.books.Thing.TheVariants.{Money, People}
 use Rattle.atl_state.specs.declared.records.Region.{Region}
 use Rattle.atl_state.specs.State.{State, with_amount, with_peasants, with_region_money}
 use Rattle.atl_instant.specs.Course.{Course}
-use Rattle.atl_instant.specs.Meaning.{Keeping, Moving, both_move, moves_only, most_moved}
+use Rattle.atl_instant.specs.Meaning.{Keeping, Moving, both_move, moves_only}
 use Rattle.atl_month.specs.Limits.{per_hundred}
-use Rattle.atl_instant.specs.Terms.{PhaseTerms}
+use Rattle.atl_instant.specs.Terms.{PhaseTerms, books_money_and_people}
 
 -- So many of a hundred peasants are born as the word says, from 0 to the growth; at most up to the terrain's limit.
 abbrev pub births : (growth limit word peasants : ℕ) → ℕ
@@ -47,18 +47,13 @@ season w c words = fold (season_at w) c (zip (map (λ e. e.0) (entries w.regions
 abbrev pub season_meaning : Planet → State → Course → State × Course
 season_meaning w c m = (season w c m.words, m)
 
--- births are of people, income is of money, each by so much at most
+-- income is of money, births are of people, each by so much at most
 abbrev pub grows_by : ℕ → Moving
-grows_by most = both_move (moves_only most Births People) (moves_only most Income Money)
+grows_by most = both_move (moves_only most Income Money) (moves_only most Births People)
 
 -- the season changes no unit
 abbrev pub season_keeps : Keeping
 season_keeps w m before after = after.units ≡ before.units
 
 abbrev pub season_terms : PhaseTerms
-season_terms = record {
-  meaning = season_meaning;
-  moving = grows_by most_moved;
-  moved = record { money = Income ∷ []; people = Births ∷ []; items = [] };
-  keeps = season_keeps;
-}
+season_terms = books_money_and_people Income Births season_meaning season_keeps

@@ -16,6 +16,7 @@ use Rattle.atl_state.specs.Owners.{first_or_zero, without_unit}
 use Rattle.atl_state.specs.State.{State, active, numbers_of, with_amount, with_gone, with_money}
 use Rattle.atl_instant.specs.Course.{Course}
 use Rattle.atl_instant.specs.Meaning.{Keeping, Moving, most_moved}
+use Rattle.atl_instant.specs.Staying.{IsNoWorse}
 use Rattle.atl_instant.specs.Terms.{PhaseTerms}
 
 -- ---- who gets what a unit leaves
@@ -101,17 +102,11 @@ sweep_meaning w c m = (sweep c, m)
 abbrev pub loses_by : ℕ → Moving
 loses_by most e t = if (entry_place e == entry_place Lost) && not (thing_place t == thing_place People) then most else 0
 
--- a unit with all that it had, and perhaps more money and more items
-pub record IsKept (u v : Unit) : Type 0 where
-  pub faction : v.faction ≡ u.faction
-  pub region : v.region ≡ u.region
-  pub structure : v.structure ≡ u.structure
-  pub name : v.holding.name ≡ u.holding.name
-  pub men : v.holding.men ≡ u.holding.men
-  pub guard : v.holding.guard ≡ u.holding.guard
-  pub days : v.holding.days ≡ u.holding.days
-  pub money : u.holding.money ≤ v.holding.money
-  pub items : (i : ℕ) → amount_of u.holding.items i ≤ amount_of v.holding.items i
+-- a unit that is no worse off, with its men and their days as they were
+pub record IsKept (before after : Unit) : Type 0 where
+  pub no_worse : IsNoWorse before after
+  pub men : after.holding.men ≡ before.holding.men
+  pub days : after.holding.days ≡ before.holding.days
 
 -- the sweep takes nothing from a unit with men
 abbrev pub sweep_keeps : Keeping

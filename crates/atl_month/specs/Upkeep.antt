@@ -14,11 +14,11 @@ use Rattle.atl_state.specs.Held.{Held, with_amount_of}
 use Rattle.atl_state.specs.Lending.{with_held}
 use Rattle.atl_state.specs.State.{State, with_amount}
 use Rattle.atl_instant.specs.Course.{Course}
-use Rattle.atl_instant.specs.Meaning.{Keeping, Moving, both_move, moves_only, most_moved}
+use Rattle.atl_instant.specs.Meaning.{Keeping, Moving, both_move, moves_only}
 use Rattle.atl_month.specs.declared.settling.Purse.{Purse}
 use Rattle.atl_month.specs.declared.settling.Settled.{Settled}
 use Rattle.atl_month.specs.Settling.{is_purse_of, settled_of, settled_one}
-use Rattle.atl_instant.specs.Terms.{PhaseTerms}
+use Rattle.atl_instant.specs.Terms.{PhaseTerms, books_money_and_people}
 
 -- ---- what a unit has to give for it
 
@@ -90,9 +90,4 @@ upkeep_keeps w m before after =
     Every (λ n u. get after.units n ≡ Some (record u { holding = supplied (settled_alone w before n u) u.holding })) before.units
 
 abbrev pub upkeep_terms : PhaseTerms
-upkeep_terms = record {
-  meaning = upkeep_meaning;
-  moving = takes_up_to most_moved;
-  moved = record { money = Upkeep ∷ []; people = Starved ∷ []; items = [] };
-  keeps = upkeep_keeps;
-}
+upkeep_terms = books_money_and_people Upkeep Starved upkeep_meaning upkeep_keeps

@@ -1,18 +1,13 @@
-use Rattle.std.proofs.Common.{◌≡◌, ◌+◌, [], ap, sym, ◌∙◌, drop, get_or, arith}
-use Rattle.std.proofs.lemmas.List.{drop_all, drop_more}
+use Rattle.std.proofs.Common.{ap, ◌∙◌, get_or, arith}
 use Rattle.std.specs.Prelude.{fold}
 use Rattle.std.specs.FinMap.{empty}
-use Rattle.atl_orders.specs.declared.verb.Verb.TheVariants.{Form}
 use Rattle.atl_instant.specs.Course.{Course}
-use Rattle.atl_instant.specs.declared.written.Written.{Written}
 use Rattle.atl_instant.specs.Carrying.{found_written}
+use Rattle.atl_instant.proofs.FoldLaws.{fold_behind, fold_ended}
+use Rattle.atl_instant.proofs.FoundOrderLaws.{no_order}
 use Rattle.atl_action.specs.Teach.{Taught, teach_order}
 use Rattle.atl_action.proofs.TeachLaws.{same_aliases, same_readings, taught_found}
 use Rattle.atl_action.proofs.teach.teach_all.Goals as goal
-
--- what stands where nothing is read
-abbrev none : Written
-none = record { unit = 0; line = 0; faction = 0; verb = Form; place = 0 }
 
 pub loop-order-preserved : goal.loop-order-preserved
 loop-order-preserved c =
@@ -22,10 +17,10 @@ loop-order-preserved c =
     let before : Taught × Course = (c.loop-order.taught, c.loop-order.month) in
     let xs = c.deref-order-items.result.now in
     let i = c.loop-order.order-index in
-    let o = get_or xs i none in
+    let o = get_or xs i no_order in
     let step = c.in_ok-teach_one.ensures ∙ ap (λ r. found_written order r before o) c.loop-order.invariant.readings in
     record {
-      orders = ap (λ p. fold f p (drop (i + 1) xs)) step ∙ sym (ap (fold f before) (drop_more xs i none c.loop-order-test.true)) ∙ c.loop-order.invariant.orders;
+      orders = fold_behind f xs i no_order before c.loop-order-test.true step c.loop-order.invariant.orders;
       readings = ap (λ (p : Taught × Course). p.1.readings) step ∙ same_readings c.args.campaign.now.what c.args.learning.now readings before o ∙ c.loop-order.invariant.readings;
       aliases = ap (λ (p : Taught × Course). p.1.aliases) step ∙ same_aliases c.args.campaign.now.what c.args.learning.now readings before o ∙ c.loop-order.invariant.aliases;
     }
@@ -33,9 +28,7 @@ loop-order-preserved c =
 pub returns-clause-meaning : goal.returns-clause-meaning
 returns-clause-meaning c =
     let f = found_written (teach_order c.args.campaign.now.what c.args.learning.now) c.args.month.now.readings in
-    let xs = c.deref-order-items.result.now in
-    let i = c.loop-order.order-index in
     let start : Taught × Course = (empty, c.args.month.now) in
     let behind : Taught × Course = (c.loop-order.taught, c.loop-order.month) in
-    let past : drop i xs ≡ [] = drop_all i xs (omega (arith, c.loop-order-test.false)) in
-    sym (ap (fold f behind) past) ∙ c.loop-order.invariant.orders ∙ ap (fold f start) (c.deref-order-items.ensures.value ∙ c.in_ok-orders.ensures) ∙ taught_found c.args.campaign.now.what c.args.learning.now c.args.month.now
+    fold_ended f c.deref-order-items.result.now c.loop-order.order-index behind (omega (arith, c.loop-order-test.false)) c.loop-order.invariant.orders
+    ∙ ap (fold f start) (c.deref-order-items.ensures.value ∙ c.in_ok-orders.ensures) ∙ taught_found c.args.campaign.now.what c.args.learning.now c.args.month.now

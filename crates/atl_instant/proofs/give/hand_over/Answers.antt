@@ -13,25 +13,24 @@ set_held-requires c =
     let giver = sym c.in-Some-Some.ensures in
     omega (arith, c.held_of.ensures, held_within c.args.gift u.holding (c.requires.limits c.args.from u giver))
 
-pub returns-clause-what : goal.returns-clause-what
-returns-clause-what c =
-    let u = c.in-Some-Some.giver.now in
-    let v = c.in-Some-Some.receiver.now in
-    let giver = sym c.in-Some-Some.ensures in
-    let receiver = sym c.in-Some-Some.ensures' in
-    rw (giver, receiver)
-    (given_is c.args.campaign.now.what c.set_held.new.campaign.what c.set_held-2.new.campaign.what c.args.from c.args.to c.args.gift c.args.amount (c.held_of.result - c.args.amount) (c.held_of-2.result + c.args.amount) u v c.requires.apart giver receiver
-    (c.in_ok-set_held.ensures.what u giver) c.in_ok-set_held-2.ensures.what
-    (ap (λ x. x - c.args.amount) c.held_of.ensures) (ap (λ x. x + c.args.amount) c.held_of-2.ensures))
-
-pub returns-clause-marks : goal.returns-clause-marks
-returns-clause-marks c =
+pub returns : goal.returns
+returns c =
+    let before = c.args.campaign.now in
+    let between = c.set_held.new.campaign in
+    let after = c.set_held-2.new.campaign in
     let u = c.in-Some-Some.giver.now in
     let v = c.in-Some-Some.receiver.now in
     let giver = sym c.in-Some-Some.ensures in
     let receiver = sym c.in-Some-Some.ensures' in
     let first = c.in_ok-set_held.ensures.what u giver in
-    let still : get c.set_held.new.campaign.what.units c.args.to ≡ Some v =
+    let still : get between.what.units c.args.to ≡ Some v =
     ap (λ (s : State). get s.units c.args.to) first
-    ∙ receiver_still c.args.campaign.now.what c.args.from c.args.to u v (with_held_of c.args.gift u.holding (c.held_of.result - c.args.amount)) v.holding giver receiver c.requires.apart in
-    marks-trans c.args.campaign.now c.set_held.new.campaign c.set_held-2.new.campaign (c.in_ok-set_held.ensures.marks u giver) (c.in_ok-set_held-2.ensures.marks v still)
+    ∙ receiver_still before.what c.args.from c.args.to u v (with_held_of c.args.gift u.holding (c.held_of.result - c.args.amount)) v.holding giver receiver c.requires.apart in
+    record {
+      what =
+          rw (giver, receiver)
+          (given_is before.what between.what after.what c.args.from c.args.to c.args.gift c.args.amount (c.held_of.result - c.args.amount) (c.held_of-2.result + c.args.amount) u v c.requires.apart giver receiver
+          first c.in_ok-set_held-2.ensures.what
+          (ap (λ x. x - c.args.amount) c.held_of.ensures) (ap (λ x. x + c.args.amount) c.held_of-2.ensures));
+      marks = marks-trans before between after (c.in_ok-set_held.ensures.marks u giver) (c.in_ok-set_held-2.ensures.marks v still);
+    }

@@ -1,23 +1,16 @@
-use Rattle.std.proofs.Common.{◌≡◌, ◌+◌, [], refl, ap, subst, sym, ◌∙◌, drop, get_or, arith}
-use Rattle.std.proofs.lemmas.List.{drop_all, drop_more}
+use Rattle.std.proofs.Common.{refl, ap, subst, sym, ◌∙◌, get_or, arith}
 use Rattle.std.specs.Prelude.{fold}
-use Rattle.std.specs.FinMap.{values}
 use Rattle.atl_state.proofs.CoverLaws.{marks-refl, marks-trans}
-use Rattle.atl_orders.specs.declared.verb.Verb.TheVariants.{Form}
 use Rattle.atl_state.specs.State.{State}
 use Rattle.atl_instant.specs.Course.{Course}
 use Rattle.atl_instant.specs.Fit.{AreFit}
-use Rattle.atl_instant.specs.PhaseOrders.{orders_of}
+use Rattle.atl_instant.specs.PhaseOrders.{orders_by_unit}
 use Rattle.atl_instant.specs.Steps.{AreSpared, StepsWell, carried_out, one_order}
-use Rattle.atl_instant.specs.declared.written.Written.{Written}
-use Rattle.atl_instant.specs.declared.written.Arrangement.TheVariants.{ByUnit}
+use Rattle.atl_instant.proofs.FoldLaws.{fold_behind, fold_ended}
+use Rattle.atl_instant.proofs.FoundOrderLaws.{no_order}
 use Rattle.atl_instant.proofs.StepLaws.{leaves_well, orders_fit, orders_spare, room_left, room_reserved, well_same, well_twice, written_out, written_readings, written_well}
 use Rattle.atl_instant.proofs.steps.carry_out_orders.Goals as goal
 use Rattle.atl_instant.specs.Carrying.{found_written}
-
--- what stands where nothing is read
-abbrev none : Written
-none = record { unit = 0; line = 0; faction = 0; verb = Form; place = 0 }
 
 pub loop-order-init : goal.loop-order-init
 loop-order-init g c = record {
@@ -49,14 +42,14 @@ loop-order-preserved g c =
     let one = found_written order readings in
     let xs = c.deref-order-items.result.now in
     let i = c.loop-order.order-index in
-    let o = get_or xs i none in
+    let o = get_or xs i no_order in
     let read = subst (AreFit w) (sym c.loop-order.invariant.readings) c.requires.read in
     let well =
     subst (StepsWell P.holds P.reserve w c.loop-order.campaign.what) (sym (ap (λ (p : State × Course). p.0) c.in_ok-carry_one.ensures.step))
     (written_well (P.step c.args.phase.now) c.is_orderly.ensures w c.loop-order.month.readings read c.loop-order.campaign.what c.loop-order.month o c.loop-order.invariant.well.holds_still) in
     let step = c.in_ok-carry_one.ensures.step ∙ ap (λ r. found_written order r before o) c.loop-order.invariant.readings in
     record {
-      orders = ap (λ p. fold one p (drop (i + 1) xs)) step ∙ sym (ap (fold one before) (drop_more xs i none c.loop-order-test.true)) ∙ c.loop-order.invariant.orders;
+      orders = fold_behind one xs i no_order before c.loop-order-test.true step c.loop-order.invariant.orders;
       readings = ap (λ (p : State × Course). p.1.readings) step ∙ written_readings (P.step c.args.phase.now) w readings before o ∙ c.loop-order.invariant.readings;
       well = well_twice w c.args.campaign.now.what c.loop-order.campaign.what _ c.loop-order.invariant.well well;
       marks = marks-trans c.args.campaign.now c.loop-order.campaign _ c.loop-order.invariant.marks c.in_ok-carry_one.ensures.marks;
@@ -67,12 +60,10 @@ returns-clause-meaning g c =
     let P = g.P.OrderPhase in
     let w = c.args.world.now in
     let start : State × Course = (c.args.campaign.now.what, c.args.month.now) in
-    let xs = c.deref-order-items.result.now in
-    let i = c.loop-order.order-index in
-    let past : drop i xs ≡ [] = drop_all i xs (omega (arith, c.loop-order-test.false)) in
     let behind : State × Course = (c.loop-order.campaign.what, c.loop-order.month) in
     let one = found_written (one_order (P.step c.args.phase.now) w) c.args.month.now.readings in
-    sym (ap (fold one behind) past) ∙ c.loop-order.invariant.orders ∙ ap (fold one start) (c.deref-order-items.ensures.value ∙ c.in_ok-orders.ensures)
+    fold_ended one c.deref-order-items.result.now c.loop-order.order-index behind (omega (arith, c.loop-order-test.false)) c.loop-order.invariant.orders
+    ∙ ap (fold one start) (c.deref-order-items.ensures.value ∙ c.in_ok-orders.ensures)
     ∙ written_out (P.step c.args.phase.now) w g.P.PhaseVerbs.is_of c.args.campaign.now.what c.args.month.now
 
 pub returns-clause-leaves : goal.returns-clause-leaves
@@ -86,7 +77,7 @@ returns-clause-keeps g c =
     let P = g.P.OrderPhase in
     let w = c.args.world.now in
     let m = c.args.month.now in
-    let ts = values (orders_of g.P.PhaseVerbs.is_of ByUnit m.aliases m.readings) in
+    let ts = orders_by_unit g.P.PhaseVerbs.is_of m in
     subst (λ d. AreSpared P.concerns P.spares ts c.args.campaign.now.what d) (sym (ap (λ p. p.0) (returns-clause-meaning g c)))
     (orders_spare (P.step c.args.phase.now) c.is_orderly.ensures w c.args.campaign.now.what m ts c.requires.holds (orders_fit w m.aliases m.readings c.requires.read g.P.PhaseVerbs.is_of))
 

@@ -12,10 +12,11 @@ use Rattle.atl_instant.proofs.MovingLaws.{lent_marks, lent_what, receiver_still}
 use Rattle.atl_instant.proofs.TransferLaws.{sent_is}
 use Rattle.atl_instant.proofs.transfer.send.Goals as goal
 
-pub returns-clause-what : goal.returns-clause-what
-returns-clause-what c =
+pub returns : goal.returns
+returns c =
     let before = c.args.campaign.now in
     let between = c.take_men.new.campaign in
+    let after = c.add_men.new.campaign in
     let u = c.in-Some-Some.sender.now in
     let v = c.in-Some-Some.receiver.now in
     let sender = sym c.in-Some-Some.ensures in
@@ -25,22 +26,13 @@ returns-clause-what c =
     let k : Held = record v.holding { men = c.men-2.result + c.args.going; days = with_days v.holding.days c.deref.result.now } in
     let h_is : h ≡ with_fewer c.args.going u.holding = rw (c.men.ensures.value, c.in_ok-left.ensures) (fewer_is c.args.going u.holding) in
     let k_is : k ≡ with_more c.args.going u.holding v.holding = rw (c.men-2.ensures.value, c.deref.ensures.value, c.in_ok-raised.ensures) (more_is c.args.going u.holding v.holding (listed v c.args.to receiver)) in
-    rw (sender, receiver)
-    (sent_is before.what between.what c.add_men.new.campaign.what c.args.from c.args.to c.args.going u v h k c.requires.apart sender receiver h_is k_is
-    (lent_what before between c.args.from u h sender (c.take_men.ensures u sender))
-    (λ still. lent_what between c.add_men.new.campaign c.args.to v k still (c.in_ok-add_men.ensures v still)))
-
-pub returns-clause-marks : goal.returns-clause-marks
-returns-clause-marks c =
-    let before = c.args.campaign.now in
-    let between = c.take_men.new.campaign in
-    let u = c.in-Some-Some.sender.now in
-    let v = c.in-Some-Some.receiver.now in
-    let sender = sym c.in-Some-Some.ensures in
-    let receiver = sym c.in-Some-Some.ensures' in
-    let h : Held = record u.holding { men = c.men.result - c.args.going; days = c.in_ok-left.left } in
-    let k : Held = record v.holding { men = c.men-2.result + c.args.going; days = with_days v.holding.days c.deref.result.now } in
     let first = lent_what before between c.args.from u h sender (c.take_men.ensures u sender) in
     let still : get between.what.units c.args.to ≡ Some v =
     ap (λ (s : State). get s.units c.args.to) first ∙ receiver_still before.what c.args.from c.args.to u v h k sender receiver c.requires.apart in
-    marks-trans before between c.add_men.new.campaign (lent_marks before between c.args.from h (c.take_men.ensures u sender)) (lent_marks between c.add_men.new.campaign c.args.to k (c.in_ok-add_men.ensures v still))
+    record {
+      what =
+          rw (sender, receiver)
+          (sent_is before.what between.what after.what c.args.from c.args.to c.args.going u v h k c.requires.apart sender receiver h_is k_is first
+          (λ here. lent_what between after c.args.to v k here (c.in_ok-add_men.ensures v here)));
+      marks = marks-trans before between after (lent_marks before between c.args.from h (c.take_men.ensures u sender)) (lent_marks between after c.args.to k (c.in_ok-add_men.ensures v still));
+    }

@@ -8,7 +8,7 @@ use Rattle.atl_state.specs.declared.books.Entry.TheVariants.{Income}
 use Rattle.atl_state.specs.declared.books.Thing.TheVariants.{Money}
 use Rattle.atl_instant.specs.Meaning.{moves_only}
 use Rattle.atl_instant.proofs.BookingLaws.{booked-room, booking_fits, within-pos}
-use Rattle.atl_month.proofs.SeasonLaws.{growth_marks}
+use Rattle.atl_month.proofs.SeasonLaws.{births_first, growth_marks}
 use Rattle.atl_month.proofs.season.grow.Goals as goal
 
 pub book-requires-clause-fits : goal.book-requires-clause-fits
@@ -26,7 +26,7 @@ book-requires-2-clause-fits c =
     let (things, two, grid) = c.requires.grid in
     rw (same, c.from-2.ensures, c.book.ensures.what, one, c.from.ensures, c.set_region_money.ensures.what, c.set_peasants.ensures.what)
     (booking_fits _ (pos c.args.earned) most_amount (within-pos c.args.earned most_amount (omega (arith, c.requires.money)))
-    (booked-room things books Births People (pos c.args.born) most_amount grid (omega arith) (within-pos c.args.born most_amount (omega (arith, c.requires.peasants))) (moves_only most_amount Income Money) c.requires.room Income Money))
+    (booked-room things books Births People (pos c.args.born) most_amount grid (omega arith) (within-pos c.args.born most_amount (omega (arith, c.requires.peasants))) (moves_only most_amount Income Money) (births_first c.args.campaign.now.what c.requires.room) Income Money))
 
 pub returns-clause-marks : goal.returns-clause-marks
 returns-clause-marks c =

@@ -1,13 +1,13 @@
-use Rattle.std.proofs.Common.{rules, ◌≡◌, ◌<◌, length, sym, arith}
+use Rattle.std.proofs.Common.{rules, ◌≡◌, sym, arith}
 use Rattle.std.specs.FinMap.{entries}
 use Rattle.atl_tables.specs.Limits.{most_amount}
 use Rattle.atl_state.specs.declared.books.Entry.TheVariants.{Lost}
 use Rattle.atl_state.specs.declared.books.Thing.TheVariants.{Money}
 use Rattle.atl_state.specs.Books.{amount_in}
 use Rattle.atl_state.proofs.CoverLaws.{marks-trans}
-use Rattle.atl_state.proofs.EveryLaws.{each-from_every}
 use Rattle.atl_state.proofs.LeavingLaws.{marks-without}
 use Rattle.atl_instant.proofs.MeaningLaws.{less_room}
+use Rattle.atl_instant.proofs.QuitLaws.{known_held}
 use Rattle.atl_month.proofs.SweepRunLaws.{items_room, money_steady}
 use Rattle.atl_month.proofs.sweep.sweep_unit.Goals as goal
 
@@ -16,28 +16,20 @@ pass_money-requires-clause-room c =
     less_room c.money-money.result most_amount (amount_in c.args.campaign.now.what.books Lost Money)
     (omega (arith, c.money-money.ensures.value, c.money-money.ensures.fits)) (c.requires.room Lost Money)
 
-pub pass_items-requires-clause-steady : goal.pass_items-requires-clause-steady
-pass_items-requires-clause-steady c =
-    rw c.pass_money.ensures.what
-    (money_steady c.args.world.now c.args.campaign.now.what c.requires.steady c.receiver_in-to.result c.money-money.result)
-
-pub pass_items-requires-clause-known : goal.pass_items-requires-clause-known
-pass_items-requires-clause-known c =
+pub pass_items-requires : goal.pass_items-requires
+pass_items-requires c =
     let w = c.args.world.now in
-    let u = c.in-Some.unit.now in
-    let there = sym c.in-Some.ensures in
-    let list : c.deref.result.now ≡ entries u.holding.items = search rules in
-    rw list (each-from_every (λ i amount. i < length w.items) u.holding.items (c.requires.steady.known.units c.args.number u there).items)
-
-pub pass_items-requires-clause-room : goal.pass_items-requires-clause-room
-pass_items-requires-clause-room c =
-    let w = c.args.world.now in
+    let before = c.args.campaign.now.what in
+    let to = c.receiver_in-to.result in
     let u = c.in-Some.unit.now in
     let there = sym c.in-Some.ensures in
     let list : c.deref.result.now ≡ entries u.holding.items = search rules in
     let none : u.holding.men ≡ 0 = search rules in
-    rw (list, c.pass_money.ensures.what, c.money-money.ensures.value)
-    (items_room w c.args.campaign.now.what c.requires.steady c.args.number c.receiver_in-to.result u there none c.requires.room)
+    record {
+      steady = rw c.pass_money.ensures.what (money_steady w before c.requires.steady to c.money-money.result);
+      known = rw list (known_held w before c.args.number u there c.requires.steady);
+      room = rw (list, c.pass_money.ensures.what, c.money-money.ensures.value) (items_room w before c.requires.steady c.args.number to u there none c.requires.room);
+    }
 
 pub returns-clause-marks : goal.returns-clause-marks
 returns-clause-marks c =

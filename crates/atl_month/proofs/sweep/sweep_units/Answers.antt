@@ -1,10 +1,9 @@
-use Rattle.std.proofs.Common.{◌≡◌, ◌∷◌, ◌+◌, ℕ, List, length, drop, get_or, sym, ap, subst, ◌∙◌}
-use Rattle.std.specs.Prelude.{fold}
+use Rattle.std.proofs.Common.{◌≡◌, ◌∷◌, ◌+◌, ℕ, List, length, drop, get_or, sym, subst, ◌∙◌}
 use Rattle.std.proofs.lemmas.List.{drop_more}
 use Rattle.atl_tables.specs.Limits.{most_amount}
-use Rattle.atl_state.specs.State.{State}
 use Rattle.atl_state.proofs.CoverLaws.{marks-trans}
 use Rattle.atl_instant.specs.Meaning.{HaveRoom, moved_times}
+use Rattle.atl_instant.proofs.FoldLaws.{fold_behind}
 use Rattle.atl_instant.proofs.MeaningLaws.{room_behind_one, room_for_one}
 use Rattle.atl_month.specs.Sweep.{loses_by, swept_at}
 use Rattle.atl_month.proofs.ReceiverLaws.{receiver_stays}
@@ -32,7 +31,7 @@ loop-number-preserved c =
     let behind : drop i list ≡ n ∷ drop (i + 1) list = drop_more list i _ c.loop-number-test.true in
     let is : c.sweep_unit.new.campaign.what ≡ swept_at before n = c.in_ok-sweep_unit.ensures.what in
     record {
-      rest = ap (λ (d : State). fold swept_at d (drop (i + 1) list)) is ∙ sym (ap (fold swept_at before) behind) ∙ old.rest;
+      rest = fold_behind swept_at list i 0 before c.loop-number-test.true is old.rest;
       steady = rw is (swept_at_leaves_well w before n old.steady).leaves_it;
       receivers = rw is (λ region faction. old.receivers region faction ∙ sym (receiver_stays w before n old.steady region faction));
       room =

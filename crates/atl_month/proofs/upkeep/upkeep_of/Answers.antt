@@ -1,4 +1,5 @@
-use Rattle.std.proofs.Common.{ap, sym, arith}
+use Rattle.std.proofs.Common.{ap, sym, arith, rules}
+use Rattle.std.proofs.lemmas.Grind.{common_steps}
 use Rattle.std.specs.Prelude.{neg_ℤ, pos}
 use Rattle.atl_tables.specs.Limits.{most_amount}
 use Rattle.atl_state.specs.Books.{amount_in, with_booked}
@@ -13,67 +14,51 @@ use Rattle.atl_instant.proofs.MeaningLaws.{less_room}
 use Rattle.atl_month.proofs.UpkeepLaws.{few_paid, few_starved, upkeep_at_is, upkeep_marks}
 use Rattle.atl_month.proofs.upkeep.upkeep_of.Goals as goal
 
-pub book_taken-requires-clause-there : goal.book_taken-requires-clause-there
-book_taken-requires-clause-there c =
+pub book_taken-requires : goal.book_taken-requires
+book_taken-requires c =
     let (w, can) = c.requires in
     let s = c.args.settled.now in
-    let before = c.args.campaign.now in
+    let before = c.args.campaign.now.what in
     let u = can.unit in
     let what = c.in_ok-supply_unit.ensures.what u can.there in
-    rw (ap (λ (s : State). s.books) what) (omega (arith, can.steady.numbers.books.rows))
+    let few = few_paid w before s u can.there can.spare can.steady in
+    record {
+      there = rw (ap (λ (s : State). s.books) what) (omega (arith, can.steady.numbers.books.rows));
+      room = rw (ap (λ (s : State). s.books) what) (less_room s.paid most_amount (amount_in before.books Upkeep Money) few (can.room Upkeep Money));
+    }
 
-pub book_taken-requires-clause-room : goal.book_taken-requires-clause-room
-book_taken-requires-clause-room c =
+pub book_taken-requires-2 : goal.book_taken-requires-2
+book_taken-requires-2 c =
     let (w, can) = c.requires in
     let s = c.args.settled.now in
-    let before = c.args.campaign.now in
-    let u = can.unit in
-    let what = c.in_ok-supply_unit.ensures.what u can.there in
-    let few = few_paid w before.what s u can.there can.spare can.steady in
-    rw (ap (λ (s : State). s.books) what) (less_room s.paid most_amount (amount_in before.what.books Upkeep Money) few (can.room Upkeep Money))
+    let before = c.args.campaign.now.what in
+    let paid = few_paid w before s can.unit can.there can.spare can.steady in
+    let starved = few_starved w before s can.unit can.there can.spare can.steady in
+    let behind = with_booked before.books Upkeep Money (neg_ℤ (pos s.paid)) in
+    let grid = IsGrid-with_booked (things_of w) before.books Upkeep Money (neg_ℤ (pos s.paid)) can.steady.numbers.books in
+    let booked = ap (λ (s : State). s.books) c.book_taken.ensures.what in
+    let fed = ap (λ (s : State). s.books) (c.in_ok-supply_unit.ensures.what can.unit can.there) in
+    record {
+      there = rw (booked, fed) (omega (arith, grid.rows));
+      room =
+          rw (booked, fed)
+          (less_room s.starved most_amount (amount_in behind Starved People) starved
+          (booked-room (things_of w) before.books Upkeep Money (neg_ℤ (pos s.paid)) most_amount can.steady.numbers.books (omega arith)
+          (within-neg s.paid most_amount paid) (moves_only most_amount Starved People) can.room Starved People));
+    }
 
-pub book_taken-requires-2-clause-there : goal.book_taken-requires-2-clause-there
-book_taken-requires-2-clause-there c =
+pub returns : goal.returns
+returns c =
     let (w, can) = c.requires in
     let s = c.args.settled.now in
     let before = c.args.campaign.now in
-    let u = can.unit in
-    let what = c.in_ok-supply_unit.ensures.what u can.there in
-    let grid = IsGrid-with_booked (things_of w) before.what.books Upkeep Money (neg_ℤ (pos s.paid)) can.steady.numbers.books in
-    rw (ap (λ (s : State). s.books) c.book_taken.ensures.what, ap (λ (s : State). s.books) what) (omega (arith, grid.rows))
-
-pub book_taken-requires-2-clause-room : goal.book_taken-requires-2-clause-room
-book_taken-requires-2-clause-room c =
-    let (w, can) = c.requires in
-    let s = c.args.settled.now in
-    let before = c.args.campaign.now in
-    let u = can.unit in
-    let what = c.in_ok-supply_unit.ensures.what u can.there in
-    let paid = few_paid w before.what s u can.there can.spare can.steady in
-    let starved = few_starved w before.what s u can.there can.spare can.steady in
-    let behind = with_booked before.what.books Upkeep Money (neg_ℤ (pos s.paid)) in
-    rw (ap (λ (s : State). s.books) c.book_taken.ensures.what, ap (λ (s : State). s.books) what)
-    (less_room s.starved most_amount (amount_in behind Starved People) starved
-    (booked-room (things_of w) before.what.books Upkeep Money (neg_ℤ (pos s.paid)) most_amount can.steady.numbers.books (omega arith)
-    (within-neg s.paid most_amount paid) (moves_only most_amount Starved People) can.room Starved People))
-
-pub returns-clause-what : goal.returns-clause-what
-returns-clause-what c =
-    let (w, can) = c.requires in
-    let s = c.args.settled.now in
-    let before = c.args.campaign.now in
-    let u = can.unit in
-    let what = c.in_ok-supply_unit.ensures.what u can.there in
-    rw (c.book_taken-2.ensures.what, c.book_taken.ensures.what, what) (sym (upkeep_at_is before.what s u can.there))
-
-pub returns-clause-marks : goal.returns-clause-marks
-returns-clause-marks c =
-    let (w, can) = c.requires in
-    let s = c.args.settled.now in
-    let before = c.args.campaign.now in
-    let u = can.unit in
-    let what = c.in_ok-supply_unit.ensures.what u can.there in
-    upkeep_marks (things_of w) before c.supply_unit.new.campaign c.book_taken.new.campaign c.book_taken-2.new.campaign s
-    (neg_ℤ (pos s.paid)) (neg_ℤ (pos s.starved))
-    c.in_ok-supply_unit.ensures.marks c.book_taken.ensures.what c.book_taken.ensures.marks c.book_taken-2.ensures.what c.book_taken-2.ensures.marks
-    (rw (ap (λ (d : State). d.books) what) can.steady.numbers.books) (omega arith)
+    let what = c.in_ok-supply_unit.ensures.what can.unit can.there in
+    record {
+      what = rw (c.book_taken-2.ensures.what, c.book_taken.ensures.what, what) (sym (upkeep_at_is before.what s can.unit can.there));
+      marks =
+          upkeep_marks (things_of w) before c.supply_unit.new.campaign c.book_taken.new.campaign c.book_taken-2.new.campaign s
+          (neg_ℤ (pos s.paid)) (neg_ℤ (pos s.starved))
+          c.in_ok-supply_unit.ensures.marks c.book_taken.ensures.what c.book_taken.ensures.marks c.book_taken-2.ensures.what c.book_taken-2.ensures.marks
+          (rw (ap (λ (d : State). d.books) what) can.steady.numbers.books) (omega arith);
+      goods = first_of (search rules, grind (arith, common_steps));
+    }

@@ -1,24 +1,19 @@
-use Rattle.std.proofs.Common.{◌≡◌, ◌+◌, [], refl, ap, subst, sym, ◌∙◌, drop, get_or, arith}
-use Rattle.std.proofs.lemmas.List.{drop_all, drop_more}
+use Rattle.std.proofs.Common.{◌≡◌, refl, ap, subst, sym, ◌∙◌, get_or, arith}
 use Rattle.std.specs.Prelude.{fold, Some}
 use Rattle.std.specs.FinMap.{get}
-use Rattle.atl_orders.specs.declared.verb.Verb.TheVariants.{Form}
 use Rattle.atl_state.specs.Good.{IsEarly}
 use Rattle.atl_state.specs.State.{State}
 use Rattle.atl_state.proofs.CoverLaws.{marks-refl, marks-trans}
 use Rattle.atl_instant.specs.Course.{Course}
 use Rattle.atl_instant.specs.Steps.{StepsWell}
 use Rattle.atl_instant.specs.Unbooked.{books_nothing}
-use Rattle.atl_instant.specs.declared.written.Written.{Written}
+use Rattle.atl_instant.proofs.FoldLaws.{fold_behind, fold_ended}
+use Rattle.atl_instant.proofs.FoundOrderLaws.{no_order}
 use Rattle.atl_instant.proofs.FormLaws.{free_number, written_out, written_readings, written_stays, written_well}
 use Rattle.atl_instant.proofs.StepLaws.{leaves_well, well_same, well_twice}
 use Rattle.atl_instant.proofs.form.FormPhasePhase.run.Goals as goal
 use Rattle.atl_instant.specs.Form.{form_order}
 use Rattle.atl_instant.specs.Carrying.{found_written}
-
--- what stands where nothing is read
-abbrev none : Written
-none = record { unit = 0; line = 0; faction = 0; verb = Form; place = 0 }
 
 pub loop-order-init : goal.loop-order-init
 loop-order-init c = record {
@@ -40,13 +35,13 @@ loop-order-preserved c =
     let before : State × Course = (now, c.loop-order.month) in
     let xs = c.deref-order-items.result.now in
     let i = c.loop-order.order-index in
-    let o = get_or xs i none in
+    let o = get_or xs i no_order in
     let one = found_written form_order c.args.month.readings in
     let step = c.in_ok-form_one.ensures.step ∙ ap (λ r. found_written form_order r before o) c.loop-order.invariant.readings in
     let what = ap (λ (p : State × Course). p.0) c.in_ok-form_one.ensures.step in
     let early = c.loop-order.invariant.well.holds_still in
     record {
-      orders = ap (λ p. fold one p (drop (i + 1) xs)) step ∙ sym (ap (fold one before) (drop_more xs i none c.loop-order-test.true)) ∙ c.loop-order.invariant.orders;
+      orders = fold_behind one xs i no_order before c.loop-order-test.true step c.loop-order.invariant.orders;
       readings = ap (λ (p : State × Course). p.1.readings) step ∙ written_readings c.args.month.readings before o ∙ c.loop-order.invariant.readings;
       well = well_twice w old now _ c.loop-order.invariant.well (subst (λ d. StepsWell IsEarly books_nothing w now d) (sym what) (written_well w now early c.loop-order.month o));
       stays = λ n u there. subst (λ (d : State). get d.units n ≡ Some u) (sym what) (written_stays w now early c.loop-order.month o n u (c.loop-order.invariant.stays n u there));
@@ -56,12 +51,10 @@ loop-order-preserved c =
 pub returns-clause-meaning : goal.returns-clause-meaning
 returns-clause-meaning c =
     let start : State × Course = (c.args.campaign.what, c.args.month) in
-    let xs = c.deref-order-items.result.now in
-    let i = c.loop-order.order-index in
-    let past : drop i xs ≡ [] = drop_all i xs (omega (arith, c.loop-order-test.false)) in
     let behind : State × Course = (c.loop-order.campaign.what, c.loop-order.month) in
     let one = found_written form_order c.args.month.readings in
-    sym (ap (fold one behind) past) ∙ c.loop-order.invariant.orders ∙ ap (fold one start) (c.deref-order-items.ensures.value ∙ c.in_ok-orders.ensures)
+    fold_ended one c.deref-order-items.result.now c.loop-order.order-index behind (omega (arith, c.loop-order-test.false)) c.loop-order.invariant.orders
+    ∙ ap (fold one start) (c.deref-order-items.ensures.value ∙ c.in_ok-orders.ensures)
     ∙ written_out c.args._world.now c.args.campaign.what c.args.month
 
 pub returns-clause-leaves : goal.returns-clause-leaves

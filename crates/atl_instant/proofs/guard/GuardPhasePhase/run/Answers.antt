@@ -1,8 +1,5 @@
-use Rattle.std.proofs.Common.{◌≡◌, ◌+◌, [], refl, ap, subst, sym, ◌∙◌, drop, get_or, arith}
-use Rattle.std.proofs.lemmas.List.{drop_all, drop_more}
+use Rattle.std.proofs.Common.{refl, ap, subst, sym, ◌∙◌, get_or, arith}
 use Rattle.std.specs.Prelude.{fold}
-use Rattle.std.specs.FinMap.{values}
-use Rattle.atl_orders.specs.declared.verb.Verb.TheVariants.{Form}
 use Rattle.atl_state.specs.Good.{IsSteady}
 use Rattle.atl_state.specs.State.{State}
 use Rattle.atl_state.proofs.CoverLaws.{marks-refl, marks-trans}
@@ -11,20 +8,16 @@ use Rattle.atl_instant.specs.Course.{Course}
 use Rattle.atl_instant.specs.Fit.{AreFit}
 use Rattle.atl_instant.specs.Guard.{guard_concerns, guard_step, is_guarding}
 use Rattle.atl_instant.specs.Holders.{AreHolders}
-use Rattle.atl_instant.specs.PhaseOrders.{orders_of}
+use Rattle.atl_instant.specs.PhaseOrders.{orders_by_unit}
 use Rattle.atl_instant.specs.Staying.{IsNoWorse}
 use Rattle.atl_instant.specs.Steps.{AreSpared, StepsWell, carried_out, one_order}
 use Rattle.atl_instant.specs.Unbooked.{books_nothing}
-use Rattle.atl_instant.specs.declared.written.Arrangement.TheVariants.{ByUnit}
-use Rattle.atl_instant.specs.declared.written.Written.{Written}
+use Rattle.atl_instant.proofs.FoldLaws.{fold_behind, fold_ended}
+use Rattle.atl_instant.proofs.FoundOrderLaws.{no_order}
 use Rattle.atl_instant.proofs.GuardingLaws.{guard_orderly}
 use Rattle.atl_instant.proofs.HolderLaws.{holders_are}
 use Rattle.atl_instant.proofs.StepLaws.{leaves_well, orders_fit, orders_spare, well_same, well_twice, written_out, written_readings, written_well}
 use Rattle.atl_instant.proofs.guard.GuardPhasePhase.run.Goals as goal
-
--- what stands where nothing is read
-abbrev none : Written
-none = record { unit = 0; line = 0; faction = 0; verb = Form; place = 0 }
 
 pub loop-order-init : goal.loop-order-init
 loop-order-init c = record {
@@ -43,13 +36,13 @@ loop-order-preserved c =
     let one = found_written (one_order guard_step w) c.args.month.readings in
     let xs = c.deref-order-items.result.now in
     let i = c.loop-order.order-index in
-    let o = get_or xs i none in
+    let o = get_or xs i no_order in
     let read = subst (AreFit w) (sym c.loop-order.invariant.readings) c.requires.read in
     let is = c.in_ok-guard_one.ensures.step w in
     let step = is ∙ ap (λ r. found_written (one_order guard_step w) r before o) c.loop-order.invariant.readings in
     let well = written_well guard_step guard_orderly w c.loop-order.month.readings read now c.loop-order.month o c.loop-order.invariant.well.holds_still in
     record {
-      orders = ap (λ p. fold one p (drop (i + 1) xs)) step ∙ sym (ap (fold one before) (drop_more xs i none c.loop-order-test.true)) ∙ c.loop-order.invariant.orders;
+      orders = fold_behind one xs i no_order before c.loop-order-test.true step c.loop-order.invariant.orders;
       readings = ap (λ (p : State × Course). p.1.readings) step ∙ written_readings guard_step w c.args.month.readings before o ∙ c.loop-order.invariant.readings;
       well = well_twice w c.args.campaign.what now _ c.loop-order.invariant.well (subst (StepsWell IsSteady books_nothing w now) (sym (ap (λ (p : State × Course). p.0) is)) well);
       held = c.in_ok-guard_one.ensures.held;
@@ -60,12 +53,10 @@ pub returns-clause-meaning : goal.returns-clause-meaning
 returns-clause-meaning c =
     let w = c.args._world.now in
     let start : State × Course = (c.args.campaign.what, c.args.month) in
-    let xs = c.deref-order-items.result.now in
-    let i = c.loop-order.order-index in
-    let past : drop i xs ≡ [] = drop_all i xs (omega (arith, c.loop-order-test.false)) in
     let behind : State × Course = (c.loop-order.campaign.what, c.loop-order.month) in
     let one = found_written (one_order guard_step w) c.args.month.readings in
-    sym (ap (fold one behind) past) ∙ c.loop-order.invariant.orders ∙ ap (fold one start) (c.deref-order-items.ensures.value ∙ c.in_ok-orders.ensures)
+    fold_ended one c.deref-order-items.result.now c.loop-order.order-index behind (omega (arith, c.loop-order-test.false)) c.loop-order.invariant.orders
+    ∙ ap (fold one start) (c.deref-order-items.ensures.value ∙ c.in_ok-orders.ensures)
     ∙ written_out guard_step w is_guarding c.args.campaign.what c.args.month
 
 pub returns-clause-leaves : goal.returns-clause-leaves
@@ -76,7 +67,7 @@ unfolding carried_out
 returns-clause-keeps c =
     let w = c.args._world.now in
     let m = c.args.month in
-    let ts = values (orders_of is_guarding ByUnit m.aliases m.readings) in
+    let ts = orders_by_unit is_guarding m in
     subst (λ d. AreSpared guard_concerns IsNoWorse ts c.args.campaign.what d) (sym (ap (λ p. p.0) (returns-clause-meaning c)))
     (orders_spare guard_step guard_orderly w c.args.campaign.what m ts c.requires.needs (orders_fit w m.aliases m.readings c.requires.read is_guarding))
 

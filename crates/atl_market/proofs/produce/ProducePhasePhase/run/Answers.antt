@@ -1,7 +1,8 @@
 use Rattle.std.proofs.Common.{◌≡◌, subst, sym, rules}
 use Rattle.atl_state.specs.Good.{IsSteady}
 use Rattle.atl_instant.specs.Meaning.{LeavesWell, most_moved}
-use Rattle.atl_market.specs.Produce.{produce_moves, produce_orders}
+use Rattle.atl_instant.specs.PhaseOrders.{written_by_unit}
+use Rattle.atl_market.specs.Produce.{is_produce, produce_moves}
 use Rattle.atl_market.specs.Unordered.{OthersAreNoWorse}
 use Rattle.atl_market.proofs.ProduceLaws.{can_share_out, produce_keeps_others, produce_leaves_well}
 use Rattle.atl_market.proofs.produce.ProducePhasePhase.run.Goals as goal
@@ -16,6 +17,6 @@ returns-clause-leaves c =
 
 pub returns-clause-keeps : goal.returns-clause-keeps
 returns-clause-keeps c =
-    let orders : c.deref-2.result.now ≡ produce_orders c.args.month = search rules in
+    let orders : c.deref-2.result.now ≡ written_by_unit is_produce c.args.month = search rules in
     let kept = produce_keeps_others c.in_ok-asked.asked c.args.world.now c.args.campaign.what c.deref-2.result.now in
     subst (λ os. OthersAreNoWorse os c.args.campaign.what c.share_out.new.campaign.what) orders (subst (λ d. OthersAreNoWorse c.deref-2.result.now c.args.campaign.what d) (sym c.in_ok-events.ensures.what) kept)

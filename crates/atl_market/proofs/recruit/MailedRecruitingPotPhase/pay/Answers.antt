@@ -8,13 +8,13 @@ use Rattle.atl_market.proofs.recruit.MailedRecruitingPotPhase.pay.Goals as goal
 pub leave_region-requires-clause-grid : goal.leave_region-requires-clause-grid
 leave_region-requires-clause-grid c =
     let can = c.requires.can in
-    let what = held_is c.args.campaign.now.what c.join_unit.new.campaign.what c.args.number can.unit _ can.there (c.join_unit.ensures.what can.unit can.there) in
+    let what = held_is c.args.campaign.now.what c.join_unit.new.campaign.what c.args.number can.at.unit _ can.at.there (c.join_unit.ensures.what can.at.unit can.at.there) in
     (things_of c.args.world.now, omega arith, rw (ap (λ (s : State). s.books) what) can.early.steady.numbers.books)
 
 pub leave_region-requires-clause-room : goal.leave_region-requires-clause-room
 leave_region-requires-clause-room c =
     let can = c.requires.can in
-    let what = held_is c.args.campaign.now.what c.join_unit.new.campaign.what c.args.number can.unit _ can.there (c.join_unit.ensures.what can.unit can.there) in
+    let what = held_is c.args.campaign.now.what c.join_unit.new.campaign.what c.args.number can.at.unit _ can.at.there (c.join_unit.ensures.what can.at.unit can.at.there) in
     rw (ap (λ (s : State). s.books) what) can.room
 
 pub returns-clause-marks : goal.returns-clause-marks

@@ -1,7 +1,8 @@
 use Rattle.std.proofs.Common.{◌≡◌, subst, sym, rules}
 use Rattle.atl_state.specs.Good.{IsEarly}
 use Rattle.atl_instant.specs.Meaning.{LeavesWell, most_moved}
-use Rattle.atl_market.specs.Recruit.{recruit_moves, recruit_orders}
+use Rattle.atl_instant.specs.PhaseOrders.{written_by_unit}
+use Rattle.atl_market.specs.Recruit.{is_recruit, recruit_moves}
 use Rattle.atl_market.specs.Unordered.{OthersAreNoWorse}
 use Rattle.atl_market.proofs.RecruitLaws.{all_recruits_leave_well, can_share_out, recruit_keeps_others}
 use Rattle.atl_market.proofs.recruit.RecruitPhasePhase.run.Goals as goal
@@ -16,6 +17,6 @@ returns-clause-leaves c =
 
 pub returns-clause-keeps : goal.returns-clause-keeps
 returns-clause-keeps c =
-    let orders : c.deref-2.result.now ≡ recruit_orders c.args.month = search rules in
+    let orders : c.deref-2.result.now ≡ written_by_unit is_recruit c.args.month = search rules in
     let kept = recruit_keeps_others c.in_ok-asked.asked c.args.world.now c.args.campaign.what c.deref-2.result.now in
     subst (λ os. OthersAreNoWorse os c.args.campaign.what c.share_out.new.campaign.what) orders (subst (λ d. OthersAreNoWorse c.deref-2.result.now c.args.campaign.what d) (sym c.in_ok-events.ensures.what) kept)

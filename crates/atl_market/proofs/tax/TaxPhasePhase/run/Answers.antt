@@ -2,7 +2,7 @@ use Rattle.std.proofs.Common.{subst, sym}
 use Rattle.atl_state.specs.Good.{IsEarly}
 use Rattle.atl_instant.specs.Meaning.{LeavesWell}
 use Rattle.atl_instant.specs.Staying.{AreNoWorse}
-use Rattle.atl_market.specs.Tax.{tax_moves}
+use Rattle.atl_instant.specs.Unbooked.{moves_nothing}
 use Rattle.atl_market.proofs.TaxLaws.{all_taxes_leave_well, can_share_out, tax_keeps_units}
 use Rattle.atl_market.proofs.tax.TaxPhasePhase.run.Goals as goal
 
@@ -11,7 +11,7 @@ share_out-requires c = record { needs = c.requires.needs; can = can_share_out c.
 
 pub returns-clause-leaves : goal.returns-clause-leaves
 returns-clause-leaves c =
-    subst (λ d. LeavesWell IsEarly tax_moves c.args.world.now c.args.campaign.what d) (sym c.in_ok-events.ensures.what)
+    subst (λ d. LeavesWell IsEarly moves_nothing c.args.world.now c.args.campaign.what d) (sym c.in_ok-events.ensures.what)
     (all_taxes_leave_well c.args.world.now c.args.campaign.what c.requires.needs c.deref.result.now)
 
 pub returns-clause-keeps : goal.returns-clause-keeps

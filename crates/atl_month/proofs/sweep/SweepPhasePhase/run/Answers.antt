@@ -1,4 +1,5 @@
-use Rattle.std.proofs.Common.{rules, ◌≡◌, length}
+use Rattle.std.proofs.Common.{rules, ◌≡◌, length, refl, arith}
+use Rattle.std.proofs.lemmas.Grind.{common_steps}
 use Rattle.atl_tables.specs.Limits.{most_amount}
 use Rattle.atl_state.proofs.CoverLaws.{marks-trans}
 use Rattle.atl_instant.specs.Meaning.{most_moved, moved_times}
@@ -17,19 +18,15 @@ sweep_units-requires-clause-room c =
     let list : c.deref.result.now ≡ menless before = search rules in
     rw list (room_less (moved_times (length (menless before)) (loses_by most_amount)) (loses_by most_moved) before (loses_little (length (menless before)) (few_menless w before c.requires.needs)) c.requires.room)
 
-pub returns-clause-leaves : goal.returns-clause-leaves
-returns-clause-leaves c =
+pub returns : goal.returns
+returns c =
     let w = c.args.world.now in
     let before = c.args.campaign.what in
     let is : c.sweep_factions.new.campaign.what ≡ sweep before = search rules in
-    rw is (sweep_leaves_well w before c.requires.needs)
-
-pub returns-clause-keeps : goal.returns-clause-keeps
-returns-clause-keeps c =
-    let w = c.args.world.now in
-    let before = c.args.campaign.what in
-    let is : c.sweep_factions.new.campaign.what ≡ sweep before = search rules in
-    rw is (sweep_keeps_all w before c.requires.needs)
-
-pub returns-clause-marks : goal.returns-clause-marks
-returns-clause-marks c = marks-trans c.args.campaign c.sweep_units.new.campaign c.sweep_factions.new.campaign c.in_ok-sweep_units.ensures.marks c.sweep_factions.ensures.marks
+    record {
+      meaning = first_of (search rules, grind (arith, common_steps));
+      leaves = rw is (sweep_leaves_well w before c.requires.needs);
+      keeps = rw is (sweep_keeps_all w before c.requires.needs);
+      readings = refl;
+      marks = marks-trans c.args.campaign c.sweep_units.new.campaign c.sweep_factions.new.campaign c.in_ok-sweep_units.ensures.marks c.sweep_factions.ensures.marks;
+    }
