@@ -21,6 +21,8 @@ use Rattle.atl_store.specs.Shown.{int, books_key, books_row}
 use Rattle.atl_store.specs.Rows.{RowsOf, HasRowsOf, BooksRowsOf, things_of}
 use Rattle.atl_store.specs.Lines.{amount_lines}
 use Rattle.atl_store.specs.Arriving.{settled, Settles}
+use Rattle.atl_store.specs.Statements.{put_books, drop_books}
+use Rattle.atl_store.specs.OwnStatements.{OfAmount, puts_amount, drops_amount, OfChange, changes_row, puts_books, drops_books}
 use Rattle.atl_store.proofs.EntryLaws.{same_number}
 use Rattle.atl_store.proofs.GoodsLaws.{optional_has, has_optional}
 use Rattle.atl_store.proofs.LedgerLaws.{two_same, differs_zero, is_differing, amount_is}
@@ -130,6 +132,18 @@ module _ (c : Campaign) (e : Entry) (t : Thing) where
             let keys = two_same (entry_place f + 1) (thing_place u) (entry_place e + 1) (thing_place t) (ap (take 2) (sym is) ∙ q) in
             elim far [ inl entries ↦ entries (omega (arith, keys.0)) | inr things ↦ things keys.1 ],
       )
+
+-- its statements are the ones of the amount
+module _ (c : Campaign) (e : Entry) (t : Thing) (n k : ℕ) (entry : n ≡ entry_place e + 1) (thing : k ≡ thing_place t) where
+  pub amount_put : (z : ℤ) → z ≡ amount_in c.books e t → z ≢ pos 0 → OfAmount c e t put_books (books_row n k z)
+  amount_put z amount some = rw (entry, thing, amount) (puts_amount (λ zero. some (amount ∙ zero)))
+
+  pub amount_taken : amount_in c.books e t ≡ pos 0 → OfAmount c e t drop_books (books_key n k)
+  amount_taken zero = rw (entry, thing) (drops_amount zero)
+
+pub amount_changes : (c : Campaign) (e : Entry) (t : Thing) (sql : List ℕ) (params : Row) → OfAmount c e t sql params → OfChange c sql params
+amount_changes c e t sql params (puts_amount some) = changes_row (puts_books (e, t, some, refl))
+amount_changes c e t sql params (drops_amount zero) = drops_books e t zero
 
 -- the row of an amount is put, or taken out where the amount is 0
 module _ (c : Campaign) (e : Entry) (t : Thing) (n k : ℕ) (entry : n ≡ entry_place e + 1) (thing : k ≡ thing_place t) (old new : Database) where

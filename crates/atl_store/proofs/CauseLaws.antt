@@ -13,6 +13,7 @@ use Rattle.sqlite.specs.Order.{Row}
 use Rattle.sqlite.specs.State.{State, HasCleanDisk, Survives, KeepsCommit, ExecutesIn, IsNotRun, Fails, HasCause, store_error, shows_rows}
 use Rattle.sqlite.proofs.InsideLemmas.{keeps_then}
 use Rattle.atl_store.specs.Faults.{is_memory}
+use Rattle.atl_store.specs.OwnStatements.{Statements}
 use Rattle.atl_store.specs.Causes.{IsGiven, IsBroken, IsRefused, Gives, Leads, IsReached}
 
 more_later : (a b c : ℕ) → b ≤ c → MoreFaults a b → MoreFaults a c
@@ -50,36 +51,60 @@ module _ (old new : State) where
     | inr runs ↦ elim (rw runs at ran.2) [ inl refused ↦ inr (inr refused.1) | inr failed ↦ by_failure _ e failed other ]
   ]
 
-  by_call : (e : Error) → IsGiven e old new → is_memory e ≡ false → Caused e
-  by_call e (inl ran) other = elim ran.3 [ inl whole ↦ by_execution ran.0 ran.1 e whole.0 other | inr ends ↦ inr (inr ends.2) ]
-  by_call e (inr (inside, inl failed)) other = by_failure _ e failed other
-  by_call e (inr (inside, inr late)) other = inr (inr late.2)
+  by_call : (own : Statements) (e : Error) → IsGiven own e old new → is_memory e ≡ false → Caused e
+  by_call own e (inl ran) other = elim ran.3 [ inl whole ↦ by_execution ran.0 ran.1 e whole.0 other | inr ends ↦ inr (inr ends.2) ]
+  by_call own e (inr (inside, inl failed)) other = by_failure _ e failed other
+  by_call own e (inr (inside, inr late)) other = inr (inr late.2)
 
 -- ---- one statement after another
 
-module _ {S : Type 0} (g : Ghosts S) where
-  pub reached_then : (count : ℕ) (a b c : Held S) → Leads g count a b → IsReached g b c → IsReached g a c
-  reached_then zero a b c same rest = subst (λ h. IsReached g h c) (sym same) rest
+module _ {S : Type 0} (g : Ghosts S) (own : Statements) where
+  pub reached_then : (count : ℕ) (a b c : Held S) → Leads g own count a b → IsReached g own b c → IsReached g own a c
+  reached_then zero a b c same rest = subst (λ h. IsReached g own h c) (sym same) rest
   reached_then (suc count) a b c first rest = let whole = reached_then count first.0 b c first.2 rest in (suc whole.0, (first.0, first.1, whole.1))
+
+-- ---- statements that are among others
+
+module _ {S : Type 0} (g : Ghosts S) (own more : Statements) (among : (sql : List ℕ) (params : Row) → own sql params → more sql params) where
+  leads_among : (count : ℕ) (old new : Held S) → Leads g own count old new → Leads g more count old new
+  leads_among zero old new same = same
+  leads_among (suc count) old new (mid, ran, rest) = (mid, (ran.0, ran.1, among ran.0 ran.1 ran.2, ran.3, ran.4), leads_among count mid new rest)
+
+  pub reached_among : (old new : Held S) → IsReached g own old new → IsReached g more old new
+  reached_among old new reached = (reached.0, leads_among reached.0 old new reached.1)
+
+  given_among : (e : Error) (before after : State) → IsGiven own e before after → IsGiven more e before after
+  given_among e before after (inl ran) = inl (ran.0, ran.1, among ran.0 ran.1 ran.2, ran.3)
+  given_among e before after (inr fails) = inr fails
+
+  pub gives_among : (e : Error) (old new : Held S) → Gives g own e old new → Gives g more e old new
+  gives_among e old new gave = record {
+    before = gave.before;
+    after = gave.after;
+    reached = reached_among _ gave.before gave.reached;
+    kept = gave.kept;
+    given = given_among e _ _ gave.given;
+    cause = gave.cause;
+  }
 
 -- ---- as it goes up
 
-module _ {S : Type 0} (g : Ghosts S) (e : Error) where
+module _ {S : Type 0} (g : Ghosts S) (own : Statements) (e : Error) where
   -- a connection in a transaction
   as_begun : (old : Held S) → IsTrue (state g old).in_transaction → record old { in_transaction = true } ≡ old
   as_begun old inside = ap (λ b. record old { in_transaction = b }) (sym inside)
 
-  pub gives : (old new : Held S) → IsTrue (state g old).in_transaction → IsGiven e (state g old) (state g new) → Gives g e old new
-  gives old new inside given = record { before = old; after = new; reached = (0, as_begun old inside); kept = record { was_open = λ up. up; committed = λ _. refl }; given = given; cause = by_call (state g old) (state g new) e given }
+  pub gives : (old new : Held S) → IsTrue (state g old).in_transaction → IsGiven own e (state g old) (state g new) → Gives g own e old new
+  gives old new inside given = record { before = old; after = new; reached = (0, as_begun old inside); kept = record { was_open = λ up. up; committed = λ _. refl }; given = given; cause = by_call (state g old) (state g new) own e given }
 
   -- some calls later
-  pub gives_after : (old mid new : Held S) → IsTrue (state g old).in_transaction → IsTrue (state g mid).in_transaction → IsReached g old mid → HasCleanDisk (state g mid) → KeepsCommit (state g old) (state g mid) → Survives (state g old) (state g mid) (λ _. ⊥) → (state g mid).faults ≤ (state g new).faults → Gives g e mid new → Gives g e old new
+  pub gives_after : (old mid new : Held S) → IsTrue (state g old).in_transaction → IsTrue (state g mid).in_transaction → IsReached g own old mid → HasCleanDisk (state g mid) → KeepsCommit (state g old) (state g mid) → Survives (state g old) (state g mid) (λ _. ⊥) → (state g mid).faults ≤ (state g new).faults → Gives g own e mid new → Gives g own e old new
   gives_after old mid new was is reached clean kept survives counts gave = record {
     before = gave.before;
     after = gave.after;
     reached =
-        let rest = subst (λ h. IsReached g h gave.before) (as_begun mid is) gave.reached in
-        subst (λ h. IsReached g h gave.before) (sym (as_begun old was)) (reached_then g reached.0 _ _ _ reached.1 rest);
+        let rest = subst (λ h. IsReached g own h gave.before) (as_begun mid is) gave.reached in
+        subst (λ h. IsReached g own h gave.before) (sym (as_begun old was)) (reached_then g own reached.0 _ _ _ reached.1 rest);
     kept = keeps_then (state g old) (state g mid) (state g gave.before) kept gave.kept;
     given = gave.given;
     cause = λ other. elim (gave.cause other) [
@@ -93,7 +118,7 @@ module _ {S : Type 0} (g : Ghosts S) (e : Error) where
   }
 
   -- before the connection went on
-  pub gives_until : (old mid new : Held S) → (state g mid).faults ≤ (state g new).faults → Gives g e old mid → Gives g e old new
+  pub gives_until : (old mid new : Held S) → (state g mid).faults ≤ (state g new).faults → Gives g own e old mid → Gives g own e old new
   gives_until old mid new counts gave = record {
     before = gave.before;
     after = gave.after;
@@ -104,9 +129,9 @@ module _ {S : Type 0} (g : Ghosts S) (e : Error) where
   }
 
   -- on a connection on which a transaction was begun
-  pub gives_begun : (old begun new : Held S) → begun ≡ record old { in_transaction = true } → Gives g e begun new → Gives g e old new
+  pub gives_begun : (old begun new : Held S) → begun ≡ record old { in_transaction = true } → Gives g own e begun new → Gives g own e old new
   gives_begun old begun new begins gave =
-      let same : Gives g e (record old { in_transaction = true }) new = subst (λ h. Gives g e h new) begins gave in
+      let same : Gives g own e (record old { in_transaction = true }) new = subst (λ h. Gives g own e h new) begins gave in
       record {
         before = same.before;
         after = same.after;

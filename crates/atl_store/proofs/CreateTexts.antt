@@ -1,5 +1,10 @@
 -- The nine texts that make the tables, and what each does.
-use Rattle.std.proofs.Common.{◌≡◌, ◌++◌, ◌∷◌, ℕ, false, List, [], Ok, refl, sym, subst}
+use Rattle.std.proofs.Common.{◌≡◌, ◌++◌, ◌∷◌, ℕ, false, List, [], Result, Ok, refl, sym, subst, inl, inr}
+use Rattle.std.specs.Borrow.{MutBor}
+use Rattle.sqlite_rules.specs.Lists.{Has}
+use Rattle.sqlite_trees.specs.declared.store.Store.{Ghosts}
+use Rattle.sqlite.specs.declared.error.Error.{Error}
+use Rattle.sqlite.specs.Held.{Held}
 use Rattle.sqlite_tied.specs.Compute.{everything}
 use Rattle.sqlite.specs.Change.{created, next_tree}
 use Rattle.sqlite.specs.Compile.{table_defined_by}
@@ -12,11 +17,13 @@ use Rattle.sqlite.specs.State.{State}
 use Rattle.sqlite.proofs.Callers.{IsPlain, command_of, statement_of}
 use Rattle.atl_store.specs.Tables.{campaign_table, faction_table, region_table, unit_table, has_table, structure_table, mail_table, report_table, books_table, first_tables}
 use Rattle.atl_store.specs.Making.{Extends}
-use Rattle.atl_store.specs.Writes.{Runs}
-use Rattle.atl_store.specs.Statements.{create_campaign, create_faction, create_region, create_unit, create_has, create_structure, create_mail, create_report, create_books}
+use Rattle.atl_store.specs.Writes.{Writes, Runs}
+use Rattle.atl_store.specs.OwnStatements.{Only, Creations}
+use Rattle.atl_store.specs.Statements.{create_campaign, create_faction, create_region, create_unit, create_has, create_structure, create_mail, create_report, create_books, creations}
 use Rattle.atl_store.proofs.Made.{Creates}
 use Rattle.atl_store.proofs.CreateLaws.{creates}
 use Rattle.atl_store.proofs.MakingLaws.{extends}
+use Rattle.atl_store.proofs.WriteLaws.{weaker, among_only}
 
 -- a text makes a table, which is the last of the schema then
 record IsCreate (before after : Schema) (table : Table) (text : List ℕ) : Type 0 where
@@ -29,48 +36,61 @@ record IsCreate (before after : Schema) (table : Table) (text : List ℕ) : Type
   last : after.tables ≡ before.tables ++ table ∷ []
   uncounted : lacks_sequence after ≡ false
 
+-- the text is one of the nine, and makes the one more table
 abbrev pub Makes : Schema → Schema → List ℕ → Type 1
-Makes before after text = (old new : State) → Runs text [] old new → Extends before after old new
+Makes before after text = Has creations text × ((old new : State) → Runs text [] old new → Extends before after old new)
 
-makes : (before after : Schema) (table : Table) (text : List ℕ) → IsCreate before after table text → Makes before after text
-makes before after table text is old new (inside, count, h) =
-    let uncounted = subst (λ s. lacks_sequence s ≡ false) (sym is.after_is) is.uncounted in
-    extends before after table old new inside h.1.mode is.last
-    (λ has. subst (λ s. Creates before s table.tree old.now new.now) is.after_is (subst (λ tree. Creates before (created before (record table { tree = 0 })) tree old.now new.now) is.tree_is
-    (creates before (record table { tree = 0 }) text old new count is.command is.whole is.defines is.plain uncounted has h.0)))
+makes : (before after : Schema) (table : Table) (text : List ℕ) → Has creations text → IsCreate before after table text → Makes before after text
+makes before after table text listed is = (listed, run)
+  where
+    run : (old new : State) → Runs text [] old new → Extends before after old new
+    run old new (inside, count, h) =
+        let uncounted = subst (λ s. lacks_sequence s ≡ false) (sym is.after_is) is.uncounted in
+        extends before after table old new inside h.1.mode is.last
+        (λ has. subst (λ s. Creates before s table.tree old.now new.now) is.after_is (subst (λ tree. Creates before (created before (record table { tree = 0 })) tree old.now new.now) is.tree_is
+        (creates before (record table { tree = 0 }) text old new count is.command is.whole is.defines is.plain uncounted has h.0)))
 
 pub makes_campaign : Makes (first_tables 0 0) (first_tables 1 0) create_campaign
 unfolding understood everything
-makes_campaign = makes (first_tables 0 0) (first_tables 1 0) campaign_table create_campaign (record { command = refl; whole = refl; defines = refl; plain = (refl, refl); after_is = refl; tree_is = refl; last = refl; uncounted = refl })
+makes_campaign = makes (first_tables 0 0) (first_tables 1 0) campaign_table create_campaign (inl refl) (record { command = refl; whole = refl; defines = refl; plain = (refl, refl); after_is = refl; tree_is = refl; last = refl; uncounted = refl })
 
 pub makes_faction : Makes (first_tables 1 0) (first_tables 2 1) create_faction
 unfolding understood everything
-makes_faction = makes (first_tables 1 0) (first_tables 2 1) faction_table create_faction (record { command = refl; whole = refl; defines = refl; plain = (refl, refl); after_is = refl; tree_is = refl; last = refl; uncounted = refl })
+makes_faction = makes (first_tables 1 0) (first_tables 2 1) faction_table create_faction (inr (inl refl)) (record { command = refl; whole = refl; defines = refl; plain = (refl, refl); after_is = refl; tree_is = refl; last = refl; uncounted = refl })
 
 pub makes_region : Makes (first_tables 2 1) (first_tables 3 1) create_region
 unfolding understood everything
-makes_region = makes (first_tables 2 1) (first_tables 3 1) region_table create_region (record { command = refl; whole = refl; defines = refl; plain = (refl, refl); after_is = refl; tree_is = refl; last = refl; uncounted = refl })
+makes_region = makes (first_tables 2 1) (first_tables 3 1) region_table create_region (inr (inr (inl refl))) (record { command = refl; whole = refl; defines = refl; plain = (refl, refl); after_is = refl; tree_is = refl; last = refl; uncounted = refl })
 
 pub makes_unit : Makes (first_tables 3 1) (first_tables 4 1) create_unit
 unfolding understood everything
-makes_unit = makes (first_tables 3 1) (first_tables 4 1) unit_table create_unit (record { command = refl; whole = refl; defines = refl; plain = (refl, refl); after_is = refl; tree_is = refl; last = refl; uncounted = refl })
+makes_unit = makes (first_tables 3 1) (first_tables 4 1) unit_table create_unit (inr (inr (inr (inl refl)))) (record { command = refl; whole = refl; defines = refl; plain = (refl, refl); after_is = refl; tree_is = refl; last = refl; uncounted = refl })
 
 pub makes_has : Makes (first_tables 4 1) (first_tables 5 2) create_has
 unfolding understood everything
-makes_has = makes (first_tables 4 1) (first_tables 5 2) has_table create_has (record { command = refl; whole = refl; defines = refl; plain = (refl, refl); after_is = refl; tree_is = refl; last = refl; uncounted = refl })
+makes_has = makes (first_tables 4 1) (first_tables 5 2) has_table create_has (inr (inr (inr (inr (inl refl))))) (record { command = refl; whole = refl; defines = refl; plain = (refl, refl); after_is = refl; tree_is = refl; last = refl; uncounted = refl })
 
 pub makes_structure : Makes (first_tables 5 2) (first_tables 6 2) create_structure
 unfolding understood everything
-makes_structure = makes (first_tables 5 2) (first_tables 6 2) structure_table create_structure (record { command = refl; whole = refl; defines = refl; plain = (refl, refl); after_is = refl; tree_is = refl; last = refl; uncounted = refl })
+makes_structure = makes (first_tables 5 2) (first_tables 6 2) structure_table create_structure (inr (inr (inr (inr (inr (inl refl)))))) (record { command = refl; whole = refl; defines = refl; plain = (refl, refl); after_is = refl; tree_is = refl; last = refl; uncounted = refl })
 
 pub makes_mail : Makes (first_tables 6 2) (first_tables 7 2) create_mail
 unfolding understood everything
-makes_mail = makes (first_tables 6 2) (first_tables 7 2) mail_table create_mail (record { command = refl; whole = refl; defines = refl; plain = (refl, refl); after_is = refl; tree_is = refl; last = refl; uncounted = refl })
+makes_mail = makes (first_tables 6 2) (first_tables 7 2) mail_table create_mail (inr (inr (inr (inr (inr (inr (inl refl))))))) (record { command = refl; whole = refl; defines = refl; plain = (refl, refl); after_is = refl; tree_is = refl; last = refl; uncounted = refl })
 
 pub makes_report : Makes (first_tables 7 2) (first_tables 8 2) create_report
 unfolding understood everything
-makes_report = makes (first_tables 7 2) (first_tables 8 2) report_table create_report (record { command = refl; whole = refl; defines = refl; plain = (refl, refl); after_is = refl; tree_is = refl; last = refl; uncounted = refl })
+makes_report = makes (first_tables 7 2) (first_tables 8 2) report_table create_report (inr (inr (inr (inr (inr (inr (inr (inl refl)))))))) (record { command = refl; whole = refl; defines = refl; plain = (refl, refl); after_is = refl; tree_is = refl; last = refl; uncounted = refl })
 
 pub makes_books : Makes (first_tables 8 2) (first_tables 9 3) create_books
 unfolding understood everything
-makes_books = makes (first_tables 8 2) (first_tables 9 3) books_table create_books (record { command = refl; whole = refl; defines = refl; plain = (refl, refl); after_is = refl; tree_is = refl; last = refl; uncounted = refl })
+makes_books = makes (first_tables 8 2) (first_tables 9 3) books_table create_books (inr (inr (inr (inr (inr (inr (inr (inr (inl refl))))))))) (record { command = refl; whole = refl; defines = refl; plain = (refl, refl); after_is = refl; tree_is = refl; last = refl; uncounted = refl })
+
+-- ---- in a transaction
+
+module _ {S A : Type 0} (g : Ghosts S) {r : Result A Error} {a b : MutBor (Held S)} where
+  pub creating : {Does : State → State → Type 0} {before after : Schema} (text : List ℕ) → Makes before after text → Writes g (Only text []) Does r a b → Writes g Creations Does r a b
+  creating text makes one = among_only g text [] (makes.0, refl) one
+
+  pub made_by : {before after : Schema} (text : List ℕ) → Makes before after text → Writes g (Only text []) (Runs text []) r a b → Writes g Creations (Extends before after) r a b
+  made_by text makes one = weaker g makes.1 (creating text makes one)

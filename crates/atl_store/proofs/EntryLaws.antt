@@ -110,6 +110,11 @@ apart_append key (x ∷ xs) ys one two cross = (
 pub same_number : (m n : ℕ) → ◌≡◌ {A = Row} (int m ∷ []) (int n ∷ []) → m ≡ n
 same_number m n e = cc
 
+pub lines_rows : {V : Type 0} (line : ℕ → V → Row) (m : FinMap nat_cmp V) (es : List (ℕ × V)) → es ≡ entries m → (r : Row) → Has (lines_of line es) r → RowsOf line m r
+lines_rows {V} line m es same r there =
+    let x = map_has (λ (x : ℕ × V). line x.0 x.1) es r there in
+    (x.0.0, x.0.1, entry_got m x.0.0 x.0.1 (subst (λ (l : List (ℕ × V)). Has l x.0) same x.1), x.2)
+
 module _ {V : Type 0} (line : ℕ → V → Row) (numbered : (n : ℕ) (v : V) → take 1 (line n v) ≡ int n ∷ []) where
   lines_apart : (es : List (ℕ × V)) → is_sorted nat_cmp es ≡ true → AreApart 1 (lines_of line es)
   lines_apart [] sorted = tt
@@ -124,6 +129,6 @@ module _ {V : Type 0} (line : ℕ → V → Row) (numbered : (n : ℕ) (v : V) �
   pub rows_filled : (rows old : List Row) (m : FinMap nat_cmp V) → old ≡ [] → Is rows (puts 1 (lines_of line (entries m)) (Has old)) → Is rows (RowsOf line m)
   rows_filled rows old m none made r =
       let is = filled 1 rows (lines_of line (entries m)) old none (lines_apart (entries m) (in_order m)) made r in (
-        λ there. let x = map_has (λ (x : ℕ × V). line x.0 x.1) (entries m) r (is.0 there) in (x.0.0, x.0.1, entry_got m x.0.0 x.0.1 x.1, x.2),
+        λ there. lines_rows line m (entries m) refl r (is.0 there),
         λ of. is.1 (subst (Has (lines_of line (entries m))) (sym of.3) (has_map (λ (x : ℕ × V). line x.0 x.1) (entries m) (of.0, of.1) (got_entry m of.0 of.1 of.2))),
       )

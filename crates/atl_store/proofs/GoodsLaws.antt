@@ -1,8 +1,8 @@
 -- The rows of all that units have.
-use Rattle.std.proofs.Common.{◌≡◌, ◌≢◌, ◌==◌, ℕ, Bool, true, false, if◌then◌else◌, List, [], ◌∷◌, take, refl, sym, ap, ◌∙◌, subst, inl, inr, true≢false, arith}
+use Rattle.std.proofs.Common.{◌≡◌, ◌≢◌, ◌==◌, ℕ, Bool, true, false, if◌then◌else◌, List, [], ◌∷◌, take, Some, refl, sym, ap, ◌∙◌, subst, inl, inr, true≢false, arith}
 use Rattle.std.specs.List.{flat_map}
 use Rattle.std.specs.Ordering.{nat_cmp}
-use Rattle.std.specs.FinMap.{FinMap, entries, is_sorted}
+use Rattle.std.specs.FinMap.{FinMap, entries, get, is_sorted}
 use Rattle.std.proofs.lemmas.Bool.{cases_Bool, and_parts}
 use Rattle.std.proofs.lemmas.Bool.Decides.{nat_tests}
 use Rattle.sqlite.specs.Order.{Row}
@@ -113,22 +113,20 @@ all_apart (e ∷ es) sorted =
     let keys = three_same e.0 (sort_number one.0) one.1.0 found.0.0 (sort_number two.0) two.1.0 (ap (take 3) (sym one.4) ∙ same ∙ ap (take 3) two.4) in
     less_apart e.0 found.0.0 (below_has e.0 es found.0 (and_parts _ _ sorted).0 found.1) keys.0)
 
+pub goods_rows : (units : FinMap nat_cmp Unit) (n : ℕ) (u : Unit) → get units n ≡ Some u → (r : Row) → Has (goods_lines n u.holding) r → HasRowsOf units r
+goods_rows units n u got r there =
+    let row = goods_has n u.holding r there in
+    (n, u, got, row.0, row.1.0, row.1.1, entry_got (things_of row.0 u.holding) row.1.0 row.1.1 row.2, row.3, row.4)
+
+pub all_goods_rows : (units : FinMap nat_cmp Unit) (es : List (ℕ × Unit)) → es ≡ entries units → (r : Row) → Has (all_goods_lines es) r → HasRowsOf units r
+all_goods_rows units es same r there =
+    let found = flat_has (λ (u : ℕ × Unit). goods_lines u.0 u.1.holding) es r there in
+    goods_rows units found.0.0 found.0.1 (entry_got units found.0.0 found.0.1 (subst (λ (l : List (ℕ × Unit)). Has l found.0) same found.1)) r found.2
+
 pub goods_filled : (rows old : List Row) (units : FinMap nat_cmp Unit) → old ≡ [] → Is rows (puts 3 (all_goods_lines (entries units)) (Has old)) → Is rows (HasRowsOf units)
 goods_filled rows old units none made r =
     let is = filled 3 rows (all_goods_lines (entries units)) old none (all_apart (entries units) (in_order units)) made r in (
-      λ there.
-          let found = flat_has (λ (u : ℕ × Unit). goods_lines u.0 u.1.holding) (entries units) r (is.0 there) in
-          let row = goods_has found.0.0 found.0.1.holding r found.2 in (
-            found.0.0,
-            found.0.1,
-            entry_got units found.0.0 found.0.1 found.1,
-            row.0,
-            row.1.0,
-            row.1.1,
-            entry_got (things_of row.0 found.0.1.holding) row.1.0 row.1.1 row.2,
-            row.3,
-            row.4,
-          ),
+      λ there. all_goods_rows units (entries units) refl r (is.0 there),
       λ of. is.1 (has_flat (λ (u : ℕ × Unit). goods_lines u.0 u.1.holding) (entries units) (of.0, of.1) r (got_entry units of.0 of.1 of.2)
           (subst (Has (goods_lines of.0 of.1.holding)) (sym of.8) (has_goods of.0 of.1.holding of.3 of.4 of.5 (got_entry (things_of of.3 of.1.holding) of.4 of.5 of.6) of.7))),
     )

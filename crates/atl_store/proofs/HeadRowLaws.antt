@@ -20,7 +20,7 @@ use Rattle.sqlite_rules.specs.declared.error.Rowids.TheVariants.{Chosen}
 use Rattle.sqlite_rules.proofs.ListLemmas.{all_has}
 use Rattle.atl_store.specs.Sets.{visible, rows_in, Is}
 use Rattle.atl_store.specs.Tables.{campaign_table, nine_and, all_tables}
-use Rattle.atl_store.specs.Shown.{Head, int, head_row}
+use Rattle.atl_store.specs.Shown.{Head, int, head_row, head_values}
 use Rattle.sqlite.specs.Table.{Table}
 use Rattle.sqlite_schema.specs.declared.schema.Index.{Index}
 use Rattle.atl_store.specs.Inside.{Inside, HasTables, Done, Puts}
@@ -28,7 +28,7 @@ use Rattle.atl_store.specs.PutsHead.{PutsHead}
 use Rattle.atl_store.specs.Statements.{put_campaign}
 use Rattle.atl_store.proofs.ListLaws.{has_map, map_has}
 use Rattle.atl_store.proofs.UpsertLaws.{Upserted, hits, update_query, clause_on}
-use Rattle.atl_store.proofs.StatementLaws.{upserting}
+use Rattle.atl_store.proofs.StatementLaws.{upserting, DoneBy, done_by}
 use Rattle.atl_store.proofs.CarryLaws.{nine_among, unlinked, none_share, sound_under, altered, stays_there, carried}
 use Rattle.atl_store.proofs.MakeLaws.{did, upserts_make, updates_make, upserts_sound, upserts_others, Tests}
 use Rattle.atl_store.proofs.Terms.{cast_null, cast_int, head_is, by_number, one_number}
@@ -50,10 +50,6 @@ put_plain : (more : List Table) (indexes : List Index) → IsPlain (understood (
 unfolding understood everything
 put_plain more indexes = (refl, refl)
 
--- the parameters of the statement
-abbrev pub given_row : Head → List ℕ → Row
-given_row head world = int head.month ∷ int head.next_faction ∷ int head.next_unit ∷ int head.next_structure ∷ Text head.pass ∷ Text world ∷ []
-
 -- of the one row that is there
 format_is : (r : Row) (head : Head) (text : List ℕ) → visible campaign_table r ≡ head_row head text → column r 2 ≡ int 1
 format_is r head text e = ap (λ row. column row 1) e
@@ -61,13 +57,13 @@ format_is r head text e = ap (λ row. column row 1) e
 world_is : (r : Row) (head : Head) (text : List ℕ) → visible campaign_table r ≡ head_row head text → column r 8 ≡ Text text
 world_is r head text e = ap (λ row. column row 7) e
 
-puts_head : (old new : State) (head : Head) (world : List ℕ) (count : ℕ) → HasTables old.now → ExecutesInside 0 put_campaign (given_row head world) old new (Ok count) → Done (PutsHead head world) old.now new.now
+puts_head : (old new : State) (head : Head) (world : List ℕ) (count : ℕ) → HasTables old.now → ExecutesInside 0 put_campaign (head_values head world) old new (Ok count) → Done (PutsHead head world) old.now new.now
 unfolding first_key
 puts_head old new head world count has ran =
     let schema = nine_and has.nine.tables has.nine.indexes in
     let sound = sound_under old.now has in
     let none = unlinked has.nine.tables has.nine.indexes campaign_table.tree has.nine.free in
-    let v = given_row head world in
+    let v = head_values head world in
     let src = int 1 ∷ Null ∷ int 1 ∷ v in
     let w = runs_as put_campaign v old new schema has.nine.is _ (put_is has.nine.tables has.nine.indexes) (put_plain has.nine.tables has.nine.indexes) count ran.0 in
     let keyed = sound.keyed campaign_table ours in
@@ -101,9 +97,5 @@ puts_head old new head world count has ran =
       carries = carried campaign_table old.now new.now has ours up.1 (upserts_others schema (nine_among has.nine.tables) campaign_table 1 none old.step_limit v (0 ∷ []) 6 project (λ db. refl) src v old.now new.now upserted);
     }
 
--- the parameters are shown to be these
-pub puts_campaign : (old new : State) (head : Head) (world : List ℕ) (count : ℕ) (params : Row) → IsTrue old.in_transaction → ExecutesInside 0 put_campaign params old new (Ok count) → params ≡ given_row head world
-    → Inside HasTables (PutsHead head world) old new
-puts_campaign old new head world count params inside h same =
-    let ran = subst (λ p. ExecutesInside 0 put_campaign p old new (Ok count)) same h in
-    (ran.1.mode ∙ sym inside, λ has. puts_head old new head world count has ran)
+pub puts_campaign : (head : Head) (world : List ℕ) → DoneBy put_campaign (head_values head world) (PutsHead head world)
+puts_campaign head world = done_by put_campaign (head_values head world) (PutsHead head world) (λ old new count inside ran. (ran.1.mode ∙ sym inside, λ has. puts_head old new head world count has ran))

@@ -118,14 +118,17 @@ module _ (c : State) where
       let places : from ≡ found.0 = sym (place_at from) ∙ keys.1 ∙ place_at found.0 in
       absurd (omega (arith, places, (range_has (from + 1) count found.0 found.1).0)))
 
+  pub things_rows : (places : List ℕ) (r : Row) → Has (things_lines c places) r → BooksRowsOf c.books r
+  things_rows places r there =
+      let found = flat_has (λ place. entries_lines c (thing_at place) all_entries) places r there in
+      let row = entries_has (thing_at found.0) all_entries r found.2 in
+      (row.0, thing_at found.0, row.2, row.3)
+
   pub books_filled : (rows old : List Row) → old ≡ [] → Is rows (puts 2 (things_lines c (range_with_len 0 (length c.books))) (Has old)) → Is rows (BooksRowsOf c.books)
   books_filled rows old none made r =
       let places = range_with_len 0 (length c.books) in
       let is = filled 2 rows (things_lines c places) old none (things_apart 0 (length c.books)) made r in (
-        λ there.
-            let found = flat_has (λ place. entries_lines c (thing_at place) all_entries) places r (is.0 there) in
-            let row = entries_has (thing_at found.0) all_entries r found.2 in
-            (row.0, thing_at found.0, row.2, row.3),
+        λ there. things_rows places r (is.0 there),
         λ of.
             let inside = has_range 0 (length c.books) (thing_place of.1) (omega arith) (omega (arith, within c.books of.0 of.1 of.2)) in
             let here : Has (entries_lines c (thing_at (thing_place of.1)) all_entries) (row_at of.0 of.1) = subst (λ t. Has (entries_lines c t all_entries) (row_at of.0 of.1)) (sym (at_place of.1)) (has_entries of.1 all_entries of.0 (every_entry of.0) of.2) in

@@ -35,6 +35,7 @@ pub mod SelectLaws
 pub mod SelectingLaws
 pub mod RowsLaws
 pub mod PutsLaws
+mod PuttingLaws
 pub mod EntryLaws
 pub mod GoodsLaws
 pub mod LedgerLaws

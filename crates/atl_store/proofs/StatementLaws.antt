@@ -1,5 +1,5 @@
 -- What the statements on one table make of a database.
-use Rattle.std.proofs.Common.{IsTrue, ◌≡◌, ◌/◌, ℕ, ℤ, Bool, true, false, List, [], ◌∷◌, ◌++◌, length, slice_get, Option, Some, None, Ok, sym, ap, ◌∙◌, subst}
+use Rattle.std.proofs.Common.{IsTrue, ◌≡◌, ◌/◌, ℕ, ℤ, Bool, true, false, List, [], ◌∷◌, ◌++◌, length, slice_get, Option, Some, None, Result, Ok, sym, ap, ◌∙◌, subst}
 use Rattle.sqlite_value.specs.Order.{Row, column}
 use Rattle.sqlite_trees.specs.Tree.{Trees, rowid}
 use Rattle.sqlite_sql.specs.Term.{Term}
@@ -27,8 +27,13 @@ use Rattle.sqlite.specs.Effect.{Database, Answers, value_rows}
 use Rattle.sqlite.specs.Rows.{Written, Task, Then, Gives, TriesEach, Counts, InsertsOr, count_of, nothing, mended, shown}
 use Rattle.sqlite.specs.Does.{Tally, Does, AtPlace, OnRows, Concludes}
 use Rattle.atl_store.specs.Sets.{table, IsKeyed}
-use Rattle.atl_store.specs.Stored.{Form}
-use Rattle.atl_store.specs.Statements.{writings, have_forms, IsWriting}
+use Rattle.sqlite_trees.specs.declared.store.Store.{Ghosts}
+use Rattle.sqlite.specs.declared.error.Error.{Error}
+use Rattle.sqlite.specs.Held.{Held}
+use Rattle.std.specs.Borrow.{MutBor}
+use Rattle.atl_store.specs.OwnStatements.{Only}
+use Rattle.atl_store.specs.Writes.{Writes, Runs}
+use Rattle.atl_store.proofs.WriteLaws.{weaker, among}
 use Rattle.atl_store.proofs.EditLaws.{Loses, deletes, went, same_value}
 use Rattle.atl_store.proofs.ListLaws.{AreFound}
 use Rattle.atl_store.proofs.UpsertLaws.{update_query, clause_on, Upserted, upserts}
@@ -123,10 +128,6 @@ module _ (schema : Schema) (tree : ℕ) (name : List ℕ) (columns : List Column
 abbrev pub AlwaysPlain : List ℕ → Type 0
 AlwaysPlain sql = (more : List Table) (indexes : List Index) → IsPlain (understood (nine_and more indexes) sql)
 
--- a statement of a writing has the values of a row that fits it
-pub writing : (at : ℕ) (forms : List Form) (sql : List ℕ) (params row : Row) → slice_get writings at ≡ Some (sql, forms) → have_forms forms row ≡ true → params ≡ row → IsWriting sql params
-writing at forms sql params row listed fits same = (at, forms, listed, subst (λ p. have_forms forms p ≡ true) (sym same) fits)
-
 -- inside a transaction this is done by the statement of this text with these parameters
 abbrev pub DoneBy : List ℕ → Row → (Database → Database → Type 0) → Type 1
 DoneBy sql values What = (old new : State) (count : ℕ) (params : Row) → IsTrue old.in_transaction → ExecutesInside 0 sql params old new (Ok count) → params ≡ values → Inside HasTables What old new
@@ -135,3 +136,8 @@ pub done_by : (sql : List ℕ) (values : Row) (What : Database → Database → 
     → ((old new : State) (count : ℕ) → IsTrue old.in_transaction → ExecutesInside 0 sql values old new (Ok count) → Inside HasTables What old new)
     → DoneBy sql values What
 done_by sql values What does old new count params inside h same = does old new count inside (subst (λ p. ExecutesInside 0 sql p old new (Ok count)) same h)
+
+-- a statement that ran is the one of these values, which its parameters are
+pub runs_with : {S A : Type 0} (g : Ghosts S) {r : Result A Error} {a b : MutBor (Held S)} (sql : List ℕ) (values params : Row) (What : Database → Database → Type 0)
+    → DoneBy sql values What → params ≡ values → Writes g (Only sql params) (Runs sql params) r a b → Writes g (Only sql values) (Inside HasTables What) r a b
+runs_with g sql values params What done same ran = among g (λ s p only. (only.0, only.1 ∙ same)) (weaker g (λ old new did. done old new did.1 params did.0 did.2 same) ran)

@@ -12,6 +12,7 @@ use Rattle.atl_state.specs.State.{State as Campaign}
 use Rattle.atl_store.specs.Rows.{Holds}
 use Rattle.atl_store.specs.Inside.{HasTables, Carries, Commits, LeavesOff, MayLeave}
 use Rattle.atl_store.specs.Keeps.{Stores, Keeps, IsLater, IsReady, FailsToCreate, BreaksOff, RefusesToCreate, Stops, Spares, SparesOthers, MayFound}
+use Rattle.atl_store.specs.OwnStatements.{Statements, OfFounding}
 use Rattle.atl_store.specs.Causes.{Gives, IsTold}
 use Rattle.atl_store.specs.Faults.{is_memory, create_fault}
 use Rattle.atl_store.specs.declared.fault.CreateFault.{CreateFault}
@@ -79,7 +80,7 @@ leaves_spares old new Commits clean off survives idle settled = record {
 
 -- the fault of a creation that an error of the database ended
 module _ {S : Type 0} (g : Ghosts S) (text : List ℕ) (c : Campaign) (old new : Held S) (ready : IsReady (state g old)) (fails : FailsToCreate g text c old new) where
-  refused_as : (fault : CreateFault) → fault ≢ create.NotEmpty → BreaksOff g old new fault → RefusesToCreate g text c old new fault
+  refused_as : (fault : CreateFault) → fault ≢ create.NotEmpty → BreaksOff g text c old new fault → RefusesToCreate g text c old new fault
   refused_as create.NotEmpty other breaks = absurd (other refl)
   refused_as create.Store other breaks = (fails, inr breaks)
   refused_as create.Memory other breaks = (fails, breaks)
@@ -91,14 +92,14 @@ module _ {S : Type 0} (g : Ghosts S) (text : List ℕ) (c : Campaign) (old new :
       go true same = absurd cc
       go false same = absurd cc
 
-  pub refused_with : (e : Error) (r : Result (Unit {0}) CreateFault) → IsErrAnd r (λ f. f ≡ create_fault e) → (HasCleanDisk (state g new) → Gives g e old new) → IfErr r (RefusesToCreate g text c old new)
+  pub refused_with : (e : Error) (r : Result (Unit {0}) CreateFault) → IsErrAnd r (λ f. f ≡ create_fault e) → (HasCleanDisk (state g new) → Gives g (OfFounding text c) e old new) → IfErr r (RefusesToCreate g text c old new)
   refused_with e (Ok a) told gave = tt
   refused_with e (Err f) told gave = refused_as f (λ none. tells_more e (sym told ∙ none)) (record { ready = ready; told = λ clean. (e, told, gave clean) })
 
 -- the fault of a writing that an error of the database ended
-pub told_by : {S F A : Type 0} (g : Ghosts S) (fault_of : Error → F) (old new : Held S) (e : Error) (r : Result A F) → IsErrAnd r (λ f. f ≡ fault_of e) → Gives g e old new → IfErr r (IsTold g fault_of old new)
-told_by g fault_of old new e (Ok a) told gave = tt
-told_by g fault_of old new e (Err f) told gave = (e, told, gave)
+pub told_by : {S F A : Type 0} (g : Ghosts S) (own : Statements) (fault_of : Error → F) (old new : Held S) (e : Error) (r : Result A F) → IsErrAnd r (λ f. f ≡ fault_of e) → Gives g own e old new → IfErr r (IsTold g own fault_of old new)
+told_by g own fault_of old new e (Ok a) told gave = tt
+told_by g own fault_of old new e (Err f) told gave = (e, told, gave)
 
 -- no table campaign is there, as the connection's schema shows
 pub not_there : {S : Type 0} (g : Ghosts S) (conn : Held S) (schema : Schema) (found : Bool) → schema ≡ (state g conn).now.schema → found ≡ has_campaign schema → found ≡ false → has_campaign conn.schema ≡ false

@@ -10,6 +10,7 @@ use Rattle.sqlite.specs.State.{State, HasCleanDisk, Survives, Shows, KeepsCounts
 use Rattle.sqlite.proofs.StateLemmas.{survives_then}
 use Rattle.sqlite.proofs.Callers.{survives_begin}
 use Rattle.atl_store.specs.Inside.{HasTables, Done, Inside, Both, Commits, LeavesOff, MayLeave}
+use Rattle.atl_store.specs.OwnStatements.{Statements}
 use Rattle.atl_store.specs.Writes.{Writes, Transacts}
 use Rattle.atl_store.proofs.KeepLaws.{on_ok, if_err}
 use Rattle.atl_store.proofs.CauseLaws.{gives, gives_after, gives_until, gives_begun, errs_as}
@@ -75,21 +76,21 @@ module _ {S : Type 0} (g : Ghosts S) (old : Held S) (begun mid : MutBor (Held S)
   inside_begun = ap (λ (h : Held S). h.in_transaction) begins
 
   -- the step inside failed, and the transaction is let go
-  pub left_off : {Inner : State → State → Type 0} {A B : Type 0} (r : Result A Error) {e : Error} → HandsOn e r → Writes g Inner {A = B} (Err e) begun mid
-      → (HasCleanDisk (state g end) → IsRolledBack (state g mid.now) (state g end)) → Survives (state g mid.now) (state g end) (λ _. ⊥) → Transacts g Before Does r old end
-  left_off r {e = e} failed did back survives = record {
+  pub left_off : {own : Statements} {Inner : State → State → Type 0} {A B : Type 0} (r : Result A Error) {e : Error} → HandsOn e r → Writes g own Inner {A = B} (Err e) begun mid
+      → (HasCleanDisk (state g end) → IsRolledBack (state g mid.now) (state g end)) → Survives (state g mid.now) (state g end) (λ _. ⊥) → Transacts g own Before Does r old end
+  left_off {own = own} r {e = e} failed did back survives = record {
     ok = λ _. not_ok r _ failed.0;
     err = λ clean. given_err r (rolled_back (did.kept (omega (arith, survives.clean))) (back clean));
-    told = λ clean. errs_as _ r e failed.1 (gives_begun g e old begun.now end begins (gives_until g e begun.now mid.now end survives.counts (did.told (omega (arith, survives.clean)) inside_begun)));
+    told = λ clean. errs_as _ r e failed.1 (gives_begun g own e old begun.now end begins (gives_until g own e begun.now mid.now end survives.counts (did.told (omega (arith, survives.clean)) inside_begun)));
     crash = survives_then (state g old) (state g mid.now) (state g end) _ _ (MayLeave Before Does (state g old)) (λ _ db none. absurd none) (λ _ db none. absurd none) (survives_begin g old (state g mid.now) _ (rw begins at did.survives)) survives;
     idle = over;
   }
 
   -- the step inside was done, and its end is that of the commit
-  pub committed : {A B : Type 0} {b : B} (r : Result A Error) → Writes g (Inside Before Does) (Ok b) begun mid
+  pub committed : {own : Statements} {A B : Type 0} {b : B} (r : Result A Error) → Writes g own (Inside Before Does) (Ok b) begun mid
       → (HasCleanDisk (state g end) → OnOk r (IsTrue (state g mid.now).in_transaction × Shows (state g mid.now) (state g end) (state g mid.now).now (state g mid.now).now false × KeepsCounts (state g mid.now) (state g end) × ((state g end).marks ≡ [])))
-      → (HasCleanDisk (state g end) → IfErr r (FailsToCommit (state g mid.now) (state g end))) → Survives (state g mid.now) (state g end) (λ db. db ≡ (state g mid.now).now.trees) → Transacts g Before Does r old end
-  committed r did done fails survives = record {
+      → (HasCleanDisk (state g end) → IfErr r (FailsToCommit (state g mid.now) (state g end))) → Survives (state g mid.now) (state g end) (λ db. db ≡ (state g mid.now).now.trees) → Transacts g own Before Does r old end
+  committed {own = own} r did done fails survives = record {
     ok = λ clean. on_ok r (λ shown. committed_after g old begun.now mid.now end begins Before Does did.does survives (λ _. shown) clean) (done clean);
     err = λ clean.
         let before : HasCleanDisk (state g mid.now) = omega (arith, survives.clean) in
@@ -99,7 +100,7 @@ module _ {S : Type 0} (g : Ghosts S) (old : Held S) (begun mid : MutBor (Held S)
         let before : HasCleanDisk (state g mid.now) = omega (arith, survives.clean) in
         let inside : IsTrue (state g mid.now).in_transaction = (did.does before).0 ∙ ap (λ (h : Held S). h.in_transaction) begins in
         let reached = did.reaches before inside_begun in
-        if_err r (λ e failed. gives_begun g e old begun.now end begins (gives_after g e begun.now mid.now end inside_begun inside reached before (did.kept before) did.survives survives.counts (gives g e mid.now end inside (inr (inside, failed))))) (fails clean);
+        if_err r (λ e failed. gives_begun g own e old begun.now end begins (gives_after g own e begun.now mid.now end inside_begun inside reached before (did.kept before) did.survives survives.counts (gives g own e mid.now end inside (inr (inside, failed))))) (fails clean);
     crash = crash_after g old begun.now mid.now end begins Before Does did.survives did.does survives;
     idle = over;
   }

@@ -11,8 +11,9 @@ use Rattle.sqlite.specs.Order.{Row}
 use Rattle.sqlite.specs.State.{State, HasCleanDisk, Survives, KeepsCommit, ExecutesInside}
 use Rattle.sqlite.proofs.InsideLemmas.{inside_keeps}
 use Rattle.atl_store.specs.Writes.{Writes, Runs}
-use Rattle.atl_store.specs.Statements.{IsWriting}
-use Rattle.atl_store.proofs.CauseLaws.{gives, gives_after, reached_then, errs_as}
+use Rattle.atl_store.specs.Sets.{Set}
+use Rattle.atl_store.specs.OwnStatements.{Statements, Only, Each}
+use Rattle.atl_store.proofs.CauseLaws.{gives, gives_after, gives_among, reached_then, reached_among, errs_as}
 use Rattle.atl_store.proofs.KeepLaws.{survives_more, keeps_more, on_ok, if_err}
 
 -- with an error nothing has to be done
@@ -25,8 +26,8 @@ abbrev pub HandsOn : {A : Type 0} → Error → Result A Error → Type 0
 HandsOn e r = IsErr r × IsErrAnd r (λ f. f ≡ e)
 
 -- this is done so far
-abbrev pub SoFar : {S : Type 0} → Ghosts S → (State → State → Type 0) → MutBor (Held S) → MutBor (Held S) → Type 0
-SoFar g Does old new = Writes g Does {A = Unit {0}} (Ok (tt {0})) old new
+abbrev pub SoFar : {S : Type 0} → Ghosts S → Statements → (State → State → Type 0) → MutBor (Held S) → MutBor (Held S) → Type 0
+SoFar g own Does old new = Writes g own Does {A = Unit {0}} (Ok (tt {0})) old new
 
 given : {A E P : Type 0} (r : Result A E) → P → OnOk r P
 given (Ok a) p = p
@@ -42,7 +43,7 @@ Any old new = Unit {0}
 module _ {S : Type 0} (g : Ghosts S) where
   -- ---- one statement
 
-  module _ (old new : MutBor (Held S)) (sql : List ℕ) (params : Row) (own : IsWriting sql params) (same : new.ghost_name ≡ old.ghost_name) (survives : Survives (state g old.now) (state g new.now) (λ _. ⊥)) where
+  module _ (old new : MutBor (Held S)) (sql : List ℕ) (params : Row) (same : new.ghost_name ≡ old.ghost_name) (survives : Survives (state g old.now) (state g new.now) (λ _. ⊥)) where
     abbrev Ended : Result ℕ Error → Type 0
     Ended r = (state g old.now).in_transaction ≡ false → (r ≡ Err (SqliteFailure TransactionState)) × (new.now ≡ old.now)
 
@@ -55,18 +56,18 @@ module _ {S : Type 0} (g : Ghosts S) where
       | inr outside ↦ subst (λ (h : Held S). KeepsCommit (state g old.now) (state g h)) (sym (ended outside).1) (record { was_open = λ up. up; committed = λ _. refl })
     ]
 
-    pub fails : {A : Type 0} (Does : State → State → Type 0) (e : Error) (result : Result A Error) → Ended (Err e) → Ran (Err e) → HandsOn e result → Writes g Does result old new
+    pub fails : {A : Type 0} (Does : State → State → Type 0) (e : Error) (result : Result A Error) → Ended (Err e) → Ran (Err e) → HandsOn e result → Writes g (Only sql params) Does result old new
     fails Does e result ended ran failed = record {
       same_reference = same;
       does = λ _. not_ok result _ failed.0;
       goes_on = λ _. not_ok result _ failed.0;
       reaches = λ clean inside. not_ok result _ failed.0;
-      told = λ clean inside. errs_as _ result e failed.1 (gives g e old.now new.now inside (inl (sql, params, own, ran clean inside)));
+      told = λ clean inside. errs_as _ result e failed.1 (gives g (Only sql params) e old.now new.now inside (inl (sql, params, (refl, refl), ran clean inside)));
       kept = keeps (Err e) ended ran;
       survives = survives;
     }
 
-    pub runs : {A : Type 0} (count : ℕ) (a : A) → Ended (Ok count) → Ran (Ok count) → Writes g (Runs sql params) (Ok a) old new
+    pub runs : {A : Type 0} (count : ℕ) (a : A) → Ended (Ok count) → Ran (Ok count) → Writes g (Only sql params) (Runs sql params) (Ok a) old new
     runs count a ended ran = record {
       same_reference = same;
       does = λ clean. elim (cases_Bool (state g old.now).in_transaction) [
@@ -77,7 +78,7 @@ module _ {S : Type 0} (g : Ghosts S) where
         | inl inside ↦ (ran clean inside).1.mode ∙ sym inside
         | inr outside ↦ absurd (let e = (ended outside).0 in cc)
       ];
-      reaches = λ clean inside. (1, (new.now, (sql, params, own, count, ran clean inside), refl));
+      reaches = λ clean inside. (1, (new.now, (sql, params, (refl, refl), count, ran clean inside), refl));
       told = λ clean inside. tt;
       kept = keeps (Ok count) ended ran;
       survives = survives;
@@ -86,13 +87,32 @@ module _ {S : Type 0} (g : Ghosts S) where
   -- ---- one step after another
 
   -- what is done, said otherwise
-  pub weaker : {First Does : State → State → Type 0} {A : Type 0} {r : Result A Error} {a b : MutBor (Held S)} → ((old new : State) → First old new → Does old new) → Writes g First r a b → Writes g Does r a b
+  pub weaker : {own : Statements} {First Does : State → State → Type 0} {A : Type 0} {r : Result A Error} {a b : MutBor (Held S)} → ((old new : State) → First old new → Does old new) → Writes g own First r a b → Writes g own Does r a b
   weaker {r = r} less one = record { same_reference = one.same_reference; does = λ clean. on_ok r (less _ _) (one.does clean); goes_on = one.goes_on; reaches = one.reaches; told = one.told; kept = one.kept; survives = one.survives }
 
+  -- of statements that are among others
+  pub among : {own more : Statements} {Does : State → State → Type 0} {A : Type 0} {r : Result A Error} {a b : MutBor (Held S)} → ((sql : List ℕ) (params : Row) → own sql params → more sql params) → Writes g own Does r a b → Writes g more Does r a b
+  among {own = own} {more = more} {r = r} {a = a} {b = b} within one = record {
+    same_reference = one.same_reference;
+    does = one.does;
+    goes_on = one.goes_on;
+    reaches = λ clean inside. on_ok r (reached_among g own more within a.now b.now) (one.reaches clean inside);
+    told = λ clean inside. if_err r (λ e. gives_among g own more within e a.now b.now) (one.told clean inside);
+    kept = one.kept;
+    survives = one.survives;
+  }
+
+  -- the one statement, and those of one text, as some of a writing's
+  pub among_only : {own : Statements} {Does : State → State → Type 0} {A : Type 0} {r : Result A Error} {a b : MutBor (Held S)} (text : List ℕ) (values : Row) → own text values → Writes g (Only text values) Does r a b → Writes g own Does r a b
+  among_only {own = own} text values is one = among (λ sql params only. subst (λ s. own s params) (sym only.0) (subst (own text) (sym only.1) is)) one
+
+  pub among_each : {own : Statements} {Does : State → State → Type 0} {A : Type 0} {r : Result A Error} {a b : MutBor (Held S)} (text : List ℕ) (rows : Set) → ((row : Row) → rows row → own text row) → Writes g (Each text rows) Does r a b → Writes g own Does r a b
+  among_each {own = own} text rows are one = among (λ sql params each. subst (λ s. own s params) (sym each.0) (are params each.1)) one
+
   -- it gives what its second step gives
-  pub two_steps : {First Second Does : State → State → Type 0} {A X : Type 0} {x : X} {r : Result A Error} {a b c : MutBor (Held S)}
-      → ((old mid new : State) → First old mid → Second mid new → Does old new) → Writes g First (Ok x) a b → Writes g Second r b c → Writes g Does r a c
-  two_steps {r = r} {a = a} {b = b} {c = c} both one two =
+  pub two_steps : {own : Statements} {First Second Does : State → State → Type 0} {A X : Type 0} {x : X} {r : Result A Error} {a b c : MutBor (Held S)}
+      → ((old mid new : State) → First old mid → Second mid new → Does old new) → Writes g own First (Ok x) a b → Writes g own Second r b c → Writes g own Does r a c
+  two_steps {own = own} {r = r} {a = a} {b = b} {c = c} both one two =
       let before : HasCleanDisk (state g c.now) → HasCleanDisk (state g b.now) = λ clean. omega (arith, two.survives.clean) in
       record {
         same_reference = two.same_reference ∙ one.same_reference;
@@ -100,16 +120,16 @@ module _ {S : Type 0} (g : Ghosts S) where
         goes_on = λ clean. on_ok r (λ same. same ∙ one.goes_on (before clean)) (two.goes_on clean);
         reaches = λ clean inside.
             let first = one.reaches (before clean) inside in
-            on_ok r (reached_then g first.0 _ _ _ first.1) (two.reaches clean (subst IsTrue (sym (one.goes_on (before clean))) inside));
+            on_ok r (reached_then g own first.0 _ _ _ first.1) (two.reaches clean (subst IsTrue (sym (one.goes_on (before clean))) inside));
         told = λ clean inside.
             let still : IsTrue (state g b.now).in_transaction = subst IsTrue (sym (one.goes_on (before clean))) inside in
-            if_err r (λ e. gives_after g e a.now b.now c.now inside still (one.reaches (before clean) inside) (before clean) (one.kept (before clean)) one.survives two.survives.counts) (two.told clean still);
+            if_err r (λ e. gives_after g own e a.now b.now c.now inside still (one.reaches (before clean) inside) (before clean) (one.kept (before clean)) one.survives two.survives.counts) (two.told clean still);
         kept = keeps_more _ _ _ two.survives one.kept two.kept;
         survives = survives_more _ _ _ one.survives two.survives;
       }
 
   -- it stops at its first step
-  pub stops : {First Does : State → State → Type 0} {A X : Type 0} {e : Error} {r : Result A Error} {a b : MutBor (Held S)} → Writes g First {A = X} (Err e) a b → HandsOn e r → Writes g Does r a b
+  pub stops : {own : Statements} {First Does : State → State → Type 0} {A X : Type 0} {e : Error} {r : Result A Error} {a b : MutBor (Held S)} → Writes g own First {A = X} (Err e) a b → HandsOn e r → Writes g own Does r a b
   stops {e = e} {r = r} one failed = record {
     same_reference = one.same_reference;
     does = λ _. not_ok r _ failed.0;
@@ -121,18 +141,18 @@ module _ {S : Type 0} (g : Ghosts S) where
   }
 
   -- it stops at its second step
-  pub stops_second : {First Second Does : State → State → Type 0} {A X Z : Type 0} {x : X} {e : Error} {r : Result A Error} {a b c : MutBor (Held S)}
-      → Writes g First (Ok x) a b → Writes g Second {A = Z} (Err e) b c → HandsOn e r → Writes g Does r a c
+  pub stops_second : {own : Statements} {First Second Does : State → State → Type 0} {A X Z : Type 0} {x : X} {e : Error} {r : Result A Error} {a b c : MutBor (Held S)}
+      → Writes g own First (Ok x) a b → Writes g own Second {A = Z} (Err e) b c → HandsOn e r → Writes g own Does r a c
   stops_second {e = e} one two failed = stops (two_steps {Does = Any} {r = Err e} (λ old mid new first second. tt) one two) failed
 
   -- it stops at its third step
-  pub stops_third : {First Second Third Does : State → State → Type 0} {A X Y Z : Type 0} {x : X} {y : Y} {e : Error} {r : Result A Error} {a b c d : MutBor (Held S)}
-      → Writes g First (Ok x) a b → Writes g Second (Ok y) b c → Writes g Third {A = Z} (Err e) c d → HandsOn e r → Writes g Does r a d
+  pub stops_third : {own : Statements} {First Second Third Does : State → State → Type 0} {A X Y Z : Type 0} {x : X} {y : Y} {e : Error} {r : Result A Error} {a b c d : MutBor (Held S)}
+      → Writes g own First (Ok x) a b → Writes g own Second (Ok y) b c → Writes g own Third {A = Z} (Err e) c d → HandsOn e r → Writes g own Does r a d
   stops_third {y = y} one two three failed = stops_second (two_steps {Does = Any} {r = Ok y} (λ old mid new first second. tt) one two) three failed
 
   -- it gives what its third step gives
-  pub three_steps : {First Second Third Does : State → State → Type 0} {A X Y : Type 0} {x : X} {y : Y} {r : Result A Error} {a b c d : MutBor (Held S)}
-      → ((old one two new : State) → First old one → Second one two → Third two new → Does old new) → Writes g First (Ok x) a b → Writes g Second (Ok y) b c → Writes g Third r c d → Writes g Does r a d
+  pub three_steps : {own : Statements} {First Second Third Does : State → State → Type 0} {A X Y : Type 0} {x : X} {y : Y} {r : Result A Error} {a b c d : MutBor (Held S)}
+      → ((old one two new : State) → First old one → Second one two → Third two new → Does old new) → Writes g own First (Ok x) a b → Writes g own Second (Ok y) b c → Writes g own Third r c d → Writes g own Does r a d
   three_steps {y = y} {r = r} {c = c} all one two three =
       let whole = two_steps {Does = Any} {r = r} (λ old mid new first second. tt) (two_steps {Does = Any} {r = Ok y} (λ old mid new first second. tt) one two) three in
       record {
@@ -148,9 +168,9 @@ module _ {S : Type 0} (g : Ghosts S) where
       }
 
   -- it gives what its fourth step gives
-  pub four_steps : {First Second Third Fourth Does : State → State → Type 0} {A X Y Z : Type 0} {x : X} {y : Y} {z : Z} {r : Result A Error} {a b c d e : MutBor (Held S)}
+  pub four_steps : {own : Statements} {First Second Third Fourth Does : State → State → Type 0} {A X Y Z : Type 0} {x : X} {y : Y} {z : Z} {r : Result A Error} {a b c d e : MutBor (Held S)}
       → ((old one two three new : State) → First old one → Second one two → Third two three → Fourth three new → Does old new)
-      → Writes g First (Ok x) a b → Writes g Second (Ok y) b c → Writes g Third (Ok z) c d → Writes g Fourth r d e → Writes g Does r a e
+      → Writes g own First (Ok x) a b → Writes g own Second (Ok y) b c → Writes g own Third (Ok z) c d → Writes g own Fourth r d e → Writes g own Does r a e
   four_steps {z = z} {r = r} {c = c} {d = d} all one two three four =
       let whole = two_steps {Does = Any} {r = r} (λ old mid new first second. tt) (three_steps {Does = Any} {r = Ok z} (λ old mid next new first second third. tt) one two three) four in
       record {
@@ -167,9 +187,9 @@ module _ {S : Type 0} (g : Ghosts S) where
       }
 
   -- one step more
-  pub goes_on : {First Second Does : State → State → Type 0} {u : Unit {0}} {a b c : MutBor (Held S)} → ((old mid new : State) → First old mid → Second mid new → Does old new) → SoFar g First a b → Writes g Second (Ok u) b c → SoFar g Does a c
+  pub goes_on : {own : Statements} {First Second Does : State → State → Type 0} {u : Unit {0}} {a b c : MutBor (Held S)} → ((old mid new : State) → First old mid → Second mid new → Does old new) → SoFar g own First a b → Writes g own Second (Ok u) b c → SoFar g own Does a c
   goes_on both so_far more = two_steps both so_far more
 
   -- nothing is done yet
-  pub begins : {Does : State → State → Type 0} {A : Type 0} {a : A} {b : MutBor (Held S)} → ((s : State) → Does s s) → Writes g Does (Ok a) b b
+  pub begins : {own : Statements} {Does : State → State → Type 0} {A : Type 0} {a : A} {b : MutBor (Held S)} → ((s : State) → Does s s) → Writes g own Does (Ok a) b b
   begins none = record { same_reference = refl; does = λ _. none _; goes_on = λ _. refl; reaches = λ clean inside. (0, refl); told = λ clean inside. tt; kept = λ _. record { was_open = λ up. up; committed = λ _. refl }; survives = survives_start _ }

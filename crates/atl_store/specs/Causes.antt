@@ -10,23 +10,23 @@ use Rattle.sqlite.specs.Order.{Row}
 use Rattle.sqlite.specs.State.{State, KeepsCommit, IsUnchanged, ExecutesInside}
 use Rattle.sqlite.specs.Steps.{FailsToCommit}
 use Rattle.atl_store.specs.Faults.{is_memory}
-use Rattle.atl_store.specs.Statements.{IsWriting}
+use Rattle.atl_store.specs.OwnStatements.{Statements}
 
--- a statement of a writing ran
-abbrev pub RunsWriting : State → State → Type 0
-RunsWriting before after = (sql : List ℕ) × (params : Row) × IsWriting sql params × (count : ℕ) × ExecutesInside 0 sql params before after (Ok count)
+-- one of these statements ran
+abbrev pub RunsOne : Statements → State → State → Type 0
+RunsOne own before after = (sql : List ℕ) × (params : Row) × own sql params × (count : ℕ) × ExecutesInside 0 sql params before after (Ok count)
 
 -- so many of them lead from the one to the other
-abbrev pub Leads : {S : Type 0} → Ghosts S → ℕ → Held S → Held S → Type 0
-Leads g zero old new = old ≡ new
-Leads {S} g (suc count) old new = (mid : Held S) × RunsWriting (state g old) (state g mid) × Leads g count mid new
+abbrev pub Leads : {S : Type 0} → Ghosts S → Statements → ℕ → Held S → Held S → Type 0
+Leads g own zero old new = old ≡ new
+Leads {S} g own (suc count) old new = (mid : Held S) × RunsOne own (state g old) (state g mid) × Leads g own count mid new
 
-abbrev pub IsReached : {S : Type 0} → Ghosts S → Held S → Held S → Type 0
-IsReached g old new = (count : ℕ) × Leads g count old new
+abbrev pub IsReached : {S : Type 0} → Ghosts S → Statements → Held S → Held S → Type 0
+IsReached g own old new = (count : ℕ) × Leads g own count old new
 
--- a statement of a writing gave this error, or the commit of the transaction
-abbrev pub IsGiven : Error → State → State → Type 0
-IsGiven e before after = ((sql : List ℕ) × (params : Row) × IsWriting sql params × ExecutesInside 0 sql params before after (Err e)) ⊎ (IsTrue before.in_transaction × FailsToCommit before after e)
+-- one of these statements gave this error, or the commit of the transaction
+abbrev pub IsGiven : Statements → Error → State → State → Type 0
+IsGiven own e before after = ((sql : List ℕ) × (params : Row) × own sql params × ExecutesInside 0 sql params before after (Err e)) ⊎ (IsTrue before.in_transaction × FailsToCommit before after e)
 
 -- the disk failed since, or the connection was shut
 abbrev pub IsBroken : State → State → Type 0
@@ -36,18 +36,18 @@ IsBroken old new = MoreFaults old.faults new.faults ⊎ (old.is_open ≡ false)
 abbrev pub IsRefused : Error → State → State → Type 0
 IsRefused e before after = (e ≡ SqliteFailure TooBig) ⊎ IsUnchanged before after
 
--- A call of a writing's transaction on this connection gave this error. Of want of memory the database tells no cause; any other error has one.
-pub record Gives {S : Type 0} (g : Ghosts S) (e : Error) (old new : Held S) : Type 0 where
+-- A call of a transaction that runs these statements on this connection gave this error. Of want of memory the database tells no cause; any other error has one.
+pub record Gives {S : Type 0} (g : Ghosts S) (own : Statements) (e : Error) (old new : Held S) : Type 0 where
   -- the connection as the call found it, and as it left it
   pub before : Held S
   pub after : Held S
-  -- behind the beginning of the transaction, statements of writings alone ran before the call
-  pub reached : IsReached g (record old { in_transaction = true }) before
+  -- behind the beginning of the transaction, these statements alone ran before the call
+  pub reached : IsReached g own (record old { in_transaction = true }) before
   -- nothing was committed before it
   pub kept : KeepsCommit (state g old) (state g before)
-  pub given : IsGiven e (state g before) (state g after)
+  pub given : IsGiven own e (state g before) (state g after)
   pub cause : is_memory e ≡ false → IsBroken (state g old) (state g new) ⊎ IsRefused e (state g before) (state g after)
 
--- A fault tells an error that a call of a writing's transaction on this connection gave.
-abbrev pub IsTold : {S F : Type 0} → Ghosts S → (Error → F) → Held S → Held S → F → Type 0
-IsTold g fault_of old new fault = (e : Error) × (fault ≡ fault_of e) × Gives g e old new
+-- A fault tells an error that a call of such a transaction on this connection gave.
+abbrev pub IsTold : {S F : Type 0} → Ghosts S → Statements → (Error → F) → Held S → Held S → F → Type 0
+IsTold g own fault_of old new fault = (e : Error) × (fault ≡ fault_of e) × Gives g own e old new

@@ -16,6 +16,7 @@ use Rattle.atl_store.specs.Making.{has_campaign}
 use Rattle.atl_store.specs.Rows.{Holds}
 use Rattle.atl_store.specs.Faults.{create_fault}
 use Rattle.atl_store.specs.Causes.{IsTold}
+use Rattle.atl_store.specs.OwnStatements.{OfFounding}
 use Rattle.atl_store.specs.declared.fault.CreateFault.{CreateFault}
 use Rattle.atl_store.specs.declared.fault.CreateFault.TheVariants.{NotEmpty, Store, Memory}
 
@@ -84,15 +85,15 @@ abbrev pub IsReady : State → Type 0
 IsReady s = IsBlank s.now × (s.in_transaction ≡ false)
 
 -- A creation was begun, and this fault tells the error of a call that ended it.
-pub record BreaksOff {S : Type 0} (g : Ghosts S) (old new : Held S) (fault : CreateFault) : Type 0 where
+pub record BreaksOff {S : Type 0} (g : Ghosts S) (text : List ℕ) (c : Campaign) (old new : Held S) (fault : CreateFault) : Type 0 where
   pub ready : IsReady (state g old)
-  pub told : HasCleanDisk (state g new) → IsTold g create_fault old new fault
+  pub told : HasCleanDisk (state g new) → IsTold g (OfFounding text c) create_fault old new fault
 
 -- Where a table campaign is there, or the connection isn't ready, nothing at all is changed.
 abbrev pub RefusesToCreate : {S : Type 0} → Ghosts S → List ℕ → Campaign → Held S → Held S → CreateFault → Type 0
 RefusesToCreate g text c old new NotEmpty = IsTrue (has_campaign old.schema) × (new ≡ old)
-RefusesToCreate g text c old new Store = FailsToCreate g text c old new × (((¬ IsReady (state g old)) × (new ≡ old)) ⊎ BreaksOff g old new Store)
-RefusesToCreate g text c old new Memory = FailsToCreate g text c old new × BreaksOff g old new Memory
+RefusesToCreate g text c old new Store = FailsToCreate g text c old new × (((¬ IsReady (state g old)) × (new ≡ old)) ⊎ BreaksOff g text c old new Store)
+RefusesToCreate g text c old new Memory = FailsToCreate g text c old new × BreaksOff g text c old new Memory
 
 -- ---- writing
 

@@ -8,6 +8,7 @@ pub mod PutsHead
 pub mod Written
 pub mod Faults
 pub mod Statements
+pub mod OwnStatements
 pub mod Causes
 pub mod Stored
 pub mod Selects

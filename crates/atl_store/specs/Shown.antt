@@ -23,6 +23,10 @@ pub record Head : Type 0 where
 abbrev pub head_row : Head → List ℕ → Row
 head_row head world = int 1 ∷ int 1 ∷ int head.month ∷ int head.next_faction ∷ int head.next_unit ∷ int head.next_structure ∷ Text head.pass ∷ Text world ∷ []
 
+-- what is handed in to put it, in this order
+abbrev pub head_values : Head → List ℕ → Row
+head_values head world = int head.month ∷ int head.next_faction ∷ int head.next_unit ∷ int head.next_structure ∷ Text head.pass ∷ Text world ∷ []
+
 -- number, joined_as, name, pass, gone
 abbrev pub faction_row : ℕ → List ℕ → List ℕ → List ℕ → Bool → Row
 faction_row number joined_as name pass gone = int number ∷ Text joined_as ∷ Text name ∷ Text pass ∷ flag gone ∷ []

@@ -1,10 +1,5 @@
--- The statements that the writings run, each with the forms of its parameters.
-use Rattle.std.specs.Prelude.{◌≡◌, ◌&&◌, ℕ, Bool, true, false, List, [], ◌∷◌, codes, slice_get, Some}
-use Rattle.sqlite.specs.declared.types.Value.{Value}
-use Rattle.sqlite.specs.declared.types.Value.TheVariants.{Int, Text, Blob}
-use Rattle.sqlite.specs.Order.{Row}
-use Rattle.atl_store.specs.Stored.{Form, Number, Words, Letters, Bytes}
-use Rattle.atl_store.specs.StoredRows.{faction_forms, region_forms, unit_forms, structure_forms, mail_forms, report_forms}
+-- The texts of the statements that the writings run.
+use Rattle.std.specs.Prelude.{ℕ, List, [], ◌∷◌, codes}
 
 abbrev pub put_campaign : List ℕ
 put_campaign = codes "INSERT INTO campaign (id, format, month, next_faction, next_unit, next_structure, pass, world) VALUES (1, 1, ?1, ?2, ?3, ?4, ?5, ?6) ON CONFLICT (id) DO UPDATE SET month = ?1, next_faction = ?2, next_unit = ?3, next_structure = ?4, pass = ?5"
@@ -84,49 +79,6 @@ create_report = codes "CREATE TABLE report (faction INTEGER NOT NULL PRIMARY KEY
 abbrev pub create_books : List ℕ
 create_books = codes "CREATE TABLE books (entry INTEGER NOT NULL, thing INTEGER NOT NULL, amount INTEGER NOT NULL, PRIMARY KEY (entry, thing)) STRICT"
 
-abbrev pub writings : List (List ℕ × List Form)
-writings =
-    (put_campaign, Number ∷ Number ∷ Number ∷ Number ∷ Letters ∷ Words ∷ []) ∷
-    (put_faction, faction_forms) ∷
-    (drop_faction, Number ∷ []) ∷
-    (put_region, region_forms) ∷
-    (drop_region, Number ∷ []) ∷
-    (put_unit, unit_forms) ∷
-    (drop_unit, Number ∷ []) ∷
-    (put_has, Number ∷ Number ∷ Number ∷ Number ∷ []) ∷
-    (drop_goods, Number ∷ []) ∷
-    (put_structure, structure_forms) ∷
-    (drop_structure, Number ∷ []) ∷
-    (put_mail, mail_forms) ∷
-    (drop_mail, Number ∷ []) ∷
-    (put_report, report_forms) ∷
-    (drop_report, Number ∷ []) ∷
-    (put_books, Number ∷ Number ∷ Number ∷ []) ∷
-    (drop_books, Number ∷ Number ∷ []) ∷
-    (create_campaign, []) ∷
-    (create_faction, []) ∷
-    (create_region, []) ∷
-    (create_unit, []) ∷
-    (create_has, []) ∷
-    (create_structure, []) ∷
-    (create_mail, []) ∷
-    (create_report, []) ∷
-    (create_books, []) ∷
-    []
-
-abbrev pub has_form : Form → Value → Bool
-has_form Number (Int n) = true
-has_form Words (Text t) = true
-has_form Letters (Text t) = true
-has_form Bytes (Blob b) = true
-has_form form v = false
-
--- as many values as forms, each of its form
-abbrev pub have_forms : List Form → Row → Bool
-have_forms [] [] = true
-have_forms (form ∷ forms) (v ∷ row) = has_form form v && have_forms forms row
-have_forms forms row = false
-
--- a statement of a writing, with parameters that fit it
-abbrev pub IsWriting : List ℕ → Row → Type 0
-IsWriting sql params = (at : ℕ) × (forms : List Form) × (slice_get writings at ≡ Some (sql, forms)) × (have_forms forms params ≡ true)
+-- the nine texts that make the tables
+abbrev pub creations : List (List ℕ)
+creations = create_campaign ∷ create_faction ∷ create_region ∷ create_unit ∷ create_has ∷ create_structure ∷ create_mail ∷ create_report ∷ create_books ∷ []

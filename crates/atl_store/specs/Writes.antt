@@ -7,21 +7,24 @@ use Rattle.sqlite.specs.Held.{Held, state}
 use Rattle.sqlite.specs.Effect.{Database}
 use Rattle.sqlite.specs.Order.{Row}
 use Rattle.sqlite.specs.State.{State, HasCleanDisk, Survives, KeepsCommit, ExecutesInside}
-use Rattle.atl_store.specs.Inside.{Commits, LeavesOff, MayLeave}
+use Rattle.sqlite_rules.specs.Lists.{Has}
+use Rattle.sqlite.specs.Table.{Table}
+use Rattle.atl_store.specs.Inside.{Commits, LeavesOff, MayLeave, Inside, HasTables, Puts, PutsRows, Drops}
+use Rattle.atl_store.specs.OwnStatements.{Statements, Only, Each}
 use Rattle.atl_store.specs.Causes.{Gives, IsReached}
 
--- A step inside a transaction, which stays on the connection that it is on.
-pub record Writes {S : Type 0} (g : Ghosts S) (Does : State → State → Type 0) {A : Type 0} (result : Result A Error) (old new : MutBor (Held S)) : Type 0 where
+-- A step inside a transaction, which stays on the connection that it is on and runs these statements.
+pub record Writes {S : Type 0} (g : Ghosts S) (own : Statements) (Does : State → State → Type 0) {A : Type 0} (result : Result A Error) (old new : MutBor (Held S)) : Type 0 where
   -- The transaction is on the same connection.
   pub same_reference : new.ghost_name ≡ old.ghost_name
   -- With Ok it has done this, on a disk that is clean.
   pub does : HasCleanDisk (state g new.now) → OnOk result (Does (state g old.now) (state g new.now))
   -- With Ok the transaction goes on.
   pub goes_on : HasCleanDisk (state g new.now) → OnOk result ((state g new.now).in_transaction ≡ (state g old.now).in_transaction)
-  -- With Ok it has run statements of writings alone, where the transaction was going on.
-  pub reaches : HasCleanDisk (state g new.now) → IsTrue (state g old.now).in_transaction → OnOk result (IsReached g old.now new.now)
+  -- With Ok it has run these statements alone, where the transaction was going on.
+  pub reaches : HasCleanDisk (state g new.now) → IsTrue (state g old.now).in_transaction → OnOk result (IsReached g own old.now new.now)
   -- Its error is one that a call gave, where the transaction was going on.
-  pub told : HasCleanDisk (state g new.now) → IsTrue (state g old.now).in_transaction → IfErr result (λ e. Gives g e old.now new.now)
+  pub told : HasCleanDisk (state g new.now) → IsTrue (state g old.now).in_transaction → IfErr result (λ e. Gives g own e old.now new.now)
   -- It has committed nothing.
   pub kept : HasCleanDisk (state g new.now) → KeepsCommit (state g old.now) (state g new.now)
   -- A crash leaves only what it could have left before.
@@ -31,14 +34,26 @@ pub record Writes {S : Type 0} (g : Ghosts S) (Does : State → State → Type 0
 abbrev pub Runs : List ℕ → Row → State → State → Type 0
 Runs sql params old new = IsTrue old.in_transaction × (count : ℕ) × ExecutesInside 0 sql params old new (Ok count)
 
--- A transaction as a whole, on a connection that is in none before it.
-pub record Transacts {S : Type 0} (g : Ghosts S) (Before : Database → Type 0) (Does : Database → Database → Type 0) {A : Type 0} (result : Result A Error) (old new : Held S) : Type 0 where
+-- The row is put by the statement of this text.
+abbrev pub WritesRow : {S A : Type 0} → Ghosts S → List ℕ → Table → ℕ → Row → Result A Error → MutBor (Held S) → MutBor (Held S) → Type 0
+WritesRow g text table key row result old new = Writes g (Only text row) (Inside HasTables (Puts table key row)) result old new
+
+-- The row that has this key is taken out by the statement of this text.
+abbrev pub TakesOut : {S A : Type 0} → Ghosts S → List ℕ → Table → ℕ → Row → Result A Error → MutBor (Held S) → MutBor (Held S) → Type 0
+TakesOut g text table key k result old new = Writes g (Only text k) (Inside HasTables (Drops table key k)) result old new
+
+-- All these rows are put by the statement of this text, one after another.
+abbrev pub WritesRows : {S A : Type 0} → Ghosts S → List ℕ → Table → ℕ → List Row → Result A Error → MutBor (Held S) → MutBor (Held S) → Type 0
+WritesRows g text table key rows result old new = Writes g (Each text (Has rows)) (Inside HasTables (PutsRows table key rows)) result old new
+
+-- A transaction as a whole, on a connection that is in none before it; it runs these statements.
+pub record Transacts {S : Type 0} (g : Ghosts S) (own : Statements) (Before : Database → Type 0) (Does : Database → Database → Type 0) {A : Type 0} (result : Result A Error) (old new : Held S) : Type 0 where
   -- With Ok it has done this, on a disk that is clean, and it is committed.
   pub ok : HasCleanDisk (state g new) → OnOk result (Commits Before Does (state g old) (state g new))
   -- With an error it has done nothing.
   pub err : HasCleanDisk (state g new) → OnErr result (LeavesOff (state g old) (state g new))
-  -- Its error is one that a statement of the writing gave, or the commit.
-  pub told : HasCleanDisk (state g new) → IfErr result (λ e. Gives g e old new)
+  -- Its error is one that one of them gave, or the commit.
+  pub told : HasCleanDisk (state g new) → IfErr result (λ e. Gives g own e old new)
   -- A crash leaves what it could have left before, or what is done.
   pub crash : Survives (state g old) (state g new) (MayLeave Before Does (state g old))
   -- The transaction is over.

@@ -9,6 +9,7 @@ ghost use Rattle.atl_state.specs.State.{State};
 ghost use Rattle.atl_store.specs.Causes.{IsTold};
 ghost use Rattle.atl_store.specs.Changing.{WritesChanges, HoldsUnmarked};
 ghost use Rattle.atl_store.specs.Faults.{write_fault};
+ghost use Rattle.atl_store.specs.OwnStatements.{OfChange};
 ghost use Rattle.atl_store.specs.Rewriting.{RewritesPlayers, RewritesPlaces, RewritesPeople};
 ghost use Rattle.atl_store.specs.Writes.{Writes, Transacts};
 ghost use Rattle.atl_store.specs.Inside.{Inside, HasTables, LeavesOff};
@@ -25,7 +26,7 @@ use sqlite::{Alter, Connection, Error, Transaction};
 
 /// The campaign's own row, factions and reports.
 fn rewrite_players<S: Alter>(tx: &mut Transaction<'_, S>, campaign: &Campaign) -> Result<(), Error>
-    ensures { Writes S.Store (Inside HasTables (RewritesPlayers campaign.now)) result tx.old.conn tx.new.conn }
+    ensures { Writes S.Store (OfChange campaign.now.what) (Inside HasTables (RewritesPlayers campaign.now)) result tx.old.conn tx.new.conn }
 {
     rewrite_head(tx, campaign)?;
     rewrite_marked::<Faction, S>(tx, campaign)?;
@@ -35,7 +36,7 @@ fn rewrite_players<S: Alter>(tx: &mut Transaction<'_, S>, campaign: &Campaign) -
 /// Regions, structures and books.
 fn rewrite_places<S: Alter>(tx: &mut Transaction<'_, S>, campaign: &Campaign) -> Result<(), Error>
     requires { length campaign.now.what.books ≤ most_things }
-    ensures { Writes S.Store (Inside HasTables (RewritesPlaces campaign.now)) result tx.old.conn tx.new.conn }
+    ensures { Writes S.Store (OfChange campaign.now.what) (Inside HasTables (RewritesPlaces campaign.now)) result tx.old.conn tx.new.conn }
 {
     rewrite_marked::<Region, S>(tx, campaign)?;
     rewrite_marked::<Structure, S>(tx, campaign)?;
@@ -44,7 +45,7 @@ fn rewrite_places<S: Alter>(tx: &mut Transaction<'_, S>, campaign: &Campaign) ->
 
 /// Units, what they have, and mail.
 fn rewrite_people<S: Alter>(tx: &mut Transaction<'_, S>, campaign: &Campaign) -> Result<(), Error>
-    ensures { Writes S.Store (Inside HasTables (RewritesPeople campaign.now)) result tx.old.conn tx.new.conn }
+    ensures { Writes S.Store (OfChange campaign.now.what) (Inside HasTables (RewritesPeople campaign.now)) result tx.old.conn tx.new.conn }
 {
     rewrite_marked::<Unit, S>(tx, campaign)?;
     rewrite_marked_goods(tx, campaign)?;
@@ -54,7 +55,7 @@ fn rewrite_people<S: Alter>(tx: &mut Transaction<'_, S>, campaign: &Campaign) ->
 /// All that is marked.
 fn rewrite_all<S: Alter>(tx: &mut Transaction<'_, S>, campaign: &Campaign) -> Result<(), Error>
     requires { length campaign.now.what.books ≤ most_things }
-    ensures { Writes S.Store (Inside HasTables (WritesChanges campaign.now)) result tx.old.conn tx.new.conn }
+    ensures { Writes S.Store (OfChange campaign.now.what) (Inside HasTables (WritesChanges campaign.now)) result tx.old.conn tx.new.conn }
 {
     rewrite_players(tx, campaign)?;
     rewrite_places(tx, campaign)?;
@@ -65,7 +66,7 @@ fn rewrite_all<S: Alter>(tx: &mut Transaction<'_, S>, campaign: &Campaign) -> Re
 fn write_marked<S: Alter>(conn: &mut Connection<S>, campaign: &Campaign) -> Result<(), Error>
     requires idle { conn.old.in_transaction ≡ false }
     requires things { length campaign.now.what.books ≤ most_things }
-    ensures { Transacts S.Store HasTables (WritesChanges campaign.now) result conn.old conn.new }
+    ensures { Transacts S.Store (OfChange campaign.now.what) HasTables (WritesChanges campaign.now) result conn.old conn.new }
 {
     let mut tx = conn.transaction();
     rewrite_all(&mut tx, campaign)?;
@@ -89,7 +90,7 @@ pub fn write_changes<S: Alter>(
     ensures unmarked { HasCleanDisk (state S.Store conn.new) → OnOk result ((text : List ℕ) → HasTables (state S.Store conn.old).now → HoldsUnmarked (state S.Store conn.old).now.trees text campaign.old → Keeps (state S.Store conn.new) text campaign.old.what) }
     ensures crash { HasCleanDisk (state S.Store conn.new) → OnErr result ((text : List ℕ) → HasTables (state S.Store conn.old).now → HoldsUnmarked (state S.Store conn.old).now.trees text campaign.old → MayFound (state S.Store conn.old) text campaign.old.what (state S.Store conn.new)) }
     ensures left { HasCleanDisk (state S.Store conn.new) → OnErr result (LeavesOff (state S.Store conn.old) (state S.Store conn.new)) }
-    ensures told { HasCleanDisk (state S.Store conn.new) → IfErr result (IsTold S.Store write_fault conn.old conn.new) }
+    ensures told { HasCleanDisk (state S.Store conn.new) → IfErr result (IsTold S.Store (OfChange campaign.old.what) write_fault conn.old conn.new) }
     ensures done { OnOk result (campaign.new ≡ record campaign.old { marks = no_marks }) }
     ensures undone { OnErr result (campaign.new ≡ campaign.old) }
     ensures later { IsLater (state S.Store conn.old) (state S.Store conn.new) }

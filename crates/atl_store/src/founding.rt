@@ -5,6 +5,7 @@ ghost use Rattle.sqlite.specs.Held.{state};
 ghost use Rattle.atl_store.specs.Tables.{no_tables};
 ghost use Rattle.atl_state.specs.Limits.{most_things};
 ghost use Rattle.atl_state.specs.Marks.{no_marks};
+ghost use Rattle.atl_store.specs.OwnStatements.{OfRow, OfFounding};
 ghost use Rattle.atl_store.specs.Writes.{Writes, Transacts};
 ghost use Rattle.atl_store.specs.Inside.{Inside, HasTables, IsBlank};
 ghost use Rattle.atl_store.specs.Making.{has_campaign};
@@ -28,7 +29,7 @@ fn put_players<S: Alter>(
     text: &str,
     campaign: &Campaign,
 ) -> Result<(), Error>
-    ensures { Writes S.Store (Inside HasTables (FillsPlayers text.now campaign.now.what)) result tx.old.conn tx.new.conn }
+    ensures { Writes S.Store (OfFounding text.now campaign.now.what) (Inside HasTables (FillsPlayers text.now campaign.now.what)) result tx.old.conn tx.new.conn }
 {
     put_head(tx, campaign, text)?;
     put_each(tx, campaign.factions())?;
@@ -38,7 +39,7 @@ fn put_players<S: Alter>(
 /// Puts the regions, the structures and the books.
 fn put_places<S: Alter>(tx: &mut Transaction<'_, S>, campaign: &Campaign) -> Result<(), Error>
     requires { length campaign.now.what.books ≤ most_things }
-    ensures { Writes S.Store (Inside HasTables (FillsPlaces campaign.now.what)) result tx.old.conn tx.new.conn }
+    ensures { Writes S.Store (OfRow campaign.now.what) (Inside HasTables (FillsPlaces campaign.now.what)) result tx.old.conn tx.new.conn }
 {
     put_each(tx, campaign.regions())?;
     put_each(tx, campaign.structures())?;
@@ -47,7 +48,7 @@ fn put_places<S: Alter>(tx: &mut Transaction<'_, S>, campaign: &Campaign) -> Res
 
 /// Puts the units, what they have, and the mail.
 fn put_people<S: Alter>(tx: &mut Transaction<'_, S>, campaign: &Campaign) -> Result<(), Error>
-    ensures { Writes S.Store (Inside HasTables (FillsPeople campaign.now.what)) result tx.old.conn tx.new.conn }
+    ensures { Writes S.Store (OfRow campaign.now.what) (Inside HasTables (FillsPeople campaign.now.what)) result tx.old.conn tx.new.conn }
 {
     put_units(tx, campaign.units())?;
     put_all_goods(tx, campaign.units())?;
@@ -61,7 +62,7 @@ fn put_founding<S: Alter>(
     campaign: &Campaign,
 ) -> Result<(), Error>
     requires { length campaign.now.what.books ≤ most_things }
-    ensures { Writes S.Store (Inside IsBlank (WritesFounding text.now campaign.now.what)) result tx.old.conn tx.new.conn }
+    ensures { Writes S.Store (OfFounding text.now campaign.now.what) (Inside IsBlank (WritesFounding text.now campaign.now.what)) result tx.old.conn tx.new.conn }
 {
     create_tables(tx)?;
     put_players(tx, text, campaign)?;
@@ -77,7 +78,7 @@ fn write_founding<S: Alter>(
 ) -> Result<(), Error>
     requires idle { conn.old.in_transaction ≡ false }
     requires things { length campaign.now.what.books ≤ most_things }
-    ensures { Transacts S.Store IsBlank (WritesFounding text.now campaign.now.what) result conn.old conn.new }
+    ensures { Transacts S.Store (OfFounding text.now campaign.now.what) IsBlank (WritesFounding text.now campaign.now.what) result conn.old conn.new }
 {
     let mut tx = conn.transaction();
     put_founding(&mut tx, text, campaign)?;

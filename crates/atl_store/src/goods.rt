@@ -1,8 +1,10 @@
 //! What units have, written row by row.
 ghost use Rattle.atl_store.specs.Tables.{has_table};
 ghost use Rattle.atl_store.specs.Lines.{thing_lines, sort_lines, goods_lines, all_goods_lines};
-ghost use Rattle.atl_store.specs.Writes.{Writes};
-ghost use Rattle.atl_store.specs.Inside.{Inside, HasTables, PutsRows};
+ghost use Rattle.atl_store.specs.Statements.{put_has as has_upsert};
+ghost use Rattle.atl_store.specs.OwnStatements.{OfChange};
+ghost use Rattle.atl_store.specs.Writes.{Writes, WritesRows};
+ghost use Rattle.atl_store.specs.Inside.{Inside, HasTables};
 ghost use Rattle.atl_store.specs.Rewriting.{RewritesGoods, RewritesAllGoods};
 
 use crate::rows::has::{HasRow, Sort, drop_goods, put_has};
@@ -18,7 +20,7 @@ fn put_thing<S: Alter>(
     thing: u32,
     amount: u32,
 ) -> Result<(), Error>
-    ensures { Writes S.Store (Inside HasTables (PutsRows has_table 3 (thing_lines unit sort thing amount))) result tx.old.conn tx.new.conn }
+    ensures { WritesRows S.Store has_upsert has_table 3 (thing_lines unit sort thing amount) result tx.old.conn tx.new.conn }
 {
     if amount == 0 {
         return Ok(());
@@ -39,7 +41,7 @@ fn put_sort<S: Alter>(
     sort: Sort,
     things: Entries<'_, u32>,
 ) -> Result<(), Error>
-    ensures { Writes S.Store (Inside HasTables (PutsRows has_table 3 (sort_lines unit sort things.entry))) result tx.old.conn tx.new.conn }
+    ensures { WritesRows S.Store has_upsert has_table 3 (sort_lines unit sort things.entry) result tx.old.conn tx.new.conn }
 {
     for (thing, amount) in things {
         put_thing(tx, unit, sort, thing, *amount)?;
@@ -53,7 +55,7 @@ fn put_goods<S: Alter>(
     unit: u32,
     holding: &Holding,
 ) -> Result<(), Error>
-    ensures { Writes S.Store (Inside HasTables (PutsRows has_table 3 (goods_lines unit holding.now))) result tx.old.conn tx.new.conn }
+    ensures { WritesRows S.Store has_upsert has_table 3 (goods_lines unit holding.now) result tx.old.conn tx.new.conn }
 {
     put_sort(tx, unit, Sort::Item, holding.items())?;
     put_sort(tx, unit, Sort::Skill, holding.days())
@@ -64,7 +66,7 @@ pub(crate) fn put_all_goods<S: Alter>(
     tx: &mut Transaction<'_, S>,
     units: SlotEntries<'_, Unit>,
 ) -> Result<(), Error>
-    ensures { Writes S.Store (Inside HasTables (PutsRows has_table 3 (all_goods_lines units.entry))) result tx.old.conn tx.new.conn }
+    ensures { WritesRows S.Store has_upsert has_table 3 (all_goods_lines units.entry) result tx.old.conn tx.new.conn }
 {
     for (number, unit) in units {
         put_goods(tx, number, &unit.holding)?;
@@ -78,7 +80,7 @@ fn rewrite_goods<S: Alter>(
     campaign: &Campaign,
     number: u32,
 ) -> Result<(), Error>
-    ensures { Writes S.Store (Inside HasTables (RewritesGoods campaign.now.what.units number)) result tx.old.conn tx.new.conn }
+    ensures { Writes S.Store (OfChange campaign.now.what) (Inside HasTables (RewritesGoods campaign.now.what.units number)) result tx.old.conn tx.new.conn }
 {
     drop_goods(tx, number)?;
     match campaign.unit(number) {
@@ -92,7 +94,7 @@ pub(crate) fn rewrite_marked_goods<S: Alter>(
     tx: &mut Transaction<'_, S>,
     campaign: &Campaign,
 ) -> Result<(), Error>
-    ensures { Writes S.Store (Inside HasTables (RewritesAllGoods campaign.now.what.units campaign.now.marks.goods)) result tx.old.conn tx.new.conn }
+    ensures { Writes S.Store (OfChange campaign.now.what) (Inside HasTables (RewritesAllGoods campaign.now.what.units campaign.now.marks.goods)) result tx.old.conn tx.new.conn }
 {
     for number in campaign.marked_goods() {
         rewrite_goods(tx, campaign, number)?;

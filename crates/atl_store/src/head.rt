@@ -2,6 +2,9 @@
 ghost use Rattle.atl_store.specs.Rows.{head_of};
 ghost use Rattle.atl_store.specs.PutsHead.{PutsHead};
 ghost use Rattle.atl_store.specs.Rewriting.{RewritesHead};
+ghost use Rattle.atl_store.specs.Shown.{head_values};
+ghost use Rattle.atl_store.specs.Statements.{put_campaign as campaign_upsert};
+ghost use Rattle.atl_store.specs.OwnStatements.{Only, OfChange};
 ghost use Rattle.atl_store.specs.Writes.{Writes};
 ghost use Rattle.atl_store.specs.Inside.{Inside, HasTables};
 
@@ -15,7 +18,7 @@ pub(crate) fn put_head<S: Alter>(
     campaign: &Campaign,
     world: &str,
 ) -> Result<(), Error>
-    ensures { Writes S.Store (Inside HasTables (PutsHead (head_of campaign.now.what) world.now)) result tx.old.conn tx.new.conn }
+    ensures { Writes S.Store (Only campaign_upsert (head_values (head_of campaign.now.what) world.now)) (Inside HasTables (PutsHead (head_of campaign.now.what) world.now)) result tx.old.conn tx.new.conn }
 {
     let row = CampaignRow {
         month: campaign.month(),
@@ -32,7 +35,7 @@ pub(crate) fn rewrite_head<S: Alter>(
     tx: &mut Transaction<'_, S>,
     campaign: &Campaign,
 ) -> Result<(), Error>
-    ensures { Writes S.Store (Inside HasTables (RewritesHead campaign.now)) result tx.old.conn tx.new.conn }
+    ensures { Writes S.Store (OfChange campaign.now.what) (Inside HasTables (RewritesHead campaign.now)) result tx.old.conn tx.new.conn }
 {
     if campaign.is_row_marked() {
         return put_head(tx, campaign, "");

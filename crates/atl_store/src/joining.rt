@@ -1,5 +1,5 @@
 //! A joining is written into the tables of the campaign.
-ghost use Rattle.std.specs.Prelude.{◌≡◌, ◌≤◌, [], false, List, ℕ, IfErr, OnOk, OnErr, length};
+ghost use Rattle.std.specs.Prelude.{◌≡◌, [], false, List, ℕ, IfErr, OnOk, OnErr};
 ghost use Rattle.sqlite.specs.Held.{state};
 ghost use Rattle.sqlite.specs.State.{HasCleanDisk};
 ghost use Rattle.atl_state.specs.State.{State};
@@ -11,6 +11,7 @@ ghost use Rattle.atl_store.specs.Rows.{head_of, faction_line, unit_line};
 ghost use Rattle.atl_store.specs.PutsHead.{PutsHead};
 ghost use Rattle.atl_store.specs.Causes.{IsTold};
 ghost use Rattle.atl_store.specs.Faults.{write_fault};
+ghost use Rattle.atl_store.specs.OwnStatements.{OfJoining};
 ghost use Rattle.atl_store.specs.Writes.{Writes, Transacts};
 ghost use Rattle.atl_store.specs.Inside.{Inside, HasTables, Both, Puts, LeavesOff};
 ghost use Rattle.atl_store.specs.Arriving.{HasArrival, IsFound, Settles, WritesJoin};
@@ -56,7 +57,8 @@ fn put_newcomer<S: Alter>(
     campaign: &Campaign,
     arrival: &Arrival<'_>,
 ) -> Result<(), Error>
-    ensures { Writes S.Store (Inside HasTables (Both (PutsHead (head_of campaign.now.what) []) (Both (Puts faction_table 1 (faction_line arrival.now.number arrival.now.faction.now)) (Puts unit_table 1 (unit_line arrival.now.place arrival.now.unit.now))))) result tx.old.conn tx.new.conn }
+    requires { IsFound campaign.now.what arrival.now.number arrival.now.faction.now arrival.now.place arrival.now.unit.now arrival.now.report.now }
+    ensures { Writes S.Store (OfJoining arrival.now.number campaign.now.what) (Inside HasTables (Both (PutsHead (head_of campaign.now.what) []) (Both (Puts faction_table 1 (faction_line arrival.now.number arrival.now.faction.now)) (Puts unit_table 1 (unit_line arrival.now.place arrival.now.unit.now))))) result tx.old.conn tx.new.conn }
 {
     put_head(tx, campaign, "")?;
     arrival.faction.put(tx, arrival.number)?;
@@ -69,8 +71,8 @@ fn put_welcome<S: Alter>(
     campaign: &Campaign,
     arrival: &Arrival<'_>,
 ) -> Result<(), Error>
-    requires { 2 ≤ length campaign.now.what.books }
-    ensures { Writes S.Store (Inside HasTables (Both (Puts report_table 1 (report_row arrival.now.number arrival.now.report.now)) (Both (Settles campaign.now.what Joining Money) (Settles campaign.now.what Joining People)))) result tx.old.conn tx.new.conn }
+    requires { IsFound campaign.now.what arrival.now.number arrival.now.faction.now arrival.now.place arrival.now.unit.now arrival.now.report.now }
+    ensures { Writes S.Store (OfJoining arrival.now.number campaign.now.what) (Inside HasTables (Both (Puts report_table 1 (report_row arrival.now.number arrival.now.report.now)) (Both (Settles campaign.now.what Joining Money) (Settles campaign.now.what Joining People)))) result tx.old.conn tx.new.conn }
 {
     arrival.report.put(tx, arrival.number)?;
     settle_amount(tx, campaign, Entry::Joining, Thing::Money)?;
@@ -84,7 +86,7 @@ fn put_joining<S: Alter>(
     arrival: &Arrival<'_>,
 ) -> Result<(), Error>
     requires { IsFound campaign.now.what arrival.now.number arrival.now.faction.now arrival.now.place arrival.now.unit.now arrival.now.report.now }
-    ensures { Writes S.Store (Inside HasTables (WritesJoin arrival.now.number campaign.now.what)) result tx.old.conn tx.new.conn }
+    ensures { Writes S.Store (OfJoining arrival.now.number campaign.now.what) (Inside HasTables (WritesJoin arrival.now.number campaign.now.what)) result tx.old.conn tx.new.conn }
 {
     put_newcomer(tx, campaign, arrival)?;
     put_welcome(tx, campaign, arrival)
@@ -98,7 +100,7 @@ fn write_joining<S: Alter>(
 ) -> Result<(), Error>
     requires idle { conn.old.in_transaction ≡ false }
     requires found { IsFound campaign.now.what arrival.now.number arrival.now.faction.now arrival.now.place arrival.now.unit.now arrival.now.report.now }
-    ensures { Transacts S.Store HasTables (WritesJoin arrival.now.number campaign.now.what) result conn.old conn.new }
+    ensures { Transacts S.Store (OfJoining arrival.now.number campaign.now.what) HasTables (WritesJoin arrival.now.number campaign.now.what) result conn.old conn.new }
 {
     let mut tx = conn.transaction();
     put_joining(&mut tx, campaign, arrival)?;
@@ -121,7 +123,7 @@ pub fn write_join<S: Alter>(
     ensures err { HasCleanDisk (state S.Store conn.new) → OnErr result ((text : List ℕ) (before : State) → Keeps (state S.Store conn.old) text before → IsJoining before faction campaign.now.what → Stops (state S.Store conn.old).faults (state S.Store conn.new) text before campaign.now.what) }
     ensures own { HasCleanDisk (state S.Store conn.new) → OnOk result (HasTables (state S.Store conn.old).now → WritesJoin faction campaign.now.what (state S.Store conn.old).now (state S.Store conn.new).now) }
     ensures left { HasCleanDisk (state S.Store conn.new) → OnErr result (LeavesOff (state S.Store conn.old) (state S.Store conn.new)) }
-    ensures told { HasCleanDisk (state S.Store conn.new) → IfErr result (IsTold S.Store write_fault conn.old conn.new) }
+    ensures told { HasCleanDisk (state S.Store conn.new) → IfErr result (IsTold S.Store (OfJoining faction campaign.now.what) write_fault conn.old conn.new) }
     ensures later { IsLater (state S.Store conn.old) (state S.Store conn.new) }
     ensures others { HasCleanDisk (state S.Store conn.new) → SparesOthers (state S.Store conn.old) (state S.Store conn.new) }
     ensures idle { conn.new.in_transaction ≡ false }

@@ -5,8 +5,10 @@ ghost use Rattle.atl_state.specs.Limits.{most_things};
 ghost use Rattle.atl_state.specs.Books.{entry_place, thing_place};
 ghost use Rattle.atl_store.specs.Tables.{books_table};
 ghost use Rattle.atl_store.specs.Lines.{amount_lines, entries_lines, things_lines};
-ghost use Rattle.atl_store.specs.Writes.{Writes};
-ghost use Rattle.atl_store.specs.Inside.{Inside, HasTables, PutsRows};
+ghost use Rattle.atl_store.specs.Statements.{put_books as books_upsert};
+ghost use Rattle.atl_store.specs.OwnStatements.{OfAmount, OfChange};
+ghost use Rattle.atl_store.specs.Writes.{Writes, WritesRows};
+ghost use Rattle.atl_store.specs.Inside.{Inside, HasTables};
 ghost use Rattle.atl_store.specs.Arriving.{Settles};
 ghost use Rattle.atl_store.specs.Rewriting.{RewritesAmounts, RewritesBooks, is_number, is_among};
 
@@ -22,7 +24,7 @@ fn put_amount<S: Alter>(
     thing: Thing,
 ) -> Result<(), Error>
     requires { thing_place thing < length campaign.now.what.books }
-    ensures { Writes S.Store (Inside HasTables (PutsRows books_table 2 (amount_lines campaign.now.what entry thing))) result tx.old.conn tx.new.conn }
+    ensures { WritesRows S.Store books_upsert books_table 2 (amount_lines campaign.now.what entry thing) result tx.old.conn tx.new.conn }
 {
     let amount = campaign.booked(entry, thing);
     if amount == 0 {
@@ -44,7 +46,7 @@ pub(crate) fn settle_amount<S: Alter>(
     thing: Thing,
 ) -> Result<(), Error>
     requires { thing_place thing < length campaign.now.what.books }
-    ensures { Writes S.Store (Inside HasTables (Settles campaign.now.what entry thing)) result tx.old.conn tx.new.conn }
+    ensures { Writes S.Store (OfAmount campaign.now.what entry thing) (Inside HasTables (Settles campaign.now.what entry thing)) result tx.old.conn tx.new.conn }
 {
     let amount = campaign.booked(entry, thing);
     if amount == 0 {
@@ -66,7 +68,7 @@ fn put_entries<S: Alter>(
     entries: &[Entry],
 ) -> Result<(), Error>
     requires { thing_place thing < length campaign.now.what.books }
-    ensures { Writes S.Store (Inside HasTables (PutsRows books_table 2 (entries_lines campaign.now.what thing entries.now))) result tx.old.conn tx.new.conn }
+    ensures { WritesRows S.Store books_upsert books_table 2 (entries_lines campaign.now.what thing entries.now) result tx.old.conn tx.new.conn }
 {
     for entry in entries {
         put_amount(tx, campaign, *entry, thing)?;
@@ -80,7 +82,7 @@ pub(crate) fn put_all_books<S: Alter>(
     campaign: &Campaign,
 ) -> Result<(), Error>
     requires { length campaign.now.what.books ≤ most_things }
-    ensures { Writes S.Store (Inside HasTables (PutsRows books_table 2 (things_lines campaign.now.what (range_with_len 0 (length campaign.now.what.books))))) result tx.old.conn tx.new.conn }
+    ensures { WritesRows S.Store books_upsert books_table 2 (things_lines campaign.now.what (range_with_len 0 (length campaign.now.what.books))) result tx.old.conn tx.new.conn }
 {
     for number in 0..campaign.things() {
         put_entries(tx, campaign, Thing::of_number(number), &Entry::ALL)?;
@@ -96,7 +98,7 @@ fn rewrite_amount<S: Alter>(
     thing: Thing,
 ) -> Result<(), Error>
     requires { thing_place thing < length campaign.now.what.books }
-    ensures { Writes S.Store (Inside HasTables (RewritesAmounts campaign.now (is_number (entry_place entry)) (is_number (thing_place thing)))) result tx.old.conn tx.new.conn }
+    ensures { Writes S.Store (OfChange campaign.now.what) (Inside HasTables (RewritesAmounts campaign.now (is_number (entry_place entry)) (is_number (thing_place thing)))) result tx.old.conn tx.new.conn }
 {
     if campaign.is_amount_marked(entry, thing) {
         return settle_amount(tx, campaign, entry, thing);
@@ -112,7 +114,7 @@ fn rewrite_entries<S: Alter>(
     entries: &[Entry],
 ) -> Result<(), Error>
     requires { thing_place thing < length campaign.now.what.books }
-    ensures { Writes S.Store (Inside HasTables (RewritesAmounts campaign.now (is_among (map entry_place entries.now)) (is_number (thing_place thing)))) result tx.old.conn tx.new.conn }
+    ensures { Writes S.Store (OfChange campaign.now.what) (Inside HasTables (RewritesAmounts campaign.now (is_among (map entry_place entries.now)) (is_number (thing_place thing)))) result tx.old.conn tx.new.conn }
 {
     for entry in entries.iter() {
         rewrite_amount(tx, campaign, *entry, thing)?;
@@ -126,7 +128,7 @@ pub(crate) fn rewrite_books<S: Alter>(
     campaign: &Campaign,
 ) -> Result<(), Error>
     requires { length campaign.now.what.books ≤ most_things }
-    ensures { Writes S.Store (Inside HasTables (RewritesBooks campaign.now)) result tx.old.conn tx.new.conn }
+    ensures { Writes S.Store (OfChange campaign.now.what) (Inside HasTables (RewritesBooks campaign.now)) result tx.old.conn tx.new.conn }
 {
     for number in 0..campaign.things() {
         rewrite_entries(tx, campaign, Thing::of_number(number), &Entry::ALL)?;

@@ -5,6 +5,7 @@ ghost use Rattle.sqlite.specs.State.{HasCleanDisk};
 ghost use Rattle.atl_state.specs.State.{State, with_mail};
 ghost use Rattle.atl_store.specs.Causes.{IsTold};
 ghost use Rattle.atl_store.specs.Faults.{write_fault};
+ghost use Rattle.atl_store.specs.OwnStatements.{OfMail};
 ghost use Rattle.atl_store.specs.Writes.{Transacts};
 ghost use Rattle.atl_store.specs.Inside.{HasTables, LeavesOff};
 ghost use Rattle.atl_store.specs.Arriving.{WritesMail};
@@ -17,7 +18,7 @@ use sqlite::{Alter, Connection, Error};
 /// The transaction of a mail.
 fn write_mailing<S: Alter>(conn: &mut Connection<S>, faction: u32, text: &[u8]) -> Result<(), Error>
     requires { conn.old.in_transaction ≡ false }
-    ensures { Transacts S.Store HasTables (WritesMail faction text.now) result conn.old conn.new }
+    ensures { Transacts S.Store (OfMail faction text.now) HasTables (WritesMail faction text.now) result conn.old conn.new }
 {
     let mut tx = conn.transaction();
     put_mail(&mut tx, faction, text)?;
@@ -38,7 +39,7 @@ pub fn write_mail<S: Alter>(
     ensures err { HasCleanDisk (state S.Store conn.new) → OnErr result ((world : List ℕ) (before : State) → Keeps (state S.Store conn.old) world before → Stops (state S.Store conn.old).faults (state S.Store conn.new) world before (with_mail before faction text.now)) }
     ensures own { HasCleanDisk (state S.Store conn.new) → OnOk result (HasTables (state S.Store conn.old).now → WritesMail faction text.now (state S.Store conn.old).now (state S.Store conn.new).now) }
     ensures left { HasCleanDisk (state S.Store conn.new) → OnErr result (LeavesOff (state S.Store conn.old) (state S.Store conn.new)) }
-    ensures told { HasCleanDisk (state S.Store conn.new) → IfErr result (IsTold S.Store write_fault conn.old conn.new) }
+    ensures told { HasCleanDisk (state S.Store conn.new) → IfErr result (IsTold S.Store (OfMail faction text.now) write_fault conn.old conn.new) }
     ensures later { IsLater (state S.Store conn.old) (state S.Store conn.new) }
     ensures others { HasCleanDisk (state S.Store conn.new) → SparesOthers (state S.Store conn.old) (state S.Store conn.new) }
     ensures idle { conn.new.in_transaction ≡ false }

@@ -1,5 +1,6 @@
 //! The nine tables are made.
 ghost use Rattle.atl_store.specs.Tables.{first_tables};
+ghost use Rattle.atl_store.specs.OwnStatements.{Creations};
 ghost use Rattle.atl_store.specs.Writes.{Writes};
 ghost use Rattle.atl_store.specs.Inside.{Inside, IsBlank};
 ghost use Rattle.atl_store.specs.Making.{Extends, AreEmpty};
@@ -36,7 +37,7 @@ const BOOKS: &str =
 
 /// The tables of the campaign, its factions and its regions.
 fn create_first_three<S: Alter>(tx: &mut Transaction<'_, S>) -> Result<(), Error>
-    ensures { Writes S.Store (Extends (first_tables 0 0) (first_tables 3 1)) result tx.old.conn tx.new.conn }
+    ensures { Writes S.Store Creations (Extends (first_tables 0 0) (first_tables 3 1)) result tx.old.conn tx.new.conn }
 {
     run(tx, CAMPAIGN, &[])?;
     run(tx, FACTION, &[])?;
@@ -45,7 +46,7 @@ fn create_first_three<S: Alter>(tx: &mut Transaction<'_, S>) -> Result<(), Error
 
 /// The tables of units, of what they have, and of structures.
 fn create_next_three<S: Alter>(tx: &mut Transaction<'_, S>) -> Result<(), Error>
-    ensures { Writes S.Store (Extends (first_tables 3 1) (first_tables 6 2)) result tx.old.conn tx.new.conn }
+    ensures { Writes S.Store Creations (Extends (first_tables 3 1) (first_tables 6 2)) result tx.old.conn tx.new.conn }
 {
     run(tx, UNIT, &[])?;
     run(tx, HAS, &[])?;
@@ -54,7 +55,7 @@ fn create_next_three<S: Alter>(tx: &mut Transaction<'_, S>) -> Result<(), Error>
 
 /// The tables of mail, reports and books.
 fn create_last_three<S: Alter>(tx: &mut Transaction<'_, S>) -> Result<(), Error>
-    ensures { Writes S.Store (Extends (first_tables 6 2) (first_tables 9 3)) result tx.old.conn tx.new.conn }
+    ensures { Writes S.Store Creations (Extends (first_tables 6 2) (first_tables 9 3)) result tx.old.conn tx.new.conn }
 {
     run(tx, MAIL, &[])?;
     run(tx, REPORT, &[])?;
@@ -63,7 +64,7 @@ fn create_last_three<S: Alter>(tx: &mut Transaction<'_, S>) -> Result<(), Error>
 
 /// Makes the nine tables, each with no row, where there is none.
 pub(crate) fn create_tables<S: Alter>(tx: &mut Transaction<'_, S>) -> Result<(), Error>
-    ensures { Writes S.Store (Inside IsBlank AreEmpty) result tx.old.conn tx.new.conn }
+    ensures { Writes S.Store Creations (Inside IsBlank AreEmpty) result tx.old.conn tx.new.conn }
 {
     create_first_three(tx)?;
     create_next_three(tx)?;

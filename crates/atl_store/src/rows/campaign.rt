@@ -5,6 +5,9 @@ ghost use Rattle.atl_store.specs.Stored.{first_columns, IsTyped};
 ghost use Rattle.atl_store.specs.Tables.{campaign_table};
 ghost use Rattle.atl_store.specs.Written.{head_shown};
 ghost use Rattle.atl_store.specs.PutsHead.{PutsHead};
+ghost use Rattle.atl_store.specs.Shown.{head_values};
+ghost use Rattle.atl_store.specs.Statements.{put_campaign as campaign_upsert};
+ghost use Rattle.atl_store.specs.OwnStatements.{Only};
 ghost use Rattle.atl_store.specs.Writes.{Writes};
 ghost use Rattle.atl_store.specs.Inside.{Inside, HasTables};
 ghost use Rattle.atl_store.specs.Selects.{all_campaign};
@@ -41,7 +44,7 @@ pub(crate) fn put_campaign<S: Alter>(
     row: &CampaignRow<'_>,
     world: &str,
 ) -> Result<(), Error>
-    ensures { Writes S.Store (Inside HasTables (PutsHead (head_shown row.now) world.now)) result tx.old.conn tx.new.conn }
+    ensures { Writes S.Store (Only campaign_upsert (head_values (head_shown row.now) world.now)) (Inside HasTables (PutsHead (head_shown row.now) world.now)) result tx.old.conn tx.new.conn }
 {
     run(
         tx,

@@ -1,6 +1,8 @@
 //! The table of factions.
 ghost use Rattle.std.specs.Prelude.{◌≡◌, false, refl};
 ghost use Rattle.atl_store.specs.Tables.{faction_table};
+ghost use Rattle.atl_store.specs.Statements.{put_faction as faction_upsert, drop_faction as faction_deletion};
+ghost use Rattle.atl_store.specs.OwnStatements.{puts_faction, drops_faction};
 ghost use Rattle.atl_store.specs.Rows.{faction_line};
 ghost use Rattle.atl_store.specs.Selects.{all_factions};
 ghost use Rattle.atl_store.specs.StoredRows.{faction_stored, faction_forms};
@@ -27,6 +29,14 @@ impl Kept for Faction {
     ghost values = { λ c. c.factions };
 
     ghost marks = { λ m. m.factions };
+
+    ghost upsert = { faction_upsert };
+
+    ghost deletion = { faction_deletion };
+
+    ghost of_row = { λ c n v is. puts_faction (n, v, is, refl) };
+
+    ghost of_none = { λ c n none. drops_faction none };
 
     fn of(campaign: &Campaign, number: u32) -> Option<&Faction> {
         campaign.faction(number)

@@ -1,6 +1,8 @@
 //! The table of regions.
 ghost use Rattle.std.specs.Prelude.{◌≡◌, false, refl};
 ghost use Rattle.atl_store.specs.Tables.{region_table};
+ghost use Rattle.atl_store.specs.Statements.{put_region as region_upsert, drop_region as region_deletion};
+ghost use Rattle.atl_store.specs.OwnStatements.{puts_region, drops_region};
 ghost use Rattle.atl_store.specs.Rows.{region_line};
 ghost use Rattle.atl_store.specs.Selects.{all_regions};
 ghost use Rattle.atl_store.specs.StoredRows.{region_stored, region_forms};
@@ -27,6 +29,14 @@ impl Kept for Region {
     ghost values = { λ c. c.regions };
 
     ghost marks = { λ m. m.regions };
+
+    ghost upsert = { region_upsert };
+
+    ghost deletion = { region_deletion };
+
+    ghost of_row = { λ c n v is. puts_region (n, v, is, refl) };
+
+    ghost of_none = { λ c n none. drops_region none };
 
     fn of(campaign: &Campaign, number: u32) -> Option<&Region> {
         campaign.region(number)

@@ -1,6 +1,8 @@
 //! The table of reports.
 ghost use Rattle.std.specs.Prelude.{◌≡◌, false, refl};
 ghost use Rattle.atl_store.specs.Tables.{report_table};
+ghost use Rattle.atl_store.specs.Statements.{put_report as report_upsert, drop_report as report_deletion};
+ghost use Rattle.atl_store.specs.OwnStatements.{puts_report, drops_report};
 ghost use Rattle.atl_store.specs.Shown.{report_row};
 ghost use Rattle.atl_store.specs.Selects.{all_reports};
 ghost use Rattle.atl_store.specs.StoredRows.{report_stored, report_forms};
@@ -28,6 +30,14 @@ impl Kept for Text {
     ghost values = { λ c. c.reports };
 
     ghost marks = { λ m. m.reports };
+
+    ghost upsert = { report_upsert };
+
+    ghost deletion = { report_deletion };
+
+    ghost of_row = { λ c n v is. puts_report (n, v, is, refl) };
+
+    ghost of_none = { λ c n none. drops_report none };
 
     fn of(campaign: &Campaign, number: u32) -> Option<&Text> {
         campaign.report(number)

@@ -1,6 +1,8 @@
 //! The table of structures.
 ghost use Rattle.std.specs.Prelude.{◌≡◌, false, refl};
 ghost use Rattle.atl_store.specs.Tables.{structure_table};
+ghost use Rattle.atl_store.specs.Statements.{put_structure as structure_upsert, drop_structure as structure_deletion};
+ghost use Rattle.atl_store.specs.OwnStatements.{puts_structure, drops_structure};
 ghost use Rattle.atl_store.specs.Rows.{structure_line};
 ghost use Rattle.atl_store.specs.Selects.{all_structures};
 ghost use Rattle.atl_store.specs.StoredRows.{structure_stored, structure_forms};
@@ -27,6 +29,14 @@ impl Kept for Structure {
     ghost values = { λ c. c.structures };
 
     ghost marks = { λ m. m.structures };
+
+    ghost upsert = { structure_upsert };
+
+    ghost deletion = { structure_deletion };
+
+    ghost of_row = { λ c n v is. puts_structure (n, v, is, refl) };
+
+    ghost of_none = { λ c n none. drops_structure none };
 
     fn of(campaign: &Campaign, number: u32) -> Option<&Structure> {
         campaign.structure(number)

@@ -1,12 +1,13 @@
 //! The table of units.
 ghost use Rattle.std.specs.Prelude.{◌≡◌, false, refl};
 ghost use Rattle.atl_store.specs.Tables.{unit_table};
+ghost use Rattle.atl_store.specs.Statements.{put_unit as unit_upsert, drop_unit as unit_deletion};
+ghost use Rattle.atl_store.specs.OwnStatements.{puts_unit, drops_unit};
 ghost use Rattle.atl_store.specs.Rows.{lines_of, unit_line};
 ghost use Rattle.atl_store.specs.Selects.{all_units};
 ghost use Rattle.atl_store.specs.StoredRows.{unit_stored, unit_forms};
 ghost use Rattle.atl_store.specs.Sets.{rows_in};
-ghost use Rattle.atl_store.specs.Writes.{Writes};
-ghost use Rattle.atl_store.specs.Inside.{Inside, HasTables, PutsRows};
+ghost use Rattle.atl_store.specs.Writes.{WritesRows};
 
 use crate::fault::ReadFault;
 use crate::kept::Kept;
@@ -29,6 +30,14 @@ impl Kept for Unit {
     ghost values = { λ c. c.units };
 
     ghost marks = { λ m. m.units };
+
+    ghost upsert = { unit_upsert };
+
+    ghost deletion = { unit_deletion };
+
+    ghost of_row = { λ c n v is. puts_unit (n, v, is, refl) };
+
+    ghost of_none = { λ c n none. drops_unit none };
 
     fn of(campaign: &Campaign, number: u32) -> Option<&Unit> {
         campaign.unit(number)
@@ -65,7 +74,7 @@ pub(crate) fn put_units<S: Alter>(
     tx: &mut Transaction<'_, S>,
     units: SlotEntries<'_, Unit>,
 ) -> Result<(), Error>
-    ensures { Writes S.Store (Inside HasTables (PutsRows unit_table 1 (lines_of unit_line units.entry))) result tx.old.conn tx.new.conn }
+    ensures { WritesRows S.Store unit_upsert unit_table 1 (lines_of unit_line units.entry) result tx.old.conn tx.new.conn }
 {
     for (number, unit) in units {
         unit.put(tx, number)?;

@@ -1,6 +1,7 @@
 use Rattle.sqlite.specs.Held.{state}
 use Rattle.atl_store.specs.Changing.{WritesChanges}
 use Rattle.atl_store.specs.Faults.{write_fault}
+use Rattle.atl_store.specs.OwnStatements.{OfChange}
 use Rattle.atl_store.specs.Inside.{HasTables}
 use Rattle.atl_store.proofs.ChangeLaws.{changes_held, unmarked_held}
 use Rattle.atl_store.proofs.StayLaws.{commits_keeps, leaves_stops, may_found, commits_spares, leaves_others, later, on_err, told_by}
@@ -46,7 +47,7 @@ returns-clause-unmarked g c clean text tables rest =
     (λ did. unmarked_held campaign old.now new.now did text rest)
 
 pub returns-in_err-write_marked-clause-told : goal.returns-in_err-write_marked-clause-told
-returns-in_err-write_marked-clause-told g c clean = told_by g.S.Store write_fault c.args.conn.now c.write_marked.new.conn _ c.from_residual.result c.from_residual.ensures.1 (c.in_err-write_marked.ensures.told clean)
+returns-in_err-write_marked-clause-told g c clean = told_by g.S.Store (OfChange c.args.campaign.now.what) write_fault c.args.conn.now c.write_marked.new.conn _ c.from_residual.result c.from_residual.ensures.1 (c.in_err-write_marked.ensures.told clean)
 
 pub returns-in_err-write_marked-clause-left : goal.returns-in_err-write_marked-clause-left
 returns-in_err-write_marked-clause-left g c clean = on_err c.from_residual.result _ (c.in_err-write_marked.ensures.err clean)

@@ -1,21 +1,20 @@
-use Rattle.std.proofs.Common.{subst}
+use Rattle.std.proofs.Common.{ap}
 use Rattle.std.specs.FinMap.{entries}
+use Rattle.atl_store.specs.Statements.{put_has}
 use Rattle.atl_store.specs.Tables.{has_table}
 use Rattle.atl_store.specs.declared.rows.has.Sort.TheVariants.{Item, Skill}
 use Rattle.atl_store.specs.Lines.{sort_lines}
-use Rattle.atl_store.specs.Inside.{Inside, HasTables, PutsRows}
-use Rattle.atl_store.proofs.PutsLaws.{inside_both}
-use Rattle.atl_store.proofs.WriteLaws.{two_steps, stops}
+use Rattle.atl_store.proofs.PuttingLaws.{same_written, both_written, first_failed}
 use Rattle.atl_store.proofs.goods.put_goods.Goals as goal
 
 pub returns : goal.returns
 returns g c =
-    let unit = c.args.unit in
-    let held = c.args.holding.now in
-    two_steps g.S.Store (λ old mid new items days. inside_both has_table 3 (sort_lines unit Item (entries held.items)) (sort_lines unit Skill (entries held.days)) old mid new
-    (subst (λ things. Inside HasTables (PutsRows has_table 3 (sort_lines unit Item things)) old mid) c.items.ensures items)
-    (subst (λ things. Inside HasTables (PutsRows has_table 3 (sort_lines unit Skill things)) mid new) c.days.ensures days))
-    c.in_ok-put_sort.ensures c.put_sort-2.ensures
+    let items = sort_lines c.args.unit Item in
+    let days = sort_lines c.args.unit Skill in
+    both_written g.S.Store put_has has_table 3 (items (entries c.args.holding.now.items)) (days (entries c.args.holding.now.days))
+    (same_written g.S.Store put_has has_table 3 _ _ (ap items c.items.ensures) c.in_ok-put_sort.ensures) (same_written g.S.Store put_has has_table 3 _ _ (ap days c.days.ensures) c.put_sort-2.ensures)
 
 pub returns-in_err-put_sort : goal.returns-in_err-put_sort
-returns-in_err-put_sort g c = stops g.S.Store c.in_err-put_sort.ensures c.from_residual.ensures
+returns-in_err-put_sort g c =
+    let items = sort_lines c.args.unit Item in
+    first_failed g.S.Store put_has has_table 3 (items (entries c.args.holding.now.items)) _ (same_written g.S.Store put_has has_table 3 _ _ (ap items c.items.ensures) c.in_err-put_sort.ensures) c.from_residual.ensures

@@ -1,8 +1,10 @@
-use Rattle.std.proofs.Common.{subst, sym}
+use Rattle.std.proofs.Common.{IfErr, subst, sym}
 use Rattle.sqlite.specs.Held.{state}
 use Rattle.atl_store.specs.Inside.{HasTables}
 use Rattle.atl_store.specs.Arriving.{WritesJoin}
 use Rattle.atl_store.specs.Faults.{write_fault}
+use Rattle.atl_store.specs.Causes.{IsTold}
+use Rattle.atl_store.specs.OwnStatements.{OfJoining}
 use Rattle.atl_store.specs.Keeps.{IsJoining}
 use Rattle.atl_store.proofs.JoinLaws.{join_held}
 use Rattle.atl_store.proofs.StayLaws.{commits_keeps, leaves_stops, commits_spares, leaves_others, later, on_err, told_by}
@@ -45,7 +47,12 @@ returns-clause-own g c clean tables =
     subst (λ n. WritesJoin n c.args.campaign.now.what old.now new.now) c.arrival_of-arrival.ensures.number ((c.in_ok-write_joining.ensures.ok clean).does tables).does
 
 pub returns-in_err-write_joining-clause-told : goal.returns-in_err-write_joining-clause-told
-returns-in_err-write_joining-clause-told g c clean = told_by g.S.Store write_fault c.args.conn.now c.write_joining.new.conn _ c.from_residual.result c.from_residual.ensures.1 (c.in_err-write_joining.ensures.told clean)
+returns-in_err-write_joining-clause-told g c clean =
+    let old = c.args.conn.now in
+    let new = c.write_joining.new.conn in
+    let after = c.args.campaign.now.what in
+    subst (λ n. IfErr c.from_residual.result (IsTold g.S.Store (OfJoining n after) write_fault old new)) c.arrival_of-arrival.ensures.number
+    (told_by g.S.Store (OfJoining c.arrival_of-arrival.result.number after) write_fault old new _ c.from_residual.result c.from_residual.ensures.1 (c.in_err-write_joining.ensures.told clean))
 
 pub returns-in_err-write_joining-clause-left : goal.returns-in_err-write_joining-clause-left
 returns-in_err-write_joining-clause-left g c clean = on_err c.from_residual.result _ (c.in_err-write_joining.ensures.err clean)

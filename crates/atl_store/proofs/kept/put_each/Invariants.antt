@@ -1,8 +1,6 @@
 use Rattle.atl_store.specs.Rows.{lines_of}
-use Rattle.atl_store.specs.Inside.{Inside, HasTables}
-use Rattle.atl_store.proofs.PutsLaws.{Towards}
-use Rattle.atl_store.proofs.WriteLaws.{SoFar}
+use Rattle.atl_store.proofs.PuttingLaws.{Putting}
 use Rattle.atl_store.proofs.kept.put_each.Given as goal
 
 abbrev pub invariant-loop-number : goal.invariant-loop-number
-invariant-loop-number g l = SoFar g.S.Store (Inside HasTables (Towards g.V.Kept.table 1 (lines_of g.V.Kept.line l.number-iterator) (lines_of g.V.Kept.line l.fn.values))) l.fn.tx.conn l.tx.conn
+invariant-loop-number g l = Putting g.S.Store g.V.Kept.upsert g.V.Kept.table 1 (lines_of g.V.Kept.line l.number-iterator) (lines_of g.V.Kept.line l.fn.values) l.fn.tx.conn l.tx.conn

@@ -1,8 +1,9 @@
 use Rattle.atl_store.specs.Rows.{RowsOf}
+use Rattle.atl_store.specs.OwnStatements.{OfChange}
 use Rattle.atl_store.specs.Inside.{Inside, HasTables}
 use Rattle.atl_store.proofs.RewriteLaws.{NearingNumbers}
 use Rattle.atl_store.proofs.WriteLaws.{SoFar}
 use Rattle.atl_store.proofs.kept.rewrite_marked.Given as goal
 
 abbrev pub invariant-loop-number : goal.invariant-loop-number
-invariant-loop-number g l = SoFar g.S.Store (Inside HasTables (NearingNumbers g.V.Kept.table (RowsOf g.V.Kept.line (g.V.Kept.values l.fn.campaign.what)) l.number-iterator l.initial.number-iterator)) l.fn.tx.conn l.tx.conn
+invariant-loop-number g l = SoFar g.S.Store (OfChange l.fn.campaign.what) (Inside HasTables (NearingNumbers g.V.Kept.table (RowsOf g.V.Kept.line (g.V.Kept.values l.fn.campaign.what)) l.number-iterator l.initial.number-iterator)) l.fn.tx.conn l.tx.conn

@@ -3,13 +3,15 @@ use Rattle.atl_state.specs.Books.{entry_place, thing_place}
 use Rattle.atl_store.specs.Tables.{books_table}
 use Rattle.atl_store.specs.Rows.{BooksRowsOf}
 use Rattle.atl_store.specs.Rewriting.{is_number, of_amounts}
+use Rattle.atl_store.proofs.ArriveLaws.{amount_changes}
 use Rattle.atl_store.proofs.BooksRewriteLaws.{settle_done, unmarked_none}
 use Rattle.atl_store.proofs.RewriteLaws.{none_chosen}
-use Rattle.atl_store.proofs.WriteLaws.{begins, weaker}
+use Rattle.atl_store.proofs.WriteLaws.{begins, weaker, among}
 use Rattle.atl_store.proofs.ledger.rewrite_amount.Goals as goal
 
 pub returns-then-is_amount_marked : goal.returns-then-is_amount_marked
-returns-then-is_amount_marked g c = weaker g.S.Store (settle_done c.args.campaign.now c.args.entry c.args.thing (sym c.is_amount_marked.ensures ∙ c.if-is_amount_marked.true)) c.settle_amount.ensures
+returns-then-is_amount_marked g c = weaker g.S.Store (settle_done c.args.campaign.now c.args.entry c.args.thing (sym c.is_amount_marked.ensures ∙ c.if-is_amount_marked.true))
+    (among g.S.Store (amount_changes c.args.campaign.now.what c.args.entry c.args.thing) c.settle_amount.ensures)
 
 pub returns : goal.returns
 returns g c =

@@ -5,9 +5,9 @@ use Rattle.atl_store.specs.Tables.{books_table}
 use Rattle.atl_store.specs.Shown.{books_key, books_row}
 use Rattle.atl_store.specs.Inside.{HasTables, Puts, Drops}
 use Rattle.atl_store.specs.Arriving.{Settles}
-use Rattle.atl_store.proofs.ArriveLaws.{settles_by_put, settles_by_drop}
+use Rattle.atl_store.proofs.ArriveLaws.{amount_put, amount_taken, settles_by_put, settles_by_drop}
 use Rattle.atl_store.proofs.WholeLaws.{inside_weaker}
-use Rattle.atl_store.proofs.WriteLaws.{weaker}
+use Rattle.atl_store.proofs.WriteLaws.{weaker, among_only}
 use Rattle.atl_store.proofs.ledger.settle_amount.Goals as goal
 
 pub returns-then-amount-eq0 : goal.returns-then-amount-eq0
@@ -17,7 +17,8 @@ returns-then-amount-eq0 g c =
     let k = c.number-then-amount-eq0.result in
     let cast = to_z-of_z w64 c.booked-amount.result (search rules) in
     let zero : c.booked-amount.result ≡ pos 0 = rw c.if-amount-eq0.true at (sym cast) in
-    weaker g.S.Store (λ old new. inside_weaker HasTables (Drops books_table 2 (books_key n k)) (Settles campaign c.args.entry c.args.thing) old new (λ has did. settles_by_drop campaign c.args.entry c.args.thing n k c.number.ensures.place c.number-then-amount-eq0.ensures.place old.now new.now (sym c.booked-amount.ensures ∙ zero) did)) c.drop_books.ensures
+    weaker g.S.Store (λ old new. inside_weaker HasTables (Drops books_table 2 (books_key n k)) (Settles campaign c.args.entry c.args.thing) old new (λ has did. settles_by_drop campaign c.args.entry c.args.thing n k c.number.ensures.place c.number-then-amount-eq0.ensures.place old.now new.now (sym c.booked-amount.ensures ∙ zero) did))
+    (among_only g.S.Store _ _ (amount_taken campaign c.args.entry c.args.thing n k c.number.ensures.place c.number-then-amount-eq0.ensures.place (sym c.booked-amount.ensures ∙ zero)) c.drop_books.ensures)
 
 pub returns : goal.returns
 returns g c =
@@ -26,4 +27,6 @@ returns g c =
     let k = c.number-3.result in
     let cast = to_z-of_z w64 c.booked-amount.result (search rules) in
     weaker g.S.Store (λ old new. inside_weaker HasTables (Puts books_table 2 (books_row n k _)) (Settles campaign c.args.entry c.args.thing) old new (λ has did. settles_by_put campaign c.args.entry c.args.thing n k c.number-2.ensures.place c.number-3.ensures.place old.now new.now _ (cast ∙ c.booked-amount.ensures)
-    (λ zero. let none : c.booked-amount.result ≡ pos 0 = sym cast ∙ zero in c.if-amount-eq0.false (rw none refl)) did)) c.put_books.ensures
+    (λ zero. let none : c.booked-amount.result ≡ pos 0 = sym cast ∙ zero in c.if-amount-eq0.false (rw none refl)) did))
+    (among_only g.S.Store _ _ (amount_put campaign c.args.entry c.args.thing n k c.number-2.ensures.place c.number-3.ensures.place _ (cast ∙ c.booked-amount.ensures)
+    (λ zero. let none : c.booked-amount.result ≡ pos 0 = sym cast ∙ zero in c.if-amount-eq0.false (rw none refl))) c.put_books.ensures)

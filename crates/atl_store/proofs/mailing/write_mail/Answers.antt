@@ -3,6 +3,7 @@ use Rattle.atl_state.specs.State.{with_mail}
 use Rattle.atl_store.specs.Inside.{HasTables}
 use Rattle.atl_store.specs.Arriving.{WritesMail}
 use Rattle.atl_store.specs.Faults.{write_fault}
+use Rattle.atl_store.specs.OwnStatements.{OfMail}
 use Rattle.atl_store.proofs.JoinLaws.{mail_held}
 use Rattle.atl_store.proofs.StayLaws.{commits_keeps, leaves_stops, commits_spares, leaves_others, later, on_err, told_by}
 use Rattle.atl_store.proofs.mailing.write_mail.Goals as goal
@@ -37,7 +38,7 @@ pub returns-clause-own : goal.returns-clause-own
 returns-clause-own g c clean tables = ((c.in_ok-write_mailing.ensures.ok clean).does tables).does
 
 pub returns-in_err-write_mailing-clause-told : goal.returns-in_err-write_mailing-clause-told
-returns-in_err-write_mailing-clause-told g c clean = told_by g.S.Store write_fault c.args.conn.now c.write_mailing.new.conn _ c.from_residual.result c.from_residual.ensures.1 (c.in_err-write_mailing.ensures.told clean)
+returns-in_err-write_mailing-clause-told g c clean = told_by g.S.Store (OfMail c.args.faction c.args.text.now) write_fault c.args.conn.now c.write_mailing.new.conn _ c.from_residual.result c.from_residual.ensures.1 (c.in_err-write_mailing.ensures.told clean)
 
 pub returns-in_err-write_mailing-clause-left : goal.returns-in_err-write_mailing-clause-left
 returns-in_err-write_mailing-clause-left g c clean = on_err c.from_residual.result _ (c.in_err-write_mailing.ensures.err clean)

@@ -4,9 +4,9 @@ use Rattle.atl_store.proofs.statement.run.Goals as goal
 pub returns : goal.returns
 returns g c =
     let ran = c.in_ok-execute.ensures in
-    runs g.S.Store _ _ _ _ c.requires.own ran.same_reference ran.survives _ tt ran.ended ran.runs
+    runs g.S.Store _ _ _ _ ran.same_reference ran.survives _ tt ran.ended ran.runs
 
 pub returns-in_err-execute : goal.returns-in_err-execute
 returns-in_err-execute g c =
     let ran = c.in_err-execute.ensures in
-    fails g.S.Store _ _ _ _ c.requires.own ran.same_reference ran.survives _ _ _ ran.ended ran.runs c.from_residual.ensures
+    fails g.S.Store _ _ _ _ ran.same_reference ran.survives _ _ _ ran.ended ran.runs c.from_residual.ensures

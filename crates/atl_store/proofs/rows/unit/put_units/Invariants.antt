@@ -1,9 +1,8 @@
+use Rattle.atl_store.specs.Statements.{put_unit}
 use Rattle.atl_store.specs.Tables.{unit_table}
 use Rattle.atl_store.specs.Rows.{lines_of, unit_line}
-use Rattle.atl_store.specs.Inside.{Inside, HasTables}
-use Rattle.atl_store.proofs.PutsLaws.{Towards}
-use Rattle.atl_store.proofs.WriteLaws.{SoFar}
+use Rattle.atl_store.proofs.PuttingLaws.{Putting}
 use Rattle.atl_store.proofs.rows.unit.put_units.Given as goal
 
 abbrev pub invariant-loop-number : goal.invariant-loop-number
-invariant-loop-number g l = SoFar g.S.Store (Inside HasTables (Towards unit_table 1 (lines_of unit_line l.number-iterator) (lines_of unit_line l.fn.units))) l.fn.tx.conn l.tx.conn
+invariant-loop-number g l = Putting g.S.Store put_unit unit_table 1 (lines_of unit_line l.number-iterator) (lines_of unit_line l.fn.units) l.fn.tx.conn l.tx.conn
