@@ -66,20 +66,20 @@ module _ (w : Planet) (c : State) (n : ℕ) (r : Region) (born earned : ℕ) (is
   peopled_there : get peopled.regions n ≡ Some (more_people r)
   peopled_there = region-changed more_people c n r is
 
-  growth_steady : r.peasants + born ≤ most_amount → r.money + earned ≤ most_amount → IsSteady w c → IsSteady w (with_growth c n r born earned)
+  growth_steady : r.peasants + born ≤ most_amount → r.money + earned ≤ most_amount → IsSteady w c → IsSteady w (with_growth c n r.peasants r.money born earned)
   growth_steady p m old =
       let grown = IsRegion-peasants r (r.peasants + born) p (old.numbers.regions n r is) in
       steady-amount w counted Income Money (pos earned) (steady-amount w paid Births People (pos born)
       (steady-region more_money peopled n (more_people r) peopled_there w (IsRegion-money (more_people r) (r.money + earned) m grown) (steady-region more_people c n r is w grown old)))
 
-  total_grown : (t : Thing) → pos (total (with_growth c n r born earned) t) ≡ (pos (total c t) +ℤ share_of t People (pos born)) +ℤ share_of t Money (pos earned)
+  total_grown : (t : Thing) → pos (total (with_growth c n r.peasants r.money born earned) t) ≡ (pos (total c t) +ℤ share_of t People (pos born)) +ℤ share_of t Money (pos earned)
   total_grown t =
       total_of t (total-amount counted Income Money t (pos earned)) (total-amount paid Births People t (pos born))
       (total-region more_people c n r is t) (total-region more_money peopled n (more_people r) peopled_there t)
     where
-      total_of : (t : Thing) → total (with_growth c n r born earned) t ≡ total counted t → total counted t ≡ total paid t
+      total_of : (t : Thing) → total (with_growth c n r.peasants r.money born earned) t ≡ total counted t → total counted t ≡ total paid t
           → total peopled t + kept t r ≡ total c t + kept t (more_people r) → total paid t + kept t (more_people r) ≡ total peopled t + kept t (more_money (more_people r))
-          → pos (total (with_growth c n r born earned) t) ≡ (pos (total c t) +ℤ share_of t People (pos born)) +ℤ share_of t Money (pos earned)
+          → pos (total (with_growth c n r.peasants r.money born earned) t) ≡ (pos (total c t) +ℤ share_of t People (pos born)) +ℤ share_of t Money (pos earned)
       total_of Money a b g h = omega (arith, ints, a, b, g, h)
       total_of People a b g h = omega (arith, ints, a, b, g, h)
       total_of (Item i) a b g h =
@@ -102,14 +102,14 @@ module _ (w : Planet) (c : State) (n : ℕ) (r : Region) (born earned : ℕ) (is
     grid_one : IsGrid (things_of w) one_booked
     grid_one = IsGrid-with_booked (things_of w) c.books Births People (pos born) grid
 
-    growth_balances : Balances c → Balances (with_growth c n r born earned)
+    growth_balances : Balances c → Balances (with_growth c n r.peasants r.money born earned)
     growth_balances old t =
         total_grown t
         ∙ ap (λ z. (z +ℤ share_of t People (pos born)) +ℤ share_of t Money (pos earned)) (old t)
         ∙ ap (λ z. z +ℤ share_of t Money (pos earned)) (sym (booked-with_booked (things_of w) c.books Births People (pos born) grid (omega arith) t))
         ∙ sym (booked-with_booked (things_of w) one_booked Income Money (pos earned) grid_one (omega arith) t)
 
-    growth_near : born ≤ most_amount → earned ≤ most_amount → (e : Entry) (t : Thing) → IsNear (grows_by most_amount e t) (amount_in c.books e t) (amount_in (with_growth c n r born earned).books e t)
+    growth_near : born ≤ most_amount → earned ≤ most_amount → (e : Entry) (t : Thing) → IsNear (grows_by most_amount e t) (amount_in c.books e t) (amount_in (with_growth c n r.peasants r.money born earned).books e t)
     growth_near b m e t =
         let people = moves_only most_amount Births People e t in
         let money = moves_only most_amount Income Money e t in
@@ -118,7 +118,7 @@ module _ (w : Planet) (c : State) (n : ℕ) (r : Region) (born earned : ℕ) (is
         (booked-near (things_of w) c.books Births People (pos born) most_amount grid (omega arith) (within-pos born most_amount b) e t)
         (booked-near (things_of w) one_booked Income Money (pos earned) most_amount grid_one (omega arith) (within-pos earned most_amount m) e t))
 
-  pub growth_leaves_well : r.peasants + born ≤ most_amount → r.money + earned ≤ most_amount → IsSteady w c → LeavesWell IsSteady (grows_by most_amount) w c (with_growth c n r born earned)
+  pub growth_leaves_well : r.peasants + born ≤ most_amount → r.money + earned ≤ most_amount → IsSteady w c → LeavesWell IsSteady (grows_by most_amount) w c (with_growth c n r.peasants r.money born earned)
   growth_leaves_well p m steady = record {
     leaves_it = growth_steady p m steady;
     same_month = record { month = refl; reports = refl; count = refl; factions = λ k there. there };

@@ -21,17 +21,17 @@ births growth limit word peasants = min (peasants * (word % (growth + 1)) / per_
 abbrev pub income : (per_peasant limit peasants money : ℕ) → ℕ
 income per_peasant limit peasants money = min (peasants * per_peasant) (limit - money)
 
--- a region with so many births and so much income, which are booked
-abbrev pub with_growth : State → ℕ → Region → (born earned : ℕ) → State
-with_growth c n r born earned =
-    let grown = with_region_money (with_peasants c n (r.peasants + born)) n (r.money + earned) in
+-- a region of so many peasants and so much money with births and income, which are booked
+abbrev pub with_growth : State → ℕ → (peasants money born earned : ℕ) → State
+with_growth c n peasants money born earned =
+    let grown = with_region_money (with_peasants c n (peasants + born)) n (money + earned) in
     with_amount (with_amount grown Births People (pos born)) Income Money (pos earned)
 
 -- The births come first, and those who are born bring income as well.
 abbrev pub season_in : Planet → State → (n word : ℕ) → Option Terrain → Option Region → State
 season_in w c n word (Some t) (Some r) =
     let born = births w.rules.growth t.peasant_limit word r.peasants in
-    with_growth c n r born (income w.rules.income t.money_limit (r.peasants + born) r.money)
+    with_growth c n r.peasants r.money born (income w.rules.income t.money_limit (r.peasants + born) r.money)
 season_in w c n word (Some t) None = c
 season_in w c n word None r = c
 

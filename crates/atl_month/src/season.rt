@@ -1,6 +1,5 @@
 //! The season of a month.
-ghost use Rattle.std.specs.Prelude.{ℕ, ◌≡◌, ◌≤◌, ◌<◌, ◌+◌, Some};
-ghost use Rattle.std.specs.FinMap as map;
+ghost use Rattle.std.specs.Prelude.{ℕ, ◌≡◌, ◌≤◌, ◌<◌, ◌+◌};
 ghost use Rattle.atl_tables.specs.Planet.{IsWorld};
 ghost use Rattle.atl_tables.specs.Limits.{most_amount, most_growth};
 ghost use Rattle.atl_state.specs.Books.{IsGrid};
@@ -11,7 +10,7 @@ ghost use Rattle.atl_month.specs.Season.{births, grows_by, income, season, seaso
 
 use crate::limits::PER_HUNDRED;
 use atl_instant::{Month, Phase};
-use atl_state::{Campaign, Entry, Region, Thing};
+use atl_state::{Campaign, Entry, Thing};
 use atl_tables::World;
 use std::alloc::{AllocError, Global};
 
@@ -38,18 +37,17 @@ fn income(per_peasant: u32, limit: u32, peasants: u32, money: u32) -> u32
     earned.min(u64::from(limit.saturating_sub(money))) as u32
 }
 
-/// A region grows by births and income, which are booked.
-fn grow(campaign: &mut Campaign, number: u32, region: Region, born: u32, earned: u32)
-    requires there { map.get campaign.old.what.regions number ≡ Some region }
+/// A region with so many peasants and so much money grows by births and income, which are booked.
+fn grow(campaign: &mut Campaign, number: u32, peasants: u32, money: u32, born: u32, earned: u32)
     requires grid { (things : ℕ) × (2 ≤ things) × IsGrid things campaign.old.what.books }
     requires room { HaveRoom (grows_by most_amount) campaign.old.what }
-    requires peasants { region.peasants + born ≤ most_amount }
-    requires money { region.money + earned ≤ most_amount }
-    ensures what { campaign.new.what ≡ with_growth campaign.old.what number region born earned }
+    requires peasants { peasants + born ≤ most_amount }
+    requires money { money + earned ≤ most_amount }
+    ensures what { campaign.new.what ≡ with_growth campaign.old.what number peasants money born earned }
     ensures marks { MarksChanges campaign.old campaign.new }
 {
-    campaign.set_peasants(number, region.peasants + born);
-    campaign.set_region_money(number, region.money + earned);
+    campaign.set_peasants(number, peasants + born);
+    campaign.set_region_money(number, money + earned);
     campaign.book(Entry::Births, Thing::People, i64::from(born));
     campaign.book(Entry::Income, Thing::Money, i64::from(earned));
 }
@@ -66,19 +64,14 @@ fn turn_region(world: &World, campaign: &mut Campaign, number: u32, word: u32)
         Some(terrain) => terrain,
         None => return,
     };
-    let region = match campaign.region(number) {
-        Some(region) => *region,
+    let (peasants, money) = match campaign.region(number) {
+        Some(region) => (region.peasants, region.money),
         None => return,
     };
     let rules = world.rules();
-    let born = births(rules.growth, terrain.peasant_limit, word, region.peasants);
-    let earned = income(
-        rules.income,
-        terrain.money_limit,
-        region.peasants + born,
-        region.money,
-    );
-    grow(campaign, number, region, born, earned);
+    let born = births(rules.growth, terrain.peasant_limit, word, peasants);
+    let earned = income(rules.income, terrain.money_limit, peasants + born, money);
+    grow(campaign, number, peasants, money, born, earned);
 }
 
 /// The season of the regions, as far as there are words.

@@ -25,34 +25,14 @@ rule_at n =
 
 its_rule : (r : Rule) → rule_at (rule_number r) ≡ r
 its_rule OneRow = refl
-its_rule Ranges = refl
-its_rule Names = refl
-its_rule Known = refl
-its_rule Next = refl
-its_rule Days = refl
-its_rule Gone = refl
-its_rule Owners = refl
-its_rule Water = refl
-its_rule Guards = refl
-its_rule Books = refl
-its_rule Mail = refl
+its_rule _ = refl
 
 same_rule : (r s : Rule) → rule_number r ≡ rule_number s → r ≡ s
 same_rule r s e = sym (its_rule r) ∙ ap rule_at e ∙ its_rule s
 
 from_one : (r : Rule) → 1 ≤ rule_number r
 from_one OneRow = omega arith
-from_one Ranges = omega arith
-from_one Names = omega arith
-from_one Known = omega arith
-from_one Next = omega arith
-from_one Days = omega arith
-from_one Gone = omega arith
-from_one Owners = omega arith
-from_one Water = omega arith
-from_one Guards = omega arith
-from_one Books = omega arith
-from_one Mail = omega arith
+from_one _ = omega arith
 
 module _ (w : Planet) (p : Parts) where
   pub below_first : KeepsBelow w p 1

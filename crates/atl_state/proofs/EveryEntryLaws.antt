@@ -9,22 +9,11 @@ use Rattle.std.proofs.lemmas.Option.{get_or_from_slice_get, slice_get_within}
 use Rattle.atl_state.specs.Books.{all_entries, entry_place}
 use Rattle.atl_state.specs.Limits.{entry_count}
 use Rattle.atl_state.specs.declared.books.Entry.{Entry}
-use Rattle.atl_state.specs.declared.books.Entry.TheVariants.{Founding, Joining, Income, Wages, Recruiting, Study, Upkeep, Lost, Births, Starved, Left, Made, Used}
+use Rattle.atl_state.specs.declared.books.Entry.TheVariants.{Founding}
 
 pub entry_there : (e : Entry) → slice_get all_entries (entry_place e) ≡ Some e
 entry_there Founding = refl
-entry_there Joining = refl
-entry_there Income = refl
-entry_there Wages = refl
-entry_there Recruiting = refl
-entry_there Study = refl
-entry_there Upkeep = refl
-entry_there Lost = refl
-entry_there Births = refl
-entry_there Starved = refl
-entry_there Left = refl
-entry_there Made = refl
-entry_there Used = refl
+entry_there _ = refl
 
 -- there is a place for each
 pub entry_small : (e : Entry) → entry_place e < entry_count

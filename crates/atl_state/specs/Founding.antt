@@ -1,12 +1,12 @@
 -- The campaign that is founded.
 use Rattle.std.specs.Prelude.{◌+◌, List, length, ℕ, pos}
-use Rattle.std.specs.FinMap.{empty}
 use Rattle.atl_tables.specs.Planet.{Planet}
 use Rattle.atl_tables.specs.Sums.{sum_over, mapped}
 use Rattle.atl_tables.specs.declared.world.RegionPlan.{RegionPlan}
 use Rattle.atl_state.specs.declared.books.Entry.TheVariants.{Founding}
 use Rattle.atl_state.specs.declared.books.Thing.TheVariants.{Money, People}
 use Rattle.atl_state.specs.declared.records.Region.{Region}
+use Rattle.atl_state.specs.Blank.{nothing}
 use Rattle.atl_state.specs.Books.{with_booked, no_amounts}
 use Rattle.atl_state.specs.State.{State}
 
@@ -20,17 +20,8 @@ things_of w = 2 + length w.items
 
 -- month 0 has been closed; the regions hold what the world gives them, which is booked; and nobody is there
 unfoldable pub founded_of : Planet → List ℕ → State
-founded_of w pass = let regions = mapped founded_region w.regions in record {
-  month = 0;
+founded_of w pass = let regions = mapped founded_region w.regions in record nothing {
   pass = pass;
-  next_faction = 1;
-  next_unit = 1;
-  next_structure = 1;
-  factions = empty;
   regions = regions;
-  units = empty;
-  structures = empty;
-  mail = empty;
-  reports = empty;
   books = with_booked (with_booked (no_amounts (things_of w)) Founding Money (pos (sum_over (λ r. r.money) regions))) Founding People (pos (sum_over (λ r. r.peasants) regions));
 }

@@ -57,7 +57,7 @@ pub enum Thing {
 
 impl Entry {
     /// All entries, in the order of their numbers.
-    pub const ALL: [Entry; ENTRY_COUNT] = variants!(
+    pub const ALL: [Entry; 13] = variants!(
         Entry: Founding Joining Income Wages Recruiting Study Upkeep Lost Births Starved Left
         Made Used
     );

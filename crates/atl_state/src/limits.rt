@@ -1,5 +1,6 @@
 //! The limits of a campaign. See docs/RULES.md, "Limits".
 
+use crate::books::Entry;
 use atl_tables::limits::MOST_AMOUNT;
 
 /// So many units stand at one time at most.
@@ -11,8 +12,8 @@ pub const LAST_UNIT: u32 = 999_999_999;
 /// So many structures are ever begun at most. They are numbered from 1 up to this one.
 pub const MOST_STRUCTURES: u32 = 10_000;
 
-/// How many entries the books have (`Entry::ALL`).
-pub const ENTRY_COUNT: usize = 13;
+/// How many entries the books have.
+pub const ENTRY_COUNT: usize = Entry::ALL.len();
 
 /// The number of the first item among the things of the books: money has 0, and people have 1.
 pub const FIRST_ITEM: usize = 2;

@@ -43,7 +43,7 @@ impl Drop for Unit {
 }
 
 /// What a region holds besides its units.
-#[derive(Drop, Clone, Copy, Debug)]
+#[derive(Drop)]
 pub struct Region {
     /// The people that are of no faction, from 0 to atl_tables' MOST_AMOUNT.
     pub peasants: u32,

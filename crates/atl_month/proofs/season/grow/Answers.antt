@@ -33,6 +33,6 @@ returns-clause-marks c =
     let one : to_z w64 (of_z w64 c.from.result) ≡ pos c.args.born = search (rules, c.from.ensures) in
     let second : to_z w64 (of_z w64 c.from-2.result) ≡ pos c.args.earned = search (rules, c.from-2.ensures) in
     let (things, two, grid) = c.requires.grid in
-    growth_marks things c.args.campaign.now c.set_peasants.new.self c.set_region_money.new.self c.book.new.self c.book-2.new.self c.args.number (c.args.region.peasants + c.args.born) (c.args.region.money + c.args.earned) c.args.born c.args.earned
+    growth_marks things c.args.campaign.now c.set_peasants.new.self c.set_region_money.new.self c.book.new.self c.book-2.new.self c.args.number (c.args.peasants + c.args.born) (c.args.money + c.args.earned) c.args.born c.args.earned
     c.set_peasants.ensures.what c.set_peasants.ensures.marks c.set_region_money.ensures.what c.set_region_money.ensures.marks
     (rw one at c.book.ensures.what) c.book.ensures.marks (rw second at c.book-2.ensures.what) c.book-2.ensures.marks grid two
