@@ -4,7 +4,7 @@ pub mod JsonLaws
 pub mod ListeningLaws
 pub mod MovingLaws
 pub mod PieceLaws
-pub mod PlaceLaws
+pub mod DigitLaws
 pub mod RouteLaws
 pub mod ServingLaws
 mod WordLaws

@@ -1,5 +1,5 @@
 -- Laws of the routes.
-use Rattle.std.proofs.Common.{add-zero, lit<, get_or, ltb, leb, length-append, ◌&&◌, ◌≡◌, ℕ, ◌+◌, ◌-◌, ◌≤◌, ◌⊎◌, inl, inr, List, [], ◌∷◌, ◌++◌, length, drop, Option, Some, None, Bool, true, false, refl, sym, ap, ◌∙◌, subst, arith, ◌==◌}
+use Rattle.std.proofs.Common.{add-zero, lit<, get_or, ltb, leb, length-append, ◌&&◌, ◌≡◌, ℕ, ◌+◌, ◌-◌, ◌<◌, ◌≤◌, ◌⊎◌, inl, inr, List, [], ◌∷◌, ◌++◌, length, drop, Option, Some, None, Bool, true, false, refl, sym, ap, ◌∙◌, subst, arith, ◌==◌}
 use Rattle.std.specs.Prelude.{MatchOption, bytes_eq, option_and_then, option_map, codes}
 use Rattle.std.proofs.lemmas.Bool.Decides.{nat_tests}
 use Rattle.matchit.specs.Rows.{Rows, param_token}
@@ -18,7 +18,7 @@ use Rattle.atl_http.specs.declared.route.Place.{Place}
 use Rattle.matchit.specs.Router.{RouteOf, map_key}
 use Rattle.matchit.proofs.RenameLemmas.{first-rename}
 use Rattle.matchit.specs.Params.{walk, wild_from, part_of, named, AllText}
-use Rattle.std.proofs.lemmas.List.{length-drop}
+use Rattle.std.proofs.lemmas.List.{length-drop, drop_at}
 use Rattle.std.proofs.Math.Seq.{take-length}
 use Rattle.atl_http.proofs.FrontLaws.{behind_is, first_behind, number_row, end_none, ascii_utf8, NumberSays, number_says}
 
@@ -90,29 +90,25 @@ record Fronted (key : ℕ) (front : List ℕ) : Type 0 where
   joins : (rest : List ℕ) → IsUtf8 rest → IsUtf8 (front ++ rest)
   without : (rest : List ℕ) → number_of rest ≡ None → route_in (kept_at key).value (Some rest) ≡ None
 
-fronted_close : Fronted 0 (codes "/close/")
-fronted_close = record {
-  takes_rest = takes_close;
-  cut = (λ rest h. IsUtf8-drop (codes "/close/" ++ rest) 7 h (IsCharBoundary-after_ascii (codes "/close/" ++ rest) 6 h (longer 7 (codes "/close/") rest refl) (lit< tt)));
-  joins = (λ rest h. IsUtf8-append (codes "/close/") rest (ascii_utf8 (codes "/close/") refl) h);
-  without = (λ rest e. ap (option_map route.Close) e);
+fronted : (key last : ℕ) (front : List ℕ) → length front ≡ last + 1 → IsUtf8 front → ((rest : List ℕ) → get_or (front ++ rest) last 0 < 128) → ((rest : List ℕ) → Takes key (front ++ rest) rest)
+    → ((rest : List ℕ) → number_of rest ≡ None → route_in (kept_at key).value (Some rest) ≡ None) → Fronted key front
+fronted key last front count text ascii takes_rest without = record {
+  takes_rest = takes_rest;
+  cut = (λ rest h.
+    let inside : last < length (front ++ rest) = (let long = longer (last + 1) front rest count in omega arith) in
+    subst IsUtf8 (drop_at front rest (last + 1) count) (IsUtf8-drop (front ++ rest) (last + 1) h (IsCharBoundary-after_ascii (front ++ rest) last h inside (ascii rest))));
+  joins = (λ rest h. IsUtf8-append front rest text h);
+  without = without;
 }
+
+fronted_close : Fronted 0 (codes "/close/")
+fronted_close = fronted 0 6 (codes "/close/") refl (ascii_utf8 (codes "/close/") refl) (λ rest. lit< tt) takes_close (λ rest e. ap (option_map route.Close) e)
 
 fronted_orders : Fronted 2 (codes "/orders/")
-fronted_orders = record {
-  takes_rest = takes_orders;
-  cut = (λ rest h. IsUtf8-drop (codes "/orders/" ++ rest) 8 h (IsCharBoundary-after_ascii (codes "/orders/" ++ rest) 7 h (longer 8 (codes "/orders/") rest refl) (lit< tt)));
-  joins = (λ rest h. IsUtf8-append (codes "/orders/") rest (ascii_utf8 (codes "/orders/") refl) h);
-  without = (λ rest e. ap (option_map route.Orders) e);
-}
+fronted_orders = fronted 2 7 (codes "/orders/") refl (ascii_utf8 (codes "/orders/") refl) (λ rest. lit< tt) takes_orders (λ rest e. ap (option_map route.Orders) e)
 
 fronted_report : Fronted 3 (codes "/report/")
-fronted_report = record {
-  takes_rest = takes_report;
-  cut = (λ rest h. IsUtf8-drop (codes "/report/" ++ rest) 8 h (IsCharBoundary-after_ascii (codes "/report/" ++ rest) 7 h (longer 8 (codes "/report/") rest refl) (lit< tt)));
-  joins = (λ rest h. IsUtf8-append (codes "/report/") rest (ascii_utf8 (codes "/report/") refl) h);
-  without = (λ rest e. ap (option_map route.Report) e);
-}
+fronted_report = fronted 3 7 (codes "/report/") refl (ascii_utf8 (codes "/report/") refl) (λ rest. lit< tt) takes_report (λ rest e. ap (option_map route.Report) e)
 
 -- the route of what stands behind a front
 abbrev in_found : ℕ → Option (List ℕ) → Option Route

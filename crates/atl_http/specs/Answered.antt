@@ -7,7 +7,7 @@ use Rattle.atl_orders.specs.Faulting.{fault_number}
 use Rattle.atl_service.specs.declared.command.Answer.{Answer}
 use Rattle.atl_service.specs.declared.command.Answer.TheVariants.{Joined, Mailed, MonthDone, Text, Refused, Fault}
 use Rattle.atl_service.specs.declared.command.Refusal.{Refusal}
-use Rattle.atl_service.specs.declared.command.Refusal.TheVariants.{BadName, BadPassText, NameTaken, Full, NoFaction, WrongPass, Gone, TooLong, NoHeader, BadHeader, WrongFaction, WrongMonth, MonthLimit, WrongDice}
+use Rattle.atl_service.specs.declared.command.Refusal.TheVariants.{NameTaken, Full, NoFaction, WrongPass, Gone, TooLong, WrongFaction, WrongMonth, MonthLimit}
 use Rattle.atl_service.specs.Numbers.{number_of, refusal_name, fault_name}
 use Rattle.atl_http.specs.Replies.{Reply, json, plain, no_number, error_body}
 
@@ -39,21 +39,18 @@ success kind body = record { status = 200; allow = None; kind = kind; body = bod
 
 -- ---- refusals and faults
 
+-- what isn't named here is a bad request
 abbrev pub refusal_status : Refusal → ℕ
-refusal_status BadName = 400
-refusal_status BadPassText = 400
 refusal_status NameTaken = 409
 refusal_status Full = 409
+refusal_status WrongFaction = 409
+refusal_status WrongMonth = 409
+refusal_status MonthLimit = 409
 refusal_status NoFaction = 404
 refusal_status WrongPass = 403
 refusal_status Gone = 403
 refusal_status TooLong = 413
-refusal_status NoHeader = 400
-refusal_status BadHeader = 400
-refusal_status WrongFaction = 409
-refusal_status WrongMonth = 409
-refusal_status MonthLimit = 409
-refusal_status WrongDice = 400
+refusal_status why = 400
 
 abbrev pub failure : (status : ℕ) → (name : List ℕ) → (number : ℕ) → Reply
 failure status name number = record { status = status; allow = None; kind = json; body = error_body name number }

@@ -13,14 +13,10 @@ use Rattle.atl_http.specs.declared.request.Request.{Request}
 use Rattle.atl_http.specs.declared.request.Request.TheVariants as request
 use Rattle.atl_http.specs.declared.request.Verdict.{Verdict}
 use Rattle.atl_http.specs.declared.request.Verdict.TheVariants.{More, Refused, Asks}
+use Rattle.atl_tables.specs.Steps.{◌>>=◌}
 use Rattle.atl_orders.specs.Limits.{most_bytes}
 use Rattle.atl_http.specs.Routes.{number_of, path_of, route_of, method_of}
 use Rattle.atl_http.specs.Fields.{Pair, fields_of, values_of, only}
-
-infixl 10 ◌>>=◌
-abbrev pub ◌>>=◌ : {A B : Type 0} → Result A Problem → (A → Result B Problem) → Result B Problem
-(Ok x) >>= f = f x
-(Err e) >>= f = Err e
 
 -- the value, or a problem where there is none
 abbrev pub or_problem : {A : Type 0} → Problem → Option A → Result A Problem

@@ -52,22 +52,15 @@ problem_name NoPass = codes "NoPass"
 problem_name BadJson = codes "BadJson"
 
 abbrev pub problem_status : Problem → ℕ
-problem_status BadRequest = 400
 problem_status NoRoute = 404
 problem_status (BadMethod route) = 405
 problem_status NoLength = 411
 problem_status BodyTooLong = 413
-problem_status NoPass = 400
-problem_status BadJson = 400
+problem_status p = 400
 
 abbrev pub allowed : Problem → Option Route
 allowed (BadMethod route) = Some route
-allowed BadRequest = None
-allowed NoRoute = None
-allowed NoLength = None
-allowed BodyTooLong = None
-allowed NoPass = None
-allowed BadJson = None
+allowed p = None
 
 -- the body that tells an error, with its number
 unfoldable pub error_body : (name : List ℕ) → (number : ℕ) → List ℕ

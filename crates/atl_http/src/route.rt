@@ -72,7 +72,7 @@ fn first_question(bytes: &[u8]) -> Option<usize>
 }
 
 /// Where the path of a target ends.
-#[tactic(auto, using(crate::proofs::PlaceLaws::found_or_len, crate::proofs::PlaceLaws::found_within))]
+#[tactic(auto, using(atl_orders::proofs::WordLaws::found_or_len, atl_orders::proofs::WordLaws::found_within))]
 fn end_of_path(target: &[u8]) -> usize
     ensures value { result ≡ position_or_len is_question target.now }
     ensures within { result ≤ length target.now }
