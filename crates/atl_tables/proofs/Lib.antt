@@ -18,3 +18,4 @@ pub mod RegionLaws
 pub mod TwinLaws
 pub mod WorldLaws
 pub mod OldWorldLaws
+pub mod SameLaws

@@ -24,6 +24,7 @@ mod reading;
 mod region_table;
 mod regions;
 mod rules_table;
+mod same;
 mod sequence;
 mod skill_table;
 mod tables;
