@@ -8,6 +8,7 @@ mod faults;
 mod island;
 mod lookups;
 mod mailings;
+mod markets;
 mod names;
 mod ranges;
 mod small;

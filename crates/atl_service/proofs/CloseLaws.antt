@@ -10,7 +10,7 @@ use Rattle.std.specs.Ordering.{nat_cmp, eq_by_cmp}
 use Rattle.std.specs.FinMap.{FinMap, empty, entries, get, insert, same_entries_map}
 use Rattle.atl_tables.specs.Planet.{Planet, IsWorld}
 use Rattle.atl_tables.specs.Sums.{mapped, numbers_among}
-use Rattle.atl_tables.proofs.MadeLaws.{entries-mapped, insert_last}
+use Rattle.atl_tables.proofs.MadeLaws.{entries-mapped, get-mapped, insert_last}
 use Rattle.atl_tables.proofs.Maps.{entries-empty}
 use Rattle.atl_orders.specs.declared.fault.FaultyLine.{FaultyLine}
 use Rattle.atl_orders.specs.declared.fault.MailFault.{MailFault}
@@ -29,7 +29,7 @@ use Rattle.atl_state.specs.Marking.{mark_all_mail, mark_report, mark_row}
 use Rattle.atl_state.specs.Marks.{Marks}
 use Rattle.atl_state.specs.State.{State, Marked, active, with_month, without_mail}
 use Rattle.atl_state.proofs.CoverLaws.{marks-trans}
-use Rattle.atl_state.proofs.EveryLaws.{each-from_every, get-mapped, sorted}
+use Rattle.atl_state.proofs.EveryLaws.{each-from_every, sorted}
 use Rattle.atl_state.proofs.GoodLaws.{IsGood-with_report}
 use Rattle.atl_state.proofs.PostLaws.{marks-month, marks-no_mail, marks-report}
 use Rattle.atl_state.proofs.SlotLaws.{keys_rise}

@@ -4,7 +4,7 @@ use Rattle.sqlite_trees.specs.declared.store.Store.{Ghosts}
 use Rattle.sqlite.specs.Held.{Held, state}
 use Rattle.sqlite.specs.State.{HasCleanDisk}
 use Rattle.atl_tables.specs.Planet.{Planet}
-use Rattle.atl_tables.specs.World.{world_of}
+use Rattle.atl_tables.specs.World.{old_world_of}
 use Rattle.atl_state.specs.Good.{IsGood}
 use Rattle.atl_state.specs.State.{State as Campaign, Marked}
 use Rattle.atl_store.specs.Keeps.{HoldsCampaign, IsLater}
@@ -26,7 +26,7 @@ pub record Opens {S : Type 0} (g : Ghosts S) (old : Held S) (made : ServiceState
 -- A world text and a good campaign of its world that the connection held are those of the service.
 abbrev pub ComesBack : {S : Type 0} → Ghosts S → Held S → ServiceState S → Type 0
 ComesBack g old made =
-    HasCleanDisk (state g made.conn) → (text : List ℕ) (w : Planet) (c : Campaign) → world_of text ≡ Ok w → IsGood w c → HoldsCampaign g old text c
+    HasCleanDisk (state g made.conn) → (text : List ℕ) (w : Planet) (c : Campaign) → old_world_of text ≡ Ok w → IsGood w c → HoldsCampaign g old text c
     → (text_in g made.conn ≡ text) × (made.world ≡ w) × (made.campaign ≡ Some c)
 
 -- what is told of a fault of the loading

@@ -3,7 +3,7 @@ ghost use Rattle.std.specs.Prelude.{◌≡◌, Ok, IfOk, IfErr, OnErr, IfSome, I
 ghost use Rattle.std.specs.Option.{option_copied};
 ghost use Rattle.sqlite.specs.Held.{state};
 ghost use Rattle.sqlite.specs.State.{HasCleanDisk};
-ghost use Rattle.atl_tables.specs.World.{world_of};
+ghost use Rattle.atl_tables.specs.World.{old_world_of};
 ghost use Rattle.atl_state.specs.Totals.{Balances};
 ghost use Rattle.atl_report.specs.Books.{books_of};
 ghost use Rattle.atl_service.specs.Found.{Founds, RefusesFounding};
@@ -131,7 +131,7 @@ impl<S: Alter> Service<S> {
     /// The world of the campaign, as it was founded. It is lent also after a fault.
     pub fn world(&self) -> &World
         ensures value { result.now ≡ self.now.world }
-        ensures text { HasCleanDisk (state S.Store self.now.conn) → IsSome self.now.campaign → world_of (text_in S.Store self.now.conn) ≡ Ok self.now.world }
+        ensures text { HasCleanDisk (state S.Store self.now.conn) → IsSome self.now.campaign → old_world_of (text_in S.Store self.now.conn) ≡ Ok self.now.world }
     {
         &self.world
     }

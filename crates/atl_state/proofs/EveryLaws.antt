@@ -8,7 +8,7 @@ use Rattle.std.specs.FinMap.{FinMap, get, insert, find, entries, entries_sorted,
 use Rattle.std.specs.FinMap.Entries.{below_all}
 use Rattle.std.proofs.lemmas.Bool.{and_parts, false≢true}
 use Rattle.atl_tables.specs.Sums.{numbers_where, mapped}
-use Rattle.atl_tables.proofs.MadeLaws.{entries-mapped}
+use Rattle.atl_tables.proofs.MadeLaws.{get-mapped}
 use Rattle.atl_tables.proofs.SumLaws.{chosen-cons}
 use Rattle.atl_state.specs.Deciding.{EachOf}
 use Rattle.atl_state.specs.Good.{Every, IsThere}
@@ -159,26 +159,18 @@ module _ {V : Type 0} where
 -- ---- a map with f at each value
 
 module _ {V W : Type 0} (f : V → W) where
-  find-map : (es : List (ℕ × V)) (n : ℕ) → find nat_cmp n (map (λ e. (e.0, f e.1)) es) ≡ option_map f (find nat_cmp n es)
-  find-map [] n = refl
-  find-map (e ∷ es) n =
-      elim (is_eq (nat_cmp n e.0)) as (λ b. cond b (Some (f e.1)) (find nat_cmp n (map (λ e. (e.0, f e.1)) es)) ≡ option_map f (cond b (Some e.1) (find nat_cmp n es))) [ true ↦ refl | false ↦ find-map es n ]
-
-  pub get-mapped : (m : FinMap nat_cmp V) (n : ℕ) → get (mapped f m) n ≡ option_map f (get m n)
-  get-mapped m n = get-entries (mapped f m) n ∙ ap (find nat_cmp n) (entries-mapped f m) ∙ find-map (entries m) n ∙ ap (option_map f) (sym (get-entries m n))
-
   under : (o : Option V) (x : W) → option_map f o ≡ Some x → (v : V) × (o ≡ Some v) × (f v ≡ x)
   under None x is = none_some x is
   under (Some v) x is = let same : f v ≡ x = cc in (v, refl, same)
 
   pub every-mapped : (P : ℕ → W → Type 0) (m : FinMap nat_cmp V) → Every (λ n v. P n (f v)) m → Every P (mapped f m)
-  every-mapped P m h n x is = let (v, there, same) = under (get m n) x (sym (get-mapped m n) ∙ is) in subst (P n) same (h n v there)
+  every-mapped P m h n x is = let (v, there, same) = under (get m n) x (sym (get-mapped f m n) ∙ is) in subst (P n) same (h n v there)
 
   pub there-mapped : (m : FinMap nat_cmp V) (n : ℕ) → IsThere (mapped f m) n ↔ IsThere m n
   there-mapped m n = (back, forth)
     where
       back : IsThere (mapped f m) n → IsThere m n
-      back (x, is) = let (v, there, same) = under (get m n) x (sym (get-mapped m n) ∙ is) in (v, there)
+      back (x, is) = let (v, there, same) = under (get m n) x (sym (get-mapped f m n) ∙ is) in (v, there)
 
       forth : IsThere m n → IsThere (mapped f m) n
-      forth (v, is) = (f v, get-mapped m n ∙ ap (option_map f) is)
+      forth (v, is) = (f v, get-mapped f m n ∙ ap (option_map f) is)

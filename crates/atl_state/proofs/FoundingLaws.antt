@@ -86,8 +86,8 @@ founded-balances w pass (Item i) =
 none_within : (things : ℕ) (e : Entry) (t : Thing) → IsWithin 0 (amount_in (no_amounts things) e t)
 none_within things e t = rw (amount-no_amounts things e t) record { most = omega (arith, ints); least = omega (arith, ints) }
 
-in_range : (p : RegionPlan) (terrains n : ℕ) → IsRegionPlan terrains n p → IsRegion (founded_region p)
-in_range p terrains n plan = record { peasants = plan.peasants; money = plan.money }
+in_range : (p : RegionPlan) (terrains items n : ℕ) → IsRegionPlan terrains items n p → IsRegion (founded_region p)
+in_range p terrains items n plan = record { peasants = plan.peasants; money = plan.money }
 
 numbered_none : {V : Type 0} → IsNumbered (empty {X = V} {R = nat_cmp}) 1
 numbered_none {V} = record { first = get-empty nat_cmp 0; count = ap (λ n. n + 1) (sym (len-empty nat_cmp V)); free = λ n _. get-empty nat_cmp n }
@@ -113,7 +113,7 @@ module _ (w : Planet) (pass : List ℕ) (world : IsWorld w) where
     next_unit_least = omega arith;
     next_unit_most = omega arith;
     factions = every-empty (λ n f. f.number ≡ n);
-    regions = every-mapped founded_region (λ n r. IsRegion r) w.regions (λ n p is. in_range p (length w.terrains) n (world.regions n p is));
+    regions = every-mapped founded_region (λ n r. IsRegion r) w.regions (λ n p is. in_range p (length w.terrains) (length w.items) n (world.regions n p is));
     units = every-empty (λ n u. (1 ≤ n) × IsHolding u.holding);
     structures = every-empty (λ n s. (1 ≤ s.done) × (s.done ≤ size_of w s.kind));
     books = IsGrid-founding (things_of w) money people;

@@ -8,7 +8,7 @@ use Rattle.sqlite.specs.Effect.{Database}
 use Rattle.sqlite.specs.Held.{Held, state}
 use Rattle.sqlite.specs.State.{HasCleanDisk}
 use Rattle.atl_tables.specs.Planet.{Planet}
-use Rattle.atl_tables.specs.World.{world_of}
+use Rattle.atl_tables.specs.World.{old_world_of}
 use Rattle.atl_state.specs.Checking.{Checks, IsFirstBroken}
 use Rattle.atl_state.specs.RowRules.{is_one_head}
 use Rattle.atl_state.specs.State.{Marked}
@@ -243,7 +243,7 @@ module _ {S : Type 0} (g : Ghosts S) where
 
     pub loads : Loads g old new w c
     loads = record {
-      world = λ clean. subst (λ t. world_of t ≡ Ok w) (sym (world_text_is (state g new) (loaded.gathered clean).text c.what (new_keeps clean))) (loaded.gathered clean).world;
+      world = λ clean. subst (λ t. old_world_of t ≡ Ok w) (sym (world_text_is (state g new) (loaded.gathered clean).text c.what (new_keeps clean))) (loaded.gathered clean).world;
       tables = λ clean. subst (λ t. Keeps (state g new) t c.what) (sym (world_text_is (state g new) (loaded.gathered clean).text c.what (new_keeps clean))) (new_keeps clean);
       good = loaded.checked.good;
       unmarked = loaded.checked.marks;

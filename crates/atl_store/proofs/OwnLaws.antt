@@ -6,7 +6,7 @@ use Rattle.sqlite.specs.Order.{Row, column}
 use Rattle.sqlite_rules.specs.Lists.{Has}
 use Rattle.sqlite_trees.specs.declared.store.Store.{Ghosts}
 use Rattle.atl_tables.specs.Planet.{Planet}
-use Rattle.atl_tables.specs.World.{world_of}
+use Rattle.atl_tables.specs.World.{old_world_of}
 use Rattle.atl_state.specs.declared.checking.Rule.TheVariants.{OneRow, Ranges, Names, Known, Next, Days, Gone, Owners, Water, Guards, Books, Mail}
 use Rattle.atl_state.specs.declared.parts.StoredHead.{StoredHead}
 use Rattle.atl_store.specs.Gathering.{own_fault, IsOwn, JudgesOwn, JudgesRows, OwnRead}
@@ -56,7 +56,7 @@ own_read items rows h text w shown own =
         only = one.1;
         id = same_id one.0 h text one.2 ∙ own.id;
         format = same_format one.0 h text one.2 ∙ own.format;
-        world = subst (λ t. world_of t ≡ Ok w) (sym (same_text one.0 h text one.2)) own.world;
+        world = subst (λ t. old_world_of t ≡ Ok w) (sym (same_text one.0 h text one.2)) own.world;
       },
     )
 

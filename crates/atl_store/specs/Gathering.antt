@@ -12,7 +12,7 @@ use Rattle.sqlite_catalog.specs.Listing.{IsSound}
 use Rattle.sqlite_trees.specs.Tree.{Trees}
 use Rattle.sqlite_trees.specs.declared.store.Store.{Ghosts}
 use Rattle.atl_tables.specs.Planet.{Planet}
-use Rattle.atl_tables.specs.World.{world_of}
+use Rattle.atl_tables.specs.World.{old_world_of}
 use Rattle.atl_state.specs.Checking.{IsChecked}
 use Rattle.atl_state.specs.RowRules.{is_one_head}
 use Rattle.atl_state.specs.State.{Marked}
@@ -85,12 +85,12 @@ pub record IsOwn (rows : List StoredCampaign) (own : StoredCampaign) (w : Planet
   pub only : rows ≡ own ∷ []
   pub id : own.head.id ≡ pos 1
   pub format : own.head.format ≡ pos 1
-  pub world : world_of (string_bytes own.world) ≡ Ok w
+  pub world : old_world_of (string_bytes own.world) ≡ Ok w
 
 abbrev pub ReadsWorld : List ℕ → Result Planet StoreFault → Type 0
-ReadsWorld text (Ok w) = world_of text ≡ Ok w
+ReadsWorld text (Ok w) = old_world_of text ≡ Ok w
 ReadsWorld text (Err Memory) = ⊤
-ReadsWorld text (Err (Damaged OneRow)) = (w : Planet) → world_of text ≢ Ok w
+ReadsWorld text (Err (Damaged OneRow)) = (w : Planet) → old_world_of text ≢ Ok w
 ReadsWorld text (Err fault) = ⊥
 
 abbrev pub JudgesOwn : List StoredCampaign → Result (StoredCampaign × Planet) StoreFault → Type 0
@@ -230,7 +230,7 @@ pub record Gathered {S : Type 0} (g : Ghosts S) (old : Held S) (w : Planet) (p :
   pub one : KeepsOneRow g old
   pub head : IsTrue (is_one_head p.campaign)
   pub text : List ℕ
-  pub world : world_of text ≡ Ok w
+  pub world : old_world_of text ≡ Ok w
   pub typed : AreToldTyped g old other_selects
   pub rows : HasNine old.schema → HaveRows (state g old).now.trees text p
   pub places : HasNine old.schema → HavePlaces (state g old).now.trees p

@@ -10,7 +10,7 @@ use Rattle.sqlite_rules.specs.Lists.{Has}
 use Rattle.sqlite_trees.specs.Tree.{Trees}
 use Rattle.sqlite_trees.specs.declared.store.Store.{Ghosts}
 use Rattle.atl_tables.specs.Planet.{Planet}
-use Rattle.atl_tables.specs.World.{world_of}
+use Rattle.atl_tables.specs.World.{old_world_of}
 use Rattle.atl_state.specs.Checking.{IsFirstBroken}
 use Rattle.atl_state.specs.Good.{IsGood}
 use Rattle.atl_state.specs.Marks.{no_marks}
@@ -66,7 +66,7 @@ pub record AreOwnRow (rows : List Row) (h : StoredHead) (text : List ℕ) (w : P
   pub id : h.id ≡ pos 1
   pub format : h.format ≡ pos 1
   pub utf8 : IsUtf8 text
-  pub world : world_of text ≡ Ok w
+  pub world : old_world_of text ≡ Ok w
 
 -- ---- the other tables
 
@@ -133,7 +133,7 @@ module _ {S : Type 0} (g : Ghosts S) (old : Held S) where
     pub made : AreMade
     pub world : Planet
     pub text : List ℕ
-    pub is_world : world_of text ≡ Ok world
+    pub is_world : old_world_of text ≡ Ok world
     pub parts : Parts
     pub rows : HaveRows (state g old).now.trees text parts
     pub first : IsFirstBroken world parts rule
@@ -209,7 +209,7 @@ module _ {S : Type 0} (g : Ghosts S) (old : Held S) where
 
   -- The connection holds the good campaign, of which nothing is marked, and a text of its world.
   pub record Loads (new : Held S) (w : Planet) (c : Marked) : Type 0 where
-    pub world : HasCleanDisk (state g new) → world_of (world_text (state g new)) ≡ Ok w
+    pub world : HasCleanDisk (state g new) → old_world_of (world_text (state g new)) ≡ Ok w
     pub tables : HoldsCampaign g new (world_text (state g new)) c.what
     pub good : IsGood w c.what
     pub unmarked : c.marks ≡ no_marks

@@ -13,6 +13,9 @@ pub mod FaultLaws
 pub mod ElementLaws
 pub mod EachLaws
 pub mod OutputLaws
+pub mod PlacedLaws
 pub mod RegionLaws
 pub mod TwinLaws
 pub mod WorldLaws
+pub mod OldWorldLaws
+pub mod SameLaws

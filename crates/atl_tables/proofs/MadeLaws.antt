@@ -1,10 +1,10 @@
 -- Numbered maps that are made in order.
-use Rattle.std.proofs.Common.{◌≡◌, ℕ, ◌+◌, Bool, true, false, ◌&&◌, T, List, [], ◌∷◌, ◌++◌, map, sum_by, refl, sym, ap, subst, ◌∙◌}
+use Rattle.std.proofs.Common.{◌≡◌, ℕ, ◌+◌, true, false, cond, ◌&&◌, T, Some, option_map, List, [], ◌∷◌, ◌++◌, map, sum_by, refl, sym, ap, subst, ◌∙◌}
 use Rattle.std.specs.declared.cmp.Ordering.{Ordering}
 use Rattle.std.specs.declared.cmp.Ordering.TheVariants.{Less, Equal, Greater}
-use Rattle.std.specs.Ordering.{nat_cmp, is_lt, ordering_reverse}
+use Rattle.std.specs.Ordering.{nat_cmp, is_eq, is_lt, ordering_reverse}
 use Rattle.std.specs.Cmp.{nat_cmp_total}
-use Rattle.std.specs.FinMap.{FinMap, entries, entries_sorted, entries-from_sorted, entries-insert, insert, put, is_sorted}
+use Rattle.std.specs.FinMap.{FinMap, entries, entries_sorted, entries-from_sorted, entries-insert, find, get, get-entries, insert, put, is_sorted}
 use Rattle.std.specs.FinMap.Entries.{by_order, below_all}
 use Rattle.std.proofs.lemmas.Bool.{and_parts, false≢true}
 use Rattle.std.proofs.lemmas.List.Sums.{sum_by-cons}
@@ -25,6 +25,14 @@ module _ {V W : Type 0} (f : V → W) where
 
   pub entries-mapped : (m : FinMap nat_cmp V) → entries (mapped f m) ≡ at_each (entries m)
   entries-mapped m = entries-from_sorted nat_cmp (at_each (entries m)) (subst T (sym (is_sorted-map (entries m))) (entries_sorted m))
+
+  find-map : (es : List (ℕ × V)) (n : ℕ) → find nat_cmp n (at_each es) ≡ option_map f (find nat_cmp n es)
+  find-map [] n = refl
+  find-map (e ∷ es) n =
+      elim (is_eq (nat_cmp n e.0)) as (λ b. cond b (Some (f e.1)) (find nat_cmp n (at_each es)) ≡ option_map f (cond b (Some e.1) (find nat_cmp n es))) [ true ↦ refl | false ↦ find-map es n ]
+
+  pub get-mapped : (m : FinMap nat_cmp V) (n : ℕ) → get (mapped f m) n ≡ option_map f (get m n)
+  get-mapped m n = get-entries (mapped f m) n ∙ ap (find nat_cmp n) (entries-mapped m) ∙ find-map (entries m) n ∙ ap (option_map f) (sym (get-entries m n))
 
   weighed : (g : W → ℕ) (es : List (ℕ × V)) → sum_by (λ e. g e.1) (at_each es) ≡ sum_by (λ e. g (f e.1)) es
   weighed g [] = refl

@@ -9,10 +9,11 @@ use Rattle.atl_tables.specs.Faults.{Conditions, first_fault}
 use Rattle.atl_tables.specs.Keys.{path, indexed}
 use Rattle.atl_tables.specs.Names.{same_name, NamesDiffer}
 use Rattle.atl_tables.specs.Drafts.{HaveNames}
+use Rattle.atl_tables.specs.RegionTable.{market_twins}
 use Rattle.atl_tables.specs.Regions.{twin_numbers}
 use Rattle.atl_tables.specs.TerrainTable.{terrain_twins}
 use Rattle.atl_tables.specs.Titles.{twin_at, twins}
-use Rattle.atl_tables.specs.World.{names_differ}
+use Rattle.atl_tables.specs.World.{titles_differ, names_differ}
 use Rattle.atl_tables.specs.declared.fault.WorldFault.{WorldFault}
 use Rattle.atl_tables.specs.declared.fault.WorldFault.TheVariants.{TwoNames}
 use Rattle.atl_tables.specs.declared.tables.Tables.{Tables}
@@ -74,20 +75,22 @@ names_kept f n m h [] = refl
 names_kept f n m h (x ∷ xs) = rw (h x, names_kept f n m h xs) refl
 
 -- of tables that keep the conditions on names
-pub have_names : (all : Tables) → first_fault (names_differ all) ≡ None → HaveNames all
-unfolding names_differ
-have_names all h =
+titles_have_names : (all : Tables) → first_fault (titles_differ all) ≡ None → HaveNames all
+unfolding titles_differ
+titles_have_names all h =
     let terrains = twins (λ d. d.name) (codes "terrain") (codes "name") all.terrains in
     let items = twins (λ d. d.name) (codes "item") (codes "name") all.items in
     let skills = twins (λ s. s.name) (codes "skill") (codes "name") all.skills in
     let kinds = twins (λ d. d.name) (codes "kind") (codes "name") all.kinds in
-    let others = twin_numbers all.regions ++ each terrain_twins 0 all.terrains in
-    let behind_terrains = back_none terrains (items ++ (skills ++ (kinds ++ others))) h in
-    let behind_items = back_none items (skills ++ (kinds ++ others)) behind_terrains in
-    let behind_skills = back_none skills (kinds ++ others) behind_items in
+    let behind_terrains = back_none terrains (items ++ (skills ++ kinds)) h in
+    let behind_items = back_none items (skills ++ kinds) behind_terrains in
     record {
-      terrains = differ (λ d. d.name) (codes "terrain") (codes "name") all.terrains (front_none terrains (items ++ (skills ++ (kinds ++ others))) h);
-      items = differ (λ d. d.name) (codes "item") (codes "name") all.items (front_none items (skills ++ (kinds ++ others)) behind_terrains);
-      skills = differ (λ s. s.name) (codes "skill") (codes "name") all.skills (front_none skills (kinds ++ others) behind_items);
-      kinds = differ (λ d. d.name) (codes "kind") (codes "name") all.kinds (front_none kinds others behind_skills);
+      terrains = differ (λ d. d.name) (codes "terrain") (codes "name") all.terrains (front_none terrains (items ++ (skills ++ kinds)) h);
+      items = differ (λ d. d.name) (codes "item") (codes "name") all.items (front_none items (skills ++ kinds) behind_terrains);
+      skills = differ (λ s. s.name) (codes "skill") (codes "name") all.skills (front_none skills kinds behind_items);
+      kinds = differ (λ d. d.name) (codes "kind") (codes "name") all.kinds (back_none skills kinds behind_items);
     }
+
+pub have_names : (all : Tables) → first_fault (names_differ all) ≡ None → HaveNames all
+unfolding names_differ
+have_names all h = titles_have_names all (front_none (titles_differ all) (twin_numbers all.regions ++ (each terrain_twins 0 all.terrains ++ each market_twins 0 all.regions)) h)

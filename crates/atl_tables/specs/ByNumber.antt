@@ -6,9 +6,10 @@ use Rattle.std.specs.Option.{option_map_or}
 use Rattle.atl_tables.specs.Limits.{most_size}
 use Rattle.atl_tables.specs.Planet.{Planet, beside, is_land}
 use Rattle.atl_tables.specs.declared.direction.Direction.{Direction}
+use Rattle.atl_tables.specs.declared.world.Market.{Market}
 use Rattle.atl_tables.specs.declared.world.Terrain.{Terrain}
 
--- ---- of a region: its terrain, whether it has land, and the region beside it
+-- ---- of a region: its terrain, whether it has land, the region beside it, and its market of an item
 abbrev pub terrain_of : Planet → (region : ℕ) → Option Terrain
 terrain_of w region = option_and_then (λ p. slice_get w.terrains p.terrain) (get w.regions region)
 
@@ -17,6 +18,9 @@ is_land_at w region = option_map_or (is_land w.terrains) (get w.regions region) 
 
 abbrev pub neighbour : Planet → (region : ℕ) → Direction → Option ℕ
 neighbour w region direction = option_and_then (beside direction) (get w.regions region)
+
+abbrev pub market_of : Planet → (region item : ℕ) → Option Market
+market_of w region item = option_and_then (λ p. get p.markets item) (get w.regions region)
 
 -- ---- of a kind: whether it is a ship, and its full size, where there is no such kind the largest
 abbrev pub is_ship : Planet → (kind : ℕ) → Bool

@@ -9,8 +9,10 @@ use Rattle.atl_tables.specs.declared.item_table.Making.{Making}
 use Rattle.atl_tables.specs.declared.kind_table.Building.{Building}
 use Rattle.atl_tables.specs.declared.kind_table.KindDraft.{KindDraft}
 use Rattle.atl_tables.specs.declared.kind_table.Purpose.{Purpose}
+use Rattle.atl_tables.specs.declared.market_table.MarketDraft.{MarketDraft}
 use Rattle.atl_tables.specs.declared.output_table.Output.{Output}
 use Rattle.atl_tables.specs.declared.reading.Things.{Things}
+use Rattle.atl_tables.specs.declared.region_table.OldRegion.{OldRegion}
 use Rattle.atl_tables.specs.declared.region_table.Place.{Place}
 use Rattle.atl_tables.specs.declared.region_table.RegionDraft.{RegionDraft}
 use Rattle.atl_tables.specs.declared.rules_table.MenRules.{MenRules}
@@ -94,8 +96,20 @@ pub record IsPlace (p : Place) : Type 0 where
   pub peasants : p.peasants ≤ most_amount
   pub money : p.money ≤ most_amount
 
+pub record IsOldRegion (r : OldRegion) : Type 0 where
+  pub place : IsPlace r.place
+
+pub record IsMarketDraft (d : MarketDraft) : Type 0 where
+  pub price_least : 1 ≤ d.price
+  pub price : d.price ≤ most_price
+  pub pays_least : 1 ≤ d.pays
+  pub pays : d.pays ≤ most_price
+  pub limit : d.limit ≤ most_amount
+  pub restock : d.restock ≤ most_amount
+
 pub record IsRegionDraft (d : RegionDraft) : Type 0 where
   pub place : IsPlace d.place
+  pub markets : All IsMarketDraft d.markets
 
 pub record AreThings (t : Things) : Type 0 where
   pub items : All IsItemDraft t.items

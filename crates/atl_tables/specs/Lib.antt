@@ -17,6 +17,7 @@ pub mod TerrainTable
 pub mod ItemTable
 pub mod SkillTable
 pub mod KindTable
+pub mod MarketTable
 pub mod RegionTable
 pub mod Neighbours
 pub mod World

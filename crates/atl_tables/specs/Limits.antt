@@ -17,6 +17,10 @@ most_kinds = 100
 abbrev pub most_regions : ℕ
 most_regions = 2500
 
+-- of one region
+abbrev pub most_markets : ℕ
+most_markets = 200
+
 -- things of one sort are numbered from 0 in 16 bits, so no sort has more
 abbrev pub most_numbered : ℕ
 most_numbered = 2 ^ 16

@@ -24,4 +24,4 @@ pub record ArePartsOf (all : Tables) (p : Parts) : Type 0 where
   pub terrains : EachPlace (λ i x. IsTerrain (length all.items) x) p.terrains
   pub items : EachPlace (λ i x. IsItem (length all.items) (length all.skills) i x) p.items
   pub kinds : EachPlace (λ i x. IsKind (length all.items) (length all.skills) x) p.kinds
-  pub regions : EachPlace (λ i x. IsRegionPlan (length all.terrains) x.number x) p.regions
+  pub regions : EachPlace (λ i x. IsRegionPlan (length all.terrains) (length all.items) x.number x) p.regions

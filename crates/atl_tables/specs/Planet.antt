@@ -4,7 +4,7 @@ use Rattle.std.specs.List.{All, slice_get}
 use Rattle.std.specs.Option.{option_map_or}
 use Rattle.std.specs.Ordering.{nat_cmp}
 use Rattle.std.specs.Coded.{Coded, code_by, coded×, coded_ℕ, coded_list}
-use Rattle.std.specs.FinMap.{FinMap, code, get, len}
+use Rattle.std.specs.FinMap.{FinMap, code, empty, get, len}
 use Rattle.atl_tables.specs.declared.direction.Direction.{Direction}
 use Rattle.atl_tables.specs.declared.direction.Direction.TheVariants.{North, South, East, West}
 use Rattle.atl_tables.specs.declared.world.Rules.{Rules}
@@ -12,6 +12,7 @@ use Rattle.atl_tables.specs.declared.world.Terrain.{Terrain}
 use Rattle.atl_tables.specs.declared.world.Item.{Item}
 use Rattle.atl_tables.specs.declared.world.Skill.{Skill}
 use Rattle.atl_tables.specs.declared.world.Kind.{Kind}
+use Rattle.atl_tables.specs.declared.world.Market.{Market}
 use Rattle.atl_tables.specs.declared.world.RegionPlan.{RegionPlan}
 use Rattle.atl_tables.specs.contracts.world.Rules as rules
 use Rattle.atl_tables.specs.contracts.world.Terrain as terrain
@@ -21,7 +22,7 @@ use Rattle.atl_tables.specs.contracts.world.Kind as kind
 use Rattle.atl_tables.specs.contracts.world.RegionPlan as plan
 use Rattle.atl_tables.specs.Limits.{most_terrains, most_items, most_skills, most_kinds, most_regions, last_region, most_amount, most_per_head, most_price, most_fraction, most_growth, most_weight, last_level, most_raw_count, most_size}
 use Rattle.atl_tables.specs.Names.{name_ok, NamesDiffer}
-use Rattle.atl_tables.specs.Sums.{numbers_where}
+use Rattle.atl_tables.specs.Sums.{mapped, numbers_where}
 
 pub record Planet : Type 0 where
   pub rules : Rules
@@ -46,6 +47,13 @@ is_land terrains plan = option_map_or (λ t. t.land) (slice_get terrains plan.te
 -- the regions with land, by number
 abbrev pub land_of : Planet → List ℕ
 land_of w = numbers_where (is_land w.terrains) w.regions
+
+-- a world with its regions' markets left out
+abbrev pub without_market : RegionPlan → RegionPlan
+without_market p = record p { markets = empty }
+
+abbrev pub without_markets : Planet → Planet
+without_markets w = record w { regions = mapped without_market w.regions }
 
 -- the neighbour of a region in a direction
 abbrev pub beside : Direction → RegionPlan → Option ℕ
@@ -112,7 +120,18 @@ pub record IsKind (items skills : ℕ) (k : Kind) : Type 0 where
   pub crew : k.crew ≤ most_size
   pub helps : IfSome k.helps (λ s. s < skills)
 
-pub record IsRegionPlan (terrains number : ℕ) (p : RegionPlan) : Type 0 where
+-- a market that stands under this item
+pub record IsMarket (items number : ℕ) (m : Market) : Type 0 where
+  pub number_is : m.item ≡ number
+  pub item : m.item < items
+  pub price_least : 1 ≤ m.price
+  pub price : m.price ≤ most_price
+  pub pays_least : 1 ≤ m.pays
+  pub pays : m.pays ≤ most_price
+  pub limit : m.limit ≤ most_amount
+  pub restock : m.restock ≤ most_amount
+
+pub record IsRegionPlan (terrains items number : ℕ) (p : RegionPlan) : Type 0 where
   pub number_is : p.number ≡ number
   pub number_least : 1 ≤ number
   pub number_most : number ≤ last_region
@@ -120,6 +139,7 @@ pub record IsRegionPlan (terrains number : ℕ) (p : RegionPlan) : Type 0 where
   pub terrain : p.terrain < terrains
   pub peasants : p.peasants ≤ most_amount
   pub money : p.money ≤ most_amount
+  pub markets : (i : ℕ) (m : Market) → get p.markets i ≡ Some m → IsMarket items i m
 
 -- a neighbour's neighbour on the opposite side is the region of this number
 abbrev pub LeadsBack : FinMap nat_cmp RegionPlan → (RegionPlan → Option ℕ) → ℕ → Option ℕ → Type 0
@@ -138,7 +158,7 @@ pub record IsWorld (w : Planet) : Type 0 where
   pub items : (i : ℕ) (x : Item) → slice_get w.items i ≡ Some x → IsItem (length w.items) (length w.skills) i x
   pub skills : (i : ℕ) (s : Skill) → slice_get w.skills i ≡ Some s → IsSkill s
   pub kinds : (i : ℕ) (k : Kind) → slice_get w.kinds i ≡ Some k → IsKind (length w.items) (length w.skills) k
-  pub regions : (n : ℕ) (p : RegionPlan) → get w.regions n ≡ Some p → IsRegionPlan (length w.terrains) n p
+  pub regions : (n : ℕ) (p : RegionPlan) → get w.regions n ≡ Some p → IsRegionPlan (length w.terrains) (length w.items) n p
   pub neighbours : (n : ℕ) (p : RegionPlan) → get w.regions n ≡ Some p → HasNeighbours w.regions n p.north p.south p.east p.west
   pub terrain_names : NamesDiffer (map (λ (t : Terrain). t.name) w.terrains)
   pub item_names : NamesDiffer (map (λ (x : Item). x.name) w.items)

@@ -1,10 +1,13 @@
 -- A table `[[region]]`: its keys in order, with their ranges, and the region that they give.
 use Rattle.std.specs.Prelude.{ℕ, List, [], ◌∷◌, codes, Option, None, unwrap_or}
 use Rattle.toml.specs.Data.{Members}
+use Rattle.atl_tables.specs.Each.{each}
 use Rattle.atl_tables.specs.Faults.{Conditions, fault_of, first_fault, value_or}
 use Rattle.atl_tables.specs.Keys.{Key, path, indexed, number_at, name_at, text_at, optional_number_at}
 use Rattle.atl_tables.specs.Limits.{last_region, most_amount}
+use Rattle.atl_tables.specs.MarketTable.{markets_keys, markets_from, item_twins, market_known, markets_of}
 use Rattle.atl_tables.specs.Titles.{known, terrain_number}
+use Rattle.atl_tables.specs.declared.region_table.OldRegion.{OldRegion}
 use Rattle.atl_tables.specs.declared.region_table.Place.{Place}
 use Rattle.atl_tables.specs.declared.region_table.RegionDraft.{RegionDraft}
 use Rattle.atl_tables.specs.declared.region_table.Sides.{Sides}
@@ -68,16 +71,31 @@ sides_from at t = record {
   west = value_or None (west_at at t);
 }
 
--- the whole table
+-- the whole table of the first format, where a region has no markets
+unfoldable pub old_region_keys : List ℕ → Members → Conditions
+old_region_keys at t = first_fault (place_keys at t) ∷ side_keys at t
+
+unfoldable pub old_region_from : List ℕ → Members → OldRegion
+old_region_from at t = record { place = place_from at t; sides = sides_from at t }
+
+abbrev pub as_draft : OldRegion → RegionDraft
+as_draft r = record { place = r.place; sides = r.sides; markets = [] }
+
+-- the whole table of the second
 unfoldable pub region_keys : List ℕ → Members → Conditions
-region_keys at t = first_fault (place_keys at t) ∷ side_keys at t
+region_keys at t = first_fault (old_region_keys at t) ∷ markets_keys at t
 
 unfoldable pub region_from : List ℕ → Members → RegionDraft
-region_from at t = record { place = place_from at t; sides = sides_from at t }
+region_from at t = record { place = place_from at t; sides = sides_from at t; markets = markets_from at t }
 
--- its name stands for a terrain
+-- no two of its markets are of one item, and each name stands for a terrain or an item
+unfoldable pub market_twins : ℕ → RegionDraft → Conditions
+market_twins i d = item_twins (indexed (codes "region") i) d.markets
+
 unfoldable pub region_known : Tables → ℕ → RegionDraft → Conditions
-region_known all i d = known (path (indexed (codes "region") i) (codes "terrain")) (terrain_number all d.place.terrain) ∷ []
+region_known all i d =
+    known (path (indexed (codes "region") i) (codes "terrain")) (terrain_number all d.place.terrain)
+    ∷ each (λ k m. market_known all m) 0 d.markets
 
 unfoldable pub region_of : Tables → RegionDraft → RegionPlan
 region_of all d = record {
@@ -90,4 +108,5 @@ region_of all d = record {
   south = d.sides.south;
   east = d.sides.east;
   west = d.sides.west;
+  markets = markets_of all d.markets;
 }

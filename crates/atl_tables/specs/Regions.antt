@@ -1,11 +1,8 @@
--- The regions of a world by their numbers, of which no two are equal.
-use Rattle.std.specs.Prelude.{ℕ, Bool, ◌==◌, List, [], ◌∷◌, map, take, codes, Some, None, if◌then◌else◌}
+-- The numbers of regions, of which no two are equal.
+use Rattle.std.specs.Prelude.{ℕ, Bool, ◌==◌, List, [], ◌∷◌, take, codes, Some, None, if◌then◌else◌}
 use Rattle.std.specs.List.{list_any}
-use Rattle.std.specs.Ordering.{nat_cmp}
-use Rattle.std.specs.FinMap.{FinMap, from_entries}
 use Rattle.atl_tables.specs.declared.fault.WorldFault.TheVariants.{TwoNames}
 use Rattle.atl_tables.specs.declared.region_table.RegionDraft.{RegionDraft}
-use Rattle.atl_tables.specs.declared.world.RegionPlan.{RegionPlan}
 use Rattle.atl_tables.specs.Each.{each}
 use Rattle.atl_tables.specs.Faults.{Conditions}
 use Rattle.atl_tables.specs.Keys.{path, indexed}
@@ -19,6 +16,3 @@ twin_number_at all i d = (if has_number d.place.number (take i all) then Some (T
 
 abbrev pub twin_numbers : List RegionDraft → Conditions
 twin_numbers all = each (twin_number_at all) 0 all
-
-abbrev pub by_number : List RegionPlan → FinMap nat_cmp RegionPlan
-by_number plans = from_entries (map (λ p. (p.number, p)) plans)

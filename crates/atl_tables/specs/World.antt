@@ -13,15 +13,19 @@ use Rattle.atl_tables.specs.KindTable.{kind_keys, kind_from, kind_known, kind_of
 use Rattle.atl_tables.specs.Limits.{most_terrains, most_items, most_skills, most_kinds, most_regions}
 use Rattle.atl_tables.specs.Neighbours.{neighbours_at}
 use Rattle.atl_tables.specs.Planet.{Planet, land_of}
-use Rattle.atl_tables.specs.RegionTable.{region_keys, region_from, region_known, region_of}
-use Rattle.atl_tables.specs.Regions.{twin_numbers, by_number}
+use Rattle.atl_tables.specs.RegionTable.{old_region_keys, old_region_from, as_draft, region_keys, region_from, market_twins, region_known, region_of}
+use Rattle.atl_tables.specs.Regions.{twin_numbers}
 use Rattle.atl_tables.specs.RulesTable.{rules_conditions, rules_in, rules_known, rules_of}
 use Rattle.atl_tables.specs.SkillTable.{skill_keys, skill_from}
+use Rattle.atl_tables.specs.Sums.{by_number}
 use Rattle.atl_tables.specs.TerrainTable.{terrain_keys, terrain_from, terrain_twins, terrain_known, terrain_of}
 use Rattle.atl_tables.specs.Titles.{twins}
 use Rattle.atl_tables.specs.declared.fault.WorldFault.{WorldFault}
 use Rattle.atl_tables.specs.declared.fault.WorldFault.TheVariants.{NotToml, NoLand}
+use Rattle.atl_tables.specs.declared.format.Format.{Format}
+use Rattle.atl_tables.specs.declared.format.Format.TheVariants.{First, Second}
 use Rattle.atl_tables.specs.declared.reading.Things.{Things}
+use Rattle.atl_tables.specs.declared.region_table.RegionDraft.{RegionDraft}
 use Rattle.atl_tables.specs.declared.tables.Tables.{Tables}
 use Rattle.atl_tables.specs.declared.world.RegionPlan.{RegionPlan}
 
@@ -33,19 +37,24 @@ things_of doc = record {
   kinds = list_of kind_from (codes "kind") (optional_array_at most_kinds (codes "kind") (codes "kind") doc);
 }
 
-unfoldable pub tables_of : Members → Tables
-tables_of doc = record {
+-- the regions as a format reads them
+unfoldable pub regions_in : Format → Members → List RegionDraft
+regions_in First doc = map as_draft (list_of old_region_from (codes "region") (array_at most_regions (codes "region") doc))
+regions_in Second doc = list_of region_from (codes "region") (array_at most_regions (codes "region") doc)
+
+unfoldable pub tables_of : Format → Members → Tables
+tables_of format doc = record {
   rules = rules_in doc;
   terrains = list_of terrain_from (codes "terrain") (array_at most_terrains (codes "terrain") doc);
   items = (things_of doc).items;
   skills = (things_of doc).skills;
   kinds = (things_of doc).kinds;
-  regions = list_of region_from (codes "region") (array_at most_regions (codes "region") doc);
+  regions = regions_in format doc;
 }
 
 -- the world, where each name stands for something
 unfoldable pub regions_of : Tables → FinMap nat_cmp RegionPlan
-regions_of all = by_number (map (region_of all) all.regions)
+regions_of all = by_number (λ p. p.number) (map (region_of all) all.regions)
 
 unfoldable pub planet_of : Tables → Planet
 planet_of all = record {
@@ -58,29 +67,38 @@ planet_of all = record {
 }
 
 -- ---- the conditions, rank by rank
--- every key is there, has its type and is in its range: in items, skills and kinds, and in all tables
+-- every key is there, has its type and is in its range: in items, skills and kinds, in regions, and in all tables
 unfoldable pub things_are_good : Members → Conditions
 things_are_good doc =
     list_conditions item_keys (codes "item") (optional_array_at most_items (codes "item") (codes "item") doc)
     ++ (list_conditions skill_keys (codes "skill") (optional_array_at most_skills (codes "skill") (codes "skill") doc)
     ++ list_conditions kind_keys (codes "kind") (optional_array_at most_kinds (codes "kind") (codes "kind") doc))
 
-unfoldable pub keys_are_good : Members → Conditions
-keys_are_good doc =
+unfoldable pub regions_are_good : Format → Members → Conditions
+regions_are_good First doc = list_conditions old_region_keys (codes "region") (array_at most_regions (codes "region") doc)
+regions_are_good Second doc = list_conditions region_keys (codes "region") (array_at most_regions (codes "region") doc)
+
+unfoldable pub keys_are_good : Format → Members → Conditions
+keys_are_good format doc =
     rules_conditions doc
     ++ (list_conditions terrain_keys (codes "terrain") (array_at most_terrains (codes "terrain") doc)
     ++ (things_are_good doc
-    ++ list_conditions region_keys (codes "region") (array_at most_regions (codes "region") doc)))
+    ++ regions_are_good format doc))
 
 -- no name and no number stands twice
-unfoldable pub names_differ : Tables → Conditions
-names_differ all =
+unfoldable pub titles_differ : Tables → Conditions
+titles_differ all =
     twins (λ d. d.name) (codes "terrain") (codes "name") all.terrains
     ++ (twins (λ d. d.name) (codes "item") (codes "name") all.items
     ++ (twins (λ s. s.name) (codes "skill") (codes "name") all.skills
-    ++ (twins (λ d. d.name) (codes "kind") (codes "name") all.kinds
+    ++ twins (λ d. d.name) (codes "kind") (codes "name") all.kinds))
+
+unfoldable pub names_differ : Tables → Conditions
+names_differ all =
+    titles_differ all
     ++ (twin_numbers all.regions
-    ++ each terrain_twins 0 all.terrains))))
+    ++ (each terrain_twins 0 all.terrains
+    ++ each market_twins 0 all.regions))
 
 -- no name stands for nothing
 unfoldable pub names_are_known : Tables → Conditions
@@ -108,13 +126,20 @@ table_conditions all =
     ++ is_some_land (land_of (planet_of all))))
 
 -- all of them
-unfoldable pub conditions : Members → Conditions
-conditions doc = keys_are_good doc ++ table_conditions (tables_of doc)
+unfoldable pub conditions : Format → Members → Conditions
+conditions format doc = keys_are_good format doc ++ table_conditions (tables_of format doc)
 
--- ---- the world of a text, or its first fault
-abbrev pub world_in : Option Members → Result Planet WorldFault
-world_in None = Err NotToml
-world_in (Some doc) = unless (first_fault (conditions doc)) (planet_of (tables_of doc))
+-- ---- the world of a text in a format, or its first fault
+abbrev pub world_in : Format → Option Members → Result Planet WorldFault
+world_in format None = Err NotToml
+world_in format (Some doc) = unless (first_fault (conditions format doc)) (planet_of (tables_of format doc))
 
-unfoldable pub world_of : List ℕ → Result Planet WorldFault
-world_of text = world_in (parse_document text)
+unfoldable pub world_by : Format → List ℕ → Result Planet WorldFault
+world_by format text = world_in format (parse_document text)
+
+-- with markets, and as it was before there were any
+abbrev pub world_of : List ℕ → Result Planet WorldFault
+world_of = world_by Second
+
+abbrev pub old_world_of : List ℕ → Result Planet WorldFault
+old_world_of = world_by First

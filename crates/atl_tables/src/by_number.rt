@@ -2,12 +2,12 @@
 ghost use Rattle.std.specs.Prelude.{◌≡◌, ◌≤◌, IfSome, length};
 ghost use Rattle.std.specs.List.{slice_get};
 ghost use Rattle.std.specs.Option.{option_copied};
-ghost use Rattle.atl_tables.specs.ByNumber.{terrain_of, is_land_at, neighbour, is_ship, size_of, fee_of};
-ghost use Rattle.atl_tables.specs.Planet.{IsTerrain};
+ghost use Rattle.atl_tables.specs.ByNumber.{terrain_of, is_land_at, neighbour, market_of, is_ship, size_of, fee_of};
+ghost use Rattle.atl_tables.specs.Planet.{IsTerrain, IsMarket};
 
 use crate::direction::Direction;
 use crate::limits::MOST_SIZE;
-use crate::world::{Item, Kind, Terrain, World};
+use crate::world::{Item, Kind, Market, Terrain, World};
 
 impl World {
     /// The terrain of a region, where the world has a region of this number.
@@ -37,6 +37,14 @@ impl World {
         ensures { result ≡ neighbour self.now region direction }
     {
         self.region(region)?.beside(direction)
+    }
+
+    /// The market of an item in a region, where there is one.
+    pub fn market(&self, region: u32, item: u16) -> Option<&Market>
+        ensures value { option_copied result ≡ market_of self.now region item }
+        ensures bounds { IfSome result (λ market. IsMarket (length self.now.items) item market.now) }
+    {
+        self.region(region)?.markets.get(u32::from(item))
     }
 
     /// The item of a number, where there is one.

@@ -15,6 +15,9 @@ pub const MOST_KINDS: usize = 100;
 /// The most regions of a world.
 pub const MOST_REGIONS: usize = 2_500;
 
+/// The most markets of a region.
+pub const MOST_MARKETS: usize = 200;
+
 /// The highest number of a region; the lowest is 1.
 pub const LAST_REGION: u32 = 9_999;
 
@@ -27,7 +30,7 @@ pub const MOST_NAME_BYTES: usize = 40;
 /// The most money a month of one man or peasant: maintenance and tax of a man, income of a peasant.
 pub(crate) const MOST_PER_HEAD: u32 = 1_000;
 
-/// The most money that a recruit costs, a month of work pays, and a month of study costs a man.
+/// The most money that a recruit costs, a month of work pays, a month of study costs a man, and one item costs or brings.
 pub(crate) const MOST_PRICE: u32 = 1_000_000;
 
 /// The most peasants of whom one can be recruited in a month.

@@ -1,28 +1,32 @@
 //! The reader of world files.
-ghost use Rattle.std.specs.Prelude.{◌≡◌, ◌<◌, ◌++◌, length, IfOk};
+ghost use Rattle.std.specs.Prelude.{◌≡◌, ◌≤◌, ◌<◌, ◌++◌, length, IfOk};
+ghost use Rattle.std.specs.List.{All};
 ghost use Rattle.toml.specs.View.{table_view};
-ghost use Rattle.atl_tables.specs.Drafts.{AreThings, AreTables, HaveNames};
+ghost use Rattle.atl_tables.specs.Drafts.{IsRegionDraft, AreThings, AreTables, HaveNames};
 ghost use Rattle.atl_tables.specs.Faults.{first_fault, Reads};
 ghost use Rattle.atl_tables.specs.Given.{Gives};
+ghost use Rattle.atl_tables.specs.Limits.{most_regions};
 ghost use Rattle.atl_tables.specs.Parts.{ArePartsOf, parts_of};
 ghost use Rattle.atl_tables.specs.Planet.{IsWorld, is_land, land_of};
 ghost use Rattle.atl_tables.specs.Sums.{numbers_where};
-ghost use Rattle.atl_tables.specs.World.{things_of, tables_of, regions_of, planet_of, things_are_good, keys_are_good, names_differ, names_are_known, neighbours_are_mutual, is_some_land, table_conditions, conditions, world_of};
+ghost use Rattle.atl_tables.specs.World.{things_of, regions_in, tables_of, planet_of, things_are_good, regions_are_good, keys_are_good, titles_differ, names_differ, names_are_known, neighbours_are_mutual, is_some_land, table_conditions, conditions, world_by, world_of, old_world_of};
 
 use crate::elements::{list, optional_list};
 use crate::fault::WorldFault;
+use crate::format::Format;
 use crate::item_table::ItemDraft;
 use crate::kind_table::KindDraft;
 use crate::limits::{MOST_ITEMS, MOST_KINDS, MOST_REGIONS, MOST_SKILLS, MOST_TERRAINS};
 use crate::neighbours::mutual_neighbours;
 use crate::numbered::Numbered;
-use crate::region_table::RegionDraft;
-use crate::regions::{by_number, no_twin_numbers};
+use crate::placed::by_number;
+use crate::region_table::{OldRegion, RegionDraft, without_markets};
+use crate::regions::no_twin_numbers;
 use crate::rules_table::{resolve_rules, rules};
 use crate::sequence::Sequence;
 use crate::tables::{Tables, resolve_all};
-use crate::terrain_table::{TerrainDraft, no_twins_in_outputs};
-use crate::titled::no_twins;
+use crate::terrain_table::TerrainDraft;
+use crate::titled::{no_twins, no_twins_within};
 use crate::world::{Item, Kind, RegionPlan, Rules, Skill, Terrain, World};
 use std::alloc::{AllocError, Global};
 use toml::Table;
@@ -60,10 +64,30 @@ fn read_things(alloc: Global, document: &Table) -> Result<Things, WorldFault>
     })
 }
 
+/// The regions as a format reads them, else the first fault of a key.
+#[tactic(auto, unfolding(crate::specs::World::regions_are_good, crate::specs::World::regions_in))]
+fn read_regions(
+    alloc: Global,
+    format: Format,
+    document: &Table,
+) -> Result<Sequence<RegionDraft>, WorldFault>
+    ensures value { Gives (λ v. v) result (first_fault (regions_are_good format (table_view document.now))) (regions_in format (table_view document.now)) }
+    ensures sound { IfOk result (λ v. All IsRegionDraft v) }
+    ensures most { IfOk result (λ v. length v ≤ most_regions) }
+{
+    match format {
+        Format::First => {
+            let regions = list::<OldRegion>(alloc, MOST_REGIONS, "region", document)?;
+            Ok(without_markets(alloc, regions)?)
+        }
+        Format::Second => list::<RegionDraft>(alloc, MOST_REGIONS, "region", document),
+    }
+}
+
 /// What the tables say, else the first fault of a key.
 #[tactic(auto, unfolding(crate::specs::World::keys_are_good, crate::specs::World::tables_of))]
-fn tables(alloc: Global, document: &Table) -> Result<Tables, WorldFault>
-    ensures value { Gives (λ t. t) result (first_fault (keys_are_good (table_view document.now))) (tables_of (table_view document.now)) }
+fn tables(alloc: Global, format: Format, document: &Table) -> Result<Tables, WorldFault>
+    ensures value { Gives (λ t. t) result (first_fault (keys_are_good format (table_view document.now))) (tables_of format (table_view document.now)) }
     ensures sound { IfOk result AreTables }
 {
     let rules = rules(alloc, document)?;
@@ -74,7 +98,7 @@ fn tables(alloc: Global, document: &Table) -> Result<Tables, WorldFault>
         skills,
         kinds,
     } = things;
-    let regions = list::<RegionDraft>(alloc, MOST_REGIONS, "region", document)?;
+    let regions = read_regions(alloc, format, document)?;
     Ok(Tables {
         rules,
         terrains,
@@ -85,17 +109,26 @@ fn tables(alloc: Global, document: &Table) -> Result<Tables, WorldFault>
     })
 }
 
+/// That no two terrains, items, skills or kinds have one name, else TwoNames.
+#[tactic(auto, unfolding(crate::specs::World::titles_differ))]
+fn titles_differ(alloc: Global, all: &Tables) -> Result<(), WorldFault>
+    ensures { Gives (λ u. u) result (first_fault (titles_differ all.now)) (tt {0}) }
+{
+    no_twins(alloc, "terrain", "name", all.terrains.as_slice())?;
+    no_twins(alloc, "item", "name", all.items.as_slice())?;
+    no_twins(alloc, "skill", "name", all.skills.as_slice())?;
+    no_twins(alloc, "kind", "name", all.kinds.as_slice())
+}
+
 /// That no name and no number stands twice, else TwoNames.
 #[tactic(auto, unfolding(crate::specs::World::names_differ))]
 fn names_differ(alloc: Global, all: &Tables) -> Result<(), WorldFault>
     ensures { Gives (λ u. u) result (first_fault (names_differ all.now)) (tt {0}) }
 {
-    no_twins(alloc, "terrain", "name", all.terrains.as_slice())?;
-    no_twins(alloc, "item", "name", all.items.as_slice())?;
-    no_twins(alloc, "skill", "name", all.skills.as_slice())?;
-    no_twins(alloc, "kind", "name", all.kinds.as_slice())?;
+    titles_differ(alloc, all)?;
     no_twin_numbers(alloc, all.regions.as_slice())?;
-    no_twins_in_outputs(alloc, all.terrains.as_slice())
+    no_twins_within(alloc, all.terrains.as_slice())?;
+    no_twins_within(alloc, all.regions.as_slice())
 }
 
 /// What the tables stand for, else UnknownName.
@@ -198,21 +231,20 @@ fn from_tables(alloc: Global, all: Tables) -> Result<World, WorldFault>
 }
 
 #[tactic(auto, unfolding(crate::specs::World::conditions))]
-fn from_document(alloc: Global, document: &Table) -> Result<World, WorldFault>
-    ensures { Gives (λ w. w) result (first_fault (conditions (table_view document.now))) (planet_of (tables_of (table_view document.now))) }
+fn from_document(alloc: Global, format: Format, document: &Table) -> Result<World, WorldFault>
+    ensures { Gives (λ w. w) result (first_fault (conditions format (table_view document.now))) (planet_of (tables_of format (table_view document.now))) }
 {
-    let all = tables(alloc, document)?;
+    let all = tables(alloc, format, document)?;
     from_tables(alloc, all)
 }
 
-/// The world that a text describes, or its first fault in the order that docs/FORMATS.md, "Faults of a world file", gives.
-/// `Memory` is answered only where there was none left, and says nothing of the text.
-#[tactic(auto, unfolding(crate::specs::World::world_of))]
-pub fn read_world(alloc: Global, text: &str) -> Result<World, WorldFault>
-    ensures definition { Reads (λ w. w) result (world_of text.now) }
+/// The world that a text describes in a format, or its first fault.
+#[tactic(auto, unfolding(crate::specs::World::world_by))]
+fn read(alloc: Global, format: Format, text: &str) -> Result<World, WorldFault>
+    ensures { Reads (λ w. w) result (world_by format text.now) }
 {
     match toml::table_from_str(alloc, text) {
-        Ok(document) => from_document(alloc, &document),
+        Ok(document) => from_document(alloc, format, &document),
         Err(error) => {
             if error.is_memory() {
                 return Err(WorldFault::Memory);
@@ -220,4 +252,19 @@ pub fn read_world(alloc: Global, text: &str) -> Result<World, WorldFault>
             Err(WorldFault::NotToml)
         }
     }
+}
+
+/// The world that a text describes, or its first fault in the order that docs/FORMATS.md, "Faults of a world file", gives.
+/// `Memory` is answered only where there was none left, and says nothing of the text.
+pub fn read_world(alloc: Global, text: &str) -> Result<World, WorldFault>
+    ensures definition { Reads (λ w. w) result (world_of text.now) }
+{
+    read(alloc, Format::Second, text)
+}
+
+/// Likewise by the first format, which ignores the key `market` of a region.
+pub fn read_old_world(alloc: Global, text: &str) -> Result<World, WorldFault>
+    ensures definition { Reads (λ w. w) result (old_world_of text.now) }
+{
+    read(alloc, Format::First, text)
 }

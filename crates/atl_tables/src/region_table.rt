@@ -1,22 +1,25 @@
 //! The tables `[[region]]`. See docs/FORMATS.md, "The world file".
-ghost use Rattle.std.specs.Prelude.{length};
+ghost use Rattle.std.specs.Prelude.{◌≡◌, IfOk, length, map};
 ghost use Rattle.toml.specs.View.{table_view};
-ghost use Rattle.atl_tables.specs.Drafts.{IsPlace, IsRegionDraft};
+ghost use Rattle.atl_tables.specs.Drafts.{IsPlace, IsOldRegion, IsRegionDraft};
 ghost use Rattle.atl_tables.specs.Faults.{first_fault};
 ghost use Rattle.atl_tables.specs.Given.{Gives};
-ghost use Rattle.atl_tables.specs.RegionTable.{place_keys, place_from, side_keys, sides_from, region_keys, region_from, region_known, region_of};
+ghost use Rattle.atl_tables.specs.RegionTable.{place_keys, place_from, side_keys, sides_from, old_region_keys, old_region_from, as_draft, region_keys, region_from, market_twins, region_known, region_of};
 ghost use Rattle.atl_tables.specs.Planet.{IsRegionPlan};
 
 use crate::elements::Element;
 use crate::fault::WorldFault;
-use crate::keys::{self, indexed};
+use crate::keys::{self, indexed, path};
 use crate::let_go;
 use crate::limits::{LAST_REGION, MOST_AMOUNT};
-use crate::tables::{Draft, Tables};
+use crate::market_table::{MarketDraft, markets};
+use crate::placed::{Placed, by_number};
+use crate::sequence::Sequence;
+use crate::tables::{Draft, Tables, resolve_all};
 use crate::text::Text;
-use crate::titled::known;
+use crate::titled::{Holder, known, no_twins};
 use crate::world::RegionPlan;
-use std::alloc::Global;
+use std::alloc::{AllocError, Global};
 use toml::Table;
 
 /// What a region is, with its terrain by name.
@@ -48,11 +51,25 @@ pub struct Sides {
     pub west: Option<u32>,
 }
 
-/// A region, with its terrain by name.
+/// A region of a file of the first format, with its terrain by name.
 #[derive(Drop)]
+pub struct OldRegion {
+    pub place: Place,
+    pub sides: Sides,
+}
+
+/// A region, with its terrain and the items of its markets by name.
 pub struct RegionDraft {
     pub place: Place,
     pub sides: Sides,
+    /// Its markets, in the order of the file.
+    pub markets: Sequence<MarketDraft>,
+}
+
+impl Drop for RegionDraft {
+    fn drop(self) {
+        let_go!(self: RegionDraft { place, sides, markets });
+    }
 }
 
 impl Element for Place {
@@ -95,6 +112,21 @@ fn read_sides(alloc: Global, at: &str, table: &Table) -> Result<Sides, WorldFaul
     })
 }
 
+impl Element for OldRegion {
+    ghost conditions = { old_region_keys };
+
+    ghost record_of = { old_region_from };
+
+    ghost is_sound = { IsOldRegion };
+
+    #[tactic(auto, unfolding(crate::specs::RegionTable::old_region_keys, crate::specs::RegionTable::old_region_from))]
+    fn read(alloc: Global, at: &str, table: &Table) -> Result<OldRegion, WorldFault> {
+        let place = Place::read(alloc, at, table)?;
+        let sides = read_sides(alloc, at, table)?;
+        Ok(OldRegion { place, sides })
+    }
+}
+
 impl Element for RegionDraft {
     ghost conditions = { region_keys };
 
@@ -104,9 +136,43 @@ impl Element for RegionDraft {
 
     #[tactic(auto, unfolding(crate::specs::RegionTable::region_keys, crate::specs::RegionTable::region_from))]
     fn read(alloc: Global, at: &str, table: &Table) -> Result<RegionDraft, WorldFault> {
-        let place = Place::read(alloc, at, table)?;
-        let sides = read_sides(alloc, at, table)?;
-        Ok(RegionDraft { place, sides })
+        let OldRegion { place, sides } = OldRegion::read(alloc, at, table)?;
+        let markets = markets(alloc, at, table)?;
+        Ok(RegionDraft {
+            place,
+            sides,
+            markets,
+        })
+    }
+}
+
+/// The regions of a file of the first format, which have no markets.
+pub(crate) fn without_markets(
+    alloc: Global,
+    regions: Sequence<OldRegion>,
+) -> Result<Sequence<RegionDraft>, AllocError>
+    ensures { IfOk result (λ drafts. drafts ≡ map as_draft regions) }
+{
+    let mut drafts = Sequence::new(alloc);
+    for region in regions.into_vec() {
+        let OldRegion { place, sides } = region;
+        drafts.push(RegionDraft {
+            place,
+            sides,
+            markets: Sequence::new(alloc),
+        })?;
+    }
+    Ok(drafts)
+}
+
+impl Holder for RegionDraft {
+    ghost twins = { market_twins };
+
+    #[tactic(auto, unfolding(crate::specs::RegionTable::market_twins))]
+    fn no_twins_within(&self, alloc: Global, i: usize) -> Result<(), WorldFault> {
+        let place = indexed(alloc, "region", i)?;
+        let place = path(alloc, place.as_str(), "market")?;
+        no_twins(alloc, place.as_str(), "item", self.markets.as_slice())
     }
 }
 
@@ -119,7 +185,7 @@ impl Draft for RegionDraft {
 
     ghost record_of = { region_of };
 
-    ghost is_sound = { λ all i x. IsRegionPlan (length all.terrains) x.number x };
+    ghost is_sound = { λ all i x. IsRegionPlan (length all.terrains) (length all.items) x.number x };
 
     #[tactic(auto, unfolding(crate::specs::RegionTable::region_known, crate::specs::RegionTable::region_of))]
     fn resolve(&self, alloc: Global, all: &Tables, i: usize) -> Result<RegionPlan, WorldFault> {
@@ -131,6 +197,8 @@ impl Draft for RegionDraft {
             place.as_str(),
             &self.place.terrain,
         )?;
+        let markets = resolve_all(alloc, all, self.markets.as_slice())?;
+        let markets = by_number(alloc, markets.into_vec())?;
         let name = self.place.name.copy(alloc)?;
         Ok(RegionPlan {
             number: self.place.number,
@@ -142,6 +210,15 @@ impl Draft for RegionDraft {
             south: self.sides.south,
             east: self.sides.east,
             west: self.sides.west,
+            markets,
         })
+    }
+}
+
+impl Placed for RegionPlan {
+    ghost place_of = { λ p. p.number };
+
+    fn place(&self) -> u32 {
+        self.number
     }
 }

@@ -1,16 +1,13 @@
-//! The regions by their numbers, of which no two are equal.
-ghost use Rattle.std.specs.Prelude.{◌≡◌, ◌≤◌, length, IfOk};
-ghost use Rattle.std.specs.FinMap.{len};
+//! The numbers of regions, of which no two are equal.
 ghost use Rattle.atl_tables.specs.Faults.{first_fault};
 ghost use Rattle.atl_tables.specs.Given.{Gives};
-ghost use Rattle.atl_tables.specs.Regions.{twin_numbers, by_number};
+ghost use Rattle.atl_tables.specs.Regions.{twin_numbers};
 
 use crate::fault::WorldFault;
 use crate::keys::{indexed, path};
 use crate::numbered::Numbered;
 use crate::region_table::RegionDraft;
-use crate::world::RegionPlan;
-use std::alloc::{AllocError, Global};
+use std::alloc::Global;
 
 /// That no two regions have one number, else TwoNames at the second.
 pub(crate) fn no_twin_numbers(alloc: Global, drafts: &[RegionDraft]) -> Result<(), WorldFault>
@@ -26,20 +23,4 @@ pub(crate) fn no_twin_numbers(alloc: Global, drafts: &[RegionDraft]) -> Result<(
         seen.insert(number, ())?;
     }
     Ok(())
-}
-
-/// The regions under their numbers.
-pub(crate) fn by_number(
-    alloc: Global,
-    plans: Vec<RegionPlan>,
-) -> Result<Numbered<RegionPlan>, AllocError>
-    ensures value { IfOk result (λ m. m ≡ by_number plans.items) }
-    ensures len { IfOk result (λ m. len m ≤ length plans.items) }
-{
-    let mut plans = plans;
-    let mut regions = Numbered::new(alloc);
-    while let Some(plan) = plans.pop() {
-        regions.insert(plan.number, plan)?;
-    }
-    Ok(regions)
 }

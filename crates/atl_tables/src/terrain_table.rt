@@ -1,9 +1,6 @@
 //! The tables `[[terrain]]`. See docs/FORMATS.md, "The world file".
 ghost use Rattle.std.specs.Prelude.{length};
 ghost use Rattle.atl_tables.specs.Drafts.{IsEconomy, IsTerrainDraft};
-ghost use Rattle.atl_tables.specs.Each.{each};
-ghost use Rattle.atl_tables.specs.Faults.{first_fault};
-ghost use Rattle.atl_tables.specs.Given.{Gives};
 ghost use Rattle.atl_tables.specs.KeyByKey.{conditions_of, value_of};
 ghost use Rattle.atl_tables.specs.Planet.{IsTerrain};
 ghost use Rattle.atl_tables.specs.TerrainTable.{economy_at, terrain_keys, terrain_from, terrain_twins, terrain_known, terrain_of};
@@ -17,7 +14,7 @@ use crate::output_table::{Output, amounts_of, known_keys, no_twin_keys, outputs}
 use crate::sequence::Sequence;
 use crate::tables::{Draft, Tables};
 use crate::text::Text;
-use crate::titled::Titled;
+use crate::titled::{Holder, Titled};
 use crate::world::Terrain;
 use std::alloc::Global;
 use toml::Table;
@@ -134,22 +131,13 @@ impl Draft for TerrainDraft {
     }
 }
 
-/// That no two keys of the output of a terrain are equal, ignoring ASCII case, else TwoNames at the second.
-#[tactic(auto, unfolding(crate::specs::TerrainTable::terrain_twins))]
-fn no_twins_in_output(alloc: Global, i: usize, draft: &TerrainDraft) -> Result<(), WorldFault>
-    ensures { Gives (λ u. u) result (first_fault (terrain_twins i draft.now)) (tt {0}) }
-{
-    let place = indexed(alloc, "terrain", i)?;
-    let place = path(alloc, place.as_str(), "output")?;
-    no_twin_keys(alloc, place.as_str(), draft.output.as_slice())
-}
+impl Holder for TerrainDraft {
+    ghost twins = { terrain_twins };
 
-/// Likewise of all terrains, in the order of the file.
-pub(crate) fn no_twins_in_outputs(alloc: Global, drafts: &[TerrainDraft]) -> Result<(), WorldFault>
-    ensures { Gives (λ u. u) result (first_fault (each terrain_twins 0 drafts.now)) (tt {0}) }
-{
-    for i in 0..drafts.len() {
-        no_twins_in_output(alloc, i, &drafts[i])?;
+    #[tactic(auto, unfolding(crate::specs::TerrainTable::terrain_twins))]
+    fn no_twins_within(&self, alloc: Global, i: usize) -> Result<(), WorldFault> {
+        let place = indexed(alloc, "terrain", i)?;
+        let place = path(alloc, place.as_str(), "output")?;
+        no_twin_keys(alloc, place.as_str(), self.output.as_slice())
     }
-    Ok(())
 }

@@ -1,7 +1,8 @@
 //! Names that may stand once only, and the numbers that names stand for.
 ghost use Rattle.std.specs.Prelude.{◌≡◌, ◌≤◌, ◌<◌, ℕ, List, length, IfOk, IfSome, Some, None, unwrap_or, option_and_then};
 ghost use Rattle.std.specs.List.{list_any};
-ghost use Rattle.atl_tables.specs.Faults.{first_fault};
+ghost use Rattle.atl_tables.specs.Each.{each};
+ghost use Rattle.atl_tables.specs.Faults.{Conditions, first_fault};
 ghost use Rattle.atl_tables.specs.Given.{Gives};
 ghost use Rattle.atl_tables.specs.Keys.{path};
 ghost use Rattle.atl_tables.specs.Limits.{most_numbered};
@@ -48,6 +49,25 @@ pub(crate) fn no_twins<T: Titled>(
             let place = indexed(alloc, array, i)?;
             return Err(WorldFault::TwoNames(path(alloc, place.as_str(), key)?));
         }
+    }
+    Ok(())
+}
+
+/// What holds things of which no two may have one name.
+pub(crate) trait Holder: Drop {
+    ghost twins: { ℕ → Self → Conditions };
+
+    /// That the i-th of its array holds no two things with equal names, ignoring ASCII case, else TwoNames at the second.
+    fn no_twins_within(&self, alloc: Global, i: usize) -> Result<(), WorldFault>
+        ensures { Gives (λ u. u) result (first_fault (twins i self.now)) (tt {0}) };
+}
+
+/// Likewise of all, in the order of the file.
+pub(crate) fn no_twins_within<T: Holder>(alloc: Global, holders: &[T]) -> Result<(), WorldFault>
+    ensures { Gives (λ u. u) result (first_fault (each T.twins 0 holders.now)) (tt {0}) }
+{
+    for i in 0..holders.len() {
+        holders[i].no_twins_within(alloc, i)?;
     }
     Ok(())
 }

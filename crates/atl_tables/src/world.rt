@@ -115,8 +115,22 @@ pub struct Kind {
     pub helps: Option<u16>,
 }
 
+/// What units buy and sell of an item in a region.
+#[derive(Drop, Clone, Copy, Debug)]
+pub struct Market {
+    /// The number of the item.
+    pub item: u16,
+    /// Money that one costs, from 1 to `MOST_PRICE`.
+    pub price: u32,
+    /// Money that one brings, from 1 to `MOST_PRICE`.
+    pub pays: u32,
+    /// The largest stock, at most `MOST_AMOUNT`.
+    pub limit: u32,
+    /// How much comes into the stock in a month, at most `MOST_AMOUNT`.
+    pub restock: u32,
+}
+
 /// A region as the world file has it. Its neighbours are regions of the world that have it as theirs on the opposite side.
-#[derive(Drop, Debug)]
 pub struct RegionPlan {
     /// From 1 to `LAST_REGION`; no two regions have one number.
     pub number: u32,
@@ -136,6 +150,14 @@ pub struct RegionPlan {
     pub east: Option<u32>,
     /// The number of the region in the west, where there is one.
     pub west: Option<u32>,
+    /// Its markets, each under the number of its item.
+    pub markets: Numbered<Market>,
+}
+
+impl Drop for RegionPlan {
+    fn drop(self) {
+        let_go!(self: RegionPlan { number, name, terrain, peasants, money, north, south, east, west, markets });
+    }
 }
 
 impl RegionPlan {

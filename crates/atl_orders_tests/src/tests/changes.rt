@@ -414,3 +414,171 @@ pub(crate) const OUTPUT_CHANGES: [Change; 6] = [
         "none",
     ),
 ];
+
+/// Changes of the market of a world with an item, a skill and a kind.
+pub(crate) const MARKET_CHANGES: [Change; 12] = [
+    ("item = \"wood\"", "", "2 Missing region[0].market[0].item"),
+    (
+        "item = \"wood\"",
+        "item = 3",
+        "3 WrongType region[0].market[0].item",
+    ),
+    ("item = \"wood\"", "item = \"WOOD\"", "none"),
+    (
+        "item = \"wood\"",
+        "item = \"iron\"",
+        "6 UnknownName region[0].market[0].item",
+    ),
+    (
+        "item = \"wood\"",
+        "item = \"\"",
+        "6 UnknownName region[0].market[0].item",
+    ),
+    (
+        "item = \"wood\"\nprice = 7",
+        "item = 3\nprice = 0",
+        "3 WrongType region[0].market[0].item",
+    ),
+    (
+        "price = 7\npays = 5",
+        "pays = 0\nprice = 0",
+        "4 OutOfRange region[0].market[0].price",
+    ),
+    (
+        "pays = 5\nlimit = 30",
+        "limit = true",
+        "2 Missing region[0].market[0].pays",
+    ),
+    (
+        "limit = 30\nrestock = 20",
+        "limit = -1\nrestock = -1",
+        "4 OutOfRange region[0].market[0].limit",
+    ),
+    ("restock = 20", "restock = 20\nother = 1", "none"),
+    (
+        "money = 500\n[[region.market]]",
+        "money = 500\nwest = 0\n[[region.market]]\nitem = 3\n[[region.market]]",
+        "4 OutOfRange region[0].west",
+    ),
+    (
+        "terrain = \"plain\"\npeasants = 1000\nmoney = 500\n[[region.market]]\nitem = \"wood\"",
+        "terrain = \"hill\"\npeasants = 1000\nmoney = 500\n[[region.market]]\nitem = \"iron\"",
+        "6 UnknownName region[0].terrain",
+    ),
+];
+
+/// Changes of the same world with two markets of one item.
+pub(crate) const TWIN_CHANGES: [Change; 3] = [
+    (
+        "item = \"wood\"",
+        "item = \"Wood\"",
+        "5 TwoNames region[0].market[1].item",
+    ),
+    (
+        "item = \"wood\"\nprice = 7",
+        "item = \"iron\"\nprice = 7",
+        "6 UnknownName region[0].market[0].item",
+    ),
+    (
+        "wage = 12",
+        "wage = 12\noutput = { wood = 1, WOOD = 2 }",
+        "5 TwoNames terrain[0].output.wood",
+    ),
+];
+
+/// Changes of the same world without markets, which put an array in their place.
+pub(crate) const ARRAY_CHANGES: [Change; 13] = [
+    (
+        "money = 500",
+        "money = 500\nmarket = 3",
+        "3 WrongType region[0].market",
+    ),
+    (
+        "money = 500",
+        "money = 500\nmarket = {}",
+        "3 WrongType region[0].market",
+    ),
+    ("money = 500", "money = 500\nmarket = []", "none"),
+    (
+        "money = 500",
+        "money = 500\nmarket = [3]",
+        "3 WrongType region[0].market[0]",
+    ),
+    (
+        "money = 500",
+        "money = 500\nmarket = [{ item = \"wood\", price = 1, pays = 1, limit = 0, restock = 0 }]",
+        "none",
+    ),
+    (
+        "money = 500",
+        "money = 500\nmarket = [{ item = \"wood\", price = 1, pays = 1, limit = 0, restock = 0 }, 3]",
+        "3 WrongType region[0].market[1]",
+    ),
+    (
+        "money = 500",
+        "money = 500\nmarket = [{ item = \"wood\" }, 3]",
+        "2 Missing region[0].market[0].price",
+    ),
+    (
+        "money = 500",
+        "money = 500\nmarket = [3, { item = \"wood\" }]",
+        "3 WrongType region[0].market[0]",
+    ),
+    (
+        "money = 500",
+        "money = 500\nmarket = [{ item = \"iron\", price = 1, pays = 1, limit = 0, restock = 0 }, { item = \"Iron\", price = 1, pays = 1, limit = 0, restock = 0 }]",
+        "5 TwoNames region[0].market[1].item",
+    ),
+    (
+        "money = 500",
+        "money = 500\nmarket = [{ item = \"wood\", price = 1, pays = 1, limit = 0, restock = 0 }, { item = \"iron\", price = 1, pays = 1, limit = 0, restock = 0 }]",
+        "6 UnknownName region[0].market[1].item",
+    ),
+    (
+        "money = 500",
+        "money = 500\nmarket = [{ item = \"wood\", price = 1, pays = 1, limit = 0, restock = 0 }]\n[[region]]\nnumber = 2\nname = \"Dale\"\nterrain = \"plain\"\npeasants = 0\nmoney = 0\nmarket = [{ item = \"wood\", price = 1, pays = 1, limit = 0, restock = 0 }]",
+        "none",
+    ),
+    (
+        "money = 500",
+        "money = 500\nmarket = []\n[[region]]\nnumber = 2\nname = \"Dale\"\nterrain = \"plain\"\npeasants = 0\nmoney = 0\nmarket = true",
+        "3 WrongType region[1].market",
+    ),
+    (
+        "money = 500",
+        "money = 500\nmarket = []\n[[region]]\nnumber = 1\nname = \"Dale\"\nterrain = \"plain\"\npeasants = 0\nmoney = 0\nmarket = [{ item = \"wood\", price = 1, pays = 1, limit = 0, restock = 0 }, { item = \"wood\", price = 1, pays = 1, limit = 0, restock = 0 }]",
+        "5 TwoNames region[1].number",
+    ),
+];
+
+/// A piece of a text, what comes in its place, and the first faults of the text that this makes in the second format and in
+/// the first.
+pub(crate) type TwoFaults = (&'static str, &'static str, &'static str, &'static str);
+
+/// Changes of the world with one market that make a fault of the market and a later one.
+pub(crate) const TWO_FAULTS: [TwoFaults; 4] = [
+    (
+        "restock = 20",
+        "restock = -1\n[[region]]\nnumber = 0",
+        "4 OutOfRange region[0].market[0].restock",
+        "4 OutOfRange region[1].number",
+    ),
+    (
+        "item = \"wood\"\nprice = 7\npays = 5\nlimit = 30\nrestock = 20",
+        "item = \"wood\"\n[[region]]\nnumber = 1\nname = \"Dale\"\nterrain = \"plain\"\npeasants = 0\nmoney = 0",
+        "2 Missing region[0].market[0].price",
+        "5 TwoNames region[1].number",
+    ),
+    (
+        "restock = 20",
+        "restock = 20\n[[region.market]]\nitem = \"wood\"\nprice = 1\npays = 1\nlimit = 0\nrestock = 0\n[[region]]\nnumber = 2\nname = \"Dale\"\nterrain = \"hill\"\npeasants = 0\nmoney = 0",
+        "5 TwoNames region[0].market[1].item",
+        "6 UnknownName region[1].terrain",
+    ),
+    (
+        "money = 500\n[[region.market]]\nitem = \"wood\"",
+        "money = 500\nnorth = 2\n[[region.market]]\nitem = \"iron\"",
+        "6 UnknownName region[0].market[0].item",
+        "7 BadNeighbour region[0].north",
+    ),
+];

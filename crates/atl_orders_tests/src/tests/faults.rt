@@ -1,11 +1,12 @@
 //! Faults of worlds, in their order and with their paths.
 use super::asserts::row_is;
 use super::changes::{
-    Change, HEAD_CHANGES, KEY_CHANGES, NAME_CHANGES, NEIGHBOUR_CHANGES, OUTPUT_CHANGES,
-    REFERENCE_CHANGES, RULES_CHANGES, SMALL_CHANGES, TITLE_CHANGES, TRUTH_CHANGES,
+    ARRAY_CHANGES, Change, HEAD_CHANGES, KEY_CHANGES, MARKET_CHANGES, NAME_CHANGES,
+    NEIGHBOUR_CHANGES, OUTPUT_CHANGES, REFERENCE_CHANGES, RULES_CHANGES, SMALL_CHANGES,
+    TITLE_CHANGES, TRUTH_CHANGES, TWIN_CHANGES, TWO_FAULTS,
 };
-use super::worlds::{MORE, fault, fault_with, small_with};
-use atl_tables::Text;
+use super::worlds::{MORE, changed, fault, small_with, with_markets};
+use atl_tables::{Format, Text};
 use atl_test_worlds::SMALL;
 use std::alloc::Global;
 use std::process::Abort;
@@ -19,6 +20,31 @@ fn before(header: &str) -> &'static str {
     }
 }
 
+/// The fault that the first format has in the place of one of the second: it ignores markets.
+fn old_fault(fault: &str) -> &str {
+    if fault.contains(".market") {
+        "none"
+    } else {
+        fault
+    }
+}
+
+/// Asserts the first faults of a text in the second format and in the first.
+fn faults_are(
+    rt: &impl Abort,
+    alloc: Global,
+    row: &str,
+    text: &str,
+    second: &str,
+    first: &str,
+) -> Result<(), Fail> {
+    let told = fault(alloc, Format::Second, text)?;
+    row_is(rt, row, told.as_str(), second);
+    let told = fault(alloc, Format::First, text)?;
+    row_is(rt, row, told.as_str(), first);
+    Ok(())
+}
+
 /// Asserts the fault that a change makes.
 pub(crate) fn change_is(
     rt: &impl Abort,
@@ -28,9 +54,8 @@ pub(crate) fn change_is(
     to: &str,
     wanted: &str,
 ) -> Result<(), Fail> {
-    let told = fault_with(alloc, text, from, to)?;
-    row_is(rt, to, told.as_str(), wanted);
-    Ok(())
+    let text = changed(alloc, text, from, to)?;
+    faults_are(rt, alloc, to, text.as_str(), wanted, old_fault(wanted))
 }
 
 /// Asserts the fault that each change makes.
@@ -94,6 +119,40 @@ fn faulty_outputs(rt: HostRuntime) -> Result<(), Fail> {
     changes_are(&rt, rt.alloc(), all.as_str(), &OUTPUT_CHANGES)
 }
 
+#[test]
+fn faulty_markets(rt: HostRuntime) -> Result<(), Fail> {
+    let one = with_markets(rt.alloc(), 1)?;
+    changes_are(&rt, rt.alloc(), one.as_str(), &MARKET_CHANGES)?;
+    let two = with_markets(rt.alloc(), 2)?;
+    changes_are(&rt, rt.alloc(), two.as_str(), &TWIN_CHANGES)
+}
+
+#[test]
+fn faulty_market_arrays(rt: HostRuntime) -> Result<(), Fail> {
+    let none = with_markets(rt.alloc(), 0)?;
+    changes_are(&rt, rt.alloc(), none.as_str(), &ARRAY_CHANGES)
+}
+
+#[test]
+fn later_faults(rt: HostRuntime) -> Result<(), Fail> {
+    let one = with_markets(rt.alloc(), 1)?;
+    for (from, to, second, first) in TWO_FAULTS.iter() {
+        let text = changed(rt.alloc(), one.as_str(), from, to)?;
+        faults_are(&rt, rt.alloc(), to, text.as_str(), second, first)?;
+    }
+    Ok(())
+}
+
+#[test]
+fn many_markets(rt: HostRuntime) -> Result<(), Fail> {
+    let most = with_markets(rt.alloc(), 200)?;
+    let wanted = "5 TwoNames region[0].market[1].item";
+    faults_are(&rt, rt.alloc(), "most", most.as_str(), wanted, "none")?;
+    let more = with_markets(rt.alloc(), 201)?;
+    let wanted = "4 OutOfRange region[0].market";
+    faults_are(&rt, rt.alloc(), "more", more.as_str(), wanted, "none")
+}
+
 const REGION: &str = "[[region]]
 number = 1
 name = \"Vale\"
@@ -143,7 +202,7 @@ const REPEATED: [(&str, usize, &str); 11] = [
 fn fault_repeated(alloc: Global, piece: &str, times: usize) -> Result<Text, Fail> {
     let more = piece.repeat(alloc, times)?;
     let text = small_with(alloc, more.as_str())?;
-    fault(alloc, text.as_str())
+    fault(alloc, Format::Second, text.as_str())
 }
 
 fn repeated_are(rt: &impl Abort, alloc: Global, rows: &[(&str, usize, &str)]) -> Result<(), Fail> {
@@ -239,7 +298,7 @@ fn nested(alloc: Global, nest: &Nest, depth: usize) -> Result<String, Fail> {
 fn fault_nested(alloc: Global, nest: &Nest, depth: usize) -> Result<Text, Fail> {
     let more = nested(alloc, nest, depth)?;
     let text = small_with(alloc, more.as_str())?;
-    fault(alloc, text.as_str())
+    fault(alloc, Format::Second, text.as_str())
 }
 
 fn nested_are(rt: &impl Abort, alloc: Global, rows: &[(Nest, usize, &str)]) -> Result<(), Fail> {
@@ -255,7 +314,7 @@ fn twice_nested(alloc: Global) -> Result<Text, Fail> {
     let header = nested(alloc, &HEADER, 79)?;
     let key = nested(alloc, &DOTTED, 79)?;
     let text = format!(in alloc; "{SMALL}{header}{key}")?;
-    fault(alloc, text.as_str())
+    fault(alloc, Format::Second, text.as_str())
 }
 
 #[test]
@@ -265,14 +324,10 @@ fn nested_texts(rt: HostRuntime) -> Result<(), Fail> {
     Ok(())
 }
 
-fn fault_is(rt: &impl Abort, alloc: Global, text: &str, wanted: &str) -> Result<(), Fail> {
-    let told = fault(alloc, text)?;
-    row_is(rt, text, told.as_str(), wanted);
-    Ok(())
-}
-
 #[test]
 fn texts_of_no_world(rt: HostRuntime) -> Result<(), Fail> {
-    fault_is(&rt, rt.alloc(), "a = = b", "1 NotToml")?;
-    fault_is(&rt, rt.alloc(), "", "2 Missing rules")
+    let wanted = "1 NotToml";
+    faults_are(&rt, rt.alloc(), "no toml", "a = = b", wanted, wanted)?;
+    let wanted = "2 Missing rules";
+    faults_are(&rt, rt.alloc(), "nothing", "", wanted, wanted)
 }

@@ -1,6 +1,6 @@
 //! The numbers of a world file with a range of their own: missing, of another type, and at the limits of their ranges.
 use super::faults::change_is;
-use super::worlds::{MORE, small_with};
+use super::worlds::{MORE, small_with, with_markets};
 use std::alloc::Global;
 use std::process::Abort;
 use std::test::Fail;
@@ -40,6 +40,14 @@ const OPTIONAL: [Range; 4] = [
     ("item[0].raw_count", "carry = 0", 1, 1_000),
     ("kind[0].capacity", "level = 1", 0, 999_999_999),
     ("kind[0].crew", "level = 1", 0, 999_999),
+];
+
+/// Those of a market, which the world has before its other things.
+const OF_MARKET: [Range; 4] = [
+    ("region[0].market[0].price", "7", 1, 1_000_000),
+    ("region[0].market[0].pays", "5", 1, 1_000_000),
+    ("region[0].market[0].limit", "30", 0, 999_999_999),
+    ("region[0].market[0].restock", "20", 0, 999_999_999),
 ];
 
 /// Asserts that a key is refused where its number is no whole one. The text has it behind `front` in the place of `from`.
@@ -90,7 +98,7 @@ fn has_range(
 
 /// The key that a path ends with.
 fn key_of(row: &Range) -> Result<&'static str, Fail> {
-    match row.0.split_once(".") {
+    match row.0.rsplit_once(".") {
         Some((_, key)) => Ok(key),
         None => Err(Fail::new("no key")),
     }
@@ -131,6 +139,12 @@ fn are_optional(rt: &impl Abort, alloc: Global, text: &str, rows: &[Range]) -> R
 fn needed_numbers(rt: HostRuntime) -> Result<(), Fail> {
     let all = small_with(rt.alloc(), MORE)?;
     are_needed(&rt, rt.alloc(), all.as_str(), &NEEDED)
+}
+
+#[test]
+fn market_numbers(rt: HostRuntime) -> Result<(), Fail> {
+    let all = with_markets(rt.alloc(), 1)?;
+    are_needed(&rt, rt.alloc(), all.as_str(), &OF_MARKET)
 }
 
 #[test]

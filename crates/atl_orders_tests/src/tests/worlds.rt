@@ -1,5 +1,5 @@
 //! The worlds that the tests read.
-use atl_tables::{Text, World, WorldFault, read_world};
+use atl_tables::{Format, Text, World, WorldFault, read_old_world, read_world};
 use atl_test_worlds::SMALL;
 use std::alloc::Global;
 use std::test::Fail;
@@ -19,6 +19,15 @@ material = "wood"
 size = 20
 skill = "carpentry"
 level = 1
+"#;
+
+/// A market of the region before it.
+pub(crate) const MARKET: &str = r#"[[region.market]]
+item = "wood"
+price = 7
+pays = 5
+limit = 30
+restock = 20
 "#;
 
 /// What the orders of the tests name.
@@ -50,15 +59,29 @@ pub(crate) fn small_with(alloc: Global, more: &str) -> Result<String, Fail> {
     Ok(format!(in alloc; "{SMALL}{more}")?)
 }
 
+/// The small world with so many markets, and with more after it.
+pub(crate) fn with_markets(alloc: Global, count: usize) -> Result<String, Fail> {
+    let markets = MARKET.repeat(alloc, count)?;
+    Ok(format!(in alloc; "{SMALL}{markets}{MORE}")?)
+}
+
 /// The world that the small one and more after it say.
 pub(crate) fn world_with(alloc: Global, more: &str) -> Result<World, Fail> {
     let text = small_with(alloc, more)?;
     Ok(read_world(alloc, text.as_str())?)
 }
 
-/// The first fault of a text, as a program prints it, and of a world `none`.
-pub(crate) fn fault(alloc: Global, text: &str) -> Result<Text, Fail> {
-    let fault = read_world(alloc, text).err();
+/// The world of a text in a format.
+fn read_in(alloc: Global, format: Format, text: &str) -> Result<World, WorldFault> {
+    match format {
+        Format::First => read_old_world(alloc, text),
+        Format::Second => read_world(alloc, text),
+    }
+}
+
+/// The first fault of a text in a format, as a program prints it, and of a world `none`.
+pub(crate) fn fault(alloc: Global, format: Format, text: &str) -> Result<Text, Fail> {
+    let fault = read_in(alloc, format, text).err();
     text_of(alloc, fault.as_ref())
 }
 
@@ -70,13 +93,10 @@ fn text_of(alloc: Global, fault: Option<&WorldFault>) -> Result<Text, Fail> {
     }
 }
 
-/// The first fault of a text with one piece replaced.
-pub(crate) fn fault_with(alloc: Global, text: &str, from: &str, to: &str) -> Result<Text, Fail> {
+/// A text with one piece replaced.
+pub(crate) fn changed(alloc: Global, text: &str, from: &str, to: &str) -> Result<String, Fail> {
     match text.split_once(from) {
-        None => Ok(Text::from_str(alloc, "no such piece")?),
-        Some((before, after)) => {
-            let changed = format!(in alloc; "{before}{to}{after}")?;
-            fault(alloc, changed.as_str())
-        }
+        None => Err(Fail::new("no such piece")),
+        Some((before, after)) => Ok(format!(in alloc; "{before}{to}{after}")?),
     }
 }

@@ -5,7 +5,7 @@ use atl_state::parts::{
     StoredStructure, StoredUnit,
 };
 use atl_state::{Campaign, CheckFault, check};
-use atl_tables::{Sequence, Text, World, read_world};
+use atl_tables::{Sequence, Text, World, read_old_world};
 use atl_test_worlds::ISLE;
 use std::alloc::Global;
 use std::process::Abort;
@@ -259,7 +259,7 @@ fn tells(rt: &impl Abort, alloc: Global, world: &World) -> Result<(), Fail> {
 
 #[test]
 fn the_first_broken_rule_is_told(rt: HostRuntime) -> Result<(), Fail> {
-    let world = read_world(rt.alloc(), ISLE)?;
+    let world = read_old_world(rt.alloc(), ISLE)?;
     tells(&rt, rt.alloc(), &world)
 }
 
@@ -293,6 +293,6 @@ fn is_checked(rt: &impl Abort, alloc: Global, world: &World) -> Result<(), Fail>
 
 #[test]
 fn rows_give_the_campaign_again(rt: HostRuntime) -> Result<(), Fail> {
-    let world = read_world(rt.alloc(), ISLE)?;
+    let world = read_old_world(rt.alloc(), ISLE)?;
     is_checked(&rt, rt.alloc(), &world)
 }

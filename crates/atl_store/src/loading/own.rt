@@ -11,7 +11,7 @@ use crate::rows::campaign::{StoredCampaign, select_campaign};
 use crate::rows::stored::parse_rows;
 use atl_state::Rule;
 use atl_state::parts::StoredHead;
-use atl_tables::{World, WorldFault, read_world};
+use atl_tables::{World, WorldFault, read_old_world};
 use sqlite::{Alter, Connection, Row};
 use std::alloc::Global;
 
@@ -45,7 +45,7 @@ fn is_own(head: &StoredHead) -> bool
 fn world_from(alloc: Global, text: &str) -> Result<World, StoreFault>
     ensures { ReadsWorld text.now result }
 {
-    match read_world(alloc, text) {
+    match read_old_world(alloc, text) {
         Ok(world) => Ok(world),
         Err(WorldFault::Memory) => Err(StoreFault::Memory),
         Err(_) => Err(StoreFault::Damaged(Rule::OneRow)),

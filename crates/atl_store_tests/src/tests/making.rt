@@ -7,7 +7,7 @@ ghost use Rattle.atl_store.specs.Arriving.{HasArrival};
 
 use atl_state::{Campaign, founded};
 use atl_store::{create, write_join, write_mail};
-use atl_tables::{Text, World, read_world};
+use atl_tables::{Text, World, read_old_world};
 use atl_test_worlds::SMALL;
 use sqlite::{Alter, Connection, MemStore};
 use std::alloc::Global;
@@ -21,7 +21,7 @@ fn founded_in(alloc: Global, world: &World) -> Result<Campaign, Fail>
 
 /// The campaign as it is founded.
 pub(crate) fn small(alloc: Global) -> Result<Campaign, Fail> {
-    let world = read_world(alloc, SMALL)?;
+    let world = read_old_world(alloc, SMALL)?;
     founded_in(alloc, &world)
 }
 
@@ -43,7 +43,7 @@ fn joined_in(alloc: Global, world: &World) -> Result<Campaign, Fail> {
 
 /// The campaign once Avalon has joined and has its first report.
 pub(crate) fn joined(alloc: Global) -> Result<Campaign, Fail> {
-    let world = read_world(alloc, SMALL)?;
+    let world = read_old_world(alloc, SMALL)?;
     joined_in(alloc, &world)
 }
 

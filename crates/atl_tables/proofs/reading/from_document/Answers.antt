@@ -7,10 +7,10 @@ pub returns-in_err-all : goal.returns-in_err-all
 unfolding conditions
 returns-in_err-all c =
     let doc = table_view c.args.document.now in
-    exits _ _ _ _ _ c.from_residual.ensures.1 (stops_on c.in_err-all.field-0.0 (keys_are_good doc) (table_conditions (tables_of doc)) c.in_err-all.ensures.value)
+    exits _ _ _ _ _ c.from_residual.ensures.1 (stops_on c.in_err-all.field-0.0 (keys_are_good c.args.format doc) (table_conditions (tables_of c.args.format doc)) c.in_err-all.ensures.value)
 
 pub returns : goal.returns
 unfolding conditions
 returns c =
     let doc = table_view c.args.document.now in
-    gives_after (λ w. w) c.from_tables.result (keys_are_good doc) (table_conditions (tables_of doc)) (planet_of (tables_of doc)) c.in_ok-all.ensures.value.0 (rw c.in_ok-all.ensures.value.1 c.from_tables.ensures)
+    gives_after (λ w. w) c.from_tables.result (keys_are_good c.args.format doc) (table_conditions (tables_of c.args.format doc)) (planet_of (tables_of c.args.format doc)) c.in_ok-all.ensures.value.0 (rw c.in_ok-all.ensures.value.1 c.from_tables.ensures)

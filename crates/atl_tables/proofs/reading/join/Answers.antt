@@ -5,7 +5,7 @@ use Rattle.atl_tables.specs.Faults.{Conditions, first_fault}
 use Rattle.atl_tables.specs.Given.{Gives}
 use Rattle.atl_tables.specs.Parts.{parts_of, ArePartsOf}
 use Rattle.atl_tables.specs.Planet.{Planet, IsWorld, land_of}
-use Rattle.atl_tables.specs.Regions.{by_number}
+use Rattle.atl_tables.specs.Sums.{by_number}
 use Rattle.atl_tables.specs.World.{neighbours_are_mutual, is_some_land, planet_of, regions_of}
 use Rattle.atl_tables.specs.declared.reading.Parts.{Parts}
 use Rattle.atl_tables.specs.declared.tables.Tables.{Tables}
@@ -17,9 +17,9 @@ use Rattle.atl_tables.proofs.reading.join.Goals as goal
 abbrev land : Tables → Conditions
 land all = is_some_land (land_of (planet_of all))
 
-regions_are : (all : Tables) (p : Parts) (plans : List RegionPlan) → p ≡ parts_of all → plans ≡ p.regions → by_number plans ≡ regions_of all
+regions_are : (all : Tables) (p : Parts) (plans : List RegionPlan) → p ≡ parts_of all → plans ≡ p.regions → by_number (λ r. r.number) plans ≡ regions_of all
 unfolding regions_of
-regions_are all p plans e q = ap by_number (q ∙ ap (λ (x : Parts). x.regions) e)
+regions_are all p plans e q = ap (by_number (λ r. r.number)) (q ∙ ap (λ (x : Parts). x.regions) e)
 
 abbrev made_of : Tables → Parts → FinMap nat_cmp RegionPlan → Planet
 made_of all p regions = record { rules = p.rules; terrains = p.terrains; items = p.items; skills = all.skills; kinds = p.kinds; regions = regions }

@@ -1,25 +1,13 @@
-use Rattle.std.proofs.Common.{◌++◌, codes}
+use Rattle.std.proofs.Common.{◌++◌}
 use Rattle.atl_tables.specs.Each.{each}
 use Rattle.atl_tables.specs.Faults.{Conditions}
+use Rattle.atl_tables.specs.RegionTable.{market_twins}
 use Rattle.atl_tables.specs.Regions.{twin_numbers}
 use Rattle.atl_tables.specs.TerrainTable.{terrain_twins}
-use Rattle.atl_tables.specs.Titles.{twins}
-use Rattle.atl_tables.specs.World.{names_differ}
+use Rattle.atl_tables.specs.World.{titles_differ, names_differ}
 use Rattle.atl_tables.specs.declared.tables.Tables.{Tables}
 use Rattle.atl_tables.proofs.FaultLaws.{exits, stops_on, stops_after, gives_after}
 use Rattle.atl_tables.proofs.reading.names_differ.Goals as goal
-
-abbrev terrains : Tables → Conditions
-terrains all = twins (λ d. d.name) (codes "terrain") (codes "name") all.terrains
-
-abbrev items : Tables → Conditions
-items all = twins (λ d. d.name) (codes "item") (codes "name") all.items
-
-abbrev skills : Tables → Conditions
-skills all = twins (λ s. s.name) (codes "skill") (codes "name") all.skills
-
-abbrev kinds : Tables → Conditions
-kinds all = twins (λ d. d.name) (codes "kind") (codes "name") all.kinds
 
 abbrev numbers : Tables → Conditions
 numbers all = twin_numbers all.regions
@@ -27,43 +15,34 @@ numbers all = twin_numbers all.regions
 abbrev outputs : Tables → Conditions
 outputs all = each terrain_twins 0 all.terrains
 
-pub returns-in_err-no_twins : goal.returns-in_err-no_twins
-unfolding names_differ
-returns-in_err-no_twins c =
-    let t = c.args.all.now in
-    let e = c.in_err-no_twins.field-0.0 in
-    exits _ _ _ _ _ c.from_residual.ensures.1 (stops_on e (terrains t) (items t ++ (skills t ++ (kinds t ++ (numbers t ++ outputs t)))) (rw c.as_slice.ensures at c.in_err-no_twins.ensures))
+abbrev markets : Tables → Conditions
+markets all = each market_twins 0 all.regions
 
-pub returns-in_err-no_twins-2 : goal.returns-in_err-no_twins-2
+pub returns-in_err-titles_differ : goal.returns-in_err-titles_differ
 unfolding names_differ
-returns-in_err-no_twins-2 c =
+returns-in_err-titles_differ c =
     let t = c.args.all.now in
-    let e = c.in_err-no_twins-2.field-0.0 in
-    exits _ _ _ _ _ c.from_residual-in_err-no_twins-2.ensures.1 (stops_after e (terrains t) (items t ++ (skills t ++ (kinds t ++ (numbers t ++ outputs t)))) (rw c.as_slice.ensures at c.in_ok-no_twins.ensures.0) (stops_on e (items t) (skills t ++ (kinds t ++ (numbers t ++ outputs t))) (rw c.as_slice-2.ensures at c.in_err-no_twins-2.ensures)))
-
-pub returns-in_err-no_twins-3 : goal.returns-in_err-no_twins-3
-unfolding names_differ
-returns-in_err-no_twins-3 c =
-    let t = c.args.all.now in
-    let e = c.in_err-no_twins-3.field-0.0 in
-    exits _ _ _ _ _ c.from_residual-in_err-no_twins-3.ensures.1 (stops_after e (terrains t) (items t ++ (skills t ++ (kinds t ++ (numbers t ++ outputs t)))) (rw c.as_slice.ensures at c.in_ok-no_twins.ensures.0) (stops_after e (items t) (skills t ++ (kinds t ++ (numbers t ++ outputs t))) (rw c.as_slice-2.ensures at c.in_ok-no_twins-2.ensures.0) (stops_on e (skills t) (kinds t ++ (numbers t ++ outputs t)) (rw c.as_slice-3.ensures at c.in_err-no_twins-3.ensures))))
-
-pub returns-in_err-no_twins-4 : goal.returns-in_err-no_twins-4
-unfolding names_differ
-returns-in_err-no_twins-4 c =
-    let t = c.args.all.now in
-    let e = c.in_err-no_twins-4.field-0.0 in
-    exits _ _ _ _ _ c.from_residual-in_err-no_twins-4.ensures.1 (stops_after e (terrains t) (items t ++ (skills t ++ (kinds t ++ (numbers t ++ outputs t)))) (rw c.as_slice.ensures at c.in_ok-no_twins.ensures.0) (stops_after e (items t) (skills t ++ (kinds t ++ (numbers t ++ outputs t))) (rw c.as_slice-2.ensures at c.in_ok-no_twins-2.ensures.0) (stops_after e (skills t) (kinds t ++ (numbers t ++ outputs t)) (rw c.as_slice-3.ensures at c.in_ok-no_twins-3.ensures.0) (stops_on e (kinds t) (numbers t ++ outputs t) (rw c.as_slice-4.ensures at c.in_err-no_twins-4.ensures)))))
+    let e = c.in_err-titles_differ.field-0.0 in
+    exits _ _ _ _ _ c.from_residual.ensures.1 (stops_on e (titles_differ t) (numbers t ++ (outputs t ++ markets t)) c.in_err-titles_differ.ensures)
 
 pub returns-in_err-no_twin_numbers : goal.returns-in_err-no_twin_numbers
 unfolding names_differ
 returns-in_err-no_twin_numbers c =
     let t = c.args.all.now in
     let e = c.in_err-no_twin_numbers.field-0.0 in
-    exits _ _ _ _ _ c.from_residual-in_err-no_twin_numbers.ensures.1 (stops_after e (terrains t) (items t ++ (skills t ++ (kinds t ++ (numbers t ++ outputs t)))) (rw c.as_slice.ensures at c.in_ok-no_twins.ensures.0) (stops_after e (items t) (skills t ++ (kinds t ++ (numbers t ++ outputs t))) (rw c.as_slice-2.ensures at c.in_ok-no_twins-2.ensures.0) (stops_after e (skills t) (kinds t ++ (numbers t ++ outputs t)) (rw c.as_slice-3.ensures at c.in_ok-no_twins-3.ensures.0) (stops_after e (kinds t) (numbers t ++ outputs t) (rw c.as_slice-4.ensures at c.in_ok-no_twins-4.ensures.0) (stops_on e (numbers t) (outputs t) (rw c.as_slice-5.ensures at c.in_err-no_twin_numbers.ensures))))))
+    exits _ _ _ _ _ c.from_residual-in_err-no_twin_numbers.ensures.1 (stops_after e (titles_differ t) (numbers t ++ (outputs t ++ markets t)) c.in_ok-titles_differ.ensures.0 (stops_on e (numbers t) (outputs t ++ markets t) (rw c.as_slice.ensures at c.in_err-no_twin_numbers.ensures)))
+
+pub returns-in_err-no_twins_within : goal.returns-in_err-no_twins_within
+unfolding names_differ
+returns-in_err-no_twins_within c =
+    let t = c.args.all.now in
+    let e = c.in_err-no_twins_within.field-0.0 in
+    exits _ _ _ _ _ c.from_residual-in_err-no_twins_within.ensures.1 (stops_after e (titles_differ t) (numbers t ++ (outputs t ++ markets t)) c.in_ok-titles_differ.ensures.0 (stops_after e (numbers t) (outputs t ++ markets t) (rw c.as_slice.ensures at c.in_ok-no_twin_numbers.ensures.0) (stops_on e (outputs t) (markets t) (rw c.as_slice-2.ensures at c.in_err-no_twins_within.ensures))))
 
 pub returns : goal.returns
 unfolding names_differ
 returns c =
     let t = c.args.all.now in
-    (gives_after (λ u. u) c.no_twins_in_outputs.result (terrains t) (items t ++ (skills t ++ (kinds t ++ (numbers t ++ outputs t)))) (tt {0}) (rw c.as_slice.ensures at c.in_ok-no_twins.ensures.0) (gives_after (λ u. u) c.no_twins_in_outputs.result (items t) (skills t ++ (kinds t ++ (numbers t ++ outputs t))) (tt {0}) (rw c.as_slice-2.ensures at c.in_ok-no_twins-2.ensures.0) (gives_after (λ u. u) c.no_twins_in_outputs.result (skills t) (kinds t ++ (numbers t ++ outputs t)) (tt {0}) (rw c.as_slice-3.ensures at c.in_ok-no_twins-3.ensures.0) (gives_after (λ u. u) c.no_twins_in_outputs.result (kinds t) (numbers t ++ outputs t) (tt {0}) (rw c.as_slice-4.ensures at c.in_ok-no_twins-4.ensures.0) (gives_after (λ u. u) c.no_twins_in_outputs.result (numbers t) (outputs t) (tt {0}) (rw c.as_slice-5.ensures at c.in_ok-no_twin_numbers.ensures.0) (rw c.as_slice-6.ensures at c.no_twins_in_outputs.ensures))))))
+    gives_after (λ u. u) c.no_twins_within-2.result (titles_differ t) (numbers t ++ (outputs t ++ markets t)) (tt {0}) c.in_ok-titles_differ.ensures.0
+    (gives_after (λ u. u) c.no_twins_within-2.result (numbers t) (outputs t ++ markets t) (tt {0}) (rw c.as_slice.ensures at c.in_ok-no_twin_numbers.ensures.0)
+    (gives_after (λ u. u) c.no_twins_within-2.result (outputs t) (markets t) (tt {0}) (rw c.as_slice-2.ensures at c.in_ok-no_twins_within.ensures.0) (rw c.as_slice-3.ensures at c.no_twins_within-2.ensures)))

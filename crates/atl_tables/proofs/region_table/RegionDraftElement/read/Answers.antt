@@ -1,5 +1,6 @@
-use Rattle.std.proofs.Common.{refl}
-use Rattle.atl_tables.specs.RegionTable.{region_keys, region_from}
+use Rattle.std.proofs.Common.{refl, ap}
+use Rattle.atl_tables.specs.RegionTable.{old_region_from, region_keys, region_from}
+use Rattle.atl_tables.specs.declared.region_table.OldRegion.{OldRegion}
 use Rattle.atl_tables.proofs.FaultLaws.{exits, stops_here}
 use Rattle.atl_tables.proofs.region_table.RegionDraftElement.read.Goals as goal
 
@@ -7,10 +8,13 @@ pub returns-in_err-place-clause-value : goal.returns-in_err-place-clause-value
 unfolding region_keys region_from
 returns-in_err-place-clause-value c = exits _ _ _ _ _ c.from_residual.ensures.1 (stops_here c.in_err-place.field-0.0 _ _ c.in_err-place.ensures.value)
 
-pub returns-in_err-sides-clause-value : goal.returns-in_err-sides-clause-value
+pub returns-in_err-markets-clause-value : goal.returns-in_err-markets-clause-value
 unfolding region_keys region_from
-returns-in_err-sides-clause-value c = rw c.in_ok-place.ensures.value.0 (exits _ _ _ _ _ c.from_residual-in_err-sides.ensures.1 c.in_err-sides.ensures)
+returns-in_err-markets-clause-value c = rw c.in_ok-place.ensures.value.0 (exits _ _ _ _ _ c.from_residual-in_err-markets.ensures.1 c.in_err-markets.ensures.value)
 
 pub returns-clause-value : goal.returns-clause-value
-unfolding region_keys region_from
-returns-clause-value c = rw (c.in_ok-place.ensures.value.0, c.in_ok-place.ensures.value.1, c.in_ok-sides.ensures.0, c.in_ok-sides.ensures.1) (refl, refl)
+unfolding region_keys region_from old_region_from
+returns-clause-value c =
+    let place = ap (λ (r : OldRegion). r.place) c.in_ok-place.ensures.value.1 in
+    let sides = ap (λ (r : OldRegion). r.sides) c.in_ok-place.ensures.value.1 in
+    rw (c.in_ok-place.ensures.value.0, place, sides, c.in_ok-markets.ensures.value.0, c.in_ok-markets.ensures.value.1) (refl, refl)

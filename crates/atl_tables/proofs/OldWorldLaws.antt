@@ -1,0 +1,56 @@
+-- A world that the first format reads has no markets.
+use Rattle.std.proofs.Common.{◌≡◌, ℕ, zero, suc, List, [], ◌∷◌, map, Option, Some, None, option_map, Ok, refl, sym, ap, subst, ◌∙◌}
+use Rattle.std.specs.Cmp.{nat_cmp_total}
+use Rattle.std.specs.FinMap.{FinMap, get, same_map, nat_cmp-IsAntisymmetric}
+use Rattle.std.specs.Ordering.{nat_cmp}
+use Rattle.toml.specs.Data.{Members}
+use Rattle.toml.specs.Parse.{parse_document}
+use Rattle.atl_tables.specs.Faults.{first_fault, unless}
+use Rattle.atl_tables.specs.Places.{EachPlace}
+use Rattle.atl_tables.specs.Planet.{Planet, without_market, without_markets}
+use Rattle.atl_tables.specs.RegionTable.{as_draft, region_of}
+use Rattle.atl_tables.specs.Sums.{mapped}
+use Rattle.atl_tables.specs.World.{conditions, world_by, old_world_of, planet_of, regions_in, regions_of, tables_of, world_in}
+use Rattle.atl_tables.specs.declared.fault.WorldFault.{WorldFault}
+use Rattle.atl_tables.specs.declared.format.Format.TheVariants.{First}
+use Rattle.atl_tables.specs.declared.region_table.OldRegion.{OldRegion}
+use Rattle.atl_tables.specs.declared.tables.Tables.{Tables}
+use Rattle.atl_tables.specs.declared.world.RegionPlan.{RegionPlan}
+use Rattle.atl_tables.proofs.MadeLaws.{get-mapped}
+use Rattle.atl_tables.proofs.PlacedLaws.{at_number}
+
+unchanged : {V : Type 0} (f : V → V) (o : Option V) → ((v : V) → o ≡ Some v → f v ≡ v) → option_map f o ≡ o
+unchanged f None same = refl
+unchanged f (Some v) same = ap Some (same v refl)
+
+-- a map where f changes no value
+mapped_same : {V : Type 0} (f : V → V) (m : FinMap nat_cmp V) → ((n : ℕ) (v : V) → get m n ≡ Some v → f v ≡ v) → mapped f m ≡ m
+mapped_same f m same = same_map nat_cmp_total nat_cmp-IsAntisymmetric _ _ (λ n. get-mapped f m n ∙ unchanged f (get m n) (same n))
+
+module _ (all : Tables) where
+  bare_plans : (rs : List OldRegion) → EachPlace (λ i p. without_market p ≡ p) (map (region_of all) (map as_draft rs))
+  unfolding region_of
+  bare_plans [] i p h = absurd (cc)
+  bare_plans (r ∷ rs) zero p h = let same : region_of all (as_draft r) ≡ p = cc in subst (λ (q : RegionPlan). without_market q ≡ q) same refl
+  bare_plans (r ∷ rs) (suc i) p h = bare_plans rs i p h
+
+  bare : (rs : List OldRegion) → all.regions ≡ map as_draft rs → without_markets (planet_of all) ≡ planet_of all
+  unfolding planet_of regions_of
+  bare rs read =
+      let plans = subst (λ ds. EachPlace (λ i p. without_market p ≡ p) (map (region_of all) ds)) (sym read) (bare_plans rs) in
+      ap (λ m. record (planet_of all) { regions = m }) (mapped_same without_market (regions_of all) (at_number (λ (p : RegionPlan). p.number) (λ n p. without_market p ≡ p) (map (region_of all) all.regions) plans))
+
+given : (fault : Option WorldFault) (x w : Planet) → unless fault x ≡ Ok w → x ≡ w
+given None x w h = cc
+given (Some f) x w h = absurd (cc)
+
+in_document : (o : Option Members) (w : Planet) → world_in First o ≡ Ok w → without_markets w ≡ w
+unfolding tables_of regions_in
+in_document None w h = absurd (cc)
+in_document (Some doc) w h =
+    let all = tables_of First doc in
+    subst (λ (x : Planet). without_markets x ≡ x) (given (first_fault (conditions First doc)) (planet_of all) w h) (bare all _ refl)
+
+pub old_has_no_markets : (text : List ℕ) (w : Planet) → old_world_of text ≡ Ok w → without_markets w ≡ w
+unfolding world_by
+old_has_no_markets text w h = in_document (parse_document text) w h

@@ -1,0 +1,25 @@
+-- Maps of regions with their markets left out, entry by entry.
+use Rattle.std.proofs.Common.{◌≡◌, ℕ, List, ◌∷◌, map, sym, ap, ◌∙◌}
+use Rattle.std.specs.FinMap.{FinMap, entries, same_entries_map}
+use Rattle.std.specs.Ordering.{nat_cmp}
+use Rattle.atl_tables.specs.Planet.{without_market}
+use Rattle.atl_tables.specs.Sums.{mapped}
+use Rattle.atl_tables.specs.declared.world.RegionPlan.{RegionPlan}
+use Rattle.atl_tables.proofs.MadeLaws.{entries-mapped}
+
+abbrev pub bare : List (ℕ × RegionPlan) → List (ℕ × RegionPlan)
+bare es = map (λ e. (e.0, without_market e.1)) es
+
+module _ (m n : FinMap nat_cmp RegionPlan) where
+  pub same_maps : bare (entries m) ≡ bare (entries n) → mapped without_market m ≡ mapped without_market n
+  same_maps same = same_entries_map _ _ (entries-mapped without_market m ∙ same ∙ sym (entries-mapped without_market n))
+
+  pub same_entries : mapped without_market m ≡ mapped without_market n → bare (entries m) ≡ bare (entries n)
+  same_entries same = sym (entries-mapped without_market m) ∙ ap entries same ∙ entries-mapped without_market n
+
+module _ (k n : ℕ) (p q : RegionPlan) (es fs : List (ℕ × RegionPlan)) where
+  pub same_rest : bare ((k, p) ∷ es) ≡ bare ((n, q) ∷ fs) → bare es ≡ bare fs
+  same_rest same = cc
+
+  pub one_more : k ≡ n → without_market p ≡ without_market q → bare es ≡ bare fs → bare ((k, p) ∷ es) ≡ bare ((n, q) ∷ fs)
+  one_more number plan rest = cc

@@ -1,0 +1,76 @@
+-- A table `[[region.market]]`: its keys in order, with their ranges, and the market that they give.
+use Rattle.std.specs.Prelude.{ℕ, List, [], ◌∷◌, codes, map, unwrap_or}
+use Rattle.std.specs.FinMap.{FinMap}
+use Rattle.std.specs.Ordering.{nat_cmp}
+use Rattle.toml.specs.Data.{Members}
+use Rattle.atl_tables.specs.Arrays.{list_conditions, list_of}
+use Rattle.atl_tables.specs.Faults.{Conditions, fault_of, value_or}
+use Rattle.atl_tables.specs.Keys.{Key, path, number_at, text_at, optional_array_at}
+use Rattle.atl_tables.specs.Limits.{most_amount, most_markets, most_price}
+use Rattle.atl_tables.specs.Sums.{by_number}
+use Rattle.atl_tables.specs.Titles.{known, item_number, twins}
+use Rattle.atl_tables.specs.declared.market_table.MarketDraft.{MarketDraft}
+use Rattle.atl_tables.specs.declared.tables.Tables.{Tables}
+use Rattle.atl_tables.specs.declared.world.Market.{Market}
+
+abbrev pub price_at : Key ℕ
+price_at = number_at 1 most_price (codes "price")
+
+abbrev pub pays_at : Key ℕ
+pays_at = number_at 1 most_price (codes "pays")
+
+abbrev pub limit_at : Key ℕ
+limit_at = number_at 0 most_amount (codes "limit")
+
+abbrev pub restock_at : Key ℕ
+restock_at = number_at 0 most_amount (codes "restock")
+
+unfoldable pub market_keys : List ℕ → Members → Conditions
+market_keys at t =
+    fault_of (text_at (codes "item") at t)
+    ∷ fault_of (price_at at t)
+    ∷ fault_of (pays_at at t)
+    ∷ fault_of (limit_at at t)
+    ∷ fault_of (restock_at at t)
+    ∷ []
+
+unfoldable pub market_from : List ℕ → Members → MarketDraft
+market_from at t = record {
+  place = at;
+  item = value_or [] (text_at (codes "item") at t);
+  price = value_or 0 (price_at at t);
+  pays = value_or 0 (pays_at at t);
+  limit = value_or 0 (limit_at at t);
+  restock = value_or 0 (restock_at at t);
+}
+
+-- the markets of the region at a path, which may be missing
+abbrev pub market_path : List ℕ → List ℕ
+market_path at = path at (codes "market")
+
+unfoldable pub markets_keys : List ℕ → Members → Conditions
+markets_keys at t = list_conditions market_keys (market_path at) (optional_array_at most_markets (market_path at) (codes "market") t)
+
+unfoldable pub markets_from : List ℕ → Members → List MarketDraft
+markets_from at t = list_of market_from (market_path at) (optional_array_at most_markets (market_path at) (codes "market") t)
+
+-- no two of them are of one item
+abbrev pub item_twins : List ℕ → List MarketDraft → Conditions
+item_twins at ds = twins (λ d. d.item) (market_path at) (codes "item") ds
+
+-- the item's name stands for an item
+unfoldable pub market_known : Tables → MarketDraft → Conditions
+market_known all d = known (path d.place (codes "item")) (item_number all d.item) ∷ []
+
+unfoldable pub market_of : Tables → MarketDraft → Market
+market_of all d = record {
+  item = unwrap_or (item_number all d.item) 0;
+  price = d.price;
+  pays = d.pays;
+  limit = d.limit;
+  restock = d.restock;
+}
+
+-- the markets under the numbers of their items
+abbrev pub markets_of : Tables → List MarketDraft → FinMap nat_cmp Market
+markets_of all ds = by_number (λ m. m.item) (map (market_of all) ds)

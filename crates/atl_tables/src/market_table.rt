@@ -1,0 +1,126 @@
+//! The tables `[[region.market]]`.
+ghost use Rattle.std.specs.Prelude.{◌≡◌, ◌≤◌, IfOk, length};
+ghost use Rattle.std.specs.List.{All};
+ghost use Rattle.toml.specs.View.{table_view};
+ghost use Rattle.atl_tables.specs.Drafts.{IsMarketDraft};
+ghost use Rattle.atl_tables.specs.Faults.{first_fault};
+ghost use Rattle.atl_tables.specs.Given.{Gives};
+ghost use Rattle.atl_tables.specs.MarketTable.{market_keys, market_from, markets_keys, markets_from, market_known, market_of};
+ghost use Rattle.atl_tables.specs.Planet.{IsMarket};
+
+use crate::elements::{Element, optional_list};
+use crate::fault::WorldFault;
+use crate::keys::{self, path};
+use crate::let_go;
+use crate::limits::{MOST_AMOUNT, MOST_MARKETS, MOST_PRICE};
+use crate::placed::Placed;
+use crate::sequence::Sequence;
+use crate::tables::{Draft, Tables};
+use crate::text::Text;
+use crate::titled::{Titled, known};
+use crate::world::Market;
+use std::alloc::Global;
+use toml::Table;
+
+/// A market, with its item by name.
+pub struct MarketDraft {
+    /// The path of its table, as `region[0].market[1]`.
+    pub place: Text,
+    /// The name of the item.
+    pub item: Text,
+    /// Money that one costs, from 1 to `MOST_PRICE`.
+    pub price: u32,
+    /// Money that one brings, from 1 to `MOST_PRICE`.
+    pub pays: u32,
+    /// The largest stock, at most `MOST_AMOUNT`.
+    pub limit: u32,
+    /// How much comes into the stock in a month, at most `MOST_AMOUNT`.
+    pub restock: u32,
+}
+
+impl Drop for MarketDraft {
+    fn drop(self) {
+        let_go!(self: MarketDraft { place, item, price, pays, limit, restock });
+    }
+}
+
+impl Element for MarketDraft {
+    ghost conditions = { market_keys };
+
+    ghost record_of = { market_from };
+
+    ghost is_sound = { IsMarketDraft };
+
+    #[tactic(auto, unfolding(crate::specs::MarketTable::market_keys, crate::specs::MarketTable::market_from))]
+    fn read(alloc: Global, at: &str, table: &Table) -> Result<MarketDraft, WorldFault> {
+        let item = keys::text(alloc, "item", at, table)?;
+        let price = keys::number(alloc, 1, MOST_PRICE, "price", at, table)?;
+        let pays = keys::number(alloc, 1, MOST_PRICE, "pays", at, table)?;
+        let limit = keys::number(alloc, 0, MOST_AMOUNT, "limit", at, table)?;
+        let restock = keys::number(alloc, 0, MOST_AMOUNT, "restock", at, table)?;
+        let place = Text::from_str(alloc, at)?;
+        Ok(MarketDraft {
+            place,
+            item,
+            price,
+            pays,
+            limit,
+            restock,
+        })
+    }
+}
+
+/// The markets of a region, or none where the file has none; else the first fault of them.
+#[tactic(auto, unfolding(crate::specs::MarketTable::markets_keys, crate::specs::MarketTable::markets_from))]
+pub(crate) fn markets(
+    alloc: Global,
+    at: &str,
+    table: &Table,
+) -> Result<Sequence<MarketDraft>, WorldFault>
+    ensures value { Gives (λ v. v) result (first_fault (markets_keys at.now (table_view table.now))) (markets_from at.now (table_view table.now)) }
+    ensures sound { IfOk result (λ v. All IsMarketDraft v) }
+{
+    let array = path(alloc, at, "market")?;
+    optional_list::<MarketDraft>(alloc, MOST_MARKETS, array.as_str(), "market", table)
+}
+
+impl Titled for MarketDraft {
+    ghost title_of = { λ d. d.item };
+
+    fn title(&self) -> &Text {
+        &self.item
+    }
+}
+
+impl Draft for MarketDraft {
+    type Record = Market;
+
+    ghost is_draft = { IsMarketDraft };
+
+    ghost unknown = { λ all i d. market_known all d };
+
+    ghost record_of = { market_of };
+
+    ghost is_sound = { λ all i m. IsMarket (length all.items) m.item m };
+
+    #[tactic(auto, unfolding(crate::specs::MarketTable::market_known, crate::specs::MarketTable::market_of))]
+    fn resolve(&self, alloc: Global, all: &Tables, _i: usize) -> Result<Market, WorldFault> {
+        let at = self.place.as_str();
+        let item = known(alloc, all.items.as_slice(), "item", at, &self.item)?;
+        Ok(Market {
+            item,
+            price: self.price,
+            pays: self.pays,
+            limit: self.limit,
+            restock: self.restock,
+        })
+    }
+}
+
+impl Placed for Market {
+    ghost place_of = { λ m. m.item };
+
+    fn place(&self) -> u32 {
+        u32::from(self.item)
+    }
+}

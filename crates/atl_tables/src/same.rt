@@ -1,0 +1,134 @@
+//! Whether two worlds are one, markets aside.
+ghost use Rattle.std.specs.Prelude.{◌≡◌};
+ghost use Rattle.std.specs.Bool.{Decides};
+ghost use Rattle.atl_tables.specs.Planet.{without_market, without_markets};
+ghost use Rattle.atl_tables.specs.Sums.{mapped};
+
+use crate::numbered::Numbered;
+use crate::world::{Item, Kind, RegionPlan, Rules, Skill, Terrain, World};
+
+/// What stands in a world under a number of its own.
+trait Thing: Drop {
+    fn is_same(&self, other: &Self) -> bool
+        ensures { Decides result (self.now ≡ other.now) };
+}
+
+fn are_same<T: Thing>(things: &[T], others: &[T]) -> bool
+    ensures { Decides result (things.now ≡ others.now) }
+{
+    if things.len() != others.len() {
+        return false;
+    }
+    for i in 0..things.len() {
+        if !things[i].is_same(&others[i]) {
+            return false;
+        }
+    }
+    true
+}
+
+impl Thing for Terrain {
+    fn is_same(&self, other: &Terrain) -> bool {
+        self.name.is_same(&other.name)
+            && self.land == other.land
+            && self.wage == other.wage
+            && self.places == other.places
+            && self.money_limit == other.money_limit
+            && self.peasant_limit == other.peasant_limit
+            && self.output.as_slice() == other.output.as_slice()
+    }
+}
+
+impl Thing for Item {
+    fn is_same(&self, other: &Item) -> bool {
+        self.name.is_same(&other.name)
+            && self.weight == other.weight
+            && self.carry == other.carry
+            && self.skill == other.skill
+            && self.level == other.level
+            && self.raw == other.raw
+            && self.raw_count == other.raw_count
+    }
+}
+
+impl Thing for Skill {
+    fn is_same(&self, other: &Skill) -> bool {
+        self.name.is_same(&other.name) && self.fee == other.fee
+    }
+}
+
+impl Thing for Kind {
+    fn is_same(&self, other: &Kind) -> bool {
+        self.name.is_same(&other.name)
+            && self.ship == other.ship
+            && self.material == other.material
+            && self.size == other.size
+            && self.skill == other.skill
+            && self.level == other.level
+            && self.capacity == other.capacity
+            && self.crew == other.crew
+            && self.helps == other.helps
+    }
+}
+
+fn are_same_rules(rules: &Rules, others: &Rules) -> bool
+    ensures { Decides result (rules.now ≡ others.now) }
+{
+    rules.maintenance == others.maintenance
+        && rules.tax_per_man == others.tax_per_man
+        && rules.recruit_price == others.recruit_price
+        && rules.recruit_fraction == others.recruit_fraction
+        && rules.growth == others.growth
+        && rules.income == others.income
+        && rules.start_money == others.start_money
+        && rules.man_weight == others.man_weight
+        && rules.man_carry == others.man_carry
+        && rules.observation == others.observation
+        && rules.stealth == others.stealth
+        && rules.sailing == others.sailing
+}
+
+fn is_same_region(plan: &RegionPlan, other: &RegionPlan) -> bool
+    ensures { Decides result (without_market plan.now ≡ without_market other.now) }
+{
+    plan.number == other.number
+        && plan.name.is_same(&other.name)
+        && plan.terrain == other.terrain
+        && plan.peasants == other.peasants
+        && plan.money == other.money
+        && plan.north == other.north
+        && plan.south == other.south
+        && plan.east == other.east
+        && plan.west == other.west
+}
+
+fn are_same_regions(plans: &Numbered<RegionPlan>, others: &Numbered<RegionPlan>) -> bool
+    ensures { Decides result (mapped without_market plans.now ≡ mapped without_market others.now) }
+{
+    let mut rest = others.iter();
+    for (number, plan) in plans.iter() {
+        match rest.next() {
+            None => return false,
+            Some((other_number, other)) => {
+                if number != other_number || !is_same_region(plan, other) {
+                    return false;
+                }
+            }
+        }
+    }
+    rest.next().is_none()
+}
+
+impl World {
+    /// Whether both are one world where the markets of all regions are left out.
+    pub fn differs_in_markets_alone(&self, other: &World) -> bool
+        ensures { Decides result (without_markets self.now ≡ without_markets other.now) }
+    {
+        are_same_rules(self.rules(), other.rules())
+            && are_same(self.terrains(), other.terrains())
+            && are_same(self.items(), other.items())
+            && are_same(self.skills(), other.skills())
+            && are_same(self.kinds(), other.kinds())
+            && are_same_regions(self.regions(), other.regions())
+    }
+}
