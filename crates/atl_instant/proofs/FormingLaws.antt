@@ -20,7 +20,7 @@ use Rattle.atl_state.specs.Held.{IsHolding}
 use Rattle.atl_state.specs.Marking.{mark_unit_begun}
 use Rattle.atl_state.specs.State.{Marked, State, with_unit_begun}
 use Rattle.atl_state.specs.Totals.{held, total}
-use Rattle.atl_state.proofs.CoverLaws.{apart_by, put_stays}
+use Rattle.atl_state.proofs.CoverLaws.{Goods, Row, Stays, Tells, Units, apart_by, part_by_part, put_stays}
 use Rattle.atl_state.proofs.EveryLaws.{every-empty, every-insert, get-insert_other, none_some, there-insert}
 use Rattle.atl_state.proofs.RemovedLaws.{none_passing}
 use Rattle.atl_state.proofs.TotalLaws.{total-with_unit}
@@ -175,17 +175,14 @@ module _ (w : Planet) (c : State) (p : ℕ) (u : Unit) (is : get c.units p ≡ S
 -- ---- what is marked
 
 pub marks-begun : (c : Marked) (u : Unit) → MarksChanges c (record { what = with_unit_begun c.what u; marks = mark_unit_begun c })
-marks-begun c u = let n = c.what.next_unit in record {
-  stay = record { factions = λ k h. h; regions = λ k h. h; structures = λ k h. h; mail = λ k h. h; reports = λ k h. h; units = put_stays c.marks.units n; goods = put_stays c.marks.goods n; books = λ k h. h; row = λ h. refl };
-  covers = record {
-    factions = λ k free. refl;
-    regions = λ k free. refl;
-    structures = λ k free. refl;
-    mail = λ k free. refl;
-    reports = λ k free. refl;
-    units = λ k free. ap (option_map bare) (get-insert_other c.what.units n k u (apart_by c.marks.units n k free));
-    goods = λ k free. ap goods_under (get-insert_other c.what.units n k u (apart_by c.marks.goods n k free));
-    books = λ e t free. refl;
-    row = λ free. absurd (true≢false free);
-  };
-}
+marks-begun c u =
+    let n = c.what.next_unit in
+    let next : Marked = record { what = with_unit_begun c.what u; marks = mark_unit_begun c } in
+    part_by_part c next
+    (λ p. elim p as (Stays c.marks next.marks) [ Units ↦ put_stays c.marks.units n | Goods ↦ put_stays c.marks.goods n | Row ↦ λ k h. refl | _ ↦ λ k h. h ])
+    (λ p. elim p as (Tells next.marks c.what next.what) [
+      | Units ↦ λ k free. ap (option_map bare) (get-insert_other c.what.units n k u (apart_by c.marks.units n k free))
+      | Goods ↦ λ k free. ap goods_under (get-insert_other c.what.units n k u (apart_by c.marks.goods n k free))
+      | Row ↦ λ k free. absurd (true≢false free)
+      | _ ↦ λ k free. refl
+    ])

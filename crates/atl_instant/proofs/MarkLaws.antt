@@ -2,16 +2,12 @@
 use Rattle.std.proofs.Common.{◌≡◌, ◌==◌, ℕ, Bool, true, false, Option, Some, None, refl, sym, ◌∙◌}
 use Rattle.std.specs.Prelude.{Result, Ok, Err, OnOk, if◌then◌else◌}
 use Rattle.std.specs.FinMap.{get}
-use Rattle.atl_tables.specs.Sums.{changed_at}
-use Rattle.atl_tables.specs.Tracking.{marked_with}
 use Rattle.atl_state.specs.Covers.{MarksChanges}
-use Rattle.atl_state.specs.declared.records.Faction.{Faction}
 use Rattle.atl_state.specs.declared.records.Unit.{Unit}
-use Rattle.atl_state.specs.Marking.{handed_marked, mark_faction, place_marked, place_marked_at, put_marked}
+use Rattle.atl_state.specs.Marking.{handed_marked, place_marked, place_marked_at, put_marked}
 use Rattle.atl_state.specs.Owners.{heir, with_place}
-use Rattle.atl_state.specs.State.{Marked, faction_changed}
-use Rattle.atl_state.proofs.CoverLaws.{apart_by, marks-refl, marks-trans, put_stays}
-use Rattle.atl_state.proofs.EveryLaws.{get-insert_other}
+use Rattle.atl_state.specs.State.{Marked}
+use Rattle.atl_state.proofs.CoverLaws.{marks-refl, marks-trans}
 use Rattle.atl_state.proofs.HoldingLaws.{marks-unit_row}
 use Rattle.atl_state.proofs.LeavingLaws.{marks-handed}
 use Rattle.atl_state.proofs.OwnerLaws.{place-what}
@@ -23,27 +19,6 @@ marks_by a b m what marks h = rw (what, marks) (record { stay = h.stay; covers =
 -- a campaign that stays as it is
 pub marks_same : (a b : Marked) → b ≡ a → MarksChanges a b
 marks_same a b is = rw is (marks-refl a)
-
--- a faction that is changed and marked
-pub marks-faction : (f : Faction → Faction) (c : Marked) (n : ℕ) → MarksChanges c (record { what = faction_changed f c.what n; marks = mark_faction c n })
-marks-faction f c n = by_faction (get c.what.factions n) refl
-  where
-    by_faction : (o : Option Faction) → get c.what.factions n ≡ o → MarksChanges c (record { what = record c.what { factions = changed_at f c.what.factions n o }; marks = record c.marks { factions = marked_with c.marks.factions n o } })
-    by_faction None is = marks-refl c
-    by_faction (Some x) is = record {
-      stay = record { factions = put_stays c.marks.factions n; regions = λ k h. h; structures = λ k h. h; mail = λ k h. h; reports = λ k h. h; units = λ k h. h; goods = λ k h. h; books = λ k h. h; row = λ h. h };
-      covers = record {
-        factions = λ k free. get-insert_other c.what.factions n k (f x) (apart_by c.marks.factions n k free);
-        regions = λ k free. refl;
-        structures = λ k free. refl;
-        mail = λ k free. refl;
-        reports = λ k free. refl;
-        units = λ k free. refl;
-        goods = λ k free. refl;
-        books = λ e t free. refl;
-        row = λ free. refl;
-      };
-    }
 
 -- a unit in another place
 marks_place_at : (c : Marked) (n r s : ℕ) (o : Option Unit) → MarksChanges c (place_marked_at c n r s o)

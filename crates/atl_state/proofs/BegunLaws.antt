@@ -16,7 +16,7 @@ use Rattle.atl_state.specs.Limits.{most_structures}
 use Rattle.atl_state.specs.Marking.{mark_structure_begun}
 use Rattle.atl_state.specs.State.{Marked, State, with_done, with_structure_begun}
 use Rattle.atl_state.specs.Totals.{total}
-use Rattle.atl_state.proofs.CoverLaws.{apart_by, put_stays}
+use Rattle.atl_state.proofs.CoverLaws.{Row, Stays, Structures, Tells, apart_by, part_by_part, put_stays}
 use Rattle.atl_state.proofs.EveryLaws.{every-insert, get-insert_other, none_some}
 use Rattle.atl_state.proofs.RegionLaws.{changed-known, get-insert_same, same_len}
 
@@ -140,20 +140,16 @@ module _ (w : Planet) (c : State) (s : Structure) (fresh : IsFresh w c s) (room 
 
 -- what is marked
 pub marks-raised : (c : Marked) (s : Structure) → MarksChanges c (record { what = with_structure_begun c.what s; marks = mark_structure_begun c })
-marks-raised c s = let n = c.what.next_structure in record {
-  stay = record { factions = λ k h. h; regions = λ k h. h; structures = put_stays c.marks.structures n; mail = λ k h. h; reports = λ k h. h; units = λ k h. h; goods = λ k h. h; books = λ k h. h; row = λ h. refl };
-  covers = record {
-    factions = λ k free. refl;
-    regions = λ k free. refl;
-    structures = λ k free. get-insert_other c.what.structures n k s (apart_by c.marks.structures n k free);
-    mail = λ k free. refl;
-    reports = λ k free. refl;
-    units = λ k free. refl;
-    goods = λ k free. refl;
-    books = λ e t free. refl;
-    row = λ free. absurd (true≢false free);
-  };
-}
+marks-raised c s =
+    let n = c.what.next_structure in
+    let next : Marked = record { what = with_structure_begun c.what s; marks = mark_structure_begun c } in
+    part_by_part c next
+    (λ p. elim p as (Stays c.marks next.marks) [ Structures ↦ put_stays c.marks.structures n | Row ↦ λ k h. refl | _ ↦ λ k h. h ])
+    (λ p. elim p as (Tells next.marks c.what next.what) [
+      | Structures ↦ λ k free. get-insert_other c.what.structures n k s (apart_by c.marks.structures n k free)
+      | Row ↦ λ k free. absurd (true≢false free)
+      | _ ↦ λ k free. refl
+    ])
 
 -- ---- more of a structure is done
 

@@ -1,21 +1,25 @@
 -- Changes one after the other, each of which is marked.
 use Rattle.std.proofs.Common.{◌≡◌, ◌≢◌, ◌==◌, ◌||◌, ℕ, ◌<◌, Bool, true, false, Option, Some, None, refl, sym, ap, ◌∙◌, arith, true≢false}
-use Rattle.std.specs.Prelude.{ℤ}
+use Rattle.std.specs.Prelude.{ℤ, List, option_map}
 use Rattle.std.proofs.lemmas.Bool.Decides.{nat_tests}
 use Rattle.std.specs.Cmp.{nat_cmp_total, unsigned_ties}
 use Rattle.std.specs.Ordering.{nat_cmp, eq_by_cmp}
-use Rattle.std.specs.FinMap.{get}
+use Rattle.std.specs.FinMap.{FinMap, get}
+use Rattle.std.specs.FinMap as map
 use Rattle.std.specs.FinSet.{FinSet, contains, insert, contains-insert}
-use Rattle.atl_tables.specs.Sums.{changed_at}
+use Rattle.atl_tables.specs.Sums.{changed, changed_at}
 use Rattle.atl_tables.specs.Tracking.{marked_with}
 use Rattle.atl_state.specs.declared.books.Entry.{Entry}
 use Rattle.atl_state.specs.declared.books.Thing.{Thing}
+use Rattle.atl_state.specs.declared.records.Faction.{Faction}
 use Rattle.atl_state.specs.declared.records.Region.{Region}
-use Rattle.atl_state.specs.Books.{IsGrid, thing_place}
-use Rattle.atl_state.specs.Covers.{Covers, StaysMarked, StayMarked, MarksChanges}
-use Rattle.atl_state.specs.Marking.{mark_amount, mark_region}
+use Rattle.atl_state.specs.declared.records.Structure.{Structure}
+use Rattle.atl_state.specs.declared.records.Unit.{Unit}
+use Rattle.atl_state.specs.Books.{IsGrid, amount_in, thing_place}
+use Rattle.atl_state.specs.Covers.{Covers, StaysMarked, StayMarked, MarksChanges, bare, goods_under, own_row}
+use Rattle.atl_state.specs.Marking.{mark_amount, mark_faction, mark_region}
 use Rattle.atl_state.specs.Marks.{Marks, amount_number}
-use Rattle.atl_state.specs.State.{State, Marked, region_changed, with_amount}
+use Rattle.atl_state.specs.State.{State, Marked, faction_changed, region_changed, with_amount}
 use Rattle.atl_state.proofs.EveryLaws.{get-insert_other}
 use Rattle.atl_state.proofs.RegionLaws.{amount-other}
 
@@ -57,12 +61,6 @@ covers-trans {m} {n} a b c stay one two = record {
 pub marks-trans : (a b c : Marked) → MarksChanges a b → MarksChanges b c → MarksChanges a c
 marks-trans a b c one two = record { stay = stay-trans one.stay two.stay; covers = covers-trans a.what b.what c.what two.stay one.covers two.covers }
 
-pub marks-refl : (a : Marked) → MarksChanges a a
-marks-refl a = record {
-  stay = record { factions = λ n h. h; regions = λ n h. h; structures = λ n h. h; mail = λ n h. h; reports = λ n h. h; units = λ n h. h; goods = λ n h. h; books = λ n h. h; row = λ h. h };
-  covers = record { factions = λ n free. refl; regions = λ n free. refl; structures = λ n free. refl; mail = λ n free. refl; reports = λ n free. refl; units = λ n free. refl; goods = λ n free. refl; books = λ e t free. refl; row = λ free. refl };
-}
-
 -- ---- one change at a time
 
 or-true : (b : Bool) → (b || true) ≡ true
@@ -82,40 +80,140 @@ put_there marks n k e = contains-insert nat_cmp_total marks n k ∙ ap (λ b. b 
 pub apart_by : (marks : FinSet nat_cmp) (n k : ℕ) → contains (insert marks n) k ≡ false → k ≢ n
 apart_by marks n k free same = absurd (true≢false (sym (put_there marks n k same) ∙ free))
 
+-- ---- the parts of a campaign, which are marked each for itself
+
+pub data Part : Type 0 where
+  Factions : Part
+  Regions : Part
+  Structures : Part
+  Mail : Part
+  Reports : Part
+  Units : Part
+  Goods : Part
+  Books : Part
+  Row : Part
+
+-- what a mark of a part is
+abbrev pub Mark : Part → Type 0
+Mark Row = Prim.Unit {0}
+Mark _ = ℕ
+
+abbrev pub is_marked : (p : Part) → Marks → Mark p → Bool
+is_marked Factions m k = contains m.factions k
+is_marked Regions m k = contains m.regions k
+is_marked Structures m k = contains m.structures k
+is_marked Mail m k = contains m.mail k
+is_marked Reports m k = contains m.reports k
+is_marked Units m k = contains m.units k
+is_marked Goods m k = contains m.goods k
+is_marked Books m k = contains m.books k
+is_marked Row m k = m.row
+
+-- where something of a part stands, and the mark of it
+abbrev pub Place : Part → Type 0
+Place Books = Entry × Thing
+Place Row = Prim.Unit {0}
+Place _ = ℕ
+
+abbrev pub mark_at : (p : Part) → Place p → Mark p
+mark_at Books k = amount_number k.0 k.1
+mark_at _ k = k
+
+-- what is shown of one
+abbrev pub Shown : Part → Type 0
+Shown Factions = Option Faction
+Shown Regions = Option Region
+Shown Structures = Option Structure
+Shown Mail = Option (List ℕ)
+Shown Reports = Option (List ℕ)
+Shown Units = Option Unit
+Shown Goods = FinMap nat_cmp ℕ × FinMap nat_cmp ℕ
+Shown Books = ℤ
+Shown Row = ℕ × (List ℕ × (ℕ × (ℕ × ℕ)))
+
+abbrev pub shown : (p : Part) → State → Place p → Shown p
+shown Factions c k = get c.factions k
+shown Regions c k = get c.regions k
+shown Structures c k = get c.structures k
+shown Mail c k = get c.mail k
+shown Reports c k = get c.reports k
+shown Units c k = option_map bare (get c.units k)
+shown Goods c k = goods_under (get c.units k)
+shown Books c k = amount_in c.books k.0 k.1
+shown Row c k = own_row c
+
+-- the marks of a part stay, and tell what of it changed
+abbrev pub Stays : Marks → Marks → Part → Type 0
+Stays m n p = (k : Mark p) → is_marked p m k ≡ true → is_marked p n k ≡ true
+
+abbrev pub Tells : Marks → State → State → Part → Type 0
+Tells m before after p = (k : Place p) → is_marked p m (mark_at p k) ≡ false → shown p after k ≡ shown p before k
+
+pub part_by_part : (a b : Marked) → ((p : Part) → Stays a.marks b.marks p) → ((p : Part) → Tells b.marks a.what b.what p) → MarksChanges a b
+part_by_part a b stays tells = record {
+  stay = record { factions = stays Factions; regions = stays Regions; structures = stays Structures; mail = stays Mail; reports = stays Reports; units = stays Units; goods = stays Goods; books = stays Books; row = stays Row tt };
+  covers = record {
+    factions = tells Factions;
+    regions = tells Regions;
+    structures = tells Structures;
+    mail = tells Mail;
+    reports = tells Reports;
+    units = tells Units;
+    goods = tells Goods;
+    books = λ e t. tells Books (e, t);
+    row = tells Row tt;
+  };
+}
+
+pub marks-refl : (a : Marked) → MarksChanges a a
+marks-refl a = part_by_part a a (λ p k h. h) (λ p k free. refl)
+
+-- what becomes of values and their marks, where the value under a number is changed and marked if it is there
+pub changed_there : {V : Type 0} (P : FinMap nat_cmp V → FinSet nat_cmp → Type 0) (f : V → V) (values : FinMap nat_cmp V) (marks : FinSet nat_cmp) (n : ℕ)
+    → P values marks → ((v : V) → get values n ≡ Some v → P (map.insert values n (f v)) (insert marks n)) → P (changed f values n) (marked_with marks n (get values n))
+changed_there {V} P f values marks n none some = by_value (get values n) refl
+  where
+    by_value : (o : Option V) → get values n ≡ o → P (changed_at f values n o) (marked_with marks n o)
+    by_value None is = none
+    by_value (Some v) is = some v is
+
+-- a faction that is changed and marked
+pub marks-faction : (f : Faction → Faction) (c : Marked) (n : ℕ) → MarksChanges c (record { what = faction_changed f c.what n; marks = mark_faction c n })
+marks-faction f c n =
+    let after : FinMap nat_cmp Faction → FinSet nat_cmp → Marked = λ m k. record { what = record c.what { factions = m }; marks = record c.marks { factions = k } } in
+    changed_there (λ m k. MarksChanges c (after m k)) f c.what.factions c.marks.factions n (marks-refl c) (λ v is.
+    let next = after (map.insert c.what.factions n (f v)) (insert c.marks.factions n) in
+    part_by_part c next
+    (λ p. elim p as (Stays c.marks next.marks) [ Factions ↦ put_stays c.marks.factions n | _ ↦ λ k h. h ])
+    (λ p. elim p as (Tells next.marks c.what next.what) [ Factions ↦ λ k free. get-insert_other c.what.factions n k (f v) (apart_by c.marks.factions n k free) | _ ↦ λ k free. refl ]))
+
 -- a region that is changed and marked
 pub marks-region : (f : Region → Region) (c : Marked) (n : ℕ) → MarksChanges c (record { what = region_changed f c.what n; marks = mark_region c n })
-marks-region f c n = by_region (get c.what.regions n) refl
-  where
-    by_region : (o : Option Region) → get c.what.regions n ≡ o → MarksChanges c (record { what = record c.what { regions = changed_at f c.what.regions n o }; marks = record c.marks { regions = marked_with c.marks.regions n o } })
-    by_region None is = marks-refl c
-    by_region (Some r) is = record {
-      stay = record { factions = λ k h. h; regions = put_stays c.marks.regions n; structures = λ k h. h; mail = λ k h. h; reports = λ k h. h; units = λ k h. h; goods = λ k h. h; books = λ k h. h; row = λ h. h };
-      covers = record {
-        factions = λ k free. refl;
-        regions = λ k free. get-insert_other c.what.regions n k (f r) (apart_by c.marks.regions n k free);
-        structures = λ k free. refl;
-        mail = λ k free. refl;
-        reports = λ k free. refl;
-        units = λ k free. refl;
-        goods = λ k free. refl;
-        books = λ e t free. refl;
-        row = λ free. refl;
-      };
-    }
+marks-region f c n =
+    let after : FinMap nat_cmp Region → FinSet nat_cmp → Marked = λ m k. record { what = record c.what { regions = m }; marks = record c.marks { regions = k } } in
+    changed_there (λ m k. MarksChanges c (after m k)) f c.what.regions c.marks.regions n (marks-refl c) (λ v is.
+    let next = after (map.insert c.what.regions n (f v)) (insert c.marks.regions n) in
+    part_by_part c next
+    (λ p. elim p as (Stays c.marks next.marks) [ Regions ↦ put_stays c.marks.regions n | _ ↦ λ k h. h ])
+    (λ p. elim p as (Tells next.marks c.what next.what) [ Regions ↦ λ k free. get-insert_other c.what.regions n k (f v) (apart_by c.marks.regions n k free) | _ ↦ λ k free. refl ]))
+
+-- units that are as they were but for one number, which is marked with its goods
+pub marks-unit : (c : Marked) (units : FinMap nat_cmp Unit) (n : ℕ) → ((k : ℕ) → k ≢ n → get units k ≡ get c.what.units k)
+    → MarksChanges c (record { what = record c.what { units = units }; marks = record c.marks { units = insert c.marks.units n; goods = insert c.marks.goods n } })
+marks-unit c units n others =
+    let next : Marked = record { what = record c.what { units = units }; marks = record c.marks { units = insert c.marks.units n; goods = insert c.marks.goods n } } in
+    part_by_part c next
+    (λ p. elim p as (Stays c.marks next.marks) [ Units ↦ put_stays c.marks.units n | Goods ↦ put_stays c.marks.goods n | _ ↦ λ k h. h ])
+    (λ p. elim p as (Tells next.marks c.what next.what) [
+      | Units ↦ λ k free. ap (option_map bare) (others k (apart_by c.marks.units n k free))
+      | Goods ↦ λ k free. ap goods_under (others k (apart_by c.marks.goods n k free))
+      | _ ↦ λ k free. refl
+    ])
 
 -- an amount that is booked and marked
 pub marks-amount : (things : ℕ) (c : Marked) (f : Entry) (u : Thing) (z : ℤ) → IsGrid things c.what.books → thing_place u < things → MarksChanges c (record { what = with_amount c.what f u z; marks = mark_amount c f u })
-marks-amount things c f u z g h = record {
-  stay = record { factions = λ k h. h; regions = λ k h. h; structures = λ k h. h; mail = λ k h. h; reports = λ k h. h; units = λ k h. h; goods = λ k h. h; books = put_stays c.marks.books (amount_number f u); row = λ h. h };
-  covers = record {
-    factions = λ k free. refl;
-    regions = λ k free. refl;
-    structures = λ k free. refl;
-    mail = λ k free. refl;
-    reports = λ k free. refl;
-    units = λ k free. refl;
-    goods = λ k free. refl;
-    books = λ e t free. amount-other things c.what.books e f t u z g h (apart_by c.marks.books (amount_number f u) (amount_number e t) free);
-    row = λ free. refl;
-  };
-}
+marks-amount things c f u z g h =
+    let next : Marked = record { what = with_amount c.what f u z; marks = mark_amount c f u } in
+    part_by_part c next
+    (λ p. elim p as (Stays c.marks next.marks) [ Books ↦ put_stays c.marks.books (amount_number f u) | _ ↦ λ k h. h ])
+    (λ p. elim p as (Tells next.marks c.what next.what) [ Books ↦ λ k free. amount-other things c.what.books k.0 f k.1 u z g h (apart_by c.marks.books (amount_number f u) (amount_number k.0 k.1) free) | _ ↦ λ k free. refl ])

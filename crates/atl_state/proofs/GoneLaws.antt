@@ -1,12 +1,11 @@
 -- How a campaign changes as a faction without units leaves it.
-use Rattle.std.proofs.Common.{◌≡◌, ◌≢◌, ℕ, ◌+◌, true, [], Option, Some, None, refl, sym, ap, subst, ◌∙◌, arith}
+use Rattle.std.proofs.Common.{◌≡◌, ◌≢◌, ℕ, ◌+◌, true, [], Some, None, refl, sym, ap, subst, ◌∙◌, arith}
 use Rattle.std.specs.Prelude.{IsTrue}
 use Rattle.std.specs.Ordering.{nat_cmp}
 use Rattle.std.specs.FinMap.{FinMap, get, insert, len}
 use Rattle.atl_tables.specs.Names.{name_ok, pass_ok}
 use Rattle.atl_tables.specs.Planet.{Planet}
 use Rattle.atl_tables.specs.Sums.{changed_at}
-use Rattle.atl_tables.specs.Tracking.{marked_with}
 use Rattle.atl_state.specs.Covers.{MarksChanges}
 use Rattle.atl_state.specs.declared.books.Thing.{Thing}
 use Rattle.atl_state.specs.declared.records.Faction.{Faction}
@@ -14,7 +13,7 @@ use Rattle.atl_state.specs.Good.{AreInRange, AreKnown, AreNamed, AreNumbered, Ev
 use Rattle.atl_state.specs.Marking.{mark_faction}
 use Rattle.atl_state.specs.State.{Marked, State, numbers_of, with_gone}
 use Rattle.atl_state.specs.Totals.{total}
-use Rattle.atl_state.proofs.CoverLaws.{apart_by, marks-refl, put_stays}
+use Rattle.atl_state.proofs.CoverLaws.{marks-faction}
 use Rattle.atl_state.proofs.EveryLaws.{every-insert, get-insert_other, none_some, there-insert}
 use Rattle.atl_state.proofs.RegionLaws.{changed-known, get-insert_same, same_len}
 
@@ -128,21 +127,4 @@ total-gone c n t = refl
 
 -- a faction that left, and is marked
 pub marks-gone_faction : (c : Marked) (n : ℕ) → MarksChanges c (record { what = with_gone c.what n; marks = mark_faction c n })
-marks-gone_faction c n = by_faction (get c.what.factions n) refl
-  where
-    by_faction : (o : Option Faction) → get c.what.factions n ≡ o → MarksChanges c (record { what = record c.what { factions = changed_at as_gone c.what.factions n o }; marks = record c.marks { factions = marked_with c.marks.factions n o } })
-    by_faction None is = marks-refl c
-    by_faction (Some f) is = record {
-      stay = record { factions = put_stays c.marks.factions n; regions = λ k h. h; structures = λ k h. h; mail = λ k h. h; reports = λ k h. h; units = λ k h. h; goods = λ k h. h; books = λ k h. h; row = λ h. h };
-      covers = record {
-        factions = λ k free. get-insert_other c.what.factions n k (as_gone f) (apart_by c.marks.factions n k free);
-        regions = λ k free. refl;
-        structures = λ k free. refl;
-        mail = λ k free. refl;
-        reports = λ k free. refl;
-        units = λ k free. refl;
-        goods = λ k free. refl;
-        books = λ e t free. refl;
-        row = λ free. refl;
-      };
-    }
+marks-gone_faction = marks-faction as_gone

@@ -34,6 +34,7 @@ use Rattle.atl_state.proofs.EveryLaws.{every-from_each}
 use Rattle.atl_state.proofs.HasLaws.{IsWhole, same}
 use Rattle.atl_state.proofs.OrderLaws.{Apart-keys}
 use Rattle.atl_state.proofs.RuleLaws.{each_numbered, every_before}
+use Rattle.atl_state.proofs.StateLaws.{same_state}
 use Rattle.atl_state.proofs.SaidLaws.{one_apart, none_or_below, small_size}
 
 -- ---- numbers in a good campaign
@@ -311,29 +312,5 @@ module _ (w : Planet) (world : IsWorld w) (c : State) (good : IsGood w c) where
     pub state_back : state_of w p ≡ c
     unfolding state_of
     state_back =
-        let month = month_said in
-        let pass = ap (λ (h : StoredHead). h.pass) head_said in
-        let next_faction = next_faction_said in
-        let next_unit = next_unit_said in
-        let next_structure = next_structure_said in
-        let factions = factions_said in
-        let regions = regions_said in
-        let units = units_said in
-        let structures = structures_said in
-        let mail = mail_said in
-        let reports = reports_said in
-        let books = books_said in
-        λ i. record {
-          month = month i;
-          pass = pass i;
-          next_faction = next_faction i;
-          next_unit = next_unit i;
-          next_structure = next_structure i;
-          factions = factions i;
-          regions = regions i;
-          units = units i;
-          structures = structures i;
-          mail = mail i;
-          reports = reports i;
-          books = books i;
-        }
+        same_state (state_of w p) c month_said (ap (λ (h : StoredHead). h.pass) head_said) next_faction_said next_unit_said next_structure_said
+        factions_said regions_said units_said structures_said mail_said reports_said books_said

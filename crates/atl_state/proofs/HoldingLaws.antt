@@ -4,10 +4,11 @@ use Rattle.std.specs.Prelude.{IsTrue, option_map}
 use Rattle.std.specs.Ordering.{nat_cmp, is_eq}
 use Rattle.std.specs.Cmp.{nat_cmp_total, ranked}
 use Rattle.std.specs.declared.cmp.Ordering.TheVariants.{Less, Equal, Greater}
-use Rattle.std.specs.FinMap.{get, insert, get-insert, nat_cmp-IsAntisymmetric}
+use Rattle.std.specs.FinMap.{FinMap, get, insert, get-insert, nat_cmp-IsAntisymmetric}
+use Rattle.std.specs.FinSet as set
 use Rattle.atl_tables.specs.Names.{name_ok}
 use Rattle.atl_tables.specs.Planet.{Planet}
-use Rattle.atl_tables.specs.Sums.{sum_over, changed_at}
+use Rattle.atl_tables.specs.Sums.{sum_over}
 use Rattle.atl_tables.specs.Tracking.{marked_with}
 use Rattle.atl_tables.proofs.SumLaws.{numbers_where-insert_known, sum_over-insert_known}
 use Rattle.atl_state.specs.Covers.{MarksChanges, bare, goods_under}
@@ -21,7 +22,7 @@ use Rattle.atl_state.specs.Lending.{lent, with_held}
 use Rattle.atl_state.specs.Marking.{mark_unit_row}
 use Rattle.atl_state.specs.State.{Marked, State, unit_changed}
 use Rattle.atl_state.specs.Totals.{held, kept, total}
-use Rattle.atl_state.proofs.CoverLaws.{apart_by, marks-refl, put_stays}
+use Rattle.atl_state.proofs.CoverLaws.{Goods, Stays, Tells, Units, apart_by, changed_there, marks-refl, marks-unit, part_by_part, put_stays}
 use Rattle.atl_state.proofs.EveryLaws.{every-insert, get-insert_other, none_some, there-insert}
 use Rattle.atl_state.proofs.RegionLaws.{get-insert_same, same_len}
 
@@ -171,7 +172,17 @@ module _ (w : Planet) (c : State) (n : ℕ) (u : Unit) (h : Held) (is : get c.un
 
 -- a unit whose row is changed and marked, and whose goods stay
 pub marks-unit_row : (f : Unit → Unit) → ((u : Unit) → goods_under (Some (f u)) ≡ goods_under (Some u)) → (c : Marked) (n : ℕ) → MarksChanges c (record { what = unit_changed f c.what n; marks = mark_unit_row c n })
-marks-unit_row f same c n = by_unit (get c.what.units n) refl
+marks-unit_row f same c n =
+    let after : FinMap nat_cmp Unit → set.FinSet nat_cmp → Marked = λ m k. record { what = record c.what { units = m }; marks = record c.marks { units = k } } in
+    changed_there (λ m k. MarksChanges c (after m k)) f c.what.units c.marks.units n (marks-refl c) (λ u is.
+    let next = after (insert c.what.units n (f u)) (set.insert c.marks.units n) in
+    part_by_part c next
+    (λ p. elim p as (Stays c.marks next.marks) [ Units ↦ put_stays c.marks.units n | _ ↦ λ k h. h ])
+    (λ p. elim p as (Tells next.marks c.what next.what) [
+      | Units ↦ λ k free. ap (option_map bare) (get-insert_other c.what.units n k (f u) (apart_by c.marks.units n k free))
+      | Goods ↦ λ k free. goods_kept u is k
+      | _ ↦ λ k free. refl
+    ]))
   where
     goods_kept : (u : Unit) → get c.what.units n ≡ Some u → (k : ℕ) → goods_under (get (insert c.what.units n (f u)) k) ≡ goods_under (get c.what.units k)
     goods_kept u is k =
@@ -182,40 +193,10 @@ marks-unit_row f same c n = by_unit (get c.what.units n) refl
           | Greater ↦ λ o. refl
         ] refl
 
-    by_unit : (o : Option Unit) → get c.what.units n ≡ o → MarksChanges c (record { what = record c.what { units = changed_at f c.what.units n o }; marks = record c.marks { units = marked_with c.marks.units n o } })
-    by_unit None is = marks-refl c
-    by_unit (Some u) is = record {
-      stay = record { factions = λ k h. h; regions = λ k h. h; structures = λ k h. h; mail = λ k h. h; reports = λ k h. h; units = put_stays c.marks.units n; goods = λ k h. h; books = λ k h. h; row = λ h. h };
-      covers = record {
-        factions = λ k free. refl;
-        regions = λ k free. refl;
-        structures = λ k free. refl;
-        mail = λ k free. refl;
-        reports = λ k free. refl;
-        units = λ k free. ap (option_map bare) (get-insert_other c.what.units n k (f u) (apart_by c.marks.units n k free));
-        goods = λ k free. goods_kept u is k;
-        books = λ e t free. refl;
-        row = λ free. refl;
-      };
-    }
-
 -- a unit's holding that was lent
 pub marks-lent : (c : Marked) (n : ℕ) (h : Held) → MarksChanges c (lent c n h)
-marks-lent c n h = by_unit (get c.what.units n) refl
+marks-lent c n h = by_unit (get c.what.units n)
   where
-    by_unit : (o : Option Unit) → get c.what.units n ≡ o → MarksChanges c (record { what = with_held c.what n h o; marks = record c.marks { units = marked_with c.marks.units n o; goods = marked_with c.marks.goods n o } })
-    by_unit None is = marks-refl c
-    by_unit (Some u) is = record {
-      stay = record { factions = λ k g. g; regions = λ k g. g; structures = λ k g. g; mail = λ k g. g; reports = λ k g. g; units = put_stays c.marks.units n; goods = put_stays c.marks.goods n; books = λ k g. g; row = λ g. g };
-      covers = record {
-        factions = λ k free. refl;
-        regions = λ k free. refl;
-        structures = λ k free. refl;
-        mail = λ k free. refl;
-        reports = λ k free. refl;
-        units = λ k free. ap (option_map bare) (get-insert_other c.what.units n k (record u { holding = h }) (apart_by c.marks.units n k free));
-        goods = λ k free. ap goods_under (get-insert_other c.what.units n k (record u { holding = h }) (apart_by c.marks.goods n k free));
-        books = λ e t free. refl;
-        row = λ free. refl;
-      };
-    }
+    by_unit : (o : Option Unit) → MarksChanges c (record { what = with_held c.what n h o; marks = record c.marks { units = marked_with c.marks.units n o; goods = marked_with c.marks.goods n o } })
+    by_unit None = marks-refl c
+    by_unit (Some u) = let v = record u { holding = h } in marks-unit c (insert c.what.units n v) n (λ k apart. get-insert_other c.what.units n k v apart)

@@ -7,11 +7,11 @@ use Rattle.std.specs.declared.cmp.Ordering.TheVariants.{Less, Equal, Greater}
 use Rattle.std.specs.Ordering.{nat_cmp}
 use Rattle.std.specs.Cmp.{ranked}
 use Rattle.std.specs.FinMap.{FinMap, get, insert, len, nat_cmp-IsAntisymmetric, remove}
+use Rattle.std.specs.FinSet as set
 use Rattle.atl_tables.specs.Planet.{Planet}
-use Rattle.atl_tables.specs.Sums.{changed_at}
 use Rattle.atl_tables.specs.Tracking.{marked_with}
 use Rattle.atl_tables.specs.ByNumber.{is_land_at, size_of}
-use Rattle.atl_state.specs.Covers.{MarksChanges, bare, goods_under}
+use Rattle.atl_state.specs.Covers.{MarksChanges}
 use Rattle.atl_state.specs.declared.books.Thing.{Thing}
 use Rattle.atl_state.specs.declared.records.Region.{Region}
 use Rattle.atl_state.specs.declared.records.Structure.{Structure}
@@ -21,7 +21,7 @@ use Rattle.atl_state.specs.Marking.{gone_marked, gone_marked_at, handed_marked, 
 use Rattle.atl_state.specs.Owners.{handed, heir, is_owned_by, without_unit, without_unit_at}
 use Rattle.atl_state.specs.State.{Marked, State, numbers_inside, structure_changed, with_owner}
 use Rattle.atl_state.specs.Totals.{held, total}
-use Rattle.atl_state.proofs.CoverLaws.{apart_by, marks-refl, marks-trans, put_stays}
+use Rattle.atl_state.proofs.CoverLaws.{Stays, Structures, Tells, apart_by, changed_there, marks-refl, marks-trans, marks-unit, part_by_part, put_stays}
 use Rattle.atl_state.proofs.EveryLaws.{every-insert, get-insert_other, none_some}
 use Rattle.atl_state.proofs.HoldingLaws.{structure_in}
 use Rattle.atl_state.proofs.InsideLaws.{inside_is_listed, is_no_zero, listed_is_inside}
@@ -307,24 +307,13 @@ module _ (w : Planet) (c : State) (n : ℕ) (u : Unit) (is : get c.units n ≡ S
 
 -- a structure that is changed and marked
 pub marks-structure : (f : Structure → Structure) (c : Marked) (n : ℕ) → MarksChanges c (record { what = structure_changed f c.what n; marks = mark_structure c n })
-marks-structure f c n = by_structure (get c.what.structures n) refl
-  where
-    by_structure : (o : Option Structure) → get c.what.structures n ≡ o → MarksChanges c (record { what = record c.what { structures = changed_at f c.what.structures n o }; marks = record c.marks { structures = marked_with c.marks.structures n o } })
-    by_structure None is = marks-refl c
-    by_structure (Some s) is = record {
-      stay = record { factions = λ k h. h; regions = λ k h. h; structures = put_stays c.marks.structures n; mail = λ k h. h; reports = λ k h. h; units = λ k h. h; goods = λ k h. h; books = λ k h. h; row = λ h. h };
-      covers = record {
-        factions = λ k free. refl;
-        regions = λ k free. refl;
-        structures = λ k free. get-insert_other c.what.structures n k (f s) (apart_by c.marks.structures n k free);
-        mail = λ k free. refl;
-        reports = λ k free. refl;
-        units = λ k free. refl;
-        goods = λ k free. refl;
-        books = λ e t free. refl;
-        row = λ free. refl;
-      };
-    }
+marks-structure f c n =
+    let after : FinMap nat_cmp Structure → set.FinSet nat_cmp → Marked = λ m k. record { what = record c.what { structures = m }; marks = record c.marks { structures = k } } in
+    changed_there (λ m k. MarksChanges c (after m k)) f c.what.structures c.marks.structures n (marks-refl c) (λ v is.
+    let next = after (insert c.what.structures n (f v)) (set.insert c.marks.structures n) in
+    part_by_part c next
+    (λ p. elim p as (Stays c.marks next.marks) [ Structures ↦ put_stays c.marks.structures n | _ ↦ λ k h. h ])
+    (λ p. elim p as (Tells next.marks c.what next.what) [ Structures ↦ λ k free. get-insert_other c.what.structures n k (f v) (apart_by c.marks.structures n k free) | _ ↦ λ k free. refl ]))
 
 pub marks-handed : (c : Marked) (s from to : ℕ) → MarksChanges c (handed_marked c s from to)
 marks-handed c s from to = by_test (is_owned_by (get c.what.structures s) from)
@@ -340,20 +329,8 @@ marks-taken c n = by_unit (get c.what.units n) refl
     by_unit : (o : Option Unit) → get c.what.units n ≡ o → MarksChanges c (taken_marked c n)
     by_unit None is = subst (MarksChanges c) (taken_none c n is) (marks-refl c)
     by_unit (Some u) is =
-        subst (λ (o : Option Unit). MarksChanges c (record { what = record c.what { units = remove c.what.units n }; marks = record c.marks { units = marked_with c.marks.units n o; goods = marked_with c.marks.goods n o } })) (sym is) (record {
-          stay = record { factions = λ k h. h; regions = λ k h. h; structures = λ k h. h; mail = λ k h. h; reports = λ k h. h; units = put_stays c.marks.units n; goods = put_stays c.marks.goods n; books = λ k h. h; row = λ h. h };
-          covers = record {
-            factions = λ k free. refl;
-            regions = λ k free. refl;
-            structures = λ k free. refl;
-            mail = λ k free. refl;
-            reports = λ k free. refl;
-            units = λ k free. ap (option_map bare) (get-remove_other c.what.units n k (apart_by c.marks.units n k free));
-            goods = λ k free. ap goods_under (get-remove_other c.what.units n k (apart_by c.marks.goods n k free));
-            books = λ e t free. refl;
-            row = λ free. refl;
-          };
-        })
+        subst (λ (o : Option Unit). MarksChanges c (record { what = record c.what { units = remove c.what.units n }; marks = record c.marks { units = marked_with c.marks.units n o; goods = marked_with c.marks.goods n o } })) (sym is)
+        (marks-unit c (remove c.what.units n) n (λ k apart. get-remove_other c.what.units n k apart))
 
 marks_gone : (c : Marked) (n : ℕ) (o : Option Unit) → MarksChanges c (gone_marked_at c n o)
 marks_gone c n None = marks-refl c

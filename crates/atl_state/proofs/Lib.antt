@@ -49,3 +49,4 @@ pub mod BegunLaws
 pub mod IndexLaws
 pub mod SlotLaws
 pub mod InsideLaws
+pub mod StateLaws

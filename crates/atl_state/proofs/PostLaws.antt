@@ -7,42 +7,24 @@ use Rattle.std.specs.FinSet.{FinSet, contains, contains-union, contains-from_lis
 use Rattle.atl_state.specs.Covers.{MarksChanges, SameBut, StaysMarked}
 use Rattle.atl_state.specs.Marking.{mark_all_mail, mark_report, mark_row}
 use Rattle.atl_state.specs.State.{Marked, with_month, with_report, without_mail}
-use Rattle.atl_state.proofs.CoverLaws.{apart_by, put_stays}
+use Rattle.atl_state.proofs.CoverLaws.{Mail, Reports, Row, Stays, Tells, apart_by, part_by_part, put_stays}
 use Rattle.atl_state.proofs.EveryLaws.{get-insert_other}
 
 -- the month that is counted
 pub marks-month : (c : Marked) (n : ℕ) → MarksChanges c (record { what = with_month c.what n; marks = mark_row c })
-marks-month c n = record {
-  stay = record { factions = λ k h. h; regions = λ k h. h; structures = λ k h. h; mail = λ k h. h; reports = λ k h. h; units = λ k h. h; goods = λ k h. h; books = λ k h. h; row = λ h. refl };
-  covers = record {
-    factions = λ k free. refl;
-    regions = λ k free. refl;
-    structures = λ k free. refl;
-    mail = λ k free. refl;
-    reports = λ k free. refl;
-    units = λ k free. refl;
-    goods = λ k free. refl;
-    books = λ e t free. refl;
-    row = λ free. absurd (true≢false free);
-  };
-}
+marks-month c n =
+    let next : Marked = record { what = with_month c.what n; marks = mark_row c } in
+    part_by_part c next
+    (λ p. elim p as (Stays c.marks next.marks) [ Row ↦ λ k h. refl | _ ↦ λ k h. h ])
+    (λ p. elim p as (Tells next.marks c.what next.what) [ Row ↦ λ k free. absurd (true≢false free) | _ ↦ λ k free. refl ])
 
 -- a report that is stored
 pub marks-report : (c : Marked) (n : ℕ) (text : List ℕ) → MarksChanges c (record { what = with_report c.what n text; marks = mark_report c n })
-marks-report c n text = record {
-  stay = record { factions = λ k h. h; regions = λ k h. h; structures = λ k h. h; mail = λ k h. h; reports = put_stays c.marks.reports n; units = λ k h. h; goods = λ k h. h; books = λ k h. h; row = λ h. h };
-  covers = record {
-    factions = λ k free. refl;
-    regions = λ k free. refl;
-    structures = λ k free. refl;
-    mail = λ k free. refl;
-    reports = λ k free. get-insert_other c.what.reports n k text (apart_by c.marks.reports n k free);
-    units = λ k free. refl;
-    goods = λ k free. refl;
-    books = λ e t free. refl;
-    row = λ free. refl;
-  };
-}
+marks-report c n text =
+    let next : Marked = record { what = with_report c.what n text; marks = mark_report c n } in
+    part_by_part c next
+    (λ p. elim p as (Stays c.marks next.marks) [ Reports ↦ put_stays c.marks.reports n | _ ↦ λ k h. h ])
+    (λ p. elim p as (Tells next.marks c.what next.what) [ Reports ↦ λ k free. get-insert_other c.what.reports n k text (apart_by c.marks.reports n k free) | _ ↦ λ k free. refl ])
 
 -- ---- the mail that is taken away
 
@@ -62,17 +44,8 @@ module _ (marks : FinSet nat_cmp) (mail : FinMap nat_cmp (List ℕ)) where
   all_gone k free = get-empty nat_cmp k ∙ none_there (contains marks k) (contains_key mail k) (get mail k) refl (sym (either k) ∙ free)
 
 pub marks-no_mail : (c : Marked) → MarksChanges c (record { what = without_mail c.what; marks = mark_all_mail c })
-marks-no_mail c = record {
-  stay = record { factions = λ k h. h; regions = λ k h. h; structures = λ k h. h; mail = all_stay c.marks.mail c.what.mail; reports = λ k h. h; units = λ k h. h; goods = λ k h. h; books = λ k h. h; row = λ h. h };
-  covers = record {
-    factions = λ k free. refl;
-    regions = λ k free. refl;
-    structures = λ k free. refl;
-    mail = all_gone c.marks.mail c.what.mail;
-    reports = λ k free. refl;
-    units = λ k free. refl;
-    goods = λ k free. refl;
-    books = λ e t free. refl;
-    row = λ free. refl;
-  };
-}
+marks-no_mail c =
+    let next : Marked = record { what = without_mail c.what; marks = mark_all_mail c } in
+    part_by_part c next
+    (λ p. elim p as (Stays c.marks next.marks) [ Mail ↦ all_stay c.marks.mail c.what.mail | _ ↦ λ k h. h ])
+    (λ p. elim p as (Tells next.marks c.what next.what) [ Mail ↦ all_gone c.marks.mail c.what.mail | _ ↦ λ k free. refl ])

@@ -27,6 +27,7 @@ use Rattle.atl_store.specs.Shown.{flag, mail_row, report_row, has_row, books_row
 use Rattle.atl_store.specs.Written.{sort_number}
 use Rattle.atl_store.specs.declared.rows.has.Sort.{Sort}
 use Rattle.atl_store.specs.declared.rows.has.Sort.TheVariants.{Item, Skill}
+use Rattle.atl_state.proofs.StateLaws.{same_state}
 
 -- ---- maps whose rows tell their numbers and values
 
@@ -217,18 +218,5 @@ holds_one w db one other c d good sound h j =
     let units = agree c.units d.units (units_there _ _ c.units d.units h.units j.units h.has j.has some more) (units_there _ _ d.units c.units j.units h.units j.has h.has more some) in
     let books = same_books (founding.things_of w) _ c.books d.books numbers.books others.books h.books j.books in (
       text,
-      λ i. record {
-        month = month i;
-        pass = pass i;
-        next_faction = next_faction i;
-        next_unit = next_unit i;
-        next_structure = next_structure i;
-        factions = factions i;
-        regions = regions i;
-        units = units i;
-        structures = structures i;
-        mail = mail i;
-        reports = reports i;
-        books = books i;
-      },
+      same_state c d month pass next_faction next_unit next_structure factions regions units structures mail reports books,
     )
