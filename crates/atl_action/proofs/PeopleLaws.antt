@@ -1,29 +1,23 @@
 -- The same people in other places: how many units there are, of which factions they are, and what they hold.
 use Rattle.std.proofs.Common.{◌≡◌, ◌==◌, ℕ, ◌+◌, Bool, true, false, Option, Some, None, refl, sym, ap, ◌∙◌, arith}
-use Rattle.std.specs.Prelude.{option_map, pos, if◌then◌else◌}
+use Rattle.std.specs.Prelude.{option_map, if◌then◌else◌}
 use Rattle.std.specs.Ordering.{nat_cmp}
 use Rattle.std.specs.FinMap.{FinMap, get, insert, len}
-use Rattle.atl_tables.specs.Planet.{Planet}
 use Rattle.atl_tables.specs.Sums.{changed, changed_at, sum_over}
 use Rattle.atl_tables.proofs.SumLaws.{numbers_where-insert_known, sum_over-insert_known}
 use Rattle.atl_state.specs.declared.books.Thing.{Thing}
 use Rattle.atl_state.specs.declared.books.Thing.TheVariants.{Item, Money, People}
 use Rattle.atl_state.specs.declared.records.Region.{Region}
 use Rattle.atl_state.specs.declared.records.Unit.{Unit}
-use Rattle.atl_state.specs.Good.{IsSteady, guards}
-use Rattle.atl_state.specs.Books.{amount_in, booked}
+use Rattle.atl_state.specs.Good.{guards}
 use Rattle.atl_state.specs.Held.{amount_of}
 use Rattle.atl_state.specs.State.{State, numbers_inside, numbers_of}
 use Rattle.atl_state.specs.Totals.{held, kept, total}
 use Rattle.atl_state.proofs.InsideLaws.{inside_as_before}
 use Rattle.atl_state.proofs.RegionLaws.{same_len}
-use Rattle.atl_instant.specs.Meaning.{IsSameMonth}
-use Rattle.atl_instant.specs.Steps.{StepsWell}
-use Rattle.atl_instant.specs.Unbooked.{books_nothing}
 use Rattle.atl_instant.proofs.OutcomeLaws.{false_true}
 use Rattle.atl_instant.proofs.StructureLaws.{at_number, get-changed}
 use Rattle.atl_action.proofs.TravelLaws.{IsSameUnit}
-use Rattle.atl_instant.proofs.StepLaws.{not_drawn}
 
 pub record AreSamePeople (before after : FinMap nat_cmp Unit) : Type 0 where
   pub count : len after ≡ len before

@@ -1,8 +1,7 @@
 -- What FORM, NAME, LEAVE, ENTER, PROMOTE, GIVE, TRANSFER, GUARD and QUIT leave to the units of a faction that sent no mailing.
-use Rattle.std.proofs.Common.{◌≡◌, ◌≢◌, ◌==◌, ◌+◌, ◌-◌, ℕ, Bool, true, false, List, [], ◌∷◌, Option, Some, None, refl, sym, ap, ◌∙◌, inl, inr, arith}
+use Rattle.std.proofs.Common.{◌≡◌, ◌≢◌, ◌==◌, ◌+◌, ◌-◌, ℕ, Bool, true, false, List, [], ◌∷◌, Option, Some, None, refl, sym, ap, ◌∙◌, arith}
 use Rattle.std.specs.Prelude.{IfSome, fold, if◌then◌else◌}
-use Rattle.std.specs.Ordering.{nat_cmp}
-use Rattle.std.specs.FinMap.{FinMap, entries, get, remove, values}
+use Rattle.std.specs.FinMap.{get, values}
 use Rattle.atl_tables.specs.Planet.{Planet}
 use Rattle.atl_tables.proofs.GeneralLaws.{is_equal}
 use Rattle.atl_orders.specs.declared.order.NameKind.{NameKind}
@@ -14,10 +13,10 @@ use Rattle.atl_state.specs.declared.event.Outcome.TheVariants.{Done}
 use Rattle.atl_state.specs.declared.records.Unit.{Unit}
 use Rattle.atl_state.specs.Held.{Held}
 use Rattle.atl_state.specs.Lending.{with_held}
-use Rattle.atl_state.specs.Owners.{handed, heir, placed, with_place, with_place_at, without_unit, without_unit_at}
+use Rattle.atl_state.specs.Owners.{handed, heir, placed, with_place, with_place_at}
 use Rattle.atl_state.specs.State.{State, numbers_of, with_guard, with_owner, with_structure_name}
 use Rattle.atl_state.proofs.EveryLaws.{get-insert_other}
-use Rattle.atl_state.proofs.RemovedLaws.{IsListed, get-remove_other, listed_passing}
+use Rattle.atl_state.proofs.RemovedLaws.{IsListed, listed_passing}
 use Rattle.atl_instant.specs.Course.{Aliases, Course}
 use Rattle.atl_instant.specs.Form.{form_by, form_keeps, form_meaning, form_order, is_forming}
 use Rattle.atl_instant.specs.Give.{give, give_said, give_step, give_terms, held_of, is_giving, with_held_of}
@@ -26,7 +25,7 @@ use Rattle.atl_instant.specs.Name.{is_naming, name_concerns, name_said, name_ste
 use Rattle.atl_instant.specs.Outcomes.{unless}
 use Rattle.atl_instant.specs.Place.{enter_fault, entered, entered_other, is_placing, leave_fault, left, place_said, place_step, place_terms, promote_fault, promoted}
 use Rattle.atl_instant.specs.PhaseOrders.{Task, orders_of, unit_of}
-use Rattle.atl_instant.specs.Quit.{QuitsFrom, booked_off, is_quitting, item_gone, left_at, left_by, quit, quit_fault, quit_keeps, quit_meaning, quit_said, quit_step}
+use Rattle.atl_instant.specs.Quit.{QuitsFrom, is_quitting, left_at, quit, quit_fault, quit_keeps, quit_meaning, quit_said, quit_step}
 use Rattle.atl_instant.specs.Steps.{IsSpared, IsUnitOf}
 use Rattle.atl_instant.specs.Transfer.{is_transferring, transfer, transfer_said, transfer_step, transfer_terms, with_fewer, with_more}
 use Rattle.atl_instant.specs.Unmailed.{starved_in}

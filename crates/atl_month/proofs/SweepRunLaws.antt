@@ -1,6 +1,6 @@
 -- What the code of the sweep marks, and how far it may book.
-use Rattle.std.proofs.Common.{◌≡◌, ◌≢◌, ◌==◌, ℕ, suc, ◌+◌, ◌≤◌, ◌<◌, Bool, true, false, List, ◌∷◌, length, Some, refl, sym, ap, subst, arith}
-use Rattle.std.specs.Prelude.{pos, neg_ℤ, if◌then◌else◌}
+use Rattle.std.proofs.Common.{◌≡◌, ◌≢◌, ℕ, suc, ◌+◌, ◌≤◌, ◌<◌, List, ◌∷◌, length, Some, refl, sym, ap, subst, arith}
+use Rattle.std.specs.Prelude.{pos, neg_ℤ}
 use Rattle.std.specs.FinMap.{entries, get}
 use Rattle.atl_tables.specs.Planet.{Planet}
 use Rattle.atl_tables.specs.Limits.{most_amount}
@@ -15,14 +15,12 @@ use Rattle.atl_state.specs.Good.{IsSteady}
 use Rattle.atl_state.specs.Held.{Held}
 use Rattle.atl_state.specs.Lending.{lent}
 use Rattle.atl_state.specs.Marking.{mark_amount, mark_faction, mark_unit_row}
-use Rattle.atl_state.specs.Marks.{amount_number}
 use Rattle.atl_state.specs.State.{Marked, State, with_gone, with_money}
 use Rattle.atl_state.proofs.CoverLaws.{marks-amount, marks-trans}
 use Rattle.atl_state.proofs.HoldingLaws.{marks-lent, marks-unit_row}
-use Rattle.atl_state.proofs.ListLaws.{same_number}
-use Rattle.atl_instant.specs.Meaning.{HasRoom, HaveRoom, IsNear, Moving, both_move, moves_only}
+use Rattle.atl_instant.specs.Meaning.{HaveRoom, IsNear, Moving, both_move, moves_only}
 use Rattle.atl_instant.proofs.MarkLaws.{marks_by}
-use Rattle.atl_instant.proofs.MeaningLaws.{less_room, near_room, room_less}
+use Rattle.atl_instant.proofs.MeaningLaws.{near_room, room_less}
 use Rattle.atl_instant.proofs.QuitLaws.{part_of}
 use Rattle.atl_instant.specs.LostItems.{moving_items}
 use Rattle.atl_month.specs.Sweep.{item_to, loses_by, passed_item, passed_money, with_lost}

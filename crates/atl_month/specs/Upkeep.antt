@@ -1,5 +1,5 @@
 -- The upkeep of a month. See docs/RULES.md, "Upkeep".
-use Rattle.std.specs.Prelude.{◌≡◌, ℕ, nat_lt, pos, neg_ℤ, ◌-◌, ◌*◌, ◌/◌, ◌==◌, not, ◌++◌, Bool, List, map, filter, fold, Option, Some, None, if◌then◌else◌, [], ◌∷◌}
+use Rattle.std.specs.Prelude.{◌≡◌, ℕ, nat_lt, pos, neg_ℤ, ◌-◌, ◌*◌, ◌/◌, ◌==◌, not, ◌++◌, Bool, List, map, filter, fold, Option, Some, None, if◌then◌else◌}
 use Rattle.std.specs.Ordering.{nat_cmp}
 use Rattle.std.specs.FinMap.{FinMap, empty, entries, get}
 use Rattle.atl_tables.specs.Planet.{Planet}
