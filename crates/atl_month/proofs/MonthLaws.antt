@@ -1,19 +1,20 @@
 -- A campaign behind the phases of a month is good again once the month is counted and the mail is taken away.
 use Rattle.std.proofs.Common.{◌≡◌, ◌&&◌, ℕ, ◌+◌, ◌*◌, ◌≤◌, ◌<◌, Bool, true, false, List, ap, ◌∙◌, arith}
 use Rattle.std.specs.Prelude.{ℤ, nat_lt}
-use Rattle.std.specs.FinMap.{FinMap, get, len}
+use Rattle.std.specs.FinMap.{FinMap, empty, get, len}
 use Rattle.std.specs.Ordering.{nat_cmp}
 use Rattle.std.proofs.lemmas.Int.{ints}
 use Rattle.std.proofs.lemmas.Bool.Decides.{nat_tests}
 use Rattle.atl_tables.specs.Planet.{Planet}
 use Rattle.atl_state.specs.declared.event.Event.{Event}
 use Rattle.atl_state.specs.Books.{IsWithin, amount_in}
-use Rattle.atl_state.specs.Good.{AreAmountsWithin, AreInRange, AreKnown, IsEarly, IsGood, IsSound, IsSteady, IsThere, amount_bound}
+use Rattle.atl_state.specs.Good.{AreAmountsWithin, IsEarly, IsGood, IsSound, IsSteady, IsThere, amount_bound}
 use Rattle.atl_state.specs.Limits.{last_month}
 use Rattle.atl_state.specs.State.{State}
 use Rattle.atl_state.specs.Totals.{Balances, total}
 use Rattle.atl_orders.specs.Mailing.{Reading}
 use Rattle.atl_state.proofs.EveryLaws.{every-empty}
+use Rattle.atl_state.proofs.GoodLaws.{posted-steady}
 use Rattle.atl_instant.specs.Course.{Course}
 use Rattle.atl_instant.specs.Meaning.{Condition, HaveRoom, IsNear, IsSameMonth, LeavesWell, Meaning, Moving}
 use Rattle.atl_instant.proofs.CourseLaws.{mailings_have_no_order}
@@ -24,43 +25,8 @@ use Rattle.atl_month.proofs.CountLaws.{has_all_back}
 use Rattle.atl_month.proofs.MoveLaws.{month_within, moves_in_month, phases_little}
 
 module _ (w : Planet) (d : State) where
-  finished_range : d.month < last_month → AreInRange w d → AreInRange w (finished d)
-  finished_range early old = record {
-    month = omega (arith, early);
-    few_factions = old.few_factions;
-    few_regions = old.few_regions;
-    few_units = old.few_units;
-    few_structures = old.few_structures;
-    next_unit_least = old.next_unit_least;
-    next_unit_most = old.next_unit_most;
-    factions = old.factions;
-    regions = old.regions;
-    units = old.units;
-    structures = old.structures;
-    books = old.books;
-  }
-
-  finished_known : AreKnown w d → AreKnown w (finished d)
-  finished_known old = record {
-    regions = old.regions;
-    units = λ n u is. let p = old.units n u is in record { faction = p.faction; region = p.region; structure = p.structure; items = p.items; skills = p.skills };
-    structures = λ n s is. let b = old.structures n s is in record { kind = b.kind; region = b.region; owner = b.owner };
-    mail = every-empty _;
-    reports = old.reports;
-  }
-
   finished_steady : d.month < last_month → IsSteady w d → IsSteady w (finished d)
-  finished_steady early old = record {
-    numbers = finished_range early old.numbers;
-    names = record { pass = old.names.pass; factions = old.names.factions; joined = old.names.joined; units = old.names.units; structures = old.names.structures };
-    known = finished_known old.known;
-    next = record { factions = old.next.factions; structures = old.next.structures; units = old.next.units };
-    days = old.days;
-    gone = old.gone;
-    owners = λ n s is. let o = old.owners n s is in record { owned = o.owned; ownerless = o.ownerless };
-    water = record { units = old.water.units; structures = old.water.structures };
-    guarded = old.guarded;
-  }
+  finished_steady early old = posted-steady w d (d.month + 1) empty d.reports (omega (arith, early)) (every-empty _) old.known.reports old
 
   finished_balances : Balances d → Balances (finished d)
   unfolding total

@@ -8,6 +8,7 @@ use Rattle.atl_tables.specs.Planet.{Planet}
 use Rattle.atl_orders.specs.Mailing.{IsMailingOf}
 use Rattle.atl_state.specs.declared.records.JoinFault.{JoinFault}
 use Rattle.atl_state.specs.declared.records.JoinFault.TheVariants.{NameTaken, Full}
+use Rattle.atl_state.specs.Limits.{last_month}
 use Rattle.atl_state.specs.State.{State, with_mail, with_report}
 use Rattle.atl_state.specs.Totals.{total}
 use Rattle.atl_state.specs.Good.{Every, IsThere, IsActive, AreInRange, AreNamed, IsPlaced, IsBuilt, AreKnown, AreOwned, IsSteady, IsEarly, IsSound, IsGood}
@@ -16,14 +17,14 @@ use Rattle.atl_state.proofs.EveryLaws.{every-insert, there-new, there-insert}
 
 -- ---- mail and reports
 
-module _ (w : Planet) (c : State) (mail reports : FinMap nat_cmp (List ℕ)) where
-  -- the campaign with other mail and other reports
+module _ (w : Planet) (c : State) (month : ℕ) (mail reports : FinMap nat_cmp (List ℕ)) where
+  -- the campaign in another month, with other mail and other reports
   abbrev posted : State
-  posted = record c { mail = mail; reports = reports }
+  posted = record c { month = month; mail = mail; reports = reports }
 
-  posted-numbers : AreInRange w c → AreInRange w posted
-  posted-numbers old = record {
-    month = old.month;
+  posted-numbers : month ≤ last_month → AreInRange w c → AreInRange w posted
+  posted-numbers early old = record {
+    month = early;
     few_factions = old.few_factions;
     few_regions = old.few_regions;
     few_units = old.few_units;
@@ -49,13 +50,13 @@ module _ (w : Planet) (c : State) (mail reports : FinMap nat_cmp (List ℕ)) whe
   posted-owned : AreOwned c → AreOwned posted
   posted-owned old n s is = let o = old n s is in record { owned = o.owned; ownerless = o.ownerless }
 
-  module _ (senders : Every (λ n text. IsThere c.factions n) mail) (readers : Every (λ n text. IsThere c.factions n) reports) where
+  module _ (early : month ≤ last_month) (senders : Every (λ n text. IsThere c.factions n) mail) (readers : Every (λ n text. IsThere c.factions n) reports) where
     posted-known : AreKnown w c → AreKnown w posted
     posted-known old = record { regions = old.regions; units = posted-placed old; structures = posted-built old; mail = senders; reports = readers }
 
-    posted-steady : IsSteady w c → IsSteady w posted
+    pub posted-steady : IsSteady w c → IsSteady w posted
     posted-steady old = record {
-      numbers = posted-numbers old.numbers;
+      numbers = posted-numbers early old.numbers;
       names = posted-names old.names;
       known = posted-known old.known;
       next = record { factions = old.next.factions; structures = old.next.structures; units = old.next.units };
@@ -66,16 +67,18 @@ module _ (w : Planet) (c : State) (mail reports : FinMap nat_cmp (List ℕ)) whe
       guarded = old.guarded;
     }
 
-    posted-sound : Every (λ n text. IsMailingOf n text × IsActive c n) mail → IsSound w c → IsSound w posted
-    unfolding total
-    posted-sound sent old = record {
-      steady = posted-steady old.steady;
-      men = old.men;
-      amounts = old.amounts;
-      gone = old.gone;
-      balances = old.balances;
-      mail = sent;
-    }
+-- what is so of a sound campaign is so of it with other mail and other reports
+posted-sound : (w : Planet) (c : State) (mail reports : FinMap nat_cmp (List ℕ)) → Every (λ n text. IsThere c.factions n) mail → Every (λ n text. IsThere c.factions n) reports
+    → Every (λ n text. IsMailingOf n text × IsActive c n) mail → IsSound w c → IsSound w (record c { mail = mail; reports = reports })
+unfolding total
+posted-sound w c mail reports senders readers sent old = record {
+  steady = posted-steady w c c.month mail reports old.steady.numbers.month senders readers old.steady;
+  men = old.men;
+  amounts = old.amounts;
+  gone = old.gone;
+  balances = old.balances;
+  mail = sent;
+}
 
 -- a report of a faction that is there keeps a campaign sound
 pub IsSound-with_report : (w : Planet) (c : State) (faction : ℕ) (text : List ℕ) → IsThere c.factions faction → IsSound w c → IsSound w (with_report c faction text)

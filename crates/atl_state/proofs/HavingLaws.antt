@@ -1,19 +1,18 @@
 -- How a campaign changes with what one unit holds, where the unit may come to guard.
-use Rattle.std.proofs.Common.{◌≡◌, ◌≢◌, ◌==◌, ℕ, ◌*◌, ◌≤◌, ◌<◌, true, length, Some, refl, sym, ap, ◌∙◌, inl, inr}
+use Rattle.std.proofs.Common.{◌≡◌, ◌==◌, ℕ, ◌*◌, ◌≤◌, ◌<◌, true, length, Some, refl, ◌∙◌}
 use Rattle.std.specs.Prelude.{IsTrue, nat_lt}
-use Rattle.std.proofs.lemmas.Bool.{and_parts, cases_eq}
+use Rattle.std.proofs.lemmas.Bool.{and_parts}
 use Rattle.std.specs.FinMap.{get, insert}
 use Rattle.atl_tables.specs.Names.{name_ok}
 use Rattle.atl_tables.specs.Planet.{Planet}
 use Rattle.atl_tables.proofs.SumLaws.{numbers_where-insert_known}
 use Rattle.atl_state.specs.Limits.{most_days}
 use Rattle.atl_state.specs.declared.records.Unit.{Unit}
-use Rattle.atl_state.specs.Good.{AreKnown, AreOfOneFaction, AreOwned, Every, IsEarly, IsPlaced, IsSteady, guards}
+use Rattle.atl_state.specs.Good.{AreOfOneFaction, Every, IsEarly, IsSteady, guards}
 use Rattle.atl_state.specs.Held.{Held, IsHolding}
 use Rattle.atl_state.specs.State.{State}
-use Rattle.atl_state.proofs.EveryLaws.{every-insert, get-insert_other, there-insert}
-use Rattle.atl_state.proofs.HoldingLaws.{next_kept, numbers_kept, of_one_faction_kept}
-use Rattle.atl_state.proofs.RegionLaws.{get-insert_same}
+use Rattle.atl_state.proofs.EveryLaws.{every-insert}
+use Rattle.atl_state.proofs.HoldingLaws.{known_kept, next_kept, numbers_kept, of_one_faction_kept, owners_kept}
 
 -- What a unit of a campaign may hold: within the limits, and of what the world has.
 pub record MayHave (w : Planet) (h : Held) : Type 0 where
@@ -36,35 +35,6 @@ module _ (w : Planet) (c : State) (n : ℕ) (u : Unit) (h : Held) (is : get c.un
   abbrev supplied : State
   supplied = record c { units = insert c.units n new_unit }
 
-  known_kept : MayHave w h → AreKnown w c → AreKnown w supplied
-  known_kept may old = record {
-    regions = old.regions;
-    units = every-insert (λ k x. IsPlaced w supplied x) c.units n new_unit
-        (let p = old.units n u is in record { faction = p.faction; region = p.region; structure = p.structure; items = may.items; skills = may.skills })
-        (λ k x there. let p = old.units k x there in record { faction = p.faction; region = p.region; structure = p.structure; items = p.items; skills = p.skills });
-    structures = λ k s there. let b = old.structures k s there in record { kind = b.kind; region = b.region; owner = λ owned. there-insert c.units n s.owner new_unit (b.owner owned) };
-    mail = old.mail;
-    reports = old.reports;
-  }
-
-  -- a unit of the structure is still inside it
-  inside_still : (k m : ℕ) → (x : Unit) × (get c.units k ≡ Some x) × (x.structure ≡ m) → (x : Unit) × (get supplied.units k ≡ Some x) × (x.structure ≡ m)
-  inside_still k m (x, there, inside) = elim (cases_eq k n) [
-    | inl same ↦
-        let one : Some u ≡ Some x = sym is ∙ ap (get c.units) (sym same) ∙ there in
-        let unit : u ≡ x = cc in
-        (new_unit, ap (get supplied.units) same ∙ get-insert_same c.units n new_unit, ap (λ (y : Unit). y.structure) unit ∙ inside)
-    | inr apart ↦ (x, get-insert_other c.units n k new_unit apart ∙ there, inside)
-  ]
-
-  owners_kept : AreOwned c → AreOwned supplied
-  owners_kept old m s there =
-      let o = old m s there in
-      record {
-        owned = λ some. inside_still s.owner m (o.owned some);
-        ownerless = λ none. every-insert (λ k x. x.structure ≢ m) c.units n new_unit (o.ownerless none n u is) (o.ownerless none);
-      }
-
   -- it is steady where the guards of each region are of one faction
   pub steady-having : MayHave w h → AreOfOneFaction guards supplied → IsSteady w c → IsSteady w supplied
   steady-having may guarded old = record {
@@ -76,11 +46,11 @@ module _ (w : Planet) (c : State) (n : ℕ) (u : Unit) (h : Held) (is : get c.un
       units = every-insert (λ k x. IsTrue (name_ok x.holding.name)) c.units n new_unit may.name old.names.units;
       structures = old.names.structures;
     };
-    known = known_kept may old.known;
+    known = known_kept w c n u h is may.items may.skills old.known;
     next = next_kept w c n u h is old.next;
     days = every-insert (λ k x. Every (λ s days. (1 ≤ days) × (days ≤ most_days * x.holding.men)) x.holding.days) c.units n new_unit may.days old.days;
     gone = λ m f there gone. numbers_where-insert_known (λ x. x.faction == m) c.units n u new_unit is refl ∙ old.gone m f there gone;
-    owners = owners_kept old.owners;
+    owners = owners_kept w c n u h is old.owners;
     water = record { units = every-insert _ c.units n new_unit (old.water.units n u is) old.water.units; structures = old.water.structures };
     guarded = guarded;
   }

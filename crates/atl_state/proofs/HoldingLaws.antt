@@ -81,11 +81,11 @@ module _ (w : Planet) (c : State) (n : ℕ) (u : Unit) (h : Held) (is : get c.un
     books = old.books;
   }
 
-  known_kept : MayHold w u h → AreKnown w c → AreKnown w supplied
-  known_kept may old = record {
+  pub known_kept : Every (λ i amount. i < length w.items) h.items → Every (λ s days. s < length w.skills) h.days → AreKnown w c → AreKnown w supplied
+  known_kept items skills old = record {
     regions = old.regions;
     units = every-insert (λ k x. IsPlaced w supplied x) c.units n new_unit
-        (let p = old.units n u is in record { faction = p.faction; region = p.region; structure = p.structure; items = may.items; skills = may.skills })
+        (let p = old.units n u is in record { faction = p.faction; region = p.region; structure = p.structure; items = items; skills = skills })
         (λ k x there. let p = old.units k x there in record { faction = p.faction; region = p.region; structure = p.structure; items = p.items; skills = p.skills });
     structures = λ k s there. let b = old.structures k s there in record { kind = b.kind; region = b.region; owner = λ owned. there-insert c.units n s.owner new_unit (b.owner owned) };
     mail = old.mail;
@@ -114,7 +114,7 @@ module _ (w : Planet) (c : State) (n : ℕ) (u : Unit) (h : Held) (is : get c.un
         | Greater ↦ λ o. (x, get-insert_other c.units n k new_unit (λ same. let l = ranked k n Greater (sym o) in absurd (omega arith)) ∙ there, inside)
       ] refl
 
-  owners_kept : AreOwned c → AreOwned supplied
+  pub owners_kept : AreOwned c → AreOwned supplied
   owners_kept old m s there =
       let o = old m s there in
       record {
@@ -149,7 +149,7 @@ module _ (w : Planet) (c : State) (n : ℕ) (u : Unit) (h : Held) (is : get c.un
       units = every-insert (λ k x. IsTrue (name_ok x.holding.name)) c.units n new_unit may.name old.names.units;
       structures = old.names.structures;
     };
-    known = known_kept may old.known;
+    known = known_kept may.items may.skills old.known;
     next = next_kept old.next;
     days = every-insert (λ k x. Every (λ s days. (1 ≤ days) × (days ≤ most_days * x.holding.men)) x.holding.days) c.units n new_unit may.days old.days;
     gone = gone_kept old.gone;
