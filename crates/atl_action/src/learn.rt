@@ -1,5 +1,4 @@
 //! TEACH and STUDY.
-ghost use Rattle.atl_state.specs.Good.{IsSteady};
 ghost use Rattle.atl_action.specs.Study.{learn_keeps, learn_meaning, study_moves};
 ghost use Rattle.atl_action.specs.StudyAlone.{UnitsStudyAsBegun};
 
@@ -17,10 +16,6 @@ pub struct LearnPhase;
 
 impl Phase for LearnPhase {
     ghost meaning = { learn_meaning };
-
-    ghost needs = { IsSteady };
-
-    ghost leaves = { IsSteady };
 
     ghost moving = { study_moves };
 

@@ -7,7 +7,6 @@ ghost use Rattle.atl_state.specs.Good.{IsSteady};
 ghost use Rattle.atl_state.specs.Levels.{load_of};
 ghost use Rattle.atl_state.specs.Owners.{is_owned_by};
 ghost use Rattle.atl_state.specs.State.{with_structure_region};
-ghost use Rattle.atl_instant.specs.Unbooked.{moves_nothing};
 ghost use Rattle.atl_instant.specs.Steps.{carried};
 ghost use Rattle.atl_action.specs.Sail.{IsCarried, capacity, concerns_nobody, crew_needed, crew_of, is_complete_ship, is_sailing, is_way, of_unit, sail, sail_fault, sail_keeps, sail_step, sail_terms, sailed, sum_inside, taken_along};
 
@@ -273,12 +272,6 @@ impl OrderPhase for SailPhase {
 
 impl Phase for SailPhase {
     ghost meaning = { sail_terms.meaning };
-
-    ghost needs = { IsSteady };
-
-    ghost leaves = { IsSteady };
-
-    ghost moving = { moves_nothing };
 
     ghost keeps = { sail_keeps };
 

@@ -6,7 +6,6 @@ ghost use Rattle.atl_state.specs.Covers.{MarksChanges};
 ghost use Rattle.atl_state.specs.Good.{IsEarly};
 ghost use Rattle.atl_state.specs.Limits.{last_unit};
 ghost use Rattle.atl_instant.specs.Form.{alias_of, form_by, form_fault, form_keeps, form_meaning, form_order, formed, is_forming, is_unit_limit, new_unit, noted};
-ghost use Rattle.atl_instant.specs.Unbooked.{moves_nothing};
 ghost use Rattle.atl_instant.specs.Carrying.{found_written};
 
 use crate::inside::{region_of, structure_of};
@@ -151,8 +150,6 @@ impl Phase for FormPhase {
     ghost needs = { IsEarly };
 
     ghost leaves = { IsEarly };
-
-    ghost moving = { moves_nothing };
 
     ghost keeps = { form_keeps };
 

@@ -3,13 +3,11 @@ ghost use Rattle.std.specs.Prelude.{◌≡◌, IfOk, List, OnOk, ℕ};
 ghost use Rattle.atl_tables.specs.Planet.{Planet};
 ghost use Rattle.atl_orders.specs.Orders.{said};
 ghost use Rattle.atl_state.specs.Covers.{MarksChanges};
-ghost use Rattle.atl_state.specs.Good.{IsSteady};
 ghost use Rattle.atl_state.specs.State.{State};
 ghost use Rattle.atl_instant.specs.Carrying.{found_written};
 ghost use Rattle.atl_instant.specs.Guard.{guard, guard_fault, guard_said, guard_step, guard_terms, is_guarding};
 ghost use Rattle.atl_instant.specs.Holders.{AreHolders};
 ghost use Rattle.atl_instant.specs.Steps.{carried, one_order, ordered};
-ghost use Rattle.atl_instant.specs.Unbooked.{moves_nothing};
 
 use crate::holders::Holders;
 use crate::month::Month;
@@ -113,12 +111,6 @@ impl PhaseVerbs for GuardPhase {
 
 impl Phase for GuardPhase {
     ghost meaning = { guard_terms.meaning };
-
-    ghost needs = { IsSteady };
-
-    ghost leaves = { IsSteady };
-
-    ghost moving = { moves_nothing };
 
     ghost keeps = { guard_terms.keeps };
 

@@ -1,8 +1,10 @@
 //! A phase of the month.
 ghost use Rattle.std.specs.Prelude.{◌≡◌, IfOk};
 ghost use Rattle.atl_state.specs.Covers.{MarksChanges};
+ghost use Rattle.atl_state.specs.Good.{IsSteady};
 ghost use Rattle.atl_instant.specs.Fit.{AreFit};
 ghost use Rattle.atl_instant.specs.Meaning.{Meaning, Condition, Keeping, Moving, LeavesWell, HaveRoom, then_also, both_need, both_keep, both_move};
+ghost use Rattle.atl_instant.specs.Unbooked.{moves_nothing};
 
 use crate::month::Month;
 use atl_state::Campaign;
@@ -14,13 +16,14 @@ pub trait Phase {
     // What it makes of a campaign and of what the month carries.
     ghost meaning: { Meaning };
 
-    // What it needs of a campaign, and what it leaves.
-    ghost needs: { Condition };
+    // What it needs of a campaign, and what it leaves: a steady one, with most phases.
+    ghost needs: { Condition } = { IsSteady };
 
-    ghost leaves: { Condition };
+    ghost leaves: { Condition } = { IsSteady };
 
     // By how much it may move each amount of the books: by less than 10^14 for a phase, and so far for each of some phases.
-    ghost moving: { Moving };
+    // Where nothing is said it moves none.
+    ghost moving: { Moving } = { moves_nothing };
 
     // What it leaves to the units whose own faction wrote no order of it.
     ghost keeps: { Keeping };

@@ -194,10 +194,6 @@ impl OrderPhase for QuitPhase {
 impl Phase for QuitPhase {
     ghost meaning = { quit_meaning };
 
-    ghost needs = { IsSteady };
-
-    ghost leaves = { IsSteady };
-
     ghost moving = { quit_moves };
 
     ghost keeps = { quit_keeps };

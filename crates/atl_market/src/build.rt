@@ -5,7 +5,7 @@ ghost use Rattle.std.specs.Fmt.{decimal};
 ghost use Rattle.std.specs.List.{slice_get};
 ghost use Rattle.std.specs.Option.{option_copied};
 ghost use Rattle.atl_state.specs.Covers.{MarksChanges};
-ghost use Rattle.atl_state.specs.Good.{IsNumbered, IsSteady};
+ghost use Rattle.atl_state.specs.Good.{IsNumbered};
 ghost use Rattle.atl_state.specs.Limits.{last_unit, most_structures};
 ghost use Rattle.atl_state.specs.declared.records.Unit.{Unit};
 ghost use Rattle.atl_instant.specs.Meaning.{HaveRoom};
@@ -288,10 +288,6 @@ impl OrderPhase for BuildPhase {
 
 impl Phase for BuildPhase {
     ghost meaning = { build_terms.meaning };
-
-    ghost needs = { IsSteady };
-
-    ghost leaves = { IsSteady };
 
     ghost moving = { build_moves };
 

@@ -105,10 +105,6 @@ fn world_is_sound(world: &World)
 impl Phase for ProducePhase {
     ghost meaning = { produce_meaning };
 
-    ghost needs = { IsSteady };
-
-    ghost leaves = { IsSteady };
-
     ghost moving = { produce_moves most_moved };
 
     ghost keeps = { produce_keeps };

@@ -6,7 +6,6 @@ ghost use Rattle.atl_state.specs.Good.{IsEarly};
 ghost use Rattle.atl_state.specs.Limits.{holding_limit};
 ghost use Rattle.atl_state.specs.State.{with_money, with_region_money};
 ghost use Rattle.atl_instant.specs.Staying.{spares_all};
-ghost use Rattle.atl_instant.specs.Unbooked.{moves_nothing};
 ghost use Rattle.atl_market.specs.Tax.{is_tax, money_at, tax_meaning, tax_pots, taxed};
 ghost use Rattle.atl_market.specs.Payable.{CanTax};
 ghost use Rattle.atl_market.specs.Paid.{TaxesAtOnce};
@@ -123,8 +122,6 @@ impl Phase for TaxPhase {
     ghost needs = { IsEarly };
 
     ghost leaves = { IsEarly };
-
-    ghost moving = { moves_nothing };
 
     ghost keeps = { spares_all };
 

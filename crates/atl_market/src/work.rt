@@ -229,10 +229,6 @@ impl PotPhase for WorkPhase {
 impl Phase for WorkPhase {
     ghost meaning = { work_meaning };
 
-    ghost needs = { IsSteady };
-
-    ghost leaves = { IsSteady };
-
     ghost moving = { work_moves most_moved };
 
     ghost keeps = { spares_all };

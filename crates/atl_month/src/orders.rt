@@ -1,5 +1,5 @@
 //! The phases that carry out orders, one after the other.
-ghost use Rattle.atl_state.specs.Good.{IsEarly, IsSteady};
+ghost use Rattle.atl_state.specs.Good.{IsEarly};
 ghost use Rattle.atl_month.specs.Month.{orders_keep, orders_meaning, orders_moving};
 
 use atl_action::{LearnPhase, MovePhase, SailPhase};
@@ -20,8 +20,6 @@ impl Phase for OrderPhases {
     ghost meaning = { orders_meaning };
 
     ghost needs = { IsEarly };
-
-    ghost leaves = { IsSteady };
 
     ghost moving = { orders_moving };
 

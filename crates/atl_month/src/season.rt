@@ -95,10 +95,6 @@ fn turn_regions(world: &World, campaign: &mut Campaign, words: &[u32])
 impl Phase for SeasonPhase {
     ghost meaning = { season_meaning };
 
-    ghost needs = { IsSteady };
-
-    ghost leaves = { IsSteady };
-
     ghost moving = { grows_by most_moved };
 
     ghost keeps = { season_keeps };

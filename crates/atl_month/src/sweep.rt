@@ -212,8 +212,6 @@ fn sweep_factions(campaign: &mut Campaign, numbers: &[u32])
 impl Phase for SweepPhase {
     ghost meaning = { sweep_meaning };
 
-    ghost needs = { IsSteady };
-
     ghost leaves = { IsSwept };
 
     ghost moving = { loses_by most_moved };

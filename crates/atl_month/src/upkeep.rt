@@ -2,7 +2,6 @@
 ghost use Rattle.std.specs.Prelude.{◌≡◌, ◌≤◌, ◌++◌, All, IfOk, OnOk, Some, filter, map};
 ghost use Rattle.atl_tables.specs.Planet.{Planet};
 ghost use Rattle.atl_state.specs.Covers.{MarksChanges};
-ghost use Rattle.atl_state.specs.Good.{IsSteady};
 ghost use Rattle.atl_instant.specs.Meaning.{most_moved};
 ghost use Rattle.atl_market.specs.PotPhase.{CanInTurn};
 ghost use Rattle.atl_month.specs.Settling.{CanSpare, IsPurse};
@@ -162,10 +161,6 @@ fn tell_starved(month: &mut Month, list: &[Settled]) -> Result<(), AllocError>
 
 impl Phase for UpkeepPhase {
     ghost meaning = { upkeep_meaning };
-
-    ghost needs = { IsSteady };
-
-    ghost leaves = { IsSteady };
 
     ghost moving = { takes_up_to most_moved };
 
