@@ -5,6 +5,7 @@ use Rattle.sqlite_trees.specs.declared.store.Store.{Ghosts}
 use Rattle.sqlite.specs.declared.error.Error.{Error}
 use Rattle.sqlite.specs.Held.{Held, state}
 use Rattle.sqlite.specs.State.{HasCleanDisk}
+use Rattle.atl_store.specs.OwnStatements.{Statements}
 use Rattle.atl_store.specs.Causes.{IsTold}
 use Rattle.atl_store.specs.Faults.{is_memory, create_fault, write_fault}
 use Rattle.atl_store.specs.declared.fault.CreateFault.TheVariants as create
@@ -23,36 +24,36 @@ module _ {F : Type 0} (memory other : F) (apart : memory ≢ other) where
   is_second true is = absurd (apart (sym is))
   is_second false is = refl
 
-module _ {S : Type 0} (g : Ghosts S) (old new : Held S) where
+module _ {S : Type 0} (g : Ghosts S) (own : Statements) (old new : Held S) where
   creates_apart : create.Memory ≢ create.Store
   creates_apart is = let e = is in cc
 
   writes_apart : write.Memory ≢ write.Store
   writes_apart is = let e = is in cc
 
-  pub creation_lacked : IsTold g create_fault old new create.Memory → GivesError g true old new
+  pub creation_lacked : IsTold g own create_fault old new create.Memory → GivesError g own true old new
   creation_lacked (e, is, given) = record { error = e; memory_is = is_first create.Memory create.Store creates_apart (is_memory e) is; given = given }
 
-  pub creation_failed : IsTold g create_fault old new create.Store → GivesError g false old new
+  pub creation_failed : IsTold g own create_fault old new create.Store → GivesError g own false old new
   creation_failed (e, is, given) = record { error = e; memory_is = is_second create.Memory create.Store creates_apart (is_memory e) is; given = given }
 
-  lacked : IsTold g write_fault old new write.Memory → GivesError g true old new
+  lacked : IsTold g own write_fault old new write.Memory → GivesError g own true old new
   lacked (e, is, given) = record { error = e; memory_is = is_first write.Memory write.Store writes_apart (is_memory e) is; given = given }
 
-  failed : IsTold g write_fault old new write.Store → GivesError g false old new
+  failed : IsTold g own write_fault old new write.Store → GivesError g own false old new
   failed (e, is, given) = record { error = e; memory_is = is_second write.Memory write.Store writes_apart (is_memory e) is; given = given }
 
   -- what a writing tells has its cause
-  pub writing_told : (fault : WriteFault) → (HasCleanDisk (state g new) → IsTold g write_fault old new fault) → HasCause g old new (of_writing fault)
+  pub writing_told : (fault : WriteFault) → (HasCleanDisk (state g new) → IsTold g own write_fault old new fault) → HasCause g own old new (of_writing fault)
   writing_told write.Memory told = inr (λ clean. lacked (told clean))
   writing_told write.Store told = λ clean. failed (told clean)
 
   -- the fault of a writing that ends a command
-  pub ended_by : {A : Type 0} (fault : WriteFault) (r : Result A WriteFault) → IsErrAnd r (λ f. f ≡ fault) → (HasCleanDisk (state g new) → IsTold g write_fault old new fault) → IfErr r (λ f. HasCause g old new (of_writing f))
+  pub ended_by : {A : Type 0} (fault : WriteFault) (r : Result A WriteFault) → IsErrAnd r (λ f. f ≡ fault) → (HasCleanDisk (state g new) → IsTold g own write_fault old new fault) → IfErr r (λ f. HasCause g own old new (of_writing f))
   ended_by fault (Ok a) is told = tt
-  ended_by fault (Err f) is told = subst (λ x. HasCause g old new (of_writing x)) (sym is) (writing_told fault told)
+  ended_by fault (Err f) is told = subst (λ x. HasCause g own old new (of_writing x)) (sym is) (writing_told fault told)
 
 -- want of memory that ends a command before the database is asked to write
-pub ended_unasked : {S A : Type 0} (g : Ghosts S) (conn : Held S) (r : Result A WriteFault) → IsErrAnd r (λ f. f ≡ write.Memory) → IfErr r (λ f. HasCause g conn conn (of_writing f))
-ended_unasked g conn (Ok a) is = tt
-ended_unasked g conn (Err f) is = subst (λ x. HasCause g conn conn (of_writing x)) (sym is) (inl refl)
+pub ended_unasked : {S A : Type 0} (g : Ghosts S) (own : Statements) (conn : Held S) (r : Result A WriteFault) → IsErrAnd r (λ f. f ≡ write.Memory) → IfErr r (λ f. HasCause g own conn conn (of_writing f))
+ended_unasked g own conn (Ok a) is = tt
+ended_unasked g own conn (Err f) is = subst (λ x. HasCause g own conn conn (of_writing x)) (sym is) (inl refl)

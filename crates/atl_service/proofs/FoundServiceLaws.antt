@@ -16,6 +16,11 @@ use Rattle.atl_store.specs.declared.fault.CreateFault.{CreateFault}
 use Rattle.atl_store.specs.declared.fault.CreateFault.TheVariants.{NotEmpty, Store, Memory}
 use Rattle.atl_store.proofs.WorldTextLaws.{world_text_is}
 use Rattle.atl_store.specs.Keeps.{HoldsCampaign}
+use Rattle.atl_store.specs.Causes.{IsTold}
+use Rattle.atl_store.specs.Faults.{create_fault}
+use Rattle.atl_store.specs.OwnStatements.{OfFounding}
+use Rattle.atl_store.proofs.CauseLaws.{gives_among}
+use Rattle.atl_service.specs.Causes.{FoundsBy}
 use Rattle.atl_service.specs.ServiceState.{Stands}
 use Rattle.atl_service.specs.declared.command.Cause.{Cause}
 use Rattle.atl_service.specs.declared.command.Cause.TheVariants.{World as BadWorld, BadPassText}
@@ -74,11 +79,19 @@ module _ {S : Type 0} (g : Ghosts S) where
         ok_same : (a b : Planet) → ◌≡◌ {A = Result Planet WorldFault} (Ok a) (Ok b) → a ≡ b
         ok_same a b e = cc
 
+    -- the campaign is the one that the text and the pass text found
+    told_by_founding : (fault : CreateFault) → IsTold g (OfFounding text c) create_fault old new fault → IsTold g (FoundsBy text pass) create_fault old new fault
+    told_by_founding fault told = (
+      told.0,
+      told.1,
+      gives_among g (OfFounding text c) (FoundsBy text pass) (λ sql params own. (w, made.world, subst (λ (d : Campaign). OfFounding text d sql params) made.campaign own)) told.0 old new told.2,
+    )
+
     pub refused_by_store : (fault : CreateFault) → RefusesToCreate g text c old new fault → RefusesFounding g old text pass (of_creation fault) new
     refused_by_store NotEmpty refused = record { cause = ((w, made.world), made.pass_is_good, refused.0); leaves = refused.1; later = later }
     refused_by_store Store refused = record { cause = ((w, made.world), made.pass_is_good, refused.0.fresh); leaves = (failed refused.0, broken refused.1); later = later }
       where
-        broken : ((¬ IsReady (state g old)) × (new ≡ old)) ⊎ BreaksOff g old new Store → RefusesToWrite g old new
+        broken : ((¬ IsReady (state g old)) × (new ≡ old)) ⊎ BreaksOff g text c old new Store → RefusesToWrite g (FoundsBy text pass) old new
         broken (inl unasked) = inl unasked
-        broken (inr off) = inr (off.ready, λ clean. creation_failed g old new (off.told clean))
-    refused_by_store Memory refused = record { cause = tt; leaves = (failed refused.0, inr (λ clean. creation_lacked g old new (refused.1.told clean))); later = later }
+        broken (inr off) = inr (off.ready, λ clean. creation_failed g (FoundsBy text pass) old new (told_by_founding Store (off.told clean)))
+    refused_by_store Memory refused = record { cause = tt; leaves = (failed refused.0, inr (λ clean. creation_lacked g (FoundsBy text pass) old new (told_by_founding Memory (refused.1.told clean)))); later = later }

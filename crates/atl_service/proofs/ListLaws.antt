@@ -15,7 +15,7 @@ use Rattle.atl_service.specs.declared.command.Answer.{Answer}
 use Rattle.atl_service.specs.declared.command.Answer.TheVariants.{Joined, Mailed, MonthDone, Text, Refused, Fault}
 use Rattle.atl_service.specs.declared.command.Fault.{Fault as Failure}
 use Rattle.atl_service.specs.declared.command.Fault.TheVariants.{Memory, Store, Closed}
-use Rattle.atl_service.specs.Causes.{HasCause, IsFault}
+use Rattle.atl_service.specs.Causes.{OfCommand, HasCause, IsFault}
 use Rattle.atl_service.specs.Step.{step}
 use Rattle.atl_service.specs.ServiceState.{ServiceState, text_in}
 use Rattle.atl_service.specs.Runs.{Runs, RunsAt, RunsOpen, Accepts, Closes, RunsAll, Follows, FollowsAt, AreClosed, Headline, Interrupted, HeadlineAt}
@@ -69,18 +69,18 @@ module _ {S : Type 0} (g : Ghosts S) where
       )
 
   -- one that closed the service
-  closed : (old mid new : ServiceState S) (c : Campaign) (x : Command) (fault : Failure) (cs : List Command) (rs : List Answer) → Closes g c old x mid → HasCause g old.conn mid.conn fault → HoldsCampaign g old.conn (text_in g old.conn) c
+  closed : (old mid new : ServiceState S) (c : Campaign) (x : Command) (fault : Failure) (cs : List Command) (rs : List Answer) → Closes g c old x mid → HasCause g (OfCommand old.world c x) old.conn mid.conn fault → HoldsCampaign g old.conn (text_in g old.conn) c
       → (HasCleanDisk (state g mid.conn) → HasCleanDisk (state g old.conn)) → FollowsAt g mid cs rs new mid.campaign
-      → AreClosed cs rs × (new.campaign ≡ None) × (HasCleanDisk (state g new.conn) → Stops (state g old.conn).faults (state g new.conn) (text_in g old.conn) c (step old.world c x).0) × IsFault g (text_in g old.conn) c fault new.conn
+      → AreClosed cs rs × (new.campaign ≡ None) × (HasCleanDisk (state g new.conn) → Stops (state g old.conn).faults (state g new.conn) (text_in g old.conn) c (step old.world c x).0) × IsFault g (text_in g old.conn) old.world c x fault new.conn
       × (new.world ≡ old.world)
   closed old mid new c x fault cs rs closes cause holds clean rest =
       let shut : mid.campaign ≡ None = ap (λ (e : ServiceState S). e.campaign) closes.same in
       let on = subst (FollowsAt g mid cs rs new) shut rest in
-      let told : IsFault g (text_in g old.conn) c fault mid.conn = record { old = old.conn; held = λ h. holds (clean h); cause = cause } in (
+      let told : IsFault g (text_in g old.conn) old.world c x fault mid.conn = record { old = old.conn; held = λ h. holds (clean h); cause = cause } in (
         on.0,
         ap (λ (e : ServiceState S). e.campaign) on.1 ∙ shut,
         subst (λ (e : ServiceState S). HasCleanDisk (state g e.conn) → Stops (state g old.conn).faults (state g e.conn) (text_in g old.conn) c (step old.world c x).0) (sym on.1) closes.tables,
-        subst (λ (e : ServiceState S). IsFault g (text_in g old.conn) c fault e.conn) (sym on.1) told,
+        subst (λ (e : ServiceState S). IsFault g (text_in g old.conn) old.world c x fault e.conn) (sym on.1) told,
         ap (λ (e : ServiceState S). e.world) on.1 ∙ ap (λ (e : ServiceState S). e.world) closes.same,
       )
 
@@ -154,6 +154,8 @@ module _ {S : Type 0} (g : Ghosts S) where
   further text faults w c x a cs rs new is (inl h) = inl (record { answers_are = ap₂ (λ b bs. b ∷ bs) (sym is) h.answers_are; campaign_is = h.campaign_is; tables = h.tables })
   further text faults w c x a cs rs new is (inr h) = inr (record {
     count = h.count + 1;
+    command = h.command;
+    at = simp unary_clauses h.at;
     within = omega (arith, h.within);
     fault = h.fault;
     first = h.first;
@@ -174,6 +176,8 @@ module _ {S : Type 0} (g : Ghosts S) where
   ends text faults w c (x ∷ cs) (Refused r ∷ rs) new f = further text faults w c x (Refused r) cs rs new f.0 (ends text faults w (step w c x).0 cs rs new f.1)
   ends text faults w c (x ∷ cs) (Fault e ∷ rs) new f = inr (record {
     count = 0;
+    command = x;
+    at = refl;
     within = omega arith;
     fault = e;
     first = f.0;

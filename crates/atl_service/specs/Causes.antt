@@ -1,38 +1,60 @@
 -- Why a command, or a founding, could not be carried out.
-use Rattle.std.specs.Prelude.{◌≡◌, ◌⊎◌, ℕ, List, Bool, true, false}
+use Rattle.std.specs.Prelude.{◌≡◌, ◌⊎◌, ℕ, List, Bool, true, false, Ok}
 use Rattle.sqlite_trees.specs.declared.store.Store.{Ghosts}
 use Rattle.sqlite.specs.declared.error.Error.{Error}
 use Rattle.sqlite.specs.Held.{Held, state}
 use Rattle.sqlite.specs.State.{HasCleanDisk}
+use Rattle.atl_tables.specs.Planet.{Planet}
+use Rattle.atl_tables.specs.World.{world_of}
+use Rattle.atl_state.specs.Founding.{founded_of}
 use Rattle.atl_state.specs.State.{State as Campaign}
 use Rattle.atl_store.specs.Causes.{Gives}
 use Rattle.atl_store.specs.Faults.{is_memory}
 use Rattle.atl_store.specs.Keeps.{Keeps}
+use Rattle.atl_store.specs.OwnStatements.{Statements, OfChange, OfFounding, OfJoining, OfMail}
+use Rattle.atl_service.specs.declared.command.Command.{Command}
+use Rattle.atl_service.specs.declared.command.Command.TheVariants.{Join, Mail, Close, Report}
 use Rattle.atl_service.specs.declared.command.Fault.{Fault}
 use Rattle.atl_service.specs.declared.command.Fault.TheVariants.{Memory, Store, Closed}
+use Rattle.atl_service.specs.Step.{step}
 
--- A call of the writing's transaction gave an error, which is want of memory or isn't.
-pub record GivesError {S : Type 0} (g : Ghosts S) (memory : Bool) (old new : Held S) : Type 0 where
+-- ---- the statements that may be at fault
+
+-- those of a command, with the rows of the campaign after it
+abbrev pub OfCommand : Planet → Campaign → Command → Statements
+OfCommand w c (Join name pass word) = OfJoining c.next_faction (step w c (Join name pass word)).0
+OfCommand w c (Mail faction pass text) = OfMail faction text
+OfCommand w c (Close month pass words) = OfChange (step w c (Close month pass words)).0
+OfCommand w c (Report faction pass) = λ sql params. ⊥
+
+-- those of the founding of a world text
+abbrev pub FoundsBy : List ℕ → List ℕ → Statements
+FoundsBy text pass sql params = (w : Planet) × (world_of text ≡ Ok w) × OfFounding text (founded_of w pass) sql params
+
+-- ---- causes
+
+-- A call of the transaction that runs these statements gave an error, which is want of memory or isn't.
+pub record GivesError {S : Type 0} (g : Ghosts S) (own : Statements) (memory : Bool) (old new : Held S) : Type 0 where
   pub error : Error
   pub memory_is : is_memory error ≡ memory
-  pub given : Gives g error old new
+  pub given : Gives g own error old new
 
 -- The database wasn't asked to write, or a call of the writing gave want of memory.
-abbrev pub LacksMemory : {S : Type 0} → Ghosts S → Held S → Held S → Type 0
-LacksMemory g old new = (new ≡ old) ⊎ (HasCleanDisk (state g new) → GivesError g true old new)
+abbrev pub LacksMemory : {S : Type 0} → Ghosts S → Statements → Held S → Held S → Type 0
+LacksMemory g own old new = (new ≡ old) ⊎ (HasCleanDisk (state g new) → GivesError g own true old new)
 
 -- A call of the writing gave another error.
-abbrev pub FailsToWrite : {S : Type 0} → Ghosts S → Held S → Held S → Type 0
-FailsToWrite g old new = HasCleanDisk (state g new) → GivesError g false old new
+abbrev pub FailsToWrite : {S : Type 0} → Ghosts S → Statements → Held S → Held S → Type 0
+FailsToWrite g own old new = HasCleanDisk (state g new) → GivesError g own false old new
 
 -- the connection as a command found it and as it left it, where this fault is told
-abbrev pub HasCause : {S : Type 0} → Ghosts S → Held S → Held S → Fault → Type 0
-HasCause g old new Memory = LacksMemory g old new
-HasCause g old new Store = FailsToWrite g old new
-HasCause g old new Closed = ⊥
+abbrev pub HasCause : {S : Type 0} → Ghosts S → Statements → Held S → Held S → Fault → Type 0
+HasCause g own old new Memory = LacksMemory g own old new
+HasCause g own old new Store = FailsToWrite g own old new
+HasCause g own old new Closed = ⊥
 
 -- A fault of a command has its cause, and the connection that the command found held the campaign.
-pub record IsFault {S : Type 0} (g : Ghosts S) (text : List ℕ) (c : Campaign) (fault : Fault) (new : Held S) : Type 0 where
+pub record IsFault {S : Type 0} (g : Ghosts S) (text : List ℕ) (w : Planet) (c : Campaign) (command : Command) (fault : Fault) (new : Held S) : Type 0 where
   pub old : Held S
   pub held : HasCleanDisk (state g new) → Keeps (state g old) text c
-  pub cause : HasCause g old new fault
+  pub cause : HasCause g (OfCommand w c command) old new fault

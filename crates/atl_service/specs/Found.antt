@@ -16,7 +16,8 @@ use Rattle.atl_store.specs.declared.fault.CreateFault.{CreateFault}
 use Rattle.atl_store.specs.declared.fault.CreateFault.TheVariants as create
 use Rattle.atl_service.specs.declared.command.Cause.{Cause}
 use Rattle.atl_service.specs.declared.command.Cause.TheVariants.{World as BadWorld, BadPassText, NotEmpty, NotACampaign, Damaged, Store, Memory}
-use Rattle.atl_service.specs.Causes.{FailsToWrite, LacksMemory}
+use Rattle.atl_store.specs.OwnStatements.{Statements}
+use Rattle.atl_service.specs.Causes.{FoundsBy, FailsToWrite, LacksMemory}
 use Rattle.atl_service.specs.ServiceState.{ServiceState, text_in}
 
 -- where no table campaign was there, the service is open, with the world of the text and the founded campaign, and its tables hold the rows of both
@@ -49,8 +50,8 @@ pub record FailsToFound {S : Type 0} (g : Ghosts S) (old : Held S) (text pass : 
   pub crash : HasCleanDisk (state g new) → (w : Planet) → old_world_of text ≡ Ok w → MayFound (state g old) text (founded_of w pass) (state g new)
 
 -- The database has a table, an index or a view, or the connection is in a transaction, and nothing is changed; or neither is so, and a call of the writing gave another error than want of memory.
-abbrev pub RefusesToWrite : {S : Type 0} → Ghosts S → Held S → Held S → Type 0
-RefusesToWrite g old new = ((¬ IsReady (state g old)) × (new ≡ old)) ⊎ (IsReady (state g old) × FailsToWrite g old new)
+abbrev pub RefusesToWrite : {S : Type 0} → Ghosts S → Statements → Held S → Held S → Type 0
+RefusesToWrite g own old new = ((¬ IsReady (state g old)) × (new ≡ old)) ⊎ (IsReady (state g old) × FailsToWrite g own old new)
 
 -- a founding that a check refuses changes nothing at all
 abbrev pub Leaves : {S : Type 0} → Ghosts S → Held S → List ℕ → List ℕ → Held S → Cause → Type 0
@@ -59,8 +60,8 @@ Leaves g old text pass new BadPassText = new ≡ old
 Leaves g old text pass new NotEmpty = new ≡ old
 Leaves g old text pass new NotACampaign = ⊥
 Leaves g old text pass new (Damaged rule) = ⊥
-Leaves g old text pass new Store = FailsToFound g old text pass new × RefusesToWrite g old new
-Leaves g old text pass new Memory = FailsToFound g old text pass new × LacksMemory g old new
+Leaves g old text pass new Store = FailsToFound g old text pass new × RefusesToWrite g (FoundsBy text pass) old new
+Leaves g old text pass new Memory = FailsToFound g old text pass new × LacksMemory g (FoundsBy text pass) old new
 
 -- The founding is refused by the first check that fails.
 pub record RefusesFounding {S : Type 0} (g : Ghosts S) (old : Held S) (text pass : List ℕ) (why : Cause) (new : Held S) : Type 0 where

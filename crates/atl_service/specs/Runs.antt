@@ -1,5 +1,5 @@
 -- What a call of `run` or of `run_all` may answer and leave.
-use Rattle.std.specs.Prelude.{◌≡◌, ◌≢◌, ◌⊎◌, ◌<◌, ◌+◌, ◌∷◌, ◌++◌, [], ℕ, List, map, take, drop, length, Option, Some, None, ⊤}
+use Rattle.std.specs.Prelude.{◌≡◌, ◌≢◌, ◌⊎◌, ◌<◌, ◌+◌, ◌∷◌, ◌++◌, [], ℕ, List, map, take, drop, length, slice_get, Option, Some, None, ⊤}
 use Rattle.sqlite_trees.specs.declared.store.Store.{Ghosts}
 use Rattle.sqlite.specs.Held.{state}
 use Rattle.sqlite.specs.State.{HasCleanDisk}
@@ -12,7 +12,7 @@ use Rattle.atl_service.specs.declared.command.Answer.TheVariants.{Joined, Mailed
 use Rattle.atl_service.specs.declared.command.Answer.TheVariants as Answers
 use Rattle.atl_service.specs.declared.command.Fault.{Fault as Failure}
 use Rattle.atl_service.specs.declared.command.Fault.TheVariants.{Memory, Store, Closed}
-use Rattle.atl_service.specs.Causes.{HasCause, IsFault}
+use Rattle.atl_service.specs.Causes.{OfCommand, HasCause, IsFault}
 use Rattle.atl_service.specs.Step.{step, run_of}
 use Rattle.atl_service.specs.ServiceState.{ServiceState, text_in}
 
@@ -39,8 +39,8 @@ RunsOpen g c old command (Mailed orders faults) new = Accepts g c old command (M
 RunsOpen g c old command (MonthDone month) new = Accepts g c old command (MonthDone month) new
 RunsOpen g c old command (Text report) new = Accepts g c old command (Text report) new × (new ≡ old)
 RunsOpen g c old command (Refused why) new = Refuses c old command (Refused why) new
-RunsOpen g c old command (Fault Memory) new = Closes g c old command new × HasCause g old.conn new.conn Memory
-RunsOpen g c old command (Fault Store) new = Closes g c old command new × HasCause g old.conn new.conn Store
+RunsOpen g c old command (Fault Memory) new = Closes g c old command new × HasCause g (OfCommand old.world c command) old.conn new.conn Memory
+RunsOpen g c old command (Fault Store) new = Closes g c old command new × HasCause g (OfCommand old.world c command) old.conn new.conn Store
 RunsOpen g c old command (Fault Closed) new = ⊥
 
 abbrev pub RunsAt : {S : Type 0} → Ghosts S → ServiceState S → Command → Answer → ServiceState S → Option Campaign → Type 0
@@ -70,7 +70,7 @@ Follows g text faults w c (command ∷ cs) (MonthDone month ∷ rs) new = ((step
 Follows g text faults w c (command ∷ cs) (Text report ∷ rs) new = ((step w c command).1 ≡ Text report) × Follows g text faults w (step w c command).0 cs rs new
 Follows g text faults w c (command ∷ cs) (Refused why ∷ rs) new = ((step w c command).1 ≡ Refused why) × Follows g text faults w (step w c command).0 cs rs new
 Follows g text faults w c (command ∷ cs) (Fault fault ∷ rs) new =
-    (fault ≢ Closed) × AreClosed cs rs × (new.campaign ≡ None) × (HasCleanDisk (state g new.conn) → Stops faults (state g new.conn) text c (step w c command).0) × IsFault g text c fault new.conn
+    (fault ≢ Closed) × AreClosed cs rs × (new.campaign ≡ None) × (HasCleanDisk (state g new.conn) → Stops faults (state g new.conn) text c (step w c command).0) × IsFault g text w c command fault new.conn
 Follows g text faults w c [] (a ∷ rs) new = ⊥
 Follows g text faults w c (command ∷ cs) [] new = ⊥
 
@@ -92,12 +92,14 @@ pub record Headline {S : Type 0} (g : Ghosts S) (text : List ℕ) (w : Planet) (
 -- A fault came at a command, and has its cause: the answers before it are the definition's, the tables stop at the campaign of the commands before it, and all later answers are Closed.
 pub record Interrupted {S : Type 0} (g : Ghosts S) (text : List ℕ) (faults : ℕ) (w : Planet) (c : Campaign) (commands : List Command) (answers : List Answer) (new : ServiceState S) : Type 0 where
   pub count : ℕ
+  pub command : Command
+  pub at : slice_get commands count ≡ Some command
   pub within : count < length commands
   pub fault : Failure
   pub first : fault ≢ Closed
   pub answers_are : answers ≡ (run_of w c (take count commands)).1 ++ Answers.Fault fault ∷ map (λ _. Answers.Fault Closed) (drop (count + 1) commands)
   pub campaign_is : new.campaign ≡ None
-  pub cause : IsFault g text (run_of w c (take count commands)).0 fault new.conn
+  pub cause : IsFault g text w (run_of w c (take count commands)).0 command fault new.conn
   pub tables : HasCleanDisk (state g new.conn) → Stops faults (state g new.conn) text (run_of w c (take count commands)).0 (run_of w c (take (count + 1) commands)).0
 
 abbrev pub HeadlineAt : {S : Type 0} → Ghosts S → ServiceState S → List Command → List Answer → ServiceState S → Option Campaign → Type 0

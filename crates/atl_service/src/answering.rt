@@ -7,7 +7,7 @@ ghost use Rattle.atl_state.specs.Marks.{no_marks};
 ghost use Rattle.atl_state.specs.State.{with_mail};
 ghost use Rattle.atl_service.specs.Step.{identified, step};
 ghost use Rattle.atl_service.specs.Answering.{Answers, Denies, GivesUp, IsSound, LeavesIdle, of_writing, unread};
-ghost use Rattle.atl_service.specs.Causes.{HasCause};
+ghost use Rattle.atl_service.specs.Causes.{OfCommand, HasCause};
 
 use crate::closing::close;
 use crate::command::{Answer, Command, Refusal};
@@ -33,7 +33,7 @@ fn join<S: Alter>(
     requires idle { conn.old.in_transaction ≡ false }
     ensures ok { IfOk result (Answers S.Store world.now campaign.old.what conn.old (Command.Join name.now pass.now word) campaign.new.what conn.new) }
     ensures err { OnErr result (GivesUp S.Store world.now campaign.old.what conn.old (Command.Join name.now pass.now word) conn.new) }
-    ensures cause { IfErr result (λ fault. HasCause S.Store conn.old conn.new (of_writing fault)) }
+    ensures cause { IfErr result (λ fault. HasCause S.Store (OfCommand world.now campaign.old.what (Command.Join name.now pass.now word)) conn.old conn.new (of_writing fault)) }
     ensures leaves { LeavesIdle S.Store conn.old conn.new }
     ensures unmarked { campaign.old.marks ≡ no_marks → OnOk result (campaign.new.marks ≡ no_marks) }
 {
@@ -143,7 +143,7 @@ fn mail<S: Alter>(
     requires idle { conn.old.in_transaction ≡ false }
     ensures ok { IfOk result (Answers S.Store world.now campaign.old.what conn.old (Command.Mail faction pass.now text.now) campaign.new.what conn.new) }
     ensures err { OnErr result (GivesUp S.Store world.now campaign.old.what conn.old (Command.Mail faction pass.now text.now) conn.new) }
-    ensures cause { IfErr result (λ fault. HasCause S.Store conn.old conn.new (of_writing fault)) }
+    ensures cause { IfErr result (λ fault. HasCause S.Store (OfCommand world.now campaign.old.what (Command.Mail faction pass.now text.now)) conn.old conn.new (of_writing fault)) }
     ensures leaves { LeavesIdle S.Store conn.old conn.new }
     ensures unmarked { campaign.old.marks ≡ no_marks → OnOk result (campaign.new.marks ≡ no_marks) }
 {
@@ -194,7 +194,7 @@ pub(crate) fn answered<S: Alter>(
     requires idle { conn.old.in_transaction ≡ false }
     ensures ok { IfOk result (Answers S.Store world.now campaign.old.what conn.old command.now campaign.new.what conn.new) }
     ensures err { OnErr result (GivesUp S.Store world.now campaign.old.what conn.old command.now conn.new) }
-    ensures cause { IfErr result (λ fault. HasCause S.Store conn.old conn.new (of_writing fault)) }
+    ensures cause { IfErr result (λ fault. HasCause S.Store (OfCommand world.now campaign.old.what command.now) conn.old conn.new (of_writing fault)) }
     ensures leaves { LeavesIdle S.Store conn.old conn.new }
     ensures unmarked { campaign.old.marks ≡ no_marks → OnOk result (campaign.new.marks ≡ no_marks) }
 {

@@ -9,7 +9,7 @@ ghost use Rattle.atl_state.specs.Limits.{last_month};
 ghost use Rattle.atl_state.specs.Marks.{no_marks};
 ghost use Rattle.atl_service.specs.declared.command.Command.TheVariants as command;
 ghost use Rattle.atl_service.specs.Answering.{Answers, GivesUp, LeavesIdle, of_writing};
-ghost use Rattle.atl_service.specs.Causes.{HasCause};
+ghost use Rattle.atl_service.specs.Causes.{OfCommand, HasCause};
 ghost use Rattle.atl_service.specs.Closing.{closed};
 ghost use Rattle.atl_service.specs.Months.{AreThere, HasRead, MayClose, told_to_all};
 ghost use Rattle.atl_service.specs.Step.{step};
@@ -140,7 +140,7 @@ pub(crate) fn close<S: Alter>(
     requires idle { conn.old.in_transaction ≡ false }
     ensures ok { IfOk result (Answers S.Store world.now campaign.old.what conn.old (command.Close month pass.now words.now) campaign.new.what conn.new) }
     ensures err { OnErr result (GivesUp S.Store world.now campaign.old.what conn.old (command.Close month pass.now words.now) conn.new) }
-    ensures cause { IfErr result (λ fault. HasCause S.Store conn.old conn.new (of_writing fault)) }
+    ensures cause { IfErr result (λ fault. HasCause S.Store (OfCommand world.now campaign.old.what (command.Close month pass.now words.now)) conn.old conn.new (of_writing fault)) }
     ensures leaves { LeavesIdle S.Store conn.old conn.new }
     ensures unmarked { campaign.old.marks ≡ no_marks → OnOk result (campaign.new.marks ≡ no_marks) }
 {

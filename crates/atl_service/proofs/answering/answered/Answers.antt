@@ -1,6 +1,7 @@
-use Rattle.std.proofs.Common.{OnErr, IfOk, sym, subst}
+use Rattle.std.proofs.Common.{OnErr, IfErr, IfOk, sym, subst}
 use Rattle.atl_service.specs.declared.command.Command.{Command}
-use Rattle.atl_service.specs.Answering.{Answers, GivesUp}
+use Rattle.atl_service.specs.Answering.{Answers, GivesUp, of_writing}
+use Rattle.atl_service.specs.Causes.{OfCommand, HasCause}
 use Rattle.atl_service.proofs.answering.answered.Goals as goal
 
 pub returns-in-Join-clause-ok : goal.returns-in-Join-clause-ok
@@ -22,3 +23,15 @@ returns-in-Mail-clause-err g c =
 pub returns-in-Close-clause-err : goal.returns-in-Close-clause-err
 returns-in-Close-clause-err g c =
     subst (λ (command : Command). OnErr c.close.result (GivesUp g.S.Store c.args.world.now c.args.campaign.now.what c.args.conn.now command c.close.new.conn)) (sym c.in-Close.is) c.close.ensures.err
+
+pub returns-in-Join-clause-cause : goal.returns-in-Join-clause-cause
+returns-in-Join-clause-cause g c =
+    subst (λ (command : Command). IfErr c.join.result (λ fault. HasCause g.S.Store (OfCommand c.args.world.now c.args.campaign.now.what command) c.args.conn.now c.join.new.conn (of_writing fault))) (sym c.in-Join.is) c.join.ensures.cause
+
+pub returns-in-Mail-clause-cause : goal.returns-in-Mail-clause-cause
+returns-in-Mail-clause-cause g c =
+    subst (λ (command : Command). IfErr c.mail.result (λ fault. HasCause g.S.Store (OfCommand c.args.world.now c.args.campaign.now.what command) c.args.conn.now c.mail.new.conn (of_writing fault))) (sym c.in-Mail.is) c.mail.ensures.cause
+
+pub returns-in-Close-clause-cause : goal.returns-in-Close-clause-cause
+returns-in-Close-clause-cause g c =
+    subst (λ (command : Command). IfErr c.close.result (λ fault. HasCause g.S.Store (OfCommand c.args.world.now c.args.campaign.now.what command) c.args.conn.now c.close.new.conn (of_writing fault))) (sym c.in-Close.is) c.close.ensures.cause

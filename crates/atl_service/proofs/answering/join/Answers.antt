@@ -1,11 +1,16 @@
 use Rattle.std.proofs.Common.{◌≡◌, ap, sym, ◌∙◌, subst}
 use Rattle.sqlite.specs.Held.{state}
 use Rattle.atl_state.specs.State.{State as Campaign, Marked}
+use Rattle.atl_store.specs.Causes.{IsTold}
+use Rattle.atl_store.specs.Faults.{write_fault}
 use Rattle.atl_store.specs.Keeps.{Stops}
+use Rattle.atl_store.specs.OwnStatements.{OfJoining}
 use Rattle.atl_store.proofs.StayLaws.{on_err}
 use Rattle.atl_service.specs.declared.command.Command.TheVariants.{Join}
 use Rattle.atl_service.specs.declared.command.Refusal.TheVariants as why
-use Rattle.atl_service.specs.Step.{reported}
+use Rattle.atl_service.specs.Step.{reported, step}
+use Rattle.atl_service.specs.Causes.{OfCommand}
+use Rattle.atl_service.proofs.CauseLaws.{ended_by}
 use Rattle.atl_service.specs.Answering.{GivesUp}
 use Rattle.atl_service.proofs.AnswerLaws.{is_refused}
 use Rattle.atl_state.proofs.GoodLaws.{IsGood-joined}
@@ -71,3 +76,16 @@ write_join-requires-clause-arrived g c =
     let is = rw (c.as_slice-3.ensures, c.as_slice-4.ensures) at c.in-Ok.ensures.definition in
     let done : c.store_report.new.campaign.what ≡ reported w c.join.new.self.what c.in-Ok.numbers.0 = c.in_ok-store_report.ensures.ok in
     rw done (arrives w c.args.name.now c.args.pass.now c.args.word old c.join.new.self.what c.in-Ok.numbers.0 c.in-Ok.numbers.1 c.requires.good is)
+
+pub returns-in_err-write_join-clause-cause : goal.returns-in_err-write_join-clause-cause
+returns-in_err-write_join-clause-cause g c =
+    let w = c.args.world.now in
+    let old = c.args.campaign.now.what in
+    let command = Join c.args.name.now c.args.pass.now c.args.word in
+    let is = rw (c.as_slice-3.ensures, c.as_slice-4.ensures) at c.in-Ok.ensures.definition in
+    let done : c.store_report.new.campaign.what ≡ reported w c.join.new.self.what c.in-Ok.numbers.0 = c.in_ok-store_report.ensures.ok in
+    let steps = steps_on w old c.args.name.now c.args.pass.now c.args.word c.join.new.self.what c.in-Ok.numbers.0 c.in-Ok.numbers.1 (cc) (cc) is in
+    let joining = joining_is w c.args.name.now c.args.pass.now c.args.word old c.join.new.self.what c.in-Ok.numbers.0 c.in-Ok.numbers.1 c.requires.good is in
+    ended_by g.S.Store (OfCommand w old command) c.args.conn.now c.write_join.new.conn _ c.from_residual-in_err-write_join.result c.from_residual-in_err-write_join.ensures.1 (λ clean.
+    subst (λ n. IsTold g.S.Store (OfJoining n (step w old command).0) write_fault c.args.conn.now c.write_join.new.conn c.in_err-write_join.field-0.0) joining.6
+    (subst (λ (after : Campaign). IsTold g.S.Store (OfJoining c.in-Ok.numbers.0 after) write_fault c.args.conn.now c.write_join.new.conn c.in_err-write_join.field-0.0) (done ∙ sym (ap (λ p. p.0) steps)) (c.in_err-write_join.ensures.told clean)))

@@ -1,11 +1,15 @@
 use Rattle.std.proofs.Common.{◌≡◌, sym, ap, ◌∙◌, subst}
 use Rattle.sqlite.specs.Held.{state}
 use Rattle.atl_state.specs.State.{State as Campaign, Marked, with_mail}
+use Rattle.atl_store.specs.Causes.{IsTold}
+use Rattle.atl_store.specs.Faults.{write_fault}
 use Rattle.atl_store.specs.Keeps.{Stops}
+use Rattle.atl_store.specs.OwnStatements.{OfMail}
 use Rattle.atl_store.proofs.StayLaws.{on_err}
 use Rattle.atl_service.specs.declared.command.Command.TheVariants.{Mail}
 use Rattle.atl_service.specs.Answering.{GivesUp}
 use Rattle.atl_state.proofs.GoodLaws.{IsGood-with_mail}
+use Rattle.atl_service.proofs.CauseLaws.{ended_by}
 use Rattle.atl_service.proofs.answering.mail.Goals as goal
 
 pub returns-clause-ok : goal.returns-clause-ok
@@ -25,3 +29,8 @@ returns-in_err-write_mail-clause-err g c = on_err _ (GivesUp g.S.Store c.args.wo
     let old = c.args.campaign.now.what in
     let stops = rw c.as_slice.ensures at (c.in_err-write_mail.ensures.err clean text old keeps) in
     subst (λ (after : Campaign). Stops (state g.S.Store c.args.conn.now).faults (state g.S.Store c.write_mail.new.conn) text old after) (sym (ap (λ p. p.0) c.in-Ok.ensures.step)) stops)
+
+pub returns-in_err-write_mail-clause-cause : goal.returns-in_err-write_mail-clause-cause
+returns-in_err-write_mail-clause-cause g c =
+    ended_by g.S.Store (OfMail c.args.faction c.args.text.now) c.args.conn.now c.write_mail.new.conn _ c.from_residual-in_err-write_mail.result c.from_residual-in_err-write_mail.ensures.1
+    (λ clean. subst (λ text. IsTold g.S.Store (OfMail c.args.faction text) write_fault c.args.conn.now c.write_mail.new.conn c.in_err-write_mail.field-0.0) c.as_slice.ensures (c.in_err-write_mail.ensures.told clean))

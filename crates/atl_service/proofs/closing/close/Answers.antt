@@ -2,10 +2,15 @@ use Rattle.std.proofs.Common.{◌≡◌, ap, sym, ◌∙◌, subst}
 use Rattle.sqlite.specs.Held.{state}
 use Rattle.atl_state.specs.State.{State as Campaign, Marked}
 use Rattle.atl_state.proofs.CoverLaws.{marks-trans}
+use Rattle.atl_store.specs.Causes.{IsTold}
+use Rattle.atl_store.specs.Faults.{write_fault}
 use Rattle.atl_store.specs.Keeps.{Stops}
+use Rattle.atl_store.specs.OwnStatements.{OfChange}
 use Rattle.atl_store.proofs.StayLaws.{on_err}
 use Rattle.atl_service.specs.declared.command.Command.TheVariants.{Close}
 use Rattle.atl_service.specs.Answering.{GivesUp}
+use Rattle.atl_service.specs.Causes.{OfCommand}
+use Rattle.atl_service.proofs.CauseLaws.{ended_by}
 use Rattle.atl_service.proofs.CloseLaws.{few_things, told_is}
 use Rattle.atl_service.proofs.closing.close.Goals as goal
 
@@ -40,3 +45,12 @@ returns-clause-ok g c =
       good = rw written done.1;
       tables = λ clean text keeps. rw written (c.in_ok-write_changes.ensures.ok clean text old keeps marks.covers);
     }
+
+pub returns-in_err-write_changes-clause-cause : goal.returns-in_err-write_changes-clause-cause
+returns-in_err-write_changes-clause-cause g c =
+    let w = c.args.world.now in
+    let old = c.args.campaign.now.what in
+    let after = c.report_to_all.new.campaign.what in
+    let done = rw c.as_slice.ensures at (told_is w old c.turn_month.new.campaign.what after c.as_slice.result.now c.in_ok-told.told c.in_ok-told.ensures.told c.in_ok-report_to_all.ensures.what c.in_ok-told.ensures.there c.in_ok-told.ensures.good) in
+    ended_by g.S.Store (OfCommand w old (Close c.args.month c.args.pass.now c.args.words.now)) c.args.conn.now c.write_changes.new.conn _ c.from_residual-in_err-write_changes.result c.from_residual-in_err-write_changes.ensures.1
+    (λ clean. subst (λ (a : Campaign). IsTold g.S.Store (OfChange a) write_fault c.args.conn.now c.write_changes.new.conn c.in_err-write_changes.field-0.0) (done.0 ∙ sym (ap (λ p. p.0) c.in_default.ensures.ok.step_is)) (c.in_err-write_changes.ensures.told clean))
