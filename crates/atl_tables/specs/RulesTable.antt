@@ -1,5 +1,5 @@
 -- The table `[rules]`: its keys in order, with their ranges, and the rules that they give.
-use Rattle.std.specs.Prelude.{List, [], ◌∷◌, codes, option_and_then}
+use Rattle.std.specs.Prelude.{[], ◌∷◌, codes, option_and_then}
 use Rattle.toml.specs.Data.{Members, no_members}
 use Rattle.atl_tables.specs.Faults.{Conditions, fault_of, value_or}
 use Rattle.atl_tables.specs.KeyByKey.{Table, conditions_of, value_of, ◌>>=◌, says, part, number_key, optional_text_key}

@@ -1,5 +1,5 @@
 -- A table `[[terrain]]`: its keys in order, with their ranges, and the terrain that they give.
-use Rattle.std.specs.Prelude.{ℕ, List, [], ◌∷◌, codes, map}
+use Rattle.std.specs.Prelude.{ℕ, List, codes, map}
 use Rattle.toml.specs.Data.{Members}
 use Rattle.atl_tables.specs.Each.{each}
 use Rattle.atl_tables.specs.Faults.{Conditions}
