@@ -95,8 +95,8 @@ fronted : (key last : ℕ) (front : List ℕ) → length front ≡ last + 1 → 
 fronted key last front count text ascii takes_rest without = record {
   takes_rest = takes_rest;
   cut = (λ rest h.
-    let inside : last < length (front ++ rest) = (let long = longer (last + 1) front rest count in omega arith) in
-    subst IsUtf8 (drop_at front rest (last + 1) count) (IsUtf8-drop (front ++ rest) (last + 1) h (IsCharBoundary-after_ascii (front ++ rest) last h inside (ascii rest))));
+      let inside : last < length (front ++ rest) = (let long = longer (last + 1) front rest count in omega arith) in
+      subst IsUtf8 (drop_at front rest (last + 1) count) (IsUtf8-drop (front ++ rest) (last + 1) h (IsCharBoundary-after_ascii (front ++ rest) last h inside (ascii rest))));
   joins = (λ rest h. IsUtf8-append front rest text h);
   without = without;
 }
