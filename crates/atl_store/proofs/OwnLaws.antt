@@ -9,7 +9,7 @@ use Rattle.atl_tables.specs.Planet.{Planet}
 use Rattle.atl_tables.specs.World.{old_world_of}
 use Rattle.atl_state.specs.declared.checking.Rule.TheVariants.{OneRow, Ranges, Names, Known, Next, Days, Gone, Owners, Water, Guards, Books, Mail}
 use Rattle.atl_state.specs.declared.parts.StoredHead.{StoredHead}
-use Rattle.atl_store.specs.Gathering.{own_fault, IsOwn, JudgesOwn, JudgesRows, OwnRead}
+use Rattle.atl_store.specs.Gathering.{own_fault, IsOwn, Judges, JudgesOwn, JudgesRows, OwnRead}
 use Rattle.atl_store.specs.Loading.{own_stored, AreOwnRow, RefusesToLoad}
 use Rattle.atl_store.specs.Reading.{Selects, RefusesToSelect}
 use Rattle.atl_store.specs.Selects.{all_campaign}
@@ -80,31 +80,32 @@ own_typed rows h text w own row there =
 
 -- ---- the rows that are shown
 
+-- what is so of each of the three answers is so of all
+judged_as : (Is : StoredCampaign × Planet → Type 0) (Nothing : Type 0) (P : Result (StoredCampaign × Planet) StoreFault → Type 0) → ((both : StoredCampaign × Planet) → Is both → P (Ok both)) → P (Err Memory) → (Nothing → P (Err (Damaged OneRow)))
+    → (r : Result (StoredCampaign × Planet) StoreFault) → Judges Is Nothing r → P r
+judged_as Is Nothing P read lacks broken (Ok both) judged = read both judged
+judged_as Is Nothing P read lacks broken (Err Memory) judged = lacks
+judged_as Is Nothing P read lacks broken (Err (Damaged OneRow)) judged = broken judged
+judged_as Is Nothing P read lacks broken (Err Store) judged = absurd judged
+judged_as Is Nothing P read lacks broken (Err NotACampaign) judged = absurd judged
+judged_as Is Nothing P read lacks broken (Err (Damaged Ranges)) judged = absurd judged
+judged_as Is Nothing P read lacks broken (Err (Damaged Names)) judged = absurd judged
+judged_as Is Nothing P read lacks broken (Err (Damaged Known)) judged = absurd judged
+judged_as Is Nothing P read lacks broken (Err (Damaged Next)) judged = absurd judged
+judged_as Is Nothing P read lacks broken (Err (Damaged Days)) judged = absurd judged
+judged_as Is Nothing P read lacks broken (Err (Damaged Gone)) judged = absurd judged
+judged_as Is Nothing P read lacks broken (Err (Damaged Owners)) judged = absurd judged
+judged_as Is Nothing P read lacks broken (Err (Damaged Water)) judged = absurd judged
+judged_as Is Nothing P read lacks broken (Err (Damaged Guards)) judged = absurd judged
+judged_as Is Nothing P read lacks broken (Err (Damaged Books)) judged = absurd judged
+judged_as Is Nothing P read lacks broken (Err (Damaged Mail)) judged = absurd judged
+
 -- they were read, and what was read is judged
 pub judged_rows : (items : List StoredCampaign) (rows : List Row) (r : Result (StoredCampaign × Planet) StoreFault)
     → map campaign_stored items ≡ map (first_columns (length campaign_forms)) rows → JudgesOwn items r → JudgesRows rows r
-judged_rows items rows (Ok both) shown judged = record {
-  is = sym shown ∙ ap (map campaign_stored) judged.only;
-  id = judged.id;
-  format = judged.format;
-  utf8 = IsUtf8-string_bytes both.0.world;
-  world = judged.world;
-}
-judged_rows items rows (Err Memory) shown judged = tt
-judged_rows items rows (Err (Damaged OneRow)) shown judged = λ h text w own. let was = own_read items rows h text w shown own in judged was.0 w was.1
-judged_rows items rows (Err Store) shown judged = absurd judged
-judged_rows items rows (Err NotACampaign) shown judged = absurd judged
-judged_rows items rows (Err (Damaged Ranges)) shown judged = absurd judged
-judged_rows items rows (Err (Damaged Names)) shown judged = absurd judged
-judged_rows items rows (Err (Damaged Known)) shown judged = absurd judged
-judged_rows items rows (Err (Damaged Next)) shown judged = absurd judged
-judged_rows items rows (Err (Damaged Days)) shown judged = absurd judged
-judged_rows items rows (Err (Damaged Gone)) shown judged = absurd judged
-judged_rows items rows (Err (Damaged Owners)) shown judged = absurd judged
-judged_rows items rows (Err (Damaged Water)) shown judged = absurd judged
-judged_rows items rows (Err (Damaged Guards)) shown judged = absurd judged
-judged_rows items rows (Err (Damaged Books)) shown judged = absurd judged
-judged_rows items rows (Err (Damaged Mail)) shown judged = absurd judged
+judged_rows items rows r shown =
+    judged_as (λ both. IsOwn items both.0 both.1) ((own : StoredCampaign) (w : Planet) → ¬ IsOwn items own w) (JudgesRows rows) (λ both own. record { is = sym shown ∙ ap (map campaign_stored) own.only; id = own.id; format = own.format; utf8 = IsUtf8-string_bytes both.0.world; world = own.world }) tt
+    (λ none h text w own. let was = own_read items rows h text w shown own in none was.0 w was.1) r
 
 -- they were not, as a value is of another type or for want of memory
 pub unread_rows : (rows : List Row) (fault : ReadFault) → (fault ≡ read.OtherType → ¬ AreTyped campaign_forms rows)
@@ -118,22 +119,8 @@ module _ {S : Type 0} (g : Ghosts S) (old : Held S) where
   -- the rows are not as they should be
   pub refuses_own : old.in_transaction ≡ false → (rows : List Row) (r : Result (StoredCampaign × Planet) StoreFault) → JudgesRows rows r → Selects g all_campaign old rows
       → IfErr r (RefusesToLoad g old)
-  refuses_own idle rows (Ok both) judged told = tt
-  refuses_own idle rows (Err Memory) judged told = (idle, inr (rows, told))
-  refuses_own idle rows (Err (Damaged OneRow)) judged told = record { rows = rows; selects = told; broken = judged }
-  refuses_own idle rows (Err Store) judged told = absurd judged
-  refuses_own idle rows (Err NotACampaign) judged told = absurd judged
-  refuses_own idle rows (Err (Damaged Ranges)) judged told = absurd judged
-  refuses_own idle rows (Err (Damaged Names)) judged told = absurd judged
-  refuses_own idle rows (Err (Damaged Known)) judged told = absurd judged
-  refuses_own idle rows (Err (Damaged Next)) judged told = absurd judged
-  refuses_own idle rows (Err (Damaged Days)) judged told = absurd judged
-  refuses_own idle rows (Err (Damaged Gone)) judged told = absurd judged
-  refuses_own idle rows (Err (Damaged Owners)) judged told = absurd judged
-  refuses_own idle rows (Err (Damaged Water)) judged told = absurd judged
-  refuses_own idle rows (Err (Damaged Guards)) judged told = absurd judged
-  refuses_own idle rows (Err (Damaged Books)) judged told = absurd judged
-  refuses_own idle rows (Err (Damaged Mail)) judged told = absurd judged
+  refuses_own idle rows r judged told =
+      judged_as (λ both. AreOwnRow rows both.0.head (string_bytes both.0.world) both.1) ((h : StoredHead) (text : List ℕ) (w : Planet) → ¬ AreOwnRow rows h text w) (λ answer. IfErr answer (RefusesToLoad g old)) (λ both own. tt) (idle, inr (rows, told)) (λ none. record { rows = rows; selects = told; broken = none }) r judged
 
   -- they are the campaign's own row and its world
   pub own_is : (rows : List Row) (r : Result (StoredCampaign × Planet) StoreFault) → JudgesRows rows r → Selects g all_campaign old rows

@@ -87,24 +87,22 @@ pub record IsOwn (rows : List StoredCampaign) (own : StoredCampaign) (w : Planet
   pub format : own.head.format ≡ pos 1
   pub world : old_world_of (string_bytes own.world) ≡ Ok w
 
+-- what is judged is this, or nothing is, or there was no memory
+abbrev pub Judges : {A : Type 0} → (A → Type 0) → Type 0 → Result A StoreFault → Type 0
+Judges Is Nothing (Ok a) = Is a
+Judges Is Nothing (Err Memory) = ⊤
+Judges Is Nothing (Err (Damaged OneRow)) = Nothing
+Judges Is Nothing (Err fault) = ⊥
+
 abbrev pub ReadsWorld : List ℕ → Result Planet StoreFault → Type 0
-ReadsWorld text (Ok w) = old_world_of text ≡ Ok w
-ReadsWorld text (Err Memory) = ⊤
-ReadsWorld text (Err (Damaged OneRow)) = (w : Planet) → old_world_of text ≢ Ok w
-ReadsWorld text (Err fault) = ⊥
+ReadsWorld text r = Judges (λ w. old_world_of text ≡ Ok w) ((w : Planet) → old_world_of text ≢ Ok w) r
 
 abbrev pub JudgesOwn : List StoredCampaign → Result (StoredCampaign × Planet) StoreFault → Type 0
-JudgesOwn rows (Ok both) = IsOwn rows both.0 both.1
-JudgesOwn rows (Err Memory) = ⊤
-JudgesOwn rows (Err (Damaged OneRow)) = (own : StoredCampaign) (w : Planet) → ¬ IsOwn rows own w
-JudgesOwn rows (Err fault) = ⊥
+JudgesOwn rows r = Judges (λ both. IsOwn rows both.0 both.1) ((own : StoredCampaign) (w : Planet) → ¬ IsOwn rows own w) r
 
 -- The rows that are shown are judged: whether they are the one of a world's text.
 abbrev pub JudgesRows : List Row → Result (StoredCampaign × Planet) StoreFault → Type 0
-JudgesRows rows (Ok both) = AreOwnRow rows both.0.head (string_bytes both.0.world) both.1
-JudgesRows rows (Err Memory) = ⊤
-JudgesRows rows (Err (Damaged OneRow)) = (h : StoredHead) (text : List ℕ) (w : Planet) → ¬ AreOwnRow rows h text w
-JudgesRows rows (Err fault) = ⊥
+JudgesRows rows r = Judges (λ both. AreOwnRow rows both.0.head (string_bytes both.0.world) both.1) ((h : StoredHead) (text : List ℕ) (w : Planet) → ¬ AreOwnRow rows h text w) r
 
 -- the SELECTs of the other tables, in the order in which they are asked
 abbrev pub place_selects : List (List ℕ × List Form)
