@@ -21,7 +21,7 @@ use Rattle.atl_store.specs.Shown.{int, books_key, books_row}
 use Rattle.atl_store.specs.Rows.{RowsOf, HasRowsOf, BooksRowsOf, things_of}
 use Rattle.atl_store.specs.Lines.{amount_lines}
 use Rattle.atl_store.specs.Arriving.{settled, Settles}
-use Rattle.atl_store.specs.Statements.{put_books, drop_books}
+use Rattle.atl_store.specs.Statements.{deletion, upsert}
 use Rattle.atl_store.specs.OwnStatements.{OfAmount, puts_amount, drops_amount, OfChange, changes_row, puts_books, drops_books}
 use Rattle.atl_store.proofs.EntryLaws.{same_number}
 use Rattle.atl_store.proofs.GoodsLaws.{optional_has, has_optional}
@@ -135,10 +135,10 @@ module _ (c : Campaign) (e : Entry) (t : Thing) where
 
 -- its statements are the ones of the amount
 module _ (c : Campaign) (e : Entry) (t : Thing) (n k : ℕ) (entry : n ≡ entry_place e + 1) (thing : k ≡ thing_place t) where
-  pub amount_put : (z : ℤ) → z ≡ amount_in c.books e t → z ≢ pos 0 → OfAmount c e t put_books (books_row n k z)
+  pub amount_put : (z : ℤ) → z ≡ amount_in c.books e t → z ≢ pos 0 → OfAmount c e t (upsert books_table 2) (books_row n k z)
   amount_put z amount some = rw (entry, thing, amount) (puts_amount (λ zero. some (amount ∙ zero)))
 
-  pub amount_taken : amount_in c.books e t ≡ pos 0 → OfAmount c e t drop_books (books_key n k)
+  pub amount_taken : amount_in c.books e t ≡ pos 0 → OfAmount c e t (deletion books_table 2) (books_key n k)
   amount_taken zero = rw (entry, thing) (drops_amount zero)
 
 pub amount_changes : (c : Campaign) (e : Entry) (t : Thing) (sql : List ℕ) (params : Row) → OfAmount c e t sql params → OfChange c sql params

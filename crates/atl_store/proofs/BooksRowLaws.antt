@@ -16,7 +16,7 @@ use Rattle.sqlite_schema.specs.Rules.{passes}
 use Rattle.atl_store.specs.Tables.{books_table, books_unique}
 use Rattle.atl_store.specs.Shown.{books_key, books_row}
 use Rattle.atl_store.specs.Inside.{Puts, Drops}
-use Rattle.atl_store.specs.Statements.{put_books, drop_books}
+use Rattle.atl_store.specs.Statements.{deletion, upsert}
 use Rattle.atl_store.proofs.KeyLaws.{int_by, cons_is}
 use Rattle.atl_store.proofs.KeyedRowLaws.{AreInts, HasKey, IsPutUnder, IsTakeOut, MakesValues, puts_keyed, drops_keyed}
 use Rattle.atl_store.proofs.StatementLaws.{AlwaysPlain, DoneBy}
@@ -56,11 +56,11 @@ terms = lit Null ∷ col 0 0 ∷ col 0 1 ∷ col 0 2 ∷ []
 abbrev project : List Term
 project = col 1 0 ∷ col 1 1 ∷ col 1 2 ∷ col 0 2 ∷ []
 
-put_is : IsPutUnder books_table.tree 8 books_unique put_books 4 terms 3 project
+put_is : IsPutUnder books_table.tree 8 books_unique (upsert books_table 2) 4 terms 3 project
 unfolding understood everything
 put_is more indexes = refl
 
-put_plain : AlwaysPlain put_books
+put_plain : AlwaysPlain (upsert books_table 2)
 unfolding understood everything
 put_plain more indexes = (refl, refl)
 
@@ -78,21 +78,21 @@ makes_row entry thing amount = record {
       rw (one.0, two.0, cast_int (pos entry), cast_int (pos thing), cast_int amount) refl;
 }
 
-pub puts_books : (entry thing : ℕ) (amount : ℤ) → DoneBy put_books (books_row entry thing amount) (Puts books_table 2 (books_row entry thing amount))
-puts_books entry thing amount = puts_keyed books_table.tree _ _ books_unique 8 has_key put_books 4 3 terms project put_is put_plain (books_row entry thing amount) (makes_row entry thing amount)
+pub puts_books : (entry thing : ℕ) (amount : ℤ) → DoneBy (upsert books_table 2) (books_row entry thing amount) (Puts books_table 2 (books_row entry thing amount))
+puts_books entry thing amount = puts_keyed books_table.tree _ _ books_unique 8 has_key (upsert books_table 2) 4 3 terms project put_is put_plain (books_row entry thing amount) (makes_row entry thing amount)
 
 -- ---- the row of a key is taken out
 
 abbrev of_key : List Term
 of_key = op2 (Compare Eq Binary) (col 1 1) (col 0 0) ∷ op2 (Compare Eq Binary) (col 1 2) (col 0 1) ∷ []
 
-drop_is : IsTakeOut books_table.tree 8 drop_books of_key
+drop_is : IsTakeOut books_table.tree 8 (deletion books_table 2) of_key
 unfolding understood everything
 drop_is more indexes = refl
 
-drop_plain : AlwaysPlain drop_books
+drop_plain : AlwaysPlain (deletion books_table 2)
 unfolding understood everything
 drop_plain more indexes = (refl, refl)
 
-pub drops_books : (entry thing : ℕ) → DoneBy drop_books (books_key entry thing) (Drops books_table 2 (books_key entry thing))
-drops_books entry thing = drops_keyed books_table.tree _ _ books_unique 8 has_key drop_books of_key drop_is drop_plain books_unique (λ x ints. ints) (λ x. refl) (books_key entry thing) (refl, (refl, tt)) refl (λ x. refl)
+pub drops_books : (entry thing : ℕ) → DoneBy (deletion books_table 2) (books_key entry thing) (Drops books_table 2 (books_key entry thing))
+drops_books entry thing = drops_keyed books_table.tree _ _ books_unique 8 has_key (deletion books_table 2) of_key drop_is drop_plain books_unique (λ x ints. ints) (λ x. refl) (books_key entry thing) (refl, (refl, tt)) refl (λ x. refl)

@@ -19,7 +19,7 @@ use Rattle.atl_store.specs.Tables.{campaign_table, faction_table, region_table, 
 use Rattle.atl_store.specs.Making.{Extends}
 use Rattle.atl_store.specs.Writes.{Writes, Runs}
 use Rattle.atl_store.specs.OwnStatements.{Only, Creations}
-use Rattle.atl_store.specs.Statements.{create_campaign, create_faction, create_region, create_unit, create_has, create_structure, create_mail, create_report, create_books, creations}
+use Rattle.atl_store.specs.Statements.{creation, creations}
 use Rattle.atl_store.proofs.Made.{Creates}
 use Rattle.atl_store.proofs.CreateLaws.{creates}
 use Rattle.atl_store.proofs.MakingLaws.{extends}
@@ -50,41 +50,41 @@ makes before after table text listed is = (listed, run)
         (λ has. subst (λ s. Creates before s table.tree old.now new.now) is.after_is (subst (λ tree. Creates before (created before (record table { tree = 0 })) tree old.now new.now) is.tree_is
         (creates before (record table { tree = 0 }) text old new count is.command is.whole is.defines is.plain uncounted has h.0)))
 
-pub makes_campaign : Makes (first_tables 0 0) (first_tables 1 0) create_campaign
+pub makes_campaign : Makes (first_tables 0 0) (first_tables 1 0) (creation 0)
 unfolding understood everything
-makes_campaign = makes (first_tables 0 0) (first_tables 1 0) campaign_table create_campaign (inl refl) (record { command = refl; whole = refl; defines = refl; plain = (refl, refl); after_is = refl; tree_is = refl; last = refl; uncounted = refl })
+makes_campaign = makes (first_tables 0 0) (first_tables 1 0) campaign_table (creation 0) (inl refl) (record { command = refl; whole = refl; defines = refl; plain = (refl, refl); after_is = refl; tree_is = refl; last = refl; uncounted = refl })
 
-pub makes_faction : Makes (first_tables 1 0) (first_tables 2 1) create_faction
+pub makes_faction : Makes (first_tables 1 0) (first_tables 2 1) (creation 1)
 unfolding understood everything
-makes_faction = makes (first_tables 1 0) (first_tables 2 1) faction_table create_faction (inr (inl refl)) (record { command = refl; whole = refl; defines = refl; plain = (refl, refl); after_is = refl; tree_is = refl; last = refl; uncounted = refl })
+makes_faction = makes (first_tables 1 0) (first_tables 2 1) faction_table (creation 1) (inr (inl refl)) (record { command = refl; whole = refl; defines = refl; plain = (refl, refl); after_is = refl; tree_is = refl; last = refl; uncounted = refl })
 
-pub makes_region : Makes (first_tables 2 1) (first_tables 3 1) create_region
+pub makes_region : Makes (first_tables 2 1) (first_tables 3 1) (creation 2)
 unfolding understood everything
-makes_region = makes (first_tables 2 1) (first_tables 3 1) region_table create_region (inr (inr (inl refl))) (record { command = refl; whole = refl; defines = refl; plain = (refl, refl); after_is = refl; tree_is = refl; last = refl; uncounted = refl })
+makes_region = makes (first_tables 2 1) (first_tables 3 1) region_table (creation 2) (inr (inr (inl refl))) (record { command = refl; whole = refl; defines = refl; plain = (refl, refl); after_is = refl; tree_is = refl; last = refl; uncounted = refl })
 
-pub makes_unit : Makes (first_tables 3 1) (first_tables 4 1) create_unit
+pub makes_unit : Makes (first_tables 3 1) (first_tables 4 1) (creation 3)
 unfolding understood everything
-makes_unit = makes (first_tables 3 1) (first_tables 4 1) unit_table create_unit (inr (inr (inr (inl refl)))) (record { command = refl; whole = refl; defines = refl; plain = (refl, refl); after_is = refl; tree_is = refl; last = refl; uncounted = refl })
+makes_unit = makes (first_tables 3 1) (first_tables 4 1) unit_table (creation 3) (inr (inr (inr (inl refl)))) (record { command = refl; whole = refl; defines = refl; plain = (refl, refl); after_is = refl; tree_is = refl; last = refl; uncounted = refl })
 
-pub makes_has : Makes (first_tables 4 1) (first_tables 5 2) create_has
+pub makes_has : Makes (first_tables 4 1) (first_tables 5 2) (creation 4)
 unfolding understood everything
-makes_has = makes (first_tables 4 1) (first_tables 5 2) has_table create_has (inr (inr (inr (inr (inl refl))))) (record { command = refl; whole = refl; defines = refl; plain = (refl, refl); after_is = refl; tree_is = refl; last = refl; uncounted = refl })
+makes_has = makes (first_tables 4 1) (first_tables 5 2) has_table (creation 4) (inr (inr (inr (inr (inl refl))))) (record { command = refl; whole = refl; defines = refl; plain = (refl, refl); after_is = refl; tree_is = refl; last = refl; uncounted = refl })
 
-pub makes_structure : Makes (first_tables 5 2) (first_tables 6 2) create_structure
+pub makes_structure : Makes (first_tables 5 2) (first_tables 6 2) (creation 5)
 unfolding understood everything
-makes_structure = makes (first_tables 5 2) (first_tables 6 2) structure_table create_structure (inr (inr (inr (inr (inr (inl refl)))))) (record { command = refl; whole = refl; defines = refl; plain = (refl, refl); after_is = refl; tree_is = refl; last = refl; uncounted = refl })
+makes_structure = makes (first_tables 5 2) (first_tables 6 2) structure_table (creation 5) (inr (inr (inr (inr (inr (inl refl)))))) (record { command = refl; whole = refl; defines = refl; plain = (refl, refl); after_is = refl; tree_is = refl; last = refl; uncounted = refl })
 
-pub makes_mail : Makes (first_tables 6 2) (first_tables 7 2) create_mail
+pub makes_mail : Makes (first_tables 6 2) (first_tables 7 2) (creation 6)
 unfolding understood everything
-makes_mail = makes (first_tables 6 2) (first_tables 7 2) mail_table create_mail (inr (inr (inr (inr (inr (inr (inl refl))))))) (record { command = refl; whole = refl; defines = refl; plain = (refl, refl); after_is = refl; tree_is = refl; last = refl; uncounted = refl })
+makes_mail = makes (first_tables 6 2) (first_tables 7 2) mail_table (creation 6) (inr (inr (inr (inr (inr (inr (inl refl))))))) (record { command = refl; whole = refl; defines = refl; plain = (refl, refl); after_is = refl; tree_is = refl; last = refl; uncounted = refl })
 
-pub makes_report : Makes (first_tables 7 2) (first_tables 8 2) create_report
+pub makes_report : Makes (first_tables 7 2) (first_tables 8 2) (creation 7)
 unfolding understood everything
-makes_report = makes (first_tables 7 2) (first_tables 8 2) report_table create_report (inr (inr (inr (inr (inr (inr (inr (inl refl)))))))) (record { command = refl; whole = refl; defines = refl; plain = (refl, refl); after_is = refl; tree_is = refl; last = refl; uncounted = refl })
+makes_report = makes (first_tables 7 2) (first_tables 8 2) report_table (creation 7) (inr (inr (inr (inr (inr (inr (inr (inl refl)))))))) (record { command = refl; whole = refl; defines = refl; plain = (refl, refl); after_is = refl; tree_is = refl; last = refl; uncounted = refl })
 
-pub makes_books : Makes (first_tables 8 2) (first_tables 9 3) create_books
+pub makes_books : Makes (first_tables 8 2) (first_tables 9 3) (creation 8)
 unfolding understood everything
-makes_books = makes (first_tables 8 2) (first_tables 9 3) books_table create_books (inr (inr (inr (inr (inr (inr (inr (inr (inl refl))))))))) (record { command = refl; whole = refl; defines = refl; plain = (refl, refl); after_is = refl; tree_is = refl; last = refl; uncounted = refl })
+makes_books = makes (first_tables 8 2) (first_tables 9 3) books_table (creation 8) (inr (inr (inr (inr (inr (inr (inr (inr (inl refl))))))))) (record { command = refl; whole = refl; defines = refl; plain = (refl, refl); after_is = refl; tree_is = refl; last = refl; uncounted = refl })
 
 -- ---- in a transaction
 

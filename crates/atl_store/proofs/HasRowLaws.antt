@@ -16,7 +16,7 @@ use Rattle.sqlite_schema.specs.Rules.{passes}
 use Rattle.atl_store.specs.Tables.{has_table, has_unique}
 use Rattle.atl_store.specs.Shown.{int, has_row}
 use Rattle.atl_store.specs.Inside.{Puts, Drops}
-use Rattle.atl_store.specs.Statements.{put_has, drop_goods}
+use Rattle.atl_store.specs.Statements.{deletion, upsert}
 use Rattle.atl_store.proofs.KeyLaws.{int_by, cons_is}
 use Rattle.atl_store.proofs.KeyedRowLaws.{AreInts, HasKey, IsPutUnder, IsTakeOut, MakesValues, puts_keyed, drops_keyed}
 use Rattle.atl_store.proofs.StatementLaws.{AlwaysPlain, DoneBy}
@@ -59,11 +59,11 @@ terms = lit Null ∷ col 0 0 ∷ col 0 1 ∷ col 0 2 ∷ col 0 3 ∷ []
 abbrev project : List Term
 project = col 1 0 ∷ col 1 1 ∷ col 1 2 ∷ col 1 3 ∷ col 0 3 ∷ []
 
-put_is : IsPutUnder has_table.tree 4 has_unique put_has 5 terms 4 project
+put_is : IsPutUnder has_table.tree 4 has_unique (upsert has_table 3) 5 terms 4 project
 unfolding understood everything
 put_is more indexes = refl
 
-put_plain : AlwaysPlain put_has
+put_plain : AlwaysPlain (upsert has_table 3)
 unfolding understood everything
 put_plain more indexes = (refl, refl)
 
@@ -82,21 +82,21 @@ makes_row unit sort thing amount = record {
       rw (one.0, two.0, three.0, cast_int (pos unit), cast_int (pos sort), cast_int (pos thing), cast_int (pos amount)) refl;
 }
 
-pub puts_has : (unit sort thing amount : ℕ) → DoneBy put_has (has_row unit sort thing amount) (Puts has_table 3 (has_row unit sort thing amount))
-puts_has unit sort thing amount = puts_keyed has_table.tree _ _ has_unique 4 has_key put_has 5 4 terms project put_is put_plain (has_row unit sort thing amount) (makes_row unit sort thing amount)
+pub puts_has : (unit sort thing amount : ℕ) → DoneBy (upsert has_table 3) (has_row unit sort thing amount) (Puts has_table 3 (has_row unit sort thing amount))
+puts_has unit sort thing amount = puts_keyed has_table.tree _ _ has_unique 4 has_key (upsert has_table 3) 5 4 terms project put_is put_plain (has_row unit sort thing amount) (makes_row unit sort thing amount)
 
 -- ---- all rows of a unit are taken out
 
 abbrev of_unit : List Term
 of_unit = op2 (Compare Eq Binary) (col 1 1) (col 0 0) ∷ []
 
-goods_is : IsTakeOut has_table.tree 4 drop_goods of_unit
+goods_is : IsTakeOut has_table.tree 4 (deletion has_table 1) of_unit
 unfolding understood everything
 goods_is more indexes = refl
 
-goods_plain : AlwaysPlain drop_goods
+goods_plain : AlwaysPlain (deletion has_table 1)
 unfolding understood everything
 goods_plain more indexes = (refl, refl)
 
-pub drops_goods : (unit : ℕ) → DoneBy drop_goods (int unit ∷ []) (Drops has_table 1 (int unit ∷ []))
-drops_goods unit = drops_keyed has_table.tree _ _ has_unique 4 has_key drop_goods of_unit goods_is goods_plain (1 ∷ []) (λ x ints. (ints.0, tt)) (λ x. refl) (int unit ∷ []) (refl, tt) refl (λ x. refl)
+pub drops_goods : (unit : ℕ) → DoneBy (deletion has_table 1) (int unit ∷ []) (Drops has_table 1 (int unit ∷ []))
+drops_goods unit = drops_keyed has_table.tree _ _ has_unique 4 has_key (deletion has_table 1) of_unit goods_is goods_plain (1 ∷ []) (λ x ints. (ints.0, tt)) (λ x. refl) (int unit ∷ []) (refl, tt) refl (λ x. refl)

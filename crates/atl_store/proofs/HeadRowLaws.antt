@@ -25,7 +25,7 @@ use Rattle.sqlite.specs.Table.{Table}
 use Rattle.sqlite_schema.specs.declared.schema.Index.{Index}
 use Rattle.atl_store.specs.Inside.{Inside, HasTables, Done, Puts}
 use Rattle.atl_store.specs.PutsHead.{PutsHead}
-use Rattle.atl_store.specs.Statements.{put_campaign}
+use Rattle.atl_store.specs.Statements.{campaign_upsert}
 use Rattle.atl_store.proofs.ListLaws.{has_map, map_has}
 use Rattle.atl_store.proofs.UpsertLaws.{Upserted, hits, update_query, clause_on}
 use Rattle.atl_store.proofs.StatementLaws.{upserting, DoneBy, done_by}
@@ -42,11 +42,11 @@ terms = lit (Int (pos 1)) ∷ lit Null ∷ lit (Int (pos 1)) ∷ col 0 0 ∷ col
 abbrev project : List Term
 project = col 1 0 ∷ lit Null ∷ col 1 2 ∷ col 0 0 ∷ col 0 1 ∷ col 0 2 ∷ col 0 3 ∷ col 0 4 ∷ col 1 8 ∷ []
 
-put_is : (more : List Table) (indexes : List Index) → command_of (understood (nine_and more indexes) put_campaign) ≡ InsertOr 0 Abort (Values terms 9) (clause_on (0 ∷ []) (record { lets = []; body = update_query campaign_table.tree 6 project }) ∷ [])
+put_is : (more : List Table) (indexes : List Index) → command_of (understood (nine_and more indexes) campaign_upsert) ≡ InsertOr 0 Abort (Values terms 9) (clause_on (0 ∷ []) (record { lets = []; body = update_query campaign_table.tree 6 project }) ∷ [])
 unfolding understood everything
 put_is more indexes = refl
 
-put_plain : (more : List Table) (indexes : List Index) → IsPlain (understood (nine_and more indexes) put_campaign)
+put_plain : (more : List Table) (indexes : List Index) → IsPlain (understood (nine_and more indexes) campaign_upsert)
 unfolding understood everything
 put_plain more indexes = (refl, refl)
 
@@ -57,7 +57,7 @@ format_is r head text e = ap (λ row. column row 1) e
 world_is : (r : Row) (head : Head) (text : List ℕ) → visible campaign_table r ≡ head_row head text → column r 8 ≡ Text text
 world_is r head text e = ap (λ row. column row 7) e
 
-puts_head : (old new : State) (head : Head) (world : List ℕ) (count : ℕ) → HasTables old.now → ExecutesInside 0 put_campaign (head_values head world) old new (Ok count) → Done (PutsHead head world) old.now new.now
+puts_head : (old new : State) (head : Head) (world : List ℕ) (count : ℕ) → HasTables old.now → ExecutesInside 0 campaign_upsert (head_values head world) old new (Ok count) → Done (PutsHead head world) old.now new.now
 unfolding first_key
 puts_head old new head world count has ran =
     let schema = nine_and has.nine.tables has.nine.indexes in
@@ -65,9 +65,9 @@ puts_head old new head world count has ran =
     let none = unlinked has.nine.tables has.nine.indexes campaign_table.tree has.nine.free in
     let v = head_values head world in
     let src = int 1 ∷ Null ∷ int 1 ∷ v in
-    let w = runs_as put_campaign v old new schema has.nine.is _ (put_is has.nine.tables has.nine.indexes) (put_plain has.nine.tables has.nine.indexes) count ran.0 in
+    let w = runs_as campaign_upsert v old new schema has.nine.is _ (put_is has.nine.tables has.nine.indexes) (put_plain has.nine.tables has.nine.indexes) count ran.0 in
     let keyed = sound.keyed campaign_table ours in
-    let up = upserting schema campaign_table.tree _ _ _ _ _ _ 0 refl none old.step_limit v (0 ∷ []) 6 project (λ db. refl) (statement_of put_campaign (understood schema put_campaign)) terms 9 src
+    let up = upserting schema campaign_table.tree _ _ _ _ _ _ 0 refl none old.step_limit v (0 ∷ []) 6 project (λ db. refl) (statement_of campaign_upsert (understood schema campaign_upsert)) terms 9 src
     old.now.trees _ keyed (λ r there. refl) refl (did schema old new _ _ v count has.nine.is w) in
     let casted : cast_row campaign_table src ≡ src = rw (cast_int (pos 1), cast_int (pos head.month), cast_int (pos head.next_faction), cast_int (pos head.next_unit), cast_int (pos head.next_structure), cast_null) refl in
     let made : with_rowid Chosen (old.now.trees campaign_table.tree) (cast_row campaign_table src) ≡ src = ap (with_rowid Chosen (old.now.trees campaign_table.tree)) casted in
@@ -97,5 +97,5 @@ puts_head old new head world count has ran =
       carries = carried campaign_table old.now new.now has ours up.1 (upserts_others schema (nine_among has.nine.tables) campaign_table 1 none old.step_limit v (0 ∷ []) 6 project (λ db. refl) src v old.now new.now upserted);
     }
 
-pub puts_campaign : (head : Head) (world : List ℕ) → DoneBy put_campaign (head_values head world) (PutsHead head world)
-puts_campaign head world = done_by put_campaign (head_values head world) (PutsHead head world) (λ old new count inside ran. (ran.1.mode ∙ sym inside, λ has. puts_head old new head world count has ran))
+pub puts_campaign : (head : Head) (world : List ℕ) → DoneBy campaign_upsert (head_values head world) (PutsHead head world)
+puts_campaign head world = done_by campaign_upsert (head_values head world) (PutsHead head world) (λ old new count inside ran. (ran.1.mode ∙ sym inside, λ has. puts_head old new head world count has ran))

@@ -23,9 +23,9 @@ use Rattle.atl_store.specs.Gathering.{IsSettled, Lacks, Found, FailsToRead, Fail
 use Rattle.atl_store.specs.Inside.{HasTables}
 use Rattle.atl_store.specs.Keeps.{Keeps, Stores}
 use Rattle.atl_store.specs.Loading.{HaveRows, KeepsOneRow, BreaksRule, IsDamaged, RefusesToLoad, Loads, LeavesAlone, Leaves, AreMade, AreToldTyped, WantsMemory, FailedMeanwhile, RefusesAgain, other_selects}
-use Rattle.atl_store.specs.Selects.{all_campaign}
+use Rattle.atl_store.specs.Statements.{selection}
 use Rattle.atl_store.specs.Rows.{Holds}
-use Rattle.atl_store.specs.Tables.{HasNine}
+use Rattle.atl_store.specs.Tables.{HasNine, campaign_table}
 use Rattle.atl_store.specs.declared.fault.StoreFault.{StoreFault}
 use Rattle.atl_store.specs.declared.fault.StoreFault.TheVariants.{Store, Damaged, NotACampaign, Memory}
 use Rattle.atl_store.specs.declared.rows.campaign.StoredCampaign.{StoredCampaign}
@@ -149,7 +149,7 @@ module _ {S : Type 0} (g : Ghosts S) where
   -- the tables are not confirmed
   module _ (old mid : Held S) (kept : KeepsOneRow g old) (first : Leaves g old mid) (clean : HasCleanDisk (state g mid)) where
     was_open : IsTrue (state g old).is_open
-    was_open = shown_open all_campaign _ _ kept.rows kept.selects.1
+    was_open = shown_open (selection campaign_table 1) _ _ kept.rows kept.selects.1
 
     shut_failed : (state g mid).is_open ≡ false → FailedMeanwhile g old
     shut_failed shut = record {

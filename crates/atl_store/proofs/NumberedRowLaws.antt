@@ -7,14 +7,14 @@ use Rattle.sqlite.specs.Order.{Row}
 use Rattle.atl_store.specs.Tables.{faction_table, region_table, unit_table, structure_table, mail_table, report_table}
 use Rattle.atl_store.specs.Shown.{int, flag, faction_row, region_row, unit_row, structure_row, mail_row, report_row}
 use Rattle.atl_store.specs.Inside.{Puts, Drops}
-use Rattle.atl_store.specs.Statements.{put_faction, drop_faction, put_region, drop_region, put_unit, drop_unit, put_structure, drop_structure, put_mail, drop_mail, put_report, drop_report}
+use Rattle.atl_store.specs.Statements.{deletion, upsert}
 use Rattle.atl_store.proofs.NumberedLaws.{IsNumbered, MakesRow, puts_numbered, drops_numbered}
 use Rattle.atl_store.proofs.StatementLaws.{DoneBy}
 use Rattle.atl_store.proofs.Terms.{cast_null, cast_int}
 
 -- ---- faction
 
-faction_statements : IsNumbered faction_table 1 4 put_faction drop_faction
+faction_statements : IsNumbered faction_table 1 4 (upsert faction_table 1) (deletion faction_table 1)
 unfolding understood everything
 faction_statements = record {
   ours = inr (inl refl);
@@ -40,15 +40,15 @@ faction_made number joined_as name pass gone = record {
 }
 
 pub puts_faction : (number : ℕ) (joined_as name pass : List ℕ) (gone : Bool)
-    → DoneBy put_faction (faction_row number joined_as name pass gone) (Puts faction_table 1 (faction_row number joined_as name pass gone))
-puts_faction number joined_as name pass gone = puts_numbered faction_table.tree _ _ _ _ 1 4 put_faction drop_faction faction_statements number (faction_values joined_as name pass gone) (faction_made number joined_as name pass gone)
+    → DoneBy (upsert faction_table 1) (faction_row number joined_as name pass gone) (Puts faction_table 1 (faction_row number joined_as name pass gone))
+puts_faction number joined_as name pass gone = puts_numbered faction_table.tree _ _ _ _ 1 4 (upsert faction_table 1) (deletion faction_table 1) faction_statements number (faction_values joined_as name pass gone) (faction_made number joined_as name pass gone)
 
-pub drops_faction : (number : ℕ) → DoneBy drop_faction (int number ∷ []) (Drops faction_table 1 (int number ∷ []))
-drops_faction = drops_numbered faction_table.tree _ _ _ _ 1 4 put_faction drop_faction faction_statements
+pub drops_faction : (number : ℕ) → DoneBy (deletion faction_table 1) (int number ∷ []) (Drops faction_table 1 (int number ∷ []))
+drops_faction = drops_numbered faction_table.tree _ _ _ _ 1 4 (upsert faction_table 1) (deletion faction_table 1) faction_statements
 
 -- ---- region
 
-region_statements : IsNumbered region_table 2 2 put_region drop_region
+region_statements : IsNumbered region_table 2 2 (upsert region_table 1) (deletion region_table 1)
 unfolding understood everything
 region_statements = record {
   ours = inr (inr (inl refl));
@@ -74,15 +74,15 @@ region_made number peasants money = record {
 }
 
 pub puts_region : (number peasants money : ℕ)
-    → DoneBy put_region (region_row number peasants money) (Puts region_table 1 (region_row number peasants money))
-puts_region number peasants money = puts_numbered region_table.tree _ _ _ _ 2 2 put_region drop_region region_statements number (region_values peasants money) (region_made number peasants money)
+    → DoneBy (upsert region_table 1) (region_row number peasants money) (Puts region_table 1 (region_row number peasants money))
+puts_region number peasants money = puts_numbered region_table.tree _ _ _ _ 2 2 (upsert region_table 1) (deletion region_table 1) region_statements number (region_values peasants money) (region_made number peasants money)
 
-pub drops_region : (number : ℕ) → DoneBy drop_region (int number ∷ []) (Drops region_table 1 (int number ∷ []))
-drops_region = drops_numbered region_table.tree _ _ _ _ 2 2 put_region drop_region region_statements
+pub drops_region : (number : ℕ) → DoneBy (deletion region_table 1) (int number ∷ []) (Drops region_table 1 (int number ∷ []))
+drops_region = drops_numbered region_table.tree _ _ _ _ 2 2 (upsert region_table 1) (deletion region_table 1) region_statements
 
 -- ---- unit
 
-unit_statements : IsNumbered unit_table 3 7 put_unit drop_unit
+unit_statements : IsNumbered unit_table 3 7 (upsert unit_table 1) (deletion unit_table 1)
 unfolding understood everything
 unit_statements = record {
   ours = inr (inr (inr (inl refl)));
@@ -109,15 +109,15 @@ unit_made number faction name region structure men money guard = record {
 }
 
 pub puts_unit : (number faction : ℕ) (name : List ℕ) (region structure men money : ℕ) (guard : Bool)
-    → DoneBy put_unit (unit_row number faction name region structure men money guard) (Puts unit_table 1 (unit_row number faction name region structure men money guard))
-puts_unit number faction name region structure men money guard = puts_numbered unit_table.tree _ _ _ _ 3 7 put_unit drop_unit unit_statements number (unit_values faction name region structure men money guard) (unit_made number faction name region structure men money guard)
+    → DoneBy (upsert unit_table 1) (unit_row number faction name region structure men money guard) (Puts unit_table 1 (unit_row number faction name region structure men money guard))
+puts_unit number faction name region structure men money guard = puts_numbered unit_table.tree _ _ _ _ 3 7 (upsert unit_table 1) (deletion unit_table 1) unit_statements number (unit_values faction name region structure men money guard) (unit_made number faction name region structure men money guard)
 
-pub drops_unit : (number : ℕ) → DoneBy drop_unit (int number ∷ []) (Drops unit_table 1 (int number ∷ []))
-drops_unit = drops_numbered unit_table.tree _ _ _ _ 3 7 put_unit drop_unit unit_statements
+pub drops_unit : (number : ℕ) → DoneBy (deletion unit_table 1) (int number ∷ []) (Drops unit_table 1 (int number ∷ []))
+drops_unit = drops_numbered unit_table.tree _ _ _ _ 3 7 (upsert unit_table 1) (deletion unit_table 1) unit_statements
 
 -- ---- structure
 
-structure_statements : IsNumbered structure_table 5 5 put_structure drop_structure
+structure_statements : IsNumbered structure_table 5 5 (upsert structure_table 1) (deletion structure_table 1)
 unfolding understood everything
 structure_statements = record {
   ours = inr (inr (inr (inr (inr (inl refl)))));
@@ -144,15 +144,15 @@ structure_made number kind name region done owner = record {
 }
 
 pub puts_structure : (number kind : ℕ) (name : List ℕ) (region done owner : ℕ)
-    → DoneBy put_structure (structure_row number kind name region done owner) (Puts structure_table 1 (structure_row number kind name region done owner))
-puts_structure number kind name region done owner = puts_numbered structure_table.tree _ _ _ _ 5 5 put_structure drop_structure structure_statements number (structure_values kind name region done owner) (structure_made number kind name region done owner)
+    → DoneBy (upsert structure_table 1) (structure_row number kind name region done owner) (Puts structure_table 1 (structure_row number kind name region done owner))
+puts_structure number kind name region done owner = puts_numbered structure_table.tree _ _ _ _ 5 5 (upsert structure_table 1) (deletion structure_table 1) structure_statements number (structure_values kind name region done owner) (structure_made number kind name region done owner)
 
-pub drops_structure : (number : ℕ) → DoneBy drop_structure (int number ∷ []) (Drops structure_table 1 (int number ∷ []))
-drops_structure = drops_numbered structure_table.tree _ _ _ _ 5 5 put_structure drop_structure structure_statements
+pub drops_structure : (number : ℕ) → DoneBy (deletion structure_table 1) (int number ∷ []) (Drops structure_table 1 (int number ∷ []))
+drops_structure = drops_numbered structure_table.tree _ _ _ _ 5 5 (upsert structure_table 1) (deletion structure_table 1) structure_statements
 
 -- ---- mail
 
-mail_statements : IsNumbered mail_table 6 1 put_mail drop_mail
+mail_statements : IsNumbered mail_table 6 1 (upsert mail_table 1) (deletion mail_table 1)
 unfolding understood everything
 mail_statements = record {
   ours = inr (inr (inr (inr (inr (inr (inl refl))))));
@@ -177,15 +177,15 @@ mail_made faction text = record {
   spared = λ x. refl;
 }
 
-pub puts_mail : (faction : ℕ) (text : List ℕ) → DoneBy put_mail (mail_row faction text) (Puts mail_table 1 (mail_row faction text))
-puts_mail faction text = puts_numbered mail_table.tree _ _ _ _ 6 1 put_mail drop_mail mail_statements faction (mail_values text) (mail_made faction text)
+pub puts_mail : (faction : ℕ) (text : List ℕ) → DoneBy (upsert mail_table 1) (mail_row faction text) (Puts mail_table 1 (mail_row faction text))
+puts_mail faction text = puts_numbered mail_table.tree _ _ _ _ 6 1 (upsert mail_table 1) (deletion mail_table 1) mail_statements faction (mail_values text) (mail_made faction text)
 
-pub drops_mail : (faction : ℕ) → DoneBy drop_mail (int faction ∷ []) (Drops mail_table 1 (int faction ∷ []))
-drops_mail = drops_numbered mail_table.tree _ _ _ _ 6 1 put_mail drop_mail mail_statements
+pub drops_mail : (faction : ℕ) → DoneBy (deletion mail_table 1) (int faction ∷ []) (Drops mail_table 1 (int faction ∷ []))
+drops_mail = drops_numbered mail_table.tree _ _ _ _ 6 1 (upsert mail_table 1) (deletion mail_table 1) mail_statements
 
 -- ---- report
 
-report_statements : IsNumbered report_table 7 1 put_report drop_report
+report_statements : IsNumbered report_table 7 1 (upsert report_table 1) (deletion report_table 1)
 unfolding understood everything
 report_statements = record {
   ours = inr (inr (inr (inr (inr (inr (inr (inl refl)))))));
@@ -210,8 +210,8 @@ report_made faction text = record {
   spared = λ x. refl;
 }
 
-pub puts_report : (faction : ℕ) (text : List ℕ) → DoneBy put_report (report_row faction text) (Puts report_table 1 (report_row faction text))
-puts_report faction text = puts_numbered report_table.tree _ _ _ _ 7 1 put_report drop_report report_statements faction (report_values text) (report_made faction text)
+pub puts_report : (faction : ℕ) (text : List ℕ) → DoneBy (upsert report_table 1) (report_row faction text) (Puts report_table 1 (report_row faction text))
+puts_report faction text = puts_numbered report_table.tree _ _ _ _ 7 1 (upsert report_table 1) (deletion report_table 1) report_statements faction (report_values text) (report_made faction text)
 
-pub drops_report : (faction : ℕ) → DoneBy drop_report (int faction ∷ []) (Drops report_table 1 (int faction ∷ []))
-drops_report = drops_numbered report_table.tree _ _ _ _ 7 1 put_report drop_report report_statements
+pub drops_report : (faction : ℕ) → DoneBy (deletion report_table 1) (int faction ∷ []) (Drops report_table 1 (int faction ∷ []))
+drops_report = drops_numbered report_table.tree _ _ _ _ 7 1 (upsert report_table 1) (deletion report_table 1) report_statements

@@ -12,7 +12,7 @@ use Rattle.atl_state.specs.declared.parts.StoredHead.{StoredHead}
 use Rattle.atl_store.specs.Gathering.{own_fault, IsOwn, Judges, JudgesOwn, JudgesRows, OwnRead}
 use Rattle.atl_store.specs.Loading.{own_stored, AreOwnRow, RefusesToLoad}
 use Rattle.atl_store.specs.Reading.{Selects, RefusesToSelect}
-use Rattle.atl_store.specs.Selects.{all_campaign}
+use Rattle.atl_store.specs.Statements.{selection}
 use Rattle.atl_store.specs.Sets.{rows_in}
 use Rattle.atl_store.specs.Stored.{first_columns, AreTyped, IsTyped}
 use Rattle.atl_store.specs.StoredRows.{campaign_stored, campaign_forms}
@@ -117,20 +117,20 @@ unread_rows rows read.Refused other which = absurd (let e = which (λ e. cc) in 
 
 module _ {S : Type 0} (g : Ghosts S) (old : Held S) where
   -- the rows are not as they should be
-  pub refuses_own : old.in_transaction ≡ false → (rows : List Row) (r : Result (StoredCampaign × Planet) StoreFault) → JudgesRows rows r → Selects g all_campaign old rows
+  pub refuses_own : old.in_transaction ≡ false → (rows : List Row) (r : Result (StoredCampaign × Planet) StoreFault) → JudgesRows rows r → Selects g (selection campaign_table 1) old rows
       → IfErr r (RefusesToLoad g old)
   refuses_own idle rows r judged told =
       judged_as (λ both. AreOwnRow rows both.0.head (string_bytes both.0.world) both.1) ((h : StoredHead) (text : List ℕ) (w : Planet) → ¬ AreOwnRow rows h text w) (λ answer. IfErr answer (RefusesToLoad g old)) (λ both own. tt) (idle, inr (rows, told)) (λ none. record { rows = rows; selects = told; broken = none }) r judged
 
   -- they are the campaign's own row and its world
-  pub own_is : (rows : List Row) (r : Result (StoredCampaign × Planet) StoreFault) → JudgesRows rows r → Selects g all_campaign old rows
+  pub own_is : (rows : List Row) (r : Result (StoredCampaign × Planet) StoreFault) → JudgesRows rows r → Selects g (selection campaign_table 1) old rows
       → IfOk r (λ both. OwnRead g old both.0 both.1)
   own_is rows (Err fault) judged told = tt
   own_is rows (Ok both) judged told = record { rows = rows; selects = told; row = judged; table = λ nine. subst (IsPermutation (rows_in campaign_table (state g old).now.trees)) judged.is (reads_campaign _ _ rows told.1 nine) }
 
   -- they could not be asked for
-  pub unasked_own : old.in_transaction ≡ false → (fault : ReadFault) → RefusesToSelect g all_campaign old fault → RefusesToLoad g old (own_fault fault)
+  pub unasked_own : old.in_transaction ≡ false → (fault : ReadFault) → RefusesToSelect g (selection campaign_table 1) old fault → RefusesToLoad g old (own_fault fault)
   unasked_own idle read.Store refused = inr (inl refused)
   unasked_own idle read.Memory refused = (idle, inl refused)
   unasked_own idle read.Refused refused = refused
-  unasked_own idle read.OtherType refused = absurd (never_other g all_campaign old read.OtherType refused refl)
+  unasked_own idle read.OtherType refused = absurd (never_other g (selection campaign_table 1) old read.OtherType refused refl)

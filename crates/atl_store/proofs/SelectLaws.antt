@@ -22,15 +22,12 @@ use Rattle.sqlite_trees.specs.Tree.{Trees}
 use Rattle.atl_store.specs.Sets.{rows_in}
 use Rattle.atl_store.specs.Tables.{campaign_table, faction_table, region_table, unit_table, has_table, structure_table, mail_table, report_table, books_table, nine_and, HasNine}
 use Rattle.atl_store.specs.Reading.{placed_rows_in}
-use Rattle.atl_store.specs.Selects.{all_campaign, all_factions, all_regions, all_units, all_has, all_structures, all_mail, all_reports, all_books}
+use Rattle.atl_store.specs.Statements.{column_names, placed_selection, selection}
 use Rattle.atl_store.specs.Stored.{first_columns}
 use Rattle.atl_store.proofs.ReadLaws.{all_query, all_shown}
 use Rattle.atl_store.proofs.ShownLaws.{whole_shown}
 
 -- ---- columns
-
-abbrev column_names : Table → List (List ℕ)
-column_names t = map (λ c. c.name) t.columns
 
 -- the first columns of a table, by their places in the row that is kept, and the place that the database keeps it at
 abbrev first : Table → ℕ → List Term
@@ -64,69 +61,69 @@ reads_all sql t key names columns all same count whole old new rows h has =
 
 -- ---- of each table
 
-campaign_all : IsWhole all_campaign campaign_table 1
+campaign_all : IsWhole (selection campaign_table 1) campaign_table 1
 unfolding understood everything
 campaign_all = record { command = λ more indexes. refl; plain = λ more indexes. (refl, refl); unlisted = λ more indexes. refl }
 
 -- it is a query, which can commit nothing
-pub campaign_plain : (schema : Schema) → HasNine schema → IsPlain (understood schema all_campaign)
-campaign_plain schema has = subst (λ s. IsPlain (understood s all_campaign)) (sym has.is) (campaign_all.plain has.tables has.indexes)
+pub campaign_plain : (schema : Schema) → HasNine schema → IsPlain (understood schema (selection campaign_table 1))
+campaign_plain schema has = subst (λ s. IsPlain (understood s (selection campaign_table 1))) (sym has.is) (campaign_all.plain has.tables has.indexes)
 
-pub reads_campaign : (old new : State) (rows : List Row) → Shown all_campaign [] old new rows → HasNine old.now.schema → IsPermutation (rows_in campaign_table old.now.trees) (map (first_columns 8) rows)
-reads_campaign = reads_all all_campaign campaign_table 1 _ _ campaign_all (λ db. refl) 8 (λ r. refl)
+pub reads_campaign : (old new : State) (rows : List Row) → Shown (selection campaign_table 1) [] old new rows → HasNine old.now.schema → IsPermutation (rows_in campaign_table old.now.trees) (map (first_columns 8) rows)
+reads_campaign = reads_all (selection campaign_table 1) campaign_table 1 _ _ campaign_all (λ db. refl) 8 (λ r. refl)
 
-faction_all : IsWhole all_factions faction_table 1
+faction_all : IsWhole (selection faction_table 1) faction_table 1
 unfolding understood everything
 faction_all = record { command = λ more indexes. refl; plain = λ more indexes. (refl, refl); unlisted = λ more indexes. refl }
 
-pub reads_faction : (old new : State) (rows : List Row) → Shown all_factions [] old new rows → HasNine old.now.schema → IsPermutation (rows_in faction_table old.now.trees) (map (first_columns 5) rows)
-reads_faction = reads_all all_factions faction_table 1 _ _ faction_all (λ db. refl) 5 (λ r. refl)
+pub reads_faction : (old new : State) (rows : List Row) → Shown (selection faction_table 1) [] old new rows → HasNine old.now.schema → IsPermutation (rows_in faction_table old.now.trees) (map (first_columns 5) rows)
+reads_faction = reads_all (selection faction_table 1) faction_table 1 _ _ faction_all (λ db. refl) 5 (λ r. refl)
 
-region_all : IsWhole all_regions region_table 1
+region_all : IsWhole (selection region_table 1) region_table 1
 unfolding understood everything
 region_all = record { command = λ more indexes. refl; plain = λ more indexes. (refl, refl); unlisted = λ more indexes. refl }
 
-pub reads_region : (old new : State) (rows : List Row) → Shown all_regions [] old new rows → HasNine old.now.schema → IsPermutation (rows_in region_table old.now.trees) (map (first_columns 3) rows)
-reads_region = reads_all all_regions region_table 1 _ _ region_all (λ db. refl) 3 (λ r. refl)
+pub reads_region : (old new : State) (rows : List Row) → Shown (selection region_table 1) [] old new rows → HasNine old.now.schema → IsPermutation (rows_in region_table old.now.trees) (map (first_columns 3) rows)
+reads_region = reads_all (selection region_table 1) region_table 1 _ _ region_all (λ db. refl) 3 (λ r. refl)
 
-unit_all : IsWhole all_units unit_table 1
+unit_all : IsWhole (selection unit_table 1) unit_table 1
 unfolding understood everything
 unit_all = record { command = λ more indexes. refl; plain = λ more indexes. (refl, refl); unlisted = λ more indexes. refl }
 
-pub reads_unit : (old new : State) (rows : List Row) → Shown all_units [] old new rows → HasNine old.now.schema → IsPermutation (rows_in unit_table old.now.trees) (map (first_columns 8) rows)
-reads_unit = reads_all all_units unit_table 1 _ _ unit_all (λ db. refl) 8 (λ r. refl)
+pub reads_unit : (old new : State) (rows : List Row) → Shown (selection unit_table 1) [] old new rows → HasNine old.now.schema → IsPermutation (rows_in unit_table old.now.trees) (map (first_columns 8) rows)
+reads_unit = reads_all (selection unit_table 1) unit_table 1 _ _ unit_all (λ db. refl) 8 (λ r. refl)
 
-has_all : IsPlaced all_has has_table 3
+has_all : IsPlaced (placed_selection has_table 3) has_table 3
 unfolding understood everything
 has_all = record { command = λ more indexes. refl; plain = λ more indexes. (refl, refl); unlisted = λ more indexes. refl }
 
-pub reads_has : (old new : State) (rows : List Row) → Shown all_has [] old new rows → HasNine old.now.schema → IsPermutation (placed_rows_in has_table old.now.trees) (map (first_columns 5) rows)
-reads_has = reads_all all_has has_table 3 _ _ has_all (λ db. refl) 5 (λ r. refl)
+pub reads_has : (old new : State) (rows : List Row) → Shown (placed_selection has_table 3) [] old new rows → HasNine old.now.schema → IsPermutation (placed_rows_in has_table old.now.trees) (map (first_columns 5) rows)
+reads_has = reads_all (placed_selection has_table 3) has_table 3 _ _ has_all (λ db. refl) 5 (λ r. refl)
 
-structure_all : IsWhole all_structures structure_table 1
+structure_all : IsWhole (selection structure_table 1) structure_table 1
 unfolding understood everything
 structure_all = record { command = λ more indexes. refl; plain = λ more indexes. (refl, refl); unlisted = λ more indexes. refl }
 
-pub reads_structure : (old new : State) (rows : List Row) → Shown all_structures [] old new rows → HasNine old.now.schema → IsPermutation (rows_in structure_table old.now.trees) (map (first_columns 6) rows)
-reads_structure = reads_all all_structures structure_table 1 _ _ structure_all (λ db. refl) 6 (λ r. refl)
+pub reads_structure : (old new : State) (rows : List Row) → Shown (selection structure_table 1) [] old new rows → HasNine old.now.schema → IsPermutation (rows_in structure_table old.now.trees) (map (first_columns 6) rows)
+reads_structure = reads_all (selection structure_table 1) structure_table 1 _ _ structure_all (λ db. refl) 6 (λ r. refl)
 
-mail_all : IsWhole all_mail mail_table 1
+mail_all : IsWhole (selection mail_table 1) mail_table 1
 unfolding understood everything
 mail_all = record { command = λ more indexes. refl; plain = λ more indexes. (refl, refl); unlisted = λ more indexes. refl }
 
-pub reads_mail : (old new : State) (rows : List Row) → Shown all_mail [] old new rows → HasNine old.now.schema → IsPermutation (rows_in mail_table old.now.trees) (map (first_columns 2) rows)
-reads_mail = reads_all all_mail mail_table 1 _ _ mail_all (λ db. refl) 2 (λ r. refl)
+pub reads_mail : (old new : State) (rows : List Row) → Shown (selection mail_table 1) [] old new rows → HasNine old.now.schema → IsPermutation (rows_in mail_table old.now.trees) (map (first_columns 2) rows)
+reads_mail = reads_all (selection mail_table 1) mail_table 1 _ _ mail_all (λ db. refl) 2 (λ r. refl)
 
-report_all : IsWhole all_reports report_table 1
+report_all : IsWhole (selection report_table 1) report_table 1
 unfolding understood everything
 report_all = record { command = λ more indexes. refl; plain = λ more indexes. (refl, refl); unlisted = λ more indexes. refl }
 
-pub reads_report : (old new : State) (rows : List Row) → Shown all_reports [] old new rows → HasNine old.now.schema → IsPermutation (rows_in report_table old.now.trees) (map (first_columns 2) rows)
-reads_report = reads_all all_reports report_table 1 _ _ report_all (λ db. refl) 2 (λ r. refl)
+pub reads_report : (old new : State) (rows : List Row) → Shown (selection report_table 1) [] old new rows → HasNine old.now.schema → IsPermutation (rows_in report_table old.now.trees) (map (first_columns 2) rows)
+reads_report = reads_all (selection report_table 1) report_table 1 _ _ report_all (λ db. refl) 2 (λ r. refl)
 
-books_all : IsPlaced all_books books_table 2
+books_all : IsPlaced (placed_selection books_table 2) books_table 2
 unfolding understood everything
 books_all = record { command = λ more indexes. refl; plain = λ more indexes. (refl, refl); unlisted = λ more indexes. refl }
 
-pub reads_books : (old new : State) (rows : List Row) → Shown all_books [] old new rows → HasNine old.now.schema → IsPermutation (placed_rows_in books_table old.now.trees) (map (first_columns 4) rows)
-reads_books = reads_all all_books books_table 2 _ _ books_all (λ db. refl) 4 (λ r. refl)
+pub reads_books : (old new : State) (rows : List Row) → Shown (placed_selection books_table 2) [] old new rows → HasNine old.now.schema → IsPermutation (placed_rows_in books_table old.now.trees) (map (first_columns 4) rows)
+reads_books = reads_all (placed_selection books_table 2) books_table 2 _ _ books_all (λ db. refl) 4 (λ r. refl)

@@ -30,7 +30,7 @@ use Rattle.atl_state.specs.declared.parts.StoredUnit.{StoredUnit}
 use Rattle.atl_store.specs.Faults.{is_memory}
 use Rattle.atl_store.specs.Loading.{HaveRows, AreOwnRow, HasOtherType, KeepsOneRow, other_selects, Leaves, AreToldTyped, RefusesOne}
 use Rattle.atl_store.specs.Reading.{Selects, placed_rows_in}
-use Rattle.atl_store.specs.Selects.{all_campaign, all_factions, all_regions, all_units, all_has, all_structures, all_mail, all_reports, all_books}
+use Rattle.atl_store.specs.Statements.{placed_selection, selection}
 use Rattle.atl_store.specs.Sets.{rows_in}
 use Rattle.atl_store.specs.StoredRows.{campaign_stored, faction_stored, region_stored, unit_stored, structure_stored, mail_stored, report_stored, has_stored, books_stored, faction_forms, region_forms, unit_forms, structure_forms, mail_forms, report_forms, has_forms, books_forms}
 use Rattle.atl_store.specs.Stored.{Form}
@@ -106,13 +106,13 @@ JudgesRows rows r = Judges (λ both. AreOwnRow rows both.0.head (string_bytes bo
 
 -- the SELECTs of the other tables, in the order in which they are asked
 abbrev pub place_selects : List (List ℕ × List Form)
-place_selects = (all_factions, faction_forms) ∷ (all_regions, region_forms) ∷ (all_reports, report_forms) ∷ []
+place_selects = (selection faction_table 1, faction_forms) ∷ (selection region_table 1, region_forms) ∷ (selection report_table 1, report_forms) ∷ []
 
 abbrev pub people_selects : List (List ℕ × List Form)
-people_selects = (all_units, unit_forms) ∷ (all_has, has_forms) ∷ []
+people_selects = (selection unit_table 1, unit_forms) ∷ (placed_selection has_table 3, has_forms) ∷ []
 
 abbrev pub work_selects : List (List ℕ × List Form)
-work_selects = (all_structures, structure_forms) ∷ (all_mail, mail_forms) ∷ (all_books, books_forms) ∷ []
+work_selects = (selection structure_table 1, structure_forms) ∷ (selection mail_table 1, mail_forms) ∷ (placed_selection books_table 2, books_forms) ∷ []
 
 -- what was read of the eight tables
 abbrev pub OthersRead : Type 0 → Type 0
@@ -122,7 +122,7 @@ module _ {S : Type 0} (g : Ghosts S) (old : Held S) where
   -- one row was read, whose id and format are 1, with a text of the world
   pub record OwnRead (own : StoredCampaign) (w : Planet) : Type 0 where
     pub rows : List Row
-    pub selects : Selects g all_campaign old rows
+    pub selects : Selects g (selection campaign_table 1) old rows
     pub row : AreOwnRow rows own.head (string_bytes own.world) w
     pub table : HasNine old.schema → IsPermutation (rows_in campaign_table (state g old).now.trees) (campaign_stored own ∷ [])
 
@@ -177,7 +177,7 @@ module _ {S : Type 0} (g : Ghosts S) (old : Held S) where
 
   -- the campaign's own row is asked for once more, and refused for want of memory or not
   abbrev pub IsRefusedAgain : Bool → Type 0
-  IsRefusedAgain memory = (during : Held S) × (e : Error) × FailsToQuery all_campaign [] (state g old) (state g during) e × (is_memory e ≡ memory)
+  IsRefusedAgain memory = (during : Held S) × (e : Error) × FailsToQuery (selection campaign_table 1) [] (state g old) (state g during) e × (is_memory e ≡ memory)
 
   -- Store where the schema is another one, else what is told of that SELECT
   abbrev pub FailsToConfirm : StoreFault → Type 0

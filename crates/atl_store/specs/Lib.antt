@@ -11,7 +11,6 @@ pub mod Statements
 pub mod OwnStatements
 pub mod Causes
 pub mod Stored
-pub mod Selects
 pub mod Reading
 pub mod StoredRows
 pub mod Rows

@@ -24,7 +24,7 @@ use Rattle.atl_state.specs.declared.parts.StoredHead.{StoredHead}
 use Rattle.atl_store.specs.Faults.{is_memory}
 use Rattle.atl_store.specs.Keeps.{HoldsCampaign, Spares}
 use Rattle.atl_store.specs.Reading.{Selects, RefusesToSelect}
-use Rattle.atl_store.specs.Selects.{all_campaign, all_factions, all_regions, all_units, all_has, all_structures, all_mail, all_reports, all_books}
+use Rattle.atl_store.specs.Statements.{placed_selection, selection}
 use Rattle.atl_store.specs.Sets.{rows_in, IsKeyed}
 use Rattle.atl_store.specs.Stored.{Form, first_columns, AreTyped}
 use Rattle.atl_store.specs.StoredRows.{head_stored, faction_stored, region_stored, unit_stored, structure_stored, mail_stored, report_stored, campaign_forms, faction_forms, region_forms, unit_forms, has_forms, structure_forms, mail_forms, report_forms, books_forms}
@@ -73,7 +73,7 @@ pub record AreOwnRow (rows : List Row) (h : StoredHead) (text : List ℕ) (w : P
 -- the SELECTs of the other eight tables, each with what its columns are read as
 abbrev pub other_selects : List (List ℕ × List Form)
 other_selects =
-    (all_factions, faction_forms) ∷ (all_regions, region_forms) ∷ (all_reports, report_forms) ∷ (all_units, unit_forms) ∷ (all_has, has_forms) ∷ (all_structures, structure_forms) ∷ (all_mail, mail_forms) ∷ (all_books, books_forms) ∷ []
+    (selection faction_table 1, faction_forms) ∷ (selection region_table 1, region_forms) ∷ (selection report_table 1, report_forms) ∷ (selection unit_table 1, unit_forms) ∷ (placed_selection has_table 3, has_forms) ∷ (selection structure_table 1, structure_forms) ∷ (selection mail_table 1, mail_forms) ∷ (placed_selection books_table 2, books_forms) ∷ []
 
 -- while the connection is open, its tables are those of the one before
 pub record Stays (old new : State) : Type 0 where
@@ -141,7 +141,7 @@ module _ {S : Type 0} (g : Ghosts S) (old : Held S) where
   -- The campaign's own rows keep the first rule.
   pub record KeepsOneRow : Type 0 where
     pub rows : List Row
-    pub selects : Selects g all_campaign old rows
+    pub selects : Selects g (selection campaign_table 1) old rows
     pub head : StoredHead
     pub text : List ℕ
     pub world : Planet
@@ -150,7 +150,7 @@ module _ {S : Type 0} (g : Ghosts S) (old : Held S) where
   -- They do not.
   pub record BreaksOneRow : Type 0 where
     pub rows : List Row
-    pub selects : Selects g all_campaign old rows
+    pub selects : Selects g (selection campaign_table 1) old rows
     pub broken : (h : StoredHead) (text : List ℕ) (w : Planet) → ¬ AreOwnRow rows h text w
 
   -- the first rule that is broken
@@ -186,7 +186,7 @@ module _ {S : Type 0} (g : Ghosts S) (old : Held S) where
     pub leaves : Leaves g old before
     pub during : Held S
     pub error : Error
-    pub refused : FailsToQuery all_campaign [] (state g before) (state g during) error
+    pub refused : FailsToQuery (selection campaign_table 1) [] (state g before) (state g during) error
     pub memory_is : is_memory error ≡ memory
 
   -- all is read and each value is of its type, but the tables are made otherwise, or the disk fails before they are known to be a campaign's
@@ -195,16 +195,16 @@ module _ {S : Type 0} (g : Ghosts S) (old : Held S) where
 
   -- Store is told in a transaction, where the SELECT of the campaign's own row is refused for the disk, for size or for steps, or, once that row keeps the first rule, where another table can't be read or the tables can't be confirmed.
   abbrev pub FailsToLoad : Type 0
-  FailsToLoad = (old.in_transaction ≡ true) ⊎ (RefusesToSelect g all_campaign old read.Store ⊎ (KeepsOneRow × (CannotRead ⊎ CannotConfirm)))
+  FailsToLoad = (old.in_transaction ≡ true) ⊎ (RefusesToSelect g (selection campaign_table 1) old read.Store ⊎ (KeepsOneRow × (CannotRead ⊎ CannotConfirm)))
 
   -- Memory is told in no transaction, where that SELECT is refused for want of memory or is answered: what is behind it may want memory anywhere.
   abbrev pub WantsMemory : Type 0
-  WantsMemory = (old.in_transaction ≡ false) × (RefusesToSelect g all_campaign old read.Memory ⊎ ((rows : List Row) × Selects g all_campaign old rows))
+  WantsMemory = (old.in_transaction ≡ false) × (RefusesToSelect g (selection campaign_table 1) old read.Memory ⊎ ((rows : List Row) × Selects g (selection campaign_table 1) old rows))
 
   abbrev pub RefusesToLoad : StoreFault → Type 0
   RefusesToLoad Store = FailsToLoad
   RefusesToLoad (Damaged rule) = IsDamaged rule
-  RefusesToLoad NotACampaign = RefusesToSelect g all_campaign old read.Refused
+  RefusesToLoad NotACampaign = RefusesToSelect g (selection campaign_table 1) old read.Refused
   RefusesToLoad Memory = WantsMemory
 
   -- The connection holds the good campaign, of which nothing is marked, and a text of its world.

@@ -10,6 +10,7 @@ use Rattle.sqlite.specs.State.{State, HasCleanDisk, Survives, KeepsCommit, Execu
 use Rattle.sqlite_rules.specs.Lists.{Has}
 use Rattle.sqlite.specs.Table.{Table}
 use Rattle.atl_store.specs.Inside.{Commits, LeavesOff, MayLeave, Inside, HasTables, Puts, PutsRows, Drops}
+use Rattle.atl_store.specs.Statements.{deletion, upsert}
 use Rattle.atl_store.specs.OwnStatements.{Statements, Only, Each}
 use Rattle.atl_store.specs.Causes.{Gives, IsReached}
 
@@ -34,17 +35,17 @@ pub record Writes {S : Type 0} (g : Ghosts S) (own : Statements) (Does : State �
 abbrev pub Runs : List ℕ → Row → State → State → Type 0
 Runs sql params old new = IsTrue old.in_transaction × (count : ℕ) × ExecutesInside 0 sql params old new (Ok count)
 
--- The row is put by the statement of this text.
-abbrev pub WritesRow : {S A : Type 0} → Ghosts S → List ℕ → Table → ℕ → Row → Result A Error → MutBor (Held S) → MutBor (Held S) → Type 0
-WritesRow g text table key row result old new = Writes g (Only text row) (Inside HasTables (Puts table key row)) result old new
+-- The row is put into the table, whose key is so many columns.
+abbrev pub WritesRow : {S A : Type 0} → Ghosts S → Table → ℕ → Row → Result A Error → MutBor (Held S) → MutBor (Held S) → Type 0
+WritesRow g table key row result old new = Writes g (Only (upsert table key) row) (Inside HasTables (Puts table key row)) result old new
 
--- The row that has this key is taken out by the statement of this text.
-abbrev pub TakesOut : {S A : Type 0} → Ghosts S → List ℕ → Table → ℕ → Row → Result A Error → MutBor (Held S) → MutBor (Held S) → Type 0
-TakesOut g text table key k result old new = Writes g (Only text k) (Inside HasTables (Drops table key k)) result old new
+-- The rows that have this key are taken out.
+abbrev pub TakesOut : {S A : Type 0} → Ghosts S → Table → ℕ → Row → Result A Error → MutBor (Held S) → MutBor (Held S) → Type 0
+TakesOut g table key k result old new = Writes g (Only (deletion table key) k) (Inside HasTables (Drops table key k)) result old new
 
--- All these rows are put by the statement of this text, one after another.
-abbrev pub WritesRows : {S A : Type 0} → Ghosts S → List ℕ → Table → ℕ → List Row → Result A Error → MutBor (Held S) → MutBor (Held S) → Type 0
-WritesRows g text table key rows result old new = Writes g (Each text (Has rows)) (Inside HasTables (PutsRows table key rows)) result old new
+-- All these rows are put, one after another.
+abbrev pub WritesRows : {S A : Type 0} → Ghosts S → Table → ℕ → List Row → Result A Error → MutBor (Held S) → MutBor (Held S) → Type 0
+WritesRows g table key rows result old new = Writes g (Each (upsert table key) (Has rows)) (Inside HasTables (PutsRows table key rows)) result old new
 
 -- A transaction as a whole, on a connection that is in none before it; it runs these statements.
 pub record Transacts {S : Type 0} (g : Ghosts S) (own : Statements) (Before : Database → Type 0) (Does : Database → Database → Type 0) {A : Type 0} (result : Result A Error) (old new : Held S) : Type 0 where

@@ -1,7 +1,6 @@
 //! What units have, written row by row.
 ghost use Rattle.atl_store.specs.Tables.{has_table};
 ghost use Rattle.atl_store.specs.Lines.{thing_lines, sort_lines, goods_lines, all_goods_lines};
-ghost use Rattle.atl_store.specs.Statements.{put_has as has_upsert};
 ghost use Rattle.atl_store.specs.OwnStatements.{OfChange};
 ghost use Rattle.atl_store.specs.Writes.{Writes, WritesRows};
 ghost use Rattle.atl_store.specs.Inside.{Inside, HasTables};
@@ -20,7 +19,7 @@ fn put_thing<S: Alter>(
     thing: u32,
     amount: u32,
 ) -> Result<(), Error>
-    ensures { WritesRows S.Store has_upsert has_table 3 (thing_lines unit sort thing amount) result tx.old.conn tx.new.conn }
+    ensures { WritesRows S.Store has_table 3 (thing_lines unit sort thing amount) result tx.old.conn tx.new.conn }
 {
     if amount == 0 {
         return Ok(());
@@ -41,7 +40,7 @@ fn put_sort<S: Alter>(
     sort: Sort,
     things: Entries<'_, u32>,
 ) -> Result<(), Error>
-    ensures { WritesRows S.Store has_upsert has_table 3 (sort_lines unit sort things.entry) result tx.old.conn tx.new.conn }
+    ensures { WritesRows S.Store has_table 3 (sort_lines unit sort things.entry) result tx.old.conn tx.new.conn }
 {
     for (thing, amount) in things {
         put_thing(tx, unit, sort, thing, *amount)?;
@@ -55,7 +54,7 @@ fn put_goods<S: Alter>(
     unit: u32,
     holding: &Holding,
 ) -> Result<(), Error>
-    ensures { WritesRows S.Store has_upsert has_table 3 (goods_lines unit holding.now) result tx.old.conn tx.new.conn }
+    ensures { WritesRows S.Store has_table 3 (goods_lines unit holding.now) result tx.old.conn tx.new.conn }
 {
     put_sort(tx, unit, Sort::Item, holding.items())?;
     put_sort(tx, unit, Sort::Skill, holding.days())
@@ -66,7 +65,7 @@ pub(crate) fn put_all_goods<S: Alter>(
     tx: &mut Transaction<'_, S>,
     units: SlotEntries<'_, Unit>,
 ) -> Result<(), Error>
-    ensures { WritesRows S.Store has_upsert has_table 3 (all_goods_lines units.entry) result tx.old.conn tx.new.conn }
+    ensures { WritesRows S.Store has_table 3 (all_goods_lines units.entry) result tx.old.conn tx.new.conn }
 {
     for (number, unit) in units {
         put_goods(tx, number, &unit.holding)?;

@@ -3,7 +3,7 @@ ghost use Rattle.atl_store.specs.Rows.{head_of};
 ghost use Rattle.atl_store.specs.PutsHead.{PutsHead};
 ghost use Rattle.atl_store.specs.Rewriting.{RewritesHead};
 ghost use Rattle.atl_store.specs.Shown.{head_values};
-ghost use Rattle.atl_store.specs.Statements.{put_campaign as campaign_upsert};
+ghost use Rattle.atl_store.specs.Statements.{campaign_upsert};
 ghost use Rattle.atl_store.specs.OwnStatements.{Only, OfChange};
 ghost use Rattle.atl_store.specs.Writes.{Writes};
 ghost use Rattle.atl_store.specs.Inside.{Inside, HasTables};

@@ -1,5 +1,5 @@
 //! The parts of a campaign that stand in a table of their own, each under its number.
-ghost use Rattle.std.specs.Prelude.{◌≡◌, ℕ, List, [], ◌∷◌, take, Some, None};
+ghost use Rattle.std.specs.Prelude.{◌≡◌, ℕ, [], ◌∷◌, take, Some, None};
 ghost use Rattle.std.specs.Ordering.{nat_cmp};
 ghost use Rattle.std.specs.Option.{option_copied};
 ghost use Rattle.std.specs.FinMap.{FinMap, get};
@@ -8,6 +8,7 @@ ghost use Rattle.sqlite.specs.Order.{Row as SqlRow};
 ghost use Rattle.sqlite.specs.Table.{Table};
 ghost use Rattle.atl_store.specs.Shown.{int};
 ghost use Rattle.atl_store.specs.Rows.{lines_of};
+ghost use Rattle.atl_store.specs.Statements.{deletion, upsert};
 ghost use Rattle.atl_store.specs.OwnStatements.{OfRow, OfChange};
 ghost use Rattle.atl_store.specs.Writes.{Writes, WritesRow, WritesRows, TakesOut};
 ghost use Rattle.atl_store.specs.Inside.{Inside, HasTables};
@@ -32,13 +33,9 @@ pub(crate) trait Kept: Sized {
 
     ghost marks: { Marks → FinSet nat_cmp };
 
-    ghost upsert: { List ℕ };
+    ghost of_row: { (c : State) (n : ℕ) (v : Self) → get (values c) n ≡ Some v → OfRow c (upsert table 1) (line n v) };
 
-    ghost deletion: { List ℕ };
-
-    ghost of_row: { (c : State) (n : ℕ) (v : Self) → get (values c) n ≡ Some v → OfRow c upsert (line n v) };
-
-    ghost of_none: { (c : State) (n : ℕ) → get (values c) n ≡ None → OfChange c deletion (int n ∷ []) };
+    ghost of_none: { (c : State) (n : ℕ) → get (values c) n ≡ None → OfChange c (deletion table 1) (int n ∷ []) };
 
     /// What stands under a number of a campaign.
     fn of(campaign: &Campaign, number: u32) -> Option<&Self>
@@ -50,11 +47,11 @@ pub(crate) trait Kept: Sized {
 
     /// Inserts its row, or changes the one that has the number.
     fn put<S: Alter>(&self, tx: &mut Transaction<'_, S>, number: u32) -> Result<(), Error>
-        ensures { WritesRow S.Store upsert table 1 (line number self.now) result tx.old.conn tx.new.conn };
+        ensures { WritesRow S.Store table 1 (line number self.now) result tx.old.conn tx.new.conn };
 
     /// Deletes the row that has the number, where there is one.
     fn take_out<S: Alter>(tx: &mut Transaction<'_, S>, number: u32) -> Result<(), Error>
-        ensures { TakesOut S.Store deletion table 1 (int number ∷ []) result tx.old.conn tx.new.conn };
+        ensures { TakesOut S.Store table 1 (int number ∷ []) result tx.old.conn tx.new.conn };
 }
 
 /// Puts the rows of all entries.
@@ -62,7 +59,7 @@ pub(crate) fn put_each<V: Kept + Drop, S: Alter>(
     tx: &mut Transaction<'_, S>,
     values: Entries<'_, V>,
 ) -> Result<(), Error>
-    ensures { WritesRows S.Store V.Kept.upsert V.Kept.table 1 (lines_of V.Kept.line values.entry) result tx.old.conn tx.new.conn }
+    ensures { WritesRows S.Store V.Kept.table 1 (lines_of V.Kept.line values.entry) result tx.old.conn tx.new.conn }
 {
     for (number, value) in values {
         value.put(tx, number)?;

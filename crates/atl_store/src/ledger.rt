@@ -5,7 +5,6 @@ ghost use Rattle.atl_state.specs.Limits.{most_things};
 ghost use Rattle.atl_state.specs.Books.{entry_place, thing_place};
 ghost use Rattle.atl_store.specs.Tables.{books_table};
 ghost use Rattle.atl_store.specs.Lines.{amount_lines, entries_lines, things_lines};
-ghost use Rattle.atl_store.specs.Statements.{put_books as books_upsert};
 ghost use Rattle.atl_store.specs.OwnStatements.{OfAmount, OfChange};
 ghost use Rattle.atl_store.specs.Writes.{Writes, WritesRows};
 ghost use Rattle.atl_store.specs.Inside.{Inside, HasTables};
@@ -24,7 +23,7 @@ fn put_amount<S: Alter>(
     thing: Thing,
 ) -> Result<(), Error>
     requires { thing_place thing < length campaign.now.what.books }
-    ensures { WritesRows S.Store books_upsert books_table 2 (amount_lines campaign.now.what entry thing) result tx.old.conn tx.new.conn }
+    ensures { WritesRows S.Store books_table 2 (amount_lines campaign.now.what entry thing) result tx.old.conn tx.new.conn }
 {
     let amount = campaign.booked(entry, thing);
     if amount == 0 {
@@ -68,7 +67,7 @@ fn put_entries<S: Alter>(
     entries: &[Entry],
 ) -> Result<(), Error>
     requires { thing_place thing < length campaign.now.what.books }
-    ensures { WritesRows S.Store books_upsert books_table 2 (entries_lines campaign.now.what thing entries.now) result tx.old.conn tx.new.conn }
+    ensures { WritesRows S.Store books_table 2 (entries_lines campaign.now.what thing entries.now) result tx.old.conn tx.new.conn }
 {
     for entry in entries {
         put_amount(tx, campaign, *entry, thing)?;
@@ -82,7 +81,7 @@ pub(crate) fn put_all_books<S: Alter>(
     campaign: &Campaign,
 ) -> Result<(), Error>
     requires { length campaign.now.what.books ≤ most_things }
-    ensures { WritesRows S.Store books_upsert books_table 2 (things_lines campaign.now.what (range_with_len 0 (length campaign.now.what.books))) result tx.old.conn tx.new.conn }
+    ensures { WritesRows S.Store books_table 2 (things_lines campaign.now.what (range_with_len 0 (length campaign.now.what.books))) result tx.old.conn tx.new.conn }
 {
     for number in 0..campaign.things() {
         put_entries(tx, campaign, Thing::of_number(number), &Entry::ALL)?;

@@ -3,9 +3,8 @@ ghost use Rattle.std.specs.Prelude.{◌≡◌, false};
 ghost use Rattle.atl_store.specs.Tables.{books_table};
 ghost use Rattle.atl_store.specs.Shown.{books_key};
 ghost use Rattle.atl_store.specs.Written.{books_shown};
-ghost use Rattle.atl_store.specs.Statements.{put_books as books_upsert, drop_books as books_deletion};
+ghost use Rattle.atl_store.specs.Statements.{placed_selection};
 ghost use Rattle.atl_store.specs.Writes.{WritesRow, TakesOut};
-ghost use Rattle.atl_store.specs.Selects.{all_books};
 ghost use Rattle.atl_store.specs.StoredRows.{books_stored, books_forms};
 ghost use Rattle.atl_store.specs.Reading.{placed_rows_in};
 
@@ -30,7 +29,7 @@ pub struct BooksRow {
 
 /// Inserts the row, or changes the one that has its entry and thing.
 pub(crate) fn put_books<S: Alter>(tx: &mut Transaction<'_, S>, row: &BooksRow) -> Result<(), Error>
-    ensures { WritesRow S.Store books_upsert books_table 2 (books_shown row.now) result tx.old.conn tx.new.conn }
+    ensures { WritesRow S.Store books_table 2 (books_shown row.now) result tx.old.conn tx.new.conn }
 {
     run(
         tx,
@@ -45,7 +44,7 @@ pub(crate) fn drop_books<S: Alter>(
     entry: u32,
     thing: u32,
 ) -> Result<(), Error>
-    ensures { TakesOut S.Store books_deletion books_table 2 (books_key entry thing) result tx.old.conn tx.new.conn }
+    ensures { TakesOut S.Store books_table 2 (books_key entry thing) result tx.old.conn tx.new.conn }
 {
     run(
         tx,
@@ -72,7 +71,7 @@ impl Stored for Placed<StoredBooks> {
 }
 
 impl Listed for Placed<StoredBooks> {
-    ghost select = { all_books };
+    ghost select = { placed_selection books_table 2 };
 
     ghost in_table = { placed_rows_in books_table };
 

@@ -6,11 +6,10 @@ ghost use Rattle.atl_store.specs.Tables.{campaign_table};
 ghost use Rattle.atl_store.specs.Written.{head_shown};
 ghost use Rattle.atl_store.specs.PutsHead.{PutsHead};
 ghost use Rattle.atl_store.specs.Shown.{head_values};
-ghost use Rattle.atl_store.specs.Statements.{put_campaign as campaign_upsert};
+ghost use Rattle.atl_store.specs.Statements.{campaign_upsert, selection};
 ghost use Rattle.atl_store.specs.OwnStatements.{Only};
 ghost use Rattle.atl_store.specs.Writes.{Writes};
 ghost use Rattle.atl_store.specs.Inside.{Inside, HasTables};
-ghost use Rattle.atl_store.specs.Selects.{all_campaign};
 ghost use Rattle.atl_store.specs.StoredRows.{head_stored, head_forms, campaign_stored, campaign_forms};
 ghost use Rattle.atl_store.specs.Sets.{rows_in};
 ghost use Rattle.atl_store.specs.Reading.{Asks};
@@ -124,13 +123,13 @@ const ALL: &str =
 /// never; whatever is answered, nothing is changed.
 pub(crate) fn select_campaign<S: Alter>(conn: &mut Connection<S>) -> Result<Vec<Row>, ReadFault>
     requires { conn.old.in_transaction ≡ false }
-    ensures { Asks S.Store all_campaign conn.old result conn.new }
+    ensures { Asks S.Store (selection campaign_table 1) conn.old result conn.new }
 {
     select(conn, ALL)
 }
 
 impl Listed for StoredCampaign {
-    ghost select = { all_campaign };
+    ghost select = { selection campaign_table 1 };
 
     ghost in_table = { rows_in campaign_table };
 

@@ -1,10 +1,9 @@
 //! The table of factions.
 ghost use Rattle.std.specs.Prelude.{◌≡◌, false, refl};
 ghost use Rattle.atl_store.specs.Tables.{faction_table};
-ghost use Rattle.atl_store.specs.Statements.{put_faction as faction_upsert, drop_faction as faction_deletion};
+ghost use Rattle.atl_store.specs.Statements.{selection};
 ghost use Rattle.atl_store.specs.OwnStatements.{puts_faction, drops_faction};
 ghost use Rattle.atl_store.specs.Rows.{faction_line};
-ghost use Rattle.atl_store.specs.Selects.{all_factions};
 ghost use Rattle.atl_store.specs.StoredRows.{faction_stored, faction_forms};
 ghost use Rattle.atl_store.specs.Sets.{rows_in};
 
@@ -29,10 +28,6 @@ impl Kept for Faction {
     ghost values = { λ c. c.factions };
 
     ghost marks = { λ m. m.factions };
-
-    ghost upsert = { faction_upsert };
-
-    ghost deletion = { faction_deletion };
 
     ghost of_row = { λ c n v is. puts_faction (n, v, is, refl) };
 
@@ -87,7 +82,7 @@ impl Stored for StoredFaction {
 }
 
 impl Listed for StoredFaction {
-    ghost select = { all_factions };
+    ghost select = { selection faction_table 1 };
 
     ghost in_table = { rows_in faction_table };
 

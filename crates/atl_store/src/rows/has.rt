@@ -3,9 +3,8 @@ ghost use Rattle.std.specs.Prelude.{◌≡◌, false, [], ◌∷◌};
 ghost use Rattle.atl_store.specs.Tables.{has_table};
 ghost use Rattle.atl_store.specs.Shown.{int};
 ghost use Rattle.atl_store.specs.Written.{has_shown, sort_number};
-ghost use Rattle.atl_store.specs.Statements.{put_has as has_upsert, drop_goods as goods_deletion};
+ghost use Rattle.atl_store.specs.Statements.{placed_selection};
 ghost use Rattle.atl_store.specs.Writes.{WritesRow, TakesOut};
-ghost use Rattle.atl_store.specs.Selects.{all_has};
 ghost use Rattle.atl_store.specs.StoredRows.{has_stored, has_forms};
 ghost use Rattle.atl_store.specs.Reading.{placed_rows_in};
 
@@ -51,7 +50,7 @@ pub struct HasRow {
 
 /// Inserts the row, or changes the one that has its unit, sort and thing.
 pub(crate) fn put_has<S: Alter>(tx: &mut Transaction<'_, S>, row: &HasRow) -> Result<(), Error>
-    ensures { WritesRow S.Store has_upsert has_table 3 (has_shown row.now) result tx.old.conn tx.new.conn }
+    ensures { WritesRow S.Store has_table 3 (has_shown row.now) result tx.old.conn tx.new.conn }
 {
     let sort = row.sort.number();
     run(
@@ -63,7 +62,7 @@ pub(crate) fn put_has<S: Alter>(tx: &mut Transaction<'_, S>, row: &HasRow) -> Re
 
 /// Deletes all rows of this unit.
 pub(crate) fn drop_goods<S: Alter>(tx: &mut Transaction<'_, S>, unit: u32) -> Result<(), Error>
-    ensures { TakesOut S.Store goods_deletion has_table 1 (int unit ∷ []) result tx.old.conn tx.new.conn }
+    ensures { TakesOut S.Store has_table 1 (int unit ∷ []) result tx.old.conn tx.new.conn }
 {
     run(tx, "DELETE FROM has WHERE unit = ?1", params![unit])
 }
@@ -87,7 +86,7 @@ impl Stored for Placed<StoredHas> {
 }
 
 impl Listed for Placed<StoredHas> {
-    ghost select = { all_has };
+    ghost select = { placed_selection has_table 3 };
 
     ghost in_table = { placed_rows_in has_table };
 

@@ -1,11 +1,10 @@
 //! The table of mail.
 ghost use Rattle.std.specs.Prelude.{◌≡◌, false, refl};
 ghost use Rattle.atl_store.specs.Tables.{mail_table};
-ghost use Rattle.atl_store.specs.Statements.{put_mail as mail_upsert, drop_mail as mail_deletion};
+ghost use Rattle.atl_store.specs.Statements.{selection};
 ghost use Rattle.atl_store.specs.OwnStatements.{puts_mail, drops_mail};
 ghost use Rattle.atl_store.specs.Shown.{mail_row};
 ghost use Rattle.atl_store.specs.Writes.{WritesRow};
-ghost use Rattle.atl_store.specs.Selects.{all_mail};
 ghost use Rattle.atl_store.specs.StoredRows.{mail_stored, mail_forms};
 ghost use Rattle.atl_store.specs.Sets.{rows_in};
 
@@ -26,7 +25,7 @@ pub(crate) fn put_mail<S: Alter>(
     faction: u32,
     text: &[u8],
 ) -> Result<(), Error>
-    ensures { WritesRow S.Store mail_upsert mail_table 1 (mail_row faction text.now) result tx.old.conn tx.new.conn }
+    ensures { WritesRow S.Store mail_table 1 (mail_row faction text.now) result tx.old.conn tx.new.conn }
 {
     run(
         tx,
@@ -46,10 +45,6 @@ impl Kept for Sequence<u8> {
     ghost values = { λ c. c.mail };
 
     ghost marks = { λ m. m.mail };
-
-    ghost upsert = { mail_upsert };
-
-    ghost deletion = { mail_deletion };
 
     ghost of_row = { λ c n v is. puts_mail (n, v, is, refl) };
 
@@ -85,7 +80,7 @@ impl Stored for StoredMail {
 }
 
 impl Listed for StoredMail {
-    ghost select = { all_mail };
+    ghost select = { selection mail_table 1 };
 
     ghost in_table = { rows_in mail_table };
 

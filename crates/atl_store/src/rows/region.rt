@@ -1,10 +1,9 @@
 //! The table of regions.
 ghost use Rattle.std.specs.Prelude.{◌≡◌, false, refl};
 ghost use Rattle.atl_store.specs.Tables.{region_table};
-ghost use Rattle.atl_store.specs.Statements.{put_region as region_upsert, drop_region as region_deletion};
+ghost use Rattle.atl_store.specs.Statements.{selection};
 ghost use Rattle.atl_store.specs.OwnStatements.{puts_region, drops_region};
 ghost use Rattle.atl_store.specs.Rows.{region_line};
-ghost use Rattle.atl_store.specs.Selects.{all_regions};
 ghost use Rattle.atl_store.specs.StoredRows.{region_stored, region_forms};
 ghost use Rattle.atl_store.specs.Sets.{rows_in};
 
@@ -29,10 +28,6 @@ impl Kept for Region {
     ghost values = { λ c. c.regions };
 
     ghost marks = { λ m. m.regions };
-
-    ghost upsert = { region_upsert };
-
-    ghost deletion = { region_deletion };
 
     ghost of_row = { λ c n v is. puts_region (n, v, is, refl) };
 
@@ -75,7 +70,7 @@ impl Stored for StoredRegion {
 }
 
 impl Listed for StoredRegion {
-    ghost select = { all_regions };
+    ghost select = { selection region_table 1 };
 
     ghost in_table = { rows_in region_table };
 

@@ -1,10 +1,9 @@
 //! The table of reports.
 ghost use Rattle.std.specs.Prelude.{◌≡◌, false, refl};
 ghost use Rattle.atl_store.specs.Tables.{report_table};
-ghost use Rattle.atl_store.specs.Statements.{put_report as report_upsert, drop_report as report_deletion};
+ghost use Rattle.atl_store.specs.Statements.{selection};
 ghost use Rattle.atl_store.specs.OwnStatements.{puts_report, drops_report};
 ghost use Rattle.atl_store.specs.Shown.{report_row};
-ghost use Rattle.atl_store.specs.Selects.{all_reports};
 ghost use Rattle.atl_store.specs.StoredRows.{report_stored, report_forms};
 ghost use Rattle.atl_store.specs.Sets.{rows_in};
 
@@ -30,10 +29,6 @@ impl Kept for Text {
     ghost values = { λ c. c.reports };
 
     ghost marks = { λ m. m.reports };
-
-    ghost upsert = { report_upsert };
-
-    ghost deletion = { report_deletion };
 
     ghost of_row = { λ c n v is. puts_report (n, v, is, refl) };
 
@@ -76,7 +71,7 @@ impl Stored for StoredReport {
 }
 
 impl Listed for StoredReport {
-    ghost select = { all_reports };
+    ghost select = { selection report_table 1 };
 
     ghost in_table = { rows_in report_table };
 

@@ -1,10 +1,9 @@
 //! The table of structures.
 ghost use Rattle.std.specs.Prelude.{◌≡◌, false, refl};
 ghost use Rattle.atl_store.specs.Tables.{structure_table};
-ghost use Rattle.atl_store.specs.Statements.{put_structure as structure_upsert, drop_structure as structure_deletion};
+ghost use Rattle.atl_store.specs.Statements.{selection};
 ghost use Rattle.atl_store.specs.OwnStatements.{puts_structure, drops_structure};
 ghost use Rattle.atl_store.specs.Rows.{structure_line};
-ghost use Rattle.atl_store.specs.Selects.{all_structures};
 ghost use Rattle.atl_store.specs.StoredRows.{structure_stored, structure_forms};
 ghost use Rattle.atl_store.specs.Sets.{rows_in};
 
@@ -29,10 +28,6 @@ impl Kept for Structure {
     ghost values = { λ c. c.structures };
 
     ghost marks = { λ m. m.structures };
-
-    ghost upsert = { structure_upsert };
-
-    ghost deletion = { structure_deletion };
 
     ghost of_row = { λ c n v is. puts_structure (n, v, is, refl) };
 
@@ -91,7 +86,7 @@ impl Stored for StoredStructure {
 }
 
 impl Listed for StoredStructure {
-    ghost select = { all_structures };
+    ghost select = { selection structure_table 1 };
 
     ghost in_table = { rows_in structure_table };
 

@@ -1,10 +1,9 @@
 //! The table of units.
 ghost use Rattle.std.specs.Prelude.{◌≡◌, false, refl};
 ghost use Rattle.atl_store.specs.Tables.{unit_table};
-ghost use Rattle.atl_store.specs.Statements.{put_unit as unit_upsert, drop_unit as unit_deletion};
+ghost use Rattle.atl_store.specs.Statements.{selection};
 ghost use Rattle.atl_store.specs.OwnStatements.{puts_unit, drops_unit};
 ghost use Rattle.atl_store.specs.Rows.{lines_of, unit_line};
-ghost use Rattle.atl_store.specs.Selects.{all_units};
 ghost use Rattle.atl_store.specs.StoredRows.{unit_stored, unit_forms};
 ghost use Rattle.atl_store.specs.Sets.{rows_in};
 ghost use Rattle.atl_store.specs.Writes.{WritesRows};
@@ -30,10 +29,6 @@ impl Kept for Unit {
     ghost values = { λ c. c.units };
 
     ghost marks = { λ m. m.units };
-
-    ghost upsert = { unit_upsert };
-
-    ghost deletion = { unit_deletion };
 
     ghost of_row = { λ c n v is. puts_unit (n, v, is, refl) };
 
@@ -74,7 +69,7 @@ pub(crate) fn put_units<S: Alter>(
     tx: &mut Transaction<'_, S>,
     units: SlotEntries<'_, Unit>,
 ) -> Result<(), Error>
-    ensures { WritesRows S.Store unit_upsert unit_table 1 (lines_of unit_line units.entry) result tx.old.conn tx.new.conn }
+    ensures { WritesRows S.Store unit_table 1 (lines_of unit_line units.entry) result tx.old.conn tx.new.conn }
 {
     for (number, unit) in units {
         unit.put(tx, number)?;
@@ -106,7 +101,7 @@ impl Stored for StoredUnit {
 }
 
 impl Listed for StoredUnit {
-    ghost select = { all_units };
+    ghost select = { selection unit_table 1 };
 
     ghost in_table = { rows_in unit_table };
 

@@ -1,8 +1,7 @@
-use Rattle.atl_store.specs.Statements.{put_has}
 use Rattle.atl_store.specs.Tables.{has_table}
 use Rattle.atl_store.specs.Lines.{all_goods_lines}
 use Rattle.atl_store.proofs.PuttingLaws.{Putting}
 use Rattle.atl_store.proofs.goods.put_all_goods.Given as goal
 
 abbrev pub invariant-loop-number : goal.invariant-loop-number
-invariant-loop-number g l = Putting g.S.Store put_has has_table 3 (all_goods_lines l.number-iterator) (all_goods_lines l.fn.units) l.fn.tx.conn l.tx.conn
+invariant-loop-number g l = Putting g.S.Store has_table 3 (all_goods_lines l.number-iterator) (all_goods_lines l.fn.units) l.fn.tx.conn l.tx.conn

@@ -1,6 +1,5 @@
 use Rattle.std.proofs.Common.{ap}
 use Rattle.std.specs.FinMap.{entries}
-use Rattle.atl_store.specs.Statements.{put_has}
 use Rattle.atl_store.specs.Tables.{has_table}
 use Rattle.atl_store.specs.declared.rows.has.Sort.TheVariants.{Item, Skill}
 use Rattle.atl_store.specs.Lines.{sort_lines}
@@ -11,10 +10,10 @@ pub returns : goal.returns
 returns g c =
     let items = sort_lines c.args.unit Item in
     let days = sort_lines c.args.unit Skill in
-    both_written g.S.Store put_has has_table 3 (items (entries c.args.holding.now.items)) (days (entries c.args.holding.now.days))
-    (same_written g.S.Store put_has has_table 3 _ _ (ap items c.items.ensures) c.in_ok-put_sort.ensures) (same_written g.S.Store put_has has_table 3 _ _ (ap days c.days.ensures) c.put_sort-2.ensures)
+    both_written g.S.Store has_table 3 (items (entries c.args.holding.now.items)) (days (entries c.args.holding.now.days))
+    (same_written g.S.Store has_table 3 _ _ (ap items c.items.ensures) c.in_ok-put_sort.ensures) (same_written g.S.Store has_table 3 _ _ (ap days c.days.ensures) c.put_sort-2.ensures)
 
 pub returns-in_err-put_sort : goal.returns-in_err-put_sort
 returns-in_err-put_sort g c =
     let items = sort_lines c.args.unit Item in
-    first_failed g.S.Store put_has has_table 3 (items (entries c.args.holding.now.items)) _ (same_written g.S.Store put_has has_table 3 _ _ (ap items c.items.ensures) c.in_err-put_sort.ensures) c.from_residual.ensures
+    first_failed g.S.Store has_table 3 (items (entries c.args.holding.now.items)) _ (same_written g.S.Store has_table 3 _ _ (ap items c.items.ensures) c.in_err-put_sort.ensures) c.from_residual.ensures

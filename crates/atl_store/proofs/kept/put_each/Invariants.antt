@@ -3,4 +3,4 @@ use Rattle.atl_store.proofs.PuttingLaws.{Putting}
 use Rattle.atl_store.proofs.kept.put_each.Given as goal
 
 abbrev pub invariant-loop-number : goal.invariant-loop-number
-invariant-loop-number g l = Putting g.S.Store g.V.Kept.upsert g.V.Kept.table 1 (lines_of g.V.Kept.line l.number-iterator) (lines_of g.V.Kept.line l.fn.values) l.fn.tx.conn l.tx.conn
+invariant-loop-number g l = Putting g.S.Store g.V.Kept.table 1 (lines_of g.V.Kept.line l.number-iterator) (lines_of g.V.Kept.line l.fn.values) l.fn.tx.conn l.tx.conn

@@ -1,9 +1,8 @@
 use Rattle.std.proofs.Common.{drop}
-use Rattle.atl_store.specs.Statements.{put_books}
 use Rattle.atl_store.specs.Tables.{books_table}
 use Rattle.atl_store.specs.Lines.{entries_lines}
 use Rattle.atl_store.proofs.PuttingLaws.{Putting}
 use Rattle.atl_store.proofs.ledger.put_entries.Given as goal
 
 abbrev pub invariant-loop-entry : goal.invariant-loop-entry
-invariant-loop-entry g l = Putting g.S.Store put_books books_table 2 (entries_lines l.campaign.what l.thing (drop l.entry-index l.entries)) (entries_lines l.campaign.what l.thing l.entries) l.fn.tx.conn l.tx.conn
+invariant-loop-entry g l = Putting g.S.Store books_table 2 (entries_lines l.campaign.what l.thing (drop l.entry-index l.entries)) (entries_lines l.campaign.what l.thing l.entries) l.fn.tx.conn l.tx.conn

@@ -1,7 +1,7 @@
 use Rattle.std.proofs.Common.{subst, arith}
 use Rattle.sqlite.specs.Held.{state}
-use Rattle.atl_store.specs.Selects.{all_campaign}
-use Rattle.atl_store.specs.Tables.{HasNine}
+use Rattle.atl_store.specs.Statements.{selection}
+use Rattle.atl_store.specs.Tables.{HasNine, campaign_table}
 use Rattle.atl_store.proofs.ConfirmLaws.{unconfirmed, commits_none, shown_unchanged, shown_stays, refused_stays}
 use Rattle.atl_store.proofs.SelectLaws.{campaign_plain}
 use Rattle.atl_store.proofs.loading.confirmed.confirm.Goals as goal
@@ -12,8 +12,8 @@ returns-in_err-query_all-clause-leaves g c =
     let new = state g.S.Store c.query_all.new.self in
     let plain = campaign_plain old.now.schema (subst HasNine c.schema.ensures.value (c.has_nine.ensures.0 c.if-not-has_nine.false)) in
     record {
-      stays = λ clean. refused_stays all_campaign old new plain c.requires.settled (omega (arith, c.query_all.ensures.survives.clean, clean)) _ (c.in_err-query_all.ensures.err clean);
-      survives = commits_none all_campaign old new plain c.query_all.ensures.survives;
+      stays = λ clean. refused_stays (selection campaign_table 1) old new plain c.requires.settled (omega (arith, c.query_all.ensures.survives.clean, clean)) _ (c.in_err-query_all.ensures.err clean);
+      survives = commits_none (selection campaign_table 1) old new plain c.query_all.ensures.survives;
       idle = c.query_all.ensures.mode c.requires.idle;
     }
 
@@ -22,7 +22,7 @@ returns-clause-ok g c clean =
     let old = state g.S.Store c.args.conn.now in
     let new = state g.S.Store c.query_all.new.self in
     let nine = subst HasNine c.schema.ensures.value (c.has_nine.ensures.0 c.if-not-has_nine.false) in
-    let same = shown_unchanged all_campaign old new (campaign_plain old.now.schema nine) _ (c.in_ok-query_all.ensures.ok clean) in
+    let same = shown_unchanged (selection campaign_table 1) old new (campaign_plain old.now.schema nine) _ (c.in_ok-query_all.ensures.ok clean) in
     record { nine = nine; is_open = same.0.is_open; sound = (c.schema.ensures.live same.0.was_open).0 }
 
 pub returns-clause-leaves : goal.returns-clause-leaves
@@ -31,8 +31,8 @@ returns-clause-leaves g c =
     let new = state g.S.Store c.query_all.new.self in
     let plain = campaign_plain old.now.schema (subst HasNine c.schema.ensures.value (c.has_nine.ensures.0 c.if-not-has_nine.false)) in
     record {
-      stays = λ clean. shown_stays all_campaign old new plain _ (c.in_ok-query_all.ensures.ok clean);
-      survives = commits_none all_campaign old new plain c.query_all.ensures.survives;
+      stays = λ clean. shown_stays (selection campaign_table 1) old new plain _ (c.in_ok-query_all.ensures.ok clean);
+      survives = commits_none (selection campaign_table 1) old new plain c.query_all.ensures.survives;
       idle = c.query_all.ensures.mode c.requires.idle;
     }
 
