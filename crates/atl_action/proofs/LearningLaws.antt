@@ -6,16 +6,16 @@ use Rattle.std.specs.Ordering.{nat_cmp, eq_by_cmp}
 use Rattle.std.specs.Cmp.{nat_cmp_total}
 use Rattle.std.specs.FinMap.{empty, get, get-insert, insert}
 use Rattle.std.proofs.lemmas.List.Elements.{All-contains, All-contains_itself, All-from_recursion, recursion_from_All}
-use Rattle.atl_tables.specs.Planet.{Planet}
+use Rattle.atl_tables.specs.Worlds.{WorldValue}
 use Rattle.atl_state.specs.Good.{Every, IsThere}
-use Rattle.atl_state.specs.State.{State}
+use Rattle.atl_state.specs.Campaign.{CampaignValue}
 use Rattle.atl_state.proofs.EveryLaws.{every-empty, every-insert}
 use Rattle.atl_state.proofs.RegionLaws.{get-insert_same}
-use Rattle.atl_instant.specs.Course.{Course}
+use Rattle.atl_instant.specs.Month.{MonthValue}
 use Rattle.atl_instant.specs.PhaseOrders.{Task}
 use Rattle.atl_action.specs.Learners.{IsLearning, Learning, UnitsLearnByOrders, learners, learns, skill_of, study_tasks, with_learner, with_skill}
 
-module _ (w : Planet) (c : State) where
+module _ (w : WorldValue) (c : CampaignValue) where
   -- what is so of a unit and a skill wherever an order has it learn that
   abbrev IfLearns : (ℕ → ℕ → Type 0) → Task → Type 0
   IfLearns P t = (s : ℕ) → skill_of t.said ≡ Some s → learns w s t.faction (get c.units t.unit) ≡ true → P t.unit s
@@ -70,7 +70,7 @@ module _ (w : Planet) (c : State) where
       ((λ s says can. kept ts next t.unit (added t learning s says can)), each_all ts next)
 
 -- by each of the orders that stand
-each_so : (w : Planet) (c : State) (m : Course) (ts : List Task) → AllByRecursion (Contains (study_tasks m)) ts → AllByRecursion (IfLearns w c (IsLearning w c m)) ts
+each_so : (w : WorldValue) (c : CampaignValue) (m : MonthValue) (ts : List Task) → AllByRecursion (Contains (study_tasks m)) ts → AllByRecursion (IfLearns w c (IsLearning w c m)) ts
 each_so w c m [] among = tt
 each_so w c m (t ∷ ts) among = ((λ s says can. record { order = t; stands = among.0; for_unit = refl; says = says; can = can }), each_so w c m ts among.1)
 

@@ -9,10 +9,10 @@ use Rattle.atl_state.specs.declared.event.EventFault.{EventFault}
 use Rattle.atl_state.specs.declared.records.Unit.{Unit}
 use Rattle.atl_state.specs.Deciding.{EachOf}
 use Rattle.atl_state.specs.Held.{amount_of}
-use Rattle.atl_state.specs.State.{State}
+use Rattle.atl_state.specs.Campaign.{CampaignValue}
 use Rattle.atl_state.proofs.EveryLaws.{get-insert_other}
 use Rattle.atl_state.proofs.RegionLaws.{get-insert_same}
-use Rattle.atl_instant.specs.Course.{Aliases, Course}
+use Rattle.atl_instant.specs.Month.{Aliases, MonthValue}
 use Rattle.atl_instant.specs.PhaseOrders.{Task, orders_of}
 use Rattle.atl_instant.specs.declared.written.Arrangement.TheVariants.{ByUnit}
 use Rattle.atl_instant.specs.Dealing.{dealt}
@@ -23,7 +23,7 @@ use Rattle.atl_action.specs.Teach.{AreTaughtOnce, NobodyIsTaughtTwice, Taught, b
 dealt_most : (places before want : ℕ) → dealt places before want ≤ want
 dealt_most places before want = omega arith
 
-module _ (c : State) where
+module _ (c : CampaignValue) where
   once_put : (taught : Taught) (n men : ℕ) → men ≤ men_at c n → AreTaughtOnce c taught → AreTaughtOnce c (insert taught n men)
   once_put taught n men most old k = elim (cases_eq k n) [
     | inl same ↦ subst (λ j. amount_of (insert taught n men) j ≤ men_at c j) (sym same) (subst (λ (o : Option ℕ). unwrap_or o 0 ≤ men_at c n) (sym (get-insert_same taught n men)) most)
@@ -65,7 +65,7 @@ module _ (c : State) where
         by_unit None = old
         by_unit (Some u) = by_faction u (u.faction == f)
 
-  once_all : (learning : Learning) (ts : List Task) (p : Taught × Course) → AreTaughtOnce c p.0 → AreTaughtOnce c (fold (teach_order c learning) p ts).0
+  once_all : (learning : Learning) (ts : List Task) (p : Taught × MonthValue) → AreTaughtOnce c p.0 → AreTaughtOnce c (fold (teach_order c learning) p ts).0
   once_all learning [] p old = old
   once_all learning (t ∷ ts) p old = once_all learning ts (teach_order c learning p t) (once_taught p.1.aliases learning p.0 t.faction t.unit (listed t.said) old)
 

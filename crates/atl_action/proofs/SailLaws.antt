@@ -8,7 +8,7 @@ use Rattle.std.specs.FinMap.{FinMap, get, values}
 use Rattle.std.proofs.lemmas.Bool.{and_parts, not-false}
 use Rattle.std.proofs.lemmas.List.Elements.{recursion_from_All}
 use Rattle.std.proofs.lemmas.List.Sums.{sum_by-cons}
-use Rattle.atl_tables.specs.Planet.{Planet}
+use Rattle.atl_tables.specs.Worlds.{WorldValue}
 use Rattle.atl_tables.specs.Sums.{changed}
 use Rattle.atl_tables.specs.declared.world.RegionPlan.{RegionPlan}
 use Rattle.atl_tables.specs.declared.direction.Direction.{Direction}
@@ -27,13 +27,13 @@ use Rattle.atl_state.specs.Good.{Every, IsOwned, IsSteady, IsThere, is_ship}
 use Rattle.atl_state.specs.Held.{Held}
 use Rattle.atl_state.specs.Levels.{load_of}
 use Rattle.atl_state.specs.Owners.{handed, heir, is_owned_by, placed, with_place, with_place_at}
-use Rattle.atl_state.specs.State.{State, numbers_inside, with_guard, with_structure_region}
+use Rattle.atl_state.specs.Campaign.{CampaignValue, numbers_inside, with_guard, with_structure_region}
 use Rattle.atl_state.proofs.EveryLaws.{none_some}
 use Rattle.atl_state.proofs.InsideLaws.{inside_is_listed, is_no_zero, listed_is_inside}
 use Rattle.atl_state.proofs.RemovedLaws.{IsListed}
 use Rattle.atl_state.proofs.ListLaws.{other_number}
 use Rattle.atl_instant.specs.declared.written.Arrangement.TheVariants.{ByUnit}
-use Rattle.atl_instant.specs.Course.{Course}
+use Rattle.atl_instant.specs.Month.{MonthValue}
 use Rattle.atl_instant.specs.Inside.{inside}
 use Rattle.atl_instant.specs.Outcomes.{first_fault, unless}
 use Rattle.atl_instant.specs.PhaseOrders.{Task, orders_of}
@@ -102,7 +102,7 @@ module _ (ship to : ℕ) where
   abbrev IsInside : FinMap nat_cmp Unit → ℕ → Type 0
   IsInside m n = (v : Unit) × (get m n ≡ Some v) × (v.structure ≡ ship)
 
-  one_is : (d : State) (n : ℕ) (v : Unit) → get d.units n ≡ Some v → v.structure ≡ ship → taken_along ship to d n ≡ record d { units = elsewhere ship to d.units n }
+  one_is : (d : CampaignValue) (n : ℕ) (v : Unit) → get d.units n ≡ Some v → v.structure ≡ ship → taken_along ship to d n ≡ record d { units = elsewhere ship to d.units n }
   unfolding with_place
   one_is d n v is here =
       ap (λ o. with_guard (with_place_at d n to ship o) n false) is
@@ -119,7 +119,7 @@ module _ (ship to : ℕ) where
   still_all m n [] all = tt
   still_all m n (k ∷ ns) all = (still_inside m n k all.0, still_all m n ns all.1)
 
-  all_is : (d : State) (ns : List ℕ) → AllByRecursion (IsInside d.units) ns → fold (taken_along ship to) d ns ≡ record d { units = fold (elsewhere ship to) d.units ns }
+  all_is : (d : CampaignValue) (ns : List ℕ) → AllByRecursion (IsInside d.units) ns → fold (taken_along ship to) d ns ≡ record d { units = fold (elsewhere ship to) d.units ns }
   all_is d [] all = refl
   all_is d (n ∷ ns) all =
       let (v, there, here) = all.0 in
@@ -133,7 +133,7 @@ module _ (ship to : ℕ) where
 
 -- ---- a ship that goes
 
-module _ (w : Planet) (c : State) (ship to : ℕ) (steady : IsSteady w c) (x : Structure) (is : get c.structures ship ≡ Some x) where
+module _ (w : WorldValue) (c : CampaignValue) (ship to : ℕ) (steady : IsSteady w c) (x : Structure) (is : get c.structures ship ≡ Some x) where
   abbrev ns : List ℕ
   ns = numbers_inside ship c.units
 
@@ -152,7 +152,7 @@ module _ (w : Planet) (c : State) (ship to : ℕ) (steady : IsSteady w c) (x : S
   abbrev g : ℕ → Structure → Structure
   g = at_number shifted c.structures ship
 
-  abbrev behind : State
+  abbrev behind : CampaignValue
   behind = travelled w c units structures f g
 
   is_inside : (k : ℕ) → IsListed k ns → IsInside ship to c.units k
@@ -336,19 +336,19 @@ carried_twice u v x one two = record {
 carried_spares : IsSparing IsCarried
 carried_spares = record { same = carried_same; again = carried_twice; faction = λ u v h. h.faction }
 
-region_there : (w : Planet) (r : ℕ) → is_region w r ≡ true → IsThere w.regions r
+region_there : (w : WorldValue) (r : ℕ) → is_region w r ≡ true → IsThere w.regions r
 region_there w r is = by_plan (get w.regions r) refl is
   where
     by_plan : (o : Option RegionPlan) → get w.regions r ≡ o → option_map_or (λ (p : RegionPlan). true) o false ≡ true → IsThere w.regions r
     by_plan None there t = false_true t
     by_plan (Some p) there t = (p, there)
 
-way_there : (w : Planet) (from : ℕ) (to : Option ℕ) → not (is_way w from to) ≡ false → IsThere w.regions (unwrap_or to 0)
+way_there : (w : WorldValue) (from : ℕ) (to : Option ℕ) → not (is_way w from to) ≡ false → IsThere w.regions (unwrap_or to 0)
 way_there w from None t = false_true (sym t)
 way_there w from (Some r) t = region_there w r (and_parts (is_region w r) (not (is_land_at w from && is_land_at w r)) (not-false (is_way w from (Some r)) t)).0
 
 -- what is so of the campaign as it is, and of that in which a whole ship has gone, is so of the campaign behind the order
-sail_cases : (P : State × Outcome → Type 0) (w : Planet) (c : State) (n : ℕ) (u : Unit) (direction : Direction) → ((outcome : Outcome) → P (c, outcome))
+sail_cases : (P : CampaignValue × Outcome → Type 0) (w : WorldValue) (c : CampaignValue) (n : ℕ) (u : Unit) (direction : Direction) → ((outcome : Outcome) → P (c, outcome))
     → ((to : ℕ) (x : Structure) → get c.structures u.structure ≡ Some x → is_ship w x ≡ true → x.done ≡ size_of w x.kind → IsThere w.regions to → P (sailed c u.structure to, Done 0)) → P (sail w n direction c u)
 unfolding sail
 sail_cases P w c n u direction same gone_off =
@@ -376,12 +376,12 @@ sail_cases P w c n u direction same gone_off =
         let five = none_fits (not (is_way w u.region to)) NoWay crew four.1 in
         by_ship to ship refl four.0 five.0
 
-sail_well : (w : Planet) (c : State) (n : ℕ) (u : Unit) (direction : Direction) → IsSteady w c → StepsWell IsSteady books_nothing w c (sail w n direction c u).0
+sail_well : (w : WorldValue) (c : CampaignValue) (n : ℕ) (u : Unit) (direction : Direction) → IsSteady w c → StepsWell IsSteady books_nothing w c (sail w n direction c u).0
 sail_well w c n u direction steady =
     sail_cases (λ p. StepsWell IsSteady books_nothing w c p.0) w c n u direction (λ outcome. well_same w c steady)
     (λ to x at floats whole there. sailed_well w c u.structure to steady x at floats whole ((steady.known.regions to).1 there))
 
-sail_spares : (w : Planet) (c : State) (n : ℕ) (u : Unit) (direction : Direction) → IsSteady w c → (k : ℕ) (v : Unit) → get c.units k ≡ Some v → IsSpared IsCarried (sail w n direction c u).0 k v
+sail_spares : (w : WorldValue) (c : CampaignValue) (n : ℕ) (u : Unit) (direction : Direction) → IsSteady w c → (k : ℕ) (v : Unit) → get c.units k ≡ Some v → IsSpared IsCarried (sail w n direction c u).0 k v
 sail_spares w c n u direction steady k v there =
     sail_cases (λ p. IsSpared IsCarried p.0 k v) w c n u direction (λ outcome. record { unit = v; there = there; spared = carried_same v })
     (λ to x at floats whole near. sailed_spares w c u.structure to steady x at k v there)
@@ -394,15 +394,15 @@ sail_orderly = record {
   bounded = λ w c steady e t. omega arith;
 }
   where
-    well : (w : Planet) (c : State) (n : ℕ) (x : Unit) → IsSteady w c → (s : Said) → IfSome (sail_said w n s) (λ deed. StepsWell IsSteady books_nothing w c (deed c x).0)
+    well : (w : WorldValue) (c : CampaignValue) (n : ℕ) (x : Unit) → IsSteady w c → (s : Said) → IfSome (sail_said w n s) (λ deed. StepsWell IsSteady books_nothing w c (deed c x).0)
     well w c n x steady (orders.Sail direction) = sail_well w c n x direction steady
     well w c n x steady other = tt
 
-    spared : (w : Planet) (c : State) (n : ℕ) (x : Unit) → IsSteady w c → (k : ℕ) (v : Unit) → get c.units k ≡ Some v → (s : Said) → IfSome (sail_said w n s) (λ deed. IsSpared IsCarried (deed c x).0 k v)
+    spared : (w : WorldValue) (c : CampaignValue) (n : ℕ) (x : Unit) → IsSteady w c → (k : ℕ) (v : Unit) → get c.units k ≡ Some v → (s : Said) → IfSome (sail_said w n s) (λ deed. IsSpared IsCarried (deed c x).0 k v)
     spared w c n x steady k v there (orders.Sail direction) = sail_spares w c n x direction steady k v there
     spared w c n x steady k v there other = tt
 
-pub all_carried : (w : Planet) (m : Course) (c d : State) → spares_others concerns_nobody IsCarried is_sailing w m c d → AreCarried c d
+pub all_carried : (w : WorldValue) (m : MonthValue) (c d : CampaignValue) → spares_others concerns_nobody IsCarried is_sailing w m c d → AreCarried c d
 all_carried w m c d keeps n u there = keeps n u there (λ k d l nobody. nobody)
 
 -- ---- who stays: where what it is inside doesn't sail
@@ -414,7 +414,7 @@ sum_same g h (n ∷ ns) same =
     ∙ sym (sum_by-cons h n ns)
 
 -- why a unit doesn't sail, by what it is inside and what all inside are worth as a crew and weigh
-abbrev fault_with : Planet → (n : ℕ) → Unit → (to : Option ℕ) → Option Structure → (crew load : ℕ) → Option EventFault
+abbrev fault_with : WorldValue → (n : ℕ) → Unit → (to : Option ℕ) → Option Structure → (crew load : ℕ) → Option EventFault
 fault_with w n u to ship crew load = first_fault (
     (u.holding.men == 0, NoMen)
     ∷ (u.structure == 0, NotInside)
@@ -425,24 +425,24 @@ fault_with w n u to ship crew load = first_fault (
     ∷ (nat_lt (capacity w ship) load, TooHeavy)
     ∷ [])
 
-unless_told : (c d x y : State) (o : Option EventFault) → (unless c o (x, Done 0)).1 ≡ (unless d o (y, Done 0)).1
+unless_told : (c d x y : CampaignValue) (o : Option EventFault) → (unless c o (x, Done 0)).1 ≡ (unless d o (y, Done 0)).1
 unless_told c d x y None = refl
 unless_told c d x y (Some fault) = refl
 
-module _ (w : Planet) (begun : State) (number faction : ℕ) where
+module _ (w : WorldValue) (begun : CampaignValue) (number faction : ℕ) where
   -- what the unit is inside
   abbrev s : ℕ
   s = inside begun number
 
   -- everybody is inside what it was inside as the phase began, and what the unit is inside is as it was, with all that are inside
-  record IsAsBegun (c : State) : Type 0 where
+  record IsAsBegun (c : CampaignValue) : Type 0 where
     pub steady : IsSteady w c
     pub places : (k : ℕ) → inside c k ≡ inside begun k
     pub structure : get c.structures s ≡ get begun.structures s
     pub units : (k : ℕ) → inside begun k ≡ s → get c.units k ≡ get begun.units k
     pub list : numbers_inside s c.units ≡ numbers_inside s begun.units
 
-  module _ (c : State) (same : IsAsBegun c) where
+  module _ (c : CampaignValue) (same : IsAsBegun c) where
     sum_inside_same : (f : Held → ℕ) → sum_inside f c s ≡ sum_inside f begun s
     sum_inside_same f =
         ap (sum_by (λ n. of_unit f (get c.units n))) same.list
@@ -494,16 +494,16 @@ module _ (w : Planet) (begun : State) (number faction : ℕ) where
         (λ in_it done. apart in_it (ap (λ outcome. Some outcome) (sym (carried_same_told f n direction in_it) ∙ done)))
     order_stays f n other apart = same
 
-    task_stays : (m : Course) (t : Task) → (SailsWith w begun t number faction → ⊥) → IsAsBegun (one_order sail_step w (c, m) t).0
+    task_stays : (m : MonthValue) (t : Task) → (SailsWith w begun t number faction → ⊥) → IsAsBegun (one_order sail_step w (c, m) t).0
     task_stays m t apart = order_stays t.faction t.unit t.said (λ in_it done. apart (record { together = in_it; done = done }))
 
-  tasks_stay : (c : State) (m : Course) (ts : List Task) → IsAsBegun c → AllByRecursion (λ t. SailsWith w begun t number faction → ⊥) ts → IsAsBegun (fold (one_order sail_step w) (c, m) ts).0
+  tasks_stay : (c : CampaignValue) (m : MonthValue) (ts : List Task) → IsAsBegun c → AllByRecursion (λ t. SailsWith w begun t number faction → ⊥) ts → IsAsBegun (fold (one_order sail_step w) (c, m) ts).0
   tasks_stay c m [] same others = same
   tasks_stay c m (t ∷ ts) same others =
       let next = one_order sail_step w (c, m) t in
       tasks_stay next.0 next.1 ts (task_stays c same m t others.0) others.1
 
-pub sail_spares_others : (w : Planet) (c : State) (m : Course) → IsSteady w c → spares_others (SailsWith w c) IsUnchanged is_sailing w m c (sail_terms.meaning w c m).0
+pub sail_spares_others : (w : WorldValue) (c : CampaignValue) (m : MonthValue) → IsSteady w c → spares_others (SailsWith w c) IsUnchanged is_sailing w m c (sail_terms.meaning w c m).0
 unfolding carried_out
 sail_spares_others w c m steady n u there others =
     let ts = values (orders_of is_sailing ByUnit m.aliases m.readings) in

@@ -6,7 +6,7 @@ use Rattle.std.proofs.lemmas.Option.{same_Some}
 use Rattle.std.specs.List.{AllByRecursion, IsDistinct, slice_index_or}
 use Rattle.std.proofs.lemmas.List.Elements.{All-contains, All-from_recursion}
 use Rattle.std.specs.FinMap.{get, values}
-use Rattle.atl_tables.specs.Planet.{Planet}
+use Rattle.atl_tables.specs.Worlds.{WorldValue}
 use Rattle.atl_tables.specs.ByNumber.{fee_of}
 use Rattle.atl_tables.proofs.GeneralLaws.{equal_itself}
 use Rattle.atl_orders.specs.declared.order.Order.TheVariants as orders
@@ -18,9 +18,9 @@ use Rattle.atl_state.specs.declared.event.Outcome.TheVariants.{Done}
 use Rattle.atl_state.specs.declared.records.Structure.{Structure}
 use Rattle.atl_state.specs.declared.records.Unit.{Unit}
 use Rattle.atl_state.specs.Held.{amount_of}
-use Rattle.atl_state.specs.State.{State}
+use Rattle.atl_state.specs.Campaign.{CampaignValue}
 use Rattle.atl_state.proofs.RegionLaws.{get-insert_same}
-use Rattle.atl_instant.specs.Course.{Course}
+use Rattle.atl_instant.specs.Month.{MonthValue}
 use Rattle.atl_instant.specs.Outcomes.{unless}
 use Rattle.atl_instant.specs.PhaseOrders.{Task, orders_of, slot_of}
 use Rattle.atl_instant.specs.StandOnce.{are_of_slot, share_slot}
@@ -37,11 +37,11 @@ use Rattle.atl_action.proofs.UnmailedLearnLaws.{taught_told}
 
 -- ---- an order reads its own unit and the structures
 
-module _ (w : Planet) (taught n s : ℕ) (c d : State) (u : Unit) (in_c : get c.units n ≡ Some u) (in_d : get d.units n ≡ Some u) (structures : d.structures ≡ c.structures) where
+module _ (w : WorldValue) (taught n s : ℕ) (c d : CampaignValue) (u : Unit) (in_c : get c.units n ≡ Some u) (in_d : get d.units n ≡ Some u) (structures : d.structures ≡ c.structures) where
   abbrev cost : ℕ
   cost = fee_of w s * u.holding.men
 
-  abbrev days_in : State → ℕ
+  abbrev days_in : CampaignValue → ℕ
   days_in b = days_after u.holding.men (amount_of u.holding.days s) taught (is_helpful w s (get b.structures u.structure))
 
   same_days : days_in d ≡ days_in c
@@ -74,15 +74,15 @@ both_own t o never s k t_says o_says unit faction =
     all_three true false d p q r never = cc
     all_three false b d p q r never = cc
 
-module _ (w : Planet) (taught : Taught) (n : ℕ) (u : Unit) where
-  abbrev step : State × Course → Task → State × Course
+module _ (w : WorldValue) (taught : Taught) (n : ℕ) (u : Unit) where
+  abbrev step : CampaignValue × MonthValue → Task → CampaignValue × MonthValue
   step = one_order (study_step taught) w
 
   -- it isn't the unit's own
   abbrev IsOther : Task → Type 0
   IsOther t = (s : ℕ) → t.said ≡ orders.Study s → t.unit ≡ n → t.faction ≡ u.faction → ⊥
 
-  structures_stay : (d : State) (l : Course) (t : Task) → (step (d, l) t).0.structures ≡ d.structures
+  structures_stay : (d : CampaignValue) (l : MonthValue) (t : Task) → (step (d, l) t).0.structures ≡ d.structures
   structures_stay d l t = ordered_cases (λ b. b.structures ≡ d.structures) (study_step taught w l.aliases t) d t refl (λ x own. by_said t.said x)
     where
       by_said : (o : Said) (x : Unit) → IfSome (study_said w taught t.unit o) (λ deed. (deed d x).0.structures ≡ d.structures)
@@ -90,7 +90,7 @@ module _ (w : Planet) (taught : Taught) (n : ℕ) (u : Unit) where
       by_said other x = tt
 
   -- other orders leave the unit as it is
-  one_stays : (d : State) (l : Course) (t : Task) (v : Unit) → get d.units n ≡ Some v → v.faction ≡ u.faction → IsOther t → get (step (d, l) t).0.units n ≡ Some v
+  one_stays : (d : CampaignValue) (l : MonthValue) (t : Task) (v : Unit) → get d.units n ≡ Some v → v.faction ≡ u.faction → IsOther t → get (step (d, l) t).0.units n ≡ Some v
   one_stays d l t v there own other = ordered_cases (λ b. get b.units n ≡ Some v) (study_step taught w l.aliases t) d t there (λ x its. by_said t.said refl x its)
     where
       by_said : (o : Said) → t.said ≡ o → (x : Unit) → IsUnitOf d t x → IfSome (study_said w taught t.unit o) (λ deed. get (deed d x).0.units n ≡ Some v)
@@ -103,7 +103,7 @@ module _ (w : Planet) (taught : Taught) (n : ℕ) (u : Unit) where
           ]
       by_said o says x its = tt
 
-  all_stay : (ts : List Task) (p : State × Course) (v : Unit) → get p.0.units n ≡ Some v → v.faction ≡ u.faction → AllByRecursion IsOther ts → get (fold step p ts).0.units n ≡ Some v
+  all_stay : (ts : List Task) (p : CampaignValue × MonthValue) (v : Unit) → get p.0.units n ≡ Some v → v.faction ≡ u.faction → AllByRecursion IsOther ts → get (fold step p ts).0.units n ≡ Some v
   all_stay [] p v there own others = there
   all_stay (t ∷ ts) p v there own others = all_stay ts (step p t) v (one_stays p.0 p.1 t v there own others.0) own others.1
 
@@ -121,14 +121,14 @@ module _ (w : Planet) (taught : Taught) (n : ℕ) (u : Unit) where
     abbrev deed : Deed
     deed = study w (amount_of taught n) n skill
 
-    own_study : (d : State) (l : Course) → get d.units n ≡ Some u → (step (d, l) order).0 ≡ (deed d u).0
+    own_study : (d : CampaignValue) (l : MonthValue) → get d.units n ≡ Some u → (step (d, l) order).0 ≡ (deed d u).0
     own_study d l there =
         ap (λ (o : Said). (ordered (study_said w taught order.unit o) d order.faction order.unit).0) says
         ∙ ap (λ k. (carried (study w (amount_of taught k) k skill) d order.faction k).0) for_unit
         ∙ ap (λ f. (carried deed d f n).0) own
         ∙ ap (λ o. (done_for deed d o).0) (ap (of_faction u.faction) there ∙ ap (λ b. if b then Some u else None) (equal_itself u.faction))
 
-    module _ (c : State) (begun : get c.units n ≡ Some u) where
+    module _ (c : CampaignValue) (begun : get c.units n ≡ Some u) where
       behind_it : (v : Unit) × (get (deed c u).0.units n ≡ Some v) × (v.faction ≡ u.faction)
       behind_it =
           study_cases (λ d. (v : Unit) × (get d.units n ≡ Some v) × (v.faction ≡ u.faction)) w (amount_of taught n) c n skill u (u, begun, refl)
@@ -136,14 +136,14 @@ module _ (w : Planet) (taught : Taught) (n : ℕ) (u : Unit) where
           let v : Unit = record u { holding = with_study u.holding skill (fee_of w skill * u.holding.men) days } in
           (v, get-insert_same c.units n v, refl))
 
-      alone : (ts : List Task) (p : State × Course) → get p.0.units n ≡ Some u → p.0.structures ≡ c.structures → IsDistinct share_slot ts
+      alone : (ts : List Task) (p : CampaignValue × MonthValue) → get p.0.units n ≡ Some u → p.0.structures ≡ c.structures → IsDistinct share_slot ts
           → (k : ℕ) → k < length ts → slice_index_or ts k order ≡ order → get (fold step p ts).0.units n ≡ get (deed c u).0.units n
       unfolding IsDistinct
       alone [] p there structures distinct k low at = absurd (omega (arith, low))
       alone (t ∷ ts) p there structures distinct zero low at =
           let (v, is, faction) = behind_it in
           let now : get (step p t).0.units n ≡ get (deed c u).0.units n =
-          ap (λ o. get (step p o).0.units n) at ∙ ap (λ (d : State). get d.units n) (own_study p.0 p.1 there) ∙ study_alike w (amount_of taught n) n skill c p.0 u begun there structures in
+          ap (λ o. get (step p o).0.units n) at ∙ ap (λ (d : CampaignValue). get d.units n) (own_study p.0 p.1 there) ∙ study_alike w (amount_of taught n) n skill c p.0 u begun there structures in
           all_stay ts (step p t) v (now ∙ is) faction (all_apart ts (subst (λ o. AllByRecursion (λ y. share_slot o y ≡ false) ts) at distinct.0)) ∙ sym is
       alone (t ∷ ts) p there structures distinct (suc k) low at =
           let never : share_slot t order ≡ false = All-contains (λ y. share_slot t y ≡ false) ts order (All-from_recursion (λ y. share_slot t y ≡ false) ts distinct.0) (k, omega (arith, low), at) in
@@ -156,7 +156,7 @@ unfolding carried_out
 units_study_as_begun w c m fit n skill u there own =
     let lessons = taught_out c (learners w c m) m in
     let told = taught_told c (learners w c m) m in
-    let one : State × Course → Task → State × Course = one_order (study_step lessons.0) w in
+    let one : CampaignValue × MonthValue → Task → CampaignValue × MonthValue = one_order (study_step lessons.0) w in
     let list : values (orders_of is_studying ByUnit lessons.1.aliases lessons.1.readings) ≡ study_tasks m =
     ap (λ r. values (orders_of is_studying ByUnit lessons.1.aliases r)) told.readings ∙ ap (λ a. values (orders_of is_studying ByUnit a m.readings)) told.aliases in
     let (k, low, at) = own.stands in

@@ -4,7 +4,7 @@ use Rattle.std.specs.Prelude.{ℤ, pos, neg_ℤ, ◌+ℤ◌, IfSome, nat_lt, if�
 use Rattle.std.specs.FinMap.{get}
 use Rattle.std.proofs.lemmas.Int.{ints}
 use Rattle.std.proofs.lemmas.Bool.Decides.{nat_tests}
-use Rattle.atl_tables.specs.Planet.{Planet}
+use Rattle.atl_tables.specs.Worlds.{WorldValue}
 use Rattle.atl_tables.specs.Sums.{sum_over}
 use Rattle.atl_tables.proofs.SumLaws.{sum_over-insert_known}
 use Rattle.atl_tables.specs.ByNumber.{fee_of}
@@ -28,7 +28,7 @@ use Rattle.atl_state.specs.Lending.{lent, with_held}
 use Rattle.atl_state.specs.Limits.{most_days}
 use Rattle.atl_state.specs.Marking.{mark_amount}
 use Rattle.atl_state.specs.Marks.{amount_number}
-use Rattle.atl_state.specs.State.{Marked, State, with_amount}
+use Rattle.atl_state.specs.Campaign.{MarkedCampaign, CampaignValue, with_amount}
 use Rattle.atl_state.specs.Totals.{Balances, held, total}
 use Rattle.atl_state.proofs.BookLaws.{booked-with_booked}
 use Rattle.atl_state.proofs.CoverLaws.{marks-amount, marks-trans}
@@ -54,21 +54,21 @@ use Rattle.atl_action.specs.Teach.{Taught}
 -- ---- what is marked
 
 -- a unit whose holding was lent, and an amount that is booked
-pub paid_marks : (things : ℕ) (a b d : Marked) (n : ℕ) (h : Held) (z : ℤ) → IsGrid things b.what.books → 0 < things → b ≡ lent a n h → d.what ≡ with_amount b.what Study Money z → d.marks ≡ mark_amount b Study Money → MarksChanges a d
+pub paid_marks : (things : ℕ) (a b d : MarkedCampaign) (n : ℕ) (h : Held) (z : ℤ) → IsGrid things b.value.books → 0 < things → b ≡ lent a n h → d.value ≡ with_amount b.value Study Money z → d.marks ≡ mark_amount b Study Money → MarksChanges a d
 paid_marks things a b d n h z grid some first what marks =
     marks-trans a b d (lent_marks a b n h first)
-    (marks_by b d (record { what = with_amount b.what Study Money z; marks = mark_amount b Study Money }) what marks (marks-amount things b Study Money z grid some))
+    (marks_by b d (record { value = with_amount b.value Study Money z; marks = mark_amount b Study Money }) what marks (marks-amount things b Study Money z grid some))
 
 -- ---- a unit that pays, and reaches so many days
 
-module _ (w : Planet) (c : State) (n : ℕ) (u : Unit) (s cost days : ℕ) (is : get c.units n ≡ Some u) (steady : IsSteady w c) (payable : cost ≤ u.holding.money) where
+module _ (w : WorldValue) (c : CampaignValue) (n : ℕ) (u : Unit) (s cost days : ℕ) (is : get c.units n ≡ Some u) (steady : IsSteady w c) (payable : cost ≤ u.holding.money) where
   abbrev learned : Held
   learned = with_study u.holding s cost days
 
-  abbrev paid : State
+  abbrev paid : CampaignValue
   paid = with_held c n learned (Some u)
 
-  abbrev behind : State
+  abbrev behind : CampaignValue
   behind = studied c n u s cost days
 
   may : s < length w.skills → days ≤ most_days * u.holding.men → MayHold w u learned
@@ -151,7 +151,7 @@ payable_fee h cost e =
     not_less h.money cost two.0
 
 -- what is so of the campaign as it is, and of that in which the unit studied, is so of the campaign behind the order
-pub study_cases : (P : State → Type 0) (w : Planet) (taught : ℕ) (c : State) (n s : ℕ) (u : Unit) → P c
+pub study_cases : (P : CampaignValue → Type 0) (w : WorldValue) (taught : ℕ) (c : CampaignValue) (n s : ℕ) (u : Unit) → P c
     → ((days : ℕ) → fee_of w s * u.holding.men ≤ u.holding.money → days ≤ most_days * u.holding.men → P (studied c n u s (fee_of w s * u.holding.men) days))
     → P (study w taught n s c u).0
 unfolding study
@@ -165,12 +165,12 @@ study_cases P w taught c n s u same learned =
     by_fault days done most (Some fault) e = same
     by_fault days done most None e = learned days (payable_fee u.holding (fee_of w s * u.holding.men) e) most
 
-study_well : (w : Planet) (taught : ℕ) (c : State) (n s : ℕ) (u : Unit) → get c.units n ≡ Some u → IsSteady w c → s < length w.skills → StepsWell IsSteady study_reserve w c (study w taught n s c u).0
+study_well : (w : WorldValue) (taught : ℕ) (c : CampaignValue) (n s : ℕ) (u : Unit) → get c.units n ≡ Some u → IsSteady w c → s < length w.skills → StepsWell IsSteady study_reserve w c (study w taught n s c u).0
 study_well w taught c n s u is steady known =
     study_cases (λ d. StepsWell IsSteady study_reserve w c d) w taught c n s u (well_same w c steady)
     (λ days payable most. studied_well w c n u s (fee_of w s * u.holding.men) days is steady payable known most)
 
-pub study_stays : (w : Planet) (taught : ℕ) (c : State) (n s : ℕ) (u : Unit) (k : ℕ) → k ≢ n → get (study w taught n s c u).0.units k ≡ get c.units k
+pub study_stays : (w : WorldValue) (taught : ℕ) (c : CampaignValue) (n s : ℕ) (u : Unit) (k : ℕ) → k ≢ n → get (study w taught n s c u).0.units k ≡ get c.units k
 study_stays w taught c n s u k apart =
     study_cases (λ d. get d.units k ≡ get c.units k) w taught c n s u refl
     (λ days payable most. get-insert_other c.units n k (record u { holding = with_study u.holding s (fee_of w s * u.holding.men) days }) apart)
@@ -181,7 +181,7 @@ unchanged : IsSparing IsUnchanged
 unchanged = record { same = λ u. refl; again = λ u v x one two. two ∙ one; faction = λ u v same. ap (λ (x : Unit). x.faction) same }
 
 -- the money of all units is no more than could be lost by QUIT
-money_most : (w : Planet) (c : State) → IsSteady w c → (e : Entry) (t : Thing) → study_reserve c e t ≤ study_moves e t
+money_most : (w : WorldValue) (c : CampaignValue) → IsSteady w c → (e : Entry) (t : Thing) → study_reserve c e t ≤ study_moves e t
 money_most w c steady e t = by_amount (amount_number e t == amount_number Study Money) _ _ (quit_orderly.bounded w c steady Lost Money)
   where
     by_amount : (q : Bool) (a b : ℕ) → a ≤ b → (if q then a else 0) ≤ (if q then b else 0)
@@ -196,10 +196,10 @@ study_orderly taught = record {
   bounded = money_most;
 }
   where
-    well : (w : Planet) (c : State) (n : ℕ) (x : Unit) → get c.units n ≡ Some x → IsSteady w c → (s : Said) → IsOrderOf w s → IfSome (study_said w taught n s) (λ deed. StepsWell IsSteady study_reserve w c (deed c x).0)
+    well : (w : WorldValue) (c : CampaignValue) (n : ℕ) (x : Unit) → get c.units n ≡ Some x → IsSteady w c → (s : Said) → IsOrderOf w s → IfSome (study_said w taught n s) (λ deed. StepsWell IsSteady study_reserve w c (deed c x).0)
     well w c n x is steady (orders.Study s) fit = study_well w (amount_of taught n) c n s x is steady fit
     well w c n x is steady other fit = tt
 
-    spared : (w : Planet) (c : State) (n : ℕ) (x : Unit) (k : ℕ) (v : Unit) → get c.units k ≡ Some v → k ≢ n → (s : Said) → IfSome (study_said w taught n s) (λ deed. IsSpared IsUnchanged (deed c x).0 k v)
+    spared : (w : WorldValue) (c : CampaignValue) (n : ℕ) (x : Unit) (k : ℕ) (v : Unit) → get c.units k ≡ Some v → k ≢ n → (s : Said) → IfSome (study_said w taught n s) (λ deed. IsSpared IsUnchanged (deed c x).0 k v)
     spared w c n x k v there apart (orders.Study s) = record { unit = v; there = study_stays w (amount_of taught n) c n s x k apart ∙ there; spared = refl }
     spared w c n x k v there apart other = tt

@@ -4,14 +4,14 @@ use Rattle.std.specs.Prelude.{IsTrue, option_map}
 use Rattle.std.specs.Ordering.{nat_cmp}
 use Rattle.std.specs.FinMap.{FinMap, get, len}
 use Rattle.atl_tables.specs.Names.{name_ok}
-use Rattle.atl_tables.specs.Planet.{Planet}
+use Rattle.atl_tables.specs.Worlds.{WorldValue}
 use Rattle.atl_tables.specs.ByNumber.{is_land_at, size_of}
 use Rattle.atl_state.specs.Limits.{most_days}
 use Rattle.atl_state.specs.declared.records.Structure.{Structure}
 use Rattle.atl_state.specs.declared.records.Unit.{Unit}
 use Rattle.atl_state.specs.Good.{AreAfloat, AreInRange, AreKnown, AreNumbered, AreOfOneFaction, Every, IsAboard, IsBuilt, IsOwned, IsPlaced, IsSteady, IsThere, guards, is_ship}
 use Rattle.atl_state.specs.Held.{IsHolding}
-use Rattle.atl_state.specs.State.{State, numbers_of}
+use Rattle.atl_state.specs.Campaign.{CampaignValue, numbers_of}
 use Rattle.atl_instant.proofs.RefitLaws.{in_range_replaced, named_replaced, numbered_replaced, under}
 
 -- the same unit, but for where it is and its flag
@@ -29,8 +29,8 @@ pub record IsSameStructure (before after : Structure) : Type 0 where
   pub done : after.done ≡ before.done
   pub name : after.name ≡ before.name
 
-module _ (w : Planet) (c : State) (units : FinMap nat_cmp Unit) (structures : FinMap nat_cmp Structure) (f : ℕ → Unit → Unit) (g : ℕ → Structure → Structure) where
-  abbrev pub travelled : State
+module _ (w : WorldValue) (c : CampaignValue) (units : FinMap nat_cmp Unit) (structures : FinMap nat_cmp Structure) (f : ℕ → Unit → Unit) (g : ℕ → Structure → Structure) where
+  abbrev pub travelled : CampaignValue
   travelled = record c { units = units; structures = structures }
 
   -- a unit's region is there, and its structure stands in it

@@ -2,15 +2,15 @@
 use Rattle.std.proofs.Common.{◌≡◌, ◌∷◌, [], List, ◌-◌, ◌*◌, ℕ, Some, None, refl, ap, subst, ◌∙◌, arith}
 use Rattle.std.specs.Prelude.{IfSome, fold}
 use Rattle.std.specs.FinMap.{empty, get, values}
-use Rattle.atl_tables.specs.Planet.{Planet}
+use Rattle.atl_tables.specs.Worlds.{WorldValue}
 use Rattle.atl_tables.specs.ByNumber.{fee_of}
 use Rattle.atl_orders.specs.declared.order.Order.TheVariants as orders
 use Rattle.atl_orders.specs.Orders.{Said}
 use Rattle.atl_state.specs.declared.event.Outcome.TheVariants.{Done}
 use Rattle.atl_state.specs.declared.records.Unit.{Unit}
 use Rattle.atl_state.specs.Held.{amount_of}
-use Rattle.atl_state.specs.State.{State}
-use Rattle.atl_instant.specs.Course.{Course}
+use Rattle.atl_state.specs.Campaign.{CampaignValue}
+use Rattle.atl_instant.specs.Month.{MonthValue}
 use Rattle.atl_instant.specs.PhaseOrders.{Task, orders_of}
 use Rattle.atl_instant.specs.Steps.{carried_out}
 use Rattle.atl_instant.specs.Unmailed.{IsLessBy, starved_in}
@@ -24,32 +24,32 @@ use Rattle.atl_action.specs.Teach.{Taught, is_teaching, listed, taught_out, teac
 -- ---- TEACH tells its events and changes nothing else of the month
 
 -- the month with as many who starved, and the same mailings and aliases
-pub record IsTold (before after : Course) : Type 0 where
+pub record IsTold (before after : MonthValue) : Type 0 where
   pub readings : after.readings ≡ before.readings
   pub aliases : after.aliases ≡ before.aliases
   pub starved : (n : ℕ) → starved_in after.events n ≡ starved_in before.events n
 
-lesson_told : (c : State) (learning : Learning) (p : Taught × Course) (t : Task) → IsTold p.1 (teach_order c learning p t).1
+lesson_told : (c : CampaignValue) (learning : Learning) (p : Taught × MonthValue) (t : Task) → IsTold p.1 (teach_order c learning p t).1
 lesson_told c learning (taught, m) t = record {
   readings = refl;
   aliases = refl;
   starved = λ n. told_of_order m.events t (teach c m.aliases learning taught t.faction t.unit (listed t.said)).1 n;
 }
 
-lessons_told : (c : State) (learning : Learning) (p : Taught × Course) (ts : List Task) → IsTold p.1 (fold (teach_order c learning) p ts).1
+lessons_told : (c : CampaignValue) (learning : Learning) (p : Taught × MonthValue) (ts : List Task) → IsTold p.1 (fold (teach_order c learning) p ts).1
 lessons_told c learning p [] = record { readings = refl; aliases = refl; starved = λ n. refl }
 lessons_told c learning p (t ∷ ts) =
     let one = lesson_told c learning p t in
     let rest = lessons_told c learning (teach_order c learning p t) ts in
     record { readings = rest.readings ∙ one.readings; aliases = rest.aliases ∙ one.aliases; starved = λ n. rest.starved n ∙ one.starved n }
 
-pub taught_told : (c : State) (learning : Learning) (m : Course) → IsTold m (taught_out c learning m).1
+pub taught_told : (c : CampaignValue) (learning : Learning) (m : MonthValue) → IsTold m (taught_out c learning m).1
 unfolding taught_out
 taught_told c learning m = lessons_told c learning (empty, m) (values (orders_of is_teaching ByUnit m.aliases m.readings))
 
 -- ---- STUDY
 
-study_men : (w : Planet) (taught : ℕ) (c : State) (n s : ℕ) (u : Unit) → get c.units n ≡ Some u → HaveTheirMen c (study w taught n s c u).0
+study_men : (w : WorldValue) (taught : ℕ) (c : CampaignValue) (n s : ℕ) (u : Unit) → get c.units n ≡ Some u → HaveTheirMen c (study w taught n s c u).0
 unfolding study
 study_men w taught c n s u is =
     let cost = fee_of w s * u.holding.men in
@@ -58,7 +58,7 @@ study_men w taught c n s u is =
     men_unless c (studied c n u s cost days) (Done (days - old)) (study_fault u.holding cost)
     (men_put c (studied c n u s cost days) n u (record u { holding = with_study u.holding s cost days }) is (record { faction = refl; men = refl }) refl)
 
-studied_men : (w : Planet) (taught : Taught) (c : State) (f n : ℕ) (x : Unit) → get c.units n ≡ Some x → (o : Said) → IfSome (study_said w taught n o) (λ deed. OthersHaveMen f c (deed c x).0)
+studied_men : (w : WorldValue) (taught : Taught) (c : CampaignValue) (f n : ℕ) (x : Unit) → get c.units n ≡ Some x → (o : Said) → IfSome (study_said w taught n o) (λ deed. OthersHaveMen f c (deed c x).0)
 studied_men w taught c f n x is (orders.Study s) = others_men f c (study w (amount_of taught n) n s c x).0 (study_men w (amount_of taught n) c n s x is)
 studied_men w taught c f n x is other = tt
 
@@ -88,5 +88,5 @@ learn_leaves = record {
       record { unit = one.unit; there = one.there; spared = subst (λ k. IsLessBy (starved_in (learn_meaning w c m).1.events n - k) u one.unit) (same.starved n) one.spared };
 }
   where
-    alike : (w : Planet) (c d : State) (m l : Course) → l.readings ≡ m.readings → l.aliases ≡ m.aliases → learn_keeps w m c d → learn_keeps w l c d
+    alike : (w : WorldValue) (c d : CampaignValue) (m l : MonthValue) → l.readings ≡ m.readings → l.aliases ≡ m.aliases → learn_keeps w m c d → learn_keeps w l c d
     alike w c d m l readings aliases h = rw (readings, aliases) h

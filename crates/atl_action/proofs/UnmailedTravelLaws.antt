@@ -2,7 +2,7 @@
 use Rattle.std.proofs.Common.{ℕ, false, refl}
 use Rattle.std.specs.Prelude.{IfSome, fold, unwrap_or}
 use Rattle.std.specs.FinMap.{get}
-use Rattle.atl_tables.specs.Planet.{Planet}
+use Rattle.atl_tables.specs.Worlds.{WorldValue}
 use Rattle.atl_tables.specs.declared.direction.Direction.{Direction}
 use Rattle.atl_tables.specs.ByNumber.{neighbour}
 use Rattle.atl_orders.specs.declared.order.Order.TheVariants as orders
@@ -10,7 +10,7 @@ use Rattle.atl_orders.specs.Orders.{Said}
 use Rattle.atl_state.specs.declared.event.Outcome.TheVariants.{Done}
 use Rattle.atl_state.specs.declared.records.Unit.{Unit}
 use Rattle.atl_state.specs.Owners.{with_place}
-use Rattle.atl_state.specs.State.{State, numbers_inside, with_guard, with_structure_region}
+use Rattle.atl_state.specs.Campaign.{CampaignValue, numbers_inside, with_guard, with_structure_region}
 use Rattle.atl_action.specs.Sail.{IsCarried, is_sailing, sail, sail_fault, sail_said, sail_step, sail_terms, sailed, taken_along}
 use Rattle.atl_action.specs.Walk.{is_walking, walk, walk_fault, walk_said, walk_step, walk_terms, walked}
 use Rattle.atl_instant.proofs.TermsLaws.{Leaves}
@@ -18,18 +18,18 @@ use Rattle.atl_instant.proofs.UnmailedLaws.{HasItsItems, HaveTheirMen, OthersHav
 use Rattle.atl_instant.proofs.UnmailedStepLaws.{guard_men, place_men}
 
 -- a unit that is put elsewhere, with its flag cleared
-gone_men : (c : State) (n r s : ℕ) → HaveTheirMen c (with_guard (with_place c n r s) n false)
+gone_men : (c : CampaignValue) (n r s : ℕ) → HaveTheirMen c (with_guard (with_place c n r s) n false)
 gone_men c n r s = let there = with_place c n r s in men_twice c there (with_guard there n false) (place_men c n r s) (guard_men there n false)
 
 -- ---- MOVE
 
-walk_men : (w : Planet) (c : State) (n : ℕ) (u : Unit) (direction : Direction) → HaveTheirMen c (walk w n direction c u).0
+walk_men : (w : WorldValue) (c : CampaignValue) (n : ℕ) (u : Unit) (direction : Direction) → HaveTheirMen c (walk w n direction c u).0
 unfolding walk
 walk_men w c n u direction =
     let to = neighbour w u.region direction in
     men_unless c (walked c n (unwrap_or to 0)) (Done 0) (walk_fault w u to) (gone_men c n (unwrap_or to 0) 0)
 
-walked_men : (w : Planet) (c : State) (f n : ℕ) (x : Unit) (o : Said) → IfSome (walk_said w n o) (λ deed. OthersHaveMen f c (deed c x).0)
+walked_men : (w : WorldValue) (c : CampaignValue) (f n : ℕ) (x : Unit) (o : Said) → IfSome (walk_said w n o) (λ deed. OthersHaveMen f c (deed c x).0)
 walked_men w c f n x (orders.Move direction) = others_men f c (walk w n direction c x).0 (walk_men w c n x direction)
 walked_men w c f n x other = tt
 
@@ -41,20 +41,20 @@ walk_leaves = carried_leaves walk_step is_walking walk_spares (unmailed_spared i
 
 -- ---- SAIL
 
-sailed_men : (c : State) (ship to : ℕ) → HaveTheirMen c (sailed c ship to)
+sailed_men : (c : CampaignValue) (ship to : ℕ) → HaveTheirMen c (sailed c ship to)
 unfolding sailed
 sailed_men c ship to =
     let ns = numbers_inside ship c.units in
     let gone = fold (taken_along ship to) c ns in
     men_twice c gone (with_structure_region gone ship to) (men_in_turn (taken_along ship to) (λ d n. gone_men d n to ship) c ns) (men_same gone (with_structure_region gone ship to) refl)
 
-sail_men : (w : Planet) (c : State) (n : ℕ) (u : Unit) (direction : Direction) → HaveTheirMen c (sail w n direction c u).0
+sail_men : (w : WorldValue) (c : CampaignValue) (n : ℕ) (u : Unit) (direction : Direction) → HaveTheirMen c (sail w n direction c u).0
 unfolding sail
 sail_men w c n u direction =
     let to = neighbour w u.region direction in
     men_unless c (sailed c u.structure (unwrap_or to 0)) (Done 0) (sail_fault w c n u (get c.structures u.structure) to) (sailed_men c u.structure (unwrap_or to 0))
 
-sailing_men : (w : Planet) (c : State) (f n : ℕ) (x : Unit) (o : Said) → IfSome (sail_said w n o) (λ deed. OthersHaveMen f c (deed c x).0)
+sailing_men : (w : WorldValue) (c : CampaignValue) (f n : ℕ) (x : Unit) (o : Said) → IfSome (sail_said w n o) (λ deed. OthersHaveMen f c (deed c x).0)
 sailing_men w c f n x (orders.Sail direction) = others_men f c (sail w n direction c x).0 (sail_men w c n x direction)
 sailing_men w c f n x other = tt
 

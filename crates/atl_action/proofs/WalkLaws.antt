@@ -5,7 +5,7 @@ use Rattle.std.specs.Option.{option_map_or}
 use Rattle.std.specs.Ordering.{nat_cmp}
 use Rattle.std.specs.FinMap.{FinMap, get, len}
 use Rattle.std.proofs.lemmas.Bool.{cases_eq, not-true, not-false, true≢false}
-use Rattle.atl_tables.specs.Planet.{Planet, is_land}
+use Rattle.atl_tables.specs.Worlds.{WorldValue, is_land}
 use Rattle.atl_tables.specs.declared.world.RegionPlan.{RegionPlan}
 use Rattle.atl_tables.specs.declared.direction.Direction.{Direction}
 use Rattle.atl_tables.specs.ByNumber.{is_land_at, neighbour}
@@ -20,7 +20,7 @@ use Rattle.atl_state.specs.declared.records.Unit.{Unit}
 use Rattle.atl_state.specs.Good.{Every, IsOwned, IsSteady, IsThere, is_ship}
 use Rattle.atl_state.specs.Levels.{carried_by, goods_of}
 use Rattle.atl_state.specs.Owners.{handed, heir, placed, with_place, with_place_at}
-use Rattle.atl_state.specs.State.{State, numbers_inside, with_guard}
+use Rattle.atl_state.specs.Campaign.{CampaignValue, numbers_inside, with_guard}
 use Rattle.atl_state.proofs.EveryLaws.{none_some}
 use Rattle.atl_state.proofs.InsideLaws.{inside_is_listed, listed_is_inside}
 use Rattle.atl_state.proofs.LeavingLaws.{owned_by}
@@ -48,14 +48,14 @@ mapped_itself None = refl
 mapped_itself (Some y) = refl
 
 -- a region with land is one of the world
-pub land_is_there : (w : Planet) (r : ℕ) → is_land_at w r ≡ true → IsThere w.regions r
+pub land_is_there : (w : WorldValue) (r : ℕ) → is_land_at w r ≡ true → IsThere w.regions r
 land_is_there w r land = by_plan (get w.regions r) refl land
   where
     by_plan : (o : Option RegionPlan) → get w.regions r ≡ o → option_map_or (is_land w.terrains) o false ≡ true → IsThere w.regions r
     by_plan None is dry = false_true dry
     by_plan (Some p) is dry = (p, is)
 
-module _ (w : Planet) (c : State) (n : ℕ) (u : Unit) (to : ℕ) (is : get c.units n ≡ Some u) (steady : IsSteady w c) (land : is_land_at w to ≡ true) where
+module _ (w : WorldValue) (c : CampaignValue) (n : ℕ) (u : Unit) (to : ℕ) (is : get c.units n ≡ Some u) (steady : IsSteady w c) (land : is_land_at w to ≡ true) where
   abbrev old_place : ℕ
   old_place = u.structure
 
@@ -100,7 +100,7 @@ module _ (w : Planet) (c : State) (n : ℕ) (u : Unit) (to : ℕ) (is : get c.un
   not_first q y there zero = none_some y (sym steady.next.structures.first ∙ ap (get c.structures) (sym zero) ∙ there)
 
   module _ (structures : FinMap nat_cmp Structure) where
-    abbrev behind : State
+    abbrev behind : CampaignValue
     behind = travelled w c units structures f (λ q y. y)
 
     still_owned : (q : ℕ) (y : Structure) → get c.structures q ≡ Some y → y.owner ≢ n → IsOwned behind q y
@@ -179,13 +179,13 @@ module _ (w : Planet) (c : State) (n : ℕ) (u : Unit) (to : ℕ) (is : get c.un
 
   -- ---- a unit that leaves a structure
 
-  abbrev begun : State
+  abbrev begun : CampaignValue
   begun = placed c n to 0
 
-  abbrev gone_out : State
+  abbrev gone_out : CampaignValue
   gone_out = handed begun old_place n next
 
-  abbrev gone_off : State
+  abbrev gone_off : CampaignValue
   gone_off = handed gone_out 0 0 n
 
   abbrev given : (a e b : Bool) → Structure → Structure
@@ -214,7 +214,7 @@ module _ (w : Planet) (c : State) (n : ℕ) (u : Unit) (to : ℕ) (is : get c.un
       (λ q y there. given_owned some q y there (q == old_place) (y.owner == n) (q == 0) refl refl (other_number q 0 (not_first q y there)))
 
   off_is : gone_off ≡ record begun { structures = gone_off.structures }
-  off_is = handed_is gone_out 0 0 n ∙ ap (λ (d : State). record d { structures = gone_off.structures }) (handed_is begun old_place n next)
+  off_is = handed_is gone_out 0 0 n ∙ ap (λ (d : CampaignValue). record d { structures = gone_off.structures }) (handed_is begun old_place n next)
 
   -- ---- both
 
@@ -229,12 +229,12 @@ module _ (w : Planet) (c : State) (n : ℕ) (u : Unit) (to : ℕ) (is : get c.un
 -- ---- an order
 
 -- a region that is there, if it has land, is the one that the unit goes to
-land_to : (w : Planet) (to : Option ℕ) → not (is_land_there w to) ≡ false → is_land_at w (unwrap_or to 0) ≡ true
+land_to : (w : WorldValue) (to : Option ℕ) → not (is_land_there w to) ≡ false → is_land_at w (unwrap_or to 0) ≡ true
 land_to w None dry = false_true (sym dry)
 land_to w (Some r) dry = not-false (is_land_at w r) dry
 
 -- what is so of the campaign as it is, and of that in which the unit has gone, is so of the campaign behind the order
-walk_cases : (P : State → Type 0) (w : Planet) (c : State) (n : ℕ) (u : Unit) (direction : Direction) → P c → ((to : ℕ) → is_land_at w to ≡ true → P (walked c n to)) → P (walk w n direction c u).0
+walk_cases : (P : CampaignValue → Type 0) (w : WorldValue) (c : CampaignValue) (n : ℕ) (u : Unit) (direction : Direction) → P c → ((to : ℕ) → is_land_at w to ≡ true → P (walked c n to)) → P (walk w n direction c u).0
 unfolding walk
 walk_cases P w c n u direction same gone = by_fault (neighbour w u.region direction) (walk_fault w u (neighbour w u.region direction)) refl
   where
@@ -248,12 +248,12 @@ walk_cases P w c n u direction same gone = by_fault (neighbour w u.region direct
         let three = none_fits (not (is_land_there w to)) NoWay heavy two.1 in
         gone (unwrap_or to 0) (land_to w to three.0)
 
-walk_well : (w : Planet) (c : State) (n : ℕ) (u : Unit) → get c.units n ≡ Some u → (direction : Direction) → IsSteady w c → StepsWell IsSteady books_nothing w c (walk w n direction c u).0
+walk_well : (w : WorldValue) (c : CampaignValue) (n : ℕ) (u : Unit) → get c.units n ≡ Some u → (direction : Direction) → IsSteady w c → StepsWell IsSteady books_nothing w c (walk w n direction c u).0
 walk_well w c n u is direction steady = walk_cases (λ d. StepsWell IsSteady books_nothing w c d) w c n u direction (well_same w c steady) (λ to land. walked_well w c n u to is steady land)
 
 -- ---- other units stay
 
-walk_stays : (w : Planet) (c : State) (n : ℕ) (u : Unit) (direction : Direction) (k : ℕ) → k ≢ n → get (walk w n direction c u).0.units k ≡ get c.units k
+walk_stays : (w : WorldValue) (c : CampaignValue) (n : ℕ) (u : Unit) (direction : Direction) (k : ℕ) → k ≢ n → get (walk w n direction c u).0.units k ≡ get c.units k
 walk_stays w c n u direction k apart =
     walk_cases (λ d. get d.units k ≡ get c.units k) w c n u direction refl (λ to land.
     changed_else (λ (x : Unit). record x { holding = record x.holding { guard = false } }) (with_place c n to 0).units n k apart (get (with_place c n to 0).units n) ∙ place_stays c n to 0 k apart)
@@ -266,10 +266,10 @@ walk_orderly = record {
   bounded = λ w c steady e t. omega arith;
 }
   where
-    well : (w : Planet) (c : State) (n : ℕ) (x : Unit) → get c.units n ≡ Some x → IsSteady w c → (s : Said) → IfSome (walk_said w n s) (λ deed. StepsWell IsSteady books_nothing w c (deed c x).0)
+    well : (w : WorldValue) (c : CampaignValue) (n : ℕ) (x : Unit) → get c.units n ≡ Some x → IsSteady w c → (s : Said) → IfSome (walk_said w n s) (λ deed. StepsWell IsSteady books_nothing w c (deed c x).0)
     well w c n x is steady (orders.Move direction) = walk_well w c n x is direction steady
     well w c n x is steady other = tt
 
-    stays : (w : Planet) (c : State) (n : ℕ) (x : Unit) (j : ℕ) → j ≢ n → (s : Said) → IfSome (walk_said w n s) (λ deed. get (deed c x).0.units j ≡ get c.units j)
+    stays : (w : WorldValue) (c : CampaignValue) (n : ℕ) (x : Unit) (j : ℕ) → j ≢ n → (s : Said) → IfSome (walk_said w n s) (λ deed. get (deed c x).0.units j ≡ get c.units j)
     stays w c n x j apart (orders.Move direction) = walk_stays w c n x direction j apart
     stays w c n x j apart other = tt

@@ -4,7 +4,7 @@ use Rattle.std.specs.List.{Contains}
 use Rattle.std.specs.Ordering.{nat_cmp}
 use Rattle.std.specs.FinMap.{FinMap, empty, get, insert}
 use Rattle.atl_tables.specs.ByNumber.{fee_of}
-use Rattle.atl_tables.specs.Planet.{Planet}
+use Rattle.atl_tables.specs.Worlds.{WorldValue}
 use Rattle.atl_orders.specs.declared.order.Order.TheVariants as orders
 use Rattle.atl_orders.specs.declared.verb.Verb.{Verb}
 use Rattle.atl_orders.specs.declared.verb.Verb.TheVariants as verbs
@@ -12,8 +12,8 @@ use Rattle.atl_orders.specs.Orders.{Said}
 use Rattle.atl_state.specs.declared.records.Unit.{Unit}
 use Rattle.atl_state.specs.Good.{IsThere}
 use Rattle.atl_state.specs.Held.{Held}
-use Rattle.atl_state.specs.State.{State}
-use Rattle.atl_instant.specs.Course.{Course}
+use Rattle.atl_state.specs.Campaign.{CampaignValue}
+use Rattle.atl_instant.specs.Month.{MonthValue}
 use Rattle.atl_instant.specs.PhaseOrders.{Task, orders_by_unit}
 
 abbrev pub is_studying : Verb → Bool
@@ -26,11 +26,11 @@ skill_of (orders.Study s) = Some s
 skill_of order = None
 
 -- people who can pay for it
-abbrev pub can_learn : Planet → (skill : ℕ) → Held → Bool
+abbrev pub can_learn : WorldValue → (skill : ℕ) → Held → Bool
 can_learn w s h = nat_lt 0 h.men && nat_le (fee_of w s * h.men) h.money
 
 -- a unit of the faction that gives the order
-abbrev pub learns : Planet → (skill faction : ℕ) → Option Unit → Bool
+abbrev pub learns : WorldValue → (skill faction : ℕ) → Option Unit → Bool
 learns w s f None = false
 learns w s f (Some u) = u.faction == f && can_learn w s u.holding
 
@@ -38,26 +38,26 @@ learns w s f (Some u) = u.faction == f && can_learn w s u.holding
 abbrev pub Learning : Type 0
 Learning = FinMap nat_cmp ℕ
 
-abbrev pub with_skill : Planet → State → Learning → Task → Option ℕ → Learning
+abbrev pub with_skill : WorldValue → CampaignValue → Learning → Task → Option ℕ → Learning
 with_skill w c learning t None = learning
 with_skill w c learning t (Some s) = if learns w s t.faction (get c.units t.unit) then insert learning t.unit s else learning
 
 -- what a STUDY order that stands adds
-abbrev pub with_learner : Planet → State → Learning → Task → Learning
+abbrev pub with_learner : WorldValue → CampaignValue → Learning → Task → Learning
 with_learner w c learning t = with_skill w c learning t (skill_of t.said)
 
 -- the orders of STUDY that stand
-abbrev pub study_tasks : Course → List Task
+abbrev pub study_tasks : MonthValue → List Task
 study_tasks = orders_by_unit is_studying
 
 -- At most one order of STUDY stands for a unit in the mailing of its own faction.
-unfoldable pub learners : Planet → State → Course → Learning
+unfoldable pub learners : WorldValue → CampaignValue → MonthValue → Learning
 learners w c m = fold (with_learner w c) empty (study_tasks m)
 
 -- ---- a law: who is learning
 
 -- By an order of STUDY that stands, of the unit's own faction, it learns this skill: it has men, and money for all of them.
-pub record IsLearning (w : Planet) (c : State) (m : Course) (n skill : ℕ) : Type 0 where
+pub record IsLearning (w : WorldValue) (c : CampaignValue) (m : MonthValue) (n skill : ℕ) : Type 0 where
   pub order : Task
   pub stands : Contains (study_tasks m) order
   pub for_unit : order.unit ≡ n
@@ -65,9 +65,9 @@ pub record IsLearning (w : Planet) (c : State) (m : Course) (n skill : ℕ) : Ty
   pub can : learns w skill order.faction (get c.units n) ≡ true
 
 -- only those units are learning, and each of them is
-pub record LearnByOrders (w : Planet) (c : State) (m : Course) : Type 0 where
+pub record LearnByOrders (w : WorldValue) (c : CampaignValue) (m : MonthValue) : Type 0 where
   pub only : (n skill : ℕ) → get (learners w c m) n ≡ Some skill → IsLearning w c m n skill
   pub each : (n skill : ℕ) → IsLearning w c m n skill → IsThere (learners w c m) n
 
 abbrev pub UnitsLearnByOrders : Type 0
-UnitsLearnByOrders = (w : Planet) (c : State) (m : Course) → LearnByOrders w c m
+UnitsLearnByOrders = (w : WorldValue) (c : CampaignValue) (m : MonthValue) → LearnByOrders w c m

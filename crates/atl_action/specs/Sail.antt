@@ -3,7 +3,7 @@ use Rattle.std.specs.Prelude.{◌≡◌, ◌≤◌, ℕ, ◌*◌, ◌==◌, ◌&
 use Rattle.std.specs.List.{slice_get}
 use Rattle.std.specs.Option.{option_map_or}
 use Rattle.std.specs.FinMap.{get}
-use Rattle.atl_tables.specs.Planet.{Planet}
+use Rattle.atl_tables.specs.Worlds.{WorldValue}
 use Rattle.atl_tables.specs.declared.direction.Direction.{Direction}
 use Rattle.atl_tables.specs.ByNumber.{is_land_at, neighbour, size_of}
 use Rattle.atl_orders.specs.declared.order.Order.TheVariants as orders
@@ -19,7 +19,7 @@ use Rattle.atl_state.specs.Good.{Every, is_ship}
 use Rattle.atl_state.specs.Held.{Held, amount_of}
 use Rattle.atl_state.specs.Levels.{level_in_any, load_of}
 use Rattle.atl_state.specs.Owners.{is_owned_by, with_place}
-use Rattle.atl_state.specs.State.{State, numbers_inside, with_guard, with_structure_region}
+use Rattle.atl_state.specs.Campaign.{CampaignValue, numbers_inside, with_guard, with_structure_region}
 use Rattle.atl_instant.specs.Inside.{inside}
 use Rattle.atl_instant.specs.Meaning.{Keeping}
 use Rattle.atl_instant.specs.Outcomes.{first_fault, unless}
@@ -38,39 +38,39 @@ is_sailing verb = false
 -- ---- the ship and who is inside
 
 -- a ship that is done
-abbrev pub is_complete_ship : Planet → Option Structure → Bool
+abbrev pub is_complete_ship : WorldValue → Option Structure → Bool
 is_complete_ship w None = false
 is_complete_ship w (Some s) = is_ship w s && s.done == size_of w s.kind
 
 -- the crew that its kind needs, and the load that it can take
-abbrev pub crew_needed : Planet → Option Structure → ℕ
+abbrev pub crew_needed : WorldValue → Option Structure → ℕ
 crew_needed w None = 0
 crew_needed w (Some s) = option_map_or (λ k. k.crew) (slice_get w.kinds s.kind) 0
 
-abbrev pub capacity : Planet → Option Structure → ℕ
+abbrev pub capacity : WorldValue → Option Structure → ℕ
 capacity w None = 0
 capacity w (Some s) = option_map_or (λ k. k.capacity) (slice_get w.kinds s.kind) 0
 
 -- what people are worth as a crew: each man his level in the world's skill of sailing
-abbrev pub crew_of : Planet → Held → ℕ
+abbrev pub crew_of : WorldValue → Held → ℕ
 crew_of w h = h.men * level_in_any h w.rules.sailing
 
 abbrev pub of_unit : (Held → ℕ) → Option Unit → ℕ
 of_unit f u = option_map_or (λ x. f x.holding) u 0
 
 -- the sum over all units inside
-abbrev pub sum_inside : (Held → ℕ) → State → (structure : ℕ) → ℕ
+abbrev pub sum_inside : (Held → ℕ) → CampaignValue → (structure : ℕ) → ℕ
 sum_inside f c s = sum_by (λ n. of_unit f (get c.units n)) (numbers_inside s c.units)
 
 -- ---- SAIL
 
 -- whether ships sail that way: there is a neighbour, and one of both regions is water
-abbrev pub is_way : Planet → (from : ℕ) → (to : Option ℕ) → Bool
+abbrev pub is_way : WorldValue → (from : ℕ) → (to : Option ℕ) → Bool
 is_way w from None = false
 is_way w from (Some to) = is_region w to && not (is_land_at w from && is_land_at w to)
 
 -- why a unit doesn't sail there in what it is inside: NoMen, NotInside, NotOwner, NotComplete, NoWay, NoCrew, TooHeavy
-abbrev pub sail_fault : Planet → State → (n : ℕ) → Unit → Option Structure → (to : Option ℕ) → Option EventFault
+abbrev pub sail_fault : WorldValue → CampaignValue → (n : ℕ) → Unit → Option Structure → (to : Option ℕ) → Option EventFault
 sail_fault w c n u ship to = first_fault (
     (u.holding.men == 0, NoMen)
     ∷ (u.structure == 0, NotInside)
@@ -82,19 +82,19 @@ sail_fault w c n u ship to = first_fault (
     ∷ [])
 
 -- one unit that is inside goes along, and guards no more
-abbrev pub taken_along : (ship to : ℕ) → State → (n : ℕ) → State
+abbrev pub taken_along : (ship to : ℕ) → CampaignValue → (n : ℕ) → CampaignValue
 taken_along ship to c n = with_guard (with_place c n to ship) n false
 
 -- the ship goes, and all that are inside
-unfoldable pub sailed : State → (ship to : ℕ) → State
+unfoldable pub sailed : CampaignValue → (ship to : ℕ) → CampaignValue
 sailed c ship to = with_structure_region (fold (taken_along ship to) c (numbers_inside ship c.units)) ship to
 
-unfoldable pub sail : Planet → (n : ℕ) → Direction → Deed
+unfoldable pub sail : WorldValue → (n : ℕ) → Direction → Deed
 sail w n direction c u =
     let to = neighbour w u.region direction in
     unless c (sail_fault w c n u (get c.structures u.structure) to) (sailed c u.structure (unwrap_or to 0), Done 0)
 
-abbrev pub sail_said : Planet → (n : ℕ) → Said → Option Deed
+abbrev pub sail_said : WorldValue → (n : ℕ) → Said → Option Deed
 sail_said w n (orders.Sail direction) = Some (sail w n direction)
 sail_said w n other = None
 
@@ -118,7 +118,7 @@ pub record IsCarried (before after : Unit) : Type 0 where
   pub days : (s : ℕ) → amount_of before.holding.days s ≤ amount_of after.holding.days s
 
 -- each unit is still there, and at most went along
-abbrev pub AreCarried : State → State → Type 0
+abbrev pub AreCarried : CampaignValue → CampaignValue → Type 0
 AreCarried before after = Every (λ n u. IsSpared IsCarried after n u) before.units
 
 -- no order takes anything from anybody
@@ -127,7 +127,7 @@ concerns_nobody t n f = ⊥
 
 -- The ship sails that a unit is inside: as the phase begins an order is for a unit inside the same structure, of the faction that wrote
 -- it, and without a fault.
-pub record SailsWith (w : Planet) (begun : State) (t : Task) (n f : ℕ) : Type 0 where
+pub record SailsWith (w : WorldValue) (begun : CampaignValue) (t : Task) (n f : ℕ) : Type 0 where
   pub together : inside begun t.unit ≡ inside begun n
   pub done : (ordered (sail_said w t.unit t.said) begun t.faction t.unit).1 ≡ Some (Done 0)
 

@@ -3,7 +3,7 @@ use Rattle.std.specs.Prelude.{◌+◌, ◌-◌, ◌*◌, ◌==◌, ◌&&◌, ℕ
 use Rattle.std.specs.List.{slice_get}
 use Rattle.std.specs.Option.{option_map_or}
 use Rattle.std.specs.FinMap.{get}
-use Rattle.atl_tables.specs.Planet.{Planet}
+use Rattle.atl_tables.specs.Worlds.{WorldValue}
 use Rattle.atl_tables.specs.Sums.{sum_over}
 use Rattle.atl_tables.specs.ByNumber.{fee_of, size_of}
 use Rattle.atl_orders.specs.declared.order.Order.TheVariants as orders
@@ -18,7 +18,7 @@ use Rattle.atl_state.specs.declared.records.Unit.{Unit}
 use Rattle.atl_state.specs.Held.{Held, amount_of, with_amount_of}
 use Rattle.atl_state.specs.Lending.{with_held}
 use Rattle.atl_state.specs.Limits.{most_days}
-use Rattle.atl_state.specs.State.{State, with_amount}
+use Rattle.atl_state.specs.Campaign.{CampaignValue, with_amount}
 use Rattle.atl_instant.specs.Meaning.{Keeping, Meaning, Moving, most_moved, moves_only}
 use Rattle.atl_instant.specs.Outcomes.{first_fault, unless}
 use Rattle.atl_instant.specs.Steps.{Deed, IsOwnOrder, Reserve, Step, carried_out, spares_others}
@@ -36,7 +36,7 @@ is_skill s None = false
 is_skill s (Some helps) = helps == s
 
 -- a complete structure whose kind helps
-abbrev pub is_helpful : Planet → (skill : ℕ) → Option Structure → Bool
+abbrev pub is_helpful : WorldValue → (skill : ℕ) → Option Structure → Bool
 is_helpful w s None = false
 is_helpful w s (Some b) = b.done == size_of w b.kind && option_map_or (λ k. is_skill s k.helps) (slice_get w.kinds b.kind) false
 
@@ -55,17 +55,17 @@ abbrev pub with_study : Held → (skill cost days : ℕ) → Held
 with_study h s cost days = record h { money = h.money - cost; days = with_amount_of h.days s days }
 
 -- what is paid is booked
-abbrev pub studied : State → (n : ℕ) → Unit → (skill cost days : ℕ) → State
+abbrev pub studied : CampaignValue → (n : ℕ) → Unit → (skill cost days : ℕ) → CampaignValue
 studied c n u s cost days = with_amount (with_held c n (with_study u.holding s cost days) (Some u)) Study Money (neg_ℤ (pos cost))
 
-unfoldable pub study : Planet → (taught n skill : ℕ) → Deed
+unfoldable pub study : WorldValue → (taught n skill : ℕ) → Deed
 study w taught n s c u =
     let cost = fee_of w s * u.holding.men in
     let old = amount_of u.holding.days s in
     let days = days_after u.holding.men old taught (is_helpful w s (get c.structures u.structure)) in
     unless c (study_fault u.holding cost) (studied c n u s cost days, Done (days - old))
 
-abbrev pub study_said : Planet → Taught → (n : ℕ) → Said → Option Deed
+abbrev pub study_said : WorldValue → Taught → (n : ℕ) → Said → Option Deed
 study_said w taught n (orders.Study s) = Some (study w (amount_of taught n) n s)
 study_said w taught n other = None
 

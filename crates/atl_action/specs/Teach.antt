@@ -16,8 +16,8 @@ use Rattle.atl_state.specs.declared.records.Unit.{Unit}
 use Rattle.atl_state.specs.Events.{event_fault_number}
 use Rattle.atl_state.specs.Held.{amount_of}
 use Rattle.atl_state.specs.Levels.{level_in}
-use Rattle.atl_state.specs.State.{State}
-use Rattle.atl_instant.specs.Course.{Aliases, Course}
+use Rattle.atl_state.specs.Campaign.{CampaignValue}
+use Rattle.atl_instant.specs.Month.{Aliases, MonthValue}
 use Rattle.atl_instant.specs.Inside.{region_of}
 use Rattle.atl_instant.specs.Outcomes.{first_fault}
 use Rattle.atl_instant.specs.PhaseOrders.{Task, orders_by_unit, unit_of}
@@ -41,25 +41,25 @@ Taught = FinMap nat_cmp ℕ
 
 -- ---- who of the listed units is taught
 
-abbrev pub level_at : State → (n skill : ℕ) → ℕ
+abbrev pub level_at : CampaignValue → (n skill : ℕ) → ℕ
 level_at c n s = option_map_or (λ u. level_in u.holding s) (get c.units n) 0
 
 -- a unit of the region that is learning
-abbrev pub is_pupil : State → Learning → (region n : ℕ) → Bool
+abbrev pub is_pupil : CampaignValue → Learning → (region n : ℕ) → Bool
 is_pupil c learning region n = is_some (get learning n) && region_of c n == region
 
 -- of which the teacher has a higher level in its skill
-abbrev pub is_below_in : State → (teacher n : ℕ) → Option ℕ → Bool
+abbrev pub is_below_in : CampaignValue → (teacher n : ℕ) → Option ℕ → Bool
 is_below_in c teacher n None = false
 is_below_in c teacher n (Some s) = nat_lt (level_at c n s) (level_at c teacher s)
 
-abbrev pub is_below : State → Learning → (teacher n : ℕ) → Bool
+abbrev pub is_below : CampaignValue → Learning → (teacher n : ℕ) → Bool
 is_below c learning teacher n = is_below_in c teacher n (get learning n)
 
-abbrev pub pupils_of : State → Aliases → Learning → (region faction : ℕ) → List UnitRef → List ℕ
+abbrev pub pupils_of : CampaignValue → Aliases → Learning → (region faction : ℕ) → List UnitRef → List ℕ
 pupils_of c aliases learning region faction refs = filter (is_pupil c learning region) (map (unit_of aliases faction) refs)
 
-abbrev pub below_of : State → Learning → (teacher : ℕ) → List ℕ → List ℕ
+abbrev pub below_of : CampaignValue → Learning → (teacher : ℕ) → List ℕ → List ℕ
 below_of c learning teacher ns = filter (is_below c learning teacher) ns
 
 -- each number at its first mention
@@ -69,14 +69,14 @@ first_mentions (n ∷ ns) = n ∷ filter (λ k. not (k == n)) (first_mentions ns
 
 -- ---- a lesson
 
-abbrev pub men_at : State → (n : ℕ) → ℕ
+abbrev pub men_at : CampaignValue → (n : ℕ) → ℕ
 men_at c n = option_map_or (λ u. u.holding.men) (get c.units n) 0
 
-abbrev pub untaught : State → Taught → (n : ℕ) → ℕ
+abbrev pub untaught : CampaignValue → Taught → (n : ℕ) → ℕ
 untaught c taught n = men_at c n - amount_of taught n
 
 -- the men of each that are taught then, one unit behind the other: before it so many were untaught
-abbrev pub lesson_behind : State → Taught → (places before : ℕ) → List ℕ → List (ℕ × ℕ)
+abbrev pub lesson_behind : CampaignValue → Taught → (places before : ℕ) → List ℕ → List (ℕ × ℕ)
 lesson_behind c taught places before [] = []
 lesson_behind c taught places before (n ∷ ns) =
     (n, amount_of taught n + dealt places before (untaught c taught n)) ∷ lesson_behind c taught places (before + untaught c taught n) ns
@@ -85,7 +85,7 @@ abbrev pub with_taught : Taught → List (ℕ × ℕ) → Taught
 with_taught taught es = fold (λ m e. insert m e.0 e.1) taught es
 
 -- who is taught in so many places, and how many men are
-abbrev pub lesson : State → Taught → (places : ℕ) → List ℕ → Taught × Outcome
+abbrev pub lesson : CampaignValue → Taught → (places : ℕ) → List ℕ → Taught × Outcome
 lesson c taught places ns = (with_taught taught (lesson_behind c taught places 0 ns), Done (min (sum_by (untaught c taught) ns) places))
 
 -- ---- TEACH
@@ -99,37 +99,37 @@ abbrev pub unless_taught : Taught → Option EventFault → Taught × Outcome �
 unless_taught taught (Some fault) done = (taught, Fault (event_fault_number fault))
 unless_taught taught None done = done
 
-abbrev pub teach_pupils : State → Learning → Taught → (n : ℕ) → Unit → (pupils : List ℕ) → Taught × Outcome
+abbrev pub teach_pupils : CampaignValue → Learning → Taught → (n : ℕ) → Unit → (pupils : List ℕ) → Taught × Outcome
 teach_pupils c learning taught n u pupils =
     let below = below_of c learning n pupils in
     unless_taught taught (teach_fault u pupils below) (lesson c taught (places_each * u.holding.men) (first_mentions below))
 
-abbrev pub teach_by : State → Aliases → Learning → Taught → (f n : ℕ) → List UnitRef → Option Unit → Taught × Outcome
+abbrev pub teach_by : CampaignValue → Aliases → Learning → Taught → (f n : ℕ) → List UnitRef → Option Unit → Taught × Outcome
 teach_by c aliases learning taught f n refs None = unless_taught taught (Some NotYours) (taught, Done 0)
 teach_by c aliases learning taught f n refs (Some u) =
     if u.faction == f then teach_pupils c learning taught n u (pupils_of c aliases learning u.region f refs)
     else unless_taught taught (Some NotYours) (taught, Done 0)
 
 -- an order of a faction for a unit
-unfoldable pub teach : State → Aliases → Learning → Taught → (f n : ℕ) → List UnitRef → Taught × Outcome
+unfoldable pub teach : CampaignValue → Aliases → Learning → Taught → (f n : ℕ) → List UnitRef → Taught × Outcome
 teach c aliases learning taught f n refs = teach_by c aliases learning taught f n refs (get c.units n)
 
 -- ---- all orders of TEACH
 
-abbrev pub and_taught : Course → Task → Taught × Outcome → Taught × Course
+abbrev pub and_taught : MonthValue → Task → Taught × Outcome → Taught × MonthValue
 and_taught m t (taught, outcome) = (taught, record m { events = m.events ++ told t outcome ∷ [] })
 
-abbrev pub teach_order : State → Learning → Taught × Course → Task → Taught × Course
+abbrev pub teach_order : CampaignValue → Learning → Taught × MonthValue → Task → Taught × MonthValue
 teach_order c learning (taught, m) t = and_taught m t (teach c m.aliases learning taught t.faction t.unit (listed t.said))
 
 -- who was taught, and what is told
-unfoldable pub taught_out : State → Learning → Course → Taught × Course
+unfoldable pub taught_out : CampaignValue → Learning → MonthValue → Taught × MonthValue
 taught_out c learning m = fold (teach_order c learning) (empty, m) (orders_by_unit is_teaching m)
 
 -- ---- a law: of no unit more men are taught in a month than it has
 
-abbrev pub AreTaughtOnce : State → Taught → Type 0
+abbrev pub AreTaughtOnce : CampaignValue → Taught → Type 0
 AreTaughtOnce c taught = (n : ℕ) → amount_of taught n ≤ men_at c n
 
 abbrev pub NobodyIsTaughtTwice : Type 0
-NobodyIsTaughtTwice = (c : State) (learning : Learning) (m : Course) → AreTaughtOnce c (taught_out c learning m).0
+NobodyIsTaughtTwice = (c : CampaignValue) (learning : Learning) (m : MonthValue) → AreTaughtOnce c (taught_out c learning m).0

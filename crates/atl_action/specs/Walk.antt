@@ -1,7 +1,7 @@
 -- MOVE: units go to a neighbouring region over land. See docs/RULES.md, "Walking".
 use Rattle.std.specs.Prelude.{ℕ, ◌==◌, nat_lt, Bool, true, false, not, [], ◌∷◌, unwrap_or, Option, Some, None}
 use Rattle.std.specs.Option.{option_map_or}
-use Rattle.atl_tables.specs.Planet.{Planet}
+use Rattle.atl_tables.specs.Worlds.{WorldValue}
 use Rattle.atl_tables.specs.declared.direction.Direction.{Direction}
 use Rattle.atl_tables.specs.ByNumber.{is_land_at, neighbour}
 use Rattle.atl_orders.specs.declared.order.Order.TheVariants as orders
@@ -14,7 +14,7 @@ use Rattle.atl_state.specs.declared.event.Outcome.TheVariants.{Done}
 use Rattle.atl_state.specs.declared.records.Unit.{Unit}
 use Rattle.atl_state.specs.Levels.{carried_by, goods_of}
 use Rattle.atl_state.specs.Owners.{with_place}
-use Rattle.atl_state.specs.State.{State, with_guard}
+use Rattle.atl_state.specs.Campaign.{CampaignValue, with_guard}
 use Rattle.atl_instant.specs.Outcomes.{first_fault, unless}
 use Rattle.atl_instant.specs.Staying.{IsNoWorse}
 use Rattle.atl_instant.specs.Steps.{Deed, IsOwnOrder, Step}
@@ -29,11 +29,11 @@ is_walking verb = false
 -- ---- MOVE
 
 -- whether there is a neighbour with land
-abbrev pub is_land_there : Planet → (to : Option ℕ) → Bool
+abbrev pub is_land_there : WorldValue → (to : Option ℕ) → Bool
 is_land_there w to = option_map_or (is_land_at w) to false
 
 -- why a unit doesn't go there: NoMen, AtSea, NoWay, TooHeavy
-abbrev pub walk_fault : Planet → Unit → (to : Option ℕ) → Option EventFault
+abbrev pub walk_fault : WorldValue → Unit → (to : Option ℕ) → Option EventFault
 walk_fault w u to = first_fault (
     (u.holding.men == 0, NoMen)
     ∷ (not (is_land_at w u.region), AtSea)
@@ -42,15 +42,15 @@ walk_fault w u to = first_fault (
     ∷ [])
 
 -- the unit goes there, leaves its structure, and guards no more
-abbrev pub walked : State → (n to : ℕ) → State
+abbrev pub walked : CampaignValue → (n to : ℕ) → CampaignValue
 walked c n to = with_guard (with_place c n to 0) n false
 
-unfoldable pub walk : Planet → (n : ℕ) → Direction → Deed
+unfoldable pub walk : WorldValue → (n : ℕ) → Direction → Deed
 walk w n direction c u =
     let to = neighbour w u.region direction in
     unless c (walk_fault w u to) (walked c n (unwrap_or to 0), Done 0)
 
-abbrev pub walk_said : Planet → (n : ℕ) → Said → Option Deed
+abbrev pub walk_said : WorldValue → (n : ℕ) → Said → Option Deed
 walk_said w n (orders.Move direction) = Some (walk w n direction)
 walk_said w n other = None
 

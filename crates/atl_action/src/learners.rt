@@ -50,7 +50,7 @@ fn can_learn(world: &World, skill: u16, holding: &Holding) -> bool
 
 /// Whether a unit that a faction orders to study is its own, and learns.
 fn learns(world: &World, campaign: &Campaign, skill: u16, faction: u32, unit: u32) -> bool
-    ensures { result ≡ learns world.now skill faction (map.get campaign.now.what.units unit) }
+    ensures { result ≡ learns world.now skill faction (map.get campaign.now.value.units unit) }
 {
     match campaign.unit(unit) {
         Some(found) => found.faction == faction && can_learn(world, skill, &found.holding),
@@ -66,7 +66,7 @@ fn add_skill(
     skill: Option<u16>,
     learning: &mut Numbered<u32>,
 ) -> Result<(), AllocError>
-    ensures { OnOk result ((what : Said) → learning.new ≡ with_skill world.now campaign.now.what learning.old (task_of order what) skill) }
+    ensures { OnOk result ((what : Said) → learning.new ≡ with_skill world.now campaign.now.value learning.old (task_of order what) skill) }
 {
     if let Some(skill) = skill
         && learns(world, campaign, skill, order.faction, order.unit)
@@ -84,7 +84,7 @@ fn add_learner(
     order: Written,
     learning: &mut Numbered<u32>,
 ) -> Result<(), AllocError>
-    ensures { OnOk result (learning.new ≡ found_written (with_learner world.now campaign.now.what) month.now.readings learning.old order) }
+    ensures { OnOk result (learning.new ≡ found_written (with_learner world.now campaign.now.value) month.now.readings learning.old order) }
 {
     match month.order(order.faction, order.place) {
         Some((_, what)) => add_skill(world, campaign, order, skill_of(what), learning),
@@ -99,7 +99,7 @@ pub(crate) fn learners(
     campaign: &Campaign,
     month: &Month,
 ) -> Result<Numbered<u32>, AllocError>
-    ensures { IfOk result (λ learning. learning ≡ learners world.now campaign.now.what month.now) }
+    ensures { IfOk result (λ learning. learning ≡ learners world.now campaign.now.value month.now) }
 {
     let orders = month.orders(alloc, &StudyVerbs, Arrangement::ByUnit)?;
     let mut learning = Numbered::new(alloc);

@@ -6,7 +6,7 @@ ghost use Rattle.atl_state.specs.Covers.{MarksChanges};
 ghost use Rattle.atl_state.specs.Good.{IsSteady};
 ghost use Rattle.atl_state.specs.Levels.{load_of};
 ghost use Rattle.atl_state.specs.Owners.{is_owned_by};
-ghost use Rattle.atl_state.specs.State.{with_structure_region};
+ghost use Rattle.atl_state.specs.Campaign.{with_structure_region};
 ghost use Rattle.atl_instant.specs.Steps.{carried};
 ghost use Rattle.atl_action.specs.Sail.{IsCarried, capacity, concerns_nobody, crew_needed, crew_of, is_complete_ship, is_sailing, is_way, of_unit, sail, sail_fault, sail_keeps, sail_step, sail_terms, sailed, sum_inside, taken_along};
 
@@ -108,7 +108,7 @@ fn load_at(world: &World, unit: Option<&Unit>) -> u64
 
 /// What all inside a structure are worth as a crew.
 fn crew_inside(world: &World, campaign: &Campaign, structure: u32) -> u128
-    ensures { result ≡ sum_inside (crew_of world.now) campaign.now.what structure }
+    ensures { result ≡ sum_inside (crew_of world.now) campaign.now.value structure }
 {
     let mut sum = 0;
     for number in campaign.inside(structure) {
@@ -119,7 +119,7 @@ fn crew_inside(world: &World, campaign: &Campaign, structure: u32) -> u128
 
 /// What all inside a structure weigh.
 fn load_inside(world: &World, campaign: &Campaign, structure: u32) -> u128
-    ensures { result ≡ sum_inside (load_of world.now) campaign.now.what structure }
+    ensures { result ≡ sum_inside (load_of world.now) campaign.now.value structure }
 {
     let mut sum = 0;
     for number in campaign.inside(structure) {
@@ -147,7 +147,7 @@ fn sail_fault(
     unit: &Unit,
     to: Option<u32>,
 ) -> Option<EventFault>
-    ensures { result ≡ sail_fault world.now campaign.now.what number unit.now (map.get campaign.now.what.structures unit.now.structure) to }
+    ensures { result ≡ sail_fault world.now campaign.now.value number unit.now (map.get campaign.now.value.structures unit.now.structure) to }
 {
     let ship = campaign.structure(unit.structure);
     if unit.holding.men() == 0 {
@@ -171,7 +171,7 @@ fn sail_fault(
 
 /// A unit that is inside goes along, and guards no more.
 fn take_along(campaign: &mut Campaign, unit: u32, ship: u32, to: u32) -> Result<(), AllocError>
-    ensures what { OnOk result (campaign.new.what ≡ taken_along ship to campaign.old.what unit) }
+    ensures what { OnOk result (campaign.new.value ≡ taken_along ship to campaign.old.value unit) }
     ensures marks { OnOk result (MarksChanges campaign.old campaign.new) }
 {
     campaign.place(unit, to, ship)?;
@@ -181,7 +181,7 @@ fn take_along(campaign: &mut Campaign, unit: u32, ship: u32, to: u32) -> Result<
 
 /// These units go along.
 fn take_all(campaign: &mut Campaign, units: &[u32], ship: u32, to: u32) -> Result<(), AllocError>
-    ensures what { OnOk result (campaign.new.what ≡ fold (taken_along ship to) campaign.old.what units.now) }
+    ensures what { OnOk result (campaign.new.value ≡ fold (taken_along ship to) campaign.old.value units.now) }
     ensures marks { OnOk result (MarksChanges campaign.old campaign.new) }
 {
     for unit in units {
@@ -192,7 +192,7 @@ fn take_all(campaign: &mut Campaign, units: &[u32], ship: u32, to: u32) -> Resul
 
 /// A structure stands in another region.
 fn put_ship(campaign: &mut Campaign, ship: u32, to: u32)
-    ensures what { campaign.new.what ≡ with_structure_region campaign.old.what ship to }
+    ensures what { campaign.new.value ≡ with_structure_region campaign.old.value ship to }
     ensures marks { MarksChanges campaign.old campaign.new }
 {
     campaign.set_structure_region(ship, to);
@@ -201,7 +201,7 @@ fn put_ship(campaign: &mut Campaign, ship: u32, to: u32)
 /// A ship goes to another region, and all that are inside.
 #[tactic(auto, unfolding(crate::specs::Sail::sailed))]
 fn put_there(alloc: Global, campaign: &mut Campaign, ship: u32, to: u32) -> Result<(), AllocError>
-    ensures what { OnOk result (campaign.new.what ≡ sailed campaign.old.what ship to) }
+    ensures what { OnOk result (campaign.new.value ≡ sailed campaign.old.value ship to) }
     ensures marks { OnOk result (MarksChanges campaign.old campaign.new) }
 {
     let inside = campaign.inside(ship).to_vec(alloc)?;
@@ -219,7 +219,7 @@ fn sail(
     order: Written,
     direction: Direction,
 ) -> Result<Outcome, AllocError>
-    ensures what { IfOk result (λ outcome. (campaign.new.what, outcome) ≡ carried (sail world.now order.unit direction) campaign.old.what order.faction order.unit) }
+    ensures what { IfOk result (λ outcome. (campaign.new.value, outcome) ≡ carried (sail world.now order.unit direction) campaign.old.value order.faction order.unit) }
     ensures marks { OnOk result (MarksChanges campaign.old campaign.new) }
 {
     let Some(unit) = own_unit(campaign, order) else {

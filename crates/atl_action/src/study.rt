@@ -90,7 +90,7 @@ fn learn_at(
     cost: u32,
     days: u32,
 ) -> Result<(), AllocError>
-    requires { (u : Unit) → map.get campaign.old.what.units unit ≡ Some u → cost ≤ u.holding.money }
+    requires { (u : Unit) → map.get campaign.old.value.units unit ≡ Some u → cost ≤ u.holding.money }
     ensures { OnOk result (ChangesHolding campaign.old campaign.new unit (λ h. with_study h skill cost days)) }
 {
     match campaign.unit_mut(unit) {
@@ -108,10 +108,10 @@ fn put_study(
     cost: u32,
     days: u32,
 ) -> Result<(), AllocError>
-    requires steady { IsSteady world.now campaign.old.what }
-    requires room { HaveRoom (study_reserve campaign.old.what) campaign.old.what }
-    requires payable { (u : Unit) × (map.get campaign.old.what.units unit ≡ Some u) × (cost ≤ u.holding.money) }
-    ensures what { OnOk result ((u : Unit) → map.get campaign.old.what.units unit ≡ Some u → campaign.new.what ≡ studied campaign.old.what unit u skill cost days) }
+    requires steady { IsSteady world.now campaign.old.value }
+    requires room { HaveRoom (study_reserve campaign.old.value) campaign.old.value }
+    requires payable { (u : Unit) × (map.get campaign.old.value.units unit ≡ Some u) × (cost ≤ u.holding.money) }
+    ensures what { OnOk result ((u : Unit) → map.get campaign.old.value.units unit ≡ Some u → campaign.new.value ≡ studied campaign.old.value unit u skill cost days) }
     ensures marks { OnOk result (MarksChanges campaign.old campaign.new) }
 {
     learn_at(campaign, unit, skill, cost, days)?;
@@ -128,9 +128,9 @@ fn study(
     order: Written,
     skill: u16,
 ) -> Result<Outcome, AllocError>
-    requires steady { IsSteady world.now campaign.old.what }
-    requires room { HaveRoom (study_reserve campaign.old.what) campaign.old.what }
-    ensures what { IfOk result (λ outcome. (campaign.new.what, outcome) ≡ carried (study world.now taught order.unit skill) campaign.old.what order.faction order.unit) }
+    requires steady { IsSteady world.now campaign.old.value }
+    requires room { HaveRoom (study_reserve campaign.old.value) campaign.old.value }
+    ensures what { IfOk result (λ outcome. (campaign.new.value, outcome) ≡ carried (study world.now taught order.unit skill) campaign.old.value order.faction order.unit) }
     ensures marks { OnOk result (MarksChanges campaign.old campaign.new) }
 {
     let Some(unit) = own_unit(campaign, order) else {

@@ -37,7 +37,7 @@ fn listed(what: &Order) -> &[UnitRef]
 
 /// The level of a unit in a skill, or 0.
 fn level_at(campaign: &Campaign, unit: u32, skill: u32) -> u32
-    ensures { result ≡ level_at campaign.now.what unit skill }
+    ensures { result ≡ level_at campaign.now.value unit skill }
 {
     match campaign.unit(unit) {
         Some(found) => level(found.holding.days_of(skill), found.holding.men()),
@@ -47,14 +47,14 @@ fn level_at(campaign: &Campaign, unit: u32, skill: u32) -> u32
 
 /// Whether a unit is in a region, and is learning.
 fn is_pupil(campaign: &Campaign, learning: &Numbered<u32>, region: u32, unit: u32) -> bool
-    ensures { result ≡ is_pupil campaign.now.what learning.now region unit }
+    ensures { result ≡ is_pupil campaign.now.value learning.now region unit }
 {
     learning.get(unit).is_some() && region_of(campaign, unit) == region
 }
 
 /// Whether a unit is learning a skill in which the teacher has a higher level.
 fn is_below(campaign: &Campaign, learning: &Numbered<u32>, teacher: u32, unit: u32) -> bool
-    ensures { result ≡ is_below campaign.now.what learning.now teacher unit }
+    ensures { result ≡ is_below campaign.now.value learning.now teacher unit }
 {
     match learning.get(unit) {
         Some(skill) => level_at(campaign, unit, *skill) < level_at(campaign, teacher, *skill),
@@ -72,7 +72,7 @@ fn pupils_of(
     faction: u32,
     refs: &[UnitRef],
 ) -> Result<Vec<u32>, AllocError>
-    ensures { IfOk result (λ list. list.items ≡ pupils_of campaign.now.what month.now.aliases learning.now region faction refs.now) }
+    ensures { IfOk result (λ list. list.items ≡ pupils_of campaign.now.value month.now.aliases learning.now region faction refs.now) }
 {
     let mut list = Vec::new(alloc);
     for target in refs {
@@ -92,7 +92,7 @@ fn below_of(
     teacher: u32,
     pupils: &[u32],
 ) -> Result<Vec<u32>, AllocError>
-    ensures { IfOk result (λ list. list.items ≡ below_of campaign.now.what learning.now teacher pupils.now) }
+    ensures { IfOk result (λ list. list.items ≡ below_of campaign.now.value learning.now teacher pupils.now) }
 {
     let mut list = Vec::new(alloc);
     for unit in pupils {
@@ -130,7 +130,7 @@ pub(crate) fn taught_at(taught: &Numbered<u32>, unit: u32) -> u32
 
 /// How many men of a unit weren't taught yet.
 fn untaught(campaign: &Campaign, taught: &Numbered<u32>, unit: u32) -> u32
-    ensures value { result ≡ untaught campaign.now.what taught.now unit }
+    ensures value { result ≡ untaught campaign.now.value taught.now unit }
     ensures few { result ≤ men_limit }
     ensures room { amount_of taught.now unit + result ≤ 4294967295 }
 {
@@ -143,7 +143,7 @@ fn untaught(campaign: &Campaign, taught: &Numbered<u32>, unit: u32) -> u32
 
 /// How many men of all these units weren't taught yet.
 fn untaught_of(campaign: &Campaign, taught: &Numbered<u32>, units: &[u32]) -> u128
-    ensures { result ≡ sum_by (untaught campaign.now.what taught.now) units.now }
+    ensures { result ≡ sum_by (untaught campaign.now.value taught.now) units.now }
 {
     let mut sum = 0;
     for unit in units {
@@ -160,7 +160,7 @@ fn lesson_of(
     places: u32,
     units: &[u32],
 ) -> Result<Vec<(u32, u32)>, AllocError>
-    ensures { IfOk result (λ list. list.items ≡ lesson_behind campaign.now.what taught.now places 0 units.now) }
+    ensures { IfOk result (λ list. list.items ≡ lesson_behind campaign.now.value taught.now places 0 units.now) }
 {
     let mut left = places;
     let mut list = Vec::new(alloc);
@@ -190,7 +190,7 @@ fn give_lesson(
     places: u32,
     units: &[u32],
 ) -> Result<Outcome, AllocError>
-    ensures { IfOk result (λ outcome. (taught.new, outcome) ≡ lesson campaign.now.what taught.old places units.now) }
+    ensures { IfOk result (λ outcome. (taught.new, outcome) ≡ lesson campaign.now.value taught.old places units.now) }
 {
     let list = lesson_of(alloc, campaign, taught, places, units)?;
     let men = untaught_of(campaign, taught, units).min(u128::from(places)) as u64;
@@ -223,7 +223,7 @@ fn teach_pupils(
     unit: &Unit,
     pupils: &[u32],
 ) -> Result<Outcome, AllocError>
-    ensures { IfOk result (λ outcome. (taught.new, outcome) ≡ teach_pupils campaign.now.what learning.now taught.old teacher unit.now pupils.now) }
+    ensures { IfOk result (λ outcome. (taught.new, outcome) ≡ teach_pupils campaign.now.value learning.now taught.old teacher unit.now pupils.now) }
 {
     let below = below_of(alloc, campaign, learning, teacher, pupils)?;
     if let Some(fault) = teach_fault(unit, pupils, &below) {
@@ -250,7 +250,7 @@ fn teach(
     order: Written,
     refs: &[UnitRef],
 ) -> Result<Outcome, AllocError>
-    ensures { IfOk result (λ outcome. (taught.new, outcome) ≡ teach campaign.now.what month.now.aliases learning.now taught.old order.faction order.unit refs.now) }
+    ensures { IfOk result (λ outcome. (taught.new, outcome) ≡ teach campaign.now.value month.now.aliases learning.now taught.old order.faction order.unit refs.now) }
 {
     let unit = match campaign.unit(order.unit) {
         Some(unit) if unit.faction == order.faction => unit,
@@ -277,7 +277,7 @@ fn teach_one(
     taught: &mut Numbered<u32>,
     order: Written,
 ) -> Result<(), AllocError>
-    ensures { OnOk result ((taught.new, month.new) ≡ found_written (teach_order campaign.now.what learning.now) month.old.readings (taught.old, month.old) order) }
+    ensures { OnOk result ((taught.new, month.new) ≡ found_written (teach_order campaign.now.value learning.now) month.old.readings (taught.old, month.old) order) }
 {
     let (verb, outcome) = match month.order(order.faction, order.place) {
         Some((_, what)) => (
@@ -304,7 +304,7 @@ pub(crate) fn teach_all(
     month: &mut Month,
     learning: &Numbered<u32>,
 ) -> Result<Numbered<u32>, AllocError>
-    ensures meaning { IfOk result (λ taught. (taught, month.new) ≡ taught_out campaign.now.what learning.now month.old) }
+    ensures meaning { IfOk result (λ taught. (taught, month.new) ≡ taught_out campaign.now.value learning.now month.old) }
     ensures readings { OnOk result (month.new.readings ≡ month.old.readings) }
     ensures aliases { OnOk result (month.new.aliases ≡ month.old.aliases) }
 {

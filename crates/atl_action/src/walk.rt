@@ -44,7 +44,7 @@ fn walk_fault(world: &World, unit: &Unit, to: Option<u32>) -> Option<EventFault>
 
 /// A unit stands in another region, inside no structure, and guards no more.
 fn put_there(campaign: &mut Campaign, unit: u32, to: u32) -> Result<(), AllocError>
-    ensures what { OnOk result (campaign.new.what ≡ walked campaign.old.what unit to) }
+    ensures what { OnOk result (campaign.new.value ≡ walked campaign.old.value unit to) }
     ensures marks { OnOk result (MarksChanges campaign.old campaign.new) }
 {
     campaign.place(unit, to, 0)?;
@@ -60,7 +60,7 @@ fn walk(
     order: Written,
     direction: Direction,
 ) -> Result<Outcome, AllocError>
-    ensures what { IfOk result (λ outcome. (campaign.new.what, outcome) ≡ carried (walk world.now order.unit direction) campaign.old.what order.faction order.unit) }
+    ensures what { IfOk result (λ outcome. (campaign.new.value, outcome) ≡ carried (walk world.now order.unit direction) campaign.old.value order.faction order.unit) }
     ensures marks { OnOk result (MarksChanges campaign.old campaign.new) }
 {
     let Some(unit) = own_unit(campaign, order) else {

@@ -2,23 +2,23 @@
 use Rattle.std.proofs.Common.{◌≡◌, ℕ, suc, ◌+◌, ◌<◌, ◌≤◌, sym, subst, arith}
 use Rattle.std.specs.Prelude.{Ok, Err}
 use Rattle.sqlite_trees.specs.declared.store.Store.{Ghosts}
-use Rattle.atl_service.specs.ServiceState.{ServiceState}
+use Rattle.atl_service.specs.Service.{ServiceValue}
 use Rattle.atl_http.specs.declared.dice.Dice.{Dice}
 use Rattle.atl_http.specs.declared.listening.ListenFault.{ListenFault}
 use Rattle.atl_http.specs.declared.listening.ListenFault.TheVariants.{Net, Memory}
 use Rattle.atl_http.specs.Listening.{Attends, ServesInTurn, ServesEach}
 
 -- at most so many requests were served
-abbrev pub HasServed : {S : Type 0} → Ghosts S → Dice → (count : ℕ) → (old new : ServiceState S) → Type 0
+abbrev pub HasServed : {S : Type 0} → Ghosts S → Dice → (count : ℕ) → (old new : ServiceValue S) → Type 0
 HasServed g dice count old new = (served : ℕ) × (served ≤ count) × ServesInTurn g dice served old new
 
-pub one_more : {S : Type 0} (g : Ghosts S) (dice : Dice) (count : ℕ) (old between new after : ServiceState S) → after ≡ new → HasServed g dice count old between → Attends g dice between (Ok tt) new → HasServed g dice (count + 1) old after
+pub one_more : {S : Type 0} (g : Ghosts S) (dice : Dice) (count : ℕ) (old between new after : ServiceValue S) → after ≡ new → HasServed g dice count old between → Attends g dice between (Ok tt) new → HasServed g dice (count + 1) old after
 one_more g dice count old between new after e (served, few, turn) h = (suc served, omega (arith, few), (between, turn, subst (λ s. Attends g dice between (Ok tt) s) (sym e) h))
 
-pub as_many : {S : Type 0} (g : Ghosts S) (dice : Dice) (count : ℕ) (old between after : ServiceState S) → after ≡ between → HasServed g dice count old between → HasServed g dice (count + 1) old after
+pub as_many : {S : Type 0} (g : Ghosts S) (dice : Dice) (count : ℕ) (old between after : ServiceValue S) → after ≡ between → HasServed g dice count old between → HasServed g dice (count + 1) old after
 as_many g dice count old between after e (served, few, turn) = (served, omega (arith, few), subst (λ s. ServesInTurn g dice served old s) (sym e) turn)
 
 -- a connection could not be served
-pub ended : {S : Type 0} (g : Ghosts S) (dice : Dice) (done count : ℕ) (old between new : ServiceState S) (fault : ListenFault) → done < count → HasServed g dice done old between → Attends g dice between (Err fault) new → ServesEach g dice count old (Err fault) new
+pub ended : {S : Type 0} (g : Ghosts S) (dice : Dice) (done count : ℕ) (old between new : ServiceValue S) (fault : ListenFault) → done < count → HasServed g dice done old between → Attends g dice between (Err fault) new → ServesEach g dice count old (Err fault) new
 ended g dice done count old between new Net more h none = absurd none
 ended g dice done count old between new Memory more (served, few, turn) h = (served, omega (arith, few, more), between, turn, h)

@@ -1,7 +1,7 @@
 -- What serving connections leaves of a service, whatever their peers send and take.
 use Rattle.std.specs.Prelude.{◌≡◌, ◌≢◌, ◌≤◌, ◌<◌, ℕ, zero, suc, Result, Ok, Err}
 use Rattle.sqlite_trees.specs.declared.store.Store.{Ghosts}
-use Rattle.atl_service.specs.ServiceState.{ServiceState}
+use Rattle.atl_service.specs.Service.{ServiceValue}
 use Rattle.atl_http.specs.declared.dice.Dice.{Dice}
 use Rattle.atl_http.specs.declared.listening.ListenFault.{ListenFault}
 use Rattle.atl_http.specs.declared.listening.ListenFault.TheVariants.{Net, Memory}
@@ -10,23 +10,23 @@ use Rattle.atl_http.specs.declared.moving.HttpFault.TheVariants as http
 use Rattle.atl_http.specs.Serving.{Known, Serves}
 
 -- one request is served, to this end
-abbrev pub IsServed : {S : Type 0} → Ghosts S → Dice → (old : ServiceState S) → Result ℕ HttpFault → (new : ServiceState S) → Type 0
+abbrev pub IsServed : {S : Type 0} → Ghosts S → Dice → (old : ServiceValue S) → Result ℕ HttpFault → (new : ServiceValue S) → Type 0
 IsServed g dice old told new = (before : Known) × (after : Known) × Serves g dice before after old told new
 
 -- the one request of a connection is served, and there is memory for it, or there is none
-abbrev pub Attends : {S : Type 0} → Ghosts S → Dice → (old : ServiceState S) → Result (Unit {0}) ListenFault → (new : ServiceState S) → Type 0
+abbrev pub Attends : {S : Type 0} → Ghosts S → Dice → (old : ServiceValue S) → Result (Unit {0}) ListenFault → (new : ServiceValue S) → Type 0
 Attends g dice old (Ok done) new = (told : Result ℕ HttpFault) × (told ≢ Err http.Memory) × IsServed g dice old told new
 Attends g dice old (Err Memory) new = IsServed g dice old (Err http.Memory) new
 Attends g dice old (Err Net) new = ⊥
 
 -- so many requests are served one after another, and there is memory for each
-abbrev pub ServesInTurn : {S : Type 0} → Ghosts S → Dice → (count : ℕ) → (old new : ServiceState S) → Type 0
+abbrev pub ServesInTurn : {S : Type 0} → Ghosts S → Dice → (count : ℕ) → (old new : ServiceValue S) → Type 0
 ServesInTurn g dice zero old new = new ≡ old
-ServesInTurn {S} g dice (suc count) old new = (between : ServiceState S) × ServesInTurn g dice count old between × Attends g dice between (Ok tt) new
+ServesInTurn {S} g dice (suc count) old new = (between : ServiceValue S) × ServesInTurn g dice count old between × Attends g dice between (Ok tt) new
 
 -- At most so many requests are served one after another; where memory runs out for one of them, that one is the last.
-abbrev pub ServesEach : {S : Type 0} → Ghosts S → Dice → (count : ℕ) → (old : ServiceState S) → Result (Unit {0}) ListenFault → (new : ServiceState S) → Type 0
+abbrev pub ServesEach : {S : Type 0} → Ghosts S → Dice → (count : ℕ) → (old : ServiceValue S) → Result (Unit {0}) ListenFault → (new : ServiceValue S) → Type 0
 ServesEach g dice count old (Ok done) new = (served : ℕ) × (served ≤ count) × ServesInTurn g dice served old new
 ServesEach g dice count old (Err Net) new = (served : ℕ) × (served < count) × ServesInTurn g dice served old new
 ServesEach {S} g dice count old (Err Memory) new =
-    (served : ℕ) × (served < count) × (between : ServiceState S) × ServesInTurn g dice served old between × Attends g dice between (Err Memory) new
+    (served : ℕ) × (served < count) × (between : ServiceValue S) × ServesInTurn g dice served old between × Attends g dice between (Err Memory) new

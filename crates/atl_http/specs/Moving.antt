@@ -3,7 +3,7 @@ use Rattle.std.specs.Prelude.{◌≡◌, ◌≤◌, ◌<◌, ◌⊎◌, ℕ, Lis
 use Rattle.std.specs.Io.KnownBytes.{Keeps, Appends, Consumes, IsAtEnd}
 use Rattle.std.specs.declared.alloc.AllocError.{AllocError}
 use Rattle.sqlite_trees.specs.declared.store.Store.{Ghosts}
-use Rattle.atl_service.specs.ServiceState.{ServiceState}
+use Rattle.atl_service.specs.Service.{ServiceValue}
 use Rattle.atl_http.specs.declared.dice.Dice.{Dice}
 use Rattle.atl_http.specs.declared.message.Message.{Message}
 use Rattle.atl_http.specs.declared.moving.HttpFault.{HttpFault}
@@ -47,6 +47,6 @@ Sends before after bytes (Err WriteFault) = (count : ℕ) × (count < length byt
 Sends before after bytes (Err Memory) = ⊥
 
 -- a request was told of, unless there was no memory; a command may have been run then
-abbrev pub Tells : {S : Type 0} → Ghosts S → Dice → (old : ServiceState S) → Outcome → Result Message AllocError → (new : ServiceState S) → Type 0
+abbrev pub Tells : {S : Type 0} → Ghosts S → Dice → (old : ServiceValue S) → Outcome → Result Message AllocError → (new : ServiceValue S) → Type 0
 Tells g dice old outcome (Ok message) new = (reply : Reply) × Says reply message × Told g dice old outcome reply new
 Tells g dice old outcome (Err e) new = (new ≡ old) ⊎ ((reply : Reply) × Told g dice old outcome reply new)

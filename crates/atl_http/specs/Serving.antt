@@ -3,11 +3,11 @@ use Rattle.std.specs.Prelude.{◌≡◌, ◌+◌, ◌<◌, ◌⊎◌, ℕ, List,
 use Rattle.std.specs.FinMap.{len}
 use Rattle.std.specs.Io.KnownBytes.{Keeps, Appends, Consumes, IsAtEnd}
 use Rattle.sqlite_trees.specs.declared.store.Store.{Ghosts}
-use Rattle.atl_state.specs.State.{State as Campaign}
+use Rattle.atl_state.specs.Campaign.{CampaignValue}
 use Rattle.atl_service.specs.declared.command.Command.{Command}
 use Rattle.atl_service.specs.declared.command.Command.TheVariants as command
 use Rattle.atl_service.specs.declared.command.Answer.{Answer}
-use Rattle.atl_service.specs.ServiceState.{ServiceState}
+use Rattle.atl_service.specs.Service.{ServiceValue}
 use Rattle.atl_service.specs.Runs.{Runs}
 use Rattle.atl_http.specs.declared.dice.Dice.{Dice}
 use Rattle.atl_http.specs.declared.moving.HttpFault.{HttpFault}
@@ -23,7 +23,7 @@ use Rattle.atl_http.specs.Replies.{Reply, bytes_of, problem_reply}
 use Rattle.atl_http.specs.Answered.{answer_reply}
 
 -- the number of the faction that joins next; 0 for a closed service, which takes no command
-abbrev pub next_faction : Option Campaign → ℕ
+abbrev pub next_faction : Option CampaignValue → ℕ
 next_faction None = 0
 next_faction (Some c) = c.next_faction
 
@@ -34,16 +34,16 @@ command_of dice next regions (Orders faction pass text) = command.Mail faction p
 command_of dice next regions (Close month pass) = command.Close month pass (first_words regions (generator dice.seed month))
 command_of dice next regions (Report faction pass) = command.Report faction pass
 
-abbrev pub command_in : {S : Type 0} → Dice → ServiceState S → Request → Command
+abbrev pub command_in : {S : Type 0} → Dice → ServiceValue S → Request → Command
 command_in dice old request = command_of dice (next_faction old.campaign) (len old.world.regions) request
 
 -- the reply to what a request comes to, and what is left of it: nothing is changed, or the command was run
-abbrev pub Told : {S : Type 0} → Ghosts S → Dice → (old : ServiceState S) → Outcome → Reply → (new : ServiceState S) → Type 0
+abbrev pub Told : {S : Type 0} → Ghosts S → Dice → (old : ServiceValue S) → Outcome → Reply → (new : ServiceValue S) → Type 0
 Told g dice old (Refused problem) reply new = (reply ≡ problem_reply problem) × (new ≡ old)
 Told g dice old (Asks request) reply new = (answer : Answer) × Runs g old (command_in dice old request) answer new × (reply ≡ answer_reply answer)
 
 -- the reply to the bytes that were seen, behind which no more were read
-abbrev pub RepliesTo : {S : Type 0} → Ghosts S → Dice → (old : ServiceState S) → (seen : List ℕ) → Reply → (new : ServiceState S) → Type 0
+abbrev pub RepliesTo : {S : Type 0} → Ghosts S → Dice → (old : ServiceValue S) → (seen : List ℕ) → Reply → (new : ServiceValue S) → Type 0
 RepliesTo g dice old seen reply new = (outcome : Outcome) × IsReadSoFar seen × Judges seen (final outcome) × Told g dice old outcome reply new
 
 -- the bytes that are known: those that a reader has left, and those that a writer holds
@@ -59,7 +59,7 @@ fault_number WriteFault = Some 3
 fault_number Memory = None
 
 -- Of the bytes that were seen the status and all bytes of the reply; or there is no reply, or a part of it.
-abbrev pub Serves : {S : Type 0} → Ghosts S → Dice → (before after : Known) → (old : ServiceState S) → Result ℕ HttpFault → (new : ServiceState S) → Type 0
+abbrev pub Serves : {S : Type 0} → Ghosts S → Dice → (before after : Known) → (old : ServiceValue S) → Result ℕ HttpFault → (new : ServiceValue S) → Type 0
 Serves g dice before after old (Ok status) new =
     (seen : List ℕ) × (reply : Reply) × Consumes before.left after.left seen × RepliesTo g dice old seen reply new × (status ≡ reply.status) × Appends before.held after.held (bytes_of reply)
 -- the input ended within the request

@@ -4,9 +4,9 @@ ghost use Rattle.http.specs.StatusCode.{reason_phrase};
 ghost use Rattle.atl_http.specs.Replies.{json, allow_line, head_of, error_body, problem_reply};
 ghost use Rattle.atl_http.specs.Moving.{Says};
 
-use atl_tables::let_go;
 use crate::problem::Problem;
 use crate::route::Route;
+use atl_tables::let_go;
 use http::StatusCode;
 use std::alloc::{AllocError, Global};
 use std::fmt::Write;

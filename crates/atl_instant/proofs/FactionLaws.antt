@@ -4,21 +4,21 @@ use Rattle.std.specs.Prelude.{IsTrue, true, []}
 use Rattle.std.specs.Ordering.{nat_cmp}
 use Rattle.std.specs.FinMap.{FinMap, get, insert, len}
 use Rattle.atl_tables.specs.Names.{name_ok, pass_ok}
-use Rattle.atl_tables.specs.Planet.{Planet}
+use Rattle.atl_tables.specs.Worlds.{WorldValue}
 use Rattle.atl_state.specs.declared.records.Faction.{Faction}
 use Rattle.atl_state.specs.Good.{AreInRange, AreKnown, AreNamed, AreNumbered, Every, IsSteady, IsThere}
-use Rattle.atl_state.specs.State.{State, numbers_of, with_faction_name}
+use Rattle.atl_state.specs.Campaign.{CampaignValue, numbers_of, with_faction_name}
 use Rattle.atl_state.proofs.EveryLaws.{every-insert, get-insert_other, none_some, there-insert}
 use Rattle.atl_state.proofs.RegionLaws.{changed-known, same_len}
 
-module _ (c : State) (n : ℕ) (x : Faction) (name : List ℕ) (is : get c.factions n ≡ Some x) where
+module _ (c : CampaignValue) (n : ℕ) (x : Faction) (name : List ℕ) (is : get c.factions n ≡ Some x) where
   abbrev renamed : Faction
   renamed = record x { name = name }
 
   abbrev factions : FinMap nat_cmp Faction
   factions = insert c.factions n renamed
 
-  abbrev shown : State
+  abbrev shown : CampaignValue
   shown = record c { factions = factions }
 
   none_kept : (k : ℕ) → get c.factions k ≡ None → get factions k ≡ None
@@ -30,7 +30,7 @@ module _ (c : State) (n : ℕ) (x : Faction) (name : List ℕ) (is : get c.facti
   same_count : len factions ≡ len c.factions
   same_count = same_len c.factions n x renamed is
 
-  numbers_kept : (w : Planet) → AreInRange w c → AreInRange w shown
+  numbers_kept : (w : WorldValue) → AreInRange w c → AreInRange w shown
   numbers_kept w old = record {
     month = old.month;
     few_factions = omega (arith, same_count, old.few_factions);
@@ -62,7 +62,7 @@ module _ (c : State) (n : ℕ) (x : Faction) (name : List ℕ) (is : get c.facti
         structures = old.structures;
       }
 
-  known_kept : (w : Planet) → AreKnown w c → AreKnown w shown
+  known_kept : (w : WorldValue) → AreKnown w c → AreKnown w shown
   known_kept w old = record {
     regions = old.regions;
     units = λ k u here. let p = old.units k u here in record { faction = there u.faction p.faction; region = p.region; structure = p.structure; items = p.items; skills = p.skills };
@@ -78,7 +78,7 @@ module _ (c : State) (n : ℕ) (x : Faction) (name : List ℕ) (is : get c.facti
     units = old.units;
   }
 
-  steady_shown : (w : Planet) → IsTrue (name_ok name) → IsSteady w c → IsSteady w shown
+  steady_shown : (w : WorldValue) → IsTrue (name_ok name) → IsSteady w c → IsSteady w shown
   steady_shown w named old = record {
     numbers = numbers_kept w old.numbers;
     names = names_kept named old.names;
@@ -94,15 +94,15 @@ module _ (c : State) (n : ℕ) (x : Faction) (name : List ℕ) (is : get c.facti
   shown_is : with_faction_name c n name ≡ shown
   shown_is = ap (λ m. record c { factions = m }) (changed-known (λ f. record f { name = name }) c.factions n x is)
 
-  pub steady-faction_name : (w : Planet) → IsTrue (name_ok name) → IsSteady w c → IsSteady w (with_faction_name c n name)
+  pub steady-faction_name : (w : WorldValue) → IsTrue (name_ok name) → IsSteady w c → IsSteady w (with_faction_name c n name)
   steady-faction_name w named old = subst (IsSteady w) (sym shown_is) (steady_shown w named old)
 
   -- no faction comes, and none is removed
   pub count-faction_name : len (with_faction_name c n name).factions ≡ len c.factions
-  count-faction_name = ap (λ (d : State). len d.factions) shown_is ∙ same_count
+  count-faction_name = ap (λ (d : CampaignValue). len d.factions) shown_is ∙ same_count
 
   was_there : (k : ℕ) → IsThere factions k → IsThere c.factions k
   was_there k (f, here) = every-insert (λ k f. IsThere c.factions k) c.factions n renamed (x, is) (λ k f here. (f, here)) k f here
 
   pub known-faction_name : (k : ℕ) → IsThere (with_faction_name c n name).factions k → IsThere c.factions k
-  known-faction_name k h = was_there k (subst (λ (d : State). IsThere d.factions k) shown_is h)
+  known-faction_name k h = was_there k (subst (λ (d : CampaignValue). IsThere d.factions k) shown_is h)

@@ -4,7 +4,7 @@ use Rattle.std.specs.Prelude.{fold}
 use Rattle.std.specs.Option.{option_map_or}
 use Rattle.std.specs.Ordering.{nat_cmp}
 use Rattle.std.specs.FinMap.{FinMap, get, values}
-use Rattle.atl_tables.specs.Planet.{Planet}
+use Rattle.atl_tables.specs.Worlds.{WorldValue}
 use Rattle.atl_tables.proofs.GeneralLaws.{is_equal}
 use Rattle.atl_orders.specs.Mailing.{Reading}
 use Rattle.atl_orders.specs.Orders.{Said}
@@ -13,8 +13,8 @@ use Rattle.atl_state.specs.declared.event.Outcome.TheVariants.{Done}
 use Rattle.atl_state.specs.declared.records.Unit.{Unit}
 use Rattle.atl_state.specs.Good.{Every, IsEarly}
 use Rattle.atl_state.specs.Limits.{last_unit}
-use Rattle.atl_state.specs.State.{State, with_unit_begun}
-use Rattle.atl_instant.specs.Course.{Course, order_at}
+use Rattle.atl_state.specs.Campaign.{CampaignValue, with_unit_begun}
+use Rattle.atl_instant.specs.Month.{MonthValue, order_at}
 use Rattle.atl_instant.specs.Form.{form_by, form_fault, form_meaning, form_order, formed, is_forming, is_unit_limit, new_unit}
 use Rattle.atl_instant.specs.Inside.{inside, region_of}
 use Rattle.atl_instant.specs.Outcomes.{first_fault, unless}
@@ -38,10 +38,10 @@ no_fault true true e = some_none UnitLimit e
 no_fault true false e = (refl, refl)
 
 -- the last number isn't given
-pub number_left : (c : State) (f n : ℕ) → form_fault c f n ≡ None → c.next_unit ≤ last_unit
+pub number_left : (c : CampaignValue) (f n : ℕ) → form_fault c f n ≡ None → c.next_unit ≤ last_unit
 number_left c f n none = (room c (no_fault (is_of_faction f (get c.units n)) (is_unit_limit c) none).1).1
 
-module _ (w : Planet) (c : State) (early : IsEarly w c) where
+module _ (w : WorldValue) (c : CampaignValue) (early : IsEarly w c) where
   pub free_number : get c.units c.next_unit ≡ None
   free_number = early.steady.next.units c.next_unit (omega arith)
 
@@ -52,7 +52,7 @@ module _ (w : Planet) (c : State) (early : IsEarly w c) where
         ap (λ g. with_unit_begun c (new_unit c.next_unit g (region_of c n) (inside c n))) (sym own)
         ∙ ap (λ (o : Option Unit). with_unit_begun c (new_unit c.next_unit u.faction (option_map_or (λ x. x.region) o 0) (option_map_or (λ x. x.structure) o 0))) is
 
-    abbrev Fine : State → Type 0
+    abbrev Fine : CampaignValue → Type 0
     Fine d = StepsWell IsEarly books_nothing w c d × Every (λ k v. get d.units k ≡ Some v) c.units
 
     same_fine : Fine c
@@ -74,22 +74,22 @@ module _ (w : Planet) (c : State) (early : IsEarly w c) where
     form_fine : Fine (form_by c f n).0
     form_fine = by_unit (get c.units n) refl
 
-  said_fine : (m : Course) (o : Written) (s : Option Said) → Fine 0 0 (found_said form_order (c, m) o s).0
+  said_fine : (m : MonthValue) (o : Written) (s : Option Said) → Fine 0 0 (found_said form_order (c, m) o s).0
   said_fine m o None = same_fine 0 0
   said_fine m o (Some s) = form_fine o.faction o.unit
 
   -- an order of the code leaves a campaign well, and each unit as it is
-  pub written_well : (m : Course) (o : Written) → StepsWell IsEarly books_nothing w c (found_written form_order m.readings (c, m) o).0
+  pub written_well : (m : MonthValue) (o : Written) → StepsWell IsEarly books_nothing w c (found_written form_order m.readings (c, m) o).0
   written_well m o = (said_fine m o (order_at m.readings o.faction o.place)).0
 
-  pub written_stays : (m : Course) (o : Written) → Every (λ k v. get (found_written form_order m.readings (c, m) o).0.units k ≡ Some v) c.units
+  pub written_stays : (m : MonthValue) (o : Written) → Every (λ k v. get (found_written form_order m.readings (c, m) o).0.units k ≡ Some v) c.units
   written_stays m o = (said_fine m o (order_at m.readings o.faction o.place)).1
 
 -- ---- what the code finds is what is written
 
-pub written_readings : (readings : FinMap nat_cmp Reading) (p : State × Course) (o : Written) → (found_written form_order readings p o).1.readings ≡ p.1.readings
-written_readings = found_stays form_order (λ (p : State × Course). p.1.readings) (λ p t. refl)
+pub written_readings : (readings : FinMap nat_cmp Reading) (p : CampaignValue × MonthValue) (o : Written) → (found_written form_order readings p o).1.readings ≡ p.1.readings
+written_readings = found_stays form_order (λ (p : CampaignValue × MonthValue). p.1.readings) (λ p t. refl)
 
-pub written_out : (w : Planet) (c : State) (m : Course) → fold (found_written form_order m.readings) (c, m) (map written (values (orders_of is_forming ByFaction m.aliases m.readings))) ≡ form_meaning w c m
+pub written_out : (w : WorldValue) (c : CampaignValue) (m : MonthValue) → fold (found_written form_order m.readings) (c, m) (map written (values (orders_of is_forming ByFaction m.aliases m.readings))) ≡ form_meaning w c m
 unfolding form_meaning
 written_out w c m = found_all form_order m.aliases m.readings is_forming ByFaction (c, m)

@@ -7,7 +7,7 @@ use Rattle.std.specs.Cmp.{nat_cmp_total}
 use Rattle.std.specs.FinMap.{FinMap, get, get-empty, insert, len, len-insert}
 use Rattle.std.proofs.lemmas.Bool.Decides.{nat_tests}
 use Rattle.atl_tables.specs.Names.{name_ok}
-use Rattle.atl_tables.specs.Planet.{Planet}
+use Rattle.atl_tables.specs.Worlds.{WorldValue}
 use Rattle.atl_tables.proofs.SumLaws.{numbers_where-insert_other}
 use Rattle.atl_tables.specs.ByNumber.{is_land_at}
 use Rattle.atl_state.specs.Covers.{MarksChanges, bare, goods_under}
@@ -18,7 +18,7 @@ use Rattle.atl_state.specs.declared.records.Unit.{Unit}
 use Rattle.atl_state.specs.Good.{AreAfloat, AreInRange, AreKnown, AreNamed, AreNumbered, AreOfOneFaction, AreOwned, Every, GoneHaveNone, IsAboard, IsEarly, IsPlaced, IsSteady, guards}
 use Rattle.atl_state.specs.Held.{IsHolding}
 use Rattle.atl_state.specs.Marking.{mark_unit_begun}
-use Rattle.atl_state.specs.State.{Marked, State, with_unit_begun}
+use Rattle.atl_state.specs.Campaign.{MarkedCampaign, CampaignValue, with_unit_begun}
 use Rattle.atl_state.specs.Totals.{held, total}
 use Rattle.atl_state.proofs.CoverLaws.{Goods, Row, Stays, Tells, Units, apart_by, part_by_part, put_stays}
 use Rattle.atl_state.proofs.EveryLaws.{every-empty, every-insert, get-insert_other, none_some, there-insert}
@@ -40,17 +40,17 @@ still_there m k q v x free is = get-insert_other m k q v (λ same. none_some x (
 few : (u n : ℕ) → (nat_le most_units u || nat_lt last_unit n) ≡ false → (u < most_units) × (n ≤ last_unit)
 few u n h = (grind (arith, nat_tests), grind (arith, nat_tests))
 
-pub room : (c : State) → is_unit_limit c ≡ false → (len c.units < most_units) × (c.next_unit ≤ last_unit)
+pub room : (c : CampaignValue) → is_unit_limit c ≡ false → (len c.units < most_units) × (c.next_unit ≤ last_unit)
 room c h = few (len c.units) c.next_unit h
 
-module _ (w : Planet) (c : State) (p : ℕ) (u : Unit) (is : get c.units p ≡ Some u) (early : IsEarly w c) where
+module _ (w : WorldValue) (c : CampaignValue) (p : ℕ) (u : Unit) (is : get c.units p ≡ Some u) (early : IsEarly w c) where
   abbrev child : Unit
   child = new_unit c.next_unit u.faction u.region u.structure
 
   abbrev units : FinMap nat_cmp Unit
   units = insert c.units c.next_unit child
 
-  abbrev begun : State
+  abbrev begun : CampaignValue
   begun = with_unit_begun c child
 
   old : IsSteady w c
@@ -174,15 +174,15 @@ module _ (w : Planet) (c : State) (p : ℕ) (u : Unit) (is : get c.units p ≡ S
 
 -- ---- what is marked
 
-pub marks-begun : (c : Marked) (u : Unit) → MarksChanges c (record { what = with_unit_begun c.what u; marks = mark_unit_begun c })
+pub marks-begun : (c : MarkedCampaign) (u : Unit) → MarksChanges c (record { value = with_unit_begun c.value u; marks = mark_unit_begun c })
 marks-begun c u =
-    let n = c.what.next_unit in
-    let next : Marked = record { what = with_unit_begun c.what u; marks = mark_unit_begun c } in
+    let n = c.value.next_unit in
+    let next : MarkedCampaign = record { value = with_unit_begun c.value u; marks = mark_unit_begun c } in
     part_by_part c next
     (λ p. elim p as (Stays c.marks next.marks) [ Units ↦ put_stays c.marks.units n | Goods ↦ put_stays c.marks.goods n | Row ↦ λ k h. refl | _ ↦ λ k h. h ])
-    (λ p. elim p as (Tells next.marks c.what next.what) [
-      | Units ↦ λ k free. ap (option_map bare) (get-insert_other c.what.units n k u (apart_by c.marks.units n k free))
-      | Goods ↦ λ k free. ap goods_under (get-insert_other c.what.units n k u (apart_by c.marks.goods n k free))
+    (λ p. elim p as (Tells next.marks c.value next.value) [
+      | Units ↦ λ k free. ap (option_map bare) (get-insert_other c.value.units n k u (apart_by c.marks.units n k free))
+      | Goods ↦ λ k free. ap goods_under (get-insert_other c.value.units n k u (apart_by c.marks.goods n k free))
       | Row ↦ λ k free. absurd (true≢false free)
       | _ ↦ λ k free. refl
     ])

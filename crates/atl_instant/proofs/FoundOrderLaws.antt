@@ -9,7 +9,7 @@ use Rattle.atl_orders.specs.declared.verb.Verb.{Verb}
 use Rattle.atl_orders.specs.declared.verb.Verb.TheVariants.{Form}
 use Rattle.atl_orders.specs.Mailing.{EntrySaid, Reading}
 use Rattle.atl_orders.specs.Orders.{Said}
-use Rattle.atl_instant.specs.Course.{Aliases, order_at, order_in}
+use Rattle.atl_instant.specs.Month.{Aliases, order_at, order_in}
 use Rattle.atl_instant.specs.PhaseOrders.{IsInMailing, Task, orders_of, written}
 use Rattle.atl_instant.specs.declared.written.Arrangement.{Arrangement}
 use Rattle.atl_instant.specs.declared.written.Written.{Written}

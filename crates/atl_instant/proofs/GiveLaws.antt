@@ -4,7 +4,7 @@ use Rattle.std.specs.Prelude.{⊤, IfSome, nat_lt, if◌then◌else◌}
 use Rattle.std.proofs.lemmas.Bool.Decides.{nat_tests}
 use Rattle.std.specs.Ordering.{nat_cmp, eq_by_cmp}
 use Rattle.std.specs.FinMap.{get}
-use Rattle.atl_tables.specs.Planet.{Planet}
+use Rattle.atl_tables.specs.Worlds.{WorldValue}
 use Rattle.atl_orders.specs.declared.order.Order.TheVariants as orders
 use Rattle.atl_orders.specs.Bounds.{IsOrderOf}
 use Rattle.atl_orders.specs.Orders.{Said}
@@ -18,10 +18,10 @@ use Rattle.atl_state.specs.Good.{IsEarly}
 use Rattle.atl_state.specs.Held.{Held, IsHolding, amount_of, with_amount_of}
 use Rattle.atl_state.specs.Lending.{with_held}
 use Rattle.atl_state.specs.Limits.{holding_limit}
-use Rattle.atl_state.specs.State.{State}
+use Rattle.atl_state.specs.Campaign.{CampaignValue}
 use Rattle.atl_state.specs.Totals.{held}
 use Rattle.atl_instant.specs.Give.{give, give_fault, give_said, give_step, give_to, given, held_of, with_held_of}
-use Rattle.atl_instant.specs.Course.{Aliases}
+use Rattle.atl_instant.specs.Month.{Aliases}
 use Rattle.atl_instant.specs.Outcomes.{unless}
 use Rattle.atl_instant.specs.Staying.{IsNoWorse}
 use Rattle.atl_instant.specs.PhaseOrders.{Task, unit_of}
@@ -60,24 +60,24 @@ held_within Money h is = is.money
 held_within (Item i) h is = amount_within h i is
 
 -- two units, one after the other
-pub given_is : (c d e : State) (from to : ℕ) (gift : Gift) (n left more : ℕ) (u v : Unit) → to ≢ from → get c.units from ≡ Some u → get c.units to ≡ Some v
+pub given_is : (c d e : CampaignValue) (from to : ℕ) (gift : Gift) (n left more : ℕ) (u v : Unit) → to ≢ from → get c.units from ≡ Some u → get c.units to ≡ Some v
     → d ≡ with_held c from (with_held_of gift u.holding left) (Some u)
     → ((x : Unit) → get d.units to ≡ Some x → e ≡ with_held d to (with_held_of gift x.holding more) (Some x))
     → left ≡ held_of gift u.holding - n → more ≡ held_of gift v.holding + n
     → e ≡ given c from to gift n (Some u) (Some v)
 given_is c d e from to gift n left more u v apart giver receiver first second left_is more_is =
     let other : (to == from) ≡ false = grind (arith, nat_tests) in
-    let still : get d.units to ≡ Some v = ap (λ (s : State). get s.units to) first ∙ receiver_still c from to u v (with_held_of gift u.holding left) v.holding giver receiver apart in
+    let still : get d.units to ≡ Some v = ap (λ (s : CampaignValue). get s.units to) first ∙ receiver_still c from to u v (with_held_of gift u.holding left) v.holding giver receiver apart in
     rw (second v still, first, left_is, more_is, other) refl
 
 -- ---- what both hold
 
 -- an item of the world
-abbrev pub IsKnown : Planet → Gift → Type 0
+abbrev pub IsKnown : WorldValue → Gift → Type 0
 IsKnown w Money = ⊤
 IsKnown w (Item i) = i < length w.items
 
-pub may_have_of : (w : Planet) (h : Held) (gift : Gift) (amount : ℕ) → IsKnown w gift → amount ≤ holding_limit → MayHave w h → MayHave w (with_held_of gift h amount)
+pub may_have_of : (w : WorldValue) (h : Held) (gift : Gift) (amount : ℕ) → IsKnown w gift → amount ≤ holding_limit → MayHave w h → MayHave w (with_held_of gift h amount)
 may_have_of w h Money amount known most may = record {
   limits = record { men = may.limits.men; money = most; items = may.limits.items };
   name = may.name;
@@ -135,13 +135,13 @@ better_off (Item i) n v = record { faction = refl; region = refl; structure = re
 -- ---- one order
 
 -- the campaign behind what goes from one to another, or to itself
-abbrev behind : State → (from to : ℕ) → Gift → (n : ℕ) → Unit → Unit → (itself : Bool) → State
+abbrev behind : CampaignValue → (from to : ℕ) → Gift → (n : ℕ) → Unit → Unit → (itself : Bool) → CampaignValue
 behind c from to gift n u v itself =
     if itself then c
     else with_held (with_held c from (with_held_of gift u.holding (held_of gift u.holding - n)) (Some u)) to (with_held_of gift v.holding (held_of gift v.holding + n)) (Some v)
 
 -- what is so of the campaign as it is, and of each in which a unit gave so much to another, is so of the campaign behind the order
-pub give_cases : (P : State → Type 0) (c : State) (from to : ℕ) (gift : Gift) (n : ℕ) (u : Unit) (giver : get c.units from ≡ Some u) → P c
+pub give_cases : (P : CampaignValue → Type 0) (c : CampaignValue) (from to : ℕ) (gift : Gift) (n : ℕ) (u : Unit) (giver : get c.units from ≡ Some u) → P c
     → ((v : Unit) (receiver : get c.units to ≡ Some v) (apart : to ≢ from) → CanGive gift n false u v
     → P (moved c from to u v (with_held_of gift u.holding (held_of gift u.holding - n)) (with_held_of gift v.holding (held_of gift v.holding + n)) giver receiver apart))
     → P (give from to gift n c u).0
@@ -160,7 +160,7 @@ give_cases P c from to gift n u giver same move = by_receiver (get c.units to) r
     by_receiver None is = same
     by_receiver (Some v) receiver = by_fault v receiver (give_fault gift n (to == from) u (Some v)) refl
 
-module _ (w : Planet) (c : State) (early : IsEarly w c) (from to : ℕ) (gift : Gift) (n : ℕ) (u : Unit) (giver : get c.units from ≡ Some u) where
+module _ (w : WorldValue) (c : CampaignValue) (early : IsEarly w c) (from to : ℕ) (gift : Gift) (n : ℕ) (u : Unit) (giver : get c.units from ≡ Some u) where
   give_steps_well : IsKnown w gift → StepsWell IsEarly (λ d e t. 0) w c (give from to gift n c u).0
   give_steps_well known =
       give_cases (λ d. StepsWell IsEarly (λ d e t. 0) w c d) c from to gift n u giver (well_same w c early)
@@ -190,12 +190,12 @@ give_orderly = record {
   bounded = λ w c early e t. omega arith;
 }
   where
-    well : (w : Planet) (a : Aliases) (c : State) (t : Task) (x : Unit) → IsEarly w c → IsUnitOf c t x → (s : Said) → IsOrderOf w s → IfSome (give_said a t.faction t.unit s) (λ deed. StepsWell IsEarly (λ d e t. 0) w c (deed c x).0)
+    well : (w : WorldValue) (a : Aliases) (c : CampaignValue) (t : Task) (x : Unit) → IsEarly w c → IsUnitOf c t x → (s : Said) → IsOrderOf w s → IfSome (give_said a t.faction t.unit s) (λ deed. StepsWell IsEarly (λ d e t. 0) w c (deed c x).0)
     well w a c t x early own (orders.Give to n item) (ref, number, known) = give_steps_well w c early t.unit (unit_of a t.faction to) (Item item) n x own.there known
     well w a c t x early own (orders.Pay to n) fit = give_steps_well w c early t.unit (unit_of a t.faction to) Money n x own.there tt
     well w a c t x early own other fit = tt
 
-    spared : (w : Planet) (a : Aliases) (c : State) (t : Task) (x : Unit) → IsEarly w c → IsUnitOf c t x → (n : ℕ) (u : Unit) → get c.units n ≡ Some u → n ≢ t.unit → (s : Said)
+    spared : (w : WorldValue) (a : Aliases) (c : CampaignValue) (t : Task) (x : Unit) → IsEarly w c → IsUnitOf c t x → (n : ℕ) (u : Unit) → get c.units n ≡ Some u → n ≢ t.unit → (s : Said)
         → IfSome (give_said a t.faction t.unit s) (λ deed. IsSpared IsNoWorse (deed c x).0 n u)
     spared w a c t x early own n u there apart (orders.Give to k item) = give_spares w c early t.unit (unit_of a t.faction to) (Item item) k x own.there n u there apart
     spared w a c t x early own n u there apart (orders.Pay to k) = give_spares w c early t.unit (unit_of a t.faction to) Money k x own.there n u there apart

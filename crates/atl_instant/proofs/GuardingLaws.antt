@@ -4,7 +4,7 @@ use Rattle.std.specs.Prelude.{IfSome, pos}
 use Rattle.std.specs.List.{list_any}
 use Rattle.std.proofs.lemmas.Bool.Decides.{nat_tests}
 use Rattle.std.specs.FinMap.{get, insert}
-use Rattle.atl_tables.specs.Planet.{Planet}
+use Rattle.atl_tables.specs.Worlds.{WorldValue}
 use Rattle.atl_orders.specs.declared.order.Order.TheVariants as orders
 use Rattle.atl_orders.specs.Orders.{Said}
 use Rattle.atl_state.specs.Books.{amount_in}
@@ -17,7 +17,7 @@ use Rattle.atl_state.specs.declared.event.Outcome.TheVariants.{Done}
 use Rattle.atl_state.specs.declared.records.Unit.{Unit}
 use Rattle.atl_state.specs.Good.{AreOfOneFaction, Every, IsSteady, guards}
 use Rattle.atl_state.specs.Marking.{mark_unit_row}
-use Rattle.atl_state.specs.State.{Marked, State, numbers_in, with_guard}
+use Rattle.atl_state.specs.Campaign.{MarkedCampaign, CampaignValue, numbers_in, with_guard}
 use Rattle.atl_state.specs.Totals.{held, total}
 use Rattle.atl_state.proofs.EveryLaws.{every-insert, get-insert_other}
 use Rattle.atl_state.proofs.HoldingLaws.{marks-unit_row, total-held}
@@ -46,7 +46,7 @@ none_of p (n ∷ ns) is k listed = by_test (p n) refl is (λ e h. none_of p ns e
     by_test false t e rest (inr h) = rest e h
 
 -- a guard of the region is of the faction
-pub own_guards : (c : State) (region faction : ℕ) → is_guarded_against c region faction ≡ false → Every (λ m v. guards v ≡ true → v.region ≡ region → v.faction ≡ faction) c.units
+pub own_guards : (c : CampaignValue) (region faction : ℕ) → is_guarded_against c region faction ≡ false → Every (λ m v. guards v ≡ true → v.region ≡ region → v.faction ≡ faction) c.units
 own_guards c region faction none m v there guarding here =
     let inside : (v.region == region) ≡ true = grind (arith, nat_tests) in
     let listed = passing_listed (λ (x : Unit). x.region == region) c.units m v there inside in
@@ -59,11 +59,11 @@ own_guards c region faction none m v there guarding here =
 
 -- ---- the campaign behind it
 
-module _ (c : State) (n : ℕ) (u : Unit) (is : get c.units n ≡ Some u) where
+module _ (c : CampaignValue) (n : ℕ) (u : Unit) (is : get c.units n ≡ Some u) where
   abbrev pub guarding : Unit
   guarding = record u { holding = record u.holding { guard = true } }
 
-  abbrev pub flagged : State
+  abbrev pub flagged : CampaignValue
   flagged = record c { units = insert c.units n guarding }
 
   abbrev Agree : Unit → Unit → Type 0
@@ -83,7 +83,7 @@ module _ (c : State) (n : ℕ) (u : Unit) (is : get c.units n ≡ Some u) where
   flag_spares k x there apart =
       subst (λ d. IsSpared IsNoWorse d k x) (sym flagged_is) (record { unit = x; there = get-insert_other c.units n k guarding apart ∙ there; spared = no_worse x })
 
-  module _ (w : Planet) where
+  module _ (w : WorldValue) where
     pub steady-flagged : is_guarded_against c u.region u.faction ≡ false → IsSteady w c → IsSteady w flagged
     steady-flagged none steady =
         let may = may_have w c n u is steady in
@@ -112,7 +112,7 @@ module _ (c : State) (n : ℕ) (u : Unit) (is : get c.units n ≡ Some u) where
           drawn = λ e t. drawn_same 0 (amount_in c.books e t);
         })
 
-pub flag_marks : (c d : Marked) (n : ℕ) → d.what ≡ with_guard c.what n true → d.marks ≡ mark_unit_row c n → MarksChanges c d
+pub flag_marks : (c d : MarkedCampaign) (n : ℕ) → d.value ≡ with_guard c.value n true → d.marks ≡ mark_unit_row c n → MarksChanges c d
 flag_marks c d n what marks =
     let all = marks-unit_row (λ u. record u { holding = record u.holding { guard = true } }) (λ u. refl) c n in
     rw (what, marks) (record { stay = all.stay; covers = all.covers })
@@ -120,7 +120,7 @@ flag_marks c d n what marks =
 -- ---- one order
 
 -- what is so of the campaign as it is, and of that in which the unit guards, is so of the campaign behind the order
-guard_cases : (P : State → Type 0) (c : State) (n : ℕ) (u : Unit) → P c → (is_guarded_against c u.region u.faction ≡ false → P (with_guard c n true)) → P (guard n c u).0
+guard_cases : (P : CampaignValue → Type 0) (c : CampaignValue) (n : ℕ) (u : Unit) → P c → (is_guarded_against c u.region u.faction ≡ false → P (with_guard c n true)) → P (guard n c u).0
 unfolding guard
 guard_cases P c n u same flag = by_fault (guard_fault c u) refl
   where
@@ -131,10 +131,10 @@ guard_cases P c n u same flag = by_fault (guard_fault c u) refl
         let two = none_fits (is_guarded_against c u.region u.faction) Guarded [] one.1 in
         flag two.0
 
-guard_steps_well : (w : Planet) (c : State) (n : ℕ) (u : Unit) → get c.units n ≡ Some u → IsSteady w c → StepsWell IsSteady (λ d e t. 0) w c (guard n c u).0
+guard_steps_well : (w : WorldValue) (c : CampaignValue) (n : ℕ) (u : Unit) → get c.units n ≡ Some u → IsSteady w c → StepsWell IsSteady (λ d e t. 0) w c (guard n c u).0
 guard_steps_well w c n u is steady = guard_cases (λ d. StepsWell IsSteady (λ d e t. 0) w c d) c n u (well_same w c steady) (λ none. flag_steps_well c n u is w none steady)
 
-guard_spares : (w : Planet) (c : State) (n : ℕ) (u : Unit) → get c.units n ≡ Some u → (k : ℕ) (x : Unit) → get c.units k ≡ Some x → k ≢ n → IsSpared IsNoWorse (guard n c u).0 k x
+guard_spares : (w : WorldValue) (c : CampaignValue) (n : ℕ) (u : Unit) → get c.units n ≡ Some u → (k : ℕ) (x : Unit) → get c.units k ≡ Some x → k ≢ n → IsSpared IsNoWorse (guard n c u).0 k x
 guard_spares w c n u is k x there apart =
     guard_cases (λ d. IsSpared IsNoWorse d k x) c n u (record { unit = x; there = there; spared = no_worse x }) (λ none. flag_spares c n u is k x there apart)
 
@@ -148,11 +148,11 @@ guard_orderly = record {
   bounded = λ w c steady e t. omega arith;
 }
   where
-    well : (w : Planet) (c : State) (t : Task) (x : Unit) → IsSteady w c → IsUnitOf c t x → (s : Said) → IfSome (guard_said t.unit s) (λ deed. StepsWell IsSteady (λ d e t. 0) w c (deed c x).0)
+    well : (w : WorldValue) (c : CampaignValue) (t : Task) (x : Unit) → IsSteady w c → IsUnitOf c t x → (s : Said) → IfSome (guard_said t.unit s) (λ deed. StepsWell IsSteady (λ d e t. 0) w c (deed c x).0)
     well w c t x steady own (orders.Guard true) = guard_steps_well w c t.unit x own.there steady
     well w c t x steady own other = tt
 
-    spared : (w : Planet) (c : State) (t : Task) (x : Unit) → IsUnitOf c t x → (n : ℕ) (u : Unit) → get c.units n ≡ Some u → (s : Said) → (s ≡ orders.Guard true → n ≢ t.unit)
+    spared : (w : WorldValue) (c : CampaignValue) (t : Task) (x : Unit) → IsUnitOf c t x → (n : ℕ) (u : Unit) → get c.units n ≡ Some u → (s : Said) → (s ≡ orders.Guard true → n ≢ t.unit)
         → IfSome (guard_said t.unit s) (λ deed. IsSpared IsNoWorse (deed c x).0 n u)
     spared w c t x own n u there (orders.Guard true) apart = guard_spares w c t.unit x own.there n u there (apart refl)
     spared w c t x own n u there other apart = tt

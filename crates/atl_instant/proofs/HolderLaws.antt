@@ -12,7 +12,7 @@ use Rattle.atl_state.specs.declared.event.EventFault.TheVariants.{Guarded, NoMen
 use Rattle.atl_state.specs.declared.records.Unit.{Unit}
 use Rattle.atl_state.specs.Deciding.{EachOf}
 use Rattle.atl_state.specs.Good.{AreOfOneFaction, Every, guards}
-use Rattle.atl_state.specs.State.{State, numbers_in, with_guard}
+use Rattle.atl_state.specs.Campaign.{CampaignValue, numbers_in, with_guard}
 use Rattle.atl_state.proofs.EveryLaws.{each-from_every, every-from_each, every-insert, get-insert_other, none_some}
 use Rattle.atl_state.proofs.RegionLaws.{get-insert_same}
 use Rattle.atl_state.proofs.RemovedLaws.{IsListed, listed_passing, passing_listed}
@@ -24,7 +24,7 @@ use Rattle.atl_instant.proofs.GuardingLaws.{flagged, flagged_is, guarding, own_g
 
 -- ---- as units are noted
 
-module _ (c : State) where
+module _ (c : CampaignValue) where
   abbrev AreUnits : List (ℕ × Unit) → Type 0
   AreUnits es = EachOf (λ n u. get c.units n ≡ Some u) es
 
@@ -106,7 +106,7 @@ any_none : (p : ℕ → Bool) (ns : List ℕ) → ((k : ℕ) → IsListed k ns �
 any_none p [] none = refl
 any_none p (n ∷ ns) none = ap (λ b. b || list_any p ns) (none n (inl refl)) ∙ any_none p ns (λ k listed. none k (inr listed))
 
-module _ (c : State) (m : HolderMap) (are : AreHolders c m) (region faction : ℕ) where
+module _ (c : CampaignValue) (m : HolderMap) (are : AreHolders c m) (region faction : ℕ) where
   abbrev against : ℕ → Bool
   against n = guards_against faction (get c.units n)
 
@@ -139,7 +139,7 @@ module _ (c : State) (m : HolderMap) (are : AreHolders c m) (region faction : �
       by_holder (Some holder) at = other_holder holder at (holder == faction) refl
 
 -- why a unit can't guard, by what the map tells
-pub fault_told : (c : State) (m : HolderMap) → AreHolders c m → (u : Unit) (few held : Bool) → (u.holding.men == 0) ≡ few → is_held_against u.faction (get m u.region) ≡ held
+pub fault_told : (c : CampaignValue) (m : HolderMap) → AreHolders c m → (u : Unit) (few held : Bool) → (u.holding.men == 0) ≡ few → is_held_against u.faction (get m u.region) ≡ held
     → first_fault ((few, NoMen) ∷ (held, Guarded) ∷ []) ≡ guard_fault c u
 fault_told c m are u few held few_is held_is =
     ap (λ b. first_fault ((b, NoMen) ∷ (held, Guarded) ∷ [])) (sym few_is)
@@ -150,17 +150,17 @@ fault_told c m are u few held few_is held_is =
 has_men : (n : ℕ) → (n == 0) ≡ false → nat_lt 0 n ≡ true
 has_men n some = grind (arith, nat_tests)
 
-pub can_guard : (c : State) (u : Unit) → guard_fault c u ≡ None → (is_guarded_against c u.region u.faction ≡ false) × (nat_lt 0 u.holding.men ≡ true)
+pub can_guard : (c : CampaignValue) (u : Unit) → guard_fault c u ≡ None → (is_guarded_against c u.region u.faction ≡ false) × (nat_lt 0 u.holding.men ≡ true)
 can_guard c u none =
     let one = none_fits (u.holding.men == 0) NoMen ((is_guarded_against c u.region u.faction, Guarded) ∷ []) none in
     let two = none_fits (is_guarded_against c u.region u.faction) Guarded [] one.1 in
     (two.0, has_men u.holding.men one.0)
 
-module _ (c : State) (m : HolderMap) (n : ℕ) (u : Unit) (is : get c.units n ≡ Some u) (are : AreHolders c m) where
+module _ (c : CampaignValue) (m : HolderMap) (n : ℕ) (u : Unit) (is : get c.units n ≡ Some u) (are : AreHolders c m) where
   abbrev set_now : HolderMap
   set_now = insert m u.region u.faction
 
-  abbrev behind : State
+  abbrev behind : CampaignValue
   behind = flagged c n u is
 
   set_noted : is_guarded_against c u.region u.faction ≡ false → Every (λ k v. guards v ≡ true → get set_now v.region ≡ Some v.faction) behind.units

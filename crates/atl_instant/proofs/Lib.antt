@@ -1,5 +1,5 @@
 pub mod ListedLaws
-pub mod CourseLaws
+pub mod MonthLaws
 pub mod StandingLaws
 pub mod MappedLaws
 pub mod OrderLaws

@@ -6,37 +6,37 @@ use Rattle.atl_state.specs.Covers.{MarksChanges}
 use Rattle.atl_state.specs.declared.records.Unit.{Unit}
 use Rattle.atl_state.specs.Marking.{handed_marked, place_marked, place_marked_at, put_marked}
 use Rattle.atl_state.specs.Owners.{heir, with_place}
-use Rattle.atl_state.specs.State.{Marked}
+use Rattle.atl_state.specs.Campaign.{MarkedCampaign}
 use Rattle.atl_state.proofs.CoverLaws.{marks-refl, marks-trans}
 use Rattle.atl_state.proofs.HoldingLaws.{marks-unit_row}
 use Rattle.atl_state.proofs.LeavingLaws.{marks-handed}
 use Rattle.atl_state.proofs.OwnerLaws.{place-what}
 
 -- by what a call leaves, and what it marks
-pub marks_by : (a b m : Marked) → b.what ≡ m.what → b.marks ≡ m.marks → MarksChanges a m → MarksChanges a b
+pub marks_by : (a b m : MarkedCampaign) → b.value ≡ m.value → b.marks ≡ m.marks → MarksChanges a m → MarksChanges a b
 marks_by a b m what marks h = rw (what, marks) (record { stay = h.stay; covers = h.covers })
 
 -- a campaign that stays as it is
-pub marks_same : (a b : Marked) → b ≡ a → MarksChanges a b
+pub marks_same : (a b : MarkedCampaign) → b ≡ a → MarksChanges a b
 marks_same a b is = rw is (marks-refl a)
 
 -- a unit in another place
-marks_place_at : (c : Marked) (n r s : ℕ) (o : Option Unit) → MarksChanges c (place_marked_at c n r s o)
+marks_place_at : (c : MarkedCampaign) (n r s : ℕ) (o : Option Unit) → MarksChanges c (place_marked_at c n r s o)
 marks_place_at c n r s None = marks-refl c
 marks_place_at c n r s (Some u) = by_test (u.structure == s)
   where
     one_put : MarksChanges c (put_marked c n r s)
     one_put = marks-unit_row (λ x. record x { region = r; structure = s }) (λ x. refl) c n
 
-    by_test : (b : Bool) → MarksChanges c (if b then put_marked c n r s else handed_marked (handed_marked (put_marked c n r s) u.structure n (heir c.what u.structure n)) s 0 n)
+    by_test : (b : Bool) → MarksChanges c (if b then put_marked c n r s else handed_marked (handed_marked (put_marked c n r s) u.structure n (heir c.value u.structure n)) s 0 n)
     by_test true = one_put
     by_test false =
-        let next = handed_marked (put_marked c n r s) u.structure n (heir c.what u.structure n) in
-        marks-trans c next (handed_marked next s 0 n) (marks-trans c (put_marked c n r s) next one_put (marks-handed (put_marked c n r s) u.structure n (heir c.what u.structure n))) (marks-handed next s 0 n)
+        let next = handed_marked (put_marked c n r s) u.structure n (heir c.value u.structure n) in
+        marks-trans c next (handed_marked next s 0 n) (marks-trans c (put_marked c n r s) next one_put (marks-handed (put_marked c n r s) u.structure n (heir c.value u.structure n))) (marks-handed next s 0 n)
 
-pub marks-place : (c d : Marked) (n r s : ℕ) → d.what ≡ with_place c.what n r s → d.marks ≡ (place_marked c n r s).marks → MarksChanges c d
+pub marks-place : (c d : MarkedCampaign) (n r s : ℕ) → d.value ≡ with_place c.value n r s → d.marks ≡ (place_marked c n r s).marks → MarksChanges c d
 unfolding place_marked
-marks-place c d n r s what marks = marks_by c d (place_marked c n r s) (what ∙ sym (place-what c n r s)) marks (marks_place_at c n r s (get c.what.units n))
+marks-place c d n r s what marks = marks_by c d (place_marked c n r s) (what ∙ sym (place-what c n r s)) marks (marks_place_at c n r s (get c.value.units n))
 
 -- what two clauses say of an answer together
 pub on_ok_both : {A E : Type 0} {P Q R : Type 0} (r : Result A E) → (P → Q → R) → OnOk r P → OnOk r Q → OnOk r R

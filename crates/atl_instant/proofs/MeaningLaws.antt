@@ -3,13 +3,13 @@ use Rattle.std.proofs.Common.{◌≡◌, ℕ, ◌+◌, ◌*◌, ◌≤◌, List,
 use Rattle.std.specs.Prelude.{ℤ, fold}
 use Rattle.std.proofs.lemmas.Int.{ints}
 use Rattle.std.proofs.Math.Nat.{suc-mul}
-use Rattle.atl_tables.specs.Planet.{Planet}
-use Rattle.atl_state.specs.State.{State}
+use Rattle.atl_tables.specs.Worlds.{WorldValue}
+use Rattle.atl_state.specs.Campaign.{CampaignValue}
 use Rattle.atl_state.specs.declared.books.Entry.{Entry}
 use Rattle.atl_state.specs.declared.books.Thing.{Thing}
 use Rattle.atl_state.specs.Books.{IsWithin, amount_in}
 use Rattle.atl_state.specs.Good.{IsSound, amount_bound}
-use Rattle.atl_instant.specs.Course.{Course}
+use Rattle.atl_instant.specs.Month.{MonthValue}
 use Rattle.atl_instant.specs.Meaning.{Condition, HasRoom, HaveRoom, IsNear, IsSameMonth, Keeping, LeavesWell, Meaning, Moving, both_keep, both_move, moved_times}
 
 pub near_twice : (j k : ℕ) (a b c : ℤ) → IsNear j a b → IsNear k b c → IsNear (j + k) a c
@@ -32,11 +32,11 @@ abbrev pub MovesLess : Moving → Moving → Type 0
 MovesLess less more = (e : Entry) (t : Thing) → less e t ≤ more e t
 
 -- room for more is room for less
-pub room_less : (j k : Moving) (c : State) → MovesLess j k → HaveRoom k c → HaveRoom j c
+pub room_less : (j k : Moving) (c : CampaignValue) → MovesLess j k → HaveRoom k c → HaveRoom j c
 room_less j k c l room e t = less_room (j e t) (k e t) (amount_in c.books e t) (l e t) (room e t)
 
 -- a sound campaign has room for a month
-pub room_when_sound : (w : Planet) (c : State) (moving : Moving) → MovesLess moving (λ e t. 5000000000000000000) → IsSound w c → HaveRoom moving c
+pub room_when_sound : (w : WorldValue) (c : CampaignValue) (moving : Moving) → MovesLess moving (λ e t. 5000000000000000000) → IsSound w c → HaveRoom moving c
 room_when_sound w c moving l sound e t =
     let few : amount_bound c ≤ 3000000000000000000 = omega (arith, sound.steady.numbers.month, sound.steady.numbers.few_factions) in
     within (amount_in c.books e t) (amount_bound c) (moving e t) few (l e t) (sound.amounts e t)
@@ -45,13 +45,13 @@ room_when_sound w c moving l sound e t =
     within a bound change few little h = record { above = omega (arith, ints, h.most); below = omega (arith, ints, h.least) }
 
 -- behind one step there is room for the next
-pub room_behind : {leaves : Condition} (j k : Moving) (w : Planet) (c d : State) → LeavesWell leaves j w c d → HaveRoom (both_move j k) c → HaveRoom k d
+pub room_behind : {leaves : Condition} (j k : Moving) (w : WorldValue) (c d : CampaignValue) → LeavesWell leaves j w c d → HaveRoom (both_move j k) c → HaveRoom k d
 room_behind j k w c d well room e t = near_room (j e t) (k e t) (amount_in c.books e t) (amount_in d.books e t) (well.near e t) (room e t)
 
-pub same_month : (c : State) → IsSameMonth c c
+pub same_month : (c : CampaignValue) → IsSameMonth c c
 same_month c = record { month = refl; reports = refl; count = refl; factions = λ n there. there }
 
-same_month_twice : (a b c : State) → IsSameMonth a b → IsSameMonth b c → IsSameMonth a c
+same_month_twice : (a b c : CampaignValue) → IsSameMonth a b → IsSameMonth b c → IsSameMonth a c
 same_month_twice a b c one two = record {
   month = two.month ∙ one.month;
   reports = two.reports ∙ one.reports;
@@ -59,7 +59,7 @@ same_month_twice a b c one two = record {
   factions = λ n there. one.factions n (two.factions n there);
 }
 
-pub both_leave_well : {between leaves : Condition} (j k : Moving) (w : Planet) (a b c : State) → LeavesWell between j w a b → LeavesWell leaves k w b c → LeavesWell leaves (both_move j k) w a c
+pub both_leave_well : {between leaves : Condition} (j k : Moving) (w : WorldValue) (a b c : CampaignValue) → LeavesWell between j w a b → LeavesWell leaves k w b c → LeavesWell leaves (both_move j k) w a c
 both_leave_well j k w a b c one two = record {
   leaves_it = two.leaves_it;
   same_month = same_month_twice a b c one.same_month two.same_month;
@@ -68,22 +68,22 @@ both_leave_well j k w a b c one two = record {
 }
 
 -- what two phases keep, by what the first one makes
-pub both_keep_well : (first : Meaning) (early late : Keeping) (w : Planet) (m n : Course) (a b c : State)
+pub both_keep_well : (first : Meaning) (early late : Keeping) (w : WorldValue) (m n : MonthValue) (a b c : CampaignValue)
     → (b, n) ≡ first w a m → early w m a b → late w n b c → both_keep first early late w m a c
 both_keep_well first early late w m n a b c is one two = rw (sym is) (one, two)
 
-pub well_within : {leaves : Condition} (j k : Moving) (w : Planet) (a b : State) → MovesLess j k → LeavesWell leaves j w a b → LeavesWell leaves k w a b
+pub well_within : {leaves : Condition} (j k : Moving) (w : WorldValue) (a b : CampaignValue) → MovesLess j k → LeavesWell leaves j w a b → LeavesWell leaves k w a b
 well_within j k w a b l h = record { leaves_it = h.leaves_it; same_month = h.same_month; balances = h.balances; near = λ e t. near_more (j e t) (k e t) (amount_in a.books e t) (amount_in b.books e t) (l e t) (h.near e t) }
 
-pub well_unchanged : {leaves : Condition} (moving : Moving) (w : Planet) (c : State) → leaves w c → LeavesWell leaves moving w c c
+pub well_unchanged : {leaves : Condition} (moving : Moving) (w : WorldValue) (c : CampaignValue) → leaves w c → LeavesWell leaves moving w c c
 well_unchanged moving w c h = record { leaves_it = h; same_month = same_month c; balances = λ b. b; near = λ e t. near_same (moving e t) (amount_in c.books e t) }
 
 -- so does a fold of steps each of which does
-module _ {A : Type 0} {leaves : Condition} (moving : Moving) (w : Planet) (step : State → A → State) (each : (c : State) (x : A) → leaves w c → LeavesWell leaves moving w c (step c x)) where
+module _ {A : Type 0} {leaves : Condition} (moving : Moving) (w : WorldValue) (step : CampaignValue → A → CampaignValue) (each : (c : CampaignValue) (x : A) → leaves w c → LeavesWell leaves moving w c (step c x)) where
   more : {B : Type 0} (x : B) (xs : List B) → MovesLess (both_move moving (moved_times (length xs) moving)) (moved_times (length (x ∷ xs)) moving)
   more x xs e t = let one : length (x ∷ xs) * moving e t ≡ length xs * moving e t + moving e t = suc-mul (length xs) (moving e t) in omega arith
 
-  pub fold_leaves_well : (c : State) (xs : List A) → leaves w c → LeavesWell leaves (moved_times (length xs) moving) w c (fold step c xs)
+  pub fold_leaves_well : (c : CampaignValue) (xs : List A) → leaves w c → LeavesWell leaves (moved_times (length xs) moving) w c (fold step c xs)
   fold_leaves_well c [] h = well_unchanged (moved_times 0 moving) w c h
   fold_leaves_well c (x ∷ xs) h =
       let one = each c x h in
@@ -91,10 +91,10 @@ module _ {A : Type 0} {leaves : Condition} (moving : Moving) (w : Planet) (step 
       (both_leave_well moving (moved_times (length xs) moving) w c (step c x) (fold step (step c x) xs) one (fold_leaves_well (step c x) xs one.leaves_it))
 
   -- room for all steps is room for the first, and behind it for the others
-  pub room_for_one : {B : Type 0} (c : State) (y : B) (ys : List B) → HaveRoom (moved_times (length (y ∷ ys)) moving) c → HaveRoom moving c
+  pub room_for_one : {B : Type 0} (c : CampaignValue) (y : B) (ys : List B) → HaveRoom (moved_times (length (y ∷ ys)) moving) c → HaveRoom moving c
   room_for_one c y ys room = room_less moving (moved_times (length (y ∷ ys)) moving) c (λ e t. omega (arith, more y ys e t)) room
 
-  pub room_behind_one : {B : Type 0} (c : State) (x : A) (y : B) (ys : List B) → leaves w c → HaveRoom (moved_times (length (y ∷ ys)) moving) c → HaveRoom (moved_times (length ys) moving) (step c x)
+  pub room_behind_one : {B : Type 0} (c : CampaignValue) (x : A) (y : B) (ys : List B) → leaves w c → HaveRoom (moved_times (length (y ∷ ys)) moving) c → HaveRoom (moved_times (length ys) moving) (step c x)
   room_behind_one c x y ys h room =
       room_behind moving (moved_times (length ys) moving) w c (step c x) (each c x h)
       (room_less (both_move moving (moved_times (length ys) moving)) (moved_times (length (y ∷ ys)) moving) c (more y ys) room)

@@ -3,7 +3,7 @@ use Rattle.std.proofs.Common.{◌≡◌, ◌≢◌, ℕ, ◌+◌, true, Some, re
 use Rattle.std.specs.Prelude.{pos}
 use Rattle.std.proofs.lemmas.Bool.{cases_eq}
 use Rattle.std.specs.FinMap.{get}
-use Rattle.atl_tables.specs.Planet.{Planet}
+use Rattle.atl_tables.specs.Worlds.{WorldValue}
 use Rattle.atl_state.specs.Covers.{MarksChanges}
 use Rattle.atl_state.specs.declared.books.Thing.{Thing}
 use Rattle.atl_state.specs.declared.records.Unit.{Unit}
@@ -12,7 +12,7 @@ use Rattle.atl_state.specs.Good.{IsEarly}
 use Rattle.atl_state.specs.Held.{Held}
 use Rattle.atl_state.specs.Lending.{lent, with_held}
 use Rattle.atl_state.specs.Marking.{mark_unit_row}
-use Rattle.atl_state.specs.State.{Marked, State, with_money}
+use Rattle.atl_state.specs.Campaign.{MarkedCampaign, CampaignValue, with_money}
 use Rattle.atl_state.specs.Totals.{held, total}
 use Rattle.atl_state.proofs.EveryLaws.{get-insert_other}
 use Rattle.atl_state.proofs.HoldingLaws.{marks-lent, marks-unit_row, total-held}
@@ -25,17 +25,17 @@ use Rattle.atl_instant.proofs.StepLaws.{drawn_same}
 
 -- ---- two units, of which one gives and the other gets
 
-module _ (c : State) (from to : ℕ) (u v : Unit) (h k : Held) (giver : get c.units from ≡ Some u) (receiver : get c.units to ≡ Some v) (apart : to ≢ from) where
-  abbrev between : State
+module _ (c : CampaignValue) (from to : ℕ) (u v : Unit) (h k : Held) (giver : get c.units from ≡ Some u) (receiver : get c.units to ≡ Some v) (apart : to ≢ from) where
+  abbrev between : CampaignValue
   between = with_held c from h (Some u)
 
-  abbrev pub moved : State
+  abbrev pub moved : CampaignValue
   moved = with_held between to k (Some v)
 
   pub receiver_still : get between.units to ≡ Some v
   receiver_still = get-insert_other c.units from to (record u { holding = h }) apart ∙ receiver
 
-  pub early-moved : (w : Planet) → MayHave w h → (h.guard ≡ true → u.holding.guard ≡ true) → MayHave w k → (k.guard ≡ true → v.holding.guard ≡ true) → IsEarly w c → IsEarly w moved
+  pub early-moved : (w : WorldValue) → MayHave w h → (h.guard ≡ true → u.holding.guard ≡ true) → MayHave w k → (k.guard ≡ true → v.holding.guard ≡ true) → IsEarly w c → IsEarly w moved
   early-moved w less less_flag more more_flag early =
       early-having w between to v k receiver_still more more_flag (early-having w c from u h giver less less_flag early)
 
@@ -43,14 +43,14 @@ module _ (c : State) (from to : ℕ) (u v : Unit) (h k : Held) (giver : get c.un
   abbrev pub BothHold : Type 0
   BothHold = (t : Thing) → held t h + held t k ≡ held t u.holding + held t v.holding
 
-  pub total-moved : Planet → BothHold → (t : Thing) → total moved t ≡ total c t
+  pub total-moved : WorldValue → BothHold → (t : Thing) → total moved t ≡ total c t
   total-moved w both t =
       sum (total moved t) (total between t) (total c t) (held t u.holding) (held t v.holding) (held t h) (held t k) (total-held w between to v k receiver_still t) (total-held w c from u h giver t) (both t)
     where
       sum : (a b x p q r s : ℕ) → a + q ≡ b + s → b + p ≡ x + r → r + s ≡ p + q → a ≡ x
       sum a b x p q r s e f g = omega arith
 
-  pub steps-moved : (w : Planet) → IsEarly w moved → BothHold → StepsWell IsEarly (λ d e t. 0) w c moved
+  pub steps-moved : (w : WorldValue) → IsEarly w moved → BothHold → StepsWell IsEarly (λ d e t. 0) w c moved
   steps-moved w early both = record {
     holds_still = early;
     same_month = record { month = refl; reports = refl; count = refl; factions = λ n there. there };
@@ -71,13 +71,13 @@ module _ (c : State) (from to : ℕ) (u v : Unit) (h k : Held) (giver : get c.un
 
 -- ---- what is marked
 
-pub money_marks : (c d : Marked) (n money : ℕ) → d.what ≡ with_money c.what n money → d.marks ≡ mark_unit_row c n → MarksChanges c d
+pub money_marks : (c d : MarkedCampaign) (n money : ℕ) → d.value ≡ with_money c.value n money → d.marks ≡ mark_unit_row c n → MarksChanges c d
 money_marks c d n money what marks =
     let all = marks-unit_row (λ u. record u { holding = record u.holding { money = money } }) (λ u. refl) c n in
     rw (what, marks) (record { stay = all.stay; covers = all.covers })
 
-pub lent_marks : (c d : Marked) (n : ℕ) (h : Held) → d ≡ lent c n h → MarksChanges c d
+pub lent_marks : (c d : MarkedCampaign) (n : ℕ) (h : Held) → d ≡ lent c n h → MarksChanges c d
 lent_marks c d n h is = subst (MarksChanges c) (sym is) (marks-lent c n h)
 
-pub lent_what : (c d : Marked) (n : ℕ) (u : Unit) (h : Held) → get c.what.units n ≡ Some u → d ≡ lent c n h → d.what ≡ with_held c.what n h (Some u)
-lent_what c d n u h is e = ap (λ (m : Marked). m.what) e ∙ ap (with_held c.what n h) is
+pub lent_what : (c d : MarkedCampaign) (n : ℕ) (u : Unit) (h : Held) → get c.value.units n ≡ Some u → d ≡ lent c n h → d.value ≡ with_held c.value n h (Some u)
+lent_what c d n u h is e = ap (λ (m : MarkedCampaign). m.value) e ∙ ap (with_held c.value n h) is

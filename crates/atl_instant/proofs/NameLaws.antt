@@ -3,7 +3,7 @@ use Rattle.std.proofs.Common.{◌≡◌, ◌≢◌, ◌==◌, ℕ, ◌+◌, Bool
 use Rattle.std.specs.Prelude.{IfSome, IsTrue, if◌then◌else◌}
 use Rattle.std.specs.FinMap.{get, insert}
 use Rattle.atl_tables.specs.Names.{name_ok}
-use Rattle.atl_tables.specs.Planet.{Planet}
+use Rattle.atl_tables.specs.Worlds.{WorldValue}
 use Rattle.atl_orders.specs.declared.order.NameKind.{NameKind}
 use Rattle.atl_orders.specs.declared.order.NameKind.TheVariants as kinds
 use Rattle.atl_orders.specs.declared.order.Order.{Order}
@@ -19,7 +19,7 @@ use Rattle.atl_state.specs.declared.records.Structure.{Structure}
 use Rattle.atl_state.specs.declared.records.Unit.{Unit}
 use Rattle.atl_state.specs.Good.{IsEarly, IsOwned, guards}
 use Rattle.atl_state.specs.Held.{Held}
-use Rattle.atl_state.specs.State.{State, with_faction_name, with_guard, with_structure_name, with_unit_name}
+use Rattle.atl_state.specs.Campaign.{CampaignValue, with_faction_name, with_guard, with_structure_name, with_unit_name}
 use Rattle.atl_state.specs.Totals.{held, total}
 use Rattle.atl_state.proofs.HoldingLaws.{MayHold, of_one_faction_kept, steady-held, total-held}
 use Rattle.atl_state.proofs.RegionLaws.{changed-known}
@@ -37,18 +37,18 @@ use Rattle.atl_instant.proofs.StepLaws.{no_worse_spares, well_same}
 use Rattle.atl_instant.proofs.UnbookedLaws.{other_spared, same_total_of, unbooked_well}
 
 -- an order that is none of the phase is passed over
-pub name_other : (w : Planet) (n : ℕ) (text : List ℕ) (o : Order Span) → ((what : NameKind) (span : Span) → o ≡ orders.Name what span → ⊥) → (o ≡ orders.Guard false → ⊥) → name_said w n (said text o) ≡ None
+pub name_other : (w : WorldValue) (n : ℕ) (text : List ℕ) (o : Order Span) → ((what : NameKind) (span : Span) → o ≡ orders.Name what span → ⊥) → (o ≡ orders.Guard false → ⊥) → name_said w n (said text o) ≡ None
 name_other w n text (orders.Name what span) a b = absurd (a what span refl)
 name_other w n text (orders.Guard false) a b = absurd (b refl)
 name_other w n text other a b = refl
 
-module _ (w : Planet) (c : State) (n : ℕ) (u : Unit) (is : get c.units n ≡ Some u) (early : IsEarly w c) where
-  abbrev Well : State → Type 0
+module _ (w : WorldValue) (c : CampaignValue) (n : ℕ) (u : Unit) (is : get c.units n ≡ Some u) (early : IsEarly w c) where
+  abbrev Well : CampaignValue → Type 0
   Well d = StepsWell IsEarly books_nothing w c d
 
   -- ---- the unit's name and its flag
 
-  abbrev with_hold : Held → State
+  abbrev with_hold : Held → CampaignValue
   with_hold h = record c { units = insert c.units n (record u { holding = h }) }
 
   same_total : (a b h : ℕ) → a + h ≡ b + h → a ≡ b
@@ -144,8 +144,8 @@ module _ (w : Planet) (c : State) (n : ℕ) (u : Unit) (is : get c.units n ≡ S
 
 -- ---- other units stay
 
-module _ (w : Planet) (c : State) (n : ℕ) (u : Unit) (k : ℕ) (apart : k ≢ n) where
-  abbrev Stays : State → Type 0
+module _ (w : WorldValue) (c : CampaignValue) (n : ℕ) (u : Unit) (k : ℕ) (apart : k ≢ n) where
+  abbrev Stays : CampaignValue → Type 0
   Stays d = get d.units k ≡ get c.units k
 
   structure_stays : (j : ℕ) (ship : Bool) (name : List ℕ) → Stays (structure_named w c n j ship name).0
@@ -174,7 +174,7 @@ name_orderly = record {
   bounded = λ w c early e t. omega arith;
 }
   where
-    spared : (w : Planet) (c : State) (t : Task) (x : Unit) → IsUnitOf c t x → (k : ℕ) (v : Unit) → get c.units k ≡ Some v → (o : Said) → (o ≢ orders.Guard true → IsOwnOrder t k v.faction → ⊥)
+    spared : (w : WorldValue) (c : CampaignValue) (t : Task) (x : Unit) → IsUnitOf c t x → (k : ℕ) (v : Unit) → get c.units k ≡ Some v → (o : Said) → (o ≢ orders.Guard true → IsOwnOrder t k v.faction → ⊥)
         → IfSome (name_said w t.unit o) (λ deed. IsSpared IsNoWorse (deed c x).0 k v)
     spared w c t x own k v there (orders.Name what name) apart = other_spared c _ t x (λ j other. order_stays w c t.unit x j other (orders.Name what name)) own k v there (apart (λ same. cc))
     spared w c t x own k v there (orders.Guard false) apart = other_spared c _ t x (λ j other. order_stays w c t.unit x j other (orders.Guard false)) own k v there (apart (λ same. cc))

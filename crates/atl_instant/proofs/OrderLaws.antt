@@ -20,13 +20,13 @@ use Rattle.atl_state.proofs.BackLaws.{append_apart, append_each}
 use Rattle.atl_instant.specs.declared.written.Arrangement.{Arrangement}
 use Rattle.atl_instant.specs.declared.written.Arrangement.TheVariants.{ByUnit, ByFaction}
 use Rattle.atl_instant.specs.declared.written.Written.{Written}
-use Rattle.atl_instant.specs.Course.{Aliases, by_faction}
+use Rattle.atl_instant.specs.Month.{Aliases, by_faction}
 use Rattle.atl_instant.specs.PhaseOrders.{Task, tasks_from, tasks_of, tasks_for, key_of, orders_of}
 use Rattle.atl_instant.specs.Collecting.{AreByFaction, all_tasks, key_by}
 use Rattle.atl_instant.specs.PhaseOrders.{written}
 use Rattle.atl_instant.proofs.ListedLaws.{entries-sorted, keyed_order}
 use Rattle.atl_instant.proofs.MappedLaws.{with_value, entries-with_value}
-use Rattle.atl_instant.proofs.CourseLaws.{by_its_faction, factions_read, keys_of-factions}
+use Rattle.atl_instant.proofs.MonthLaws.{by_its_faction, factions_read, keys_of-factions}
 
 -- ---- keys that differ
 

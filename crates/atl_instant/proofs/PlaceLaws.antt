@@ -4,7 +4,7 @@ use Rattle.std.proofs.lemmas.Bool.{true≢false}
 use Rattle.std.specs.Prelude.{IfSome, if◌then◌else◌}
 use Rattle.std.specs.Option.{option_map_or}
 use Rattle.std.specs.FinMap.{get}
-use Rattle.atl_tables.specs.Planet.{Planet}
+use Rattle.atl_tables.specs.Worlds.{WorldValue}
 use Rattle.atl_tables.specs.ByNumber.{is_land_at}
 use Rattle.atl_tables.proofs.GeneralLaws.{is_equal, is_unequal}
 use Rattle.atl_orders.specs.declared.order.Order.{Order}
@@ -19,9 +19,9 @@ use Rattle.atl_state.specs.declared.records.Structure.{Structure}
 use Rattle.atl_state.specs.declared.records.Unit.{Unit}
 use Rattle.atl_state.specs.Good.{IsEarly, IsOwned}
 use Rattle.atl_state.specs.Owners.{is_owned_by, with_place}
-use Rattle.atl_state.specs.State.{State, with_owner}
+use Rattle.atl_state.specs.Campaign.{CampaignValue, with_owner}
 use Rattle.atl_state.proofs.LeavingLaws.{owned_by}
-use Rattle.atl_instant.specs.Course.{Aliases}
+use Rattle.atl_instant.specs.Month.{Aliases}
 use Rattle.atl_instant.specs.Inside.{inside}
 use Rattle.atl_instant.specs.Outcomes.{first_fault, unless}
 use Rattle.atl_instant.specs.Place.{entered, entered_other, is_in, left, leave_fault, enter_fault, place_said, place_step, promote_fault, promoted}
@@ -36,15 +36,15 @@ use Rattle.atl_instant.proofs.StepLaws.{no_worse_spares, well_same}
 use Rattle.atl_instant.proofs.UnbookedLaws.{same_total_of, stays_spared, unbooked_well}
 
 -- an order that is none of the phase is passed over
-pub place_other : (w : Planet) (a : Aliases) (f n : ℕ) (text : List ℕ) (o : Order Span) → (o ≡ orders.Leave → ⊥) → ((s : ℕ) → o ≡ orders.Enter s → ⊥) → ((to : UnitRef) → o ≡ orders.Promote to → ⊥)
+pub place_other : (w : WorldValue) (a : Aliases) (f n : ℕ) (text : List ℕ) (o : Order Span) → (o ≡ orders.Leave → ⊥) → ((s : ℕ) → o ≡ orders.Enter s → ⊥) → ((to : UnitRef) → o ≡ orders.Promote to → ⊥)
     → place_said w a f n (said text o) ≡ None
 place_other w a f n text orders.Leave l b d = absurd (l refl)
 place_other w a f n text (orders.Enter s) l b d = absurd (b s refl)
 place_other w a f n text (orders.Promote to) l b d = absurd (d to refl)
 place_other w a f n text other l b d = refl
 
-module _ (w : Planet) (c : State) (n : ℕ) (u : Unit) (is : get c.units n ≡ Some u) (early : IsEarly w c) where
-  abbrev Well : State → Type 0
+module _ (w : WorldValue) (c : CampaignValue) (n : ℕ) (u : Unit) (is : get c.units n ≡ Some u) (early : IsEarly w c) where
+  abbrev Well : CampaignValue → Type 0
   Well d = StepsWell IsEarly books_nothing w c d
 
   unchanged : Well c
@@ -133,11 +133,11 @@ module _ (w : Planet) (c : State) (n : ℕ) (u : Unit) (is : get c.units n ≡ S
 
 -- ---- other units stay
 
-module _ (w : Planet) (a : Aliases) (c : State) (f n : ℕ) (u : Unit) (k : ℕ) (apart : k ≢ n) where
-  abbrev Stays : State → Type 0
+module _ (w : WorldValue) (a : Aliases) (c : CampaignValue) (f n : ℕ) (u : Unit) (k : ℕ) (apart : k ≢ n) where
+  abbrev Stays : CampaignValue → Type 0
   Stays d = get d.units k ≡ get c.units k
 
-  unless_stays : (o : Option EventFault) (d : State) → Stays d → Stays (unless c o (d, Done 0)).0
+  unless_stays : (o : Option EventFault) (d : CampaignValue) → Stays d → Stays (unless c o (d, Done 0)).0
   unless_stays (Some fault) d stay = refl
   unless_stays None d stay = stay
 

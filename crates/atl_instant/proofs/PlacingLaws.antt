@@ -3,7 +3,7 @@ use Rattle.std.proofs.Common.{◌≡◌, ◌≢◌, ◌==◌, ◌&&◌, ℕ, ◌
 use Rattle.std.proofs.lemmas.Bool.{not-true, not-false, true≢false}
 use Rattle.std.specs.Prelude.{option_map, if◌then◌else◌}
 use Rattle.std.specs.FinMap.{get}
-use Rattle.atl_tables.specs.Planet.{Planet}
+use Rattle.atl_tables.specs.Worlds.{WorldValue}
 use Rattle.atl_tables.specs.ByNumber.{is_land_at}
 use Rattle.atl_tables.proofs.GeneralLaws.{is_equal, is_unequal}
 use Rattle.atl_state.specs.declared.records.Structure.{Structure}
@@ -11,7 +11,7 @@ use Rattle.atl_state.specs.declared.records.Unit.{Unit}
 use Rattle.atl_state.specs.Good.{Every, IsEarly, IsOwned, IsSteady, is_ship}
 use Rattle.atl_state.specs.declared.books.Thing.{Thing}
 use Rattle.atl_state.specs.Owners.{handed, heir, is_owned_by, placed, with_place, with_place_at}
-use Rattle.atl_state.specs.State.{State, numbers_inside, with_owner}
+use Rattle.atl_state.specs.Campaign.{CampaignValue, numbers_inside, with_owner}
 use Rattle.atl_state.specs.Totals.{total}
 use Rattle.atl_state.proofs.EveryLaws.{every-insert, get-insert_other}
 use Rattle.atl_state.proofs.InsideLaws.{inside_is_listed, is_no_zero, listed_is_inside}
@@ -37,7 +37,7 @@ relabelled_twice : (x y z : Structure) → IsRelabelled x y → IsRelabelled y z
 relabelled_twice x y z one two = record { kind = two.kind ∙ one.kind; region = two.region ∙ one.region; done = two.done ∙ one.done; name = λ old. two.name (one.name old) }
 
 -- a unit owns no structure but the one that it is inside
-pub owns_no_other : (w : Planet) (c : State) (n : ℕ) (u : Unit) → get c.units n ≡ Some u → IsSteady w c → (q : ℕ) (y : Structure) → get c.structures q ≡ Some y → q ≢ u.structure → y.owner ≢ n
+pub owns_no_other : (w : WorldValue) (c : CampaignValue) (n : ℕ) (u : Unit) → get c.units n ≡ Some u → IsSteady w c → (q : ℕ) (y : Structure) → get c.structures q ≡ Some y → q ≢ u.structure → y.owner ≢ n
 owns_no_other w c n u is steady q y there other own =
     let least = (steady.numbers.units n u is).0 in
     let (v, here, inside) = (steady.owners q y there).owned (λ none. absurd (omega (arith, own, none, least))) in
@@ -45,7 +45,7 @@ owns_no_other w c n u is steady q y there other own =
     let unit : v ≡ u = cc in
     other (sym inside ∙ ap (λ (x : Unit). x.structure) unit)
 
-module _ (w : Planet) (c : State) (n : ℕ) (u : Unit) (s : ℕ) (is : get c.units n ≡ Some u) (steady : IsSteady w c) (apart : u.structure ≢ s) where
+module _ (w : WorldValue) (c : CampaignValue) (n : ℕ) (u : Unit) (s : ℕ) (is : get c.units n ≡ Some u) (steady : IsSteady w c) (apart : u.structure ≢ s) where
   abbrev old_place : ℕ
   old_place = u.structure
 
@@ -55,20 +55,20 @@ module _ (w : Planet) (c : State) (n : ℕ) (u : Unit) (s : ℕ) (is : get c.uni
   abbrev moved : Unit
   moved = record u { structure = s }
 
-  abbrev begun : State
+  abbrev begun : CampaignValue
   begun = placed c n u.region s
 
-  abbrev gone_out : State
+  abbrev gone_out : CampaignValue
   gone_out = handed begun old_place n next
 
-  abbrev gone_in : State
+  abbrev gone_in : CampaignValue
   gone_in = handed gone_out s 0 n
 
   abbrev owner_behind : ℕ → Structure → Structure
   owner_behind q y = handed_on s 0 n q (handed_on old_place n next q y)
 
   -- the campaign behind it
-  abbrev pub behind : State
+  abbrev pub behind : CampaignValue
   behind = refitted w c n u s is gone_in.structures owner_behind
 
   placed_is : with_place c n u.region s ≡ gone_in
@@ -77,7 +77,7 @@ module _ (w : Planet) (c : State) (n : ℕ) (u : Unit) (s : ℕ) (is : get c.uni
 
   behind_is : gone_in ≡ behind
   behind_is =
-      handed_is gone_out s 0 n ∙ ap (λ (d : State). record d { structures = gone_in.structures }) (handed_is begun old_place n next)
+      handed_is gone_out s 0 n ∙ ap (λ (d : CampaignValue). record d { structures = gone_in.structures }) (handed_is begun old_place n next)
       ∙ ap (λ m. record c { units = m; structures = gone_in.structures }) (changed-known (λ (x : Unit). record x { region = u.region; structure = s }) c.units n u is)
 
   pub place_is : with_place c n u.region s ≡ behind
@@ -165,7 +165,7 @@ module _ (w : Planet) (c : State) (n : ℕ) (u : Unit) (s : ℕ) (is : get c.uni
     pub placed_total : (t : Thing) → total behind t ≡ total c t
     placed_total = total-refitted w c n u s is gone_in.structures owner_behind
 
-module _ (w : Planet) (c : State) (n : ℕ) (u : Unit) (s : ℕ) (is : get c.units n ≡ Some u) (early : IsEarly w c) (apart : u.structure ≢ s) where
+module _ (w : WorldValue) (c : CampaignValue) (n : ℕ) (u : Unit) (s : ℕ) (is : get c.units n ≡ Some u) (early : IsEarly w c) (apart : u.structure ≢ s) where
   pub place_well : (s ≢ 0 → (x : Structure) × (get c.structures s ≡ Some x) × (x.region ≡ u.region)) → (is_land_at w u.region ≡ false → (x : Structure) × (get c.structures s ≡ Some x) × (is_ship w x ≡ true)) → StepsWell IsEarly books_nothing w c (with_place c n u.region s)
   place_well inside afloat =
       let steady = early.steady in
@@ -175,14 +175,14 @@ module _ (w : Planet) (c : State) (n : ℕ) (u : Unit) (s : ℕ) (is : get c.uni
 
 -- ---- other units stay
 
-handed_units : (c : State) (k from to : ℕ) → (handed c k from to).units ≡ c.units
+handed_units : (c : CampaignValue) (k from to : ℕ) → (handed c k from to).units ≡ c.units
 handed_units c k from to = by_test (is_owned_by (get c.structures k) from)
   where
     by_test : (b : Bool) → (if b then with_owner c k to else c).units ≡ c.units
     by_test true = refl
     by_test false = refl
 
-pub place_stays : (c : State) (n r s k : ℕ) → k ≢ n → get (with_place c n r s).units k ≡ get c.units k
+pub place_stays : (c : CampaignValue) (n r s k : ℕ) → k ≢ n → get (with_place c n r s).units k ≡ get c.units k
 unfolding with_place
 place_stays c n r s k apart = by_unit (get c.units n)
   where

@@ -11,7 +11,7 @@ use Rattle.std.specs.declared.cmp.Ordering.TheVariants.{Less, Equal, Greater}
 use Rattle.std.specs.Ordering.{nat_cmp, is_eq}
 use Rattle.std.specs.Cmp.{ranked}
 use Rattle.std.specs.FinMap.{FinMap, entries, find, get, get-entries, is_sorted, len, len-entries, nat_cmp-IsAntisymmetric, remove}
-use Rattle.atl_tables.specs.Planet.{Planet}
+use Rattle.atl_tables.specs.Worlds.{WorldValue}
 use Rattle.atl_tables.specs.Sums.{sum_over}
 use Rattle.atl_orders.specs.declared.order.Order.TheVariants as orders
 use Rattle.atl_orders.specs.Orders.{Said}
@@ -34,7 +34,7 @@ use Rattle.atl_state.specs.Held.{Held, IsHolding}
 use Rattle.atl_state.specs.Limits.{entry_count, holding_limit, most_units}
 use Rattle.atl_state.specs.Marks.{amount_number}
 use Rattle.atl_state.specs.Owners.{heir, without_unit, without_unit_at}
-use Rattle.atl_state.specs.State.{Marked, State, numbers_of}
+use Rattle.atl_state.specs.Campaign.{MarkedCampaign, CampaignValue, numbers_of}
 use Rattle.atl_state.specs.Totals.{Balances, held, total}
 use Rattle.atl_state.proofs.BookLaws.{IsGrid-with_booked, booked-with_booked}
 use Rattle.atl_state.proofs.EveryEntryLaws.{entry_small}
@@ -179,24 +179,24 @@ moves_what_leaves h e s =
 
 -- ---- a campaign in which so much is booked as gone
 
-pub record BooksOff (w : Planet) (off : Thing → ℕ) (moving : Moving) (c d : State) : Type 0 where
+pub record BooksOff (w : WorldValue) (off : Thing → ℕ) (moving : Moving) (c d : CampaignValue) : Type 0 where
   pub steady : IsSteady w d
   pub owed : (s : Thing) → booked c.books s ≡ booked d.books s +ℤ pos (off s)
   pub near : (e : Entry) (s : Thing) → IsNear (moving e s) (amount_in c.books e s) (amount_in d.books e s)
   pub same : d ≡ record c { books = d.books }
 
-off_twice : {o p : Thing → ℕ} {i j : Moving} (w : Planet) (a b c : State) → BooksOff w o i a b → BooksOff w p j b c → BooksOff w (λ s. o s + p s) (both_move i j) a c
+off_twice : {o p : Thing → ℕ} {i j : Moving} (w : WorldValue) (a b c : CampaignValue) → BooksOff w o i a b → BooksOff w p j b c → BooksOff w (λ s. o s + p s) (both_move i j) a c
 off_twice {o} {p} {i} {j} w a b c one two = record {
   steady = two.steady;
   owed = λ s. grouped (booked a.books s) (booked b.books s) (booked c.books s) (o s) (p s) (one.owed s) (two.owed s);
   near = λ e s. near_twice (i e s) (j e s) (amount_in a.books e s) (amount_in b.books e s) (amount_in c.books e s) (one.near e s) (two.near e s);
-  same = two.same ∙ ap (λ (s : State). record s { books = c.books }) one.same;
+  same = two.same ∙ ap (λ (s : CampaignValue). record s { books = c.books }) one.same;
 }
   where
     grouped : (x y z : ℤ) (m n : ℕ) → x ≡ y +ℤ pos m → y ≡ z +ℤ pos n → x ≡ z +ℤ pos (m + n)
     grouped x y z m n e f = omega (arith, ints, e, f)
 
-pub off_one : (w : Planet) (c : State) (t : Thing) (amount : ℕ) → thing_place t < things_of w → IsSteady w c → BooksOff w (λ s. part_of s t amount) (moves_only amount (gone_under t) t) c (with_gone_amount c t amount)
+pub off_one : (w : WorldValue) (c : CampaignValue) (t : Thing) (amount : ℕ) → thing_place t < things_of w → IsSteady w c → BooksOff w (λ s. part_of s t amount) (moves_only amount (gone_under t) t) c (with_gone_amount c t amount)
 off_one w c t amount inside steady = record {
   steady = steady-amount w c (gone_under t) t (neg_ℤ (pos amount)) steady;
   owed = λ s.
@@ -210,7 +210,7 @@ off_one w c t amount inside steady = record {
     less z true a = omega (arith, ints)
     less z false a = omega (arith, ints)
 
-off_items : (w : Planet) (c : State) (es : List (ℕ × ℕ)) → EachOf (λ i a. i < length w.items) es → IsSteady w c → BooksOff w (owing_items es) (moving_items es) c (fold item_gone c es)
+off_items : (w : WorldValue) (c : CampaignValue) (es : List (ℕ × ℕ)) → EachOf (λ i a. i < length w.items) es → IsSteady w c → BooksOff w (owing_items es) (moving_items es) c (fold item_gone c es)
 off_items w c [] known steady = record {
   steady = steady;
   owed = λ s. plain (booked c.books s);
@@ -224,7 +224,7 @@ off_items w c ((i, a) ∷ es) known steady =
     let one = off_one w c (Item i) a (omega (arith, known.0)) steady in
     off_twice w c (item_gone c (i, a)) (fold item_gone (item_gone c (i, a)) es) one (off_items w (item_gone c (i, a)) es known.1 one.steady)
 
-pub off_all : (w : Planet) (c : State) (h : Held) → Every (λ i a. i < length w.items) h.items → IsSteady w c → BooksOff w (owing h) (held_moves h) c (booked_off c h)
+pub off_all : (w : WorldValue) (c : CampaignValue) (h : Held) → Every (λ i a. i < length w.items) h.items → IsSteady w c → BooksOff w (owing h) (held_moves h) c (booked_off c h)
 off_all w c h known steady =
     let men = with_gone_amount c People h.men in
     let money = with_gone_amount men Money h.money in
@@ -235,15 +235,15 @@ off_all w c h known steady =
 
 -- ---- what the code books, and marks
 
-pub gone_grid : (things : ℕ) (c : State) (t : Thing) (amount : ℕ) → IsGrid things c.books → IsGrid things (with_gone_amount c t amount).books
+pub gone_grid : (things : ℕ) (c : CampaignValue) (t : Thing) (amount : ℕ) → IsGrid things c.books → IsGrid things (with_gone_amount c t amount).books
 gone_grid things c t amount grid = IsGrid-with_booked things c.books (gone_under t) t (neg_ℤ (pos amount)) grid
 
-pub gone_marks : (things : ℕ) (c d : Marked) (t : Thing) (amount : ℕ) → IsGrid things c.what.books → thing_place t < things → d.what ≡ with_gone_amount c.what t amount → d.marks ≡ mark_amount c (gone_under t) t → MarksChanges c d
+pub gone_marks : (things : ℕ) (c d : MarkedCampaign) (t : Thing) (amount : ℕ) → IsGrid things c.value.books → thing_place t < things → d.value ≡ with_gone_amount c.value t amount → d.marks ≡ mark_amount c (gone_under t) t → MarksChanges c d
 gone_marks things c d t amount grid inside what marks =
     let all = marks-amount things c (gone_under t) t (neg_ℤ (pos amount)) grid inside in
     rw (what, marks) (record { stay = all.stay; covers = all.covers })
 
-pub first_room : (t : Thing) (amount : ℕ) (next : Moving) (c : State) → HaveRoom (both_move (moves_only amount (gone_under t) t) next) c → HasRoom amount (amount_in c.books (gone_under t) t)
+pub first_room : (t : Thing) (amount : ℕ) (next : Moving) (c : CampaignValue) → HaveRoom (both_move (moves_only amount (gone_under t) t) next) c → HasRoom amount (amount_in c.books (gone_under t) t)
 first_room t amount next c room =
     less_room amount (moves_only amount (gone_under t) t (gone_under t) t + next (gone_under t) t) (amount_in c.books (gone_under t) t)
     (at_least (amount_number (gone_under t) t == amount_number (gone_under t) t) (next (gone_under t) t) (same_number (amount_number (gone_under t) t))) (room (gone_under t) t)
@@ -252,30 +252,30 @@ first_room t amount next c room =
     at_least true m t = omega arith
     at_least false m t = cc
 
-pub rest_room : (things : ℕ) (t : Thing) (amount : ℕ) (next : Moving) (c : State) → IsGrid things c.books → thing_place t < things → HaveRoom (both_move (moves_only amount (gone_under t) t) next) c → HaveRoom next (with_gone_amount c t amount)
+pub rest_room : (things : ℕ) (t : Thing) (amount : ℕ) (next : Moving) (c : CampaignValue) → IsGrid things c.books → thing_place t < things → HaveRoom (both_move (moves_only amount (gone_under t) t) next) c → HaveRoom next (with_gone_amount c t amount)
 rest_room things t amount next c grid inside room = booked-room things c.books (gone_under t) t (neg_ℤ (pos amount)) amount grid inside (within-neg amount amount (omega arith)) next room
 
 -- there is room for the items ahead, while the code goes through them
-pub room_ahead : (xs : List (ℕ × ℕ)) (i : ℕ) (c : State) → i < length xs → HaveRoom (moving_items (drop i xs)) c
+pub room_ahead : (xs : List (ℕ × ℕ)) (i : ℕ) (c : CampaignValue) → i < length xs → HaveRoom (moving_items (drop i xs)) c
     → HaveRoom (moving_items (get_or xs i (0, 0) ∷ drop (i + 1) xs)) c
 room_ahead xs i c inside room = subst (λ l. HaveRoom (moving_items l) c) (drop_more xs i (0, 0) inside) room
 
 -- and for the next of them
-pub next_room : (xs : List (ℕ × ℕ)) (i : ℕ) (c : State) → i < length xs → HaveRoom (moving_items (drop i xs)) c
+pub next_room : (xs : List (ℕ × ℕ)) (i : ℕ) (c : CampaignValue) → i < length xs → HaveRoom (moving_items (drop i xs)) c
     → HasRoom (get_or xs i (0, 0)).1 (amount_in c.books Lost (Item (get_or xs i (0, 0)).0))
 next_room xs i c inside room = let x : ℕ × ℕ = get_or xs i (0, 0) in first_room (Item x.0) x.1 (moving_items (drop (i + 1) xs)) c (room_ahead xs i c inside room)
 
 -- the items ahead are of the world
-pub known_ahead : (w : Planet) (xs : List (ℕ × ℕ)) (i : ℕ) → i < length xs → EachOf (λ j a. j < length w.items) (drop i xs)
+pub known_ahead : (w : WorldValue) (xs : List (ℕ × ℕ)) (i : ℕ) → i < length xs → EachOf (λ j a. j < length w.items) (drop i xs)
     → EachOf (λ j a. j < length w.items) (get_or xs i (0, 0) ∷ drop (i + 1) xs)
 known_ahead w xs i inside known = subst (EachOf (λ j a. j < length w.items)) (drop_more xs i (0, 0) inside) known
 
 -- the items of a unit are
-pub known_held : (w : Planet) (c : State) (n : ℕ) (u : Unit) → get c.units n ≡ Some u → IsSteady w c → EachOf (λ j a. j < length w.items) (entries u.holding.items)
+pub known_held : (w : WorldValue) (c : CampaignValue) (n : ℕ) (u : Unit) → get c.units n ≡ Some u → IsSteady w c → EachOf (λ j a. j < length w.items) (entries u.holding.items)
 known_held w c n u is steady = each-from_every (λ j a. j < length w.items) u.holding.items (steady.known.units n u is).items
 
 -- there is room for what a unit has
-pub held_room : (c : State) (n : ℕ) (u : Unit) → get c.units n ≡ Some u → HaveRoom (quit_reserve c) c → HaveRoom (held_moves u.holding) c
+pub held_room : (c : CampaignValue) (n : ℕ) (u : Unit) → get c.units n ≡ Some u → HaveRoom (quit_reserve c) c → HaveRoom (held_moves u.holding) c
 held_room c n u is room = room_less (held_moves u.holding) (quit_reserve c) c (λ e t. within (held_moves u.holding e t) (leaves e t u.holding) (sum_over (λ (x : Unit). leaves e t x.holding) (remove c.units n)) (quit_reserve c e t) (moves_what_leaves u.holding e t) (sum_over-remove c.units n (λ (x : Unit). leaves e t x.holding) u is)) room
   where
     within : (a b s r : ℕ) → a ≤ b → s + b ≡ r → a ≤ r
@@ -283,25 +283,25 @@ held_room c n u is room = room_less (held_moves u.holding) (quit_reserve c) c (�
 
 -- ---- a unit that leaves
 
-total_books : (c : State) (books : List (List ℤ)) (t : Thing) → total (record c { books = books }) t ≡ total c t
+total_books : (c : CampaignValue) (books : List (List ℤ)) (t : Thing) → total (record c { books = books }) t ≡ total c t
 unfolding total
 total_books c books t = refl
 
-module _ (w : Planet) (c : State) (n : ℕ) (u : Unit) (is : get c.units n ≡ Some u) (steady : IsSteady w c) where
-  abbrev off : State
+module _ (w : WorldValue) (c : CampaignValue) (n : ℕ) (u : Unit) (is : get c.units n ≡ Some u) (steady : IsSteady w c) where
+  abbrev off : CampaignValue
   off = booked_off c u.holding
 
-  abbrev behind : State
+  abbrev behind : CampaignValue
   behind = without_unit off n
 
   off_is : BooksOff w (owing u.holding) (held_moves u.holding) c off
   off_is = off_all w c u.holding (steady.known.units n u is).items steady
 
   there : get off.units n ≡ Some u
-  there = ap (λ (s : State). get s.units n) off_is.same ∙ is
+  there = ap (λ (s : CampaignValue). get s.units n) off_is.same ∙ is
 
   pub units_behind : behind.units ≡ remove c.units n
-  units_behind = (only_reduced w off n u there).units ∙ ap (λ (s : State). remove s.units n) off_is.same
+  units_behind = (only_reduced w off n u there).units ∙ ap (λ (s : CampaignValue). remove s.units n) off_is.same
 
   balanced : Balances c → Balances behind
   balanced old t =
@@ -328,16 +328,16 @@ module _ (w : Planet) (c : State) (n : ℕ) (u : Unit) (is : get c.units n ≡ S
       record {
         holds_still = steady-without w off n u there off_is.steady;
         same_month = record {
-          month = only.month ∙ ap (λ (s : State). s.month) off_is.same;
-          reports = only.reports ∙ ap (λ (s : State). s.reports) off_is.same;
-          count = ap len only.factions ∙ ap (λ (s : State). len s.factions) off_is.same;
-          factions = λ k h. subst (λ (m : FinMap nat_cmp Faction). IsThere m k) (only.factions ∙ ap (λ (s : State). s.factions) off_is.same) h;
+          month = only.month ∙ ap (λ (s : CampaignValue). s.month) off_is.same;
+          reports = only.reports ∙ ap (λ (s : CampaignValue). s.reports) off_is.same;
+          count = ap len only.factions ∙ ap (λ (s : CampaignValue). len s.factions) off_is.same;
+          factions = λ k h. subst (λ (m : FinMap nat_cmp Faction). IsThere m k) (only.factions ∙ ap (λ (s : CampaignValue). s.factions) off_is.same) h;
         };
         balances = balanced;
         drawn = drawn;
       }
 
-pub left_well : (w : Planet) (c : State) (n : ℕ) → IsSteady w c → StepsWell IsSteady quit_reserve w c (left_at c n)
+pub left_well : (w : WorldValue) (c : CampaignValue) (n : ℕ) → IsSteady w c → StepsWell IsSteady quit_reserve w c (left_at c n)
 unfolding left_at
 left_well w c n steady = by_unit (get c.units n) refl
   where
@@ -346,19 +346,19 @@ left_well w c n steady = by_unit (get c.units n) refl
     by_unit (Some u) is = leaving_well w c n u is steady
 
 -- another unit stays as it is
-without_others : (c : State) (n k : ℕ) → k ≢ n → get (without_unit c n).units k ≡ get c.units k
+without_others : (c : CampaignValue) (n k : ℕ) → k ≢ n → get (without_unit c n).units k ≡ get c.units k
 unfolding without_unit
 without_others c n k apart = elim (get c.units n) as (λ o. get (without_unit_at c n o).units k ≡ get c.units k) [
   | None ↦ refl
   | Some u ↦
-      ap (λ (d : State). get d.units k) (handed_is (record c { units = remove c.units n }) u.structure n (heir c u.structure n)) ∙ get-remove_other c.units n k apart
+      ap (λ (d : CampaignValue). get d.units k) (handed_is (record c { units = remove c.units n }) u.structure n (heir c u.structure n)) ∙ get-remove_other c.units n k apart
 ]
 
-booked_units : (c : State) (es : List (ℕ × ℕ)) → (fold item_gone c es).units ≡ c.units
+booked_units : (c : CampaignValue) (es : List (ℕ × ℕ)) → (fold item_gone c es).units ≡ c.units
 booked_units c [] = refl
 booked_units c (e ∷ es) = booked_units (item_gone c e) es
 
-left_others : (c : State) (n k : ℕ) → k ≢ n → get (left_at c n).units k ≡ get c.units k
+left_others : (c : CampaignValue) (n k : ℕ) → k ≢ n → get (left_at c n).units k ≡ get c.units k
 unfolding left_at
 left_others c n k apart = by_unit (get c.units n)
   where
@@ -368,20 +368,20 @@ left_others c n k apart = by_unit (get c.units n)
 
 -- ---- all units of a faction
 
-pub all_left_well : (w : Planet) (c : State) (ns : List ℕ) → IsSteady w c → StepsWell IsSteady quit_reserve w c (fold left_at c ns)
+pub all_left_well : (w : WorldValue) (c : CampaignValue) (ns : List ℕ) → IsSteady w c → StepsWell IsSteady quit_reserve w c (fold left_at c ns)
 all_left_well w c [] steady = well_same w c steady
 all_left_well w c (n ∷ ns) steady =
     let one = left_well w c n steady in
     well_twice w c (left_at c n) (fold left_at (left_at c n) ns) one (all_left_well w (left_at c n) ns one.holds_still)
 
-pub all_left_others : (c : State) (ns : List ℕ) (k : ℕ) → ((n : ℕ) → IsListed n ns → k ≢ n) → get (fold left_at c ns).units k ≡ get c.units k
+pub all_left_others : (c : CampaignValue) (ns : List ℕ) (k : ℕ) → ((n : ℕ) → IsListed n ns → k ≢ n) → get (fold left_at c ns).units k ≡ get c.units k
 all_left_others c [] k apart = refl
 all_left_others c (n ∷ ns) k apart = all_left_others (left_at c n) ns k (λ m listed. apart m (inr listed)) ∙ left_others c n k (apart n (inl refl))
 
 -- ---- one order
 
 -- what is so of the campaign as it is, and of that in which the faction's units left, is so of the campaign behind the order
-pub quit_cases : (P : State → Type 0) (c : State) (number : ℕ) (u : Unit) → P c → (number ≡ u.faction → P (fold left_at c (numbers_of u.faction c.units))) → P (quit number c u).0
+pub quit_cases : (P : CampaignValue → Type 0) (c : CampaignValue) (number : ℕ) (u : Unit) → P c → (number ≡ u.faction → P (fold left_at c (numbers_of u.faction c.units))) → P (quit number c u).0
 unfolding quit
 quit_cases P c number u same leave = by_fault (quit_fault number u) refl
   where
@@ -389,10 +389,10 @@ quit_cases P c number u same leave = by_fault (quit_fault number u) refl
     by_fault (Some fault) e = same
     by_fault None e = leave (not_apart number u.faction (none_fits (not (number == u.faction)) WrongNumber [] e).0)
 
-pub quit_well : (w : Planet) (c : State) (number : ℕ) (u : Unit) → IsSteady w c → StepsWell IsSteady quit_reserve w c (quit number c u).0
+pub quit_well : (w : WorldValue) (c : CampaignValue) (number : ℕ) (u : Unit) → IsSteady w c → StepsWell IsSteady quit_reserve w c (quit number c u).0
 quit_well w c number u steady = quit_cases (λ d. StepsWell IsSteady quit_reserve w c d) c number u (well_same w c steady) (λ own. all_left_well w c (numbers_of u.faction c.units) steady)
 
-quit_spares : (w : Planet) (c : State) (number : ℕ) (u : Unit) (k : ℕ) (x : Unit) → IsSteady w c → get c.units k ≡ Some x → (number ≡ u.faction → u.faction ≢ x.faction) → IsSpared IsNoWorse (quit number c u).0 k x
+quit_spares : (w : WorldValue) (c : CampaignValue) (number : ℕ) (u : Unit) (k : ℕ) (x : Unit) → IsSteady w c → get c.units k ≡ Some x → (number ≡ u.faction → u.faction ≢ x.faction) → IsSpared IsNoWorse (quit number c u).0 k x
 quit_spares w c number u k x steady here other =
     quit_cases (λ d. IsSpared IsNoWorse d k x) c number u (record { unit = x; there = here; spared = no_worse x })
     (λ own. record { unit = x; there = all_left_others c (numbers_of u.faction c.units) k (λ m listed. stays (other own) m listed) ∙ here; spared = no_worse x })
@@ -420,7 +420,7 @@ within_limit Money h is = is.money
 within_limit People h is = omega (arith, is.men)
 within_limit (Item i) h is = amount_within h i is
 
-reserve_within : (w : Planet) (c : State) → IsSteady w c → (e : Entry) (t : Thing) → quit_reserve c e t ≤ quit_moves e t
+reserve_within : (w : WorldValue) (c : CampaignValue) → IsSteady w c → (e : Entry) (t : Thing) → quit_reserve c e t ≤ quit_moves e t
 reserve_within w c steady e t = by_test (entry_place e == entry_place (gone_under t))
   where
     all_within : (b : Bool) (most : ℕ) → ((h : Held) → IsHolding h → (if b then held t h else 0) ≤ most) → sum_over (λ (u : Unit). if b then held t u.holding else 0) c.units ≤ length (entries c.units) * most
@@ -445,11 +445,11 @@ quit_orderly = record {
   bounded = reserve_within;
 }
   where
-    well : (w : Planet) (c : State) (x : Unit) → IsSteady w c → (s : Said) → IfSome (quit_said s) (λ deed. StepsWell IsSteady quit_reserve w c (deed c x).0)
+    well : (w : WorldValue) (c : CampaignValue) (x : Unit) → IsSteady w c → (s : Said) → IfSome (quit_said s) (λ deed. StepsWell IsSteady quit_reserve w c (deed c x).0)
     well w c x steady (orders.Quit number) = quit_well w c number x steady
     well w c x steady other = tt
 
-    spared : (w : Planet) (c : State) (t : Task) (x : Unit) → IsSteady w c → IsUnitOf c t x → (n : ℕ) (u : Unit) → get c.units n ≡ Some u → (s : Said) → ((t.faction ≡ u.faction) × (s ≡ orders.Quit u.faction) → ⊥)
+    spared : (w : WorldValue) (c : CampaignValue) (t : Task) (x : Unit) → IsSteady w c → IsUnitOf c t x → (n : ℕ) (u : Unit) → get c.units n ≡ Some u → (s : Said) → ((t.faction ≡ u.faction) × (s ≡ orders.Quit u.faction) → ⊥)
         → IfSome (quit_said s) (λ deed. IsSpared IsNoWorse (deed c x).0 n u)
     spared w c t x steady own n u here (orders.Quit number) other =
         quit_spares w c number x n u steady here (λ says same. other (sym own.faction ∙ same, ap orders.Quit (says ∙ same)))

@@ -3,14 +3,14 @@ use Rattle.std.proofs.Common.{◌≡◌, ℕ, true, List, [], ◌∷◌, Option,
 use Rattle.std.specs.Prelude.{IfSome, fold}
 use Rattle.std.specs.Ordering.{nat_cmp}
 use Rattle.std.specs.FinMap.{FinMap, get, values}
-use Rattle.atl_tables.specs.Planet.{Planet}
+use Rattle.atl_tables.specs.Worlds.{WorldValue}
 use Rattle.atl_orders.specs.declared.order.Order.TheVariants as orders
 use Rattle.atl_orders.specs.Orders.{Said}
 use Rattle.atl_state.specs.declared.records.Unit.{Unit}
 use Rattle.atl_state.specs.Good.{Every, IsSteady}
-use Rattle.atl_state.specs.State.{State, numbers_of}
+use Rattle.atl_state.specs.Campaign.{CampaignValue, numbers_of}
 use Rattle.atl_state.proofs.RemovedLaws.{every-remove}
-use Rattle.atl_instant.specs.Course.{Course}
+use Rattle.atl_instant.specs.Month.{MonthValue}
 use Rattle.atl_instant.specs.Fit.{AreFit}
 use Rattle.atl_instant.specs.Meaning.{Condition}
 use Rattle.atl_instant.specs.PhaseOrders.{Task, orders_of}
@@ -25,10 +25,10 @@ use Rattle.atl_instant.proofs.StepLaws.{no_worse_spares, orders_fit, orders_spar
 -- ---- no unit comes, and none changes
 
 -- the units behind are some of those before
-abbrev HasSomeOf : State → State → Type 0
+abbrev HasSomeOf : CampaignValue → CampaignValue → Type 0
 HasSomeOf c d = Every (λ k u. get c.units k ≡ Some u) d.units
 
-left_some : (w : Planet) (c : State) (n : ℕ) → IsSteady w c → HasSomeOf c (left_at c n)
+left_some : (w : WorldValue) (c : CampaignValue) (n : ℕ) → IsSteady w c → HasSomeOf c (left_at c n)
 unfolding left_at
 left_some w c n steady = by_unit (get c.units n) refl
   where
@@ -37,18 +37,18 @@ left_some w c n steady = by_unit (get c.units n) refl
     by_unit (Some x) is =
         subst (λ (m : FinMap nat_cmp Unit). Every (λ k u. get c.units k ≡ Some u) m) (sym (units_behind w c n x is steady)) (every-remove c.units n (λ k u. get c.units k ≡ Some u) (λ k u there. there))
 
-all_left_some : (w : Planet) (c : State) (ns : List ℕ) → IsSteady w c → HasSomeOf c (fold left_at c ns)
+all_left_some : (w : WorldValue) (c : CampaignValue) (ns : List ℕ) → IsSteady w c → HasSomeOf c (fold left_at c ns)
 all_left_some w c [] steady k u there = there
 all_left_some w c (n ∷ ns) steady k u there = left_some w c n steady k u (all_left_some w (left_at c n) ns (left_well w c n steady).holds_still k u there)
 
-quit_some : (w : Planet) (c : State) (number : ℕ) (x : Unit) → IsSteady w c → HasSomeOf c (quit number c x).0
+quit_some : (w : WorldValue) (c : CampaignValue) (number : ℕ) (x : Unit) → IsSteady w c → HasSomeOf c (quit number c x).0
 quit_some w c number x steady = quit_cases (HasSomeOf c) c number x (λ k u there. there) (λ own. all_left_some w c (numbers_of x.faction c.units) steady)
 
-is_own_unit : (c : State) (t : Task) (x : Unit) → IsUnitOf c t x → is_own c t ≡ true
+is_own_unit : (c : CampaignValue) (t : Task) (x : Unit) → IsUnitOf c t x → is_own c t ≡ true
 is_own_unit c t x own = ap (is_of_faction t.faction) own.there ∙ equal x.faction t.faction own.faction
 
 -- an order for a unit that is the faction's own behind was so before
-own_before : (c d : State) (t : Task) → HasSomeOf c d → is_own d t ≡ true → is_own c t ≡ true
+own_before : (c d : CampaignValue) (t : Task) → HasSomeOf c d → is_own d t ≡ true → is_own c t ≡ true
 own_before c d t some own = by_unit (get d.units t.unit) refl own
   where
     by_unit : (o : Option Unit) → get d.units t.unit ≡ o → is_of_faction t.faction o ≡ true → is_own c t ≡ true
@@ -58,11 +58,11 @@ own_before c d t some own = by_unit (get d.units t.unit) refl own
 -- ---- by the campaign as the phase begins
 
 -- each order for a unit of its own faction was so as the phase began
-abbrev OwnSince : State → Condition
+abbrev OwnSince : CampaignValue → Condition
 OwnSince begun w c = IsSteady w c × ((t : Task) → is_own c t ≡ true → is_own begun t ≡ true)
 
-module _ (begun : State) where
-  since_well : (w : Planet) (c : State) (x : Unit) → OwnSince begun w c → (s : Said) → IfSome (quit_said s) (λ deed. StepsWell (OwnSince begun) quit_reserve w c (deed c x).0)
+module _ (begun : CampaignValue) where
+  since_well : (w : WorldValue) (c : CampaignValue) (x : Unit) → OwnSince begun w c → (s : Said) → IfSome (quit_said s) (λ deed. StepsWell (OwnSince begun) quit_reserve w c (deed c x).0)
   since_well w c x since (orders.Quit number) =
       let well = quit_well w c number x since.0 in
       record {
@@ -82,7 +82,7 @@ module _ (begun : State) where
     bounded = λ w c since. quit_orderly.bounded w c since.0;
   }
 
-pub quit_spares_others : (w : Planet) (c : State) (m : Course) → IsSteady w c → AreFit w m.readings → quit_keeps w m c (quit_meaning w c m).0
+pub quit_spares_others : (w : WorldValue) (c : CampaignValue) (m : MonthValue) → IsSteady w c → AreFit w m.readings → quit_keeps w m c (quit_meaning w c m).0
 unfolding carried_out
 quit_spares_others w c m steady fit =
     orders_spare quit_step (since_orderly c) w c m (values (orders_of is_quitting ByUnit m.aliases m.readings)) (steady, λ t own. own) (orders_fit w m.aliases m.readings fit is_quitting)

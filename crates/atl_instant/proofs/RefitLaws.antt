@@ -4,7 +4,7 @@ use Rattle.std.specs.Prelude.{IsTrue, option_map}
 use Rattle.std.specs.Ordering.{nat_cmp}
 use Rattle.std.specs.FinMap.{FinMap, get, insert, len}
 use Rattle.atl_tables.specs.Names.{name_ok}
-use Rattle.atl_tables.specs.Planet.{Planet}
+use Rattle.atl_tables.specs.Worlds.{WorldValue}
 use Rattle.atl_tables.specs.Sums.{sum_over}
 use Rattle.atl_tables.proofs.SumLaws.{numbers_where-insert_known, put_same, sum_over-insert_known}
 use Rattle.atl_tables.specs.ByNumber.{is_land_at, size_of}
@@ -15,7 +15,7 @@ use Rattle.atl_state.specs.declared.records.Structure.{Structure}
 use Rattle.atl_state.specs.declared.records.Unit.{Unit}
 use Rattle.atl_state.specs.Good.{AreAfloat, AreInRange, AreKnown, AreNamed, AreNumbered, AreOfOneFaction, Every, GoneHaveNone, IsAboard, IsBuilt, IsEarly, IsOwned, IsPlaced, IsSteady, guards, is_ship}
 use Rattle.atl_state.specs.Held.{IsHolding}
-use Rattle.atl_state.specs.State.{State}
+use Rattle.atl_state.specs.Campaign.{CampaignValue}
 use Rattle.atl_state.specs.Totals.{held, kept, total}
 use Rattle.atl_state.proofs.EveryLaws.{every-insert, get-insert_other, none_some}
 use Rattle.atl_state.proofs.RegionLaws.{same_len}
@@ -32,11 +32,11 @@ under f None x is = none_some x is
 under f (Some v) x is = let same : f v ≡ x = cc in (v, refl, same)
 
 -- other units and structures, but as many
-module _ (c : State) (units : FinMap nat_cmp Unit) (structures : FinMap nat_cmp Structure) where
-  abbrev pub replaced : State
+module _ (c : CampaignValue) (units : FinMap nat_cmp Unit) (structures : FinMap nat_cmp Structure) where
+  abbrev pub replaced : CampaignValue
   replaced = record c { units = units; structures = structures }
 
-  pub in_range_replaced : (w : Planet) → len units ≡ len c.units → len structures ≡ len c.structures → Every (λ k x. (1 ≤ k) × IsHolding x.holding) units
+  pub in_range_replaced : (w : WorldValue) → len units ≡ len c.units → len structures ≡ len c.structures → Every (λ k x. (1 ≤ k) × IsHolding x.holding) units
       → Every (λ k x. (1 ≤ x.done) × (x.done ≤ size_of w x.kind)) structures → AreInRange w c → AreInRange w replaced
   in_range_replaced w unit_count structure_count new_units new_structures old = record {
     month = old.month;
@@ -64,14 +64,14 @@ module _ (c : State) (units : FinMap nat_cmp Unit) (structures : FinMap nat_cmp 
     units = λ k l. no_unit k (old.units k l);
   }
 
-module _ (w : Planet) (c : State) (n : ℕ) (u : Unit) (s : ℕ) (is : get c.units n ≡ Some u) (structures : FinMap nat_cmp Structure) (g : ℕ → Structure → Structure) where
+module _ (w : WorldValue) (c : CampaignValue) (n : ℕ) (u : Unit) (s : ℕ) (is : get c.units n ≡ Some u) (structures : FinMap nat_cmp Structure) (g : ℕ → Structure → Structure) where
   abbrev pub moved_unit : Unit
   moved_unit = record u { structure = s }
 
   abbrev units : FinMap nat_cmp Unit
   units = insert c.units n moved_unit
 
-  abbrev pub refitted : State
+  abbrev pub refitted : CampaignValue
   refitted = record c { units = units; structures = structures }
 
   -- g gives the structures, and each has the owner that it should have; the unit is in a structure of its region, and on water in a ship
@@ -180,7 +180,7 @@ module _ (w : Planet) (c : State) (n : ℕ) (u : Unit) (s : ℕ) (is : get c.uni
       (sum_over-insert_known stock c.units n u moved_unit is)
 
 -- structures alone change, while a unit is there
-module _ (w : Planet) (c : State) (n : ℕ) (u : Unit) (is : get c.units n ≡ Some u) (structures : FinMap nat_cmp Structure) (g : ℕ → Structure → Structure)
+module _ (w : WorldValue) (c : CampaignValue) (n : ℕ) (u : Unit) (is : get c.units n ≡ Some u) (structures : FinMap nat_cmp Structure) (g : ℕ → Structure → Structure)
     (at : (k : ℕ) → get structures k ≡ option_map (g k) (get c.structures k)) (count : len structures ≡ len c.structures)
     (same : Every (λ k y. IsRelabelled y (g k y)) c.structures) (owned : Every (λ k y. IsOwned c k (g k y)) c.structures) where
   abbrev as_it_was : Unit

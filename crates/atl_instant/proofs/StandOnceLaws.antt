@@ -9,7 +9,7 @@ use Rattle.std.specs.Cmp.Lexicographic.{slice_cmp, nat_list_cmp_total}
 use Rattle.std.specs.List.{AllByRecursion, IsDistinct}
 use Rattle.std.specs.FinMap.{FinMap, entries, entries_sorted, from_entries, get, is_sorted, nat_cmp-IsAntisymmetric, slice_cmp-IsAntisymmetric}
 use Rattle.std.specs.FinMap.Entries.{below_all}
-use Rattle.atl_tables.specs.Planet.{Planet}
+use Rattle.atl_tables.specs.Worlds.{WorldValue}
 use Rattle.atl_tables.proofs.GeneralLaws.{is_equal, is_true}
 use Rattle.atl_orders.specs.Bounds.{LinesRise}
 use Rattle.atl_orders.specs.Mailing.{EntrySaid, Reading}
@@ -21,7 +21,7 @@ use Rattle.atl_state.proofs.EveryLaws.{each-from_every}
 use Rattle.atl_instant.specs.declared.standing.Slot.{Slot}
 use Rattle.atl_instant.specs.declared.standing.Slot.TheVariants.{MonthLong, Taxing, Recruiting}
 use Rattle.atl_instant.specs.declared.written.Arrangement.{Arrangement}
-use Rattle.atl_instant.specs.Course.{Aliases}
+use Rattle.atl_instant.specs.Month.{Aliases}
 use Rattle.atl_instant.specs.Fit.{AreFit}
 use Rattle.atl_instant.specs.PhaseOrders.{IsInMailing, Task, key_of, last_line, slot_number, slot_of, stands, stands_in, tasks_for, tasks_from, tasks_of, unit_of}
 use Rattle.atl_instant.specs.StandOnce.{OneOrderStands, are_of_slot, share_slot}
@@ -73,7 +73,7 @@ one_line ts us t o same unit share one two = by_slots (slot_of (verb_of_order t.
 
 -- ---- the orders of a phase
 
-module _ (w : Planet) (is_of : Verb → Bool) (a : Arrangement) (aliases : Aliases) (readings : FinMap nat_cmp Reading) where
+module _ (w : WorldValue) (is_of : Verb → Bool) (a : Arrangement) (aliases : Aliases) (readings : FinMap nat_cmp Reading) where
   abbrev Stands : Task → Type 0
   Stands t = (r : Reading) → get readings t.faction ≡ Some r → stands (tasks_of aliases t.faction r) t ≡ true
 

@@ -14,7 +14,7 @@ use Rattle.atl_orders.specs.Mailing.{entry_said}
 use Rattle.atl_orders.specs.Orders.{said, verb_of_order}
 use Rattle.atl_state.proofs.KeyLaws.{next_of}
 use Rattle.atl_instant.specs.declared.standing.Slot.{Slot}
-use Rattle.atl_instant.specs.Course.{Aliases}
+use Rattle.atl_instant.specs.Month.{Aliases}
 use Rattle.atl_instant.specs.PhaseOrders.{unit_of, slot_of, slot_number, is_slot, last_line, tasks_from}
 use Rattle.atl_instant.specs.Collecting.{Lines, line_in, with_line}
 

@@ -1,7 +1,7 @@
 -- Units that are no worse off behind one change, and behind the next, are no worse off behind both.
 use Rattle.std.proofs.Common.{refl, ◌∙◌, arith}
 use Rattle.atl_state.specs.declared.records.Unit.{Unit}
-use Rattle.atl_state.specs.State.{State}
+use Rattle.atl_state.specs.Campaign.{CampaignValue}
 use Rattle.atl_instant.specs.Staying.{AreNoWorse, IsNoWorse}
 
 pub no_worse : (u : Unit) → IsNoWorse u u
@@ -20,10 +20,10 @@ no_worse_twice u v x one two = record {
   days = λ s. omega (arith, one.days s, two.days s);
 }
 
-pub are_no_worse : (c : State) → AreNoWorse c c
+pub are_no_worse : (c : CampaignValue) → AreNoWorse c c
 are_no_worse c n u there = (u, there, no_worse u)
 
-pub are_no_worse_twice : (a b c : State) → AreNoWorse a b → AreNoWorse b c → AreNoWorse a c
+pub are_no_worse_twice : (a b c : CampaignValue) → AreNoWorse a b → AreNoWorse b c → AreNoWorse a c
 are_no_worse_twice a b c one two n u there =
     let (v, between, first) = one n u there in
     let (x, behind, second) = two n v between in

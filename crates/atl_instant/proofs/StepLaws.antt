@@ -7,7 +7,7 @@ use Rattle.std.proofs.lemmas.List.Elements.{recursion_from_All}
 use Rattle.std.specs.FinMap.{FinMap, get, values}
 use Rattle.std.specs.Ordering.{nat_cmp}
 use Rattle.std.proofs.lemmas.Int.{ints}
-use Rattle.atl_tables.specs.Planet.{Planet}
+use Rattle.atl_tables.specs.Worlds.{WorldValue}
 use Rattle.atl_tables.proofs.GeneralLaws.{is_equal}
 use Rattle.atl_orders.specs.declared.verb.Verb.{Verb}
 use Rattle.atl_orders.specs.Bounds.{IsEntry, IsOrderOf, IsReading}
@@ -19,8 +19,8 @@ use Rattle.atl_state.specs.declared.event.Outcome.{Outcome}
 use Rattle.atl_state.specs.declared.event.Outcome.TheVariants.{Fault}
 use Rattle.atl_state.specs.declared.records.Unit.{Unit}
 use Rattle.atl_state.specs.Books.{amount_in}
-use Rattle.atl_state.specs.State.{State}
-use Rattle.atl_instant.specs.Course.{Aliases, Course, order_at, order_in}
+use Rattle.atl_state.specs.Campaign.{CampaignValue}
+use Rattle.atl_instant.specs.Month.{Aliases, MonthValue, order_at, order_in}
 use Rattle.atl_instant.specs.Fit.{AreFit}
 use Rattle.atl_instant.specs.Meaning.{Condition, HasRoom, HaveRoom, IsNear, LeavesWell, Moving}
 use Rattle.atl_instant.specs.PhaseOrders.{IsInMailing, Task, orders_of, written}
@@ -58,10 +58,10 @@ room_drawn r s a b h room = record { above = omega (arith, ints, h.above, room.a
 
 -- ---- steps
 
-pub well_same : {holds : Condition} {reserve : Reserve} (w : Planet) (c : State) → holds w c → StepsWell holds reserve w c c
+pub well_same : {holds : Condition} {reserve : Reserve} (w : WorldValue) (c : CampaignValue) → holds w c → StepsWell holds reserve w c c
 well_same {holds} {reserve} w c h = record { holds_still = h; same_month = same_month c; balances = λ b. b; drawn = λ e t. drawn_same (reserve c e t) (amount_in c.books e t) }
 
-pub well_twice : {holds : Condition} {reserve : Reserve} (w : Planet) (a b c : State) → StepsWell holds reserve w a b → StepsWell holds reserve w b c → StepsWell holds reserve w a c
+pub well_twice : {holds : Condition} {reserve : Reserve} (w : WorldValue) (a b c : CampaignValue) → StepsWell holds reserve w a b → StepsWell holds reserve w b c → StepsWell holds reserve w a c
 well_twice {holds} {reserve} w a b c one two = record {
   holds_still = two.holds_still;
   same_month = record {
@@ -75,10 +75,10 @@ well_twice {holds} {reserve} w a b c one two = record {
 }
 
 -- the room for what may still be moved stays
-pub room_left : {holds : Condition} {reserve : Reserve} (w : Planet) (a b : State) → StepsWell holds reserve w a b → HaveRoom (reserve a) a → HaveRoom (reserve b) b
+pub room_left : {holds : Condition} {reserve : Reserve} (w : WorldValue) (a b : CampaignValue) → StepsWell holds reserve w a b → HaveRoom (reserve a) a → HaveRoom (reserve b) b
 room_left {holds} {reserve} w a b well room e t = room_drawn (reserve a e t) (reserve b e t) (amount_in a.books e t) (amount_in b.books e t) (well.drawn e t) (room e t)
 
-pub leaves_well : {holds : Condition} {reserve : Reserve} {moving : Moving} (w : Planet) (a b : State) → ((e : Entry) (t : Thing) → reserve a e t ≤ moving e t) → StepsWell holds reserve w a b → LeavesWell holds moving w a b
+pub leaves_well : {holds : Condition} {reserve : Reserve} {moving : Moving} (w : WorldValue) (a b : CampaignValue) → ((e : Entry) (t : Thing) → reserve a e t ≤ moving e t) → StepsWell holds reserve w a b → LeavesWell holds moving w a b
 leaves_well {holds} {reserve} {moving} w a b l h = record {
   leaves_it = h.holds_still;
   same_month = h.same_month;
@@ -87,7 +87,7 @@ leaves_well {holds} {reserve} {moving} w a b l h = record {
 }
 
 -- room for all that a phase may move is room for what its orders may still move
-pub room_reserved : (reserve : Reserve) (moving : Moving) (c : State) → ((e : Entry) (t : Thing) → reserve c e t ≤ moving e t) → HaveRoom moving c → HaveRoom (reserve c) c
+pub room_reserved : (reserve : Reserve) (moving : Moving) (c : CampaignValue) → ((e : Entry) (t : Thing) → reserve c e t ≤ moving e t) → HaveRoom moving c → HaveRoom (reserve c) c
 room_reserved reserve moving c l room e t = less_room (reserve c e t) (moving e t) (amount_in c.books e t) (l e t) (room e t)
 
 -- ---- what stays
@@ -99,7 +99,7 @@ no_worse_spares = record { same = no_worse; again = no_worse_twice; faction = λ
 -- ---- orders
 
 -- what is so where nothing is done for another faction's unit, and of what is done for one of the faction, is so of what comes of an order
-pub carried_cases : (P : State × Outcome → Type 0) (deed : Deed) (c : State) (faction n : ℕ) → P (c, Fault 1) → ((u : Unit) → get c.units n ≡ Some u → u.faction ≡ faction → P (deed c u)) → P (carried deed c faction n)
+pub carried_cases : (P : CampaignValue × Outcome → Type 0) (deed : Deed) (c : CampaignValue) (faction n : ℕ) → P (c, Fault 1) → ((u : Unit) → get c.units n ≡ Some u → u.faction ≡ faction → P (deed c u)) → P (carried deed c faction n)
 carried_cases P deed c faction n other own = by_unit (get c.units n) refl
   where
     by_faction : (u : Unit) → get c.units n ≡ Some u → (b : Bool) → (u.faction == faction) ≡ b → P (done_for deed c (if b then Some u else None))
@@ -111,26 +111,26 @@ carried_cases P deed c faction n other own = by_unit (get c.units n) refl
     by_unit (Some u) there = by_faction u there (u.faction == faction) refl
 
 -- what is so of the campaign as it is, and of that behind what is done for the unit of an order, is so of that behind the order
-pub ordered_cases : (P : State → Type 0) (step : Option Deed) (c : State) (t : Task) → P c → ((x : Unit) → IsUnitOf c t x → IfSome step (λ deed. P (deed c x).0)) → P (ordered step c t.faction t.unit).0
+pub ordered_cases : (P : CampaignValue → Type 0) (step : Option Deed) (c : CampaignValue) (t : Task) → P c → ((x : Unit) → IsUnitOf c t x → IfSome step (λ deed. P (deed c x).0)) → P (ordered step c t.faction t.unit).0
 ordered_cases P None c t same done = same
 ordered_cases P (Some deed) c t same done = carried_cases (λ p. P p.0) deed c t.faction t.unit same (λ x there faction. done x (record { there = there; faction = faction }))
 
 -- what is done is what comes of an order
-abbrev with_some : State × Outcome → State × Option Outcome
+abbrev with_some : CampaignValue × Outcome → CampaignValue × Option Outcome
 with_some p = (p.0, Some p.1)
 
-pub told_some : (deed : Deed) (c d : State) (faction n : ℕ) (o : Outcome) → (d, o) ≡ carried deed c faction n → (d, Some o) ≡ ordered (Some deed) c faction n
+pub told_some : (deed : Deed) (c d : CampaignValue) (faction n : ℕ) (o : Outcome) → (d, o) ≡ carried deed c faction n → (d, Some o) ≡ ordered (Some deed) c faction n
 told_some deed c d faction n o is = ap with_some is
 
-module _ (step : Step) {holds : Condition} {reserve : Reserve} {moving : Moving} {concerns : Concern} {spares : Sparing} (orderly : IsOrderly step holds reserve moving concerns spares) (w : Planet) where
-  pub order_well : (a : Aliases) (c : State) (t : Task) → holds w c → IsOrderOf w t.said → StepsWell holds reserve w c (ordered (step w a t) c t.faction t.unit).0
+module _ (step : Step) {holds : Condition} {reserve : Reserve} {moving : Moving} {concerns : Concern} {spares : Sparing} (orderly : IsOrderly step holds reserve moving concerns spares) (w : WorldValue) where
+  pub order_well : (a : Aliases) (c : CampaignValue) (t : Task) → holds w c → IsOrderOf w t.said → StepsWell holds reserve w c (ordered (step w a t) c t.faction t.unit).0
   order_well a c t h fit = ordered_cases (StepsWell holds reserve w c) (step w a t) c t (well_same w c h) (λ x own. orderly.well w a c t x h fit own)
 
-  order_spares : (a : Aliases) (c : State) (t : Task) → holds w c → (n : ℕ) (u : Unit) → get c.units n ≡ Some u → (concerns t n u.faction → ⊥) → IsSpared spares (ordered (step w a t) c t.faction t.unit).0 n u
+  order_spares : (a : Aliases) (c : CampaignValue) (t : Task) → holds w c → (n : ℕ) (u : Unit) → get c.units n ≡ Some u → (concerns t n u.faction → ⊥) → IsSpared spares (ordered (step w a t) c t.faction t.unit).0 n u
   order_spares a c t h n u there other =
       ordered_cases (λ d. IsSpared spares d n u) (step w a t) c t (record { unit = u; there = there; spared = orderly.sparing.same u }) (λ x own. orderly.spared w a c t x h own n u there other)
 
-  orders_spare_one : (c : State) (m : Course) (ts : List Task) → holds w c → AllByRecursion (λ t. IsOrderOf w t.said) ts → (n : ℕ) (u : Unit) → get c.units n ≡ Some u → AllByRecursion (λ t. concerns t n u.faction → ⊥) ts
+  orders_spare_one : (c : CampaignValue) (m : MonthValue) (ts : List Task) → holds w c → AllByRecursion (λ t. IsOrderOf w t.said) ts → (n : ℕ) (u : Unit) → get c.units n ≡ Some u → AllByRecursion (λ t. concerns t n u.faction → ⊥) ts
       → IsSpared spares (fold (one_order step w) (c, m) ts).0 n u
   orders_spare_one c m [] h fit n u there others = record { unit = u; there = there; spared = orderly.sparing.same u }
   orders_spare_one c m (t ∷ ts) h fit n u there others =
@@ -141,13 +141,13 @@ module _ (step : Step) {holds : Condition} {reserve : Reserve} {moving : Moving}
       record { unit = rest.unit; there = rest.there; spared = orderly.sparing.again u one.unit rest.unit one.spared rest.spared }
 
   -- each unit that none of some orders concerns
-  pub orders_spare : (c : State) (m : Course) (ts : List Task) → holds w c → All (λ t. IsOrderOf w t.said) ts → AreSpared concerns spares ts c (fold (one_order step w) (c, m) ts).0
+  pub orders_spare : (c : CampaignValue) (m : MonthValue) (ts : List Task) → holds w c → All (λ t. IsOrderOf w t.said) ts → AreSpared concerns spares ts c (fold (one_order step w) (c, m) ts).0
   orders_spare c m ts h fit n u there others =
       orders_spare_one c m ts h (recursion_from_All (λ t. IsOrderOf w t.said) ts fit) n u there (recursion_from_All (λ t. concerns t n u.faction → ⊥) ts others)
 
 -- ---- the orders of a phase
 
-module _ (w : Planet) where
+module _ (w : WorldValue) where
   fit_at : (es : List EntrySaid) (k : ℕ) (e : EntrySaid) → AllByRecursion (IsEntry w) es → slice_get es k ≡ Some e → IsEntry w e
   fit_at [] k e all is = cc
   fit_at (x ∷ es) zero e all is = subst (IsEntry w) (same_Some _ _ is) all.0
@@ -177,24 +177,24 @@ module _ (w : Planet) where
 
 -- ---- what the code finds is what is written
 
-told_readings : (m : Course) (t : Task) (o : Option Outcome) → (with_told m t o).readings ≡ m.readings
+told_readings : (m : MonthValue) (t : Task) (o : Option Outcome) → (with_told m t o).readings ≡ m.readings
 told_readings m t None = refl
 told_readings m t (Some outcome) = refl
 
-module _ (step : Step) (w : Planet) where
-  pub order_readings : (p : State × Course) (t : Task) → (one_order step w p t).1.readings ≡ p.1.readings
+module _ (step : Step) (w : WorldValue) where
+  pub order_readings : (p : CampaignValue × MonthValue) (t : Task) → (one_order step w p t).1.readings ≡ p.1.readings
   order_readings p t = told_readings p.1 t (ordered (step w p.1.aliases t) p.0 t.faction t.unit).1
 
-  pub written_readings : (readings : FinMap nat_cmp Reading) (p : State × Course) (o : Written) → (found_written (one_order step w) readings p o).1.readings ≡ p.1.readings
-  written_readings = found_stays (one_order step w) (λ (p : State × Course). p.1.readings) order_readings
+  pub written_readings : (readings : FinMap nat_cmp Reading) (p : CampaignValue × MonthValue) (o : Written) → (found_written (one_order step w) readings p o).1.readings ≡ p.1.readings
+  written_readings = found_stays (one_order step w) (λ (p : CampaignValue × MonthValue). p.1.readings) order_readings
 
-  pub written_out : (is_of : Verb → Bool) (c : State) (m : Course) → fold (found_written (one_order step w) m.readings) (c, m) (map written (values (orders_of is_of ByUnit m.aliases m.readings))) ≡ carried_out step is_of w c m
+  pub written_out : (is_of : Verb → Bool) (c : CampaignValue) (m : MonthValue) → fold (found_written (one_order step w) m.readings) (c, m) (map written (values (orders_of is_of ByUnit m.aliases m.readings))) ≡ carried_out step is_of w c m
   unfolding carried_out
   written_out is_of c m = found_all (one_order step w) m.aliases m.readings is_of ByUnit (c, m)
 
 -- a campaign is left well by the order that stands at a place, if one does
-pub written_well : (step : Step) {holds : Condition} {reserve : Reserve} {moving : Moving} {concerns : Concern} {spares : Sparing} (orderly : IsOrderly step holds reserve moving concerns spares) (w : Planet)
-    (readings : FinMap nat_cmp Reading) → AreFit w readings → (c : State) (m : Course) (o : Written) → holds w c → StepsWell holds reserve w c (found_written (one_order step w) readings (c, m) o).0
+pub written_well : (step : Step) {holds : Condition} {reserve : Reserve} {moving : Moving} {concerns : Concern} {spares : Sparing} (orderly : IsOrderly step holds reserve moving concerns spares) (w : WorldValue)
+    (readings : FinMap nat_cmp Reading) → AreFit w readings → (c : CampaignValue) (m : MonthValue) (o : Written) → holds w c → StepsWell holds reserve w c (found_written (one_order step w) readings (c, m) o).0
 written_well step {holds} {reserve} orderly w readings fit c m o h = by_said (order_at readings o.faction o.place) refl
   where
     by_said : (s : Option Said) → order_at readings o.faction o.place ≡ s → StepsWell holds reserve w c (found_said (one_order step w) (c, m) o s).0

@@ -6,7 +6,7 @@ use Rattle.std.proofs.lemmas.Bool.{cases_lt}
 use Rattle.std.proofs.Math.Nat.{div-le_of_le-mul, le-div_iff_mul-le, mul-le-mul_right}
 use Rattle.std.specs.Ordering.{nat_cmp}
 use Rattle.std.specs.FinMap.{FinMap, get, keys}
-use Rattle.atl_tables.specs.Planet.{Planet}
+use Rattle.atl_tables.specs.Worlds.{WorldValue}
 use Rattle.atl_tables.proofs.GeneralLaws.{is_equal}
 use Rattle.atl_orders.specs.declared.order.Order.TheVariants as orders
 use Rattle.atl_orders.specs.Orders.{Said}
@@ -20,9 +20,9 @@ use Rattle.atl_state.specs.Good.{Every, IsEarly}
 use Rattle.atl_state.specs.Held.{Held, amount_of}
 use Rattle.atl_state.specs.Lending.{with_held}
 use Rattle.atl_state.specs.Limits.{men_limit, most_days}
-use Rattle.atl_state.specs.State.{State}
+use Rattle.atl_state.specs.Campaign.{CampaignValue}
 use Rattle.atl_state.specs.Totals.{held}
-use Rattle.atl_instant.specs.Course.{Aliases}
+use Rattle.atl_instant.specs.Month.{Aliases}
 use Rattle.atl_instant.specs.Outcomes.{unless}
 use Rattle.atl_instant.specs.Staying.{IsNoWorse}
 use Rattle.atl_instant.specs.PhaseOrders.{Task, unit_of}
@@ -61,13 +61,13 @@ can_send n itself u v is =
     }
 
 -- two units, one after the other
-pub sent_is : (c d e : State) (from to n : ℕ) (u v : Unit) (h k : Held) → to ≢ from → get c.units from ≡ Some u → get c.units to ≡ Some v
+pub sent_is : (c d e : CampaignValue) (from to n : ℕ) (u v : Unit) (h k : Held) → to ≢ from → get c.units from ≡ Some u → get c.units to ≡ Some v
     → h ≡ with_fewer n u.holding → k ≡ with_more n u.holding v.holding
     → d ≡ with_held c from h (Some u) → (get d.units to ≡ Some v → e ≡ with_held d to k (Some v))
     → e ≡ sent c from to n (Some u) (Some v)
 sent_is c d e from to n u v h k apart sender receiver h_is k_is first second =
     let other : (to == from) ≡ false = grind (arith, nat_tests) in
-    let still : get d.units to ≡ Some v = ap (λ (s : State). get s.units to) first ∙ receiver_still c from to u v h k sender receiver apart in
+    let still : get d.units to ≡ Some v = ap (λ (s : CampaignValue). get s.units to) first ∙ receiver_still c from to u v h k sender receiver apart in
     rw (second still, first, h_is, k_is, other) refl
 
 -- ---- days
@@ -125,17 +125,17 @@ rest_most n men days fewer some most =
 -- ---- what both may hold
 
 -- a skill of which there are days is known
-known_skill : (w : Planet) (h : Held) (s : ℕ) → MayHave w h → 1 ≤ amount_of h.days s → s < length w.skills
+known_skill : (w : WorldValue) (h : Held) (s : ℕ) → MayHave w h → 1 ≤ amount_of h.days s → s < length w.skills
 known_skill w h s may some = by_option (get h.days s) refl some
   where
     by_option : (o : Option ℕ) → get h.days s ≡ o → 1 ≤ unwrap_or o 0 → s < length w.skills
     by_option None there l = absurd (omega (arith, l))
     by_option (Some d) there l = may.skills s d there
 
-days_may : (w : Planet) (h : Held) (s : ℕ) → MayHave w h → amount_of h.days s ≤ most_days * h.men
+days_may : (w : WorldValue) (h : Held) (s : ℕ) → MayHave w h → amount_of h.days s ≤ most_days * h.men
 days_may w h s may = days_within h.days (most_days * h.men) s may.days
 
-pub may_have_fewer : (w : Planet) (n : ℕ) (h : Held) → n ≤ h.men → MayHave w h → MayHave w (with_fewer n h)
+pub may_have_fewer : (w : WorldValue) (n : ℕ) (h : Held) → n ≤ h.men → MayHave w h → MayHave w (with_fewer n h)
 may_have_fewer w n h fewer may = record {
   limits = record { men = omega (arith, may.limits.men); money = may.limits.money; items = may.limits.items };
   name = may.name;
@@ -149,7 +149,7 @@ may_have_fewer w n h fewer may = record {
     had : (a g d : ℕ) → d ≡ a - g → 1 ≤ d → 1 ≤ a
     had a g d is some = omega (arith, is, some)
 
-pub may_have_more : (w : Planet) (n : ℕ) (other h : Held) → h.men + n ≤ men_limit → MayHave w other → MayHave w h → MayHave w (with_more n other h)
+pub may_have_more : (w : WorldValue) (n : ℕ) (other h : Held) → h.men + n ≤ men_limit → MayHave w other → MayHave w h → MayHave w (with_more n other h)
 may_have_more w n other h room from may = record {
   limits = record { men = room; money = may.limits.money; items = may.limits.items };
   name = may.name;
@@ -203,11 +203,11 @@ better_off n other v = record {
 -- ---- one order
 
 -- the campaign behind men that went from one to another, or to itself
-abbrev behind : State → (from to n : ℕ) → Unit → Unit → (itself : Bool) → State
+abbrev behind : CampaignValue → (from to n : ℕ) → Unit → Unit → (itself : Bool) → CampaignValue
 behind c from to n u v itself = if itself then c else with_held (with_held c from (with_fewer n u.holding) (Some u)) to (with_more n u.holding v.holding) (Some v)
 
 -- what is so of the campaign as it is, and of each in which men went from one unit to another, is so of the campaign behind the order
-pub transfer_cases : (P : State → Type 0) (c : State) (from to n : ℕ) (u : Unit) (sender : get c.units from ≡ Some u) → P c
+pub transfer_cases : (P : CampaignValue → Type 0) (c : CampaignValue) (from to n : ℕ) (u : Unit) (sender : get c.units from ≡ Some u) → P c
     → ((v : Unit) (receiver : get c.units to ≡ Some v) (apart : to ≢ from) → CanSend n false u v
     → P (moved c from to u v (with_fewer n u.holding) (with_more n u.holding v.holding) sender receiver apart))
     → P (transfer from to n c u).0
@@ -226,7 +226,7 @@ transfer_cases P c from to n u sender same move = by_receiver (get c.units to) r
     by_receiver None is = same
     by_receiver (Some v) receiver = by_fault v receiver (transfer_fault n (to == from) u (Some v)) refl
 
-module _ (w : Planet) (c : State) (early : IsEarly w c) (from to n : ℕ) (u : Unit) (sender : get c.units from ≡ Some u) where
+module _ (w : WorldValue) (c : CampaignValue) (early : IsEarly w c) (from to n : ℕ) (u : Unit) (sender : get c.units from ≡ Some u) where
   transfer_steps_well : StepsWell IsEarly (λ d e t. 0) w c (transfer from to n c u).0
   transfer_steps_well =
       transfer_cases (λ d. StepsWell IsEarly (λ d e t. 0) w c d) c from to n u sender (well_same w c early)
@@ -254,11 +254,11 @@ transfer_orderly = record {
   bounded = λ w c early e t. omega arith;
 }
   where
-    well : (w : Planet) (a : Aliases) (c : State) (t : Task) (x : Unit) → IsEarly w c → IsUnitOf c t x → (s : Said) → IfSome (transfer_said a t.faction t.unit s) (λ deed. StepsWell IsEarly (λ d e t. 0) w c (deed c x).0)
+    well : (w : WorldValue) (a : Aliases) (c : CampaignValue) (t : Task) (x : Unit) → IsEarly w c → IsUnitOf c t x → (s : Said) → IfSome (transfer_said a t.faction t.unit s) (λ deed. StepsWell IsEarly (λ d e t. 0) w c (deed c x).0)
     well w a c t x early own (orders.Transfer to n) = transfer_steps_well w c early t.unit (unit_of a t.faction to) n x own.there
     well w a c t x early own other = tt
 
-    spared : (w : Planet) (a : Aliases) (c : State) (t : Task) (x : Unit) → IsEarly w c → IsUnitOf c t x → (n : ℕ) (u : Unit) → get c.units n ≡ Some u → n ≢ t.unit → (s : Said)
+    spared : (w : WorldValue) (a : Aliases) (c : CampaignValue) (t : Task) (x : Unit) → IsEarly w c → IsUnitOf c t x → (n : ℕ) (u : Unit) → get c.units n ≡ Some u → n ≢ t.unit → (s : Said)
         → IfSome (transfer_said a t.faction t.unit s) (λ deed. IsSpared IsNoWorse (deed c x).0 n u)
     spared w a c t x early own n u there apart (orders.Transfer to k) = transfer_spares w c early t.unit (unit_of a t.faction to) k x own.there n u there apart
     spared w a c t x early own n u there apart other = tt

@@ -3,14 +3,14 @@ use Rattle.std.proofs.Common.{◌≡◌, ◌≢◌, ◌+◌, ℕ, Option, Some, 
 use Rattle.std.proofs.lemmas.Option.{same_Some}
 use Rattle.std.specs.Prelude.{IfSome, pos}
 use Rattle.std.specs.FinMap.{get}
-use Rattle.atl_tables.specs.Planet.{Planet}
+use Rattle.atl_tables.specs.Worlds.{WorldValue}
 use Rattle.atl_tables.specs.Sums.{sum_over}
 use Rattle.atl_state.specs.declared.books.Thing.{Thing}
 use Rattle.atl_state.specs.declared.records.Region.{Region}
 use Rattle.atl_state.specs.declared.records.Unit.{Unit}
 use Rattle.atl_state.specs.Books.{amount_in, booked}
 use Rattle.atl_state.specs.Good.{IsEarly}
-use Rattle.atl_state.specs.State.{State}
+use Rattle.atl_state.specs.Campaign.{CampaignValue}
 use Rattle.atl_state.specs.Totals.{held, kept, total}
 use Rattle.atl_instant.specs.Meaning.{Condition, IsSameMonth}
 use Rattle.atl_instant.specs.PhaseOrders.{Task}
@@ -21,7 +21,7 @@ use Rattle.atl_instant.proofs.StayingLaws.{no_worse}
 use Rattle.atl_instant.proofs.StepLaws.{not_drawn}
 
 -- where books and totals stay
-pub stays_well : (holds : Condition) (w : Planet) (c d : State) → holds w d → IsSameMonth c d → d.books ≡ c.books → ((t : Thing) → total d t ≡ total c t) → StepsWell holds books_nothing w c d
+pub stays_well : (holds : Condition) (w : WorldValue) (c d : CampaignValue) → holds w d → IsSameMonth c d → d.books ≡ c.books → ((t : Thing) → total d t ≡ total c t) → StepsWell holds books_nothing w c d
 stays_well holds w c d still same books totals = record {
   holds_still = still;
   same_month = same;
@@ -29,11 +29,11 @@ stays_well holds w c d still same books totals = record {
   drawn = λ e t. not_drawn 0 0 (amount_in c.books e t) (amount_in d.books e t) refl (ap (λ b. amount_in b e t) books);
 }
 
-pub unbooked_well : (w : Planet) (c d : State) → IsEarly w d → IsSameMonth c d → d.books ≡ c.books → ((t : Thing) → total d t ≡ total c t) → StepsWell IsEarly books_nothing w c d
+pub unbooked_well : (w : WorldValue) (c d : CampaignValue) → IsEarly w d → IsSameMonth c d → d.books ≡ c.books → ((t : Thing) → total d t ≡ total c t) → StepsWell IsEarly books_nothing w c d
 unbooked_well = stays_well IsEarly
 
 -- the same units and regions hold the same
-pub same_total_of : (c d : State) → d.units ≡ c.units → d.regions ≡ c.regions → (t : Thing) → total d t ≡ total c t
+pub same_total_of : (c d : CampaignValue) → d.units ≡ c.units → d.regions ≡ c.regions → (t : Thing) → total d t ≡ total c t
 unfolding total
 same_total_of c d units regions t =
     let stock = λ (x : Unit). held t x.holding in
@@ -43,17 +43,17 @@ same_total_of c d units regions t =
 -- ---- the unit of an order
 
 -- a unit that no order of its own faction is for is another one
-pub other_unit : (c : State) (t : Task) (x : Unit) (k : ℕ) (v : Unit) → IsUnitOf c t x → get c.units k ≡ Some v → (IsOwnOrder t k v.faction → ⊥) → k ≢ t.unit
+pub other_unit : (c : CampaignValue) (t : Task) (x : Unit) (k : ℕ) (v : Unit) → IsUnitOf c t x → get c.units k ≡ Some v → (IsOwnOrder t k v.faction → ⊥) → k ≢ t.unit
 other_unit c t x k v own there apart same =
     let unit : x ≡ v = same_Some _ _ (sym own.there ∙ ap (get c.units) (sym same) ∙ there) in
     apart (record { unit = sym same; faction = sym own.faction ∙ ap (λ (y : Unit). y.faction) unit })
 
 -- and stays, where no unit but that of the order changes
-pub other_spared : (c d : State) (t : Task) (x : Unit) → ((k : ℕ) → k ≢ t.unit → get d.units k ≡ get c.units k) → IsUnitOf c t x → (k : ℕ) (v : Unit) → get c.units k ≡ Some v → (IsOwnOrder t k v.faction → ⊥) → IsSpared IsNoWorse d k v
+pub other_spared : (c d : CampaignValue) (t : Task) (x : Unit) → ((k : ℕ) → k ≢ t.unit → get d.units k ≡ get c.units k) → IsUnitOf c t x → (k : ℕ) (v : Unit) → get c.units k ≡ Some v → (IsOwnOrder t k v.faction → ⊥) → IsSpared IsNoWorse d k v
 other_spared c d t x stay own k v there apart = record { unit = v; there = stay k (other_unit c t x k v own there apart) ∙ there; spared = no_worse v }
 
 -- and so behind an order by which no other unit changes
-pub stays_spared : (step : Option Deed) (c : State) (t : Task) (x : Unit) → IsUnitOf c t x → (k : ℕ) (v : Unit) → get c.units k ≡ Some v → (IsOwnOrder t k v.faction → ⊥)
+pub stays_spared : (step : Option Deed) (c : CampaignValue) (t : Task) (x : Unit) → IsUnitOf c t x → (k : ℕ) (v : Unit) → get c.units k ≡ Some v → (IsOwnOrder t k v.faction → ⊥)
     → ((j : ℕ) → j ≢ t.unit → IfSome step (λ deed. get (deed c x).0.units j ≡ get c.units j)) → IfSome step (λ deed. IsSpared IsNoWorse (deed c x).0 k v)
 stays_spared None c t x own k v there apart stay = tt
 stays_spared (Some deed) c t x own k v there apart stay = other_spared c (deed c x).0 t x stay own k v there apart

@@ -8,7 +8,7 @@ use Rattle.std.specs.FinMap.{FinMap, get, insert, values}
 use Rattle.std.proofs.lemmas.Bool.{cases_eq}
 use Rattle.std.proofs.lemmas.List.Elements.{recursion_from_All}
 use Rattle.std.proofs.lemmas.List.Sums.{sum_by_push}
-use Rattle.atl_tables.specs.Planet.{Planet}
+use Rattle.atl_tables.specs.Worlds.{WorldValue}
 use Rattle.atl_tables.specs.Sums.{changed}
 use Rattle.atl_orders.specs.declared.verb.Verb.{Verb}
 use Rattle.atl_orders.specs.Mailing.{Reading}
@@ -18,10 +18,10 @@ use Rattle.atl_state.specs.declared.event.Outcome.{Outcome}
 use Rattle.atl_state.specs.declared.records.Unit.{Unit}
 use Rattle.atl_state.specs.Good.{Every}
 use Rattle.atl_state.specs.Held.{amount_of}
-use Rattle.atl_state.specs.State.{State}
+use Rattle.atl_state.specs.Campaign.{CampaignValue}
 use Rattle.atl_state.proofs.EveryLaws.{get-insert_other, none_some}
 use Rattle.atl_state.proofs.RegionLaws.{get-insert_same}
-use Rattle.atl_instant.specs.Course.{Aliases, Course}
+use Rattle.atl_instant.specs.Month.{Aliases, MonthValue}
 use Rattle.atl_instant.specs.Meaning.{Keeping, Meaning, both_keep, then_also}
 use Rattle.atl_instant.specs.Outcomes.{unless}
 use Rattle.atl_instant.specs.PhaseOrders.{Task, orders_of}
@@ -38,15 +38,15 @@ use Rattle.atl_instant.proofs.WrittenLaws.{orders_are_in_mailings}
 
 -- A phase keeps the mailings and takes back no event, and a unit whose faction sent no mailing stays, but for the men who starve in it.
 pub record LeavesUnmailed (meaning : Meaning) (keeps : Keeping) : Type 0 where
-  pub readings : (w : Planet) (c : State) (m : Course) → (meaning w c m).1.readings ≡ m.readings
-  pub told : (w : Planet) (c : State) (m : Course) (n : ℕ) → starved_in m.events n ≤ starved_in (meaning w c m).1.events n
-  pub left : (w : Planet) (c : State) (m : Course) → keeps w m c (meaning w c m).0 →
+  pub readings : (w : WorldValue) (c : CampaignValue) (m : MonthValue) → (meaning w c m).1.readings ≡ m.readings
+  pub told : (w : WorldValue) (c : CampaignValue) (m : MonthValue) (n : ℕ) → starved_in m.events n ≤ starved_in (meaning w c m).1.events n
+  pub left : (w : WorldValue) (c : CampaignValue) (m : MonthValue) → keeps w m c (meaning w c m).0 →
       Every (λ n u. get m.readings u.faction ≡ None → IsSpared (IsLessBy (starved_in (meaning w c m).1.events n - starved_in m.events n)) (meaning w c m).0 n u) c.units
 
 -- the same of phases behind which a unit may be gone whose men starved
 pub record ClosesUnmailed (meaning : Meaning) (keeps : Keeping) : Type 0 where
-  pub told : (w : Planet) (c : State) (m : Course) (n : ℕ) → starved_in m.events n ≤ starved_in (meaning w c m).1.events n
-  pub left : (w : Planet) (c : State) (m : Course) → keeps w m c (meaning w c m).0 →
+  pub told : (w : WorldValue) (c : CampaignValue) (m : MonthValue) (n : ℕ) → starved_in m.events n ≤ starved_in (meaning w c m).1.events n
+  pub left : (w : WorldValue) (c : CampaignValue) (m : MonthValue) → keeps w m c (meaning w c m).0 →
       Every (λ n u. get m.readings u.faction ≡ None → IsLeft (starved_in (meaning w c m).1.events n - starved_in m.events n) (meaning w c m).0 n u) c.units
 
 less_twice : (x y z : ℕ) (u v t : Unit) → x ≤ y → y ≤ z → IsLessBy (y - x) u v → IsLessBy (z - y) v t → IsLessBy (z - x) u t
@@ -63,7 +63,7 @@ less_twice x y z u v t l k one two = record {
 some_left : (x y z a b : ℕ) → x ≤ y → y ≤ z → b ≡ a - (y - x) → z - x < a → z - y < b
 some_left x y z a b l k e some = omega arith
 
-still_none : {first : Meaning} {early : Keeping} → LeavesUnmailed first early → (w : Planet) (c : State) (m : Course) (f g : ℕ) → g ≡ f → get m.readings f ≡ None → get (first w c m).1.readings g ≡ None
+still_none : {first : Meaning} {early : Keeping} → LeavesUnmailed first early → (w : WorldValue) (c : CampaignValue) (m : MonthValue) (f g : ℕ) → g ≡ f → get m.readings f ≡ None → get (first w c m).1.readings g ≡ None
 still_none one w c m f g same none = ap (λ (r : FinMap nat_cmp Reading). get r g) (one.readings w c m) ∙ ap (get m.readings) same ∙ none
 
 module _ {first second : Meaning} {early late : Keeping} where
@@ -99,23 +99,23 @@ pub record HasItsMen (before after : Unit) : Type 0 where
   pub men : after.holding.men ≡ before.holding.men
 
 -- each unit has
-abbrev pub HaveTheirMen : State → State → Type 0
+abbrev pub HaveTheirMen : CampaignValue → CampaignValue → Type 0
 HaveTheirMen before after = Every (λ n u. IsSpared HasItsMen after n u) before.units
 
-pub men_stay : (c : State) → HaveTheirMen c c
+pub men_stay : (c : CampaignValue) → HaveTheirMen c c
 men_stay c n u there = record { unit = u; there = there; spared = record { faction = refl; men = refl } }
 
-pub men_twice : (a b c : State) → HaveTheirMen a b → HaveTheirMen b c → HaveTheirMen a c
+pub men_twice : (a b c : CampaignValue) → HaveTheirMen a b → HaveTheirMen b c → HaveTheirMen a c
 men_twice a b c one two n u there =
     let x = one n u there in
     let y = two n x.unit x.there in
     record { unit = y.unit; there = y.there; spared = record { faction = y.spared.faction ∙ x.spared.faction; men = y.spared.men ∙ x.spared.men } }
 
-pub men_same : (c d : State) → d.units ≡ c.units → HaveTheirMen c d
+pub men_same : (c d : CampaignValue) → d.units ≡ c.units → HaveTheirMen c d
 men_same c d same n u there = record { unit = u; there = ap (λ (m : FinMap nat_cmp Unit). get m n) same ∙ there; spared = record { faction = refl; men = refl } }
 
 -- a unit changes, and keeps its men
-pub men_changed : (f : Unit → Unit) → ((u : Unit) → HasItsMen u (f u)) → (c d : State) (k : ℕ) → d.units ≡ changed f c.units k → HaveTheirMen c d
+pub men_changed : (f : Unit → Unit) → ((u : Unit) → HasItsMen u (f u)) → (c d : CampaignValue) (k : ℕ) → d.units ≡ changed f c.units k → HaveTheirMen c d
 men_changed f stay c d k same n u there =
     record { unit = at_number f c.units k n u; there = ap (λ (m : FinMap nat_cmp Unit). get m n) same ∙ get-changed f c.units k n ∙ ap (option_map (at_number f c.units k n)) there; spared = by_number (n == k) }
   where
@@ -124,7 +124,7 @@ men_changed f stay c d k same n u there =
     by_number false = record { faction = refl; men = refl }
 
 -- a unit is put back, with its men
-pub men_put : (c d : State) (k : ℕ) (v x : Unit) → get c.units k ≡ Some v → HasItsMen v x → d.units ≡ insert c.units k x → HaveTheirMen c d
+pub men_put : (c d : CampaignValue) (k : ℕ) (v x : Unit) → get c.units k ≡ Some v → HasItsMen v x → d.units ≡ insert c.units k x → HaveTheirMen c d
 men_put c d k v x here stay same n u there = elim (cases_eq n k) [
   | inl own ↦
       let unit : v ≡ u = same_Some _ _ (sym here ∙ ap (get c.units) (sym own) ∙ there) in
@@ -134,12 +134,12 @@ men_put c d k v x here stay same n u there = elim (cases_eq n k) [
 ]
 
 -- steps in turn, each of which keeps the men
-pub men_in_turn : {X : Type 0} (step : State → X → State) → ((c : State) (x : X) → HaveTheirMen c (step c x)) → (c : State) (xs : List X) → HaveTheirMen c (fold step c xs)
+pub men_in_turn : {X : Type 0} (step : CampaignValue → X → CampaignValue) → ((c : CampaignValue) (x : X) → HaveTheirMen c (step c x)) → (c : CampaignValue) (xs : List X) → HaveTheirMen c (fold step c xs)
 men_in_turn step each c [] = men_stay c
 men_in_turn step each c (x ∷ xs) = men_twice c (step c x) (fold step (step c x) xs) (each c x) (men_in_turn step each (step c x) xs)
 
 -- with a fault nothing changes
-pub men_unless : (c d : State) (o : Outcome) (fault : Option EventFault) → HaveTheirMen c d → HaveTheirMen c (unless c fault (d, o)).0
+pub men_unless : (c d : CampaignValue) (o : Outcome) (fault : Option EventFault) → HaveTheirMen c d → HaveTheirMen c (unless c fault (d, o)).0
 men_unless c d o (Some fault) h = men_stay c
 men_unless c d o None h = h
 
@@ -152,7 +152,7 @@ pub items_of_no_worse : (u v : Unit) → IsNoWorse u v → HasItsItems u v
 items_of_no_worse u v h = record { name = h.name; items = h.items }
 
 -- what is so of each unit whose faction sent no mailing
-abbrev pub UnmailedAre : Sparing → Course → State → State → Type 0
+abbrev pub UnmailedAre : Sparing → MonthValue → CampaignValue → CampaignValue → Type 0
 UnmailedAre spares m before after = Every (λ n u. get m.readings u.faction ≡ None → IsSpared spares after n u) before.units
 
 whole : (x y : ℕ) (u v : Unit) → y ≡ x → HasItsMen u v → HasItsItems u v → IsLessBy (y - x) u v
@@ -161,10 +161,10 @@ whole x y u v same men items = record { faction = men.faction; name = items.name
     nobody : (a b : ℕ) → b ≡ a → b ≡ a - (y - x)
     nobody a b e = omega (arith, same)
 
-module _ {meaning : Meaning} {keeps : Keeping} (readings : (w : Planet) (c : State) (m : Course) → (meaning w c m).1.readings ≡ m.readings)
-    (nobody : (w : Planet) (c : State) (m : Course) (n : ℕ) → starved_in (meaning w c m).1.events n ≡ starved_in m.events n)
-    (men : (w : Planet) (c : State) (m : Course) → keeps w m c (meaning w c m).0 → UnmailedAre HasItsMen m c (meaning w c m).0)
-    (items : (w : Planet) (c : State) (m : Course) → keeps w m c (meaning w c m).0 → UnmailedAre HasItsItems m c (meaning w c m).0) where
+module _ {meaning : Meaning} {keeps : Keeping} (readings : (w : WorldValue) (c : CampaignValue) (m : MonthValue) → (meaning w c m).1.readings ≡ m.readings)
+    (nobody : (w : WorldValue) (c : CampaignValue) (m : MonthValue) (n : ℕ) → starved_in (meaning w c m).1.events n ≡ starved_in m.events n)
+    (men : (w : WorldValue) (c : CampaignValue) (m : MonthValue) → keeps w m c (meaning w c m).0 → UnmailedAre HasItsMen m c (meaning w c m).0)
+    (items : (w : WorldValue) (c : CampaignValue) (m : MonthValue) → keeps w m c (meaning w c m).0 → UnmailedAre HasItsItems m c (meaning w c m).0) where
   pub whole_leaves : LeavesUnmailed meaning keeps
   whole_leaves = record {
     readings = readings;
@@ -179,7 +179,7 @@ module _ {meaning : Meaning} {keeps : Keeping} (readings : (w : Planet) (c : Sta
 -- ---- a phase whose orders are carried out one by one
 
 -- no order of a phase is of a faction that sent no mailing
-pub none_ordered : (is_of : Verb → Bool) (arrangement : Arrangement) (m : Course) (f : ℕ) → get m.readings f ≡ None → All (λ t. t.faction ≢ f) (values (orders_of is_of arrangement m.aliases m.readings))
+pub none_ordered : (is_of : Verb → Bool) (arrangement : Arrangement) (m : MonthValue) (f : ℕ) → get m.readings f ≡ None → All (λ t. t.faction ≢ f) (values (orders_of is_of arrangement m.aliases m.readings))
 none_ordered is_of arrangement m f none k d l same =
     let h = orders_are_in_mailings is_of arrangement m.aliases m.readings k d l in
     none_some h.reading (sym none ∙ ap (get m.readings) (sym same) ∙ h.of_faction)
@@ -194,21 +194,21 @@ told_of_order events t outcome n =
     by_unit false x = omega arith
 
 -- units of other factions than this one have their men
-abbrev pub OthersHaveMen : (faction : ℕ) → State → State → Type 0
+abbrev pub OthersHaveMen : (faction : ℕ) → CampaignValue → CampaignValue → Type 0
 OthersHaveMen f c d = Every (λ n u. f ≢ u.faction → IsSpared HasItsMen d n u) c.units
 
-pub others_men : (f : ℕ) (c d : State) → HaveTheirMen c d → OthersHaveMen f c d
+pub others_men : (f : ℕ) (c d : CampaignValue) → HaveTheirMen c d → OthersHaveMen f c d
 others_men f c d men n u there other = men n u there
 
 -- behind an order each unit of another faction than the one that wrote it has its men
 abbrev pub SparesMen : Step → Type 0
-SparesMen step = (w : Planet) (a : Aliases) (c : State) (t : Task) (x : Unit) → IsUnitOf c t x → IfSome (step w a t) (λ deed. OthersHaveMen t.faction c (deed c x).0)
+SparesMen step = (w : WorldValue) (a : Aliases) (c : CampaignValue) (t : Task) (x : Unit) → IsUnitOf c t x → IfSome (step w a t) (λ deed. OthersHaveMen t.faction c (deed c x).0)
 
 module _ (step : Step) where
-  order_spares : SparesMen step → (w : Planet) (a : Aliases) (c : State) (t : Task) → OthersHaveMen t.faction c (ordered (step w a t) c t.faction t.unit).0
+  order_spares : SparesMen step → (w : WorldValue) (a : Aliases) (c : CampaignValue) (t : Task) → OthersHaveMen t.faction c (ordered (step w a t) c t.faction t.unit).0
   order_spares spares w a c t = ordered_cases (OthersHaveMen t.faction c) (step w a t) c t (others_men t.faction c c (men_stay c)) (λ x own. spares w a c t x own)
 
-  orders_spare : SparesMen step → (w : Planet) (c : State) (m : Course) (ts : List Task) → (n : ℕ) (u : Unit) → get c.units n ≡ Some u → AllByRecursion (λ t. t.faction ≢ u.faction) ts → IsSpared HasItsMen (fold (one_order step w) (c, m) ts).0 n u
+  orders_spare : SparesMen step → (w : WorldValue) (c : CampaignValue) (m : MonthValue) (ts : List Task) → (n : ℕ) (u : Unit) → get c.units n ≡ Some u → AllByRecursion (λ t. t.faction ≢ u.faction) ts → IsSpared HasItsMen (fold (one_order step w) (c, m) ts).0 n u
   orders_spare spares w c m [] n u there others = men_stay c n u there
   orders_spare spares w c m (t ∷ ts) n u there others =
       let next = one_order step w (c, m) t in
@@ -216,37 +216,37 @@ module _ (step : Step) where
       let two = orders_spare spares w next.0 next.1 ts n one.unit one.there (subst (λ f. AllByRecursion (λ t. t.faction ≢ f) ts) (sym one.spared.faction) others.1) in
       record { unit = two.unit; there = two.there; spared = record { faction = two.spared.faction ∙ one.spared.faction; men = two.spared.men ∙ one.spared.men } }
 
-  orders_readings : (w : Planet) (p : State × Course) (ts : List Task) → (fold (one_order step w) p ts).1.readings ≡ p.1.readings
+  orders_readings : (w : WorldValue) (p : CampaignValue × MonthValue) (ts : List Task) → (fold (one_order step w) p ts).1.readings ≡ p.1.readings
   orders_readings w p [] = refl
   orders_readings w p (t ∷ ts) = orders_readings w (one_order step w p t) ts ∙ order_readings step w p t
 
-  order_told : (w : Planet) (p : State × Course) (t : Task) (n : ℕ) → starved_in (one_order step w p t).1.events n ≡ starved_in p.1.events n
+  order_told : (w : WorldValue) (p : CampaignValue × MonthValue) (t : Task) (n : ℕ) → starved_in (one_order step w p t).1.events n ≡ starved_in p.1.events n
   order_told w p t n = by_outcome (ordered (step w p.1.aliases t) p.0 t.faction t.unit).1
     where
       by_outcome : (o : Option Outcome) → starved_in (with_told p.1 t o).events n ≡ starved_in p.1.events n
       by_outcome None = refl
       by_outcome (Some outcome) = told_of_order p.1.events t outcome n
 
-  orders_told : (w : Planet) (p : State × Course) (ts : List Task) (n : ℕ) → starved_in (fold (one_order step w) p ts).1.events n ≡ starved_in p.1.events n
+  orders_told : (w : WorldValue) (p : CampaignValue × MonthValue) (ts : List Task) (n : ℕ) → starved_in (fold (one_order step w) p ts).1.events n ≡ starved_in p.1.events n
   orders_told w p [] n = refl
   orders_told w p (t ∷ ts) n = orders_told w (one_order step w p t) ts n ∙ order_told w p t n
 
   module _ (is_of : Verb → Bool) where
-    pub carried_readings : (w : Planet) (c : State) (m : Course) → (carried_out step is_of w c m).1.readings ≡ m.readings
+    pub carried_readings : (w : WorldValue) (c : CampaignValue) (m : MonthValue) → (carried_out step is_of w c m).1.readings ≡ m.readings
     unfolding carried_out
     carried_readings w c m = orders_readings w (c, m) (values (orders_of is_of ByUnit m.aliases m.readings))
 
-    pub carried_told : (w : Planet) (c : State) (m : Course) (n : ℕ) → starved_in (carried_out step is_of w c m).1.events n ≡ starved_in m.events n
+    pub carried_told : (w : WorldValue) (c : CampaignValue) (m : MonthValue) (n : ℕ) → starved_in (carried_out step is_of w c m).1.events n ≡ starved_in m.events n
     unfolding carried_out
     carried_told w c m n = orders_told w (c, m) (values (orders_of is_of ByUnit m.aliases m.readings)) n
 
-    pub carried_men : SparesMen step → (w : Planet) (c : State) (m : Course) → UnmailedAre HasItsMen m c (carried_out step is_of w c m).0
+    pub carried_men : SparesMen step → (w : WorldValue) (c : CampaignValue) (m : MonthValue) → UnmailedAre HasItsMen m c (carried_out step is_of w c m).0
     unfolding carried_out
     carried_men spares w c m n u there none =
         let ts = values (orders_of is_of ByUnit m.aliases m.readings) in
         orders_spare spares w c m ts n u there (recursion_from_All (λ t. t.faction ≢ u.faction) ts (none_ordered is_of ByUnit m u.faction none))
 
-    pub carried_leaves : {keeps : Keeping} → SparesMen step → ((w : Planet) (c d : State) (m : Course) → keeps w m c d → UnmailedAre HasItsItems m c d) → LeavesUnmailed (carried_out step is_of) keeps
+    pub carried_leaves : {keeps : Keeping} → SparesMen step → ((w : WorldValue) (c d : CampaignValue) (m : MonthValue) → keeps w m c d → UnmailedAre HasItsItems m c d) → LeavesUnmailed (carried_out step is_of) keeps
     carried_leaves {keeps} spares items =
         whole_leaves {meaning = carried_out step is_of} {keeps = keeps} carried_readings carried_told
         (λ w c m h. carried_men spares w c m) (λ w c m h. items w c (carried_out step is_of w c m).0 m h)
@@ -256,7 +256,7 @@ own_faction t n f h = h.faction
 
 -- a phase that spares those whom no order of it concerns spares them, where only orders of its own faction concern a unit
 pub unmailed_spared : {concerns : Concern} {spares : Sparing} (is_of : Verb → Bool) → ((t : Task) (n f : ℕ) → concerns t n f → t.faction ≡ f) → ((u v : Unit) → spares u v → HasItsItems u v)
-    → (w : Planet) (c d : State) (m : Course) → spares_others concerns spares is_of w m c d → UnmailedAre HasItsItems m c d
+    → (w : WorldValue) (c d : CampaignValue) (m : MonthValue) → spares_others concerns spares is_of w m c d → UnmailedAre HasItsItems m c d
 unmailed_spared {concerns} {spares} is_of own items w c d m h n u there none =
     let others = none_ordered is_of ByUnit m u.faction none in
     let one = h n u there (λ k e l concerned. others k e l (own _ n u.faction concerned)) in

@@ -2,7 +2,7 @@
 use Rattle.std.proofs.Common.{◌≡◌, ◌≢◌, ◌==◌, ◌+◌, ◌-◌, ℕ, Bool, true, false, List, [], ◌∷◌, Option, Some, None, refl, sym, ap, ◌∙◌, arith}
 use Rattle.std.specs.Prelude.{IfSome, fold, if◌then◌else◌}
 use Rattle.std.specs.FinMap.{get, values}
-use Rattle.atl_tables.specs.Planet.{Planet}
+use Rattle.atl_tables.specs.Worlds.{WorldValue}
 use Rattle.atl_tables.proofs.GeneralLaws.{is_equal}
 use Rattle.atl_orders.specs.declared.order.NameKind.{NameKind}
 use Rattle.atl_orders.specs.declared.order.NameKind.TheVariants as kinds
@@ -14,10 +14,10 @@ use Rattle.atl_state.specs.declared.records.Unit.{Unit}
 use Rattle.atl_state.specs.Held.{Held}
 use Rattle.atl_state.specs.Lending.{with_held}
 use Rattle.atl_state.specs.Owners.{handed, heir, placed, with_place, with_place_at}
-use Rattle.atl_state.specs.State.{State, numbers_of, with_guard, with_owner, with_structure_name}
+use Rattle.atl_state.specs.Campaign.{CampaignValue, numbers_of, with_guard, with_owner, with_structure_name}
 use Rattle.atl_state.proofs.EveryLaws.{get-insert_other}
 use Rattle.atl_state.proofs.RemovedLaws.{IsListed, listed_passing}
-use Rattle.atl_instant.specs.Course.{Aliases, Course}
+use Rattle.atl_instant.specs.Month.{Aliases, MonthValue}
 use Rattle.atl_instant.specs.Form.{form_by, form_keeps, form_meaning, form_order, is_forming}
 use Rattle.atl_instant.specs.Give.{give, give_said, give_step, give_terms, held_of, is_giving, with_held_of}
 use Rattle.atl_instant.specs.Guard.{guard, guard_concerns, guard_fault, guard_said, guard_step, guard_terms, is_guarding}
@@ -42,11 +42,11 @@ use Rattle.atl_instant.proofs.UnmailedLaws.{HasItsMen, HaveTheirMen, LeavesUnmai
 
 -- ---- FORM
 
-form_readings : (p : State × Course) (ts : List Task) → (fold form_order p ts).1.readings ≡ p.1.readings
+form_readings : (p : CampaignValue × MonthValue) (ts : List Task) → (fold form_order p ts).1.readings ≡ p.1.readings
 form_readings p [] = refl
 form_readings p (t ∷ ts) = form_readings (form_order p t) ts
 
-form_told : (p : State × Course) (ts : List Task) (n : ℕ) → starved_in (fold form_order p ts).1.events n ≡ starved_in p.1.events n
+form_told : (p : CampaignValue × MonthValue) (ts : List Task) (n : ℕ) → starved_in (fold form_order p ts).1.events n ≡ starved_in p.1.events n
 form_told p [] n = refl
 form_told p (t ∷ ts) n = form_told (form_order p t) ts n ∙ told_of_order p.1.events t (form_by p.0 t.faction t.unit).1 n
 
@@ -64,16 +64,16 @@ form_leaves =
 flag_men : (flag : Bool) (u : Unit) → HasItsMen u (record u { holding = record u.holding { guard = flag } })
 flag_men flag u = record { faction = refl; men = refl }
 
-pub guard_men : (c : State) (n : ℕ) (flag : Bool) → HaveTheirMen c (with_guard c n flag)
+pub guard_men : (c : CampaignValue) (n : ℕ) (flag : Bool) → HaveTheirMen c (with_guard c n flag)
 guard_men c n flag = men_changed (λ u. record u { holding = record u.holding { guard = flag } }) (flag_men flag) c (with_guard c n flag) n refl
 
-named_men : (w : Planet) (c : State) (n f s : ℕ) (what : NameKind) (name : List ℕ) → HaveTheirMen c (named w c n f s what name).0
+named_men : (w : WorldValue) (c : CampaignValue) (n f s : ℕ) (what : NameKind) (name : List ℕ) → HaveTheirMen c (named w c n f s what name).0
 named_men w c n f s kinds.Unit name = men_changed (λ u. record u { holding = record u.holding { name = name } }) (λ u. record { faction = refl; men = refl }) c (named w c n f s kinds.Unit name).0 n refl
 named_men w c n f s kinds.Faction name = men_same c (named w c n f s kinds.Faction name).0 refl
 named_men w c n f s kinds.Building name = men_unless c (with_structure_name c s name) (Done 0) _ (men_same c (with_structure_name c s name) refl)
 named_men w c n f s kinds.Ship name = men_unless c (with_structure_name c s name) (Done 0) _ (men_same c (with_structure_name c s name) refl)
 
-name_men : (w : Planet) (c : State) (f n : ℕ) (x : Unit) (o : Said) → IfSome (name_said w n o) (λ deed. OthersHaveMen f c (deed c x).0)
+name_men : (w : WorldValue) (c : CampaignValue) (f n : ℕ) (x : Unit) (o : Said) → IfSome (name_said w n o) (λ deed. OthersHaveMen f c (deed c x).0)
 name_men w c f n x (orders.Name what name) = others_men f c (names w n what name c x).0 (named_men w c n x.faction x.structure what name)
 name_men w c f n x (orders.Guard false) = others_men f c (with_guard c n false) (guard_men c n false)
 name_men w c f n x other = tt
@@ -86,15 +86,15 @@ name_leaves = carried_leaves name_step is_naming name_spares (unmailed_spared {c
 
 -- ---- LEAVE, ENTER and PROMOTE
 
-handed_men : (c : State) (s from to : ℕ) → HaveTheirMen c (handed c s from to)
-handed_men c s from to = men_same c (handed c s from to) (ap (λ (d : State). d.units) (handed_is c s from to))
+handed_men : (c : CampaignValue) (s from to : ℕ) → HaveTheirMen c (handed c s from to)
+handed_men c s from to = men_same c (handed c s from to) (ap (λ (d : CampaignValue). d.units) (handed_is c s from to))
 
 -- a unit goes to another place
-pub place_men : (c : State) (n r s : ℕ) → HaveTheirMen c (with_place c n r s)
+pub place_men : (c : CampaignValue) (n r s : ℕ) → HaveTheirMen c (with_place c n r s)
 unfolding with_place
 place_men c n r s = by_unit (get c.units n)
   where
-    there : State
+    there : CampaignValue
     there = placed c n r s
 
     put : HaveTheirMen c there
@@ -110,11 +110,11 @@ place_men c n r s = by_unit (get c.units n)
     by_unit None = men_stay c
     by_unit (Some u) = by_test u (u.structure == s)
 
-entered_men : (c : State) (n region s : ℕ) (b : Bool) → HaveTheirMen c (if b then c else with_place c n region s)
+entered_men : (c : CampaignValue) (n region s : ℕ) (b : Bool) → HaveTheirMen c (if b then c else with_place c n region s)
 entered_men c n region s true = men_stay c
 entered_men c n region s false = place_men c n region s
 
-places_men : (w : Planet) (a : Aliases) (c : State) (f n : ℕ) (x : Unit) (o : Said) → IfSome (place_said w a f n o) (λ deed. OthersHaveMen f c (deed c x).0)
+places_men : (w : WorldValue) (a : Aliases) (c : CampaignValue) (f n : ℕ) (x : Unit) (o : Said) → IfSome (place_said w a f n o) (λ deed. OthersHaveMen f c (deed c x).0)
 unfolding left entered promoted
 places_men w a c f n x orders.Leave = others_men f c (left w n c x).0 (men_unless c (with_place c n x.region 0) (Done 0) (leave_fault w x) (place_men c n x.region 0))
 places_men w a c f n x (orders.Enter s) =
@@ -137,21 +137,21 @@ gift_men Money v n = record { faction = refl; men = refl }
 gift_men (Item i) v n = record { faction = refl; men = refl }
 
 -- what goes from one unit to another, of whom both keep their men
-men_moved : (c : State) (from to : ℕ) (u v : Unit) (h k : Held) (giver : get c.units from ≡ Some u) (receiver : get c.units to ≡ Some v) (apart : to ≢ from)
+men_moved : (c : CampaignValue) (from to : ℕ) (u v : Unit) (h k : Held) (giver : get c.units from ≡ Some u) (receiver : get c.units to ≡ Some v) (apart : to ≢ from)
     → HasItsMen u (record u { holding = h }) → HasItsMen v (record v { holding = k }) → HaveTheirMen c (moved c from to u v h k giver receiver apart)
 men_moved c from to u v h k giver receiver apart one two =
     let between = with_held c from h (Some u) in
     men_twice c between (with_held between to k (Some v)) (men_put c between from u (record u { holding = h }) giver one refl)
     (men_put between (with_held between to k (Some v)) to v (record v { holding = k }) (receiver_still c from to u v h k giver receiver apart) two refl)
 
-give_men : (c : State) (from to : ℕ) (gift : Gift) (n : ℕ) (u : Unit) → get c.units from ≡ Some u → HaveTheirMen c (give from to gift n c u).0
+give_men : (c : CampaignValue) (from to : ℕ) (gift : Gift) (n : ℕ) (u : Unit) → get c.units from ≡ Some u → HaveTheirMen c (give from to gift n c u).0
 give_men c from to gift n u giver =
     give_cases (HaveTheirMen c) c from to gift n u giver (men_stay c)
     (λ v receiver apart can.
     men_moved c from to u v (with_held_of gift u.holding (held_of gift u.holding - n)) (with_held_of gift v.holding (held_of gift v.holding + n)) giver receiver apart
     (gift_men gift u (held_of gift u.holding - n)) (gift_men gift v (held_of gift v.holding + n)))
 
-given_men : (a : Aliases) (c : State) (f from : ℕ) (x : Unit) → get c.units from ≡ Some x → (o : Said) → IfSome (give_said a f from o) (λ deed. OthersHaveMen f c (deed c x).0)
+given_men : (a : Aliases) (c : CampaignValue) (f from : ℕ) (x : Unit) → get c.units from ≡ Some x → (o : Said) → IfSome (give_said a f from o) (λ deed. OthersHaveMen f c (deed c x).0)
 given_men a c f from x here (orders.Give to n item) = others_men f c (give from (unit_of a f to) (Item item) n c x).0 (give_men c from (unit_of a f to) (Item item) n x here)
 given_men a c f from x here (orders.Pay to n) = others_men f c (give from (unit_of a f to) Money n c x).0 (give_men c from (unit_of a f to) Money n x here)
 given_men a c f from x here other = tt
@@ -164,7 +164,7 @@ give_leaves = carried_leaves give_step is_giving give_spares (unmailed_spared is
 
 -- ---- TRANSFER
 
-transfer_others : (c : State) (from to n : ℕ) (x : Unit) → get c.units from ≡ Some x → OthersHaveMen x.faction c (transfer from to n c x).0
+transfer_others : (c : CampaignValue) (from to n : ℕ) (x : Unit) → get c.units from ≡ Some x → OthersHaveMen x.faction c (transfer from to n c x).0
 transfer_others c from to n x here =
     transfer_cases (OthersHaveMen x.faction c) c from to n x here (others_men x.faction c c (men_stay c))
     (λ v receiver apart can k y there other.
@@ -181,7 +181,7 @@ transfer_others c from to n x here =
     same_unit : (k : ℕ) (y z : Unit) → get c.units k ≡ Some y → get c.units k ≡ Some z → y ≡ z
     same_unit k y z one two = let both : Some y ≡ Some z = sym one ∙ two in cc
 
-transferred : (a : Aliases) (c : State) (t : Task) (x : Unit) → IsUnitOf c t x → (o : Said) → IfSome (transfer_said a t.faction t.unit o) (λ deed. OthersHaveMen t.faction c (deed c x).0)
+transferred : (a : Aliases) (c : CampaignValue) (t : Task) (x : Unit) → IsUnitOf c t x → (o : Said) → IfSome (transfer_said a t.faction t.unit o) (λ deed. OthersHaveMen t.faction c (deed c x).0)
 transferred a c t x own (orders.Transfer to n) = λ k y there other. transfer_others c t.unit (unit_of a t.faction to) n x own.there k y there (λ same. other (sym own.faction ∙ same))
 transferred a c t x own o = tt
 
@@ -193,11 +193,11 @@ transfer_leaves = carried_leaves transfer_step is_transferring transfer_spares (
 
 -- ---- GUARD 1
 
-guarding_men : (c : State) (n : ℕ) (u : Unit) → HaveTheirMen c (guard n c u).0
+guarding_men : (c : CampaignValue) (n : ℕ) (u : Unit) → HaveTheirMen c (guard n c u).0
 unfolding guard
 guarding_men c n u = men_unless c (with_guard c n true) (Done 0) (guard_fault c u) (guard_men c n true)
 
-guarded_men : (c : State) (f n : ℕ) (x : Unit) (o : Said) → IfSome (guard_said n o) (λ deed. OthersHaveMen f c (deed c x).0)
+guarded_men : (c : CampaignValue) (f n : ℕ) (x : Unit) (o : Said) → IfSome (guard_said n o) (λ deed. OthersHaveMen f c (deed c x).0)
 guarded_men c f n x (orders.Guard true) = others_men f c (guard n c x).0 (guarding_men c n x)
 guarded_men c f n x other = tt
 
@@ -209,7 +209,7 @@ guard_leaves = carried_leaves guard_step is_guarding guard_spares (unmailed_spar
 
 -- ---- QUIT
 
-quit_others : (c : State) (number : ℕ) (x : Unit) → OthersHaveMen x.faction c (quit number c x).0
+quit_others : (c : CampaignValue) (number : ℕ) (x : Unit) → OthersHaveMen x.faction c (quit number c x).0
 unfolding quit
 quit_others c number x k y there other = by_fault (quit_fault number x)
   where
@@ -224,7 +224,7 @@ quit_others c number x k y there other = by_fault (quit_fault number x)
     by_fault (Some fault) = men_stay c k y there
     by_fault None = record { unit = y; there = all_left_others c (numbers_of x.faction c.units) k stays ∙ there; spared = record { faction = refl; men = refl } }
 
-quitted : (c : State) (t : Task) (x : Unit) → IsUnitOf c t x → (o : Said) → IfSome (quit_said o) (λ deed. OthersHaveMen t.faction c (deed c x).0)
+quitted : (c : CampaignValue) (t : Task) (x : Unit) → IsUnitOf c t x → (o : Said) → IfSome (quit_said o) (λ deed. OthersHaveMen t.faction c (deed c x).0)
 quitted c t x own (orders.Quit number) = λ k y there other. quit_others c number x k y there (λ same. other (sym own.faction ∙ same))
 quitted c t x own o = tt
 

@@ -13,7 +13,7 @@ use Rattle.atl_orders.specs.Mailing.{EntrySaid, Reading}
 use Rattle.atl_state.specs.Deciding.{EachOf}
 use Rattle.atl_state.proofs.EveryLaws.{each-from_every}
 use Rattle.atl_state.proofs.BackLaws.{append_each}
-use Rattle.atl_instant.specs.Course.{Aliases}
+use Rattle.atl_instant.specs.Month.{Aliases}
 use Rattle.atl_instant.specs.PhaseOrders.{IsInMailing, OrdersAreInMailings, Task, key_of, tasks_for, tasks_from, tasks_of}
 use Rattle.atl_instant.proofs.MappedLaws.{no_entries}
 

@@ -4,7 +4,7 @@ use Rattle.std.specs.Ordering.{nat_cmp}
 use Rattle.std.specs.FinMap.{FinMap}
 use Rattle.atl_orders.specs.Orders.{Said}
 use Rattle.atl_orders.specs.Mailing.{Reading}
-use Rattle.atl_instant.specs.Course.{order_at}
+use Rattle.atl_instant.specs.Month.{order_at}
 use Rattle.atl_instant.specs.PhaseOrders.{Task}
 use Rattle.atl_instant.specs.declared.written.Written.{Written}
 

@@ -12,7 +12,7 @@ use Rattle.atl_instant.specs.declared.standing.Slot.{Slot}
 use Rattle.atl_instant.specs.declared.written.Written.{Written}
 use Rattle.atl_instant.specs.declared.written.Arrangement.{Arrangement}
 use Rattle.atl_instant.specs.declared.written.Arrangement.TheVariants.{ByUnit, ByFaction}
-use Rattle.atl_instant.specs.Course.{Aliases}
+use Rattle.atl_instant.specs.Month.{Aliases}
 use Rattle.atl_instant.specs.PhaseOrders.{Task, tasks_of, tasks_for, last_line, slot_number}
 
 -- the mailings stand by their factions

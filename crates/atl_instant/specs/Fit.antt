@@ -2,9 +2,9 @@
 use Rattle.std.specs.Prelude.{ℕ, ◌≡◌, Some}
 use Rattle.std.specs.Ordering.{nat_cmp}
 use Rattle.std.specs.FinMap.{FinMap, get}
-use Rattle.atl_tables.specs.Planet.{Planet}
+use Rattle.atl_tables.specs.Worlds.{WorldValue}
 use Rattle.atl_orders.specs.Bounds.{IsReading}
 use Rattle.atl_orders.specs.Mailing.{Reading}
 
-abbrev pub AreFit : Planet → FinMap nat_cmp Reading → Type 0
+abbrev pub AreFit : WorldValue → FinMap nat_cmp Reading → Type 0
 AreFit w readings = (f : ℕ) (r : Reading) → get readings f ≡ Some r → IsReading w r

@@ -13,8 +13,8 @@ use Rattle.atl_state.specs.declared.event.Outcome.TheVariants.{Done}
 use Rattle.atl_state.specs.declared.records.Unit.{Unit}
 use Rattle.atl_state.specs.Good.{Every}
 use Rattle.atl_state.specs.Limits.{last_unit, most_units}
-use Rattle.atl_state.specs.State.{State, with_unit_begun}
-use Rattle.atl_instant.specs.Course.{Aliases, Course, with_alias}
+use Rattle.atl_state.specs.Campaign.{CampaignValue, with_unit_begun}
+use Rattle.atl_instant.specs.Month.{Aliases, MonthValue, with_alias}
 use Rattle.atl_instant.specs.Inside.{inside, region_of}
 use Rattle.atl_instant.specs.Meaning.{Keeping, Meaning}
 use Rattle.atl_instant.specs.Outcomes.{first_fault, unless}
@@ -30,11 +30,11 @@ is_forming verb = false
 -- ---- one order
 
 -- no further unit can come: 10,000 stand, or the last number is given
-abbrev pub is_unit_limit : State → Bool
+abbrev pub is_unit_limit : CampaignValue → Bool
 is_unit_limit c = nat_le most_units (len c.units) || nat_lt last_unit c.next_unit
 
 -- why a faction's order for a unit forms none
-abbrev pub form_fault : State → (f n : ℕ) → Option EventFault
+abbrev pub form_fault : CampaignValue → (f n : ℕ) → Option EventFault
 form_fault c f n = first_fault ((not (is_of_faction f (get c.units n)), NotYours) ∷ (is_unit_limit c, UnitLimit) ∷ [])
 
 -- a new unit, with a name and nothing else
@@ -47,11 +47,11 @@ new_unit number faction region structure = record {
 }
 
 -- a unit of a faction forms one of its faction, where it is itself
-abbrev pub formed : State → (f n : ℕ) → State
+abbrev pub formed : CampaignValue → (f n : ℕ) → CampaignValue
 formed c f n = with_unit_begun c (new_unit c.next_unit f (region_of c n) (inside c n))
 
 -- what an order makes of a campaign, and what came of it
-abbrev pub form_by : State → (f n : ℕ) → State × Outcome
+abbrev pub form_by : CampaignValue → (f n : ℕ) → CampaignValue × Outcome
 form_by c f n = unless c (form_fault c f n) (formed c f n, Done c.next_unit)
 
 -- ---- the phase
@@ -66,10 +66,10 @@ abbrev pub noted : Aliases → (f alias : ℕ) → Outcome → Aliases
 noted aliases f alias (Done number) = with_alias aliases f alias number
 noted aliases f alias outcome = aliases
 
-abbrev pub and_noted : Course → Task → State × Outcome → State × Course
+abbrev pub and_noted : MonthValue → Task → CampaignValue × Outcome → CampaignValue × MonthValue
 and_noted m t (c, outcome) = (c, record m { aliases = noted m.aliases t.faction (alias_of t.said) outcome; events = m.events ++ told t outcome ∷ [] })
 
-abbrev pub form_order : State × Course → Task → State × Course
+abbrev pub form_order : CampaignValue × MonthValue → Task → CampaignValue × MonthValue
 form_order (c, m) t = and_noted m t (form_by c t.faction t.unit)
 
 -- by faction and line

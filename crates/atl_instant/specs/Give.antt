@@ -13,8 +13,8 @@ use Rattle.atl_state.specs.declared.records.Unit.{Unit}
 use Rattle.atl_state.specs.Held.{Held, amount_of, with_amount_of}
 use Rattle.atl_state.specs.Lending.{with_held}
 use Rattle.atl_state.specs.Limits.{holding_limit}
-use Rattle.atl_state.specs.State.{State}
-use Rattle.atl_instant.specs.Course.{Aliases}
+use Rattle.atl_state.specs.Campaign.{CampaignValue}
+use Rattle.atl_instant.specs.Month.{Aliases}
 use Rattle.atl_instant.specs.Outcomes.{first_fault, unless}
 use Rattle.atl_instant.specs.PhaseOrders.{unit_of}
 use Rattle.atl_instant.specs.Staying.{IsNoWorse}
@@ -52,14 +52,14 @@ give_fault gift n itself u (Some v) =
     ∷ [])
 
 -- The whole amount goes from one unit to another. To itself nothing changes.
-abbrev pub given : State → (from to : ℕ) → Gift → (n : ℕ) → Option Unit → Option Unit → State
+abbrev pub given : CampaignValue → (from to : ℕ) → Gift → (n : ℕ) → Option Unit → Option Unit → CampaignValue
 given c from to gift n (Some u) (Some v) =
     let less = with_held_of gift u.holding (held_of gift u.holding - n) in
     let more = with_held_of gift v.holding (held_of gift v.holding + n) in
     if to == from then c else with_held (with_held c from less (Some u)) to more (Some v)
 given c from to gift n giver receiver = c
 
-abbrev pub give_to : State → (from to : ℕ) → Gift → (n : ℕ) → Unit → Option Unit → State × Outcome
+abbrev pub give_to : CampaignValue → (from to : ℕ) → Gift → (n : ℕ) → Unit → Option Unit → CampaignValue × Outcome
 give_to c from to gift n u receiver = unless c (give_fault gift n (to == from) u receiver) (given c from to gift n (Some u) receiver, Done n)
 
 unfoldable pub give : (from to : ℕ) → Gift → (n : ℕ) → Deed

@@ -11,7 +11,7 @@ use Rattle.atl_state.specs.declared.event.EventFault.TheVariants.{Guarded, NoMen
 use Rattle.atl_state.specs.declared.event.Outcome.TheVariants.{Done}
 use Rattle.atl_state.specs.declared.records.Unit.{Unit}
 use Rattle.atl_state.specs.Good.{guards}
-use Rattle.atl_state.specs.State.{State, numbers_in, with_guard}
+use Rattle.atl_state.specs.Campaign.{CampaignValue, numbers_in, with_guard}
 use Rattle.atl_instant.specs.Outcomes.{first_fault, unless}
 use Rattle.atl_instant.specs.Staying.{IsNoWorse}
 use Rattle.atl_instant.specs.Steps.{Concern, Deed, IsOwnOrder, Step}
@@ -29,13 +29,13 @@ guards_against faction None = false
 guards_against faction (Some v) = guards v && not (v.faction == faction)
 
 -- whether one is in the region
-abbrev pub is_guarded_against : State → (region faction : ℕ) → Bool
+abbrev pub is_guarded_against : CampaignValue → (region faction : ℕ) → Bool
 is_guarded_against c region faction = list_any (λ n. guards_against faction (get c.units n)) (numbers_in region c.units)
 
 -- ---- one order
 
 -- NoMen, Guarded
-abbrev pub guard_fault : State → Unit → Option EventFault
+abbrev pub guard_fault : CampaignValue → Unit → Option EventFault
 guard_fault c u = first_fault ((u.holding.men == 0, NoMen) ∷ (is_guarded_against c u.region u.faction, Guarded) ∷ [])
 
 unfoldable pub guard : (n : ℕ) → Deed

@@ -4,7 +4,7 @@ use Rattle.std.specs.Ordering.{nat_cmp}
 use Rattle.std.specs.FinMap.{FinMap, empty, entries, get, insert}
 use Rattle.atl_state.specs.declared.records.Unit.{Unit}
 use Rattle.atl_state.specs.Good.{Every, guards}
-use Rattle.atl_state.specs.State.{State}
+use Rattle.atl_state.specs.Campaign.{CampaignValue}
 
 -- the factions that guard, by region
 abbrev pub HolderMap : Type 0
@@ -17,7 +17,7 @@ holder_noted m u = if guards u then insert m u.region u.faction else m
 abbrev pub all_noted : HolderMap → List (ℕ × Unit) → HolderMap
 all_noted m es = fold (λ held e. holder_noted held e.1) m es
 
-abbrev pub holders_of : State → HolderMap
+abbrev pub holders_of : CampaignValue → HolderMap
 holders_of c = all_noted empty (entries c.units)
 
 -- whether it is another faction
@@ -32,6 +32,6 @@ pub record IsGuardOf (region faction : ℕ) (u : Unit) : Type 0 where
   pub belongs : u.faction ≡ faction
 
 -- each unit on guard is of the faction under its region, and for each region with one there is such a unit
-pub record AreHolders (c : State) (m : HolderMap) : Type 0 where
+pub record AreHolders (c : CampaignValue) (m : HolderMap) : Type 0 where
   pub noted : Every (λ n u. guards u ≡ true → get m u.region ≡ Some u.faction) c.units
   pub held : (region faction : ℕ) → get m region ≡ Some faction → (n : ℕ) × (u : Unit) × (get c.units n ≡ Some u) × IsGuardOf region faction u

@@ -1,4 +1,4 @@
-pub mod Course
+pub mod Month
 pub mod Meaning
 pub mod Terms
 pub mod Room

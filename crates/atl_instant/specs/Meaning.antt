@@ -1,19 +1,19 @@
 -- What a phase of the month is, and what each phase keeps.
 use Rattle.std.specs.Prelude.{◌≡◌, ℕ, ℤ, pos, ◌+ℤ◌, ◌≤ℤ◌, ◌+◌, ◌*◌, ◌==◌, if◌then◌else◌}
 use Rattle.std.specs.FinMap.{len}
-use Rattle.atl_tables.specs.Planet.{Planet}
+use Rattle.atl_tables.specs.Worlds.{WorldValue}
 use Rattle.atl_state.specs.declared.books.Entry.{Entry}
 use Rattle.atl_state.specs.declared.books.Thing.{Thing}
 use Rattle.atl_state.specs.Books.{amount_in}
 use Rattle.atl_state.specs.Good.{IsThere}
 use Rattle.atl_state.specs.Marks.{amount_number}
-use Rattle.atl_state.specs.State.{State}
+use Rattle.atl_state.specs.Campaign.{CampaignValue}
 use Rattle.atl_state.specs.Totals.{Balances}
-use Rattle.atl_instant.specs.Course.{Course}
+use Rattle.atl_instant.specs.Month.{MonthValue}
 
 -- what a phase makes of a campaign and of what the month carries
 abbrev pub Meaning : Type 0
-Meaning = Planet → State → Course → State × Course
+Meaning = WorldValue → CampaignValue → MonthValue → CampaignValue × MonthValue
 
 -- one phase, and then another
 abbrev pub then_also : Meaning → Meaning → Meaning
@@ -23,11 +23,11 @@ then_also first second w c m = second w (first w c m).0 (first w c m).1
 
 -- what is so of a campaign in its world
 abbrev pub Condition : Type 1
-Condition = Planet → State → Type 0
+Condition = WorldValue → CampaignValue → Type 0
 
 -- what one phase leaves is what the next one needs
 abbrev pub Follows : Condition → Condition → Type 0
-Follows leaves needs = (w : Planet) (c : State) → leaves w c → needs w c
+Follows leaves needs = (w : WorldValue) (c : CampaignValue) → leaves w c → needs w c
 
 -- what two phases need: what the first one needs, if it leaves what the second one needs
 abbrev pub both_need : Condition → Condition → Condition → Condition
@@ -36,7 +36,7 @@ both_need needs between follows w c = needs w c × Follows between follows
 -- What stays, from a campaign and what the month carries to the campaign behind: what a phase leaves to the units whose own faction wrote
 -- no order of it.
 abbrev pub Keeping : Type 1
-Keeping = Planet → Course → State → State → Type 0
+Keeping = WorldValue → MonthValue → CampaignValue → CampaignValue → Type 0
 
 abbrev pub both_keep : Meaning → Keeping → Keeping → Keeping
 both_keep first early late w m before after =
@@ -79,11 +79,11 @@ pub record HasRoom (most : ℕ) (amount : ℤ) : Type 0 where
   pub below : pos most ≤ℤ (amount +ℤ pos amount_limit)
 
 -- each amount of the books may: so it is where none passes 9*10^18 in size
-abbrev pub HaveRoom : Moving → State → Type 0
+abbrev pub HaveRoom : Moving → CampaignValue → Type 0
 HaveRoom moving c = (e : Entry) (t : Thing) → HasRoom (moving e t) (amount_in c.books e t)
 
 -- Within a month the month isn't counted, no report is made, and no faction joins; one that is gone is still there.
-pub record IsSameMonth (before after : State) : Type 0 where
+pub record IsSameMonth (before after : CampaignValue) : Type 0 where
   pub month : after.month ≡ before.month
   pub reports : after.reports ≡ before.reports
   pub count : len after.factions ≡ len before.factions
@@ -91,7 +91,7 @@ pub record IsSameMonth (before after : State) : Type 0 where
 
 -- The campaign is as a phase leaves it and of the same month, the books balance where they did before, and no amount of them is moved
 -- further than the phase may move it.
-pub record LeavesWell (leaves : Condition) (moving : Moving) (w : Planet) (before after : State) : Type 0 where
+pub record LeavesWell (leaves : Condition) (moving : Moving) (w : WorldValue) (before after : CampaignValue) : Type 0 where
   pub leaves_it : leaves w after
   pub same_month : IsSameMonth before after
   pub balances : Balances before → Balances after

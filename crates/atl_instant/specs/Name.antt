@@ -1,7 +1,7 @@
 -- NAME and GUARD 0: units give names, and leave their guard. See docs/RULES.md, "Name".
 use Rattle.std.specs.Prelude.{◌≢◌, ℕ, ◌==◌, Bool, true, false, not, List, [], ◌∷◌, Option, Some, None, if◌then◌else◌}
 use Rattle.std.specs.FinMap.{get}
-use Rattle.atl_tables.specs.Planet.{Planet}
+use Rattle.atl_tables.specs.Worlds.{WorldValue}
 use Rattle.atl_orders.specs.declared.order.NameKind.{NameKind}
 use Rattle.atl_orders.specs.declared.order.NameKind.TheVariants as kinds
 use Rattle.atl_orders.specs.declared.order.Order.TheVariants as orders
@@ -14,7 +14,7 @@ use Rattle.atl_state.specs.declared.event.Outcome.{Outcome}
 use Rattle.atl_state.specs.declared.event.Outcome.TheVariants.{Done}
 use Rattle.atl_state.specs.declared.records.Structure.{Structure}
 use Rattle.atl_state.specs.Good.{is_ship}
-use Rattle.atl_state.specs.State.{State, with_faction_name, with_guard, with_structure_name, with_unit_name}
+use Rattle.atl_state.specs.Campaign.{CampaignValue, with_faction_name, with_guard, with_structure_name, with_unit_name}
 use Rattle.atl_instant.specs.Outcomes.{first_fault, unless}
 use Rattle.atl_instant.specs.Staying.{IsNoWorse}
 use Rattle.atl_instant.specs.Steps.{Concern, Deed, IsOwnOrder, Step}
@@ -30,33 +30,33 @@ is_naming verb = false
 -- ---- names
 
 -- whether a structure is a ship, or else a building
-abbrev pub is_of_sort : Planet → (ship : Bool) → Structure → Bool
+abbrev pub is_of_sort : WorldValue → (ship : Bool) → Structure → Bool
 is_of_sort w ship s = if ship then is_ship w s else not (is_ship w s)
 
 -- why a unit doesn't name the structure that it is inside
-abbrev pub structure_fault : Planet → ℕ → (ship : Bool) → Option Structure → Option EventFault
+abbrev pub structure_fault : WorldValue → ℕ → (ship : Bool) → Option Structure → Option EventFault
 structure_fault w n ship None = Some NotInside
 structure_fault w n ship (Some s) = first_fault ((not (is_of_sort w ship s), NotInside) ∷ (not (s.owner == n), NotOwner) ∷ [])
 
 -- a unit inside a structure names it
-abbrev pub structure_named : Planet → State → (n inside : ℕ) → (ship : Bool) → List ℕ → State × Outcome
+abbrev pub structure_named : WorldValue → CampaignValue → (n inside : ℕ) → (ship : Bool) → List ℕ → CampaignValue × Outcome
 structure_named w c n inside ship name = unless c (structure_fault w n ship (get c.structures inside)) (with_structure_name c inside name, Done 0)
 
 -- what a unit of a faction names, inside a structure or none
-abbrev pub named : Planet → State → (n faction inside : ℕ) → NameKind → List ℕ → State × Outcome
+abbrev pub named : WorldValue → CampaignValue → (n faction inside : ℕ) → NameKind → List ℕ → CampaignValue × Outcome
 named w c n f s kinds.Unit name = (with_unit_name c n name, Done 0)
 named w c n f s kinds.Faction name = (with_faction_name c f name, Done 0)
 named w c n f s kinds.Building name = structure_named w c n s false name
 named w c n f s kinds.Ship name = structure_named w c n s true name
 
-abbrev pub names : Planet → (n : ℕ) → NameKind → List ℕ → Deed
+abbrev pub names : WorldValue → (n : ℕ) → NameKind → List ℕ → Deed
 names w n what name c u = named w c n u.faction u.structure what name
 
 abbrev pub unguarded : (n : ℕ) → Deed
 unguarded n c u = (with_guard c n false, Done 0)
 
 -- GUARD 0, and not GUARD 1
-abbrev pub name_said : Planet → (n : ℕ) → Said → Option Deed
+abbrev pub name_said : WorldValue → (n : ℕ) → Said → Option Deed
 name_said w n (orders.Name what name) = Some (names w n what name)
 name_said w n (orders.Guard false) = Some (unguarded n)
 name_said w n order = None

@@ -4,7 +4,7 @@ use Rattle.atl_state.specs.declared.event.EventFault.{EventFault}
 use Rattle.atl_state.specs.declared.event.Outcome.{Outcome}
 use Rattle.atl_state.specs.declared.event.Outcome.TheVariants.{Fault}
 use Rattle.atl_state.specs.Events.{event_fault_number}
-use Rattle.atl_state.specs.State.{State}
+use Rattle.atl_state.specs.Campaign.{CampaignValue}
 
 -- the first that fits of some faults
 abbrev pub first_fault : List (Bool × EventFault) → Option EventFault
@@ -12,6 +12,6 @@ first_fault [] = None
 first_fault ((fits, fault) ∷ more) = if fits then Some fault else first_fault more
 
 -- with a fault nothing changes
-abbrev pub unless : State → Option EventFault → State × Outcome → State × Outcome
+abbrev pub unless : CampaignValue → Option EventFault → CampaignValue × Outcome → CampaignValue × Outcome
 unless c (Some fault) done = (c, Fault (event_fault_number fault))
 unless c None done = done

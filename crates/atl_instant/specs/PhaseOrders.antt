@@ -10,7 +10,7 @@ use Rattle.atl_orders.specs.declared.verb.Verb.{Verb}
 use Rattle.atl_orders.specs.declared.verb.Verb.TheVariants as verbs
 use Rattle.atl_orders.specs.Mailing.{EntrySaid, Reading}
 use Rattle.atl_orders.specs.Orders.{Said, verb_of_order}
-use Rattle.atl_instant.specs.Course.{Aliases, Course, alias_unit}
+use Rattle.atl_instant.specs.Month.{Aliases, MonthValue, alias_unit}
 use Rattle.atl_instant.specs.declared.standing.Slot.{Slot}
 use Rattle.atl_instant.specs.declared.standing.Slot.TheVariants.{MonthLong, Taxing, Recruiting}
 use Rattle.atl_instant.specs.declared.written.Written.{Written}
@@ -111,7 +111,7 @@ orders_of is_of arrangement aliases readings =
     from_entries (map (λ t. (key_of arrangement t, t)) (flat_map (λ e. tasks_for is_of (tasks_of aliases e.0 e.1)) (entries readings)))
 
 -- those of a month, by unit, line and faction
-abbrev pub orders_by_unit : (Verb → Bool) → Course → List Task
+abbrev pub orders_by_unit : (Verb → Bool) → MonthValue → List Task
 orders_by_unit is_of m = values (orders_of is_of ByUnit m.aliases m.readings)
 
 -- what the code knows of an order
@@ -119,7 +119,7 @@ abbrev pub written : Task → Written
 written t = record { unit = t.unit; line = t.line; faction = t.faction; verb = verb_of_order t.said; place = t.place }
 
 -- and of those of a month
-abbrev pub written_by_unit : (Verb → Bool) → Course → List Written
+abbrev pub written_by_unit : (Verb → Bool) → MonthValue → List Written
 written_by_unit is_of m = map written (orders_by_unit is_of m)
 
 -- ---- a law

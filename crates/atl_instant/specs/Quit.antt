@@ -17,7 +17,7 @@ use Rattle.atl_state.specs.declared.event.Outcome.TheVariants.{Done}
 use Rattle.atl_state.specs.declared.records.Unit.{Unit}
 use Rattle.atl_state.specs.Held.{Held}
 use Rattle.atl_state.specs.Owners.{without_unit}
-use Rattle.atl_state.specs.State.{State, numbers_of, with_amount}
+use Rattle.atl_state.specs.Campaign.{CampaignValue, numbers_of, with_amount}
 use Rattle.atl_state.specs.Totals.{held}
 use Rattle.atl_instant.specs.Meaning.{Keeping, Meaning, Moving, most_moved}
 use Rattle.atl_instant.specs.Outcomes.{first_fault, unless}
@@ -38,22 +38,22 @@ gone_under People = Left
 gone_under thing = Lost
 
 -- so much of a thing is gone
-abbrev pub with_gone_amount : State → Thing → ℕ → State
+abbrev pub with_gone_amount : CampaignValue → Thing → ℕ → CampaignValue
 with_gone_amount c t amount = with_amount c (gone_under t) t (neg_ℤ (pos amount))
 
-abbrev pub item_gone : State → ℕ × ℕ → State
+abbrev pub item_gone : CampaignValue → ℕ × ℕ → CampaignValue
 item_gone c (item, amount) = with_gone_amount c (Item item) amount
 
 -- all that a unit has is gone
-abbrev pub booked_off : State → Held → State
+abbrev pub booked_off : CampaignValue → Held → CampaignValue
 booked_off c h = fold item_gone (with_gone_amount (with_gone_amount c People h.men) Money h.money) (entries h.items)
 
-abbrev pub left_by : State → (n : ℕ) → Option Unit → State
+abbrev pub left_by : CampaignValue → (n : ℕ) → Option Unit → CampaignValue
 left_by c n None = c
 left_by c n (Some u) = without_unit (booked_off c u.holding) n
 
 -- the campaign once a unit has left it
-unfoldable pub left_at : State → (n : ℕ) → State
+unfoldable pub left_at : CampaignValue → (n : ℕ) → CampaignValue
 left_at c n = left_by c n (get c.units n)
 
 -- ---- one order
@@ -83,7 +83,7 @@ abbrev pub quit_concerns : Concern
 quit_concerns t number faction = (t.faction ≡ faction) × (t.said ≡ orders.Quit faction)
 
 -- an order by which the faction of a unit quits, for a unit that is its own as the phase begins
-pub record QuitsFrom (begun : State) (t : Task) (n f : ℕ) : Type 0 where
+pub record QuitsFrom (begun : CampaignValue) (t : Task) (n f : ℕ) : Type 0 where
   pub own : is_own begun t ≡ true
   pub faction : t.faction ≡ f
   pub said : t.said ≡ orders.Quit f

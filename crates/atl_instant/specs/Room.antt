@@ -3,7 +3,7 @@ use Rattle.std.specs.Prelude.{ℕ, ◌-◌, ◌≤◌}
 use Rattle.atl_state.specs.declared.books.Entry.{Entry}
 use Rattle.atl_state.specs.declared.books.Thing.{Thing}
 use Rattle.atl_state.specs.Books.{IsWithin, amount_in}
-use Rattle.atl_state.specs.State.{State}
+use Rattle.atl_state.specs.Campaign.{CampaignValue}
 use Rattle.atl_instant.specs.Meaning.{HaveRoom, Moving, amount_limit, most_moved}
 
 -- 9*10^18
@@ -11,9 +11,9 @@ abbrev pub roomy_amount : ℕ
 roomy_amount = amount_limit - most_moved
 
 -- no amount of the books passes that in size
-abbrev pub AreRoomy : State → Type 0
+abbrev pub AreRoomy : CampaignValue → Type 0
 AreRoomy c = (e : Entry) (t : Thing) → IsWithin roomy_amount (amount_in c.books e t)
 
 -- Such books have room for one phase that moves each amount by less than 10^14; two such phases may move one by more together.
 abbrev pub OnePhaseHasRoom : Type 0
-OnePhaseHasRoom = (moving : Moving) (c : State) → ((e : Entry) (t : Thing) → moving e t ≤ most_moved) → AreRoomy c → HaveRoom moving c
+OnePhaseHasRoom = (moving : Moving) (c : CampaignValue) → ((e : Entry) (t : Thing) → moving e t ≤ most_moved) → AreRoomy c → HaveRoom moving c

@@ -3,13 +3,13 @@ use Rattle.std.specs.Prelude.{Bool, false, ◌&&◌, ◌==◌, Option, Some, Non
 use Rattle.std.specs.List.{IsDistinct}
 use Rattle.std.specs.Ordering.{nat_cmp}
 use Rattle.std.specs.FinMap.{FinMap, values}
-use Rattle.atl_tables.specs.Planet.{Planet}
+use Rattle.atl_tables.specs.Worlds.{WorldValue}
 use Rattle.atl_orders.specs.declared.verb.Verb.{Verb}
 use Rattle.atl_orders.specs.Mailing.{Reading}
 use Rattle.atl_orders.specs.Orders.{verb_of_order}
 use Rattle.atl_instant.specs.declared.standing.Slot.{Slot}
 use Rattle.atl_instant.specs.declared.written.Arrangement.{Arrangement}
-use Rattle.atl_instant.specs.Course.{Aliases}
+use Rattle.atl_instant.specs.Month.{Aliases}
 use Rattle.atl_instant.specs.Fit.{AreFit}
 use Rattle.atl_instant.specs.PhaseOrders.{Task, is_slot, orders_of, slot_of}
 
@@ -25,5 +25,5 @@ share_slot t o = t.unit == o.unit && (t.faction == o.faction && are_of_slot (slo
 -- no two orders of a phase are, in mailings as they can be read
 abbrev pub OneOrderStands : Type 0
 OneOrderStands =
-    (w : Planet) (is_of : Verb → Bool) (arrangement : Arrangement) (aliases : Aliases) (readings : FinMap nat_cmp Reading) → AreFit w readings →
+    (w : WorldValue) (is_of : Verb → Bool) (arrangement : Arrangement) (aliases : Aliases) (readings : FinMap nat_cmp Reading) → AreFit w readings →
     IsDistinct share_slot (values (orders_of is_of arrangement aliases readings))

@@ -4,7 +4,7 @@ use Rattle.std.specs.FinMap.{get}
 use Rattle.atl_state.specs.declared.records.Unit.{Unit}
 use Rattle.atl_state.specs.Good.{Every}
 use Rattle.atl_state.specs.Held.{amount_of}
-use Rattle.atl_state.specs.State.{State}
+use Rattle.atl_state.specs.Campaign.{CampaignValue}
 use Rattle.atl_instant.specs.Meaning.{Keeping}
 
 -- a unit that stays as it is
@@ -24,7 +24,7 @@ pub record IsNoWorse (before after : Unit) : Type 0 where
   pub days : (s : ℕ) → amount_of before.holding.days s ≤ amount_of after.holding.days s
 
 -- each unit is still there, and no worse off
-abbrev pub AreNoWorse : State → State → Type 0
+abbrev pub AreNoWorse : CampaignValue → CampaignValue → Type 0
 AreNoWorse before after = Every (λ n u. (v : Unit) × (get after.units n ≡ Some v) × IsNoWorse u v) before.units
 
 -- a phase that takes nothing from any unit

@@ -2,7 +2,7 @@
 use Rattle.std.specs.Prelude.{ℕ, ℤ, pos, ◌≡◌, ◌≤◌, ◌+ℤ◌, ◌≤ℤ◌, ◌==◌, ◌++◌, Bool, false, List, [], ◌∷◌, Option, Some, None, IfSome, fold, if◌then◌else◌}
 use Rattle.std.specs.List.{All}
 use Rattle.std.specs.FinMap.{get}
-use Rattle.atl_tables.specs.Planet.{Planet}
+use Rattle.atl_tables.specs.Worlds.{WorldValue}
 use Rattle.atl_orders.specs.declared.verb.Verb.{Verb}
 use Rattle.atl_orders.specs.Orders.{verb_of_order}
 use Rattle.atl_state.specs.declared.books.Entry.{Entry}
@@ -15,9 +15,9 @@ use Rattle.atl_state.specs.declared.event.Outcome.TheVariants.{Fault}
 use Rattle.atl_state.specs.declared.records.Unit.{Unit}
 use Rattle.atl_state.specs.Books.{amount_in}
 use Rattle.atl_state.specs.Events.{event_fault_number}
-use Rattle.atl_state.specs.State.{State}
+use Rattle.atl_state.specs.Campaign.{CampaignValue}
 use Rattle.atl_state.specs.Totals.{Balances}
-use Rattle.atl_instant.specs.Course.{Aliases, Course}
+use Rattle.atl_instant.specs.Month.{Aliases, MonthValue}
 use Rattle.atl_orders.specs.Bounds.{IsOrderOf}
 use Rattle.atl_instant.specs.Meaning.{Condition, IsSameMonth, Keeping, Meaning, Moving}
 use Rattle.atl_instant.specs.PhaseOrders.{Task, orders_by_unit}
@@ -26,18 +26,18 @@ use Rattle.atl_instant.specs.PhaseOrders.{Task, orders_by_unit}
 
 -- what is made of a campaign for a unit of it, and what came of it
 abbrev pub Deed : Type 0
-Deed = State → Unit → State × Outcome
+Deed = CampaignValue → Unit → CampaignValue × Outcome
 
 -- what an order does for a unit of the faction that wrote it; None for one that the phase passes over
 abbrev pub Step : Type 0
-Step = Planet → Aliases → Task → Option Deed
+Step = WorldValue → Aliases → Task → Option Deed
 
 abbrev pub is_of_faction : ℕ → Option Unit → Bool
 is_of_faction faction None = false
 is_of_faction faction (Some u) = u.faction == faction
 
 -- whether the unit is there, and of the faction that wrote the order
-abbrev pub is_own : State → Task → Bool
+abbrev pub is_own : CampaignValue → Task → Bool
 is_own c t = is_of_faction t.faction (get c.units t.unit)
 
 -- a unit, where it is there, and of the faction
@@ -45,16 +45,16 @@ abbrev pub of_faction : ℕ → Option Unit → Option Unit
 of_faction faction None = None
 of_faction faction (Some u) = if u.faction == faction then Some u else None
 
-abbrev pub done_for : Deed → State → Option Unit → State × Outcome
+abbrev pub done_for : Deed → CampaignValue → Option Unit → CampaignValue × Outcome
 done_for deed c None = (c, Fault (event_fault_number NotYours))
 done_for deed c (Some u) = deed c u
 
 -- what a faction does for a unit: where that isn't its own, nothing changes
-abbrev pub carried : Deed → State → (faction n : ℕ) → State × Outcome
+abbrev pub carried : Deed → CampaignValue → (faction n : ℕ) → CampaignValue × Outcome
 carried deed c faction n = done_for deed c (of_faction faction (get c.units n))
 
 -- what an order makes of a campaign, and what came of it, if it isn't passed over
-abbrev pub ordered : Option Deed → State → (faction n : ℕ) → State × Option Outcome
+abbrev pub ordered : Option Deed → CampaignValue → (faction n : ℕ) → CampaignValue × Option Outcome
 ordered None c faction n = (c, None)
 ordered (Some deed) c faction n = let after = carried deed c faction n in (after.0, Some after.1)
 
@@ -62,12 +62,12 @@ ordered (Some deed) c faction n = let after = carried deed c faction n in (after
 abbrev pub told : Task → Outcome → Event
 told t outcome = record { faction = t.faction; unit = t.unit; line = t.line; verb = Order (verb_of_order t.said); outcome = outcome }
 
-abbrev pub with_told : Course → Task → Option Outcome → Course
+abbrev pub with_told : MonthValue → Task → Option Outcome → MonthValue
 with_told m t None = m
 with_told m t (Some outcome) = record m { events = m.events ++ told t outcome ∷ [] }
 
 -- one order of the verbs of a phase
-abbrev pub one_order : Step → Planet → State × Course → Task → State × Course
+abbrev pub one_order : Step → WorldValue → CampaignValue × MonthValue → Task → CampaignValue × MonthValue
 one_order step w (c, m) t = let after = ordered (step w m.aliases t) c t.faction t.unit in (after.0, with_told m t after.1)
 
 -- all of them
@@ -78,7 +78,7 @@ carried_out step is_of w c m = fold (one_order step w) (c, m) (orders_by_unit is
 
 -- by how much the amounts of the books may still be moved, from a campaign on
 abbrev pub Reserve : Type 0
-Reserve = State → Moving
+Reserve = CampaignValue → Moving
 
 -- an amount moves by what its reserve shrinks, at most
 pub record IsDrawn (reserve left : ℕ) (before after : ℤ) : Type 0 where
@@ -87,7 +87,7 @@ pub record IsDrawn (reserve left : ℕ) (before after : ℤ) : Type 0 where
 
 -- The campaign holds what it held and is of the same month, the books balance where they did before, and no amount of them moves further
 -- than its reserve shrinks.
-pub record StepsWell (holds : Condition) (reserve : Reserve) (w : Planet) (before after : State) : Type 0 where
+pub record StepsWell (holds : Condition) (reserve : Reserve) (w : WorldValue) (before after : CampaignValue) : Type 0 where
   pub holds_still : holds w after
   pub same_month : IsSameMonth before after
   pub balances : Balances before → Balances after
@@ -109,13 +109,13 @@ abbrev pub Sparing : Type 1
 Sparing = Unit → Unit → Type 0
 
 -- a unit that stays, and what of it
-pub record IsSpared (spares : Sparing) (after : State) (number : ℕ) (u : Unit) : Type 0 where
+pub record IsSpared (spares : Sparing) (after : CampaignValue) (number : ℕ) (u : Unit) : Type 0 where
   pub unit : Unit
   pub there : get after.units number ≡ Some unit
   pub spared : spares u unit
 
 -- each unit that none of the orders concerns
-abbrev pub AreSpared : Concern → Sparing → List Task → State → State → Type 0
+abbrev pub AreSpared : Concern → Sparing → List Task → CampaignValue → CampaignValue → Type 0
 AreSpared concerns spares ts before after =
     (n : ℕ) (u : Unit) → get before.units n ≡ Some u → All (λ t. concerns t n u.faction → ⊥) ts → IsSpared spares after n u
 
@@ -132,14 +132,14 @@ pub record IsSparing (spares : Sparing) : Type 0 where
   pub faction : (u v : Unit) → spares u v → v.faction ≡ u.faction
 
 -- the unit that an order is for, of the faction that wrote it
-pub record IsUnitOf (c : State) (t : Task) (u : Unit) : Type 0 where
+pub record IsUnitOf (c : CampaignValue) (t : Task) (u : Unit) : Type 0 where
   pub there : get c.units t.unit ≡ Some u
   pub faction : u.faction ≡ t.faction
 
 pub record IsOrderly (step : Step) (holds : Condition) (reserve : Reserve) (moving : Moving) (concerns : Concern) (spares : Sparing) : Type 0 where
-  pub well : (w : Planet) (a : Aliases) (c : State) (t : Task) (x : Unit) → holds w c → IsOrderOf w t.said → IsUnitOf c t x →
+  pub well : (w : WorldValue) (a : Aliases) (c : CampaignValue) (t : Task) (x : Unit) → holds w c → IsOrderOf w t.said → IsUnitOf c t x →
       IfSome (step w a t) (λ deed. StepsWell holds reserve w c (deed c x).0)
   pub sparing : IsSparing spares
-  pub spared : (w : Planet) (a : Aliases) (c : State) (t : Task) (x : Unit) → holds w c → IsUnitOf c t x →
+  pub spared : (w : WorldValue) (a : Aliases) (c : CampaignValue) (t : Task) (x : Unit) → holds w c → IsUnitOf c t x →
       (n : ℕ) (u : Unit) → get c.units n ≡ Some u → (concerns t n u.faction → ⊥) → IfSome (step w a t) (λ deed. IsSpared spares (deed c x).0 n u)
-  pub bounded : (w : Planet) (c : State) → holds w c → (e : Entry) (t : Thing) → reserve c e t ≤ moving e t
+  pub bounded : (w : WorldValue) (c : CampaignValue) → holds w c → (e : Entry) (t : Thing) → reserve c e t ≤ moving e t

@@ -13,9 +13,9 @@ use Rattle.atl_state.specs.declared.records.Unit.{Unit}
 use Rattle.atl_state.specs.Held.{Held, amount_of}
 use Rattle.atl_state.specs.Lending.{with_held}
 use Rattle.atl_state.specs.Limits.{men_limit}
-use Rattle.atl_state.specs.State.{State}
+use Rattle.atl_state.specs.Campaign.{CampaignValue}
 use Rattle.atl_instant.specs.Amounts.{amounts_for}
-use Rattle.atl_instant.specs.Course.{Aliases}
+use Rattle.atl_instant.specs.Month.{Aliases}
 use Rattle.atl_instant.specs.Outcomes.{first_fault, unless}
 use Rattle.atl_instant.specs.PhaseOrders.{unit_of}
 use Rattle.atl_instant.specs.Staying.{IsNoWorse}
@@ -74,12 +74,12 @@ transfer_fault n itself u (Some v) =
     ∷ [])
 
 -- Men go from one unit to another. To itself nothing changes.
-abbrev pub sent : State → (from to n : ℕ) → Option Unit → Option Unit → State
+abbrev pub sent : CampaignValue → (from to n : ℕ) → Option Unit → Option Unit → CampaignValue
 sent c from to n (Some u) (Some v) =
     if to == from then c else with_held (with_held c from (with_fewer n u.holding) (Some u)) to (with_more n u.holding v.holding) (Some v)
 sent c from to n sender receiver = c
 
-abbrev pub transfer_to : State → (from to n : ℕ) → Unit → Option Unit → State × Outcome
+abbrev pub transfer_to : CampaignValue → (from to n : ℕ) → Unit → Option Unit → CampaignValue × Outcome
 transfer_to c from to n u receiver = unless c (transfer_fault n (to == from) u receiver) (sent c from to n (Some u) receiver, Done n)
 
 unfoldable pub transfer : (from to n : ℕ) → Deed

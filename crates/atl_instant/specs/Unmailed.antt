@@ -7,7 +7,7 @@ use Rattle.atl_state.specs.declared.event.Outcome.{Outcome}
 use Rattle.atl_state.specs.declared.event.Outcome.TheVariants as outcomes
 use Rattle.atl_state.specs.declared.records.Unit.{Unit}
 use Rattle.atl_state.specs.Held.{amount_of}
-use Rattle.atl_state.specs.State.{State}
+use Rattle.atl_state.specs.Campaign.{CampaignValue}
 use Rattle.atl_instant.specs.Steps.{IsSpared}
 
 -- how many men starved, as the upkeep of their unit tells
@@ -27,5 +27,5 @@ pub record IsLessBy (fewer : ℕ) (before after : Unit) : Type 0 where
   pub items : (i : ℕ) → amount_of before.holding.items i ≤ amount_of after.holding.items i
 
 -- A unit of whom not all men starved is there, without those.
-abbrev pub IsLeft : (starved : ℕ) → (after : State) → (number : ℕ) → Unit → Type 0
+abbrev pub IsLeft : (starved : ℕ) → (after : CampaignValue) → (number : ℕ) → Unit → Type 0
 IsLeft starved after number u = starved < u.holding.men → IsSpared (IsLessBy starved) after number u

@@ -26,14 +26,14 @@ pub struct FormPhase;
 
 /// Whether no further unit can come.
 fn is_unit_limit(campaign: &Campaign) -> bool
-    ensures { result ≡ is_unit_limit campaign.now.what }
+    ensures { result ≡ is_unit_limit campaign.now.value }
 {
     campaign.unit_count() >= MOST_UNITS || campaign.next_unit() > LAST_UNIT
 }
 
 /// Why a faction's order for a unit forms none.
 fn form_fault(campaign: &Campaign, faction: u32, unit: u32) -> Option<EventFault>
-    ensures { result ≡ form_fault campaign.now.what faction unit }
+    ensures { result ≡ form_fault campaign.now.value faction unit }
 {
     if !is_of_faction(campaign, unit, faction) {
         Some(EventFault::NotYours)
@@ -70,10 +70,10 @@ fn begin(
     faction: u32,
     parent: u32,
 ) -> Result<u32, AllocError>
-    requires free { map.get campaign.old.what.units campaign.old.what.next_unit ≡ None }
-    requires room { campaign.old.what.next_unit ≤ last_unit }
-    ensures what { OnOk result (campaign.new.what ≡ formed campaign.old.what faction parent) }
-    ensures number { IfOk result (λ number. number ≡ campaign.old.what.next_unit) }
+    requires free { map.get campaign.old.value.units campaign.old.value.next_unit ≡ None }
+    requires room { campaign.old.value.next_unit ≤ last_unit }
+    ensures what { OnOk result (campaign.new.value ≡ formed campaign.old.value faction parent) }
+    ensures number { IfOk result (λ number. number ≡ campaign.old.value.next_unit) }
     ensures marks { OnOk result (MarksChanges campaign.old campaign.new) }
 {
     let number = campaign.next_unit();
@@ -92,8 +92,8 @@ fn form(
     parent: u32,
     alias: u32,
 ) -> Result<Outcome, AllocError>
-    requires free { map.get campaign.old.what.units campaign.old.what.next_unit ≡ None }
-    ensures value { IfOk result (λ outcome. (campaign.new.what, outcome) ≡ form_by campaign.old.what faction parent) }
+    requires free { map.get campaign.old.value.units campaign.old.value.next_unit ≡ None }
+    ensures value { IfOk result (λ outcome. (campaign.new.value, outcome) ≡ form_by campaign.old.value faction parent) }
     ensures aliases { IfOk result (λ outcome. month.new ≡ record month.old { aliases = noted month.old.aliases faction alias outcome }) }
     ensures marks { OnOk result (MarksChanges campaign.old campaign.new) }
 {
@@ -124,8 +124,8 @@ fn form_one(
     month: &mut Month,
     order: Written,
 ) -> Result<(), AllocError>
-    requires free { map.get campaign.old.what.units campaign.old.what.next_unit ≡ None }
-    ensures step { OnOk result ((campaign.new.what, month.new) ≡ found_written form_order month.old.readings (campaign.old.what, month.old) order) }
+    requires free { map.get campaign.old.value.units campaign.old.value.next_unit ≡ None }
+    ensures step { OnOk result ((campaign.new.value, month.new) ≡ found_written form_order month.old.readings (campaign.old.value, month.old) order) }
     ensures marks { OnOk result (MarksChanges campaign.old campaign.new) }
 {
     let (alias, verb) = match month.order(order.faction, order.place) {

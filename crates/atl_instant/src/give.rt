@@ -89,8 +89,8 @@ fn set_item(campaign: &mut Campaign, number: u32, item: u32, amount: u32) -> Res
 /// Sets how much of a gift a unit holds that is there.
 fn set_held(campaign: &mut Campaign, number: u32, gift: Gift, amount: u32) -> Result<(), AllocError>
     requires { amount ≤ holding_limit }
-    ensures what { OnOk result ((u : Unit) → map.get campaign.old.what.units number ≡ Some u → campaign.new.what ≡ with_held campaign.old.what number (with_held_of gift u.holding amount) (Some u)) }
-    ensures marks { OnOk result ((u : Unit) → map.get campaign.old.what.units number ≡ Some u → MarksChanges campaign.old campaign.new) }
+    ensures what { OnOk result ((u : Unit) → map.get campaign.old.value.units number ≡ Some u → campaign.new.value ≡ with_held campaign.old.value number (with_held_of gift u.holding amount) (Some u)) }
+    ensures marks { OnOk result ((u : Unit) → map.get campaign.old.value.units number ≡ Some u → MarksChanges campaign.old campaign.new) }
 {
     match gift {
         Gift::Money => {
@@ -112,11 +112,11 @@ fn hand_over(
     gift: Gift,
     amount: u32,
 ) -> Result<(), AllocError>
-    requires limits { Every (λ n u. IsHolding u.holding) campaign.old.what.units }
+    requires limits { Every (λ n u. IsHolding u.holding) campaign.old.value.units }
     requires apart { to ≢ from }
-    requires enough { (u : Unit) → map.get campaign.old.what.units from ≡ Some u → amount ≤ held_of gift u.holding }
-    requires room { (v : Unit) → map.get campaign.old.what.units to ≡ Some v → held_of gift v.holding + amount ≤ holding_limit }
-    ensures what { OnOk result (campaign.new.what ≡ given campaign.old.what from to gift amount (map.get campaign.old.what.units from) (map.get campaign.old.what.units to)) }
+    requires enough { (u : Unit) → map.get campaign.old.value.units from ≡ Some u → amount ≤ held_of gift u.holding }
+    requires room { (v : Unit) → map.get campaign.old.value.units to ≡ Some v → held_of gift v.holding + amount ≤ holding_limit }
+    ensures what { OnOk result (campaign.new.value ≡ given campaign.old.value from to gift amount (map.get campaign.old.value.units from) (map.get campaign.old.value.units to)) }
     ensures marks { OnOk result (MarksChanges campaign.old campaign.new) }
 {
     let (Some(giver), Some(receiver)) = (campaign.unit(from), campaign.unit(to)) else {
@@ -138,8 +138,8 @@ fn give(
     gift: Gift,
     amount: u32,
 ) -> Result<Outcome, AllocError>
-    requires limits { Every (λ n u. IsHolding u.holding) campaign.old.what.units }
-    ensures what { IfOk result (λ outcome. (campaign.new.what, outcome) ≡ carried (give order.unit to gift amount) campaign.old.what order.faction order.unit) }
+    requires limits { Every (λ n u. IsHolding u.holding) campaign.old.value.units }
+    ensures what { IfOk result (λ outcome. (campaign.new.value, outcome) ≡ carried (give order.unit to gift amount) campaign.old.value order.faction order.unit) }
     ensures marks { OnOk result (MarksChanges campaign.old campaign.new) }
 {
     let Some(giver) = own_unit(campaign, order) else {

@@ -1,9 +1,9 @@
 //! GUARD 1.
 ghost use Rattle.std.specs.Prelude.{◌≡◌, IfOk, List, OnOk, ℕ};
-ghost use Rattle.atl_tables.specs.Planet.{Planet};
+ghost use Rattle.atl_tables.specs.Worlds.{WorldValue};
 ghost use Rattle.atl_orders.specs.Orders.{said};
 ghost use Rattle.atl_state.specs.Covers.{MarksChanges};
-ghost use Rattle.atl_state.specs.State.{State};
+ghost use Rattle.atl_state.specs.Campaign.{CampaignValue};
 ghost use Rattle.atl_instant.specs.Carrying.{found_written};
 ghost use Rattle.atl_instant.specs.Guard.{guard, guard_fault, guard_said, guard_step, guard_terms, is_guarding};
 ghost use Rattle.atl_instant.specs.Holders.{AreHolders};
@@ -27,7 +27,7 @@ pub struct GuardPhase;
 
 /// Why a unit can't guard, in a campaign whose regions are so held.
 fn guard_fault(holders: &Holders, unit: &Unit) -> Option<EventFault>
-    ensures { (c : State) → AreHolders c holders.now → result ≡ guard_fault c unit.now }
+    ensures { (c : CampaignValue) → AreHolders c holders.now → result ≡ guard_fault c unit.now }
 {
     if unit.holding.men() == 0 {
         return Some(EventFault::NoMen);
@@ -45,9 +45,9 @@ fn guard(
     holders: &mut Holders,
     order: Written,
 ) -> Result<Outcome, AllocError>
-    requires held { AreHolders campaign.old.what holders.old }
-    ensures what { IfOk result (λ outcome. (campaign.new.what, outcome) ≡ carried (guard order.unit) campaign.old.what order.faction order.unit) }
-    ensures held { OnOk result (AreHolders campaign.new.what holders.new) }
+    requires held { AreHolders campaign.old.value holders.old }
+    ensures what { IfOk result (λ outcome. (campaign.new.value, outcome) ≡ carried (guard order.unit) campaign.old.value order.faction order.unit) }
+    ensures held { OnOk result (AreHolders campaign.new.value holders.new) }
     ensures marks { OnOk result (MarksChanges campaign.old campaign.new) }
 {
     let Some(unit) = own_unit(campaign, order) else {
@@ -68,9 +68,9 @@ fn carry_out(
     order: Written,
     what: &Order,
 ) -> Result<Option<Outcome>, AllocError>
-    requires held { AreHolders campaign.old.what holders.old }
-    ensures what { (text : List ℕ) → IfOk result (λ outcome. (campaign.new.what, outcome) ≡ ordered (guard_said order.unit (said text what.now)) campaign.old.what order.faction order.unit) }
-    ensures held { OnOk result (AreHolders campaign.new.what holders.new) }
+    requires held { AreHolders campaign.old.value holders.old }
+    ensures what { (text : List ℕ) → IfOk result (λ outcome. (campaign.new.value, outcome) ≡ ordered (guard_said order.unit (said text what.now)) campaign.old.value order.faction order.unit) }
+    ensures held { OnOk result (AreHolders campaign.new.value holders.new) }
     ensures marks { OnOk result (MarksChanges campaign.old campaign.new) }
 {
     match what {
@@ -86,9 +86,9 @@ fn guard_one(
     month: &mut Month,
     order: Written,
 ) -> Result<(), AllocError>
-    requires held { AreHolders campaign.old.what holders.old }
-    ensures step { (w : Planet) → OnOk result ((campaign.new.what, month.new) ≡ found_written (one_order guard_step w) month.old.readings (campaign.old.what, month.old) order) }
-    ensures held { OnOk result (AreHolders campaign.new.what holders.new) }
+    requires held { AreHolders campaign.old.value holders.old }
+    ensures step { (w : WorldValue) → OnOk result ((campaign.new.value, month.new) ≡ found_written (one_order guard_step w) month.old.readings (campaign.old.value, month.old) order) }
+    ensures held { OnOk result (AreHolders campaign.new.value holders.new) }
     ensures marks { OnOk result (MarksChanges campaign.old campaign.new) }
 {
     let Some((_, what)) = month.order(order.faction, order.place) else {

@@ -29,7 +29,7 @@ impl Model for Holders {
 impl Holders {
     /// Those of a campaign, from one pass over its units.
     pub(crate) fn of(alloc: Global, campaign: &Campaign) -> Result<Holders, AllocError>
-        ensures { IfOk result (λ holders. holders ≡ holders_of campaign.now.what) }
+        ensures { IfOk result (λ holders. holders ≡ holders_of campaign.now.value) }
     {
         let mut holders = Holders {
             factions: Numbered::new(alloc),

@@ -6,7 +6,7 @@ use atl_state::Campaign;
 
 /// The structure that a unit is inside, or 0.
 pub(crate) fn structure_of(campaign: &Campaign, unit: u32) -> u32
-    ensures { result ≡ inside campaign.now.what unit }
+    ensures { result ≡ inside campaign.now.value unit }
 {
     match campaign.unit(unit) {
         Some(found) => found.structure,
@@ -16,7 +16,7 @@ pub(crate) fn structure_of(campaign: &Campaign, unit: u32) -> u32
 
 /// The number of the region where a unit stands; 0 where there is no such unit. It takes no memory.
 pub fn region_of(campaign: &Campaign, unit: u32) -> u32
-    ensures { result ≡ region_of campaign.now.what unit }
+    ensures { result ≡ region_of campaign.now.value unit }
 {
     match campaign.unit(unit) {
         Some(found) => found.region,

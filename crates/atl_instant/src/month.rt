@@ -2,7 +2,7 @@
 ghost use Rattle.std.specs.Prelude.{◌≡◌, ◌++◌, ◌∷◌, [], IfOk, OnOk, OnErr, map, option_copied, option_map};
 ghost use Rattle.std.specs.FinMap.{empty, get, values};
 ghost use Rattle.atl_orders.specs.Mailing.{reading_of};
-ghost use Rattle.atl_instant.specs.Course.{HaveOwnFactions, HaveNoOrder, alias_unit, by_faction, order_at, said_of, with_alias};
+ghost use Rattle.atl_instant.specs.Month.{HaveOwnFactions, HaveNoOrder, alias_unit, by_faction, order_at, said_of, with_alias};
 ghost use Rattle.atl_instant.specs.PhaseOrders.{orders_of, unit_of, written};
 ghost use Rattle.atl_instant.specs.Collecting.{AreByFaction};
 
@@ -35,12 +35,12 @@ impl Drop for Month {
 impl Model for Month {
     ghost use Rattle.std.specs.Prelude.{map};
     ghost use Rattle.atl_orders.specs.Mailing.{reading_of};
-    ghost use Rattle.atl_instant.specs.Course.{Course, course_code, by_faction};
+    ghost use Rattle.atl_instant.specs.Month.{MonthValue, month_code, by_faction};
     ghost use Rattle.atl_instant.specs.Collecting.{AreByFaction};
 
-    ghost Value = { Course };
+    ghost Value = { MonthValue };
 
-    ghost coded = { course_code };
+    ghost coded = { month_code };
 
     ghost view = { λ a. record {
       readings = by_faction (map reading_of a.mailings.items);

@@ -3,7 +3,7 @@ ghost use Rattle.std.specs.Prelude.{◌≡◌, IfOk, IsTrue, OnOk, false};
 ghost use Rattle.std.specs.FinMap as map;
 ghost use Rattle.atl_tables.specs.Names.{name_ok};
 ghost use Rattle.atl_orders.specs.Orders.{name_in};
-ghost use Rattle.atl_state.specs.State.{with_faction_name, with_guard, with_unit_name};
+ghost use Rattle.atl_state.specs.Campaign.{with_faction_name, with_guard, with_unit_name};
 ghost use Rattle.atl_state.specs.Covers.{MarksChanges};
 ghost use Rattle.atl_state.specs.Good.{IsEarly};
 ghost use Rattle.atl_instant.specs.Name.{is_naming, is_of_sort, name_concerns, name_step, named, names, structure_fault, structure_named, unguarded};
@@ -36,7 +36,7 @@ fn name_of(alloc: Global, mailing: &Mailing, span: Span) -> Result<Text, AllocEr
 
 /// A unit that is there takes a name.
 fn name_unit(campaign: &mut Campaign, unit: u32, name: Text)
-    ensures what { campaign.new.what ≡ with_unit_name campaign.old.what unit name }
+    ensures what { campaign.new.value ≡ with_unit_name campaign.old.value unit name }
     ensures marks { MarksChanges campaign.old campaign.new }
 {
     campaign.set_unit_name(unit, name);
@@ -44,7 +44,7 @@ fn name_unit(campaign: &mut Campaign, unit: u32, name: Text)
 
 /// A faction shows another name.
 fn name_faction(campaign: &mut Campaign, faction: u32, name: Text)
-    ensures what { campaign.new.what ≡ with_faction_name campaign.old.what faction name }
+    ensures what { campaign.new.value ≡ with_faction_name campaign.old.value faction name }
     ensures marks { MarksChanges campaign.old campaign.new }
 {
     campaign.set_faction_name(faction, name);
@@ -69,7 +69,7 @@ fn structure_fault(
     inside: u32,
     ship: bool,
 ) -> Option<EventFault>
-    ensures { result ≡ structure_fault world.now unit ship (map.get campaign.now.what.structures inside) }
+    ensures { result ≡ structure_fault world.now unit ship (map.get campaign.now.value.structures inside) }
 {
     match campaign.structure(inside) {
         Some(structure) if !is_of_sort(world, ship, structure) => Some(EventFault::NotInside),
@@ -88,7 +88,7 @@ fn name_structure(
     ship: bool,
     name: Text,
 ) -> Outcome
-    ensures value { (campaign.new.what, result) ≡ structure_named world.now campaign.old.what unit inside ship name }
+    ensures value { (campaign.new.value, result) ≡ structure_named world.now campaign.old.value unit inside ship name }
     ensures marks { MarksChanges campaign.old campaign.new }
 {
     match structure_fault(world, campaign, unit, inside, ship) {
@@ -102,7 +102,7 @@ fn name_structure(
 
 /// A unit leaves its guard.
 fn clear_guard(campaign: &mut Campaign, unit: u32)
-    ensures what { campaign.new.what ≡ with_guard campaign.old.what unit false }
+    ensures what { campaign.new.value ≡ with_guard campaign.old.value unit false }
     ensures marks { MarksChanges campaign.old campaign.new }
 {
     campaign.set_guard(unit, false);
@@ -110,7 +110,7 @@ fn clear_guard(campaign: &mut Campaign, unit: u32)
 
 /// Clears the flag of a unit of the order's faction.
 fn leave_guard(campaign: &mut Campaign, order: Written) -> Outcome
-    ensures what { (campaign.new.what, result) ≡ carried (unguarded order.unit) campaign.old.what order.faction order.unit }
+    ensures what { (campaign.new.value, result) ≡ carried (unguarded order.unit) campaign.old.value order.faction order.unit }
     ensures marks { MarksChanges campaign.old campaign.new }
 {
     if own_unit(campaign, order).is_none() {
@@ -130,7 +130,7 @@ fn name(
     what: NameKind,
     name: Text,
 ) -> Outcome
-    ensures value { (campaign.new.what, result) ≡ named world.now campaign.old.what unit faction inside what name }
+    ensures value { (campaign.new.value, result) ≡ named world.now campaign.old.value unit faction inside what name }
     ensures marks { MarksChanges campaign.old campaign.new }
 {
     match what {
@@ -153,7 +153,7 @@ fn give_name(
     span: Span,
 ) -> Result<Outcome, AllocError>
     requires fit { IsTrue (name_ok (name_in mailing.now.text span)) }
-    ensures value { IfOk result (λ outcome. (campaign.new.what, outcome) ≡ carried (names world.now order.unit what (name_in mailing.now.text span)) campaign.old.what order.faction order.unit) }
+    ensures value { IfOk result (λ outcome. (campaign.new.value, outcome) ≡ carried (names world.now order.unit what (name_in mailing.now.text span)) campaign.old.value order.faction order.unit) }
     ensures marks { OnOk result (MarksChanges campaign.old campaign.new) }
 {
     let Some(unit) = own_unit(campaign, order) else {

@@ -6,7 +6,7 @@ ghost use Rattle.std.specs.Cmp.Lexicographic.{slice_cmp};
 ghost use Rattle.std.specs.Ordering.{nat_cmp};
 ghost use Rattle.atl_orders.specs.declared.verb.Verb.{Verb};
 ghost use Rattle.atl_orders.specs.Mailing.{reading_of};
-ghost use Rattle.atl_instant.specs.Course.{by_faction};
+ghost use Rattle.atl_instant.specs.Month.{by_faction};
 ghost use Rattle.atl_instant.specs.PhaseOrders.{OrdersAreInMailings, is_month_long, tasks_of, tasks_for, orders_of, written};
 ghost use Rattle.atl_instant.specs.StandOnce.{OneOrderStands};
 ghost use Rattle.atl_instant.specs.Collecting.{AreByFaction, AreLastLines, all_tasks, key_by};

@@ -37,12 +37,12 @@ pub trait Phase {
         campaign: Campaign,
         month: Month,
     ) -> Result<(Campaign, Month), AllocError>
-        requires needs { needs world.now campaign.what }
-        requires room { HaveRoom moving campaign.what }
+        requires needs { needs world.now campaign.value }
+        requires room { HaveRoom moving campaign.value }
         requires read { AreFit world.now month.readings }
-        ensures meaning { IfOk result (λ r. (r.0.what, r.1) ≡ meaning world.now campaign.what month) }
-        ensures leaves { IfOk result (λ r. LeavesWell leaves moving world.now campaign.what r.0.what) }
-        ensures keeps { IfOk result (λ r. keeps world.now month campaign.what r.0.what) }
+        ensures meaning { IfOk result (λ r. (r.0.value, r.1) ≡ meaning world.now campaign.value month) }
+        ensures leaves { IfOk result (λ r. LeavesWell leaves moving world.now campaign.value r.0.value) }
+        ensures keeps { IfOk result (λ r. keeps world.now month campaign.value r.0.value) }
         ensures readings { IfOk result (λ r. r.1.readings ≡ month.readings) }
         ensures marks { IfOk result (λ r. MarksChanges campaign r.0) };
 }

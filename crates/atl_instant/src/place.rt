@@ -4,7 +4,7 @@ ghost use Rattle.std.specs.FinMap as map;
 ghost use Rattle.atl_state.specs.Covers.{MarksChanges};
 ghost use Rattle.atl_state.specs.Good.{IsEarly};
 ghost use Rattle.atl_state.specs.Owners.{is_owned_by, with_place};
-ghost use Rattle.atl_state.specs.State.{with_owner};
+ghost use Rattle.atl_state.specs.Campaign.{with_owner};
 ghost use Rattle.atl_instant.specs.Place.{entered, entered_other, is_in, is_placing, leave_fault, left, place_step, promote_fault, promoted};
 ghost use Rattle.atl_instant.specs.Steps.{carried};
 
@@ -26,7 +26,7 @@ pub struct PlacePhase;
 
 /// Whether a structure is there, and in a region.
 fn is_in(campaign: &Campaign, structure: u32, region: u32) -> bool
-    ensures { result ≡ is_in region (map.get campaign.now.what.structures structure) }
+    ensures { result ≡ is_in region (map.get campaign.now.value.structures structure) }
 {
     match campaign.structure(structure) {
         Some(found) => found.region == region,
@@ -36,7 +36,7 @@ fn is_in(campaign: &Campaign, structure: u32, region: u32) -> bool
 
 /// Whether a structure is there, and this unit owns it.
 fn is_owned_by(campaign: &Campaign, structure: u32, unit: u32) -> bool
-    ensures { result ≡ is_owned_by (map.get campaign.now.what.structures structure) unit }
+    ensures { result ≡ is_owned_by (map.get campaign.now.value.structures structure) unit }
 {
     match campaign.structure(structure) {
         Some(found) => found.owner == unit,
@@ -51,7 +51,7 @@ fn put_inside(
     region: u32,
     structure: u32,
 ) -> Result<(), AllocError>
-    ensures what { OnOk result (campaign.new.what ≡ with_place campaign.old.what unit region structure) }
+    ensures what { OnOk result (campaign.new.value ≡ with_place campaign.old.value unit region structure) }
     ensures marks { OnOk result (MarksChanges campaign.old campaign.new) }
 {
     campaign.place(unit, region, structure)
@@ -73,7 +73,7 @@ fn leave_fault(world: &World, unit: &Unit) -> Option<EventFault>
 /// A unit leaves the structure that it is inside.
 #[tactic(auto, unfolding(crate::specs::Place::left))]
 fn leave(world: &World, campaign: &mut Campaign, order: Written) -> Result<Outcome, AllocError>
-    ensures what { IfOk result (λ outcome. (campaign.new.what, outcome) ≡ carried (left world.now order.unit) campaign.old.what order.faction order.unit) }
+    ensures what { IfOk result (λ outcome. (campaign.new.value, outcome) ≡ carried (left world.now order.unit) campaign.old.value order.faction order.unit) }
     ensures marks { OnOk result (MarksChanges campaign.old campaign.new) }
 {
     let Some(unit) = own_unit(campaign, order) else {
@@ -95,7 +95,7 @@ fn enter_other(
     from: u32,
     structure: u32,
 ) -> Result<(), AllocError>
-    ensures what { OnOk result (campaign.new.what ≡ entered_other campaign.old.what unit region from structure) }
+    ensures what { OnOk result (campaign.new.value ≡ entered_other campaign.old.value unit region from structure) }
     ensures marks { OnOk result (MarksChanges campaign.old campaign.new) }
 {
     if from == structure {
@@ -108,7 +108,7 @@ fn enter_other(
 /// A unit enters a structure of its region.
 #[tactic(auto, unfolding(crate::specs::Place::entered))]
 fn enter(campaign: &mut Campaign, order: Written, structure: u32) -> Result<Outcome, AllocError>
-    ensures what { IfOk result (λ outcome. (campaign.new.what, outcome) ≡ carried (entered order.unit structure) campaign.old.what order.faction order.unit) }
+    ensures what { IfOk result (λ outcome. (campaign.new.value, outcome) ≡ carried (entered order.unit structure) campaign.old.value order.faction order.unit) }
     ensures marks { OnOk result (MarksChanges campaign.old campaign.new) }
 {
     let Some(unit) = own_unit(campaign, order) else {
@@ -124,7 +124,7 @@ fn enter(campaign: &mut Campaign, order: Written, structure: u32) -> Result<Outc
 
 /// Why a unit doesn't make another the owner of the structure that it is inside.
 fn promote_fault(campaign: &Campaign, number: u32, to: u32, unit: &Unit) -> Option<EventFault>
-    ensures { result ≡ promote_fault campaign.now.what number to unit.now }
+    ensures { result ≡ promote_fault campaign.now.value number to unit.now }
 {
     if unit.structure == 0 {
         Some(EventFault::NotInside)
@@ -139,7 +139,7 @@ fn promote_fault(campaign: &Campaign, number: u32, to: u32, unit: &Unit) -> Opti
 
 /// A structure gets an owner.
 fn give_to(campaign: &mut Campaign, structure: u32, owner: u32)
-    ensures what { campaign.new.what ≡ with_owner campaign.old.what structure owner }
+    ensures what { campaign.new.value ≡ with_owner campaign.old.value structure owner }
     ensures marks { MarksChanges campaign.old campaign.new }
 {
     campaign.set_owner(structure, owner);
@@ -148,7 +148,7 @@ fn give_to(campaign: &mut Campaign, structure: u32, owner: u32)
 /// A unit makes another the owner of the structure that both are inside.
 #[tactic(auto, unfolding(crate::specs::Place::promoted))]
 fn promote(campaign: &mut Campaign, order: Written, to: u32) -> Outcome
-    ensures what { (campaign.new.what, result) ≡ carried (promoted order.unit to) campaign.old.what order.faction order.unit }
+    ensures what { (campaign.new.value, result) ≡ carried (promoted order.unit to) campaign.old.value order.faction order.unit }
     ensures marks { MarksChanges campaign.old campaign.new }
 {
     let Some(unit) = own_unit(campaign, order) else {

@@ -42,9 +42,9 @@ fn gone_under(thing: Thing) -> Entry
 
 /// Books that so much of a thing is gone.
 fn book_gone(campaign: &mut Campaign, thing: Thing, amount: u32)
-    requires there { thing_place thing < length campaign.old.what.books }
-    requires room { HasRoom amount (amount_in campaign.old.what.books (gone_under thing) thing) }
-    ensures what { campaign.new.what ≡ with_gone_amount campaign.old.what thing amount }
+    requires there { thing_place thing < length campaign.old.value.books }
+    requires room { HasRoom amount (amount_in campaign.old.value.books (gone_under thing) thing) }
+    ensures what { campaign.new.value ≡ with_gone_amount campaign.old.value thing amount }
     ensures marks { campaign.new.marks ≡ mark_amount campaign.old (gone_under thing) thing }
 {
     book_taken(campaign, gone_under(thing), thing, amount);
@@ -52,10 +52,10 @@ fn book_gone(campaign: &mut Campaign, thing: Thing, amount: u32)
 
 /// Books that items are gone.
 fn book_items(world: &World, campaign: &mut Campaign, items: &[(u16, u32)])
-    requires grid { IsGrid (things_of world.now) campaign.old.what.books }
+    requires grid { IsGrid (things_of world.now) campaign.old.value.books }
     requires known { EachOf (λ i amount. i < length world.now.items) items.now }
-    requires room { HaveRoom (moving_items items.now) campaign.old.what }
-    ensures what { campaign.new.what ≡ fold item_gone campaign.old.what items.now }
+    requires room { HaveRoom (moving_items items.now) campaign.old.value }
+    ensures what { campaign.new.value ≡ fold item_gone campaign.old.value items.now }
     ensures marks { MarksChanges campaign.old campaign.new }
 {
     for (item, amount) in items.iter() {
@@ -65,10 +65,10 @@ fn book_items(world: &World, campaign: &mut Campaign, items: &[(u16, u32)])
 
 /// Books that all that a unit has is gone.
 fn book_off(world: &World, campaign: &mut Campaign, men: u32, money: u32, items: &[(u16, u32)])
-    requires grid { IsGrid (things_of world.now) campaign.old.what.books }
+    requires grid { IsGrid (things_of world.now) campaign.old.value.books }
     requires known { EachOf (λ i amount. i < length world.now.items) items.now }
-    requires room { HaveRoom (both_move (moves_only men Left People) (both_move (moves_only money Lost Money) (moving_items items.now))) campaign.old.what }
-    ensures what { campaign.new.what ≡ fold item_gone (with_gone_amount (with_gone_amount campaign.old.what People men) Money money) items.now }
+    requires room { HaveRoom (both_move (moves_only men Left People) (both_move (moves_only money Lost Money) (moving_items items.now))) campaign.old.value }
+    ensures what { campaign.new.value ≡ fold item_gone (with_gone_amount (with_gone_amount campaign.old.value People men) Money money) items.now }
     ensures marks { MarksChanges campaign.old campaign.new }
 {
     book_gone(campaign, Thing::People, men);
@@ -84,9 +84,9 @@ fn leave(
     campaign: &mut Campaign,
     number: u32,
 ) -> Result<(), AllocError>
-    requires steady { IsSteady world.now campaign.old.what }
-    requires room { HaveRoom (quit_reserve campaign.old.what) campaign.old.what }
-    ensures what { OnOk result (campaign.new.what ≡ left_at campaign.old.what number) }
+    requires steady { IsSteady world.now campaign.old.value }
+    requires room { HaveRoom (quit_reserve campaign.old.value) campaign.old.value }
+    ensures what { OnOk result (campaign.new.value ≡ left_at campaign.old.value number) }
     ensures marks { OnOk result (MarksChanges campaign.old campaign.new) }
 {
     let Some(unit) = campaign.unit(number) else {
@@ -107,9 +107,9 @@ fn leave_all(
     campaign: &mut Campaign,
     numbers: &[u32],
 ) -> Result<(), AllocError>
-    requires steady { IsSteady world.now campaign.old.what }
-    requires room { HaveRoom (quit_reserve campaign.old.what) campaign.old.what }
-    ensures what { OnOk result (campaign.new.what ≡ fold left_at campaign.old.what numbers.now) }
+    requires steady { IsSteady world.now campaign.old.value }
+    requires room { HaveRoom (quit_reserve campaign.old.value) campaign.old.value }
+    ensures what { OnOk result (campaign.new.value ≡ fold left_at campaign.old.value numbers.now) }
     ensures marks { OnOk result (MarksChanges campaign.old campaign.new) }
 {
     for number in numbers.iter() {
@@ -137,9 +137,9 @@ fn quit(
     order: Written,
     number: u32,
 ) -> Result<Outcome, AllocError>
-    requires steady { IsSteady world.now campaign.old.what }
-    requires room { HaveRoom (quit_reserve campaign.old.what) campaign.old.what }
-    ensures what { IfOk result (λ outcome. (campaign.new.what, outcome) ≡ carried (quit number) campaign.old.what order.faction order.unit) }
+    requires steady { IsSteady world.now campaign.old.value }
+    requires room { HaveRoom (quit_reserve campaign.old.value) campaign.old.value }
+    ensures what { IfOk result (λ outcome. (campaign.new.value, outcome) ≡ carried (quit number) campaign.old.value order.faction order.unit) }
     ensures marks { OnOk result (MarksChanges campaign.old campaign.new) }
 {
     let Some(unit) = own_unit(campaign, order) else {

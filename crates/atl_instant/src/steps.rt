@@ -54,10 +54,10 @@ pub trait OrderPhase: PhaseVerbs {
         mailing: &Mailing,
         what: &Order,
     ) -> Result<Option<Outcome>, AllocError>
-        requires holds { holds world.now campaign.old.what }
-        requires room { HaveRoom (reserve campaign.old.what) campaign.old.what }
+        requires holds { holds world.now campaign.old.value }
+        requires room { HaveRoom (reserve campaign.old.value) campaign.old.value }
         requires fit { IsOrderOf world.now (said mailing.now.text what.now) }
-        ensures step { IfOk result (λ outcome. (campaign.new.what, outcome) ≡ ordered (step self.now world.now month.now.aliases (task_of order (said mailing.now.text what.now))) campaign.old.what order.faction order.unit) }
+        ensures step { IfOk result (λ outcome. (campaign.new.value, outcome) ≡ ordered (step self.now world.now month.now.aliases (task_of order (said mailing.now.text what.now))) campaign.old.value order.faction order.unit) }
         ensures marks { OnOk result (MarksChanges campaign.old campaign.new) };
 
     /// What each step leaves, and what it spares.
@@ -67,7 +67,7 @@ pub trait OrderPhase: PhaseVerbs {
 
 /// Whether a unit is there, and of a faction.
 pub fn is_of_faction(campaign: &Campaign, unit: u32, faction: u32) -> bool
-    ensures { result ≡ is_of_faction faction (get campaign.now.what.units unit) }
+    ensures { result ≡ is_of_faction faction (get campaign.now.value.units unit) }
 {
     match campaign.unit(unit) {
         Some(found) => found.faction == faction,
@@ -77,8 +77,8 @@ pub fn is_of_faction(campaign: &Campaign, unit: u32, faction: u32) -> bool
 
 /// The unit that an order is for; None where it isn't there, or is another faction's.
 pub fn own_unit(campaign: &Campaign, order: Written) -> Option<&Unit>
-    ensures own { option_copied result ≡ of_faction order.faction (get campaign.now.what.units order.unit) }
-    ensures there { IfSome result (λ unit. get campaign.now.what.units order.unit ≡ Some unit.now) }
+    ensures own { option_copied result ≡ of_faction order.faction (get campaign.now.value.units order.unit) }
+    ensures there { IfSome result (λ unit. get campaign.now.value.units order.unit ≡ Some unit.now) }
 {
     match campaign.unit(order.unit) {
         Some(unit) if unit.faction == order.faction => Some(unit),
@@ -95,10 +95,10 @@ fn carry_one<P: OrderPhase>(
     month: &mut Month,
     order: Written,
 ) -> Result<(), AllocError>
-    requires holds { P.holds world.now campaign.old.what }
-    requires room { HaveRoom (P.reserve campaign.old.what) campaign.old.what }
+    requires holds { P.holds world.now campaign.old.value }
+    requires room { HaveRoom (P.reserve campaign.old.value) campaign.old.value }
     requires read { AreFit world.now month.old.readings }
-    ensures step { OnOk result ((campaign.new.what, month.new) ≡ found_written (one_order (P.step phase.now) world.now) month.old.readings (campaign.old.what, month.old) order) }
+    ensures step { OnOk result ((campaign.new.value, month.new) ≡ found_written (one_order (P.step phase.now) world.now) month.old.readings (campaign.old.value, month.old) order) }
     ensures marks { OnOk result (MarksChanges campaign.old campaign.new) }
 {
     let Some((mailing, what)) = month.order(order.faction, order.place) else {
@@ -120,13 +120,13 @@ pub fn carry_out_orders<P: OrderPhase>(
     campaign: &mut Campaign,
     month: &mut Month,
 ) -> Result<(), AllocError>
-    requires holds { P.holds world.now campaign.old.what }
-    requires room { HaveRoom P.moving campaign.old.what }
+    requires holds { P.holds world.now campaign.old.value }
+    requires room { HaveRoom P.moving campaign.old.value }
     requires read { AreFit world.now month.old.readings }
-    ensures meaning { OnOk result ((campaign.new.what, month.new) ≡ carried_out (P.step phase.now) P.is_of world.now campaign.old.what month.old) }
-    ensures leaves { OnOk result (LeavesWell P.holds P.moving world.now campaign.old.what campaign.new.what) }
+    ensures meaning { OnOk result ((campaign.new.value, month.new) ≡ carried_out (P.step phase.now) P.is_of world.now campaign.old.value month.old) }
+    ensures leaves { OnOk result (LeavesWell P.holds P.moving world.now campaign.old.value campaign.new.value) }
     ensures readings { OnOk result (month.new.readings ≡ month.old.readings) }
-    ensures keeps { OnOk result (spares_others P.concerns P.spares P.is_of world.now month.old campaign.old.what campaign.new.what) }
+    ensures keeps { OnOk result (spares_others P.concerns P.spares P.is_of world.now month.old campaign.old.value campaign.new.value) }
     ensures marks { OnOk result (MarksChanges campaign.old campaign.new) }
 {
     phase.is_orderly();

@@ -132,11 +132,11 @@ fn send(
     to: u32,
     going: u32,
 ) -> Result<(), AllocError>
-    requires days { AreDays campaign.old.what }
+    requires days { AreDays campaign.old.value }
     requires apart { to ≢ from }
-    requires enough { (u : Unit) → map.get campaign.old.what.units from ≡ Some u → going ≤ u.holding.men }
-    requires room { (v : Unit) → map.get campaign.old.what.units to ≡ Some v → v.holding.men + going ≤ men_limit }
-    ensures what { OnOk result (campaign.new.what ≡ sent campaign.old.what from to going (map.get campaign.old.what.units from) (map.get campaign.old.what.units to)) }
+    requires enough { (u : Unit) → map.get campaign.old.value.units from ≡ Some u → going ≤ u.holding.men }
+    requires room { (v : Unit) → map.get campaign.old.value.units to ≡ Some v → v.holding.men + going ≤ men_limit }
+    ensures what { OnOk result (campaign.new.value ≡ sent campaign.old.value from to going (map.get campaign.old.value.units from) (map.get campaign.old.value.units to)) }
     ensures marks { OnOk result (MarksChanges campaign.old campaign.new) }
 {
     let (Some(sender), Some(receiver)) = (campaign.unit(from), campaign.unit(to)) else {
@@ -187,8 +187,8 @@ fn transfer(
     to: u32,
     going: u32,
 ) -> Result<Outcome, AllocError>
-    requires days { AreDays campaign.old.what }
-    ensures what { IfOk result (λ outcome. (campaign.new.what, outcome) ≡ carried (transfer order.unit to going) campaign.old.what order.faction order.unit) }
+    requires days { AreDays campaign.old.value }
+    ensures what { IfOk result (λ outcome. (campaign.new.value, outcome) ≡ carried (transfer order.unit to going) campaign.old.value order.faction order.unit) }
     ensures marks { OnOk result (MarksChanges campaign.old campaign.new) }
 {
     let Some(sender) = own_unit(campaign, order) else {

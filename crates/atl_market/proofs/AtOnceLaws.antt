@@ -6,11 +6,11 @@ use Rattle.std.specs.Ordering.{nat_cmp}
 use Rattle.std.specs.FinMap.{FinMap, entries, find, get, get-entries}
 use Rattle.std.proofs.lemmas.Bool.{cases_eq}
 use Rattle.std.proofs.lemmas.List.Sums.{sum_by-cons}
-use Rattle.atl_tables.specs.Planet.{Planet}
+use Rattle.atl_tables.specs.Worlds.{WorldValue}
 use Rattle.atl_state.specs.declared.records.Region.{Region}
 use Rattle.atl_state.specs.declared.records.Unit.{Unit}
 use Rattle.atl_state.specs.Good.{IsThere}
-use Rattle.atl_state.specs.State.{State}
+use Rattle.atl_state.specs.Campaign.{CampaignValue}
 use Rattle.atl_state.proofs.BackLaws.{Rise, entries_rise}
 use Rattle.atl_state.proofs.EveryLaws.{each-from_every, first}
 use Rattle.atl_state.proofs.ListLaws.{other_number, same_number}
@@ -24,22 +24,22 @@ no_more : (a : ℕ) → 0 + a ≡ a
 no_more a = omega arith
 
 -- where a payment needs the unit's region: that it is there; else nothing
-abbrev pub Around : Bool → State → Unit → Type 0
+abbrev pub Around : Bool → CampaignValue → Unit → Type 0
 Around true d u = IsThere d.regions u.region
 Around false d u = ⊤
 
 -- what one payment makes of a unit and of its region, and that it changes no other
-pub record Pays (needs : Bool) (step : State → ℕ × ℕ → State) (gets : ℕ → Gets) (gives : Gives) : Type 0 where
-  pub mine : (d : State) (e : ℕ × ℕ) (u : Unit) → get d.units e.0 ≡ Some u → Around needs d u → get (step d e).units e.0 ≡ Some (gets e.0 u e.1)
-  pub others : (d : State) (e : ℕ × ℕ) (u : Unit) → get d.units e.0 ≡ Some u → Around needs d u → (k : ℕ) → k ≢ e.0 → get (step d e).units k ≡ get d.units k
-  pub region : (d : State) (e : ℕ × ℕ) (u : Unit) (q : Region) → get d.units e.0 ≡ Some u → get d.regions u.region ≡ Some q → get (step d e).regions u.region ≡ Some (gives q e.1)
-  pub regions : (d : State) (e : ℕ × ℕ) (u : Unit) → get d.units e.0 ≡ Some u → Around needs d u → (k : ℕ) → k ≢ u.region → get (step d e).regions k ≡ get d.regions k
+pub record Pays (needs : Bool) (step : CampaignValue → ℕ × ℕ → CampaignValue) (gets : ℕ → Gets) (gives : Gives) : Type 0 where
+  pub mine : (d : CampaignValue) (e : ℕ × ℕ) (u : Unit) → get d.units e.0 ≡ Some u → Around needs d u → get (step d e).units e.0 ≡ Some (gets e.0 u e.1)
+  pub others : (d : CampaignValue) (e : ℕ × ℕ) (u : Unit) → get d.units e.0 ≡ Some u → Around needs d u → (k : ℕ) → k ≢ e.0 → get (step d e).units k ≡ get d.units k
+  pub region : (d : CampaignValue) (e : ℕ × ℕ) (u : Unit) (q : Region) → get d.units e.0 ≡ Some u → get d.regions u.region ≡ Some q → get (step d e).regions u.region ≡ Some (gives q e.1)
+  pub regions : (d : CampaignValue) (e : ℕ × ℕ) (u : Unit) → get d.units e.0 ≡ Some u → Around needs d u → (k : ℕ) → k ≢ u.region → get (step d e).regions k ≡ get d.regions k
   pub nothing : (q : Region) → gives q 0 ≡ q
   pub twice : (q : Region) (s t : ℕ) → gives (gives q s) t ≡ gives q (s + t)
 
-module _ {needs : Bool} {step : State → ℕ × ℕ → State} {gets : ℕ → Gets} {gives : Gives} (pays : Pays needs step gets gives) where
+module _ {needs : Bool} {step : CampaignValue → ℕ × ℕ → CampaignValue} {gets : ℕ → Gets} {gives : Gives} (pays : Pays needs step gets gives) where
   -- regions that are there stay there
-  still_around : (d : State) (e : ℕ × ℕ) (u v : Unit) → get d.units e.0 ≡ Some u → Around needs d u → Around needs d v → Around needs (step d e) v
+  still_around : (d : CampaignValue) (e : ℕ × ℕ) (u v : Unit) → get d.units e.0 ≡ Some u → Around needs d u → Around needs d v → Around needs (step d e) v
   still_around d e u v is here there = by_need needs (λ k apart. pays.regions d e u is here k apart) (λ q at. pays.region d e u q is at) there
     where
       by_need : (b : Bool) → ((k : ℕ) → k ≢ u.region → get (step d e).regions k ≡ get d.regions k) → ((q : Region) → get d.regions u.region ≡ Some q → get (step d e).regions u.region ≡ Some (gives q e.1)) → Around b d v → Around b (step d e) v
@@ -49,21 +49,21 @@ module _ {needs : Bool} {step : State → ℕ × ℕ → State} {gets : ℕ → 
         | inr apart ↦ (q, others v.region apart ∙ at)
       ]
 
-  module _ (c : State) where
+  module _ (c : CampaignValue) where
     -- each unit that is paid is there, and its region where that is needed
-    abbrev CanBePaid : State → ℕ × ℕ → Type 0
+    abbrev CanBePaid : CampaignValue → ℕ × ℕ → Type 0
     CanBePaid d e = (u : Unit) × (get c.units e.0 ≡ Some u) × Around needs d u
 
-    record AreReady (d : State) (es : List (ℕ × ℕ)) : Type 0 where
+    record AreReady (d : CampaignValue) (es : List (ℕ × ℕ)) : Type 0 where
       rise : Rise es
       same : AreUntouched c d es
       payable : AllByRecursion (CanBePaid d) es
 
-    payable_still : (d : State) (e : ℕ × ℕ) (u : Unit) (es : List (ℕ × ℕ)) → get d.units e.0 ≡ Some u → Around needs d u → AllByRecursion (CanBePaid d) es → AllByRecursion (CanBePaid (step d e)) es
+    payable_still : (d : CampaignValue) (e : ℕ × ℕ) (u : Unit) (es : List (ℕ × ℕ)) → get d.units e.0 ≡ Some u → Around needs d u → AllByRecursion (CanBePaid d) es → AllByRecursion (CanBePaid (step d e)) es
     payable_still d e u [] is here all = tt
     payable_still d e u (f ∷ es) is here ((v, there, around), all) = ((v, there, still_around d e u v is here around), payable_still d e u es is here all)
 
-    ready_still : (d : State) (e : ℕ × ℕ) (es : List (ℕ × ℕ)) (u : Unit) → get d.units e.0 ≡ Some u → Around needs d u → AreReady d (e ∷ es) → AreReady (step d e) es
+    ready_still : (d : CampaignValue) (e : ℕ × ℕ) (es : List (ℕ × ℕ)) (u : Unit) → get d.units e.0 ≡ Some u → Around needs d u → AreReady d (e ∷ es) → AreReady (step d e) es
     ready_still d e es u is here ready = record {
       rise = ready.rise.1;
       same = still c d (step d e) e.0 es (pays.others d e u is here) ready.rise.0 ready.same.1;
@@ -71,14 +71,14 @@ module _ {needs : Bool} {step : State → ℕ × ℕ → State} {gets : ℕ → 
     }
 
     -- who was paid isn't paid again
-    paid_once : (d : State) (es : List (ℕ × ℕ)) (n : ℕ) → AreReady d es → AllByRecursion (λ e. n < e.0) es → get (fold step d es).units n ≡ get d.units n
+    paid_once : (d : CampaignValue) (es : List (ℕ × ℕ)) (n : ℕ) → AreReady d es → AllByRecursion (λ e. n < e.0) es → get (fold step d es).units n ≡ get d.units n
     paid_once d [] n ready above = refl
     paid_once d (e ∷ es) n ready above =
         let (u, there, here) = ready.payable.0 in
         let now : get d.units e.0 ≡ Some u = ready.same.0 ∙ there in
         paid_once (step d e) es n (ready_still d e es u now here ready) above.1 ∙ pays.others d e u now here n (λ same. absurd (omega (arith, same, above.0)))
 
-    units_paid : (d : State) (es : List (ℕ × ℕ)) → AreReady d es → (n : ℕ) (u : Unit) → get d.units n ≡ Some u → get (fold step d es).units n ≡ Some (paid_unit (gets n) u (find nat_cmp n es))
+    units_paid : (d : CampaignValue) (es : List (ℕ × ℕ)) → AreReady d es → (n : ℕ) (u : Unit) → get d.units n ≡ Some u → get (fold step d es).units n ≡ Some (paid_unit (gets n) u (find nat_cmp n es))
     units_paid d [] ready n u is = is
     units_paid d (e ∷ es) ready n u is =
         let (v, there, here) = ready.payable.0 in
@@ -94,7 +94,7 @@ module _ {needs : Bool} {step : State → ℕ × ℕ → State} {gets : ℕ → 
               units_paid (step d e) es rest n u (pays.others d e v now here n apart ∙ is) ∙ ap (λ o. Some (paid_unit (gets n) u o)) (sym (found_other e es n apart))
         ]
 
-    regions_drained : (d : State) (es : List (ℕ × ℕ)) → AreReady d es → (r : ℕ) (q : Region) → get d.regions r ≡ Some q → get (fold step d es).regions r ≡ Some (gives q (drawn (who_stand c.units r) es))
+    regions_drained : (d : CampaignValue) (es : List (ℕ × ℕ)) → AreReady d es → (r : ℕ) (q : Region) → get d.regions r ≡ Some q → get (fold step d es).regions r ≡ Some (gives q (drawn (who_stand c.units r) es))
     regions_drained d [] ready r q is = is ∙ ap Some (sym (pays.nothing q))
     regions_drained d (e ∷ es) ready r q is =
         let (v, there, here) = ready.payable.0 in
@@ -123,11 +123,11 @@ drawn_is units r (e ∷ es) = by_test (stands_in r (get units e.0)) (drawn_is un
     by_test false rest = no_more (drawn (who_stand units r) es) ∙ rest
 
 -- each unit that gets something is there, and its region where that is needed
-abbrev pub GivesWhoIsThere : Bool → PotMeaning → Planet → State → List Written → Type 0
+abbrev pub GivesWhoIsThere : Bool → PotMeaning → WorldValue → CampaignValue → List Written → Type 0
 GivesWhoIsThere needs p w c os = (n share : ℕ) → get (given_by p w c os) n ≡ Some share → (u : Unit) × (get c.units n ≡ Some u) × Around needs c u
 
-pub all_at_once : {needs : Bool} (p : PotMeaning) (w : Planet) (gets : ℕ → Gets) (gives : Gives) → Pays needs (p.paid w) gets gives
-    → (c : State) (os : List Written) → GivesWhoIsThere needs p w c os → PaysAtOnce p w gets gives c os
+pub all_at_once : {needs : Bool} (p : PotMeaning) (w : WorldValue) (gets : ℕ → Gets) (gives : Gives) → Pays needs (p.paid w) gets gives
+    → (c : CampaignValue) (os : List Written) → GivesWhoIsThere needs p w c os → PaysAtOnce p w gets gives c os
 unfolding shared_out
 all_at_once {needs} p w gets gives pays c os gives_them =
     let given = given_by p w c os in

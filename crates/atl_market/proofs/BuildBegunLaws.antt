@@ -3,7 +3,7 @@ use Rattle.std.proofs.Common.{◌≡◌, ℕ, ◌≤◌, Bool, true, false, code
 use Rattle.std.specs.Prelude.{pos, IsTrue, if◌then◌else◌}
 use Rattle.std.specs.FinMap.{get}
 use Rattle.atl_tables.specs.Names.{name_ok}
-use Rattle.atl_tables.specs.Planet.{Planet}
+use Rattle.atl_tables.specs.Worlds.{WorldValue}
 use Rattle.atl_tables.specs.declared.world.Kind.{Kind}
 use Rattle.atl_tables.specs.ByNumber.{size_of}
 use Rattle.atl_state.specs.declared.books.Entry.{Entry}
@@ -11,7 +11,7 @@ use Rattle.atl_state.specs.declared.books.Thing.{Thing}
 use Rattle.atl_state.specs.declared.records.Structure.{Structure}
 use Rattle.atl_state.specs.Books.{amount_in, booked}
 use Rattle.atl_state.specs.Limits.{last_unit, most_structures}
-use Rattle.atl_state.specs.State.{State}
+use Rattle.atl_state.specs.Campaign.{CampaignValue}
 use Rattle.atl_state.specs.Totals.{total}
 use Rattle.atl_state.proofs.BegunLaws.{IsFresh, built, raised, steady_built, steady_raised, total_built, total_raised}
 use Rattle.atl_state.proofs.NumberedNameLaws.{numbered_name_ok}
@@ -22,7 +22,7 @@ use Rattle.atl_instant.proofs.StepLaws.{not_drawn}
 
 -- ---- where units hold what they held, and nothing is booked
 
-pub still_well : (w : Planet) (c d : State) → CanBuild w d → IsSameMonth c d → d.books ≡ c.books → ((t : Thing) → total d t ≡ total c t) → ((e : Entry) (t : Thing) → build_reserve d e t ≡ build_reserve c e t) → StepsWell CanBuild build_reserve w c d
+pub still_well : (w : WorldValue) (c d : CampaignValue) → CanBuild w d → IsSameMonth c d → d.books ≡ c.books → ((t : Thing) → total d t ≡ total c t) → ((e : Entry) (t : Thing) → build_reserve d e t ≡ build_reserve c e t) → StepsWell CanBuild build_reserve w c d
 still_well w c d can same books totals reserves = record {
   holds_still = can;
   same_month = same;
@@ -39,14 +39,14 @@ sort_name_ok k number l = by_sort k.ship
     by_sort true = numbered_name_ok (codes "Ship ") (record { bytes = refl; begins = refl; some = lit≤ tt; few = lit≤ tt }) number l
     by_sort false = numbered_name_ok (codes "Building ") (record { bytes = refl; begins = refl; some = lit≤ tt; few = lit≤ tt }) number l
 
-pub raised_well : (w : Planet) (c : State) (s : Structure) (fresh : IsFresh w c s) (room : c.next_structure ≤ most_structures) (can : CanBuild w c) → StepsWell CanBuild build_reserve w c (raised w c s fresh room can.steady)
+pub raised_well : (w : WorldValue) (c : CampaignValue) (s : Structure) (fresh : IsFresh w c s) (room : c.next_structure ≤ most_structures) (can : CanBuild w c) → StepsWell CanBuild build_reserve w c (raised w c s fresh room can.steady)
 raised_well w c s fresh room can =
     still_well w c (raised w c s fresh room can.steady) (record { steady = steady_raised w c s fresh room can.steady; kinds = can.kinds })
     (record { month = refl; reports = refl; count = refl; factions = λ k there. there }) refl (total_raised w c s fresh room can.steady) (λ e t. refl)
 
 -- ---- more of a structure is done
 
-pub built_well : (w : Planet) (c : State) (k : ℕ) (s : Structure) (done : ℕ) (is : get c.structures k ≡ Some s) (more : s.done ≤ done) (most : done ≤ size_of w s.kind) (can : CanBuild w c) → StepsWell CanBuild build_reserve w c (built w c k s done is)
+pub built_well : (w : WorldValue) (c : CampaignValue) (k : ℕ) (s : Structure) (done : ℕ) (is : get c.structures k ≡ Some s) (more : s.done ≤ done) (most : done ≤ size_of w s.kind) (can : CanBuild w c) → StepsWell CanBuild build_reserve w c (built w c k s done is)
 built_well w c k s done is more most can =
     still_well w c (built w c k s done is) (record { steady = steady_built w c k s done is more most can.steady; kinds = can.kinds })
     (record { month = refl; reports = refl; count = refl; factions = λ j there. there }) refl (total_built w c k s done is more most can.steady) (λ e t. refl)

@@ -9,7 +9,7 @@ use Rattle.std.proofs.lemmas.Option.{slice_get_within}
 use Rattle.std.proofs.Math.Nat.{mul-le-mul_left}
 use Rattle.std.specs.FinMap.{entries, get, len, len-entries}
 use Rattle.atl_tables.specs.Limits.{most_size}
-use Rattle.atl_tables.specs.Planet.{IsKind, Planet}
+use Rattle.atl_tables.specs.Worlds.{IsKind, WorldValue}
 use Rattle.atl_tables.specs.Sums.{sum_over}
 use Rattle.atl_tables.specs.declared.world.Kind.{Kind}
 use Rattle.atl_tables.specs.ByNumber.{is_land_at, size_of}
@@ -32,7 +32,7 @@ use Rattle.atl_state.proofs.BegunLaws.{IsFresh, built, built_is, nobody_inside, 
 use Rattle.atl_state.specs.Held.{Held, IsHolding, amount_of}
 use Rattle.atl_state.specs.Limits.{holding_limit, most_structures, most_units}
 use Rattle.atl_state.specs.Owners.{with_place}
-use Rattle.atl_state.specs.State.{State, with_done}
+use Rattle.atl_state.specs.Campaign.{CampaignValue, with_done}
 use Rattle.atl_state.proofs.EveryLaws.{each-from_every}
 use Rattle.atl_instant.specs.Meaning.{HaveRoom, LeavesWell, most_moved}
 use Rattle.atl_instant.specs.Outcomes.{unless}
@@ -59,11 +59,11 @@ more_than a b is = grind (arith, nat_tests)
 
 -- ---- the structures are as many as numbers are given
 
-pub next_within : (c : State) → IsNumbered c.structures c.next_structure → len c.structures < most_structures → c.next_structure ≤ most_structures
+pub next_within : (c : CampaignValue) → IsNumbered c.structures c.next_structure → len c.structures < most_structures → c.next_structure ≤ most_structures
 next_within c numbered room = omega (arith, numbered.count, room)
 
 -- the next number tells whether no further structure can come
-pub limit_by_next : (c : State) → IsNumbered c.structures c.next_structure → nat_lt most_structures c.next_structure ≡ is_structure_limit c
+pub limit_by_next : (c : CampaignValue) → IsNumbered c.structures c.next_structure → nat_lt most_structures c.next_structure ≡ is_structure_limit c
 limit_by_next c numbered = rw numbered.count (by_count most_structures (len c.structures))
   where
     by_count : (most count : ℕ) → nat_lt most (count + 1) ≡ nat_le most count
@@ -72,14 +72,14 @@ limit_by_next c numbered = rw numbered.count (by_count most_structures (len c.st
 -- ---- where no fault fits
 
 -- a unit that begins a structure of a kind
-pub record CanBegin (w : Planet) (c : State) (u : Unit) (k : Kind) : Type 0 where
+pub record CanBegin (w : WorldValue) (c : CampaignValue) (u : Unit) (k : Kind) : Type 0 where
   pub men : 1 ≤ u.holding.men
   pub land : is_land_at w u.region ≡ true
   pub skill : k.level ≤ level_in u.holding k.skill
   pub material : 1 ≤ amount_of u.holding.items k.material
   pub room : len c.structures < most_structures
 
-pub can_begin : (w : Planet) (c : State) (u : Unit) (k : Kind) → begin_fault w c u k ≡ None → CanBegin w c u k
+pub can_begin : (w : WorldValue) (c : CampaignValue) (u : Unit) (k : Kind) → begin_fault w c u k ≡ None → CanBegin w c u k
 can_begin w c u k is =
     let limit = (is_structure_limit c, StructureLimit) ∷ [] in
     let material = (amount_of u.holding.items k.material == 0, NoMaterial) ∷ limit in
@@ -144,19 +144,19 @@ module _ (k : Kind) (h : Held) (done : ℕ) where
   size_some men level material missing =
       least_of (h.men * level_in h k.skill) (amount_of h.items k.material) (k.size - done) (product h.men (level_in h k.skill) men level) material (omega (arith, missing))
 
-kind_size : (w : Planet) (i : ℕ) (k : Kind) → slice_get w.kinds i ≡ Some k → size_of w i ≡ k.size
+kind_size : (w : WorldValue) (i : ℕ) (k : Kind) → slice_get w.kinds i ≡ Some k → size_of w i ≡ k.size
 kind_size w i k is = ap (λ o. option_map_or (λ (x : Kind). x.size) o most_size) is
 
 -- ---- a structure is begun
 
-module _ (w : Planet) (c : State) (n kind : ℕ) (u : Unit) (k : Kind) (is : get c.units n ≡ Some u) where
+module _ (w : WorldValue) (c : CampaignValue) (n kind : ℕ) (u : Unit) (k : Kind) (is : get c.units n ≡ Some u) where
   abbrev size : ℕ
   size = size_added k u.holding 0
 
-  abbrev one : State
+  abbrev one : CampaignValue
   one = used w c n k.material size u is
 
-  abbrev from_used : State → State
+  abbrev from_used : CampaignValue → CampaignValue
   from_used d = with_place (with_new d kind k u.region size) n u.region c.next_structure
 
   begun_is : started c n kind k u.region size ≡ from_used one
@@ -164,7 +164,7 @@ module _ (w : Planet) (c : State) (n kind : ℕ) (u : Unit) (k : Kind) (is : get
 
   begun_stays : (j : ℕ) → j ≢ n → get (started c n kind k u.region size).units j ≡ get c.units j
   begun_stays j apart =
-      ap (λ (d : State). get d.units j) begun_is ∙ place_stays (with_new one kind k u.region size) n u.region c.next_structure j apart
+      ap (λ (d : CampaignValue). get d.units j) begun_is ∙ place_stays (with_new one kind k u.region size) n u.region c.next_structure j apart
       ∙ others_stay w c n k.material size u is j apart
 
   module _ (kind_is : slice_get w.kinds kind ≡ Some k) (can : CanBuild w c) (fit : CanBegin w c u k) where
@@ -191,7 +191,7 @@ module _ (w : Planet) (c : State) (n kind : ℕ) (u : Unit) (k : Kind) (is : get
       ownerless = refl;
     }
 
-    two : State
+    two : CampaignValue
     two = raised w one new fresh room one_well.holds_still.steady
 
     begun_well : StepsWell CanBuild build_reserve w c (started c n kind k u.region size)
@@ -207,21 +207,21 @@ module _ (w : Planet) (c : State) (n kind : ℕ) (u : Unit) (k : Kind) (is : get
 
 -- ---- more of a structure is done
 
-module _ (w : Planet) (c : State) (n : ℕ) (u : Unit) (s : Structure) (k : Kind) (is : get c.units n ≡ Some u) where
+module _ (w : WorldValue) (c : CampaignValue) (n : ℕ) (u : Unit) (s : Structure) (k : Kind) (is : get c.units n ≡ Some u) where
   abbrev added : ℕ
   added = size_added k u.holding s.done
 
-  abbrev paid : State
+  abbrev paid : CampaignValue
   paid = used w c n k.material added u is
 
-  abbrev further : State → State
+  abbrev further : CampaignValue → CampaignValue
   further d = with_done d u.structure (s.done + added)
 
   on_is : gone_on c n k.material added u.structure (s.done + added) ≡ further paid
   on_is = ap further (used_is w c n k.material added u is)
 
   on_stays : (j : ℕ) → j ≢ n → get (gone_on c n k.material added u.structure (s.done + added)).units j ≡ get c.units j
-  on_stays j apart = ap (λ (d : State). get d.units j) on_is ∙ others_stay w c n k.material added u is j apart
+  on_stays j apart = ap (λ (d : CampaignValue). get d.units j) on_is ∙ others_stay w c n k.material added u is j apart
 
   module _ (there : get c.structures u.structure ≡ Some s) (kind_is : slice_get w.kinds s.kind ≡ Some k) (can : CanBuild w c) (fit : CanGoOn u s k) where
     paid_well : StepsWell CanBuild build_reserve w c paid
@@ -242,7 +242,7 @@ module _ (w : Planet) (c : State) (n : ℕ) (u : Unit) (s : Structure) (k : Kind
 -- ---- an order
 
 -- what is so of the campaign as it is, and of that in which the structure is begun, is so of the campaign behind the order
-begin_cases : (P : State → Type 0) (w : Planet) (c : State) (n kind : ℕ) (k : Kind) (u : Unit) → P c
+begin_cases : (P : CampaignValue → Type 0) (w : WorldValue) (c : CampaignValue) (n kind : ℕ) (k : Kind) (u : Unit) → P c
     → (CanBegin w c u k → P (started c n kind k u.region (size_added k u.holding 0))) → P (begin w n kind k c u).0
 unfolding begin
 begin_cases P w c n kind k u same go = by_fault (begin_fault w c u k) refl
@@ -252,7 +252,7 @@ begin_cases P w c n kind k u same go = by_fault (begin_fault w c u k) refl
     by_fault None e = go (can_begin w c u k e)
 
 -- and so where a unit goes on
-go_on_cases : (P : State → Type 0) (w : Planet) (c : State) (n : ℕ) (u : Unit) → P c
+go_on_cases : (P : CampaignValue → Type 0) (w : WorldValue) (c : CampaignValue) (n : ℕ) (u : Unit) → P c
     → ((s : Structure) (k : Kind) → get c.structures u.structure ≡ Some s → slice_get w.kinds s.kind ≡ Some k → CanGoOn u s k
     → P (gone_on c n k.material (size_added k u.holding s.done) u.structure (s.done + size_added k u.holding s.done))) → P (go_on w n c u).0
 unfolding go_on
@@ -275,7 +275,7 @@ go_on_cases P w c n u same go = by_structure (get c.structures u.structure) refl
     by_structure None there = outside (u.holding.men == 0)
     by_structure (Some s) there = by_kind s there (slice_get w.kinds s.kind) refl
 
-module _ (w : Planet) (c : State) (n : ℕ) (u : Unit) (is : get c.units n ≡ Some u) where
+module _ (w : WorldValue) (c : CampaignValue) (n : ℕ) (u : Unit) (is : get c.units n ≡ Some u) where
   begin_well : (kind : ℕ) (k : Kind) → slice_get w.kinds kind ≡ Some k → CanBuild w c → StepsWell CanBuild build_reserve w c (begin w n kind k c u).0
   begin_well kind k kind_is can = begin_cases (λ d. StepsWell CanBuild build_reserve w c d) w c n kind k u (well_same w c can) (λ fit. begun_well w c n kind u k is kind_is can fit)
 
@@ -290,7 +290,7 @@ module _ (w : Planet) (c : State) (n : ℕ) (u : Unit) (is : get c.units n ≡ S
 
 -- ---- what all units hold of an item
 
-reserve_within : (w : Planet) (c : State) → CanBuild w c → (e : Entry) (t : Thing) → build_reserve c e t ≤ build_moves e t
+reserve_within : (w : WorldValue) (c : CampaignValue) → CanBuild w c → (e : Entry) (t : Thing) → build_reserve c e t ≤ build_moves e t
 reserve_within w c can e t = by_thing t
   where
     all_within : (f : Held → ℕ) (most : ℕ) → ((h : Held) → IsHolding h → f h ≤ most) → sum_over (λ (u : Unit). f u.holding) c.units ≤ length (entries c.units) * most
@@ -324,7 +324,7 @@ build_orderly = record {
   bounded = reserve_within;
 }
   where
-    well : (w : Planet) (c : State) (n : ℕ) (x : Unit) → get c.units n ≡ Some x → CanBuild w c → (s : Said) → IfSome (build_said w n s) (λ deed. StepsWell CanBuild build_reserve w c (deed c x).0)
+    well : (w : WorldValue) (c : CampaignValue) (n : ℕ) (x : Unit) → get c.units n ≡ Some x → CanBuild w c → (s : Said) → IfSome (build_said w n s) (λ deed. StepsWell CanBuild build_reserve w c (deed c x).0)
     well w c n x is can (orders.Build (Some kind)) = by_kind (slice_get w.kinds kind) refl
       where
         by_kind : (o : Option Kind) → slice_get w.kinds kind ≡ o → IfSome (option_map (begin w n kind) o) (λ deed. StepsWell CanBuild build_reserve w c (deed c x).0)
@@ -333,7 +333,7 @@ build_orderly = record {
     well w c n x is can (orders.Build None) = go_on_well w c n x is can
     well w c n x is can other = tt
 
-    stays : (w : Planet) (c : State) (n : ℕ) (x : Unit) → get c.units n ≡ Some x → (j : ℕ) → j ≢ n → (s : Said) → IfSome (build_said w n s) (λ deed. get (deed c x).0.units j ≡ get c.units j)
+    stays : (w : WorldValue) (c : CampaignValue) (n : ℕ) (x : Unit) → get c.units n ≡ Some x → (j : ℕ) → j ≢ n → (s : Said) → IfSome (build_said w n s) (λ deed. get (deed c x).0.units j ≡ get c.units j)
     stays w c n x is j apart (orders.Build (Some kind)) = by_kind (slice_get w.kinds kind)
       where
         by_kind : (o : Option Kind) → IfSome (option_map (begin w n kind) o) (λ deed. get (deed c x).0.units j ≡ get c.units j)
@@ -343,11 +343,11 @@ build_orderly = record {
     stays w c n x is j apart other = tt
 
 -- a phase that leaves a campaign in which units can build leaves a steady one
-pub leaves_steady : (w : Planet) (c d : State) → LeavesWell CanBuild build_moves w c d → LeavesWell IsSteady build_moves w c d
+pub leaves_steady : (w : WorldValue) (c d : CampaignValue) → LeavesWell CanBuild build_moves w c d → LeavesWell IsSteady build_moves w c d
 leaves_steady w c d h = record { leaves_it = h.leaves_it.steady; same_month = h.same_month; balances = h.balances; near = h.near }
 
 -- a unit can use what it holds
-pub can_use : (w : Planet) (c : State) (n item amount : ℕ) (u : Unit) → get c.units n ≡ Some u → amount ≤ amount_of u.holding.items item → item < length w.items → CanBuild w c → HaveRoom (build_reserve c) c → CanUse w c n item amount
+pub can_use : (w : WorldValue) (c : CampaignValue) (n item amount : ℕ) (u : Unit) → get c.units n ≡ Some u → amount ≤ amount_of u.holding.items item → item < length w.items → CanBuild w c → HaveRoom (build_reserve c) c → CanUse w c n item amount
 can_use w c n item amount u is enough known can room = record {
   unit = u;
   there = is;
@@ -360,16 +360,16 @@ can_use w c n item amount u is enough known can room = record {
 -- ---- what the code does is what is said
 
 -- a structure and its kind that stand under a number
-built_is_both : (w : Planet) (c : State) (place : ℕ) (s : Structure) (k : Kind) → get c.structures place ≡ Some s → slice_get w.kinds s.kind ≡ Some k → built_at w c place ≡ Some (s, k)
+built_is_both : (w : WorldValue) (c : CampaignValue) (place : ℕ) (s : Structure) (k : Kind) → get c.structures place ≡ Some s → slice_get w.kinds s.kind ≡ Some k → built_at w c place ≡ Some (s, k)
 built_is_both w c place s k there kind_is = ap (option_and_then (with_kind w)) there ∙ ap (option_map {U = Structure × Kind} (λ x. (s, x))) kind_is
 
-abbrev begun_told : State → (n kind : ℕ) → Kind → (region size : ℕ) → State × Outcome
+abbrev begun_told : CampaignValue → (n kind : ℕ) → Kind → (region size : ℕ) → CampaignValue × Outcome
 begun_told c n kind k region size = (started c n kind k region size, Done size)
 
-abbrev on_told : State → (n material size place done : ℕ) → State × Outcome
+abbrev on_told : CampaignValue → (n material size place done : ℕ) → CampaignValue × Outcome
 on_told c n material size place done = (gone_on c n material size place done, Done size)
 
-pub begin_done : (w : Planet) (c d : State) (f n kind : ℕ) (u : Unit) (k : Kind) (size told : ℕ) → of_faction f (get c.units n) ≡ Some u → begin_fault w c u k ≡ None
+pub begin_done : (w : WorldValue) (c d : CampaignValue) (f n kind : ℕ) (u : Unit) (k : Kind) (size told : ℕ) → of_faction f (get c.units n) ≡ Some u → begin_fault w c u k ≡ None
     → d ≡ started c n kind k u.region size → told ≡ size → size ≡ size_added k u.holding 0 → (d, Done told) ≡ carried (begin w n kind k) c f n
 unfolding begin
 begin_done w c d f n kind u k size told is none first told_is size_is =
@@ -377,7 +377,7 @@ begin_done w c d f n kind u k size told is none first told_is size_is =
     let chain : carried (begin w n kind k) c f n ≡ whole = ap (done_for (begin w n kind k) c) is ∙ ap (λ o. unless c o whole) none in
     rw (first, told_is, size_is) (sym chain)
 
-pub go_on_done : (w : Planet) (c d : State) (f n : ℕ) (u : Unit) (s : Structure) (k : Kind) (size told : ℕ) → of_faction f (get c.units n) ≡ Some u → get c.structures u.structure ≡ Some s → slice_get w.kinds s.kind ≡ Some k
+pub go_on_done : (w : WorldValue) (c d : CampaignValue) (f n : ℕ) (u : Unit) (s : Structure) (k : Kind) (size told : ℕ) → of_faction f (get c.units n) ≡ Some u → get c.structures u.structure ≡ Some s → slice_get w.kinds s.kind ≡ Some k
     → inside_fault u s k ≡ None → d ≡ gone_on c n k.material size u.structure (s.done + size) → told ≡ size → size ≡ size_added k u.holding s.done → (d, Done told) ≡ carried (go_on w n) c f n
 unfolding go_on
 go_on_done w c d f n u s k size told is there kind_is none first told_is size_is =

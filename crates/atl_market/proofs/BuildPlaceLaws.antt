@@ -1,7 +1,7 @@
 -- A unit that builds leaves a structure for another of its region.
 use Rattle.std.proofs.Common.{◌≡◌, ◌≢◌, ℕ, ◌+◌, false, true, Some, refl, sym, subst, arith}
 use Rattle.std.specs.FinMap.{get}
-use Rattle.atl_tables.specs.Planet.{Planet}
+use Rattle.atl_tables.specs.Worlds.{WorldValue}
 use Rattle.atl_tables.proofs.SumLaws.{sum_over-insert_known}
 use Rattle.atl_tables.specs.ByNumber.{is_land_at}
 use Rattle.atl_state.specs.declared.books.Entry.{Entry}
@@ -10,7 +10,7 @@ use Rattle.atl_state.specs.declared.records.Structure.{Structure}
 use Rattle.atl_state.specs.declared.records.Unit.{Unit}
 use Rattle.atl_state.specs.Good.{is_ship}
 use Rattle.atl_state.specs.Owners.{with_place}
-use Rattle.atl_state.specs.State.{State}
+use Rattle.atl_state.specs.Campaign.{CampaignValue}
 use Rattle.atl_instant.specs.Steps.{StepsWell}
 use Rattle.atl_instant.proofs.PlacingLaws.{behind, place_is, placed_steady, placed_total}
 use Rattle.atl_market.specs.Build.{CanBuild, build_reserve, usable}
@@ -19,8 +19,8 @@ use Rattle.atl_market.proofs.BuildBegunLaws.{still_well}
 cancelled : (a b h g : ℕ) → a + h ≡ b + g → g ≡ h → a ≡ b
 cancelled a b h g e f = omega (arith, e, f)
 
-module _ (w : Planet) (c : State) (n : ℕ) (u : Unit) (s : ℕ) (is : get c.units n ≡ Some u) (can : CanBuild w c) (apart : u.structure ≢ s) where
-  abbrev then : State
+module _ (w : WorldValue) (c : CampaignValue) (n : ℕ) (u : Unit) (s : ℕ) (is : get c.units n ≡ Some u) (can : CanBuild w c) (apart : u.structure ≢ s) where
+  abbrev then : CampaignValue
   then = behind w c n u s is can.steady apart
 
   reserve_stays : (e : Entry) (t : Thing) → build_reserve then e t ≡ build_reserve c e t

@@ -5,7 +5,7 @@ use Rattle.std.proofs.lemmas.Bool.Decides.{nat_tests}
 use Rattle.std.specs.Ordering.{nat_cmp, eq_by_cmp}
 use Rattle.std.specs.Cmp.{unsigned_ties}
 use Rattle.std.specs.FinMap.{get, remove}
-use Rattle.atl_tables.specs.Planet.{Planet}
+use Rattle.atl_tables.specs.Worlds.{WorldValue}
 use Rattle.atl_tables.specs.Sums.{sum_over}
 use Rattle.atl_tables.proofs.SumLaws.{sum_over-insert_known}
 use Rattle.atl_state.specs.declared.books.Entry.{Entry}
@@ -18,7 +18,7 @@ use Rattle.atl_state.specs.Good.{IsSteady}
 use Rattle.atl_state.specs.Held.{Held, amount_of, with_amount_of}
 use Rattle.atl_state.specs.Limits.{entry_count}
 use Rattle.atl_state.specs.Marks.{amount_number}
-use Rattle.atl_state.specs.State.{State, with_amount}
+use Rattle.atl_state.specs.Campaign.{CampaignValue, with_amount}
 use Rattle.atl_state.proofs.EveryEntryLaws.{entry_small}
 use Rattle.atl_state.proofs.EveryLaws.{get-insert_other}
 use Rattle.atl_state.proofs.RegionLaws.{get-insert_same}
@@ -93,11 +93,11 @@ only_used item amount e t = by_number (amount_number e t == amount_number Used (
 shrunk : (s t f g x : ℕ) → s + f ≡ t + g → f ≡ g + x → s + x ≡ t
 shrunk s t f g x e h = omega (arith, e, h)
 
-module _ (w : Planet) (c : State) (n item amount : ℕ) (u : Unit) (is : get c.units n ≡ Some u) where
+module _ (w : WorldValue) (c : CampaignValue) (n item amount : ℕ) (u : Unit) (is : get c.units n ≡ Some u) where
   abbrev pub user : Unit
   user = record u { holding = with_less u.holding item amount }
 
-  abbrev pub used : State
+  abbrev pub used : CampaignValue
   used = with_amount (with_item c n u item (amount_of u.holding.items item - amount)) Used (Item item) (neg_ℤ (pos amount))
 
   -- the unit is there, and the others stay
@@ -129,15 +129,15 @@ module _ (w : Planet) (c : State) (n item amount : ℕ) (u : Unit) (is : get c.u
 -- ---- what stays
 
 -- the structures, and the number that comes next
-pub same_structures : (c : State) (n item amount : ℕ) → (with_used c n item amount).structures ≡ c.structures
+pub same_structures : (c : CampaignValue) (n item amount : ℕ) → (with_used c n item amount).structures ≡ c.structures
 same_structures c n item amount = either_way (λ o. (used_by c n item amount o).structures) c.structures refl (λ u. refl) (get c.units n)
 
-pub same_next : (c : State) (n item amount : ℕ) → (with_used c n item amount).next_structure ≡ c.next_structure
+pub same_next : (c : CampaignValue) (n item amount : ℕ) → (with_used c n item amount).next_structure ≡ c.next_structure
 same_next c n item amount = either_way (λ o. (used_by c n item amount o).next_structure) c.next_structure refl (λ u. refl) (get c.units n)
 
 -- ---- there is room for what a unit may use
 
-pub used_room : (c : State) (n item amount : ℕ) (u : Unit) → get c.units n ≡ Some u → amount ≤ amount_of u.holding.items item → HaveRoom (build_reserve c) c → HasRoom amount (amount_in c.books Used (Item item))
+pub used_room : (c : CampaignValue) (n item amount : ℕ) (u : Unit) → get c.units n ≡ Some u → amount ≤ amount_of u.holding.items item → HaveRoom (build_reserve c) c → HasRoom amount (amount_in c.books Used (Item item))
 used_room c n item amount u is enough room =
     let f = λ (x : Unit). usable Used (Item item) x.holding in
     less_room amount (build_reserve c Used (Item item)) (amount_in c.books Used (Item item))

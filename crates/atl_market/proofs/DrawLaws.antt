@@ -8,12 +8,12 @@ use Rattle.std.specs.Cmp.{ranked}
 use Rattle.std.specs.FinMap.{FinMap, entries, get, insert}
 use Rattle.std.proofs.lemmas.Bool.{cases_eq, eqb-true}
 use Rattle.std.proofs.lemmas.List.Sums.{sum_by-cons}
-use Rattle.atl_tables.specs.Planet.{Planet}
+use Rattle.atl_tables.specs.Worlds.{WorldValue}
 use Rattle.atl_state.specs.declared.records.Region.{Region}
 use Rattle.atl_state.specs.declared.records.Unit.{Unit}
 use Rattle.atl_state.specs.Deciding.{EachOf}
 use Rattle.atl_state.specs.Good.{IsEarly, IsThere}
-use Rattle.atl_state.specs.State.{State, region_changed}
+use Rattle.atl_state.specs.Campaign.{CampaignValue, region_changed}
 use Rattle.atl_state.proofs.BackLaws.{Rise, entries_rise}
 use Rattle.atl_state.proofs.EveryLaws.{each-from_every, get-insert_other}
 use Rattle.atl_state.proofs.ListLaws.{other_number, same_number}
@@ -132,16 +132,16 @@ pub record DrawnPots (K : Type 0) : Type 0 where
 
 module _ {K : Type 0} (pots : DrawnPots K) where
   -- each pot has enough for what its units are to draw
-  abbrev pub HaveEnough : State → List (ℕ × ℕ) → Type 0
+  abbrev pub HaveEnough : CampaignValue → List (ℕ × ℕ) → Type 0
   HaveEnough d es = (k : K) (q : Region) → get d.regions (pots.place k) ≡ Some q → drawn (pots.draws k) es ≤ pots.left k q
 
   -- each pot has less by a unit's share where the unit draws from it, and else what it had
-  abbrev pub Drains : State → ℕ × ℕ → State → Type 0
+  abbrev pub Drains : CampaignValue → ℕ × ℕ → CampaignValue → Type 0
   Drains d e after =
       (k : K) (x : Region) → get after.regions (pots.place k) ≡ Some x
       → (q : Region) × (get d.regions (pots.place k) ≡ Some q) × (pots.left k x + cond (pots.draws k e.0) e.1 0 ≡ pots.left k q)
 
-  module _ (d : State) (e : ℕ × ℕ) (es : List (ℕ × ℕ)) (enough : HaveEnough d (e ∷ es)) where
+  module _ (d : CampaignValue) (e : ℕ × ℕ) (es : List (ℕ × ℕ)) (enough : HaveEnough d (e ∷ es)) where
     -- a unit can draw its share
     pub first_draws : (k : K) (q : Region) → get d.regions (pots.place k) ≡ Some q → pots.draws k e.0 ≡ true → e.1 ≤ pots.left k q
     first_draws k q around mine = at_least (pots.left k q) (subst (λ b. cond b e.1 0 + drawn (pots.draws k) es ≤ pots.left k q) mine (enough k q around))
@@ -150,7 +150,7 @@ module _ {K : Type 0} (pots : DrawnPots K) where
         at_least all h = omega (arith, h)
 
     -- and leaves enough for the others
-    pub others_draw : (after : State) → Drains d e after → HaveEnough after es
+    pub others_draw : (after : CampaignValue) → Drains d e after → HaveEnough after es
     others_draw after drains k x is =
         let (q, around, less) = drains k x is in
         left_over (cond (pots.draws k e.0) e.1 0) (drawn (pots.draws k) es) (pots.left k x) (pots.left k q) (enough k q around) less
@@ -167,9 +167,9 @@ module _ (units : FinMap nat_cmp Unit) (left : Region → ℕ) where
   abbrev pub region_pots : DrawnPots ℕ
   region_pots = record { place = λ r. r; draws = who_stand units; left = λ r q. left q }
 
-  module _ (d : State) (e : ℕ × ℕ) (u : Unit) (q : Region) (there : get units e.0 ≡ Some u) (around : get d.regions u.region ≡ Some q) where
+  module _ (d : CampaignValue) (e : ℕ × ℕ) (u : Unit) (q : Region) (there : get units e.0 ≡ Some u) (around : get d.regions u.region ≡ Some q) where
     -- a unit's region changes, and has so much less
-    pub one_drains : (after : State) (f : Region → Region) → after.regions ≡ (region_changed f d u.region).regions → left (f q) + e.1 ≡ left q → Drains region_pots d e after
+    pub one_drains : (after : CampaignValue) (f : Region → Region) → after.regions ≡ (region_changed f d u.region).regions → left (f q) + e.1 ≡ left q → Drains region_pots d e after
     one_drains after f changed less k x found = elim (cases_eq k u.region) [
       | inl same ↦
           let new : Some (f q) ≡ Some x = sym (get-insert_same d.regions u.region (f q)) ∙ ap (get (insert d.regions u.region (f q))) (sym same) ∙ put in
@@ -192,7 +192,7 @@ module _ (units : FinMap nat_cmp Unit) (left : Region → ℕ) where
     one_draws es enough = first_draws region_pots d e es enough u.region q around (ap (stands_in u.region) there ∙ same_number u.region)
 
 -- each has enough: what the units of a region get together is its pot at most
-module _ (pot_of : ℕ → ℕ) (wants : FinMap nat_cmp ℕ) (c : State) (r : ℕ) where
+module _ (pot_of : ℕ → ℕ) (wants : FinMap nat_cmp ℕ) (c : CampaignValue) (r : ℕ) where
   abbrev amount : ℕ → ℕ
   amount n = amount_given pot_of wants c n
 
@@ -220,11 +220,11 @@ module _ (pot_of : ℕ → ℕ) (wants : FinMap nat_cmp ℕ) (c : State) (r : �
 
 -- ---- units whose turn is still to come are as they were
 
-module _ (c : State) where
-  abbrev pub AreUntouched : State → List (ℕ × ℕ) → Type 0
+module _ (c : CampaignValue) where
+  abbrev pub AreUntouched : CampaignValue → List (ℕ × ℕ) → Type 0
   AreUntouched d es = AllByRecursion (λ e. get d.units e.0 ≡ get c.units e.0) es
 
-  pub still : (d after : State) (n : ℕ) (es : List (ℕ × ℕ)) → ((k : ℕ) → k ≢ n → get after.units k ≡ get d.units k) → AllByRecursion (λ f. n < f.0) es → AreUntouched d es → AreUntouched after es
+  pub still : (d after : CampaignValue) (n : ℕ) (es : List (ℕ × ℕ)) → ((k : ℕ) → k ≢ n → get after.units k ≡ get d.units k) → AllByRecursion (λ f. n < f.0) es → AreUntouched d es → AreUntouched after es
   still d after n [] same above all = tt
   still d after n (f ∷ es) same above all = (same f.0 (λ e. absurd (omega (arith, e, above.0))) ∙ all.0, still d after n es same above.1 all.1)
 
@@ -235,14 +235,14 @@ module _ (c : State) where
 -- ---- shares of the units of regions, one after the other
 
 -- c as the phase began, d as it is: each share that is still to come fits its unit, and each region has enough for them
-pub record AreReady (left : Region → ℕ) (Fits : ℕ × ℕ → Type 0) (w : Planet) (c d : State) (es : List (ℕ × ℕ)) : Type 0 where
+pub record AreReady (left : Region → ℕ) (Fits : ℕ × ℕ → Type 0) (w : WorldValue) (c d : CampaignValue) (es : List (ℕ × ℕ)) : Type 0 where
   pub early : IsEarly w d
   pub rise : Rise es
   pub same : AreUntouched c d es
   pub fits : AllByRecursion Fits es
   pub enough : HaveEnough (region_pots c.units left) d es
 
-pub ready_behind : (left : Region → ℕ) {Fits : ℕ × ℕ → Type 0} (w : Planet) (c d : State) (e : ℕ × ℕ) (es : List (ℕ × ℕ)) (after : State)
+pub ready_behind : (left : Region → ℕ) {Fits : ℕ × ℕ → Type 0} (w : WorldValue) (c d : CampaignValue) (e : ℕ × ℕ) (es : List (ℕ × ℕ)) (after : CampaignValue)
     → AreReady left Fits w c d (e ∷ es) → IsEarly w after → ((k : ℕ) → k ≢ e.0 → get after.units k ≡ get d.units k)
     → Drains (region_pots c.units left) d e after → AreReady left Fits w c after es
 ready_behind left w c d e es after ready early others drains = record {

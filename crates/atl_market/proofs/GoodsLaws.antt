@@ -6,7 +6,7 @@ use Rattle.std.specs.Cmp.{unsigned_ties}
 use Rattle.std.specs.FinMap.{get}
 use Rattle.std.proofs.lemmas.Int.{ints}
 use Rattle.std.proofs.lemmas.Bool.Decides.{nat_tests}
-use Rattle.atl_tables.specs.Planet.{Planet}
+use Rattle.atl_tables.specs.Worlds.{WorldValue}
 use Rattle.atl_state.specs.declared.books.Entry.{Entry}
 use Rattle.atl_state.specs.declared.books.Entry.TheVariants as entries
 use Rattle.atl_state.specs.declared.books.Thing.{Thing}
@@ -20,7 +20,7 @@ use Rattle.atl_state.specs.Held.{Held, amount_of, with_amount_of}
 use Rattle.atl_state.specs.Lending.{lent, with_held}
 use Rattle.atl_state.specs.Limits.{holding_limit}
 use Rattle.atl_state.specs.Marking.{mark_amount}
-use Rattle.atl_state.specs.State.{Marked, State, with_amount}
+use Rattle.atl_state.specs.Campaign.{MarkedCampaign, CampaignValue, with_amount}
 use Rattle.atl_state.specs.Totals.{held, total}
 use Rattle.atl_state.proofs.BookLaws.{booked-with_booked, share_of}
 use Rattle.atl_state.proofs.CoverLaws.{marks-amount, marks-trans}
@@ -47,11 +47,11 @@ either_way of same without with (Some u) = with u
 
 -- ---- a unit holds another amount of an item, which is booked
 
-module _ (w : Planet) (c : State) (n : ℕ) (u : Unit) (i amount : ℕ) (is : get c.units n ≡ Some u) where
+module _ (w : WorldValue) (c : CampaignValue) (n : ℕ) (u : Unit) (i amount : ℕ) (is : get c.units n ≡ Some u) where
   abbrev more : Held
   more = record u.holding { items = with_amount_of u.holding.items i amount }
 
-  abbrev with_set : State
+  abbrev with_set : CampaignValue
   with_set = with_item c n u i amount
 
   may : i < length w.items → amount ≤ holding_limit → MayHave w u.holding → MayHave w more
@@ -64,7 +64,7 @@ module _ (w : Planet) (c : State) (n : ℕ) (u : Unit) (i amount : ℕ) (is : ge
   }
 
   module _ (e : Entry) (z : ℤ) where
-    abbrev after : State
+    abbrev after : CampaignValue
     after = with_amount with_set e (Item i) z
 
     module _ (change : pos amount ≡ pos (amount_of u.holding.items i) +ℤ z) where
@@ -113,7 +113,7 @@ taken_off a k l = omega (arith, ints, l)
 put_to : (a k : ℕ) → pos (a + k) ≡ pos a +ℤ pos k
 put_to a k = omega (arith, ints)
 
-module _ (w : Planet) (c : State) (n i k : ℕ) where
+module _ (w : WorldValue) (c : CampaignValue) (n i k : ℕ) where
   pub used_is : (u : Unit) → get c.units n ≡ Some u → with_used c n i k ≡ with_amount (with_item c n u i (amount_of u.holding.items i - k)) entries.Used (Item i) (neg_ℤ (pos k))
   used_is u is = ap (used_by c n i k) is
 
@@ -145,10 +145,10 @@ module _ (w : Planet) (c : State) (n i k : ℕ) where
 
   -- the unit behind it
   pub used_unit : (u : Unit) → get c.units n ≡ Some u → get (with_used c n i k).units n ≡ Some (record u { holding = record u.holding { items = with_amount_of u.holding.items i (amount_of u.holding.items i - k) } })
-  used_unit u is = ap (λ (d : State). get d.units n) (used_is u is) ∙ get-insert_same c.units n (record u { holding = record u.holding { items = with_amount_of u.holding.items i (amount_of u.holding.items i - k) } })
+  used_unit u is = ap (λ (d : CampaignValue). get d.units n) (used_is u is) ∙ get-insert_same c.units n (record u { holding = record u.holding { items = with_amount_of u.holding.items i (amount_of u.holding.items i - k) } })
 
   pub made_unit : (u : Unit) → get c.units n ≡ Some u → get (with_made c n i k).units n ≡ Some (record u { holding = record u.holding { items = with_amount_of u.holding.items i (amount_of u.holding.items i + k) } })
-  made_unit u is = ap (λ (d : State). get d.units n) (made_is u is) ∙ get-insert_same c.units n (record u { holding = record u.holding { items = with_amount_of u.holding.items i (amount_of u.holding.items i + k) } })
+  made_unit u is = ap (λ (d : CampaignValue). get d.units n) (made_is u is) ∙ get-insert_same c.units n (record u { holding = record u.holding { items = with_amount_of u.holding.items i (amount_of u.holding.items i + k) } })
 
   -- and others
   pub used_others : (m : ℕ) → m ≢ n → get (with_used c n i k).units m ≡ get c.units m
@@ -178,18 +178,18 @@ no_more h r i k = subst (λ a. a ≤ amount_of h.items i) (sym (set_amount h.ite
 
 -- ---- what the code does
 
-module _ (c d e : Marked) (n : ℕ) (u : Unit) (i amount : ℕ) (entry : Entry) (z : ℤ) (things : ℕ) (is : get c.what.units n ≡ Some u) (set : d ≡ lent c n (record u.holding { items = with_amount_of u.holding.items i amount })) where
-  pub lent_item : d.what ≡ with_item c.what n u i amount
-  lent_item = ap (λ (m : Marked). m.what) set ∙ ap (with_held c.what n (record u.holding { items = with_amount_of u.holding.items i amount })) is
+module _ (c d e : MarkedCampaign) (n : ℕ) (u : Unit) (i amount : ℕ) (entry : Entry) (z : ℤ) (things : ℕ) (is : get c.value.units n ≡ Some u) (set : d ≡ lent c n (record u.holding { items = with_amount_of u.holding.items i amount })) where
+  pub lent_item : d.value ≡ with_item c.value n u i amount
+  lent_item = ap (λ (m : MarkedCampaign). m.value) set ∙ ap (with_held c.value n (record u.holding { items = with_amount_of u.holding.items i amount })) is
 
-  pub same_books : d.what.books ≡ c.what.books
-  same_books = ap (λ (s : State). s.books) lent_item
+  pub same_books : d.value.books ≡ c.value.books
+  same_books = ap (λ (s : CampaignValue). s.books) lent_item
 
-  pub goods_what : e.what ≡ with_amount d.what entry (Item i) z → e.what ≡ with_amount (with_item c.what n u i amount) entry (Item i) z
+  pub goods_what : e.value ≡ with_amount d.value entry (Item i) z → e.value ≡ with_amount (with_item c.value n u i amount) entry (Item i) z
   goods_what what = what ∙ ap (λ s. with_amount s entry (Item i) z) lent_item
 
-  pub goods_marks : e.what ≡ with_amount d.what entry (Item i) z → e.marks ≡ mark_amount d entry (Item i) → IsGrid things c.what.books → 2 + i < things → MarksChanges c e
+  pub goods_marks : e.value ≡ with_amount d.value entry (Item i) z → e.marks ≡ mark_amount d entry (Item i) → IsGrid things c.value.books → 2 + i < things → MarksChanges c e
   goods_marks what marks grid known =
-      let d_grid : IsGrid things d.what.books = rw same_books grid in
+      let d_grid : IsGrid things d.value.books = rw same_books grid in
       marks-trans c d e (subst (MarksChanges c) (sym set) (marks-lent c n (record u.holding { items = with_amount_of u.holding.items i amount })))
       (marks_by d e _ what marks (marks-amount things d entry (Item i) z d_grid (omega (arith, known))))

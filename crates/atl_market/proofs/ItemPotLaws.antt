@@ -11,7 +11,7 @@ use Rattle.std.proofs.lemmas.Bool.{cases_eq, eqb-true, false≢true}
 use Rattle.atl_tables.specs.Groups.{group_of}
 use Rattle.atl_state.specs.Deciding.{EachOf}
 use Rattle.atl_state.specs.Good.{IsThere}
-use Rattle.atl_state.specs.State.{State, numbers_in}
+use Rattle.atl_state.specs.Campaign.{CampaignValue, numbers_in}
 use Rattle.atl_state.specs.declared.records.Region.{Region}
 use Rattle.atl_state.proofs.BackLaws.{append_each}
 use Rattle.atl_state.proofs.EveryLaws.{each-from_every, found_of, get-insert_other, none_some}
@@ -205,7 +205,7 @@ so_each P h (x ∷ xs) = (h x, so_each P h xs)
 
 -- ---- the shares of one region, and of all
 
-module _ (item_of : ℕ → Option ℕ) (pot_of : (item region : ℕ) → ℕ) (wants : FinMap nat_cmp ℕ) (c : State) where
+module _ (item_of : ℕ → Option ℕ) (pot_of : (item region : ℕ) → ℕ) (wants : FinMap nat_cmp ℕ) (c : CampaignValue) where
   abbrev gets : ℕ → Option ℕ
   gets n = item_share item_of pot_of wants c n
 

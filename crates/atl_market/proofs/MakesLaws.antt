@@ -6,8 +6,8 @@ use Rattle.std.specs.Cmp.{nat_cmp_total}
 use Rattle.std.specs.Ordering.{nat_cmp}
 use Rattle.std.specs.FinMap.{FinMap, empty, entries, find, get, get-entries, get-from_entries}
 use Rattle.std.proofs.lemmas.Bool.{cases_eq}
-use Rattle.atl_tables.specs.Planet.{Planet}
-use Rattle.atl_state.specs.State.{State}
+use Rattle.atl_tables.specs.Worlds.{WorldValue}
+use Rattle.atl_state.specs.Campaign.{CampaignValue}
 use Rattle.atl_state.proofs.BackLaws.{Rise, entries_rise}
 use Rattle.atl_state.proofs.EveryLaws.{first, none_some}
 use Rattle.atl_market.specs.Outputs.{gathered, made_by, makes, output_at, output_share}
@@ -45,7 +45,7 @@ module _ (f : ℕ × ℕ → ℕ) where
 
 -- ---- what is made
 
-module _ (asked : FinMap nat_cmp ℕ) (w : Planet) (c : State) (wants : FinMap nat_cmp ℕ) where
+module _ (asked : FinMap nat_cmp ℕ) (w : WorldValue) (c : CampaignValue) (wants : FinMap nat_cmp ℕ) where
   -- put unit by unit
   pub makes_are : with_each empty (map (λ e. (e.0, made_by w asked c wants e)) (entries wants)) ≡ makes asked w c wants
   makes_are = risen_put (instead (made_by w asked c wants) (entries wants)) (rise_instead (made_by w asked c wants) (entries wants) (entries_rise wants))
@@ -64,7 +64,7 @@ module _ (asked : FinMap nat_cmp ℕ) (w : Planet) (c : State) (wants : FinMap n
       by_item true = by_share (output_share w asked c wants n) refl
       by_item false = omega arith
 
-pub makes_give : (asked : FinMap nat_cmp ℕ) (w : Planet) (c : State) → GivesToWants (produce_pots asked) w c
+pub makes_give : (asked : FinMap nat_cmp ℕ) (w : WorldValue) (c : CampaignValue) → GivesToWants (produce_pots asked) w c
 makes_give asked w c wants n share is =
     let all = entries wants in
     let (want, wanted, made) = found_instead (made_by w asked c wants) all n share (sym (get-from_entries nat_cmp_total (instead (made_by w asked c wants) all) n) ∙ is) in

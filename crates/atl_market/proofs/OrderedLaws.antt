@@ -6,11 +6,11 @@ use Rattle.std.specs.Ordering.{nat_cmp}
 use Rattle.std.specs.FinMap.{FinMap, empty, entries, get, get-empty}
 use Rattle.std.proofs.lemmas.Bool.{false≢true}
 use Rattle.std.proofs.lemmas.Bool.Decides.{nat_tests}
-use Rattle.atl_tables.specs.Planet.{Planet}
+use Rattle.atl_tables.specs.Worlds.{WorldValue}
 use Rattle.atl_state.specs.declared.event.EventFault.{EventFault}
 use Rattle.atl_state.specs.declared.event.EventFault.TheVariants.{NotYours}
 use Rattle.atl_state.specs.declared.records.Unit.{Unit}
-use Rattle.atl_state.specs.State.{State}
+use Rattle.atl_state.specs.Campaign.{CampaignValue}
 use Rattle.atl_state.proofs.EveryLaws.{each-from_every, get-insert_other, none_some}
 use Rattle.atl_instant.specs.declared.written.Written.{Written}
 use Rattle.atl_instant.proofs.StayingLaws.{no_worse}
@@ -27,7 +27,7 @@ neither false b h = (refl, h)
 
 -- ---- who wants nothing
 
-module _ (p : PotMeaning) (w : Planet) (c : State) (n : ℕ) (u : Unit) (there : get c.units n ≡ Some u) where
+module _ (p : PotMeaning) (w : WorldValue) (c : CampaignValue) (n : ℕ) (u : Unit) (there : get c.units n ≡ Some u) where
   abbrev own : Written → Bool
   own o = o.unit == n && o.faction == u.faction
 
@@ -69,19 +69,19 @@ module _ (p : PotMeaning) (w : Planet) (c : State) (n : ℕ) (u : Unit) (there :
 
 -- ---- and nothing happens to it
 
-module _ (step : State → ℕ × ℕ → State) (others : (c : State) (e : ℕ × ℕ) (k : ℕ) → k ≢ e.0 → get (step c e).units k ≡ get c.units k) where
-  pub passed_over : (c : State) (es : List (ℕ × ℕ)) (n : ℕ) → AllByRecursion (λ e. n ≢ e.0) es → get (fold step c es).units n ≡ get c.units n
+module _ (step : CampaignValue → ℕ × ℕ → CampaignValue) (others : (c : CampaignValue) (e : ℕ × ℕ) (k : ℕ) → k ≢ e.0 → get (step c e).units k ≡ get c.units k) where
+  pub passed_over : (c : CampaignValue) (es : List (ℕ × ℕ)) (n : ℕ) → AllByRecursion (λ e. n ≢ e.0) es → get (fold step c es).units n ≡ get c.units n
   passed_over c [] n apart = refl
   passed_over c (e ∷ es) n apart = passed_over (step c e) es n apart.1 ∙ others c e n apart.0
 
-pub unordered_stays : (p : PotMeaning) (w : Planet) → ((c : State) (e : ℕ × ℕ) (k : ℕ) → k ≢ e.0 → get (p.paid w c e).units k ≡ get c.units k)
-    → (c : State) → GivesToWants p w c → (os : List Written) (n : ℕ) (u : Unit) → get c.units n ≡ Some u → is_ordered os n u ≡ false → get (shared_out p w c os).units n ≡ get c.units n
+pub unordered_stays : (p : PotMeaning) (w : WorldValue) → ((c : CampaignValue) (e : ℕ × ℕ) (k : ℕ) → k ≢ e.0 → get (p.paid w c e).units k ≡ get c.units k)
+    → (c : CampaignValue) → GivesToWants p w c → (os : List Written) (n : ℕ) (u : Unit) → get c.units n ≡ Some u → is_ordered os n u ≡ false → get (shared_out p w c os).units n ≡ get c.units n
 unfolding shared_out
 unordered_stays p w others c gives os n u there none =
     let given = given_by p w c os in
     let apart = each-from_every (λ k share. n ≢ k) given (λ k share is same. not_given p w c n u there gives os none share (ap (get given) same ∙ is)) in
     passed_over (p.paid w) others c (entries given) n (all_pairs (λ e. n ≢ e.0) (entries given) apart)
 
-pub others_no_worse : (p : PotMeaning) (w : Planet) → ((c : State) (e : ℕ × ℕ) (k : ℕ) → k ≢ e.0 → get (p.paid w c e).units k ≡ get c.units k)
-    → (c : State) → GivesToWants p w c → (os : List Written) → OthersAreNoWorse os c (shared_out p w c os)
+pub others_no_worse : (p : PotMeaning) (w : WorldValue) → ((c : CampaignValue) (e : ℕ × ℕ) (k : ℕ) → k ≢ e.0 → get (p.paid w c e).units k ≡ get c.units k)
+    → (c : CampaignValue) → GivesToWants p w c → (os : List Written) → OthersAreNoWorse os c (shared_out p w c os)
 others_no_worse p w others c gives os n u there none = (u, unordered_stays p w others c gives os n u there none ∙ there, no_worse u)

@@ -3,9 +3,9 @@ use Rattle.std.proofs.Common.{◌≡◌, ℕ, ◌+◌, ◌-◌, ◌*◌, true, f
 use Rattle.std.specs.List.{slice_get}
 use Rattle.std.specs.Ordering.{nat_cmp}
 use Rattle.std.specs.FinMap.{FinMap, get}
-use Rattle.atl_tables.specs.Planet.{Planet}
+use Rattle.atl_tables.specs.Worlds.{WorldValue}
 use Rattle.atl_tables.specs.declared.world.Item.{Item}
-use Rattle.atl_state.specs.State.{State}
+use Rattle.atl_state.specs.Campaign.{CampaignValue}
 use Rattle.atl_state.specs.declared.records.Region.{Region}
 use Rattle.atl_state.specs.declared.records.Unit.{Unit}
 use Rattle.atl_state.proofs.EveryLaws.{get-insert_other}
@@ -36,16 +36,16 @@ less_both a s t = omega arith
 
 -- ---- TAX
 
-module _ (w : Planet) where
+module _ (w : WorldValue) where
   tax_pays : Pays true (λ d e. taxed d e) (λ n. with_more_money) with_less_money
   tax_pays = record {
-    mine = λ d e u is (q, around). ap (λ (s : State). get s.units e.0) (taxed_is w d e u q is around) ∙ get-insert_same d.units e.0 (paid_unit d e.0 u e.1);
-    others = λ d e u is (q, around) k apart. ap (λ (s : State). get s.units k) (taxed_is w d e u q is around) ∙ others_stay d e.0 u e.1 is k apart;
+    mine = λ d e u is (q, around). ap (λ (s : CampaignValue). get s.units e.0) (taxed_is w d e u q is around) ∙ get-insert_same d.units e.0 (paid_unit d e.0 u e.1);
+    others = λ d e u is (q, around) k apart. ap (λ (s : CampaignValue). get s.units k) (taxed_is w d e u q is around) ∙ others_stay d e.0 u e.1 is k apart;
     region = λ d e u q is around.
-        ap (λ (s : State). get s.regions u.region) (taxed_is w d e u q is around) ∙ ap (λ m. get m u.region) (changed-known (drain q e.1) d.regions u.region q around)
+        ap (λ (s : CampaignValue). get s.regions u.region) (taxed_is w d e u q is around) ∙ ap (λ m. get m u.region) (changed-known (drain q e.1) d.regions u.region q around)
         ∙ get-insert_same d.regions u.region (drain q e.1 q);
     regions = λ d e u is (q, around) k apart.
-        ap (λ (s : State). get s.regions k) (taxed_is w d e u q is around) ∙ ap (λ m. get m k) (changed-known (drain q e.1) d.regions u.region q around)
+        ap (λ (s : CampaignValue). get s.regions k) (taxed_is w d e u q is around) ∙ ap (λ m. get m k) (changed-known (drain q e.1) d.regions u.region q around)
         ∙ get-insert_other d.regions u.region k (drain q e.1 q) apart;
     nothing = λ q. ap (λ m. record q { money = m }) (less_none q.money);
     twice = λ q s t. ap (λ m. record q { money = m }) (less_both q.money s t);
@@ -58,20 +58,20 @@ taxes_at_once w c os =
 
 -- ---- RECRUIT
 
-module _ (w : Planet) where
-  recruited_then : (d : State) (e : ℕ × ℕ) (u : Unit) (q : Region) → get d.units e.0 ≡ Some u → get d.regions u.region ≡ Some q → recruited w d e ≡ recruited_to d e.0 u q e.1 (e.1 * w.rules.recruit_price)
+module _ (w : WorldValue) where
+  recruited_then : (d : CampaignValue) (e : ℕ × ℕ) (u : Unit) (q : Region) → get d.units e.0 ≡ Some u → get d.regions u.region ≡ Some q → recruited w d e ≡ recruited_to d e.0 u q e.1 (e.1 * w.rules.recruit_price)
   recruited_then d e u q is around = recruited_is w d e u q is around ∙ recruits_are w d e.0 u q e.1 (e.1 * w.rules.recruit_price) is around
 
   recruit_pays : Pays true (recruited w) (λ n. with_recruits w) with_less_peasants
   recruit_pays = record {
     mine = λ d e u is (q, around).
-        ap (λ (s : State). get s.units e.0) (recruited_then d e u q is around) ∙ get-insert_same d.units e.0 (record u { holding = with_men u.holding e.1 (e.1 * w.rules.recruit_price) });
+        ap (λ (s : CampaignValue). get s.units e.0) (recruited_then d e u q is around) ∙ get-insert_same d.units e.0 (record u { holding = with_men u.holding e.1 (e.1 * w.rules.recruit_price) });
     others = λ d e u is here k apart. recruited_others w d e k apart;
     region = λ d e u q is around.
-        ap (λ (s : State). get s.regions u.region) (recruited_then d e u q is around) ∙ ap (λ m. get m u.region) (changed-known (leave q e.1) d.regions u.region q around)
+        ap (λ (s : CampaignValue). get s.regions u.region) (recruited_then d e u q is around) ∙ ap (λ m. get m u.region) (changed-known (leave q e.1) d.regions u.region q around)
         ∙ get-insert_same d.regions u.region (leave q e.1 q);
     regions = λ d e u is (q, around) k apart.
-        ap (λ (s : State). get s.regions k) (recruited_then d e u q is around) ∙ ap (λ m. get m k) (changed-known (leave q e.1) d.regions u.region q around)
+        ap (λ (s : CampaignValue). get s.regions k) (recruited_then d e u q is around) ∙ ap (λ m. get m k) (changed-known (leave q e.1) d.regions u.region q around)
         ∙ get-insert_other d.regions u.region k (leave q e.1 q) apart;
     nothing = λ q. ap (λ p. record q { peasants = p }) (less_none q.peasants);
     twice = λ q s t. ap (λ p. record q { peasants = p }) (less_both q.peasants s t);
@@ -84,16 +84,16 @@ recruits_at_once asked w c os =
 
 -- ---- WORK
 
-module _ (w : Planet) where
-  worked_then : (d : State) (e : ℕ × ℕ) (u : Unit) (is : get d.units e.0 ≡ Some u) → worked w d e ≡ wages_paid w d e.0 u (earned w u.region e.1) is
+module _ (w : WorldValue) where
+  worked_then : (d : CampaignValue) (e : ℕ × ℕ) (u : Unit) (is : get d.units e.0 ≡ Some u) → worked w d e ≡ wages_paid w d e.0 u (earned w u.region e.1) is
   worked_then d e u is = worked_is w d e u is ∙ wages_are w d e.0 u (earned w u.region e.1) is
 
   work_pays : Pays false (worked w) (λ n u places. with_more_money u (earned w u.region places)) stays
   work_pays = record {
-    mine = λ d e u is here. ap (λ (s : State). get s.units e.0) (worked_then d e u is) ∙ get-insert_same d.units e.0 (paid_unit d e.0 u (earned w u.region e.1));
-    others = λ d e u is here k apart. ap (λ (s : State). get s.units k) (worked_then d e u is) ∙ wages_leave_others w d e.0 u (earned w u.region e.1) is k apart;
-    region = λ d e u q is around. ap (λ (s : State). get s.regions u.region) (worked_then d e u is) ∙ around;
-    regions = λ d e u is here k apart. ap (λ (s : State). get s.regions k) (worked_then d e u is);
+    mine = λ d e u is here. ap (λ (s : CampaignValue). get s.units e.0) (worked_then d e u is) ∙ get-insert_same d.units e.0 (paid_unit d e.0 u (earned w u.region e.1));
+    others = λ d e u is here k apart. ap (λ (s : CampaignValue). get s.units k) (worked_then d e u is) ∙ wages_leave_others w d e.0 u (earned w u.region e.1) is k apart;
+    region = λ d e u q is around. ap (λ (s : CampaignValue). get s.regions u.region) (worked_then d e u is) ∙ around;
+    regions = λ d e u is here k apart. ap (λ (s : CampaignValue). get s.regions k) (worked_then d e u is);
     nothing = λ q. refl;
     twice = λ q s t. refl;
   }
@@ -105,14 +105,14 @@ works_at_once w c os =
 
 -- ---- PRODUCE
 
-module _ (asked : FinMap nat_cmp ℕ) (w : Planet) where
-  used_regions : (d : State) (n i amount : ℕ) → (with_used d n i amount).regions ≡ d.regions
+module _ (asked : FinMap nat_cmp ℕ) (w : WorldValue) where
+  used_regions : (d : CampaignValue) (n i amount : ℕ) → (with_used d n i amount).regions ≡ d.regions
   used_regions d n i amount = either_way (λ o. (used_by d n i amount o).regions) d.regions refl (λ u. refl) (get d.units n)
 
-  made_regions : (d : State) (n i amount : ℕ) → (with_made d n i amount).regions ≡ d.regions
+  made_regions : (d : CampaignValue) (n i amount : ℕ) → (with_made d n i amount).regions ≡ d.regions
   made_regions d n i amount = either_way (λ o. (made_to d n i amount o).regions) d.regions refl (λ u. refl) (get d.units n)
 
-  produced_regions : (d : State) (e : ℕ × ℕ) → (produced asked w d e).regions ≡ d.regions
+  produced_regions : (d : CampaignValue) (e : ℕ × ℕ) → (produced asked w d e).regions ≡ d.regions
   unfolding produced
   produced_regions d e = by_item (get asked e.0)
     where
@@ -128,7 +128,7 @@ module _ (asked : FinMap nat_cmp ℕ) (w : Planet) where
       by_item None = refl
       by_item (Some i) = by_world i (slice_get w.items i)
 
-  produced_unit : (d : State) (e : ℕ × ℕ) (u : Unit) → get d.units e.0 ≡ Some u → get (produced asked w d e).units e.0 ≡ Some (maker_by w u e.1 (get asked e.0))
+  produced_unit : (d : CampaignValue) (e : ℕ × ℕ) (u : Unit) → get d.units e.0 ≡ Some u → get (produced asked w d e).units e.0 ≡ Some (maker_by w u e.1 (get asked e.0))
   unfolding produced
   produced_unit d e u is = by_item (get asked e.0)
     where

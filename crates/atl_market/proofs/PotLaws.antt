@@ -15,7 +15,7 @@ use Rattle.atl_tables.specs.Sums.{numbers_among}
 use Rattle.atl_tables.proofs.MadeLaws.{is_less}
 use Rattle.atl_tables.proofs.SumLaws.{chosen-cons}
 use Rattle.atl_state.specs.Good.{IsThere}
-use Rattle.atl_state.specs.State.{State, numbers_in}
+use Rattle.atl_state.specs.Campaign.{CampaignValue, numbers_in}
 use Rattle.atl_state.specs.declared.records.Region.{Region}
 use Rattle.atl_state.specs.declared.records.Unit.{Unit}
 use Rattle.atl_state.specs.Deciding.{EachOf}
@@ -398,7 +398,7 @@ module _ (pot_of : ℕ → ℕ) (wants : FinMap nat_cmp ℕ) (units : FinMap nat
   put_all : (rs : List ℕ) → with_each empty (flat_map given_in rs) ≡ from_entries (flat_map given_in rs)
   put_all rs = with_each-from_entries given_in given_apart gives_one rs
 
-module _ (pot_of : ℕ → ℕ) (wants : FinMap nat_cmp ℕ) (c : State) where
+module _ (pot_of : ℕ → ℕ) (wants : FinMap nat_cmp ℕ) (c : CampaignValue) where
   put_is : with_each empty (flat_map (shares_in pot_of wants c.units) (keys c.regions)) ≡ pot_shares pot_of wants c
   unfolding pot_shares
   put_is = put_all pot_of wants c.units (keys c.regions)
@@ -437,7 +437,7 @@ pub still_some : (m : FinMap nat_cmp ℕ) (es : List (ℕ × ℕ)) (n : ℕ) →
 still_some m [] n h = h
 still_some m (e ∷ es) n h = still_some (insert m e.0 e.1) es n (some_more m e.0 e.1 n h)
 
-module _ (wants : FinMap nat_cmp ℕ) (c : State) where
+module _ (wants : FinMap nat_cmp ℕ) (c : CampaignValue) where
   abbrev asked_at : ℕ × ℕ → Entries
   asked_at e = region_at e.0 (get c.units e.0)
 
@@ -497,7 +497,7 @@ only_takers_get pot_of wants c n s is =
     (want, u, wanted, subst (λ k. k ≤ want) same low, at, stands)
 
 -- who gets something of a pot wants that much at least
-pub pots_give : (pot_of : ℕ → ℕ) (c : State) (wants : FinMap nat_cmp ℕ) (n share : ℕ) → get (pot_shares pot_of wants c) n ≡ Some share → (want : ℕ) × (get wants n ≡ Some want) × (share ≤ want)
+pub pots_give : (pot_of : ℕ → ℕ) (c : CampaignValue) (wants : FinMap nat_cmp ℕ) (n share : ℕ) → get (pot_shares pot_of wants c) n ≡ Some share → (want : ℕ) × (get wants n ≡ Some want) × (share ≤ want)
 pots_give pot_of c wants n share is = let (want, u, wanted, low, at, region) = only_takers_get pot_of wants c n share is in (want, wanted, low)
 
 amounts : (g : ℕ → Option ℕ) (ns ss : List ℕ) → map g ns ≡ map Some ss → map (λ n. unwrap_or (g n) 0) ns ≡ ss

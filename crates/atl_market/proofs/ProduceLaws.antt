@@ -7,7 +7,7 @@ use Rattle.std.specs.FinMap.{FinMap, entries, get}
 use Rattle.std.proofs.lemmas.Bool.Decides.{nat_tests}
 use Rattle.std.proofs.lemmas.Option.{slice_get_within}
 use Rattle.std.proofs.Math.Nat.{mul-div-le, mul-le-mul_right, mul_comm}
-use Rattle.atl_tables.specs.Planet.{IsWorld, Planet}
+use Rattle.atl_tables.specs.Worlds.{IsWorld, WorldValue}
 use Rattle.atl_tables.specs.declared.world.Item.{Item}
 use Rattle.atl_state.specs.declared.books.Entry.{Entry}
 use Rattle.atl_state.specs.declared.books.Entry.TheVariants as booked
@@ -20,7 +20,7 @@ use Rattle.atl_state.specs.Held.{Held, amount_of, with_amount_of}
 use Rattle.atl_state.specs.Levels.{level_in_any}
 use Rattle.atl_state.specs.Limits.{holding_limit, most_units}
 use Rattle.atl_state.specs.Marks.{amount_number}
-use Rattle.atl_state.specs.State.{State}
+use Rattle.atl_state.specs.Campaign.{CampaignValue}
 use Rattle.atl_state.proofs.BackLaws.{Rise, entries_rise}
 use Rattle.atl_state.proofs.EveryLaws.{each-from_every, none_some}
 use Rattle.atl_state.proofs.ListLaws.{same_number}
@@ -82,7 +82,7 @@ only_room e t z room = subst (λ b. HasRoom (if b then holding_limit else 0) z) 
 
 -- ---- one step
 
-module _ (asked : FinMap nat_cmp ℕ) (w : Planet) (c : State) (e : ℕ × ℕ) where
+module _ (asked : FinMap nat_cmp ℕ) (w : WorldValue) (c : CampaignValue) (e : ℕ × ℕ) where
   module _ (can : CanProduce asked w c e) (i : ℕ) (x : Item) (told : get asked e.0 ≡ Some i) (there : slice_get w.items i ≡ Some x) where
     held : (r : ℕ) → amount_of can.unit.holding.items r ≤ holding_limit
     held r = amount_within can.unit.holding r (can.steady.numbers.units e.0 can.unit can.there).1
@@ -189,12 +189,12 @@ module _ (asked : FinMap nat_cmp ℕ) (w : Planet) (c : State) (e : ℕ × ℕ) 
       by_item None = refl
       by_item (Some i) = by_world i (slice_get w.items i)
 
-pub produce_keeps_others : (asked : FinMap nat_cmp ℕ) (w : Planet) (c : State) (os : List Written) → OthersAreNoWorse os c (shared_out (produce_pots asked) w c os)
+pub produce_keeps_others : (asked : FinMap nat_cmp ℕ) (w : WorldValue) (c : CampaignValue) (os : List Written) → OthersAreNoWorse os c (shared_out (produce_pots asked) w c os)
 produce_keeps_others asked w c os = others_no_worse (produce_pots asked) w (produced_others asked w) c (makes_give asked w c) os
 
 -- ---- what a unit makes it can make
 
-module _ (asked : FinMap nat_cmp ℕ) (w : Planet) (c : State) where
+module _ (asked : FinMap nat_cmp ℕ) (w : WorldValue) (c : CampaignValue) where
   -- a unit makes what it can make at most
   abbrev Makes : ℕ × ℕ → Type 0
   Makes e = (u : Unit) × (get c.units e.0 ≡ Some u) × (e.1 ≤ can_make w u.holding (get asked e.0))
@@ -221,7 +221,7 @@ raw_in : (items r : ℕ) (o : Option ℕ) → o ≡ Some r → IfSome o (λ k. k
 raw_in items r None is known = none_some r is
 raw_in items r (Some k) is known = let same : k ≡ r = cc in subst (λ m. m < items) same known
 
-module _ (asked : FinMap nat_cmp ℕ) (w : Planet) (c : State) (world : IsWorld w) (steady : IsSteady w c) where
+module _ (asked : FinMap nat_cmp ℕ) (w : WorldValue) (c : CampaignValue) (world : IsWorld w) (steady : IsSteady w c) where
   fits_by : (n made : ℕ) (u : Unit) → get c.units n ≡ Some u → made ≤ can_make w u.holding (get asked n) → (i : ℕ) (x : Item) → get asked n ≡ Some i → slice_get w.items i ≡ Some x → Fits w u made i x
   fits_by n made u there low i x told is =
       let all : made ≤ can_make_of u.holding i (Some x) = subst (λ o. made ≤ can_make_of u.holding i o) is (subst (λ o. made ≤ can_make w u.holding o) told low) in
@@ -237,18 +237,18 @@ module _ (asked : FinMap nat_cmp ℕ) (w : Planet) (c : State) (world : IsWorld 
 -- ---- all steps can be taken
 
 -- a unit is there and can make so much
-abbrev HasRoomFor : (FinMap nat_cmp ℕ) → Planet → State → ℕ × ℕ → Type 0
+abbrev HasRoomFor : (FinMap nat_cmp ℕ) → WorldValue → CampaignValue → ℕ × ℕ → Type 0
 HasRoomFor asked w c e = (u : Unit) × (get c.units e.0 ≡ Some u) × ((i : ℕ) (x : Item) → get asked e.0 ≡ Some i → slice_get w.items i ≡ Some x → Fits w u e.1 i x)
 
-module _ (asked : FinMap nat_cmp ℕ) (w : Planet) where
+module _ (asked : FinMap nat_cmp ℕ) (w : WorldValue) where
   abbrev step_moves : Moving
   step_moves = produce_moves holding_limit
 
-  still : (c d : State) (n : ℕ) (es : List (ℕ × ℕ)) → ((k : ℕ) → k ≢ n → get d.units k ≡ get c.units k) → AllByRecursion (λ f. n < f.0) es → AllByRecursion (HasRoomFor asked w c) es → AllByRecursion (HasRoomFor asked w d) es
+  still : (c d : CampaignValue) (n : ℕ) (es : List (ℕ × ℕ)) → ((k : ℕ) → k ≢ n → get d.units k ≡ get c.units k) → AllByRecursion (λ f. n < f.0) es → AllByRecursion (HasRoomFor asked w c) es → AllByRecursion (HasRoomFor asked w d) es
   still c d n [] same above all = tt
   still c d n (f ∷ es) same above ((u, there, fits), all) = ((u, same f.0 (λ e. absurd (omega (arith, e, above.0))) ∙ there, fits), still c d n es same above.1 all)
 
-  pub produce_in_turn : (c : State) (es : List (ℕ × ℕ)) → Rise es → IsSteady w c → HaveRoom (moved_times (length es) step_moves) c → AllByRecursion (HasRoomFor asked w c) es → CanInTurn (CanProduce asked w) (produced asked w) c es
+  pub produce_in_turn : (c : CampaignValue) (es : List (ℕ × ℕ)) → Rise es → IsSteady w c → HaveRoom (moved_times (length es) step_moves) c → AllByRecursion (HasRoomFor asked w c) es → CanInTurn (CanProduce asked w) (produced asked w) c es
   produce_in_turn c [] rise steady room all = tt
   produce_in_turn c (e ∷ es) rise steady room ((u, there, fits), all) =
       let can : CanProduce asked w c e = record { unit = u; there = there; fits = fits; steady = steady; room = first_room step_moves c e es room } in
@@ -258,7 +258,7 @@ module _ (asked : FinMap nat_cmp ℕ) (w : Planet) where
             (still c (produced asked w c e) e.0 es (produced_others asked w c e) rise.0 all),
       )
 
-  module _ (c : State) (world : IsWorld w) (steady : IsSteady w c) (os : List Written) where
+  module _ (c : CampaignValue) (world : IsWorld w) (steady : IsSteady w c) (os : List Written) where
     abbrev shares : List (ℕ × ℕ)
     shares = entries (given_by (produce_pots asked) w c os)
 

@@ -3,21 +3,21 @@ use Rattle.std.proofs.Common.{◌≡◌, ◌≢◌, ℕ, ◌+◌, Some, refl, sy
 use Rattle.std.specs.FinMap.{get, insert}
 use Rattle.std.proofs.lemmas.Bool.{cases_eq}
 use Rattle.atl_state.specs.Held.{Held}
-use Rattle.atl_state.specs.State.{State, with_money}
+use Rattle.atl_state.specs.Campaign.{CampaignValue, with_money}
 use Rattle.atl_state.specs.declared.records.Unit.{Unit}
 use Rattle.atl_state.proofs.EveryLaws.{get-insert_other}
 use Rattle.atl_state.proofs.RegionLaws.{changed-known, get-insert_same}
 use Rattle.atl_instant.specs.Staying.{AreNoWorse, IsNoWorse}
 use Rattle.atl_instant.proofs.StayingLaws.{no_worse}
 
-module _ (c : State) (n : ℕ) (u : Unit) (money : ℕ) where
+module _ (c : CampaignValue) (n : ℕ) (u : Unit) (money : ℕ) where
   abbrev pub paid : Held
   paid = record u.holding { money = u.holding.money + money }
 
   abbrev pub paid_unit : Unit
   paid_unit = record u { holding = paid }
 
-  abbrev pub richer : State
+  abbrev pub richer : CampaignValue
   richer = record c { units = insert c.units n paid_unit }
 
   module _ (is : get c.units n ≡ Some u) where

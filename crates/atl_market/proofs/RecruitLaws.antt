@@ -7,7 +7,7 @@ use Rattle.std.specs.FinMap.{FinMap, entries, get, get-insert, insert, nat_cmp-I
 use Rattle.std.proofs.lemmas.Int.{ints}
 use Rattle.std.proofs.lemmas.Bool.Decides.{nat_tests}
 use Rattle.std.proofs.Math.Nat.{div-le_self, mul-div-le, mul-le-mul_right, mul_comm}
-use Rattle.atl_tables.specs.Planet.{Planet}
+use Rattle.atl_tables.specs.Worlds.{WorldValue}
 use Rattle.atl_tables.specs.Sums.{changed, changed_at}
 use Rattle.atl_state.specs.declared.books.Entry.{Entry}
 use Rattle.atl_state.specs.declared.books.Entry.TheVariants.{Recruiting}
@@ -23,8 +23,8 @@ use Rattle.atl_state.specs.Held.{Held, amount_of}
 use Rattle.atl_state.specs.Lending.{with_held, with_holding}
 use Rattle.atl_state.specs.Limits.{holding_limit, men_limit, most_units}
 use Rattle.atl_state.specs.Marking.{mark_amount, mark_region, mark_unit_row}
-use Rattle.atl_state.specs.State.{Marked, State, region_changed, with_amount, with_money, with_peasants}
-use Rattle.atl_state.specs.State as state
+use Rattle.atl_state.specs.Campaign.{MarkedCampaign, CampaignValue, region_changed, with_amount, with_money, with_peasants}
+use Rattle.atl_state.specs.Campaign as state
 use Rattle.atl_state.specs.Totals.{held, kept, total}
 use Rattle.atl_state.proofs.BackLaws.{entries_rise}
 use Rattle.atl_state.proofs.BookLaws.{booked-with_booked, share_of}
@@ -56,23 +56,23 @@ peasants_of q = q.peasants
 abbrev pub leave : Region → ℕ → Region → Region
 leave q recruits r = record r { peasants = q.peasants - recruits }
 
-abbrev pub joined : State → ℕ → Unit → (recruits cost : ℕ) → State
+abbrev pub joined : CampaignValue → ℕ → Unit → (recruits cost : ℕ) → CampaignValue
 joined c n u recruits cost = record c { units = insert c.units n (record u { holding = with_men u.holding recruits cost }) }
 
-abbrev pub recruited_to : State → ℕ → Unit → Region → (recruits cost : ℕ) → State
+abbrev pub recruited_to : CampaignValue → ℕ → Unit → Region → (recruits cost : ℕ) → CampaignValue
 recruited_to c n u q recruits cost = with_amount (region_changed (leave q recruits) (joined c n u recruits cost) u.region) Recruiting Money (neg_ℤ (pos cost))
 
-module _ (w : Planet) (c : State) (n : ℕ) (u : Unit) (q : Region) (recruits cost : ℕ) (is : get c.units n ≡ Some u) (around : get c.regions u.region ≡ Some q) where
-  abbrev after : State
+module _ (w : WorldValue) (c : CampaignValue) (n : ℕ) (u : Unit) (q : Region) (recruits cost : ℕ) (is : get c.units n ≡ Some u) (around : get c.regions u.region ≡ Some q) where
+  abbrev after : CampaignValue
   after = recruited_to c n u q recruits cost
 
   abbrev more : Held
   more = with_men u.holding recruits cost
 
-  abbrev peopled : State
+  abbrev peopled : CampaignValue
   peopled = joined c n u recruits cost
 
-  abbrev left : State
+  abbrev left : CampaignValue
   left = region_changed (leave q recruits) peopled u.region
 
   pub recruits_are : with_recruits c n u q recruits cost ≡ after
@@ -131,11 +131,11 @@ module _ (w : Planet) (c : State) (n : ℕ) (u : Unit) (q : Region) (recruits co
 -- ---- what is marked
 
 -- as the region and the books change
-pub leaving_marks : (things : ℕ) (c d e : Marked) (region peasants : ℕ) (z : ℤ) → d.what ≡ with_peasants c.what region peasants → d.marks ≡ mark_region c region
-    → e.what ≡ with_amount d.what Recruiting Money z → e.marks ≡ mark_amount d Recruiting Money → IsGrid things c.what.books → 2 ≤ things → MarksChanges c e
+pub leaving_marks : (things : ℕ) (c d e : MarkedCampaign) (region peasants : ℕ) (z : ℤ) → d.value ≡ with_peasants c.value region peasants → d.marks ≡ mark_region c region
+    → e.value ≡ with_amount d.value Recruiting Money z → e.marks ≡ mark_amount d Recruiting Money → IsGrid things c.value.books → 2 ≤ things → MarksChanges c e
 leaving_marks things c d e region peasants z d_is d_marks e_is e_marks grid two =
-    let books : d.what.books ≡ c.what.books = ap (λ (s : State). s.books) d_is in
-    let d_grid : IsGrid things d.what.books = rw books grid in
+    let books : d.value.books ≡ c.value.books = ap (λ (s : CampaignValue). s.books) d_is in
+    let d_grid : IsGrid things d.value.books = rw books grid in
     marks-trans c d e (marks_by c d _ d_is d_marks (marks-region (λ r. record r { peasants = peasants }) c region))
     (marks_by d e _ e_is e_marks (marks-amount things d Recruiting Money z d_grid (omega arith)))
 
@@ -150,29 +150,29 @@ insert_over {X = X} m n x y = same_map nat_cmp_total nat_cmp-IsAntisymmetric _ _
     twice false o = refl
 
 -- a unit that is there has another holding
-pub held_is : (c d : State) (n : ℕ) (u : Unit) (h : Held) → get c.units n ≡ Some u → d ≡ with_holding c n h → d ≡ record c { units = insert c.units n (record u { holding = h }) }
+pub held_is : (c d : CampaignValue) (n : ℕ) (u : Unit) (h : Held) → get c.units n ≡ Some u → d ≡ with_holding c n h → d ≡ record c { units = insert c.units n (record u { holding = h }) }
 held_is c d n u h is same = same ∙ ap (with_held c n h) is
 
 -- it has other men, and then other money
-pub joined_is : (a b c : State) (n : ℕ) (u : Unit) (men money : ℕ) → get a.units n ≡ Some u → b ≡ state.with_men a n men → c ≡ with_money b n money → c ≡ with_holding a n (record u.holding { men = men; money = money })
+pub joined_is : (a b c : CampaignValue) (n : ℕ) (u : Unit) (men money : ℕ) → get a.units n ≡ Some u → b ≡ state.with_men a n men → c ≡ with_money b n money → c ≡ with_holding a n (record u.holding { men = men; money = money })
 joined_is a b c n u men money is b_is c_is =
     let peopled = record u { holding = record u.holding { men = men } } in
     let paid = record u { holding = record u.holding { men = men; money = money } } in
     let first : changed (λ u. record u { holding = record u.holding { men = men } }) a.units n ≡ insert a.units n peopled = ap (changed_at _ a.units n) is in
-    let units : b.units ≡ insert a.units n peopled = ap (λ (s : State). s.units) b_is ∙ first in
+    let units : b.units ≡ insert a.units n peopled = ap (λ (s : CampaignValue). s.units) b_is ∙ first in
     let there : get b.units n ≡ Some peopled = ap (λ m. get m n) units ∙ get-insert_same a.units n peopled in
     let second : changed (λ u. record u { holding = record u.holding { money = money } }) b.units n ≡ insert a.units n paid = ap (changed_at _ b.units n) there ∙ ap (λ m. insert m n paid) units ∙ insert_over a.units n peopled paid in
-    c_is ∙ ap (λ m. record b { units = m }) second ∙ ap (λ (s : State). record s { units = insert a.units n paid }) b_is ∙ sym (ap (with_held a n (record u.holding { men = men; money = money })) is)
+    c_is ∙ ap (λ m. record b { units = m }) second ∙ ap (λ (s : CampaignValue). record s { units = insert a.units n paid }) b_is ∙ sym (ap (with_held a n (record u.holding { men = men; money = money })) is)
 
 -- and its row alone is marked
-pub joined_marks : (a b c : Marked) (n men money : ℕ) → b.what ≡ state.with_men a.what n men → b.marks ≡ mark_unit_row a n → c.what ≡ with_money b.what n money → c.marks ≡ mark_unit_row b n → MarksChanges a c
+pub joined_marks : (a b c : MarkedCampaign) (n men money : ℕ) → b.value ≡ state.with_men a.value n men → b.marks ≡ mark_unit_row a n → c.value ≡ with_money b.value n money → c.marks ≡ mark_unit_row b n → MarksChanges a c
 joined_marks a b c n men money b_is b_marks c_is c_marks =
     marks-trans a b c (marks_by a b _ b_is b_marks (marks-unit_row (λ u. record u { holding = record u.holding { men = men } }) (λ u. refl) a n))
     (marks_by b c _ c_is c_marks (marks-unit_row (λ u. record u { holding = record u.holding { money = money } }) (λ u. refl) b n))
 
 -- ---- one step
 
-module _ (w : Planet) (c : State) (e : ℕ × ℕ) where
+module _ (w : WorldValue) (c : CampaignValue) (e : ℕ × ℕ) where
   abbrev price : ℕ
   price = e.1 * w.rules.recruit_price
 
@@ -190,7 +190,7 @@ module _ (w : Planet) (c : State) (e : ℕ × ℕ) where
 
   recruited_drains : (can : CanRecruit w c e) (units : FinMap nat_cmp Unit) → get units e.0 ≡ Some can.at.unit → Drains (region_pots units peasants_of) c e (recruited w c e)
   recruited_drains can units there =
-      one_drains units peasants_of c e can.at.unit can.at.region there can.at.around (recruited w c e) (leave can.at.region e.1) (ap (λ (d : State). d.regions) (made_is can)) (less can.at.region.peasants can.enough)
+      one_drains units peasants_of c e can.at.unit can.at.region there can.at.around (recruited w c e) (leave can.at.region e.1) (ap (λ (d : CampaignValue). d.regions) (made_is can)) (less can.at.region.peasants can.enough)
     where
       less : (all : ℕ) → e.1 ≤ all → all - e.1 + e.1 ≡ all
       less all enough = omega (arith, enough)
@@ -207,7 +207,7 @@ module _ (w : Planet) (c : State) (e : ℕ × ℕ) where
       by_unit None is = refl
       by_unit (Some u) is = by_region u is (get c.regions u.region)
 
-pub recruit_keeps_others : (asked : FinMap nat_cmp ℕ) (w : Planet) (c : State) (os : List Written) → OthersAreNoWorse os c (shared_out (recruit_pots asked) w c os)
+pub recruit_keeps_others : (asked : FinMap nat_cmp ℕ) (w : WorldValue) (c : CampaignValue) (os : List Written) → OthersAreNoWorse os c (shared_out (recruit_pots asked) w c os)
 recruit_keeps_others asked w c os = others_no_worse (recruit_pots asked) w (recruited_others w) c (pots_give (recruits_at w c) c) os
 
 -- ---- all steps can be taken
@@ -215,7 +215,7 @@ recruit_keeps_others asked w c os = others_no_worse (recruit_pots asked) w (recr
 abbrev step_moves : Moving
 step_moves = recruit_moves holding_limit
 
-module _ (w : Planet) (c : State) where
+module _ (w : WorldValue) (c : CampaignValue) where
   -- the peasants of the regions
   abbrev pots : DrawnPots ℕ
   pots = region_pots c.units peasants_of
@@ -224,14 +224,14 @@ module _ (w : Planet) (c : State) where
   abbrev CanHave : ℕ × ℕ → Type 0
   CanHave e = (u : Unit) × (get c.units e.0 ≡ Some u) × (u.holding.men + e.1 ≤ men_limit) × (e.1 * w.rules.recruit_price ≤ u.holding.money)
 
-  abbrev AreToJoin : State → List (ℕ × ℕ) → Type 0
+  abbrev AreToJoin : CampaignValue → List (ℕ × ℕ) → Type 0
   AreToJoin = AreReady peasants_of CanHave w c
 
   -- there is room in the books for their price
-  abbrev CanBook : State → List (ℕ × ℕ) → Type 0
+  abbrev CanBook : CampaignValue → List (ℕ × ℕ) → Type 0
   CanBook d es = HaveRoom (moved_times (length es) step_moves) d
 
-  first_can : (d : State) (e : ℕ × ℕ) (es : List (ℕ × ℕ)) → AreToJoin d (e ∷ es) → CanBook d (e ∷ es) → CanRecruit w d e
+  first_can : (d : CampaignValue) (e : ℕ × ℕ) (es : List (ℕ × ℕ)) → AreToJoin d (e ∷ es) → CanBook d (e ∷ es) → CanRecruit w d e
   first_can d e es ready room =
       let (u, there, fits, payable) = ready.fits.0 in
       let now : get d.units e.0 ≡ Some u = ready.same.0 ∙ there in
@@ -239,7 +239,7 @@ module _ (w : Planet) (c : State) where
       let draws = one_draws c.units peasants_of d e u q there around es ready.enough in
       record { at = record { unit = u; there = now; region = q; around = around }; fits = fits; payable = payable; enough = draws; early = ready.early; room = first_room step_moves d e es room }
 
-  all_can : (d : State) (es : List (ℕ × ℕ)) → AreToJoin d es → CanBook d es → CanInTurn (CanRecruit w) (recruited w) d es
+  all_can : (d : CampaignValue) (es : List (ℕ × ℕ)) → AreToJoin d es → CanBook d es → CanInTurn (CanRecruit w) (recruited w) d es
   all_can d [] ready room = tt
   all_can d (e ∷ es) ready room =
       let can = first_can d e es ready room in

@@ -4,7 +4,7 @@ use Rattle.std.specs.Prelude.{fold, pos, min}
 use Rattle.std.specs.Option.{option_map_or}
 use Rattle.std.specs.Ordering.{nat_cmp}
 use Rattle.std.specs.FinMap.{FinMap, entries, get}
-use Rattle.atl_tables.specs.Planet.{Planet}
+use Rattle.atl_tables.specs.Worlds.{WorldValue}
 use Rattle.atl_state.specs.declared.books.Thing.{Thing}
 use Rattle.atl_state.specs.declared.books.Thing.TheVariants.{Money, People, Item}
 use Rattle.atl_state.specs.declared.records.Region.{Region}
@@ -15,7 +15,7 @@ use Rattle.atl_state.specs.Good.{Every, IsEarly}
 use Rattle.atl_state.specs.Held.{amount_of}
 use Rattle.atl_state.specs.Limits.{holding_limit}
 use Rattle.atl_state.specs.Marking.{mark_region, mark_unit_row}
-use Rattle.atl_state.specs.State.{Marked, State, region_changed, with_money, with_region_money}
+use Rattle.atl_state.specs.Campaign.{MarkedCampaign, CampaignValue, region_changed, with_money, with_region_money}
 use Rattle.atl_state.specs.Totals.{held, kept, total}
 use Rattle.atl_state.proofs.BackLaws.{entries_rise}
 use Rattle.atl_state.proofs.CoverLaws.{marks-region, marks-trans}
@@ -46,11 +46,11 @@ money_of q = q.money
 abbrev pub drain : Region → ℕ → Region → Region
 drain q share r = record r { money = q.money - share }
 
-abbrev pub drained : State → ℕ → Unit → Region → ℕ → State
+abbrev pub drained : CampaignValue → ℕ → Unit → Region → ℕ → CampaignValue
 drained c n u q share = region_changed (drain q share) (richer c n u share) u.region
 
-module _ (w : Planet) (c : State) (n : ℕ) (u : Unit) (q : Region) (share : ℕ) (is : get c.units n ≡ Some u) (around : get c.regions u.region ≡ Some q) where
-  abbrev after : State
+module _ (w : WorldValue) (c : CampaignValue) (n : ℕ) (u : Unit) (q : Region) (share : ℕ) (is : get c.units n ≡ Some u) (around : get c.regions u.region ≡ Some q) where
+  abbrev after : CampaignValue
   after = drained c n u q share
 
   pub tax_is : with_tax c n u q share ≡ after
@@ -83,15 +83,15 @@ module _ (w : Planet) (c : State) (n : ℕ) (u : Unit) (q : Region) (share : ℕ
 
 -- ---- what is marked
 
-pub tax_marks : (c d e : Marked) (n money region left : ℕ) → d.what ≡ with_money c.what n money → d.marks ≡ mark_unit_row c n
-    → e.what ≡ with_region_money d.what region left → e.marks ≡ mark_region d region → MarksChanges c e
+pub tax_marks : (c d e : MarkedCampaign) (n money region left : ℕ) → d.value ≡ with_money c.value n money → d.marks ≡ mark_unit_row c n
+    → e.value ≡ with_region_money d.value region left → e.marks ≡ mark_region d region → MarksChanges c e
 tax_marks c d e n money region left d_is d_marks e_is e_marks =
     marks-trans c d e (marks_by c d _ d_is d_marks (marks-unit_row (λ u. record u { holding = record u.holding { money = money } }) (λ u. refl) c n))
     (marks_by d e _ e_is e_marks (marks-region (λ r. record r { money = left }) d region))
 
 -- ---- one step
 
-module _ (w : Planet) (c : State) (e : ℕ × ℕ) where
+module _ (w : WorldValue) (c : CampaignValue) (e : ℕ × ℕ) where
   pub taxed_is : (u : Unit) (q : Region) → get c.units e.0 ≡ Some u → get c.regions u.region ≡ Some q → taxed c e ≡ drained c e.0 u q e.1
   unfolding taxed
   taxed_is u q is around = ap (taxed_by c e) is ∙ ap (taxed_from c e u) around ∙ tax_is w c e.0 u q e.1 is around
@@ -102,12 +102,12 @@ module _ (w : Planet) (c : State) (e : ℕ × ℕ) where
       (tax_leaves_well w c e.0 can.at.unit can.at.region e.1 can.at.there can.at.around can.enough can.fits can.early)
 
   taxed_others : CanTax w c e → (k : ℕ) → k ≢ e.0 → get (taxed c e).units k ≡ get c.units k
-  taxed_others can k apart = ap (λ (d : State). get d.units k) (taxed_is can.at.unit can.at.region can.at.there can.at.around) ∙ others_stay c e.0 can.at.unit e.1 can.at.there k apart
+  taxed_others can k apart = ap (λ (d : CampaignValue). get d.units k) (taxed_is can.at.unit can.at.region can.at.there can.at.around) ∙ others_stay c e.0 can.at.unit e.1 can.at.there k apart
 
   taxed_drains : (can : CanTax w c e) (units : FinMap nat_cmp Unit) → get units e.0 ≡ Some can.at.unit → Drains (region_pots units money_of) c e (taxed c e)
   taxed_drains can units there =
       one_drains units money_of c e can.at.unit can.at.region there can.at.around (taxed c e) (drain can.at.region e.1)
-      (ap (λ (d : State). d.regions) (taxed_is can.at.unit can.at.region can.at.there can.at.around)) (less can.at.region.money can.enough)
+      (ap (λ (d : CampaignValue). d.regions) (taxed_is can.at.unit can.at.region can.at.there can.at.around)) (less can.at.region.money can.enough)
     where
       less : (all : ℕ) → e.1 ≤ all → all - e.1 + e.1 ≡ all
       less all enough = omega (arith, enough)
@@ -118,23 +118,23 @@ module _ (w : Planet) (c : State) (e : ℕ × ℕ) where
     where
       by_region : (u : Unit) → get c.units e.0 ≡ Some u → (o : Option Region) → AreNoWorse c (taxed_from c e u o)
       by_region u is None = are_no_worse c
-      by_region u is (Some q) = subst (λ (d : State). AreNoWorse c (with_region_money d u.region (q.money - e.1))) (sym (richer_is c e.0 u e.1 is)) (λ k v there. richer_no_worse c e.0 u e.1 is k v there)
+      by_region u is (Some q) = subst (λ (d : CampaignValue). AreNoWorse c (with_region_money d u.region (q.money - e.1))) (sym (richer_is c e.0 u e.1 is)) (λ k v there. richer_no_worse c e.0 u e.1 is k v there)
 
       by_unit : (o : Option Unit) → get c.units e.0 ≡ o → AreNoWorse c (taxed_by c e o)
       by_unit None is = are_no_worse c
       by_unit (Some u) is = by_region u is (get c.regions u.region)
 
-each_no_worse : (w : Planet) (c : State) (es : List (ℕ × ℕ)) → AreNoWorse c (fold taxed c es)
+each_no_worse : (w : WorldValue) (c : CampaignValue) (es : List (ℕ × ℕ)) → AreNoWorse c (fold taxed c es)
 each_no_worse w c [] = are_no_worse c
 each_no_worse w c (e ∷ es) = are_no_worse_twice c (taxed c e) (fold taxed (taxed c e) es) (taxed_no_worse w c e) (each_no_worse w (taxed c e) es)
 
-pub tax_keeps_units : (w : Planet) (c : State) (os : List Written) → AreNoWorse c (shared_out tax_pots w c os)
+pub tax_keeps_units : (w : WorldValue) (c : CampaignValue) (os : List Written) → AreNoWorse c (shared_out tax_pots w c os)
 unfolding shared_out
 tax_keeps_units w c os = each_no_worse w c (entries (given_by tax_pots w c os))
 
 -- ---- all steps can be taken
 
-module _ (w : Planet) (c : State) where
+module _ (w : WorldValue) (c : CampaignValue) where
   -- the money of the regions
   abbrev pots : DrawnPots ℕ
   pots = region_pots c.units money_of
@@ -143,10 +143,10 @@ module _ (w : Planet) (c : State) where
   abbrev HasRoomFor : ℕ × ℕ → Type 0
   HasRoomFor e = (u : Unit) × (get c.units e.0 ≡ Some u) × (u.holding.money + e.1 ≤ holding_limit)
 
-  abbrev AreTaken : State → List (ℕ × ℕ) → Type 0
+  abbrev AreTaken : CampaignValue → List (ℕ × ℕ) → Type 0
   AreTaken = AreReady money_of HasRoomFor w c
 
-  first_can : (d : State) (e : ℕ × ℕ) (es : List (ℕ × ℕ)) → AreTaken d (e ∷ es) → CanTax w d e
+  first_can : (d : CampaignValue) (e : ℕ × ℕ) (es : List (ℕ × ℕ)) → AreTaken d (e ∷ es) → CanTax w d e
   first_can d e es ready =
       let (u, there, fits) = ready.fits.0 in
       let now : get d.units e.0 ≡ Some u = ready.same.0 ∙ there in
@@ -154,7 +154,7 @@ module _ (w : Planet) (c : State) where
       let draws = one_draws c.units money_of d e u q there around es ready.enough in
       record { at = record { unit = u; there = now; region = q; around = around }; fits = fits; enough = draws; early = ready.early }
 
-  all_can : (d : State) (es : List (ℕ × ℕ)) → AreTaken d es → CanInTurn (CanTax w) taxed d es
+  all_can : (d : CampaignValue) (es : List (ℕ × ℕ)) → AreTaken d es → CanInTurn (CanTax w) taxed d es
   all_can d [] ready = tt
   all_can d (e ∷ es) ready =
       let can = first_can d e es ready in

@@ -2,12 +2,12 @@
 use Rattle.std.proofs.Common.{◌≡◌, ◌==◌, ◌≤◌, ◌+◌, ◌*◌, ℕ, Bool, true, false, List, [], ◌∷◌, length, arith}
 use Rattle.std.specs.Prelude.{fold, if◌then◌else◌}
 use Rattle.std.proofs.Math.Nat.{suc-mul}
-use Rattle.atl_tables.specs.Planet.{Planet}
+use Rattle.atl_tables.specs.Worlds.{WorldValue}
 use Rattle.atl_state.specs.declared.books.Entry.{Entry}
 use Rattle.atl_state.specs.declared.books.Thing.{Thing}
 use Rattle.atl_state.specs.Limits.{holding_limit, most_units}
 use Rattle.atl_state.specs.Marks.{amount_number}
-use Rattle.atl_state.specs.State.{State}
+use Rattle.atl_state.specs.Campaign.{CampaignValue}
 use Rattle.atl_instant.specs.Meaning.{Condition, HaveRoom, LeavesWell, Moving, both_move, most_moved, moved_times, moves_only}
 use Rattle.atl_instant.proofs.MeaningLaws.{MovesLess, both_leave_well, room_behind, room_less, well_unchanged, well_within}
 use Rattle.atl_market.specs.PotPhase.{CanInTurn}
@@ -25,18 +25,18 @@ pub one_more : {B : Type 0} (moving : Moving) (x : B) (xs : List B) → MovesLes
 one_more moving x xs e t = let one : length (x ∷ xs) * moving e t ≡ length xs * moving e t + moving e t = suc-mul (length xs) (moving e t) in omega arith
 
 -- room for all steps is room for the first
-pub first_room : {B : Type 0} (moving : Moving) (c : State) (x : B) (xs : List B) → HaveRoom (moved_times (length (x ∷ xs)) moving) c → HaveRoom moving c
+pub first_room : {B : Type 0} (moving : Moving) (c : CampaignValue) (x : B) (xs : List B) → HaveRoom (moved_times (length (x ∷ xs)) moving) c → HaveRoom moving c
 first_room moving c x xs room = room_less moving (moved_times (length (x ∷ xs)) moving) c (λ e t. omega (arith, one_more moving x xs e t)) room
 
 -- and behind it for the others
-pub later_room : {B : Type 0} {leaves : Condition} (moving : Moving) (w : Planet) (c d : State) (x : B) (xs : List B)
+pub later_room : {B : Type 0} {leaves : Condition} (moving : Moving) (w : WorldValue) (c d : CampaignValue) (x : B) (xs : List B)
     → LeavesWell leaves moving w c d → HaveRoom (moved_times (length (x ∷ xs)) moving) c → HaveRoom (moved_times (length xs) moving) d
 later_room moving w c d x xs well room =
     room_behind moving (moved_times (length xs) moving) w c d well
     (room_less (both_move moving (moved_times (length xs) moving)) (moved_times (length (x ∷ xs)) moving) c (one_more moving x xs) room)
 
-module _ {A : Type 0} {leaves : Condition} (moving : Moving) (w : Planet) (can : State → A → Type 0) (step : State → A → State) (each : (c : State) (x : A) → can c x → LeavesWell leaves moving w c (step c x)) where
-  pub turns_leave_well : (c : State) (xs : List A) → leaves w c → CanInTurn can step c xs → LeavesWell leaves (moved_times (length xs) moving) w c (fold step c xs)
+module _ {A : Type 0} {leaves : Condition} (moving : Moving) (w : WorldValue) (can : CampaignValue → A → Type 0) (step : CampaignValue → A → CampaignValue) (each : (c : CampaignValue) (x : A) → can c x → LeavesWell leaves moving w c (step c x)) where
+  pub turns_leave_well : (c : CampaignValue) (xs : List A) → leaves w c → CanInTurn can step c xs → LeavesWell leaves (moved_times (length xs) moving) w c (fold step c xs)
   turns_leave_well c [] h turns = well_unchanged (moved_times 0 moving) w c h
   turns_leave_well c (x ∷ xs) h turns =
       let one = each c x turns.0 in

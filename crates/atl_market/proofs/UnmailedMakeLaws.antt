@@ -4,7 +4,7 @@ use Rattle.std.specs.Prelude.{IfSome, option_and_then, option_map}
 use Rattle.std.specs.List.{slice_get}
 use Rattle.std.specs.Ordering.{nat_cmp}
 use Rattle.std.specs.FinMap.{FinMap, get}
-use Rattle.atl_tables.specs.Planet.{Planet}
+use Rattle.atl_tables.specs.Worlds.{WorldValue}
 use Rattle.atl_tables.specs.declared.world.Item.{Item}
 use Rattle.atl_tables.specs.declared.world.Kind.{Kind}
 use Rattle.atl_orders.specs.declared.order.Order.TheVariants as orders
@@ -14,8 +14,8 @@ use Rattle.atl_state.specs.declared.records.Structure.{Structure}
 use Rattle.atl_state.specs.declared.records.Unit.{Unit}
 use Rattle.atl_state.specs.Held.{amount_of, with_amount_of}
 use Rattle.atl_state.specs.Owners.{with_place}
-use Rattle.atl_state.specs.State.{State}
-use Rattle.atl_instant.specs.Course.{Course}
+use Rattle.atl_state.specs.Campaign.{CampaignValue}
+use Rattle.atl_instant.specs.Month.{MonthValue}
 use Rattle.atl_instant.specs.PhaseOrders.{orders_by_unit}
 use Rattle.atl_instant.proofs.TermsLaws.{Leaves}
 use Rattle.atl_instant.proofs.UnmailedLaws.{HaveTheirMen, OthersHaveMen, SparesMen, carried_leaves, items_of_no_worse, men_put, men_same, men_stay, men_twice, men_unless, others_men, own_faction, unmailed_spared}
@@ -33,7 +33,7 @@ use Rattle.atl_market.proofs.UnmailedPotLaws.{others_items, paid_men, shared_lea
 abbrev with_item : (item amount : ℕ) → Unit → Unit
 with_item i amount u = record u { holding = record u.holding { items = with_amount_of u.holding.items i amount } }
 
-used_men : (c : State) (n i amount : ℕ) → HaveTheirMen c (with_used c n i amount)
+used_men : (c : CampaignValue) (n i amount : ℕ) → HaveTheirMen c (with_used c n i amount)
 used_men c n i amount = by_unit (get c.units n) refl
   where
     by_unit : (o : Option Unit) → get c.units n ≡ o → HaveTheirMen c (used_by c n i amount o)
@@ -42,21 +42,21 @@ used_men c n i amount = by_unit (get c.units n) refl
 
 -- ---- BUILD
 
-begun_men : (c : State) (n kind : ℕ) (k : Kind) (region size : ℕ) → HaveTheirMen c (started c n kind k region size)
+begun_men : (c : CampaignValue) (n kind : ℕ) (k : Kind) (region size : ℕ) → HaveTheirMen c (started c n kind k region size)
 begun_men c n kind k region size =
     let used = with_used c n k.material size in
     let new = with_new used kind k region size in
     men_twice c used (with_place new n region c.next_structure) (used_men c n k.material size)
     (men_twice used new (with_place new n region c.next_structure) (men_same used new refl) (place_men new n region c.next_structure))
 
-begin_men : (w : Planet) (c : State) (n kind : ℕ) (k : Kind) (u : Unit) → HaveTheirMen c (begin w n kind k c u).0
+begin_men : (w : WorldValue) (c : CampaignValue) (n kind : ℕ) (k : Kind) (u : Unit) → HaveTheirMen c (begin w n kind k c u).0
 unfolding begin
 begin_men w c n kind k u = let size = size_added k u.holding 0 in men_unless c (started c n kind k u.region size) (Done size) (begin_fault w c u k) (begun_men c n kind k u.region size)
 
-gone_on_men : (c : State) (n material size place done : ℕ) → HaveTheirMen c (gone_on c n material size place done)
+gone_on_men : (c : CampaignValue) (n material size place done : ℕ) → HaveTheirMen c (gone_on c n material size place done)
 gone_on_men c n material size place done = let used = with_used c n material size in men_twice c used (gone_on c n material size place done) (used_men c n material size) (men_same used (gone_on c n material size place done) refl)
 
-go_on_men : (w : Planet) (c : State) (n : ℕ) (u : Unit) → HaveTheirMen c (go_on w n c u).0
+go_on_men : (w : WorldValue) (c : CampaignValue) (n : ℕ) (u : Unit) → HaveTheirMen c (go_on w n c u).0
 unfolding go_on
 go_on_men w c n u = by_structure (get c.structures u.structure)
   where
@@ -68,7 +68,7 @@ go_on_men w c n u = by_structure (get c.structures u.structure)
     by_structure None = men_unless c c (Done 0) (outside_fault u) (men_stay c)
     by_structure (Some s) = by_kind s (slice_get w.kinds s.kind)
 
-built_men : (w : Planet) (c : State) (f n : ℕ) (x : Unit) (s : Said) → IfSome (build_said w n s) (λ deed. OthersHaveMen f c (deed c x).0)
+built_men : (w : WorldValue) (c : CampaignValue) (f n : ℕ) (x : Unit) (s : Said) → IfSome (build_said w n s) (λ deed. OthersHaveMen f c (deed c x).0)
 built_men w c f n x (orders.Build (Some kind)) = by_kind (slice_get w.kinds kind)
   where
     by_kind : (o : Option Kind) → IfSome (option_map (begin w n kind) o) (λ deed. OthersHaveMen f c (deed c x).0)
@@ -85,14 +85,14 @@ build_leaves = carried_leaves build_step is_building build_spares (unmailed_spar
 
 -- ---- PRODUCE
 
-made_men : (c : State) (n i amount : ℕ) → HaveTheirMen c (with_made c n i amount)
+made_men : (c : CampaignValue) (n i amount : ℕ) → HaveTheirMen c (with_made c n i amount)
 made_men c n i amount = by_unit (get c.units n) refl
   where
     by_unit : (o : Option Unit) → get c.units n ≡ o → HaveTheirMen c (made_to c n i amount o)
     by_unit None is = men_stay c
     by_unit (Some u) is = men_put c (made_to c n i amount (Some u)) n u (with_item i (amount_of u.holding.items i + amount) u) is (record { faction = refl; men = refl }) refl
 
-produced_men : (asked : FinMap nat_cmp ℕ) (w : Planet) (c : State) (e : ℕ × ℕ) → HaveTheirMen c (produce.produced asked w c e)
+produced_men : (asked : FinMap nat_cmp ℕ) (w : WorldValue) (c : CampaignValue) (e : ℕ × ℕ) → HaveTheirMen c (produce.produced asked w c e)
 unfolding produce.produced
 produced_men asked w c e = by_item (get asked e.0)
   where
@@ -110,7 +110,7 @@ produced_men asked w c e = by_item (get asked e.0)
     by_item None = men_stay c
     by_item (Some i) = by_kind i (slice_get w.items i)
 
-abbrev as_asked : State → Course → PotMeaning
+abbrev as_asked : CampaignValue → MonthValue → PotMeaning
 as_asked = asked_pots produce.produce_pots item_in produce.is_produce
 
 pub produce_leaves : Leaves produce.produce_terms

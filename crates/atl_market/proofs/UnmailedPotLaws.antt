@@ -6,14 +6,14 @@ use Rattle.std.specs.Ordering.{nat_cmp}
 use Rattle.std.specs.FinMap.{FinMap, entries, get}
 use Rattle.std.proofs.lemmas.List.Elements.{recursion_from_All}
 use Rattle.std.proofs.lemmas.List.Sums.{sum_by-append, sum_by-cons}
-use Rattle.atl_tables.specs.Planet.{Planet}
+use Rattle.atl_tables.specs.Worlds.{WorldValue}
 use Rattle.atl_orders.specs.declared.verb.Verb.{Verb}
 use Rattle.atl_state.specs.declared.event.Event.{Event}
 use Rattle.atl_state.specs.declared.records.Region.{Region}
 use Rattle.atl_state.specs.declared.records.Unit.{Unit}
-use Rattle.atl_state.specs.State.{State}
+use Rattle.atl_state.specs.Campaign.{CampaignValue}
 use Rattle.atl_state.proofs.ListLaws.{other_number}
-use Rattle.atl_instant.specs.Course.{Course}
+use Rattle.atl_instant.specs.Month.{MonthValue}
 use Rattle.atl_instant.specs.Meaning.{Keeping, Meaning}
 use Rattle.atl_instant.specs.PhaseOrders.{Task, orders_by_unit, written, written_by_unit}
 use Rattle.atl_instant.specs.Staying.{AreNoWorse}
@@ -34,10 +34,10 @@ use Rattle.atl_market.proofs.RecruitLaws.{recruited_others}
 
 -- ---- all phases with pots
 
-abbrev pub written_of : (Verb → Bool) → State → Course → List Written
+abbrev pub written_of : (Verb → Bool) → CampaignValue → MonthValue → List Written
 written_of is_of c = written_by_unit is_of
 
-module _ (p : PotMeaning) (w : Planet) (c : State) where
+module _ (p : PotMeaning) (w : WorldValue) (c : CampaignValue) where
   none_starve : (given : FinMap nat_cmp ℕ) (os : List Written) (n : ℕ) → starved_in (map (event_of p w c given) os) n ≡ 0
   none_starve given [] n = refl
   none_starve given (o ∷ os) n =
@@ -59,26 +59,26 @@ module _ (p : PotMeaning) (w : Planet) (c : State) where
       plus_none x = omega arith
 
 -- a phase with pots, which may be of what the mailings say
-module _ (p : State → Course → PotMeaning) (orders : State → Course → List Written) where
+module _ (p : CampaignValue → MonthValue → PotMeaning) (orders : CampaignValue → MonthValue → List Written) where
   abbrev pub shared : Meaning
   shared = pots_meaning p orders
 
-  pub shared_leave : {keeps : Keeping} → ((w : Planet) (c : State) (m : Course) → UnmailedAre HasItsMen m c (shared w c m).0) → ((w : Planet) (c d : State) (m : Course) → keeps w m c d → UnmailedAre HasItsItems m c d) → LeavesUnmailed shared keeps
+  pub shared_leave : {keeps : Keeping} → ((w : WorldValue) (c : CampaignValue) (m : MonthValue) → UnmailedAre HasItsMen m c (shared w c m).0) → ((w : WorldValue) (c d : CampaignValue) (m : MonthValue) → keeps w m c d → UnmailedAre HasItsItems m c d) → LeavesUnmailed shared keeps
   shared_leave {keeps} men items =
       whole_leaves {meaning = shared} {keeps = keeps} (λ w c m. refl) (λ w c m n. told_of_pots (p c m) w c m.events (orders c m) n) (λ w c m h. men w c m) (λ w c m h. items w c (shared w c m).0 m h)
 
   -- payments that keep the men of all units
-  pub paid_men : ((w : Planet) (c : State) (m : Course) (d : State) (e : ℕ × ℕ) → HaveTheirMen d ((p c m).paid w d e)) → (w : Planet) (c : State) (m : Course) → UnmailedAre HasItsMen m c (shared w c m).0
+  pub paid_men : ((w : WorldValue) (c : CampaignValue) (m : MonthValue) (d : CampaignValue) (e : ℕ × ℕ) → HaveTheirMen d ((p c m).paid w d e)) → (w : WorldValue) (c : CampaignValue) (m : MonthValue) → UnmailedAre HasItsMen m c (shared w c m).0
   unfolding shared_out
   paid_men paid w c m n u there none = men_in_turn ((p c m).paid w) (paid w c m) c (entries (given_by (p c m) w c (orders c m))) n u there
 
 -- a phase that takes nothing from any unit
-pub none_worse : (w : Planet) (c d : State) (m : Course) → AreNoWorse c d → UnmailedAre HasItsItems m c d
+pub none_worse : (w : WorldValue) (c d : CampaignValue) (m : MonthValue) → AreNoWorse c d → UnmailedAre HasItsItems m c d
 none_worse w c d m h n u there none = let (v, behind, better) = h n u there in record { unit = v; there = behind; spared = items_of_no_worse u v better }
 
 -- ---- TAX
 
-tax_men : (w : Planet) (c : State) (e : ℕ × ℕ) → HaveTheirMen c (taxed c e)
+tax_men : (w : WorldValue) (c : CampaignValue) (e : ℕ × ℕ) → HaveTheirMen c (taxed c e)
 unfolding taxed
 tax_men w c e = by_unit (get c.units e.0)
   where
@@ -95,7 +95,7 @@ tax_leaves = shared_leave (λ c m. tax_pots) (written_of is_tax) (paid_men (λ c
 
 -- ---- WORK
 
-work_men : (w : Planet) (c : State) (e : ℕ × ℕ) → HaveTheirMen c (worked w c e)
+work_men : (w : WorldValue) (c : CampaignValue) (e : ℕ × ℕ) → HaveTheirMen c (worked w c e)
 unfolding worked
 work_men w c e = by_unit (get c.units e.0)
   where
@@ -116,7 +116,7 @@ none_listed n f (t ∷ ts) h = neither (t.unit == n) (t.faction == f) _ (other_n
     neither true b d e g = rw (e, g) refl
     neither false b d e g = g
 
-module _ (is_of : Verb → Bool) (m : Course) where
+module _ (is_of : Verb → Bool) (m : MonthValue) where
   -- a unit of a faction that sent no mailing has no order
   pub unordered : (n : ℕ) (u : Unit) → get m.readings u.faction ≡ None → is_ordered (written_by_unit is_of m) n u ≡ false
   unordered n u none =
@@ -124,10 +124,10 @@ module _ (is_of : Verb → Bool) (m : Course) where
       none_listed n u.faction ts (recursion_from_All (λ t. t.faction ≢ u.faction) ts (none_ordered is_of ByUnit m u.faction none))
 
   -- a phase that takes nothing from units without an order takes nothing from it
-  pub others_items : (c d : State) → OthersAreNoWorse (written_by_unit is_of m) c d → UnmailedAre HasItsItems m c d
+  pub others_items : (c d : CampaignValue) → OthersAreNoWorse (written_by_unit is_of m) c d → UnmailedAre HasItsItems m c d
   others_items c d h n u there none = let (v, behind, better) = h n u there (unordered n u none) in record { unit = v; there = behind; spared = items_of_no_worse u v better }
 
-abbrev recruit_asked : State → Course → PotMeaning
+abbrev recruit_asked : CampaignValue → MonthValue → PotMeaning
 recruit_asked = asked_pots recruit_pots count_in is_recruit
 
 pub recruit_leaves : Leaves recruit_terms

@@ -11,11 +11,11 @@ use Rattle.std.proofs.lemmas.Bool.Decides.{nat_tests}
 use Rattle.std.proofs.lemmas.Map.Entries.{length-keys_of}
 use Rattle.std.proofs.lemmas.Map.Steps.{length-le_from_keys}
 use Rattle.atl_tables.specs.Limits.{most_amount}
-use Rattle.atl_tables.specs.Planet.{Planet}
+use Rattle.atl_tables.specs.Worlds.{WorldValue}
 use Rattle.atl_state.specs.declared.event.EventFault.{EventFault}
 use Rattle.atl_state.specs.declared.records.Unit.{Unit}
 use Rattle.atl_state.specs.Good.{Every}
-use Rattle.atl_state.specs.State.{State}
+use Rattle.atl_state.specs.Campaign.{CampaignValue}
 use Rattle.atl_state.proofs.BackLaws.{Rise, entries_rise}
 use Rattle.atl_state.proofs.EveryLaws.{every-empty, every-insert}
 use Rattle.atl_instant.specs.declared.written.Written.{Written}
@@ -26,7 +26,7 @@ use Rattle.atl_market.specs.Pots.{AreWants}
 use Rattle.atl_market.specs.Puts.{with_each}
 
 -- who gets something wants that much at least
-abbrev pub GivesToWants : PotMeaning → Planet → State → Type 0
+abbrev pub GivesToWants : PotMeaning → WorldValue → CampaignValue → Type 0
 GivesToWants p w c =
     (wants : FinMap nat_cmp ℕ) (n share : ℕ) → get (p.given w c wants) n ≡ Some share
     → (want : ℕ) × (get wants n ≡ Some want) × (share ≤ want)
@@ -55,7 +55,7 @@ rise_apart (e ∷ es) h = (others e.0 es h.0, rise_apart es h.1)
     others k [] h = tt
     others k (f ∷ es) h = (differs k f.0 h.0, others k es h.1)
 
-module _ (p : PotMeaning) (w : Planet) (c : State) where
+module _ (p : PotMeaning) (w : WorldValue) (c : CampaignValue) where
   -- a unit wants so much by some order for it
   abbrev pub IsWanted : ℕ → ℕ → Type 0
   IsWanted n want = (u : Unit) × (o : Written) × (get c.units n ≡ Some u) × (o.unit ≡ n) × (want ≡ p.want w u o)

@@ -7,7 +7,7 @@ use Rattle.std.specs.FinMap.{entries, get}
 use Rattle.std.proofs.lemmas.Int.{ints}
 use Rattle.std.proofs.lemmas.Bool.Decides.{nat_tests}
 use Rattle.std.proofs.Math.Nat.{div-add-mod, mul-le-mul_left, mul_comm}
-use Rattle.atl_tables.specs.Planet.{Planet}
+use Rattle.atl_tables.specs.Worlds.{WorldValue}
 use Rattle.atl_tables.specs.declared.world.Terrain.{Terrain}
 use Rattle.atl_tables.specs.ByNumber.{terrain_of}
 use Rattle.atl_state.specs.declared.books.Entry.{Entry}
@@ -22,7 +22,7 @@ use Rattle.atl_state.specs.Good.{Every, IsSteady}
 use Rattle.atl_state.specs.Held.{Held, amount_of}
 use Rattle.atl_state.specs.Limits.{holding_limit, most_units}
 use Rattle.atl_state.specs.Marking.{mark_amount, mark_unit_row}
-use Rattle.atl_state.specs.State.{Marked, State, with_amount, with_money}
+use Rattle.atl_state.specs.Campaign.{MarkedCampaign, CampaignValue, with_amount, with_money}
 use Rattle.atl_state.specs.Totals.{held, total}
 use Rattle.atl_state.proofs.BackLaws.{Rise, entries_rise}
 use Rattle.atl_state.proofs.BookLaws.{booked-with_booked, share_of}
@@ -48,14 +48,14 @@ use Rattle.atl_market.specs.Payable.{CanWork}
 
 -- ---- one unit gets its wages
 
-module _ (w : Planet) (c : State) (n : ℕ) (u : Unit) (money : ℕ) (is : get c.units n ≡ Some u) where
+module _ (w : WorldValue) (c : CampaignValue) (n : ℕ) (u : Unit) (money : ℕ) (is : get c.units n ≡ Some u) where
   abbrev more : Held
   more = paid c n u money
 
-  abbrev given : State
+  abbrev given : CampaignValue
   given = richer c n u money
 
-  abbrev pub wages_paid : State
+  abbrev pub wages_paid : CampaignValue
   wages_paid = with_amount given Wages Money (pos money)
 
   pub wages_are : with_wages c n u.holding.money money ≡ wages_paid
@@ -97,17 +97,17 @@ module _ (w : Planet) (c : State) (n : ℕ) (u : Unit) (money : ℕ) (is : get c
 
 -- ---- what is marked
 
-pub wages_marks : (things : ℕ) (c d e : Marked) (n money held : ℕ) → d.what ≡ with_money c.what n held → d.marks ≡ mark_unit_row c n
-    → e.what ≡ with_amount d.what Wages Money (pos money) → e.marks ≡ mark_amount d Wages Money → IsGrid things c.what.books → 2 ≤ things → MarksChanges c e
+pub wages_marks : (things : ℕ) (c d e : MarkedCampaign) (n money held : ℕ) → d.value ≡ with_money c.value n held → d.marks ≡ mark_unit_row c n
+    → e.value ≡ with_amount d.value Wages Money (pos money) → e.marks ≡ mark_amount d Wages Money → IsGrid things c.value.books → 2 ≤ things → MarksChanges c e
 wages_marks things c d e n money held d_is d_marks e_is e_marks grid two =
-    let books : d.what.books ≡ c.what.books = ap (λ (s : State). s.books) d_is in
-    let d_grid : IsGrid things d.what.books = rw books grid in
+    let books : d.value.books ≡ c.value.books = ap (λ (s : CampaignValue). s.books) d_is in
+    let d_grid : IsGrid things d.value.books = rw books grid in
     marks-trans c d e (marks_by c d _ d_is d_marks (marks-unit_row (λ u. record u { holding = record u.holding { money = held } }) (λ u. refl) c n))
     (marks_by d e _ e_is e_marks (marks-amount things d Wages Money (pos money) d_grid (omega arith)))
 
 -- ---- one step
 
-module _ (w : Planet) (c : State) (e : ℕ × ℕ) where
+module _ (w : WorldValue) (c : CampaignValue) (e : ℕ × ℕ) where
   pub worked_is : (u : Unit) → get c.units e.0 ≡ Some u → worked w c e ≡ with_wages c e.0 u.holding.money (earned w u.region e.1)
   unfolding worked
   worked_is u is = ap (worked_by w c e) is
@@ -119,7 +119,7 @@ module _ (w : Planet) (c : State) (e : ℕ × ℕ) where
 
   pub worked_others : CanWork w c e → (k : ℕ) → k ≢ e.0 → get (worked w c e).units k ≡ get c.units k
   worked_others can k apart =
-      ap (λ (d : State). get d.units k) (worked_is can.unit can.there ∙ wages_are w c e.0 can.unit (earned w can.unit.region e.1) can.there)
+      ap (λ (d : CampaignValue). get d.units k) (worked_is can.unit can.there ∙ wages_are w c e.0 can.unit (earned w can.unit.region e.1) can.there)
       ∙ wages_leave_others w c e.0 can.unit (earned w can.unit.region e.1) can.there k apart
 
   pub worked_no_worse : AreNoWorse c (worked w c e)
@@ -130,29 +130,29 @@ module _ (w : Planet) (c : State) (e : ℕ × ℕ) where
       by_unit None is = are_no_worse c
       by_unit (Some u) is = subst (λ d. AreNoWorse c d) (sym (wages_are w c e.0 u (earned w u.region e.1) is)) (wages_no_worse w c e.0 u (earned w u.region e.1) is)
 
-each_no_worse : (w : Planet) (c : State) (es : List (ℕ × ℕ)) → AreNoWorse c (fold (worked w) c es)
+each_no_worse : (w : WorldValue) (c : CampaignValue) (es : List (ℕ × ℕ)) → AreNoWorse c (fold (worked w) c es)
 each_no_worse w c [] = are_no_worse c
 each_no_worse w c (e ∷ es) = are_no_worse_twice c (worked w c e) (fold (worked w) (worked w c e) es) (worked_no_worse w c e) (each_no_worse w (worked w c e) es)
 
-pub work_keeps_units : (w : Planet) (c : State) (os : List Written) → AreNoWorse c (shared_out work_pots w c os)
+pub work_keeps_units : (w : WorldValue) (c : CampaignValue) (os : List Written) → AreNoWorse c (shared_out work_pots w c os)
 unfolding shared_out
 work_keeps_units w c os = each_no_worse w c (entries (given_by work_pots w c os))
 
 -- ---- all steps can be taken
 
 -- a unit is there and has room for the wages of so many places
-abbrev pub HasRoomFor : Planet → State → ℕ × ℕ → Type 0
+abbrev pub HasRoomFor : WorldValue → CampaignValue → ℕ × ℕ → Type 0
 HasRoomFor w c e = (u : Unit) × (get c.units e.0 ≡ Some u) × (u.holding.money + earned w u.region e.1 ≤ holding_limit)
 
-module _ (w : Planet) where
+module _ (w : WorldValue) where
   abbrev step_moves : Moving
   step_moves = work_moves holding_limit
 
-  still : (c d : State) (n : ℕ) (es : List (ℕ × ℕ)) → ((k : ℕ) → k ≢ n → get d.units k ≡ get c.units k) → AllByRecursion (λ f. n < f.0) es → AllByRecursion (HasRoomFor w c) es → AllByRecursion (HasRoomFor w d) es
+  still : (c d : CampaignValue) (n : ℕ) (es : List (ℕ × ℕ)) → ((k : ℕ) → k ≢ n → get d.units k ≡ get c.units k) → AllByRecursion (λ f. n < f.0) es → AllByRecursion (HasRoomFor w c) es → AllByRecursion (HasRoomFor w d) es
   still c d n [] same above all = tt
   still c d n (f ∷ es) same above ((u, there, fits), all) = ((u, same f.0 (λ e. absurd (omega (arith, e, above.0))) ∙ there, fits), still c d n es same above.1 all)
 
-  pub work_in_turn : (c : State) (es : List (ℕ × ℕ)) → Rise es → IsSteady w c → HaveRoom (moved_times (length es) step_moves) c → AllByRecursion (HasRoomFor w c) es → CanInTurn (CanWork w) (worked w) c es
+  pub work_in_turn : (c : CampaignValue) (es : List (ℕ × ℕ)) → Rise es → IsSteady w c → HaveRoom (moved_times (length es) step_moves) c → AllByRecursion (HasRoomFor w c) es → CanInTurn (CanWork w) (worked w) c es
   work_in_turn c [] rise steady room all = tt
   work_in_turn c (e ∷ es) rise steady room ((u, there, fits), all) =
       let can : CanWork w c e = record { unit = u; there = there; fits = fits; steady = steady; room = first_room step_moves c e es room } in
@@ -169,7 +169,7 @@ module _ (w : Planet) where
       let cost : t.wage * places ≤ t.wage * (room / t.wage) = mul-le-mul_left t.wage few in
       omega (arith, split, cost, fits, mul_comm places t.wage)
 
-  module _ (c : State) (steady : IsSteady w c) (os : List Written) where
+  module _ (c : CampaignValue) (steady : IsSteady w c) (os : List Written) where
     abbrev shares : List (ℕ × ℕ)
     shares = entries (given_by work_pots w c os)
 

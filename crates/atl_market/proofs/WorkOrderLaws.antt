@@ -17,7 +17,7 @@ use Rattle.std.proofs.lemmas.List.{map-append}
 use Rattle.std.proofs.lemmas.List.Sorted.{IsPermutation-map}
 use Rattle.atl_tables.proofs.GeneralLaws.{equal_turned}
 use Rattle.atl_state.specs.Deciding.{EachOf}
-use Rattle.atl_state.specs.State.{State}
+use Rattle.atl_state.specs.Campaign.{CampaignValue}
 use Rattle.atl_state.specs.declared.records.Unit.{Unit}
 use Rattle.atl_state.proofs.BackLaws.{append_apart, append_each, entries_rise, flat_apart}
 use Rattle.atl_state.proofs.GroupLaws.{filter_apart, filter_each}
@@ -27,7 +27,7 @@ use Rattle.atl_state.proofs.KeyLaws.{IsDistinct-map}
 use Rattle.atl_state.proofs.OrderLaws.{each_so}
 use Rattle.atl_orders.specs.declared.verb.Verb.TheVariants as verbs
 use Rattle.atl_orders.specs.Orders.{verb_of_order}
-use Rattle.atl_instant.specs.Course.{Course}
+use Rattle.atl_instant.specs.Month.{MonthValue}
 use Rattle.atl_instant.specs.PhaseOrders.{Task, is_month_long, key_of, orders_by_unit, orders_of, written}
 use Rattle.atl_instant.specs.declared.written.Arrangement.TheVariants.{ByUnit}
 use Rattle.atl_instant.specs.declared.written.Written.{Written}
@@ -95,14 +95,14 @@ keys_tie a b h = slice_cmp-IsAntisymmetric nat_cmp-IsAntisymmetric (work_key a) 
 apart_by : (a b : Written) → (a.unit ≡ b.unit → a.faction ≡ b.faction → ⊥) → same_work a b ≡ false
 apart_by a b differ = false_from_ne_true (same_work a b) (λ h. let e = keys_tie a b h in differ (ap (λ k. get_or k 0 0) e) (ap (λ k. get_or k 2 0) e))
 
-long_apart : (m : Course) → IsDistinct same_work (map written (orders_by_unit is_month_long m))
+long_apart : (m : MonthValue) → IsDistinct same_work (map written (orders_by_unit is_month_long m))
 long_apart m =
     let ts = values (orders_of is_month_long ByUnit m.aliases m.readings) in
     IsDistinct-map written same_work ts (values_apart (slice_cmp nat_cmp) (slice_cmp-IsAntisymmetric nat_cmp-IsAntisymmetric) (key_of ByUnit) nat_list_cmp_total _)
 
 -- ---- the units that have an order of their own faction
 
-module _ (c : State) where
+module _ (c : CampaignValue) where
   abbrev IsListed : FinMap nat_cmp ℕ → Written → Type 0
   IsListed writers o = is_of_faction o.faction (get c.units o.unit) ≡ true → is_some (get writers o.unit) ≡ true
 
@@ -187,7 +187,7 @@ unkeyed (o ∷ os) = ap (λ ps. o ∷ ps) (unkeyed os)
 
 -- ---- what is written of the tasks
 
-writes_own : (c : State) (os : List Written) (n : ℕ) (u : Unit) → get c.units n ≡ Some u → (m : FinMap nat_cmp ℕ) → is_some (get (with_each m (flat_map (own_unit c) os)) n) ≡ (is_ordered os n u || is_some (get m n))
+writes_own : (c : CampaignValue) (os : List Written) (n : ℕ) (u : Unit) → get c.units n ≡ Some u → (m : FinMap nat_cmp ℕ) → is_some (get (with_each m (flat_map (own_unit c) os)) n) ≡ (is_ordered os n u || is_some (get m n))
 writes_own c [] n u is m = refl
 writes_own c (o ∷ os) n u is m =
     ap (λ (k : FinMap nat_cmp ℕ). is_some (get k n)) (appended_entries m (own_unit c o) (flat_map (own_unit c) os))
@@ -220,7 +220,7 @@ writes_own c (o ∷ os) n u is m =
           ∙ sym (ap (λ b. (b && o.faction == u.faction) || is_some (get m n)) (other_number o.unit n (λ same. apart (sym same))))
     ]
 
-is_writer : (c : State) (os : List Written) (n : ℕ) (u : Unit) → get c.units n ≡ Some u → is_some (get (own_writers c os) n) ≡ is_ordered os n u
+is_writer : (c : CampaignValue) (os : List Written) (n : ℕ) (u : Unit) → get c.units n ≡ Some u → is_some (get (own_writers c os) n) ≡ is_ordered os n u
 is_writer c os n u is = writes_own c os n u is empty ∙ ap (λ o. is_ordered os n u || is_some o) (get-empty nat_cmp n) ∙ or_false (is_ordered os n u)
   where
     or_false : (b : Bool) → (b || false) ≡ b
@@ -236,7 +236,7 @@ work_written (t ∷ ts) = by_test (is_work (verb_of_order t.said)) (work_written
     by_test true rest = ap (λ os. written t ∷ os) rest
     by_test false rest = rest
 
-module _ (c : State) (ts : List Task) where
+module _ (c : CampaignValue) (ts : List Task) where
   one_idle : (n : ℕ) (u : Unit) → get c.units n ≡ Some u → idle_written (own_writers c (map written ts)) (n, u) ≡ map written (idle_at ts (n, u))
   one_idle n u is = ap (λ b. cond (nat_lt 0 u.holding.men && not b) (record { unit = n; line = 0; faction = u.faction; verb = verbs.Work; place = 0 } ∷ []) []) (is_writer c (map written ts) n u is) ∙ by_test (nat_lt 0 u.holding.men && not (is_ordered (map written ts) n u))
     where
@@ -272,7 +272,7 @@ by_keys ts =
     ap (λ es. values (from_entries {R = slice_cmp nat_cmp} es)) (keyed_written ts) ∙ ap (map (λ e. e.1)) (entries-with_value (slice_cmp nat_cmp) written nat_list_cmp_total (map keyed_task ts))
     ∙ values_written (entries (from_entries (map keyed_task ts)))
 
-pub work_sorted : (c : State) (m : Course) (list : List Written) → IsPermutation (all_written c (map written (orders_by_unit is_month_long m))) list → IsSortedByKey work_key (slice_cmp nat_cmp) list → list ≡ work_orders c m
+pub work_sorted : (c : CampaignValue) (m : MonthValue) (list : List Written) → IsPermutation (all_written c (map written (orders_by_unit is_month_long m))) list → IsSortedByKey work_key (slice_cmp nat_cmp) list → list ≡ work_orders c m
 unfolding work_orders
 work_sorted c m list moved up =
     let os = map written (orders_by_unit is_month_long m) in

@@ -3,7 +3,7 @@ use Rattle.std.specs.Prelude.{ℕ, List, [], ◌∷◌, Option, Some, None}
 use Rattle.std.specs.List.{flat_map}
 use Rattle.std.specs.Ordering.{nat_cmp}
 use Rattle.std.specs.FinMap.{FinMap, empty, entries, get}
-use Rattle.atl_state.specs.State.{State}
+use Rattle.atl_state.specs.Campaign.{CampaignValue}
 use Rattle.atl_state.specs.declared.records.Unit.{Unit}
 use Rattle.atl_market.specs.Puts.{with_each}
 
@@ -13,5 +13,5 @@ region_at n None = []
 region_at n (Some u) = (u.region, n) ∷ []
 
 -- by region, a unit there that has a want
-abbrev pub regions_asked : FinMap nat_cmp ℕ → State → FinMap nat_cmp ℕ
+abbrev pub regions_asked : FinMap nat_cmp ℕ → CampaignValue → FinMap nat_cmp ℕ
 regions_asked wants c = with_each empty (flat_map (λ e. region_at e.0 (get c.units e.0)) (entries wants))

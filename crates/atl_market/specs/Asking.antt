@@ -6,8 +6,8 @@ use Rattle.std.specs.FinMap.{FinMap, from_entries}
 use Rattle.atl_orders.specs.declared.order.Order.TheVariants as orders
 use Rattle.atl_orders.specs.Orders.{Said}
 use Rattle.atl_orders.specs.declared.verb.Verb.{Verb}
-use Rattle.atl_state.specs.State.{State}
-use Rattle.atl_instant.specs.Course.{Course}
+use Rattle.atl_state.specs.Campaign.{CampaignValue}
+use Rattle.atl_instant.specs.Month.{MonthValue}
 use Rattle.atl_instant.specs.Meaning.{Meaning}
 use Rattle.atl_instant.specs.PhaseOrders.{Task, orders_by_unit, written_by_unit}
 use Rattle.atl_instant.specs.Steps.{is_own}
@@ -28,15 +28,15 @@ entry_of n None = []
 entry_of n (Some what) = (n, what) ∷ []
 
 -- the unit of an order of its own faction, with what the order asks it for
-abbrev pub asked_by : (Said → Option ℕ) → State → Task → List (ℕ × ℕ)
+abbrev pub asked_by : (Said → Option ℕ) → CampaignValue → Task → List (ℕ × ℕ)
 asked_by asks c t = if is_own c t then entry_of t.unit (asks t.said) else []
 
 -- By unit, what its own faction asks it for by these orders: by the last, if there were more than one.
-abbrev pub asked_of : (Said → Option ℕ) → State → List Task → FinMap nat_cmp ℕ
+abbrev pub asked_of : (Said → Option ℕ) → CampaignValue → List Task → FinMap nat_cmp ℕ
 asked_of asks c ts = from_entries (reverse (flat_map (asked_by asks c) ts))
 
 -- the pots of a phase, by what its orders ask each unit for
-abbrev pub asked_pots : (FinMap nat_cmp ℕ → PotMeaning) → (Said → Option ℕ) → (Verb → Bool) → State → Course → PotMeaning
+abbrev pub asked_pots : (FinMap nat_cmp ℕ → PotMeaning) → (Said → Option ℕ) → (Verb → Bool) → CampaignValue → MonthValue → PotMeaning
 asked_pots pots asks is_of c m = pots (asked_of asks c (orders_by_unit is_of m))
 
 abbrev pub asked_meaning : (FinMap nat_cmp ℕ → PotMeaning) → (Said → Option ℕ) → (Verb → Bool) → Meaning

@@ -2,10 +2,10 @@
 use Rattle.std.specs.Prelude.{◌≡◌, ◌==◌, ℕ, Bool, false, List, map, filter, sum, Option, Some, None}
 use Rattle.std.specs.Ordering.{nat_cmp}
 use Rattle.std.specs.FinMap.{FinMap, entries, get}
-use Rattle.atl_tables.specs.Planet.{Planet}
+use Rattle.atl_tables.specs.Worlds.{WorldValue}
 use Rattle.atl_state.specs.declared.records.Region.{Region}
 use Rattle.atl_state.specs.declared.records.Unit.{Unit}
-use Rattle.atl_state.specs.State.{State}
+use Rattle.atl_state.specs.Campaign.{CampaignValue}
 use Rattle.atl_instant.specs.declared.written.Written.{Written}
 use Rattle.atl_market.specs.PotPhase.{PotMeaning, given_by, shared_out}
 
@@ -31,7 +31,7 @@ paid_unit gets u None = u
 paid_unit gets u (Some share) = gets u share
 
 -- By `gets` a unit follows from what it was and its share, and by `gives` a region from what it was and all that its units got.
-pub record PaysAtOnce (p : PotMeaning) (w : Planet) (gets : ℕ → Gets) (gives : Gives) (c : State) (os : List Written) : Type 0 where
+pub record PaysAtOnce (p : PotMeaning) (w : WorldValue) (gets : ℕ → Gets) (gives : Gives) (c : CampaignValue) (os : List Written) : Type 0 where
   pub units :
       (n : ℕ) (u : Unit) → get c.units n ≡ Some u
       → get (shared_out p w c os).units n ≡ Some (paid_unit (gets n) u (get (given_by p w c os) n))

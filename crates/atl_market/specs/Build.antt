@@ -3,7 +3,7 @@ use Rattle.std.specs.Prelude.{◌≡◌, length, ◌++◌, ℕ, ◌+◌, ◌-◌
 use Rattle.std.specs.Fmt.{decimal}
 use Rattle.std.specs.List.{slice_get}
 use Rattle.std.specs.FinMap.{get, len}
-use Rattle.atl_tables.specs.Planet.{IsKind, Planet}
+use Rattle.atl_tables.specs.Worlds.{IsKind, WorldValue}
 use Rattle.atl_tables.specs.Sums.{sum_over}
 use Rattle.atl_tables.specs.declared.world.Kind.{Kind}
 use Rattle.atl_tables.specs.ByNumber.{is_land_at}
@@ -27,7 +27,7 @@ use Rattle.atl_state.specs.Held.{Held, amount_of}
 use Rattle.atl_state.specs.Levels.{level_in}
 use Rattle.atl_state.specs.Limits.{most_structures}
 use Rattle.atl_state.specs.Owners.{with_place}
-use Rattle.atl_state.specs.State.{State, with_done, with_structure_begun}
+use Rattle.atl_state.specs.Campaign.{CampaignValue, with_done, with_structure_begun}
 use Rattle.atl_instant.specs.Meaning.{Moving, most_moved}
 use Rattle.atl_instant.specs.Outcomes.{first_fault, unless}
 use Rattle.atl_instant.specs.Staying.{IsNoWorse}
@@ -48,11 +48,11 @@ size_added k h done = min (min (h.men * level_in h k.skill) (amount_of h.items k
 -- ---- BUILD kind
 
 -- no further structure can come: 10,000 stand
-abbrev pub is_structure_limit : State → Bool
+abbrev pub is_structure_limit : CampaignValue → Bool
 is_structure_limit c = nat_le most_structures (len c.structures)
 
 -- NoMen, AtSea, NoSkill, NoMaterial, StructureLimit
-abbrev pub begin_fault : Planet → State → Unit → Kind → Option EventFault
+abbrev pub begin_fault : WorldValue → CampaignValue → Unit → Kind → Option EventFault
 begin_fault w c u k = first_fault (
     (u.holding.men == 0, NoMen)
     ∷ (not (is_land_at w u.region), AtSea)
@@ -69,14 +69,14 @@ abbrev pub new_structure : (number kind : ℕ) → Kind → (region size : ℕ) 
 new_structure number kind k region size = record { kind = kind; name = sort_of k ++ decimal number; region = region; done = size; owner = 0 }
 
 -- with one structure more
-abbrev pub with_new : State → (kind : ℕ) → Kind → (region size : ℕ) → State
+abbrev pub with_new : CampaignValue → (kind : ℕ) → Kind → (region size : ℕ) → CampaignValue
 with_new c kind k region size = with_structure_begun c (new_structure c.next_structure kind k region size)
 
 -- a unit uses so much for a new structure, leaves its old one and enters this, which it owns
-abbrev pub started : State → (n kind : ℕ) → Kind → (region size : ℕ) → State
+abbrev pub started : CampaignValue → (n kind : ℕ) → Kind → (region size : ℕ) → CampaignValue
 started c n kind k region size = with_place (with_new (with_used c n k.material size) kind k region size) n region c.next_structure
 
-unfoldable pub begin : Planet → (n kind : ℕ) → Kind → Deed
+unfoldable pub begin : WorldValue → (n kind : ℕ) → Kind → Deed
 begin w n kind k c u =
     let size = size_added k u.holding 0 in
     unless c (begin_fault w c u k) (started c n kind k u.region size, Done size)
@@ -97,29 +97,29 @@ inside_fault u s k = first_fault (
     ∷ [])
 
 -- a unit uses so much for a structure, of which so much is done then
-abbrev pub gone_on : State → (n material size place done : ℕ) → State
+abbrev pub gone_on : CampaignValue → (n material size place done : ℕ) → CampaignValue
 gone_on c n material size place done = with_done (with_used c n material size) place done
 
 -- a structure with its kind
-abbrev pub with_kind : Planet → Structure → Option (Structure × Kind)
+abbrev pub with_kind : WorldValue → Structure → Option (Structure × Kind)
 with_kind w s = option_map (λ k. (s, k)) (slice_get w.kinds s.kind)
 
 -- those under a number
-abbrev pub built_at : Planet → State → (place : ℕ) → Option (Structure × Kind)
+abbrev pub built_at : WorldValue → CampaignValue → (place : ℕ) → Option (Structure × Kind)
 built_at w c place = option_and_then (with_kind w) (get c.structures place)
 
-abbrev pub go_on_at : State → (n : ℕ) → Unit → Option (Structure × Kind) → State × Outcome
+abbrev pub go_on_at : CampaignValue → (n : ℕ) → Unit → Option (Structure × Kind) → CampaignValue × Outcome
 go_on_at c n u None = unless c (outside_fault u) (c, Done 0)
 go_on_at c n u (Some (s, k)) =
     let size = size_added k u.holding s.done in
     unless c (inside_fault u s k) (gone_on c n k.material size u.structure (s.done + size), Done size)
 
-unfoldable pub go_on : Planet → (n : ℕ) → Deed
+unfoldable pub go_on : WorldValue → (n : ℕ) → Deed
 go_on w n c u = go_on_at c n u (built_at w c u.structure)
 
 -- ---- the step
 
-abbrev pub build_said : Planet → (n : ℕ) → Said → Option Deed
+abbrev pub build_said : WorldValue → (n : ℕ) → Said → Option Deed
 build_said w n (orders.Build (Some kind)) = option_map (begin w n kind) (slice_get w.kinds kind)
 build_said w n (orders.Build None) = Some (go_on w n)
 build_said w n other = None
@@ -145,7 +145,7 @@ build_moves e t = 0
 -- ---- the phase
 
 -- a steady campaign, in a world whose kinds are of its items and skills
-pub record CanBuild (w : Planet) (c : State) : Type 0 where
+pub record CanBuild (w : WorldValue) (c : CampaignValue) : Type 0 where
   pub steady : IsSteady w c
   pub kinds : (i : ℕ) (k : Kind) → slice_get w.kinds i ≡ Some k → IsKind (length w.items) (length w.skills) k
 

@@ -1,7 +1,7 @@
 -- How much of an item a unit can make: by its men, their skill, its room, and the raw items that it holds. See docs/RULES.md, "Producing".
 use Rattle.std.specs.Prelude.{◌-◌, ◌*◌, ◌/◌, ◌==◌, ℕ, Bool, true, false, min, nat_lt, Option, Some, None, is_some, option_and_then, if◌then◌else◌, [], ◌∷◌}
 use Rattle.std.specs.List.{slice_get}
-use Rattle.atl_tables.specs.Planet.{Planet}
+use Rattle.atl_tables.specs.Worlds.{WorldValue}
 use Rattle.atl_tables.specs.declared.world.Item.{Item}
 use Rattle.atl_state.specs.declared.event.EventFault.{EventFault}
 use Rattle.atl_state.specs.declared.event.EventFault.TheVariants.{NoMaterial, NoMen, NoSkill}
@@ -11,7 +11,7 @@ use Rattle.atl_state.specs.Limits.{holding_limit}
 use Rattle.atl_instant.specs.Outcomes.{first_fault}
 
 -- the item that a unit is told to make, where it is one of the world
-abbrev pub item_of : Planet → Option ℕ → Option Item
+abbrev pub item_of : WorldValue → Option ℕ → Option Item
 item_of w asked = option_and_then (slice_get w.items) asked
 
 -- no skill makes the item, or the unit's level is too low
@@ -38,6 +38,6 @@ can_make_of h i None = 0
 can_make_of h i (Some x) = up_to_raw h x.raw_count x.raw (min (h.men * level_in_any h x.skill) (holding_limit - amount_of h.items i))
 
 -- How much of an item a unit can make: as much as its men can, as it has room for, and as its raw items are enough for.
-abbrev pub can_make : Planet → Held → Option ℕ → ℕ
+abbrev pub can_make : WorldValue → Held → Option ℕ → ℕ
 can_make w h None = 0
 can_make w h (Some i) = can_make_of h i (slice_get w.items i)

@@ -5,8 +5,8 @@ use Rattle.std.specs.Ordering.{nat_cmp}
 use Rattle.std.specs.FinMap.{FinMap, from_entries, get}
 use Rattle.atl_orders.specs.Mailing.{Reading}
 use Rattle.atl_orders.specs.Orders.{Said}
-use Rattle.atl_state.specs.State.{State}
-use Rattle.atl_instant.specs.Course.{order_at}
+use Rattle.atl_state.specs.Campaign.{CampaignValue}
+use Rattle.atl_instant.specs.Month.{order_at}
 use Rattle.atl_instant.specs.Steps.{is_of_faction}
 use Rattle.atl_instant.specs.declared.written.Written.{Written}
 use Rattle.atl_market.specs.Asking.{entry_of}
@@ -16,9 +16,9 @@ abbrev pub found_in : (Said → Option ℕ) → Option Said → Option ℕ
 found_in asks None = None
 found_in asks (Some what) = asks what
 
-abbrev pub found_by : (Said → Option ℕ) → FinMap nat_cmp Reading → State → Written → List (ℕ × ℕ)
+abbrev pub found_by : (Said → Option ℕ) → FinMap nat_cmp Reading → CampaignValue → Written → List (ℕ × ℕ)
 found_by asks readings c o =
     if is_of_faction o.faction (get c.units o.unit) then entry_of o.unit (found_in asks (order_at readings o.faction o.place)) else []
 
-abbrev pub found_of : (Said → Option ℕ) → FinMap nat_cmp Reading → State → List Written → FinMap nat_cmp ℕ
+abbrev pub found_of : (Said → Option ℕ) → FinMap nat_cmp Reading → CampaignValue → List Written → FinMap nat_cmp ℕ
 found_of asks readings c os = from_entries (reverse (flat_map (found_by asks readings c) os))

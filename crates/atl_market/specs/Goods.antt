@@ -1,7 +1,7 @@
 -- What units use of items, and what they make.
 use Rattle.std.specs.Prelude.{◌≡◌, ◌≤◌, ◌<◌, ◌+◌, ◌-◌, ℕ, length, pos, neg_ℤ, Option, Some, None}
 use Rattle.std.specs.FinMap.{get}
-use Rattle.atl_tables.specs.Planet.{Planet}
+use Rattle.atl_tables.specs.Worlds.{WorldValue}
 use Rattle.atl_state.specs.declared.books.Entry.TheVariants.{Made, Used}
 use Rattle.atl_state.specs.declared.books.Thing.TheVariants.{Item}
 use Rattle.atl_state.specs.declared.records.Unit.{Unit}
@@ -10,30 +10,30 @@ use Rattle.atl_state.specs.Good.{IsSteady}
 use Rattle.atl_state.specs.Held.{amount_of, with_amount_of}
 use Rattle.atl_state.specs.Lending.{with_held}
 use Rattle.atl_state.specs.Limits.{holding_limit}
-use Rattle.atl_state.specs.State.{State, with_amount}
+use Rattle.atl_state.specs.Campaign.{CampaignValue, with_amount}
 use Rattle.atl_instant.specs.Meaning.{HasRoom}
 
 -- a unit that is there holds so much of an item
-abbrev pub with_item : State → ℕ → Unit → (item amount : ℕ) → State
+abbrev pub with_item : CampaignValue → ℕ → Unit → (item amount : ℕ) → CampaignValue
 with_item c n u i amount = with_held c n (record u.holding { items = with_amount_of u.holding.items i amount }) (Some u)
 
-abbrev pub used_by : State → ℕ → (item amount : ℕ) → Option Unit → State
+abbrev pub used_by : CampaignValue → ℕ → (item amount : ℕ) → Option Unit → CampaignValue
 used_by c n i amount None = c
 used_by c n i amount (Some u) = with_amount (with_item c n u i (amount_of u.holding.items i - amount)) Used (Item i) (neg_ℤ (pos amount))
 
-abbrev pub made_to : State → ℕ → (item amount : ℕ) → Option Unit → State
+abbrev pub made_to : CampaignValue → ℕ → (item amount : ℕ) → Option Unit → CampaignValue
 made_to c n i amount None = c
 made_to c n i amount (Some u) = with_amount (with_item c n u i (amount_of u.holding.items i + amount)) Made (Item i) (pos amount)
 
 -- a unit, by its number, uses so much of an item, and makes so much of one; both is booked
-abbrev pub with_used : State → ℕ → (item amount : ℕ) → State
+abbrev pub with_used : CampaignValue → ℕ → (item amount : ℕ) → CampaignValue
 with_used c n i amount = used_by c n i amount (get c.units n)
 
-abbrev pub with_made : State → ℕ → (item amount : ℕ) → State
+abbrev pub with_made : CampaignValue → ℕ → (item amount : ℕ) → CampaignValue
 with_made c n i amount = made_to c n i amount (get c.units n)
 
 -- ---- a unit, by its number, can use and make so much of an item: it is there, holds enough or has room, and so have the books
-pub record CanUse (w : Planet) (c : State) (n i amount : ℕ) : Type 0 where
+pub record CanUse (w : WorldValue) (c : CampaignValue) (n i amount : ℕ) : Type 0 where
   pub unit : Unit
   pub there : get c.units n ≡ Some unit
   pub known : i < length w.items
@@ -41,7 +41,7 @@ pub record CanUse (w : Planet) (c : State) (n i amount : ℕ) : Type 0 where
   pub steady : IsSteady w c
   pub room : HasRoom amount (amount_in c.books Used (Item i))
 
-pub record CanMake (w : Planet) (c : State) (n i amount : ℕ) : Type 0 where
+pub record CanMake (w : WorldValue) (c : CampaignValue) (n i amount : ℕ) : Type 0 where
   pub unit : Unit
   pub there : get c.units n ≡ Some unit
   pub known : i < length w.items

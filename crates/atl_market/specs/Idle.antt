@@ -5,18 +5,18 @@ use Rattle.std.specs.Ordering.{nat_cmp}
 use Rattle.std.specs.FinMap.{FinMap, empty, entries, get}
 use Rattle.atl_orders.specs.declared.verb.Verb.TheVariants as verbs
 use Rattle.atl_state.specs.declared.records.Unit.{Unit}
-use Rattle.atl_state.specs.State.{State}
+use Rattle.atl_state.specs.Campaign.{CampaignValue}
 use Rattle.atl_instant.specs.Steps.{is_of_faction}
 use Rattle.atl_instant.specs.declared.written.Written.{Written}
 use Rattle.atl_market.specs.Puts.{with_each}
 use Rattle.atl_market.specs.Work.{is_work}
 
 -- the unit of an order that its own faction wrote
-abbrev pub own_unit : State → Written → List (ℕ × ℕ)
+abbrev pub own_unit : CampaignValue → Written → List (ℕ × ℕ)
 own_unit c o = if is_of_faction o.faction (get c.units o.unit) then (o.unit, o.faction) ∷ [] else []
 
 -- by unit, the faction that wrote an order for a unit of its own
-abbrev pub own_writers : State → List Written → FinMap nat_cmp ℕ
+abbrev pub own_writers : CampaignValue → List Written → FinMap nat_cmp ℕ
 own_writers c os = with_each empty (flat_map (own_unit c) os)
 
 abbrev pub idle_written : FinMap nat_cmp ℕ → ℕ × Unit → List Written
@@ -25,10 +25,10 @@ idle_written writers (n, u) =
     then record { unit = n; line = 0; faction = u.faction; verb = verbs.Work; place = 0 } ∷ []
     else []
 
-abbrev pub all_idle : State → List Written → List Written
+abbrev pub all_idle : CampaignValue → List Written → List Written
 all_idle c os = flat_map (idle_written (own_writers c os)) (entries c.units)
 
-abbrev pub all_written : State → List Written → List Written
+abbrev pub all_written : CampaignValue → List Written → List Written
 all_written c os = filter (λ o. is_work o.verb) os ++ all_idle c os
 
 -- by unit, line, faction and place

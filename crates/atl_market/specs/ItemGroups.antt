@@ -4,7 +4,7 @@ use Rattle.std.specs.List.{flat_map, fold, zip}
 use Rattle.std.specs.Ordering.{nat_cmp}
 use Rattle.std.specs.FinMap.{FinMap, empty, entries, get, insert, keys}
 use Rattle.atl_tables.specs.Groups.{group_of}
-use Rattle.atl_state.specs.State.{State, numbers_in}
+use Rattle.atl_state.specs.Campaign.{CampaignValue, numbers_in}
 use Rattle.atl_market.specs.Pots.{want_of}
 use Rattle.atl_market.specs.Share.{shares}
 
@@ -25,6 +25,6 @@ item_shares_in pot_of wants region group =
     zip (keys group.1) (shares (pot_of group.0 region) (map (want_of wants) (keys group.1)))
 
 -- and those of all items in a region
-abbrev pub region_shares : (ℕ → Option ℕ) → (pot_of : ℕ → ℕ → ℕ) → FinMap nat_cmp ℕ → State → (region : ℕ) → List (ℕ × ℕ)
+abbrev pub region_shares : (ℕ → Option ℕ) → (pot_of : ℕ → ℕ → ℕ) → FinMap nat_cmp ℕ → CampaignValue → (region : ℕ) → List (ℕ × ℕ)
 region_shares item_of pot_of wants c region =
     flat_map (item_shares_in pot_of wants region) (entries (fold (with_want item_of wants) empty (numbers_in region c.units)))

@@ -2,7 +2,7 @@
 use Rattle.std.specs.Prelude.{◌==◌, ℕ, Bool, false, Option, Some, None}
 use Rattle.std.specs.Ordering.{nat_cmp}
 use Rattle.std.specs.FinMap.{FinMap, retain_keys}
-use Rattle.atl_state.specs.State.{State}
+use Rattle.atl_state.specs.Campaign.{CampaignValue}
 use Rattle.atl_market.specs.Pots.{share_of}
 
 abbrev pub is_for : ℕ → Option ℕ → Bool
@@ -14,7 +14,7 @@ module _ (item_of : ℕ → Option ℕ) where
   abbrev pub wants_for : FinMap nat_cmp ℕ → (item : ℕ) → FinMap nat_cmp ℕ
   wants_for wants item = retain_keys wants (λ number. is_for item (item_of number))
 
-  module _ (pot_of : (item region : ℕ) → ℕ) (wants : FinMap nat_cmp ℕ) (c : State) where
+  module _ (pot_of : (item region : ℕ) → ℕ) (wants : FinMap nat_cmp ℕ) (c : CampaignValue) where
     abbrev pub share_for : ℕ → Option ℕ → Option ℕ
     share_for number None = None
     share_for number (Some item) = share_of (pot_of item) (wants_for wants item) c number

@@ -3,32 +3,32 @@ use Rattle.std.specs.Prelude.{◌≡◌, ◌≤◌, ◌<◌, ◌+◌, ◌*◌, �
 use Rattle.std.specs.List.{slice_get}
 use Rattle.std.specs.Ordering.{nat_cmp}
 use Rattle.std.specs.FinMap.{FinMap, get}
-use Rattle.atl_tables.specs.Planet.{Planet}
+use Rattle.atl_tables.specs.Worlds.{WorldValue}
 use Rattle.atl_tables.specs.declared.world.Item.{Item}
 use Rattle.atl_state.specs.declared.records.Unit.{Unit}
 use Rattle.atl_state.specs.Good.{IsSteady}
 use Rattle.atl_state.specs.Held.{amount_of}
 use Rattle.atl_state.specs.Limits.{holding_limit}
-use Rattle.atl_state.specs.State.{State}
+use Rattle.atl_state.specs.Campaign.{CampaignValue}
 use Rattle.atl_instant.specs.Meaning.{HaveRoom}
 use Rattle.atl_market.specs.Produce.{produce_moves, with_raw_used}
 use Rattle.atl_market.specs.Goods.{CanMake, CanUse}
 
 -- it can use the raw items of so many, and make them then
-pub record CanMakeOf (w : Planet) (c : State) (n made i : ℕ) (x : Item) : Type 0 where
+pub record CanMakeOf (w : WorldValue) (c : CampaignValue) (n made i : ℕ) (x : Item) : Type 0 where
   pub use_raw : (r : ℕ) → x.raw ≡ Some r → CanUse w c n r (made * x.raw_count)
   pub few_raw : (r : ℕ) → x.raw ≡ Some r → made * x.raw_count ≤ holding_limit
   pub make : CanMake w (with_raw_used c n (made * x.raw_count) x.raw) n i made
 
 -- it has room for so much of an item, and raw items for it
-pub record Fits (w : Planet) (u : Unit) (made i : ℕ) (x : Item) : Type 0 where
+pub record Fits (w : WorldValue) (u : Unit) (made i : ℕ) (x : Item) : Type 0 where
   pub known : i < length w.items
   pub fits : amount_of u.holding.items i + made ≤ holding_limit
   pub raw_known : (r : ℕ) → x.raw ≡ Some r → r < length w.items
   pub raw : (r : ℕ) → x.raw ≡ Some r → made * x.raw_count ≤ amount_of u.holding.items r
 
 -- A unit is there and has room and raw items for so much of its item, and no amount of the books moves by more than a holding in a step.
-pub record CanProduce (asked : FinMap nat_cmp ℕ) (w : Planet) (c : State) (e : ℕ × ℕ) : Type 0 where
+pub record CanProduce (asked : FinMap nat_cmp ℕ) (w : WorldValue) (c : CampaignValue) (e : ℕ × ℕ) : Type 0 where
   pub unit : Unit
   pub there : get c.units e.0 ≡ Some unit
   pub fits : (i : ℕ) (x : Item) → get asked e.0 ≡ Some i → slice_get w.items i ≡ Some x → Fits w unit e.1 i x

@@ -3,11 +3,11 @@ use Rattle.std.specs.Prelude.{◌+◌, ◌-◌, ◌*◌, ℕ, List, Option, Some
 use Rattle.std.specs.List.{slice_get}
 use Rattle.std.specs.Ordering.{nat_cmp}
 use Rattle.std.specs.FinMap.{FinMap, get}
-use Rattle.atl_tables.specs.Planet.{Planet}
+use Rattle.atl_tables.specs.Worlds.{WorldValue}
 use Rattle.atl_tables.specs.declared.world.Item.{Item}
 use Rattle.atl_state.specs.declared.records.Unit.{Unit}
 use Rattle.atl_state.specs.Held.{Held, amount_of, with_amount_of}
-use Rattle.atl_state.specs.State.{State}
+use Rattle.atl_state.specs.Campaign.{CampaignValue}
 use Rattle.atl_instant.specs.declared.written.Written.{Written}
 use Rattle.atl_market.specs.AtOnce.{Gets, Gives, PaysAtOnce, stays}
 use Rattle.atl_market.specs.Produce.{produce_pots}
@@ -24,9 +24,9 @@ with_less_money q taken = record q { money = q.money - taken }
 
 -- TAX: a unit has its share more, and a region all that its units took less
 abbrev pub TaxesAtOnce : Type 0
-TaxesAtOnce = (w : Planet) (c : State) (os : List Written) → PaysAtOnce tax_pots w (λ n. with_more_money) with_less_money c os
+TaxesAtOnce = (w : WorldValue) (c : CampaignValue) (os : List Written) → PaysAtOnce tax_pots w (λ n. with_more_money) with_less_money c os
 
-abbrev pub with_recruits : Planet → Gets
+abbrev pub with_recruits : WorldValue → Gets
 with_recruits w u recruits = record u { holding = with_men u.holding recruits (recruits * w.rules.recruit_price) }
 
 abbrev pub with_less_peasants : Gives
@@ -35,7 +35,7 @@ with_less_peasants q joined = record q { peasants = q.peasants - joined }
 -- RECRUIT: a unit has its recruits more and their price less, and a region all that joined its units less
 abbrev pub RecruitsAtOnce : Type 0
 RecruitsAtOnce =
-    (asked : FinMap nat_cmp ℕ) (w : Planet) (c : State) (os : List Written)
+    (asked : FinMap nat_cmp ℕ) (w : WorldValue) (c : CampaignValue) (os : List Written)
     → PaysAtOnce (recruit_pots asked) w (λ n. with_recruits w) with_less_peasants c os
 
 abbrev pub with_less : Held → Option ℕ → (amount : ℕ) → Held
@@ -49,18 +49,18 @@ abbrev pub maker_of : Unit → (item made : ℕ) → Option Item → Unit
 maker_of u item made None = u
 maker_of u item made (Some x) = record u { holding = with_more (with_less u.holding x.raw (made * x.raw_count)) item made }
 
-abbrev pub maker_by : Planet → Unit → (made : ℕ) → Option ℕ → Unit
+abbrev pub maker_by : WorldValue → Unit → (made : ℕ) → Option ℕ → Unit
 maker_by w u made None = u
 maker_by w u made (Some item) = maker_of u item made (slice_get w.items item)
 
 -- PRODUCE: a unit has so much more of its item, and as much less of the raw item as goes into it
 abbrev pub ProducesAtOnce : Type 0
 ProducesAtOnce =
-    (asked : FinMap nat_cmp ℕ) (w : Planet) (c : State) (os : List Written)
+    (asked : FinMap nat_cmp ℕ) (w : WorldValue) (c : CampaignValue) (os : List Written)
     → PaysAtOnce (produce_pots asked) w (λ n u made. maker_by w u made (get asked n)) stays c os
 
 -- WORK: a unit has the wages of its places more
 abbrev pub WorksAtOnce : Type 0
 WorksAtOnce =
-    (w : Planet) (c : State) (os : List Written)
+    (w : WorldValue) (c : CampaignValue) (os : List Written)
     → PaysAtOnce work_pots w (λ n u places. with_more_money u (earned w u.region places)) stays c os

@@ -1,32 +1,32 @@
 -- For proofs alone: when a share of a pot can be paid.
 use Rattle.std.specs.Prelude.{◌≡◌, ◌≤◌, ◌+◌, ◌*◌, ℕ, Some}
 use Rattle.std.specs.FinMap.{get}
-use Rattle.atl_tables.specs.Planet.{Planet}
+use Rattle.atl_tables.specs.Worlds.{WorldValue}
 use Rattle.atl_state.specs.declared.records.Region.{Region}
 use Rattle.atl_state.specs.declared.records.Unit.{Unit}
 use Rattle.atl_state.specs.Good.{IsEarly, IsSteady}
 use Rattle.atl_state.specs.Limits.{holding_limit, men_limit}
-use Rattle.atl_state.specs.State.{State}
+use Rattle.atl_state.specs.Campaign.{CampaignValue}
 use Rattle.atl_instant.specs.Meaning.{HaveRoom}
 use Rattle.atl_market.specs.Recruit.{recruit_moves}
 use Rattle.atl_market.specs.Work.{earned, work_moves}
 
 -- a unit, by its number, is there, and so is its region
-pub record IsSomewhere (c : State) (n : ℕ) : Type 0 where
+pub record IsSomewhere (c : CampaignValue) (n : ℕ) : Type 0 where
   pub unit : Unit
   pub there : get c.units n ≡ Some unit
   pub region : Region
   pub around : get c.regions unit.region ≡ Some region
 
 -- a unit, by its number, can take so much: it has room for it, and its region has it
-pub record CanTax (w : Planet) (c : State) (e : ℕ × ℕ) : Type 0 where
+pub record CanTax (w : WorldValue) (c : CampaignValue) (e : ℕ × ℕ) : Type 0 where
   pub at : IsSomewhere c e.0
   pub fits : at.unit.holding.money + e.1 ≤ holding_limit
   pub enough : e.1 ≤ at.region.money
   pub early : IsEarly w c
 
 -- a unit, by its number, can get so many recruits: it can pay for them and has room for them, and its region and the books have
-pub record CanRecruit (w : Planet) (c : State) (e : ℕ × ℕ) : Type 0 where
+pub record CanRecruit (w : WorldValue) (c : CampaignValue) (e : ℕ × ℕ) : Type 0 where
   pub at : IsSomewhere c e.0
   pub fits : at.unit.holding.men + e.1 ≤ men_limit
   pub payable : e.1 * w.rules.recruit_price ≤ at.unit.holding.money
@@ -35,7 +35,7 @@ pub record CanRecruit (w : Planet) (c : State) (e : ℕ × ℕ) : Type 0 where
   pub room : HaveRoom (recruit_moves holding_limit) c
 
 -- a unit, by its number, can get so many places: it is there, and has room for the wages, as the books have
-pub record CanWork (w : Planet) (c : State) (e : ℕ × ℕ) : Type 0 where
+pub record CanWork (w : WorldValue) (c : CampaignValue) (e : ℕ × ℕ) : Type 0 where
   pub unit : Unit
   pub there : get c.units e.0 ≡ Some unit
   pub fits : unit.holding.money + earned w unit.region e.1 ≤ holding_limit

@@ -4,7 +4,7 @@ use Rattle.std.specs.Prelude.{⊤, ℕ, ◌==◌, ◌++◌, List, [], ◌∷◌,
 use Rattle.std.specs.List.{flat_map, fold}
 use Rattle.std.specs.Ordering.{nat_cmp}
 use Rattle.std.specs.FinMap.{FinMap, entries, from_entries, get}
-use Rattle.atl_tables.specs.Planet.{Planet}
+use Rattle.atl_tables.specs.Worlds.{WorldValue}
 use Rattle.atl_state.specs.declared.event.Event.{Event}
 use Rattle.atl_state.specs.declared.event.EventFault.{EventFault}
 use Rattle.atl_state.specs.declared.event.EventFault.TheVariants.{NotYours}
@@ -13,24 +13,24 @@ use Rattle.atl_state.specs.declared.event.Outcome.{Outcome}
 use Rattle.atl_state.specs.declared.event.Outcome.TheVariants.{Done, Fault}
 use Rattle.atl_state.specs.declared.records.Unit.{Unit}
 use Rattle.atl_state.specs.Events.{event_fault_number}
-use Rattle.atl_state.specs.State.{State}
-use Rattle.atl_instant.specs.Course.{Course}
+use Rattle.atl_state.specs.Campaign.{CampaignValue}
+use Rattle.atl_instant.specs.Month.{MonthValue}
 use Rattle.atl_instant.specs.declared.written.Written.{Written}
 use Rattle.atl_instant.specs.Meaning.{Meaning}
 
 pub record PotMeaning : Type 0 where
   -- why a unit doesn't carry out an order of its own faction
-  pub fault : Planet → Unit → Written → Option EventFault
+  pub fault : WorldValue → Unit → Written → Option EventFault
   -- how much of the pot of its region a unit wants by an order
-  pub want : Planet → Unit → Written → ℕ
+  pub want : WorldValue → Unit → Written → ℕ
   -- what the units get by what they want
-  pub given : Planet → State → FinMap nat_cmp ℕ → FinMap nat_cmp ℕ
+  pub given : WorldValue → CampaignValue → FinMap nat_cmp ℕ → FinMap nat_cmp ℕ
   -- what a unit that got so much of the pot is told
-  pub told : Planet → Unit → ℕ → ℕ
+  pub told : WorldValue → Unit → ℕ → ℕ
   -- a unit, by its number, gets so much of the pot of its region
-  pub paid : Planet → State → ℕ × ℕ → State
+  pub paid : WorldValue → CampaignValue → ℕ × ℕ → CampaignValue
 
-module _ (p : PotMeaning) (w : Planet) (c : State) where
+module _ (p : PotMeaning) (w : WorldValue) (c : CampaignValue) where
   -- ---- who takes part
 
   abbrev pub fault_at : Written → Option Unit → Option EventFault
@@ -59,7 +59,7 @@ module _ (p : PotMeaning) (w : Planet) (c : State) where
   given_by os = p.given w c (wants_by os)
 
   -- the campaign in which each has got it
-  unfoldable pub shared_out : List Written → State
+  unfoldable pub shared_out : List Written → CampaignValue
   shared_out os = fold (p.paid w) c (entries (given_by os))
 
   -- ---- what is told
@@ -84,10 +84,10 @@ module _ (p : PotMeaning) (w : Planet) (c : State) where
   events_by os = map (event_of (given_by os)) os
 
 -- what a phase makes of a campaign and of what the month carries, by what it is there, with the orders that it finds
-abbrev pub pots_meaning : (State → Course → PotMeaning) → (State → Course → List Written) → Meaning
+abbrev pub pots_meaning : (CampaignValue → MonthValue → PotMeaning) → (CampaignValue → MonthValue → List Written) → Meaning
 pots_meaning p orders w c m = (shared_out (p c m) w c (orders c m), record m { events = m.events ++ events_by (p c m) w c (orders c m) })
 
 -- ---- steps in turn, each of which can be taken when its turn comes
-abbrev pub CanInTurn : {X : Type 0} → (State → X → Type 0) → (State → X → State) → State → List X → Type 0
+abbrev pub CanInTurn : {X : Type 0} → (CampaignValue → X → Type 0) → (CampaignValue → X → CampaignValue) → CampaignValue → List X → Type 0
 CanInTurn can step c [] = ⊤
 CanInTurn can step c (x ∷ xs) = can c x × CanInTurn can step (step c x) xs

@@ -5,7 +5,7 @@ use Rattle.std.specs.Ordering.{nat_cmp}
 use Rattle.std.specs.FinMap.{FinMap, get, keys, from_entries}
 use Rattle.atl_tables.specs.Limits.{most_amount}
 use Rattle.atl_state.specs.Good.{Every, IsThere}
-use Rattle.atl_state.specs.State.{State, numbers_in}
+use Rattle.atl_state.specs.Campaign.{CampaignValue, numbers_in}
 use Rattle.atl_state.specs.declared.records.Unit.{Unit}
 use Rattle.atl_market.specs.Share.{shares}
 
@@ -34,12 +34,12 @@ abbrev pub shares_in : (ℕ → ℕ) → FinMap nat_cmp ℕ → FinMap nat_cmp U
 shares_in pot_of wants units region = zip (takers_in wants units region) (shares (pot_of region) (wants_in wants units region))
 
 -- by unit, what it gets of the pot of its region
-unfoldable pub pot_shares : (ℕ → ℕ) → FinMap nat_cmp ℕ → State → FinMap nat_cmp ℕ
+unfoldable pub pot_shares : (ℕ → ℕ) → FinMap nat_cmp ℕ → CampaignValue → FinMap nat_cmp ℕ
 pot_shares pot_of wants c = from_entries (flat_map (shares_in pot_of wants c.units) (keys c.regions))
 
 -- ---- laws
 
-module _ (pot_of : ℕ → ℕ) (wants : FinMap nat_cmp ℕ) (c : State) where
+module _ (pot_of : ℕ → ℕ) (wants : FinMap nat_cmp ℕ) (c : CampaignValue) where
   -- what a unit gets
   abbrev pub share_of : ℕ → Option ℕ
   share_of number = get (pot_shares pot_of wants c) number
@@ -51,7 +51,7 @@ module _ (pot_of : ℕ → ℕ) (wants : FinMap nat_cmp ℕ) (c : State) where
 -- who gets something wants that much at least, and stands in a region of the campaign
 abbrev pub OnlyTakersGet : Type 0
 OnlyTakersGet =
-    (pot_of : ℕ → ℕ) (wants : FinMap nat_cmp ℕ) (c : State) (number share : ℕ)
+    (pot_of : ℕ → ℕ) (wants : FinMap nat_cmp ℕ) (c : CampaignValue) (number share : ℕ)
     → share_of pot_of wants c number ≡ Some share
     → (want : ℕ) × (u : Unit)
     × (get wants number ≡ Some want)
@@ -62,7 +62,7 @@ OnlyTakersGet =
 -- who has a want and stands in a region of the campaign gets a share, at most its want
 abbrev pub EachTakerGets : Type 0
 EachTakerGets =
-    (pot_of : ℕ → ℕ) (wants : FinMap nat_cmp ℕ) (c : State) (number want : ℕ) (u : Unit)
+    (pot_of : ℕ → ℕ) (wants : FinMap nat_cmp ℕ) (c : CampaignValue) (number want : ℕ) (u : Unit)
     → get wants number ≡ Some want
     → get c.units number ≡ Some u
     → IsThere c.regions u.region
@@ -71,21 +71,21 @@ EachTakerGets =
 -- the takers of a region get the shares of its pot, in unit order
 abbrev pub SharesEachPot : Type 0
 SharesEachPot =
-    (pot_of : ℕ → ℕ) (wants : FinMap nat_cmp ℕ) (c : State) (region : ℕ)
+    (pot_of : ℕ → ℕ) (wants : FinMap nat_cmp ℕ) (c : CampaignValue) (region : ℕ)
     → IsThere c.regions region
     → map (share_of pot_of wants c) (takers_in wants c.units region) ≡ map Some (shares (pot_of region) (wants_in wants c.units region))
 
 -- together they get the pot, or what they want where that is less
 abbrev pub GivesEachPot : Type 0
 GivesEachPot =
-    (pot_of : ℕ → ℕ) (wants : FinMap nat_cmp ℕ) (c : State) (region : ℕ)
+    (pot_of : ℕ → ℕ) (wants : FinMap nat_cmp ℕ) (c : CampaignValue) (region : ℕ)
     → IsThere c.regions region
     → sum (map (amount_given pot_of wants c) (takers_in wants c.units region)) ≡ min (pot_of region) (sum (wants_in wants c.units region))
 
 -- nothing but a region's pot, takers and wants counts there
 abbrev pub OtherRegionsDoNotCount : Type 0
 OtherRegionsDoNotCount =
-    (pot_of other_pots : ℕ → ℕ) (wants other_wants : FinMap nat_cmp ℕ) (c other : State) (region : ℕ)
+    (pot_of other_pots : ℕ → ℕ) (wants other_wants : FinMap nat_cmp ℕ) (c other : CampaignValue) (region : ℕ)
     → IsThere c.regions region
     → IsThere other.regions region
     → pot_of region ≡ other_pots region

@@ -3,13 +3,13 @@ use Rattle.std.specs.Prelude.{◌*◌, ℕ, Bool, true, false, Option, Some, Non
 use Rattle.std.specs.List.{slice_get}
 use Rattle.std.specs.Ordering.{nat_cmp}
 use Rattle.std.specs.FinMap.{FinMap, get}
-use Rattle.atl_tables.specs.Planet.{Planet}
+use Rattle.atl_tables.specs.Worlds.{WorldValue}
 use Rattle.atl_tables.specs.declared.world.Item.{Item}
 use Rattle.atl_orders.specs.declared.verb.Verb.{Verb}
 use Rattle.atl_orders.specs.declared.verb.Verb.TheVariants as verbs
 use Rattle.atl_state.specs.declared.books.Entry.TheVariants.{Made, Used}
 use Rattle.atl_state.specs.declared.books.Thing.TheVariants as things
-use Rattle.atl_state.specs.State.{State}
+use Rattle.atl_state.specs.Campaign.{CampaignValue}
 use Rattle.atl_instant.specs.Meaning.{Keeping, Meaning, Moving, most_moved}
 use Rattle.atl_market.specs.Asking.{asked_meaning, item_in}
 use Rattle.atl_market.specs.PotPhase.{PotMeaning}
@@ -26,20 +26,20 @@ is_produce verb = false
 -- ---- what changes
 
 -- so much of the raw item is used, where one is named
-abbrev pub with_raw_used : State → ℕ → (amount : ℕ) → Option ℕ → State
+abbrev pub with_raw_used : CampaignValue → ℕ → (amount : ℕ) → Option ℕ → CampaignValue
 with_raw_used c n amount None = c
 with_raw_used c n amount (Some raw) = with_used c n raw amount
 
-abbrev pub produced_of : State → ℕ × ℕ → ℕ → Option Item → State
+abbrev pub produced_of : CampaignValue → ℕ × ℕ → ℕ → Option Item → CampaignValue
 produced_of c e i None = c
 produced_of c e i (Some x) = with_made (with_raw_used c e.0 (e.1 * x.raw_count) x.raw) e.0 i e.1
 
-abbrev pub produced_by : Planet → State → ℕ × ℕ → Option ℕ → State
+abbrev pub produced_by : WorldValue → CampaignValue → ℕ × ℕ → Option ℕ → CampaignValue
 produced_by w c e None = c
 produced_by w c e (Some i) = produced_of c e i (slice_get w.items i)
 
 -- a unit, by its number, makes so much of its item
-unfoldable pub produced : FinMap nat_cmp ℕ → Planet → State → ℕ × ℕ → State
+unfoldable pub produced : FinMap nat_cmp ℕ → WorldValue → CampaignValue → ℕ × ℕ → CampaignValue
 produced asked w c e = produced_by w c e (get asked e.0)
 
 -- By the item that each unit is told to make. A unit is told how much it made.

@@ -4,7 +4,7 @@ use Rattle.std.specs.List.{list_any}
 use Rattle.std.specs.FinMap.{get}
 use Rattle.atl_state.specs.declared.records.Unit.{Unit}
 use Rattle.atl_state.specs.Good.{Every}
-use Rattle.atl_state.specs.State.{State}
+use Rattle.atl_state.specs.Campaign.{CampaignValue}
 use Rattle.atl_orders.specs.declared.verb.Verb.{Verb}
 use Rattle.atl_instant.specs.Meaning.{Keeping}
 use Rattle.atl_instant.specs.PhaseOrders.{written_by_unit}
@@ -16,7 +16,7 @@ abbrev pub is_ordered : List Written → ℕ → Unit → Bool
 is_ordered os n u = list_any (λ o. o.unit == n && o.faction == u.faction) os
 
 -- each unit without one is still there, and no worse off
-abbrev pub OthersAreNoWorse : List Written → State → State → Type 0
+abbrev pub OthersAreNoWorse : List Written → CampaignValue → CampaignValue → Type 0
 OthersAreNoWorse os before after = Every (λ n u. is_ordered os n u ≡ false → (v : Unit) × (get after.units n ≡ Some v) × IsNoWorse u v) before.units
 
 -- a phase that takes nothing from a unit for which its own faction wrote no order of it

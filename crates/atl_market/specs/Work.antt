@@ -5,7 +5,7 @@ use Rattle.std.specs.Option.{option_map_or}
 use Rattle.std.specs.Ordering.{nat_cmp}
 use Rattle.std.specs.Cmp.Lexicographic.{slice_cmp}
 use Rattle.std.specs.FinMap.{entries, from_entries, get, values}
-use Rattle.atl_tables.specs.Planet.{Planet}
+use Rattle.atl_tables.specs.Worlds.{WorldValue}
 use Rattle.atl_tables.specs.declared.world.Terrain.{Terrain}
 use Rattle.atl_tables.specs.ByNumber.{terrain_of}
 use Rattle.atl_orders.specs.declared.order.Order.TheVariants as orders
@@ -18,8 +18,8 @@ use Rattle.atl_state.specs.declared.event.EventFault.{EventFault}
 use Rattle.atl_state.specs.declared.event.EventFault.TheVariants.{NoMen}
 use Rattle.atl_state.specs.declared.records.Unit.{Unit}
 use Rattle.atl_state.specs.Limits.{holding_limit}
-use Rattle.atl_state.specs.State.{State, with_amount, with_money}
-use Rattle.atl_instant.specs.Course.{Course}
+use Rattle.atl_state.specs.Campaign.{CampaignValue, with_amount, with_money}
+use Rattle.atl_instant.specs.Month.{MonthValue}
 use Rattle.atl_instant.specs.Meaning.{Meaning, Moving, moves_only}
 use Rattle.atl_instant.specs.PhaseOrders.{Task, is_month_long, key_of, orders_by_unit, written}
 use Rattle.atl_instant.specs.Staying.{spares_all}
@@ -41,26 +41,26 @@ idle_task unit faction = record { faction = faction; unit = unit; line = 0; plac
 abbrev pub idle_at : List Task → ℕ × Unit → List Task
 idle_at ts (n, u) = if nat_lt 0 u.holding.men && not (is_ordered (map written ts) n u) then idle_task n u.faction ∷ [] else []
 
-abbrev pub idle_work : State → List Task → List Task
+abbrev pub idle_work : CampaignValue → List Task → List Task
 idle_work c ts = flat_map (idle_at ts) (entries c.units)
 
 abbrev pub is_work : Verb → Bool
 is_work verbs.Work = true
 is_work verb = false
 
-abbrev pub all_work : State → List Task → List Task
+abbrev pub all_work : CampaignValue → List Task → List Task
 all_work c ts = filter (λ t. is_work (verb_of_order t.said)) ts ++ idle_work c ts
 
 -- The orders of WORK, in the order of their keys: those that are written, and the work of those who have none.
-unfoldable pub work_orders : State → Course → List Written
+unfoldable pub work_orders : CampaignValue → MonthValue → List Written
 work_orders c m = map written (values (from_entries {R = slice_cmp nat_cmp} (map (λ t. (key_of ByUnit t, t)) (all_work c (orders_by_unit is_month_long m)))))
 
 -- ---- what they earn
 
-abbrev pub wage_at : Planet → ℕ → ℕ
+abbrev pub wage_at : WorldValue → ℕ → ℕ
 wage_at w region = option_map_or (λ t. t.wage) (terrain_of w region) 0
 
-abbrev pub places_at : Planet → ℕ → ℕ
+abbrev pub places_at : WorldValue → ℕ → ℕ
 places_at w region = option_map_or (λ t. t.places) (terrain_of w region) 0
 
 abbrev pub places_wanted : Unit → Option Terrain → ℕ
@@ -68,19 +68,19 @@ places_wanted u None = 0
 places_wanted u (Some t) = min u.holding.men ((holding_limit - u.holding.money) / t.wage)
 
 -- what so many places in a region pay
-abbrev pub earned : Planet → ℕ → ℕ → ℕ
+abbrev pub earned : WorldValue → ℕ → ℕ → ℕ
 earned w region places = places * wage_at w region
 
 -- a unit that held so much, with its wages, which are booked
-abbrev pub with_wages : State → ℕ → (held money : ℕ) → State
+abbrev pub with_wages : CampaignValue → ℕ → (held money : ℕ) → CampaignValue
 with_wages c n held money = with_amount (with_money c n (held + money)) Wages Money (pos money)
 
-abbrev pub worked_by : Planet → State → ℕ × ℕ → Option Unit → State
+abbrev pub worked_by : WorldValue → CampaignValue → ℕ × ℕ → Option Unit → CampaignValue
 worked_by w c e None = c
 worked_by w c e (Some u) = with_wages c e.0 u.holding.money (earned w u.region e.1)
 
 -- a unit that got so many places, by its number, is paid its wages
-unfoldable pub worked : Planet → State → ℕ × ℕ → State
+unfoldable pub worked : WorldValue → CampaignValue → ℕ × ℕ → CampaignValue
 worked w c e = worked_by w c e (get c.units e.0)
 
 abbrev pub work_fault : Unit → Option EventFault

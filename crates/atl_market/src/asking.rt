@@ -1,6 +1,6 @@
 //! How the orders of a month are searched for what they ask for: the item that one names, or the number.
 ghost use Rattle.std.specs.Prelude.{◌≡◌, IfOk, OnOk};
-ghost use Rattle.atl_instant.specs.Course.{order_at};
+ghost use Rattle.atl_instant.specs.Month.{order_at};
 ghost use Rattle.atl_market.specs.Asking.{count_in, item_in};
 ghost use Rattle.atl_market.specs.Finding.{found_by, found_in, found_of};
 ghost use Rattle.atl_market.specs.Puts.{with_each};
@@ -38,7 +38,7 @@ fn note_count(
     order: Written,
     asked: &mut Numbered<u32>,
 ) -> Result<(), AllocError>
-    ensures { OnOk result (asked.new ≡ with_each asked.old (found_by count_in month.now.readings campaign.now.what order)) }
+    ensures { OnOk result (asked.new ≡ with_each asked.old (found_by count_in month.now.readings campaign.now.value order)) }
 {
     if is_of_faction(campaign, order.unit, order.faction)
         && let Some(count) = count_named(month, order)
@@ -55,7 +55,7 @@ fn note_item(
     order: Written,
     asked: &mut Numbered<u16>,
 ) -> Result<(), AllocError>
-    ensures { OnOk result (asked.new ≡ with_each asked.old (found_by item_in month.now.readings campaign.now.what order)) }
+    ensures { OnOk result (asked.new ≡ with_each asked.old (found_by item_in month.now.readings campaign.now.value order)) }
 {
     if is_of_faction(campaign, order.unit, order.faction)
         && let Some(item) = item_named(month, order)
@@ -73,7 +73,7 @@ pub(crate) fn counts_found(
     month: &Month,
     orders: &[Written],
 ) -> Result<Numbered<u32>, AllocError>
-    ensures { IfOk result (λ asked. asked ≡ found_of count_in month.now.readings campaign.now.what orders.now) }
+    ensures { IfOk result (λ asked. asked ≡ found_of count_in month.now.readings campaign.now.value orders.now) }
 {
     let mut asked = Numbered::new(alloc);
     for order in orders {
@@ -90,7 +90,7 @@ pub(crate) fn items_found(
     month: &Month,
     orders: &[Written],
 ) -> Result<Numbered<u16>, AllocError>
-    ensures { IfOk result (λ asked. asked ≡ found_of item_in month.now.readings campaign.now.what orders.now) }
+    ensures { IfOk result (λ asked. asked ≡ found_of item_in month.now.readings campaign.now.value orders.now) }
 {
     let mut asked = Numbered::new(alloc);
     for order in orders {

@@ -47,16 +47,16 @@ fn size_added(kind: &Kind, holding: &Holding, done: u32) -> u32
 /// Whether no further structure can come: the structures are numbered from 1 without a gap, so that the next number tells
 /// how many stand.
 fn is_structure_limit(campaign: &Campaign) -> bool
-    requires { IsNumbered campaign.now.what.structures campaign.now.what.next_structure }
-    ensures { result ≡ is_structure_limit campaign.now.what }
+    requires { IsNumbered campaign.now.value.structures campaign.now.value.next_structure }
+    ensures { result ≡ is_structure_limit campaign.now.value }
 {
     campaign.next_structure() > MOST_STRUCTURES
 }
 
 /// Why a unit doesn't begin a structure of a kind.
 fn begin_fault(world: &World, campaign: &Campaign, unit: &Unit, kind: &Kind) -> Option<EventFault>
-    requires { IsNumbered campaign.now.what.structures campaign.now.what.next_structure }
-    ensures { result ≡ begin_fault world.now campaign.now.what unit.now kind.now }
+    requires { IsNumbered campaign.now.value.structures campaign.now.value.next_structure }
+    ensures { result ≡ begin_fault world.now campaign.now.value unit.now kind.now }
 {
     if unit.holding.men() == 0 {
         Some(EventFault::NoMen)
@@ -123,10 +123,10 @@ fn raise(
     region: u32,
     size: u32,
 ) -> Result<u32, AllocError>
-    requires fresh { map.get campaign.old.what.structures campaign.old.what.next_structure ≡ None }
-    requires room { campaign.old.what.next_structure ≤ most_structures }
-    ensures what { OnOk result (campaign.new.what ≡ with_new campaign.old.what number kind.now region size) }
-    ensures number { IfOk result (λ place. place ≡ campaign.old.what.next_structure) }
+    requires fresh { map.get campaign.old.value.structures campaign.old.value.next_structure ≡ None }
+    requires room { campaign.old.value.next_structure ≤ most_structures }
+    ensures what { OnOk result (campaign.new.value ≡ with_new campaign.old.value number kind.now region size) }
+    ensures number { IfOk result (λ place. place ≡ campaign.old.value.next_structure) }
     ensures marks { OnOk result (MarksChanges campaign.old campaign.new) }
 {
     let name = name_of(alloc, kind, campaign.next_structure())?;
@@ -150,10 +150,10 @@ fn start(
     region: u32,
     size: u32,
 ) -> Result<(), AllocError>
-    requires uses { CanUse world.now campaign.old.what unit kind.now.material size }
-    requires fresh { map.get campaign.old.what.structures campaign.old.what.next_structure ≡ None }
-    requires room { campaign.old.what.next_structure ≤ most_structures }
-    ensures what { OnOk result (campaign.new.what ≡ started campaign.old.what unit number kind.now region size) }
+    requires uses { CanUse world.now campaign.old.value unit kind.now.material size }
+    requires fresh { map.get campaign.old.value.structures campaign.old.value.next_structure ≡ None }
+    requires room { campaign.old.value.next_structure ≤ most_structures }
+    ensures what { OnOk result (campaign.new.value ≡ started campaign.old.value unit number kind.now region size) }
     ensures marks { OnOk result (MarksChanges campaign.old campaign.new) }
 {
     use_item(world, campaign, unit, kind.material, size)?;
@@ -173,9 +173,9 @@ fn begin(
     kind: &Kind,
 ) -> Result<Outcome, AllocError>
     requires kind { slice_get world.now.kinds number ≡ Some kind.now }
-    requires can { CanBuild world.now campaign.old.what }
-    requires room { HaveRoom (build_reserve campaign.old.what) campaign.old.what }
-    ensures what { IfOk result (λ outcome. (campaign.new.what, outcome) ≡ carried (begin world.now order.unit number kind.now) campaign.old.what order.faction order.unit) }
+    requires can { CanBuild world.now campaign.old.value }
+    requires room { HaveRoom (build_reserve campaign.old.value) campaign.old.value }
+    ensures what { IfOk result (λ outcome. (campaign.new.value, outcome) ≡ carried (begin world.now order.unit number kind.now) campaign.old.value order.faction order.unit) }
     ensures marks { OnOk result (MarksChanges campaign.old campaign.new) }
 {
     let Some(unit) = own_unit(campaign, order) else {
@@ -202,8 +202,8 @@ fn add(
     structure: u32,
     done: u32,
 ) -> Result<(), AllocError>
-    requires { CanUse world.now campaign.old.what unit material size }
-    ensures what { OnOk result (campaign.new.what ≡ gone_on campaign.old.what unit material size structure done) }
+    requires { CanUse world.now campaign.old.value unit material size }
+    ensures what { OnOk result (campaign.new.value ≡ gone_on campaign.old.value unit material size structure done) }
     ensures marks { OnOk result (MarksChanges campaign.old campaign.new) }
 {
     use_item(world, campaign, unit, material, size)?;
@@ -214,9 +214,9 @@ fn add(
 /// A unit goes on with the structure that it is inside, or nothing changes where a fault fits.
 #[tactic(auto, unfolding(crate::specs::Build::go_on))]
 fn go_on(world: &World, campaign: &mut Campaign, order: Written) -> Result<Outcome, AllocError>
-    requires can { CanBuild world.now campaign.old.what }
-    requires room { HaveRoom (build_reserve campaign.old.what) campaign.old.what }
-    ensures what { IfOk result (λ outcome. (campaign.new.what, outcome) ≡ carried (go_on world.now order.unit) campaign.old.what order.faction order.unit) }
+    requires can { CanBuild world.now campaign.old.value }
+    requires room { HaveRoom (build_reserve campaign.old.value) campaign.old.value }
+    ensures what { IfOk result (λ outcome. (campaign.new.value, outcome) ≡ carried (go_on world.now order.unit) campaign.old.value order.faction order.unit) }
     ensures marks { OnOk result (MarksChanges campaign.old campaign.new) }
 {
     let Some(unit) = own_unit(campaign, order) else {

@@ -15,7 +15,7 @@ use std::alloc::AllocError;
 
 /// How much of an item a unit holds that is there.
 fn held_of(campaign: &Campaign, number: u32, item: u16) -> u32
-    ensures { (u : Unit) → map.get campaign.now.what.units number ≡ Some u → result ≡ amount_of u.holding.items item }
+    ensures { (u : Unit) → map.get campaign.now.value.units number ≡ Some u → result ≡ amount_of u.holding.items item }
 {
     match campaign.unit(number) {
         Some(unit) => unit.holding.amount(u32::from(item)),
@@ -42,8 +42,8 @@ pub(crate) fn use_item(
     item: u16,
     amount: u32,
 ) -> Result<(), AllocError>
-    requires can { CanUse world.now campaign.old.what number item amount }
-    ensures what { OnOk result (campaign.new.what ≡ with_used campaign.old.what number item amount) }
+    requires can { CanUse world.now campaign.old.value number item amount }
+    ensures what { OnOk result (campaign.new.value ≡ with_used campaign.old.value number item amount) }
     ensures marks { OnOk result (MarksChanges campaign.old campaign.new) }
 {
     let left = held_of(campaign, number, item) - amount;
@@ -60,8 +60,8 @@ pub(crate) fn make_item(
     item: u16,
     amount: u32,
 ) -> Result<(), AllocError>
-    requires can { CanMake world.now campaign.old.what number item amount }
-    ensures what { OnOk result (campaign.new.what ≡ with_made campaign.old.what number item amount) }
+    requires can { CanMake world.now campaign.old.value number item amount }
+    ensures what { OnOk result (campaign.new.value ≡ with_made campaign.old.value number item amount) }
     ensures marks { OnOk result (MarksChanges campaign.old campaign.new) }
 {
     let more = held_of(campaign, number, item) + amount;

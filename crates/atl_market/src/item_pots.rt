@@ -116,8 +116,8 @@ fn share_region<P: ItemPots>(
 ) -> Result<(), AllocError>
     requires ready { P.ready pots.now }
     requires wants { AreWants wants.now }
-    requires asked { asked.now ≡ regions_asked wants.now campaign.now.what }
-    ensures { OnOk result (given.new ≡ with_each given.old (region_shares (P.item_of pots.now) (P.pot_of pots.now) wants.now campaign.now.what region)) }
+    requires asked { asked.now ≡ regions_asked wants.now campaign.now.value }
+    ensures { OnOk result (given.new ≡ with_each given.old (region_shares (P.item_of pots.now) (P.pot_of pots.now) wants.now campaign.now.value region)) }
 {
     if asked.get(region).is_none() {
         return Ok(());
@@ -136,7 +136,7 @@ pub(crate) fn item_shares<P: ItemPots>(
 ) -> Result<Numbered<u32>, AllocError>
     requires ready { P.ready pots.now }
     requires wants { AreWants wants.now }
-    ensures definition { IfOk result (λ given. (n : ℕ) → finmap.get given n ≡ item_share (P.item_of pots.now) (P.pot_of pots.now) wants.now campaign.now.what n) }
+    ensures definition { IfOk result (λ given. (n : ℕ) → finmap.get given n ≡ item_share (P.item_of pots.now) (P.pot_of pots.now) wants.now campaign.now.value n) }
 {
     let asked = regions_asked(alloc, campaign, wants)?;
     let mut given = Numbered::new(alloc);

@@ -103,9 +103,9 @@ fn use_raw(
     item: &Item,
     made: u32,
 ) -> Result<(), AllocError>
-    requires can { (r : ℕ) → item.now.raw ≡ Some r → CanUse world.now campaign.old.what number r (made * item.now.raw_count) }
+    requires can { (r : ℕ) → item.now.raw ≡ Some r → CanUse world.now campaign.old.value number r (made * item.now.raw_count) }
     requires fits { (r : ℕ) → item.now.raw ≡ Some r → made * item.now.raw_count ≤ holding_limit }
-    ensures what { OnOk result (campaign.new.what ≡ with_raw_used campaign.old.what number (made * item.now.raw_count) item.now.raw) }
+    ensures what { OnOk result (campaign.new.value ≡ with_raw_used campaign.old.value number (made * item.now.raw_count) item.now.raw) }
     ensures marks { OnOk result (MarksChanges campaign.old campaign.new) }
 {
     match item.raw {
@@ -123,8 +123,8 @@ fn make_of(
     found: &Item,
     made: u32,
 ) -> Result<(), AllocError>
-    requires { CanMakeOf world.now campaign.old.what number made item found.now }
-    ensures what { OnOk result (campaign.new.what ≡ produced_of campaign.old.what (number, made) item (Some found.now)) }
+    requires { CanMakeOf world.now campaign.old.value number made item found.now }
+    ensures what { OnOk result (campaign.new.value ≡ produced_of campaign.old.value (number, made) item (Some found.now)) }
     ensures marks { OnOk result (MarksChanges campaign.old campaign.new) }
 {
     use_raw(world, campaign, number, found, made)?;
@@ -140,8 +140,8 @@ pub(crate) fn make(
     item: u16,
     made: u32,
 ) -> Result<(), AllocError>
-    requires { (x : Item) → slice_get world.now.items item ≡ Some x → CanMakeOf world.now campaign.old.what number made item x }
-    ensures what { OnOk result (campaign.new.what ≡ produced_of campaign.old.what (number, made) item (slice_get world.now.items item)) }
+    requires { (x : Item) → slice_get world.now.items item ≡ Some x → CanMakeOf world.now campaign.old.value number made item x }
+    ensures what { OnOk result (campaign.new.value ≡ produced_of campaign.old.value (number, made) item (slice_get world.now.items item)) }
     ensures marks { OnOk result (MarksChanges campaign.old campaign.new) }
 {
     match item_of(world, Some(item)) {

@@ -59,8 +59,8 @@ fn made_by(
     unit: u32,
     want: u32,
 ) -> u32
-    requires { (n : ℕ) → finmap.get shares.now n ≡ output_share world.now asked.now campaign.now.what wants.now n }
-    ensures { result ≡ made_by world.now asked.now campaign.now.what wants.now (unit, want) }
+    requires { (n : ℕ) → finmap.get shares.now n ≡ output_share world.now asked.now campaign.now.value wants.now n }
+    ensures { result ≡ made_by world.now asked.now campaign.now.value wants.now (unit, want) }
 {
     match gathered(world, asked, unit) {
         Some(_) => shares.get(unit).copied().unwrap_or(0),
@@ -77,7 +77,7 @@ pub(crate) fn makes(
     wants: &Numbered<u32>,
 ) -> Result<Numbered<u32>, AllocError>
     requires { AreWants wants.now }
-    ensures { IfOk result (λ made. made ≡ makes asked.now world.now campaign.now.what wants.now) }
+    ensures { IfOk result (λ made. made ≡ makes asked.now world.now campaign.now.value wants.now) }
 {
     let shares = item_shares(alloc, campaign, &Outputs { world, asked }, wants)?;
     let mut made = Numbered::new(alloc);

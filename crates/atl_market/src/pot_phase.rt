@@ -2,9 +2,9 @@
 ghost use Rattle.std.specs.Prelude.{ℕ, ◌≡◌, ◌≤◌, ◌++◌, IfOk, OnOk, fold, map};
 ghost use Rattle.std.specs.FinMap.{entries};
 ghost use Rattle.atl_tables.specs.Limits.{most_amount};
-ghost use Rattle.atl_tables.specs.Planet.{Planet};
+ghost use Rattle.atl_tables.specs.Worlds.{WorldValue};
 ghost use Rattle.atl_state.specs.Covers.{MarksChanges};
-ghost use Rattle.atl_state.specs.State.{State};
+ghost use Rattle.atl_state.specs.Campaign.{CampaignValue};
 ghost use Rattle.atl_market.specs.PotPhase.{CanInTurn, PotMeaning, event_of, events_by, fault_of, given_by, shared_out, want_by, wants_by};
 ghost use Rattle.atl_market.specs.Pots.{AreWants};
 ghost use Rattle.atl_market.specs.Puts.{with_each};
@@ -19,10 +19,10 @@ pub(crate) trait PotPhase {
     ghost meaning: { Self → PotMeaning };
 
     // What it needs of the campaign.
-    ghost needs: { Self → Planet → State → Type 0 };
+    ghost needs: { Self → WorldValue → CampaignValue → Type 0 };
 
     // When a unit, by its number, can get so much of its pot.
-    ghost can_pay: { Self → Planet → State → ℕ × ℕ → Type 0 };
+    ghost can_pay: { Self → WorldValue → CampaignValue → ℕ × ℕ → Type 0 };
 
     /// Why a unit doesn't carry out an order of its own faction.
     fn fault(&self, world: &World, unit: &Unit, order: Written) -> Option<EventFault>
@@ -41,9 +41,9 @@ pub(crate) trait PotPhase {
         campaign: &Campaign,
         wants: &Numbered<u32>,
     ) -> Result<Numbered<u32>, AllocError>
-        requires needs { needs self.now world.now campaign.now.what }
+        requires needs { needs self.now world.now campaign.now.value }
         requires wants { AreWants wants.now }
-        ensures { IfOk result (λ given. given ≡ PotMeaning.given (meaning self.now) world.now campaign.now.what wants.now) };
+        ensures { IfOk result (λ given. given ≡ PotMeaning.given (meaning self.now) world.now campaign.now.value wants.now) };
 
     /// What a unit that got so much of the pot is told.
     fn told(&self, world: &World, unit: &Unit, share: u32) -> u64
@@ -57,8 +57,8 @@ pub(crate) trait PotPhase {
         unit: u32,
         share: u32,
     ) -> Result<(), AllocError>
-        requires can { can_pay self.now world.now campaign.old.what (unit, share) }
-        ensures what { OnOk result (campaign.new.what ≡ PotMeaning.paid (meaning self.now) world.now campaign.old.what (unit, share)) }
+        requires can { can_pay self.now world.now campaign.old.value (unit, share) }
+        ensures what { OnOk result (campaign.new.value ≡ PotMeaning.paid (meaning self.now) world.now campaign.old.value (unit, share)) }
         ensures marks { OnOk result (MarksChanges campaign.old campaign.new) };
 }
 
@@ -69,7 +69,7 @@ fn fault_of<P: PotPhase>(
     campaign: &Campaign,
     order: Written,
 ) -> Option<EventFault>
-    ensures { result ≡ fault_of (P.meaning phase.now) world.now campaign.now.what order }
+    ensures { result ≡ fault_of (P.meaning phase.now) world.now campaign.now.value order }
 {
     match campaign.unit(order.unit) {
         Some(unit) if unit.faction == order.faction => phase.fault(world, unit, order),
@@ -87,7 +87,7 @@ fn note_want<P: PotPhase>(
     wants: &mut Numbered<u32>,
 ) -> Result<(), AllocError>
     requires { AreWants wants.old }
-    ensures value { OnOk result (wants.new ≡ with_each wants.old (want_by (P.meaning phase.now) world.now campaign.now.what order)) }
+    ensures value { OnOk result (wants.new ≡ with_each wants.old (want_by (P.meaning phase.now) world.now campaign.now.value order)) }
     ensures bound { OnOk result (AreWants wants.new) }
 {
     let fault = fault_of(phase, world, campaign, order);
@@ -106,7 +106,7 @@ fn wants_of<P: PotPhase>(
     campaign: &Campaign,
     orders: &[Written],
 ) -> Result<Numbered<u32>, AllocError>
-    ensures value { IfOk result (λ wants. wants ≡ wants_by (P.meaning phase.now) world.now campaign.now.what orders.now) }
+    ensures value { IfOk result (λ wants. wants ≡ wants_by (P.meaning phase.now) world.now campaign.now.value orders.now) }
     ensures bound { IfOk result (λ wants. AreWants wants) }
 {
     let mut wants = Numbered::new(alloc);
@@ -124,8 +124,8 @@ fn given_of<P: PotPhase>(
     campaign: &Campaign,
     orders: &[Written],
 ) -> Result<Numbered<u32>, AllocError>
-    requires { P.needs phase.now world.now campaign.now.what }
-    ensures { IfOk result (λ given. given ≡ given_by (P.meaning phase.now) world.now campaign.now.what orders.now) }
+    requires { P.needs phase.now world.now campaign.now.value }
+    ensures { IfOk result (λ given. given ≡ given_by (P.meaning phase.now) world.now campaign.now.value orders.now) }
 {
     let wants = wants_of(alloc, phase, world, campaign, orders)?;
     phase.given(alloc, world, campaign, &wants)
@@ -139,7 +139,7 @@ fn event_of<P: PotPhase>(
     given: &Numbered<u32>,
     order: Written,
 ) -> Event
-    ensures { result ≡ event_of (P.meaning phase.now) world.now campaign.now.what given.now order }
+    ensures { result ≡ event_of (P.meaning phase.now) world.now campaign.now.value given.now order }
 {
     let outcome = match (
         fault_of(phase, world, campaign, order),
@@ -164,7 +164,7 @@ fn events_of<P: PotPhase>(
     orders: &[Written],
     given: &Numbered<u32>,
 ) -> Result<Vec<Event>, AllocError>
-    ensures { IfOk result (λ events. events.items ≡ map (event_of (P.meaning phase.now) world.now campaign.now.what given.now) orders.now) }
+    ensures { IfOk result (λ events. events.items ≡ map (event_of (P.meaning phase.now) world.now campaign.now.value given.now) orders.now) }
 {
     let mut events = Vec::new(alloc);
     for order in orders {
@@ -180,8 +180,8 @@ fn pay_all<P: PotPhase>(
     campaign: &mut Campaign,
     given: &Numbered<u32>,
 ) -> Result<(), AllocError>
-    requires can { CanInTurn (P.can_pay phase.now world.now) (PotMeaning.paid (P.meaning phase.now) world.now) campaign.old.what (entries given.now) }
-    ensures what { OnOk result (campaign.new.what ≡ fold (PotMeaning.paid (P.meaning phase.now) world.now) campaign.old.what (entries given.now)) }
+    requires can { CanInTurn (P.can_pay phase.now world.now) (PotMeaning.paid (P.meaning phase.now) world.now) campaign.old.value (entries given.now) }
+    ensures what { OnOk result (campaign.new.value ≡ fold (PotMeaning.paid (P.meaning phase.now) world.now) campaign.old.value (entries given.now)) }
     ensures marks { OnOk result (MarksChanges campaign.old campaign.new) }
 {
     for (unit, share) in given.iter() {
@@ -201,10 +201,10 @@ pub(crate) fn share_out<P: PotPhase>(
     campaign: &mut Campaign,
     orders: &[Written],
 ) -> Result<Vec<Event>, AllocError>
-    requires needs { P.needs phase.now world.now campaign.old.what }
-    requires can { CanInTurn (P.can_pay phase.now world.now) (PotMeaning.paid (P.meaning phase.now) world.now) campaign.old.what (entries (given_by (P.meaning phase.now) world.now campaign.old.what orders.now)) }
-    ensures what { OnOk result (campaign.new.what ≡ shared_out (P.meaning phase.now) world.now campaign.old.what orders.now) }
-    ensures events { IfOk result (λ events. events.items ≡ events_by (P.meaning phase.now) world.now campaign.old.what orders.now) }
+    requires needs { P.needs phase.now world.now campaign.old.value }
+    requires can { CanInTurn (P.can_pay phase.now world.now) (PotMeaning.paid (P.meaning phase.now) world.now) campaign.old.value (entries (given_by (P.meaning phase.now) world.now campaign.old.value orders.now)) }
+    ensures what { OnOk result (campaign.new.value ≡ shared_out (P.meaning phase.now) world.now campaign.old.value orders.now) }
+    ensures events { IfOk result (λ events. events.items ≡ events_by (P.meaning phase.now) world.now campaign.old.value orders.now) }
     ensures marks { OnOk result (MarksChanges campaign.old campaign.new) }
 {
     let given = given_of(alloc, phase, world, campaign, orders)?;

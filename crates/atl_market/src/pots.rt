@@ -102,7 +102,7 @@ pub(crate) fn regions_asked(
     campaign: &Campaign,
     wants: &Numbered<u32>,
 ) -> Result<Numbered<u32>, AllocError>
-    ensures { IfOk result (λ asked. asked ≡ regions_asked wants.now campaign.now.what) }
+    ensures { IfOk result (λ asked. asked ≡ regions_asked wants.now campaign.now.value) }
 {
     let mut asked = Numbered::new(alloc);
     for (number, _) in wants.iter() {
@@ -125,8 +125,8 @@ fn share_region<P: Pots>(
 ) -> Result<(), AllocError>
     requires ready { P.ready pots.now }
     requires wants { AreWants wants.now }
-    requires asked { asked.now ≡ regions_asked wants.now campaign.now.what }
-    ensures { OnOk result (given.new ≡ with_each given.old (shares_in (P.pot_of pots.now) wants.now campaign.now.what.units region)) }
+    requires asked { asked.now ≡ regions_asked wants.now campaign.now.value }
+    ensures { OnOk result (given.new ≡ with_each given.old (shares_in (P.pot_of pots.now) wants.now campaign.now.value.units region)) }
 {
     if asked.get(region).is_none() {
         return Ok(());
@@ -150,7 +150,7 @@ pub fn pot_shares<P: Pots>(
 ) -> Result<Numbered<u32>, AllocError>
     requires ready { P.ready pots.now }
     requires wants { AreWants wants.now }
-    ensures definition { IfOk result (λ given. given ≡ pot_shares (P.pot_of pots.now) wants.now campaign.now.what) }
+    ensures definition { IfOk result (λ given. given ≡ pot_shares (P.pot_of pots.now) wants.now campaign.now.value) }
 {
     let asked = regions_asked(alloc, campaign, wants)?;
     let mut given = Numbered::new(alloc);

@@ -1,6 +1,6 @@
 //! PRODUCE: units make items, of raw items or of what the terrain of their region gives.
 ghost use Rattle.std.specs.Prelude.{◌≡◌, IfOk};
-ghost use Rattle.atl_tables.specs.Planet.{IsWorld};
+ghost use Rattle.atl_tables.specs.Worlds.{IsWorld};
 ghost use Rattle.atl_state.specs.Good.{IsSteady};
 ghost use Rattle.atl_instant.specs.Meaning.{most_moved};
 ghost use Rattle.atl_instant.specs.PhaseOrders.{orders_by_unit, written_by_unit};
@@ -89,7 +89,7 @@ fn items_asked(
     orders: &[Written],
 ) -> Result<Numbered<u16>, AllocError>
     requires { orders.now ≡ written_by_unit is_produce month.now }
-    ensures { IfOk result (λ asked. asked ≡ asked_of item_in campaign.now.what (orders_by_unit is_produce month.now)) }
+    ensures { IfOk result (λ asked. asked ≡ asked_of item_in campaign.now.value (orders_by_unit is_produce month.now)) }
 {
     let asked = items_found(alloc, campaign, month, orders)?;
     Ok(asked)

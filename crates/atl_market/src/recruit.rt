@@ -8,7 +8,7 @@ ghost use Rattle.atl_state.specs.Covers.{MarksChanges};
 ghost use Rattle.atl_state.specs.Good.{IsEarly};
 ghost use Rattle.atl_state.specs.Lending.{with_holding};
 ghost use Rattle.atl_state.specs.Limits.{holding_limit, men_limit};
-ghost use Rattle.atl_state.specs.State.{with_amount, with_peasants};
+ghost use Rattle.atl_state.specs.Campaign.{with_amount, with_peasants};
 ghost use Rattle.atl_instant.specs.Meaning.{HaveRoom, most_moved};
 ghost use Rattle.atl_instant.specs.PhaseOrders.{orders_by_unit, written_by_unit};
 ghost use Rattle.atl_market.specs.Asking.{asked_of, count_in};
@@ -51,9 +51,9 @@ struct Recruitable<'a> {
 }
 
 impl<'a> Pots for Recruitable<'a> {
-    ghost pot_of = { λ pots. recruits_at pots.world.now pots.campaign.now.what };
+    ghost pot_of = { λ pots. recruits_at pots.world.now pots.campaign.now.value };
 
-    ghost ready = { λ pots. IsEarly pots.world.now pots.campaign.now.what };
+    ghost ready = { λ pots. IsEarly pots.world.now pots.campaign.now.value };
 
     fn pot(&self, region: u32) -> u64 {
         match self.campaign.region(region) {
@@ -65,9 +65,9 @@ impl<'a> Pots for Recruitable<'a> {
 
 /// Recruits join a unit that is there, which pays for them. Its goods stay as they are, and unmarked.
 fn join_unit(campaign: &mut Campaign, unit: u32, recruits: u32, cost: u32)
-    requires fits { (u : Unit) → finmap.get campaign.old.what.units unit ≡ Some u → u.holding.men + recruits ≤ men_limit }
-    requires payable { (u : Unit) → finmap.get campaign.old.what.units unit ≡ Some u → cost ≤ u.holding.money }
-    ensures what { (u : Unit) → finmap.get campaign.old.what.units unit ≡ Some u → campaign.new.what ≡ with_holding campaign.old.what unit (with_men u.holding recruits cost) }
+    requires fits { (u : Unit) → finmap.get campaign.old.value.units unit ≡ Some u → u.holding.men + recruits ≤ men_limit }
+    requires payable { (u : Unit) → finmap.get campaign.old.value.units unit ≡ Some u → cost ≤ u.holding.money }
+    ensures what { (u : Unit) → finmap.get campaign.old.value.units unit ≡ Some u → campaign.new.value ≡ with_holding campaign.old.value unit (with_men u.holding recruits cost) }
     ensures marks { MarksChanges campaign.old campaign.new }
 {
     if let Some(found) = campaign.unit(unit) {
@@ -81,9 +81,9 @@ fn join_unit(campaign: &mut Campaign, unit: u32, recruits: u32, cost: u32)
 /// A region has so many peasants left, and what was paid for recruits is booked.
 fn leave_region(campaign: &mut Campaign, region: u32, peasants: u32, cost: u32)
     requires little { cost ≤ holding_limit }
-    requires grid { (things : ℕ) × (2 ≤ things) × IsGrid things campaign.old.what.books }
-    requires room { HaveRoom (recruit_moves holding_limit) campaign.old.what }
-    ensures what { campaign.new.what ≡ with_amount (with_peasants campaign.old.what region peasants) Recruiting Money (neg_ℤ (pos cost)) }
+    requires grid { (things : ℕ) × (2 ≤ things) × IsGrid things campaign.old.value.books }
+    requires room { HaveRoom (recruit_moves holding_limit) campaign.old.value }
+    ensures what { campaign.new.value ≡ with_amount (with_peasants campaign.old.value region peasants) Recruiting Money (neg_ℤ (pos cost)) }
     ensures marks { MarksChanges campaign.old campaign.new }
 {
     campaign.set_peasants(region, peasants);
@@ -157,7 +157,7 @@ fn men_asked(
     orders: &[Written],
 ) -> Result<Numbered<u32>, AllocError>
     requires { orders.now ≡ written_by_unit is_recruit month.now }
-    ensures { IfOk result (λ asked. asked ≡ asked_of count_in campaign.now.what (orders_by_unit is_recruit month.now)) }
+    ensures { IfOk result (λ asked. asked ≡ asked_of count_in campaign.now.value (orders_by_unit is_recruit month.now)) }
 {
     let asked = counts_found(alloc, campaign, month, orders)?;
     Ok(asked)

@@ -1,10 +1,10 @@
 //! TAX: units on guard take the money of their region.
 ghost use Rattle.std.specs.Prelude.{◌≡◌, ◌≤◌};
-ghost use Rattle.atl_tables.specs.Planet.{Planet};
+ghost use Rattle.atl_tables.specs.Worlds.{WorldValue};
 ghost use Rattle.atl_state.specs.Covers.{MarksChanges};
 ghost use Rattle.atl_state.specs.Good.{IsEarly};
 ghost use Rattle.atl_state.specs.Limits.{holding_limit};
-ghost use Rattle.atl_state.specs.State.{with_money, with_region_money};
+ghost use Rattle.atl_state.specs.Campaign.{with_money, with_region_money};
 ghost use Rattle.atl_instant.specs.Staying.{spares_all};
 ghost use Rattle.atl_market.specs.Tax.{is_tax, money_at, tax_meaning, tax_pots, taxed};
 ghost use Rattle.atl_market.specs.Payable.{CanTax};
@@ -37,9 +37,9 @@ struct RegionMoney<'a> {
 }
 
 impl<'a> Pots for RegionMoney<'a> {
-    ghost pot_of = { λ pots. money_at pots.campaign.now.what };
+    ghost pot_of = { λ pots. money_at pots.campaign.now.value };
 
-    ghost ready = { λ pots. (w : Planet) × IsEarly w pots.campaign.now.what };
+    ghost ready = { λ pots. (w : WorldValue) × IsEarly w pots.campaign.now.value };
 
     fn pot(&self, region: u32) -> u64 {
         match self.campaign.region(region) {
@@ -52,7 +52,7 @@ impl<'a> Pots for RegionMoney<'a> {
 /// A unit has so much money, and its region so much.
 fn hand_over(campaign: &mut Campaign, unit: u32, money: u32, region: u32, left: u32)
     requires { money ≤ holding_limit }
-    ensures what { campaign.new.what ≡ with_region_money (with_money campaign.old.what unit money) region left }
+    ensures what { campaign.new.value ≡ with_region_money (with_money campaign.old.value unit money) region left }
     ensures marks { MarksChanges campaign.old campaign.new }
 {
     campaign.set_money(unit, money);

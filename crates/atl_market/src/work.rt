@@ -33,7 +33,7 @@ fn own_writers(
     campaign: &Campaign,
     orders: &[Written],
 ) -> Result<Numbered<u32>, AllocError>
-    ensures { IfOk result (λ writers. writers ≡ own_writers campaign.now.what orders.now) }
+    ensures { IfOk result (λ writers. writers ≡ own_writers campaign.now.value orders.now) }
 {
     let mut writers = Numbered::new(alloc);
     for order in orders {
@@ -70,7 +70,7 @@ fn add_idle(
     orders: &[Written],
     list: &mut Vec<Written>,
 ) -> Result<(), AllocError>
-    ensures { OnOk result (list.new.items ≡ list.old.items ++ all_idle campaign.now.what orders.now) }
+    ensures { OnOk result (list.new.items ≡ list.old.items ++ all_idle campaign.now.value orders.now) }
 {
     let writers = own_writers(alloc, campaign, orders)?;
     for (number, unit) in campaign.units() {
@@ -112,7 +112,7 @@ fn work_orders(
     campaign: &Campaign,
     month: &Month,
 ) -> Result<Vec<Written>, AllocError>
-    ensures { IfOk result (λ list. list.items ≡ work_orders campaign.now.what month.now) }
+    ensures { IfOk result (λ list. list.items ≡ work_orders campaign.now.value month.now) }
 {
     let orders = month.orders(alloc, &MonthLongVerbs, Arrangement::ByUnit)?;
     let mut list = written_work(alloc, &orders)?;
@@ -160,9 +160,9 @@ fn earned(world: &World, region: u32, places: u32) -> u64
 /// A unit that held so much gets its wages, which are booked.
 fn pay_wages(campaign: &mut Campaign, number: u32, held: u32, money: u32)
     requires fits { held + money ≤ holding_limit }
-    requires grid { (things : ℕ) × (2 ≤ things) × IsGrid things campaign.old.what.books }
-    requires room { HaveRoom (work_moves holding_limit) campaign.old.what }
-    ensures what { campaign.new.what ≡ with_wages campaign.old.what number held money }
+    requires grid { (things : ℕ) × (2 ≤ things) × IsGrid things campaign.old.value.books }
+    requires room { HaveRoom (work_moves holding_limit) campaign.old.value }
+    ensures what { campaign.new.value ≡ with_wages campaign.old.value number held money }
     ensures marks { MarksChanges campaign.old campaign.new }
 {
     campaign.set_money(number, held + money);

@@ -1,9 +1,9 @@
 //! The calls that are tried, and what comes of each where memory is ample.
-use atl_tables::let_go;
 use crate::setting::{all_commands, begun, close, founded, join, next_mail, report};
 use crate::texts::{books, rows, told};
 use atl_service::{Command, Service};
 use atl_state::Campaign;
+use atl_tables::let_go;
 use sqlite::{Alter, Connection};
 use std::alloc::{AllocError, Global};
 

@@ -1,7 +1,7 @@
 //! The two ways to be without memory.
-use atl_tables::let_go;
 use crate::drought::Drought;
 use crate::fuse;
+use atl_tables::let_go;
 use std::alloc::Global;
 
 /// How memory is to be short.

@@ -5,11 +5,11 @@ use Rattle.std.specs.List.{AllByRecursion}
 use Rattle.std.specs.FinMap.{entries, get}
 use Rattle.std.proofs.lemmas.Bool.Decides.{nat_tests}
 use Rattle.std.proofs.lemmas.List.{append-nil, append_assoc}
-use Rattle.atl_tables.specs.Planet.{Planet}
+use Rattle.atl_tables.specs.Worlds.{WorldValue}
 use Rattle.atl_state.specs.declared.records.Unit.{Unit}
 use Rattle.atl_state.specs.Deciding.{EachOf}
 use Rattle.atl_state.specs.Good.{Every}
-use Rattle.atl_state.specs.State.{State}
+use Rattle.atl_state.specs.Campaign.{CampaignValue}
 use Rattle.atl_state.proofs.BackLaws.{Rise, entries_rise}
 use Rattle.atl_state.proofs.EveryLaws.{each-from_every, every-from_each}
 use Rattle.atl_state.proofs.RegionLaws.{get-insert_same}
@@ -25,8 +25,8 @@ use Rattle.atl_instant.specs.Dealing.{dealt}
 abbrev kept : Unit → Settled → Unit
 kept u s = record u { holding = supplied s u.holding }
 
-own_unit : (c : State) (s : Settled) (u : Unit) → get c.units s.unit ≡ Some u → get (upkeep_at c s).units s.unit ≡ Some (kept u s)
-own_unit c s u is = ap (λ (d : State). get d.units s.unit) (upkeep_at_is c s u is) ∙ get-insert_same c.units s.unit (kept u s)
+own_unit : (c : CampaignValue) (s : Settled) (u : Unit) → get c.units s.unit ≡ Some u → get (upkeep_at c s).units s.unit ≡ Some (kept u s)
+own_unit c s u is = ap (λ (d : CampaignValue). get d.units s.unit) (upkeep_at_is c s u is) ∙ get-insert_same c.units s.unit (kept u s)
 
 -- ---- the settlements of some units, in the order of their numbers
 
@@ -51,17 +51,17 @@ module _ (m : ℕ) (all : List Purse) where
   abbrev lower : ℕ → List (ℕ × Unit) → List Purse
   lower n es = map purse_of (lower_entries n es)
 
-  others_stay : (before : List Purse) (es : List (ℕ × Unit)) (c : State) (n : ℕ) → AllByRecursion (λ e. n < e.0) es
+  others_stay : (before : List Purse) (es : List (ℕ × Unit)) (c : CampaignValue) (n : ℕ) → AllByRecursion (λ e. n < e.0) es
       → get (fold upkeep_at c (behind before es)).units n ≡ get c.units n
   others_stay before [] c n h = refl
   others_stay before (e ∷ es) c n h =
       let s = settled_one m all before (purse_of e) in
       others_stay (before ++ purse_of e ∷ []) es (upkeep_at c s) n h.1 ∙ other_unit c s n (λ same. omega (arith, h.0, same))
 
-  abbrev IsSettled : State → List Purse → List (ℕ × Unit) → ℕ → Unit → Type 0
+  abbrev IsSettled : CampaignValue → List Purse → List (ℕ × Unit) → ℕ → Unit → Type 0
   IsSettled after before es n u = get after.units n ≡ Some (kept u (settled_one m all (before ++ lower n es) (purse_of (n, u))))
 
-  each_settled : (before : List Purse) (es : List (ℕ × Unit)) (c : State) → Rise es → EachOf (λ n u. get c.units n ≡ Some u) es
+  each_settled : (before : List Purse) (es : List (ℕ × Unit)) (c : CampaignValue) → Rise es → EachOf (λ n u. get c.units n ≡ Some u) es
       → EachOf (IsSettled (fold upkeep_at c (behind before es)) before es) es
   each_settled before [] c rise there = tt
   each_settled before ((k, v) ∷ es) c rise there = (first, each_above _ _ k es rest rise.0 (each_settled next_before es next rise.1 still))
@@ -69,10 +69,10 @@ module _ (m : ℕ) (all : List Purse) where
       next_before : List Purse
       next_before = before ++ purse_of (k, v) ∷ []
 
-      next : State
+      next : CampaignValue
       next = upkeep_at c (settled_one m all before (purse_of (k, v)))
 
-      after : State
+      after : CampaignValue
       after = fold upkeep_at next (behind next_before es)
 
       still : EachOf (λ n u. get next.units n ≡ Some u) es
@@ -165,11 +165,11 @@ module _ (m : ℕ) (p : Purse) where
       (ap (λ l. sum_by (short_of m) (filter test l)) is ∙ sym (ap (sum_by (short_of m)) (within test q all)))
 
 -- each unit is as its peers make it
-module _ (w : Planet) (c : State) where
+module _ (w : WorldValue) (c : CampaignValue) where
   abbrev maintenance : ℕ
   maintenance = w.rules.maintenance
 
-  abbrev after : State
+  abbrev after : CampaignValue
   after = upkeep c (settlements w c)
 
   abbrev IsAlone : ℕ → Unit → Type 0

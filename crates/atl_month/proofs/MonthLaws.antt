@@ -5,26 +5,26 @@ use Rattle.std.specs.FinMap.{FinMap, empty, get, len}
 use Rattle.std.specs.Ordering.{nat_cmp}
 use Rattle.std.proofs.lemmas.Int.{ints}
 use Rattle.std.proofs.lemmas.Bool.Decides.{nat_tests}
-use Rattle.atl_tables.specs.Planet.{Planet}
+use Rattle.atl_tables.specs.Worlds.{WorldValue}
 use Rattle.atl_state.specs.declared.event.Event.{Event}
 use Rattle.atl_state.specs.Books.{IsWithin, amount_in}
 use Rattle.atl_state.specs.Good.{AreAmountsWithin, IsEarly, IsGood, IsSound, IsSteady, IsThere, amount_bound}
 use Rattle.atl_state.specs.Limits.{last_month}
-use Rattle.atl_state.specs.State.{State}
+use Rattle.atl_state.specs.Campaign.{CampaignValue}
 use Rattle.atl_state.specs.Totals.{Balances, total}
 use Rattle.atl_orders.specs.Mailing.{Reading}
 use Rattle.atl_state.proofs.EveryLaws.{every-empty}
 use Rattle.atl_state.proofs.GoodLaws.{posted-steady}
-use Rattle.atl_instant.specs.Course.{Course}
+use Rattle.atl_instant.specs.Month.{MonthValue}
 use Rattle.atl_instant.specs.Meaning.{Condition, HaveRoom, IsNear, IsSameMonth, LeavesWell, Meaning, Moving}
-use Rattle.atl_instant.proofs.CourseLaws.{mailings_have_no_order}
+use Rattle.atl_instant.proofs.MonthLaws.{mailings_have_no_order}
 use Rattle.atl_instant.proofs.MeaningLaws.{MovesLess, near_more, room_when_sound}
 use Rattle.atl_month.specs.Month.{BooksAreNear, MonthHasNoOrder, begun, finished, month_meaning, month_moves, month_of, phases_moving}
 use Rattle.atl_month.specs.Swept.{IsSwept}
 use Rattle.atl_month.proofs.CountLaws.{has_all_back}
 use Rattle.atl_month.proofs.MoveLaws.{month_within, moves_in_month, phases_little}
 
-module _ (w : Planet) (d : State) where
+module _ (w : WorldValue) (d : CampaignValue) where
   finished_steady : d.month < last_month → IsSteady w d → IsSteady w (finished d)
   finished_steady early old = posted-steady w d (d.month + 1) empty d.reports (omega (arith, early)) (every-empty _) old.known.reports old
 
@@ -32,7 +32,7 @@ module _ (w : Planet) (d : State) where
   unfolding total
   finished_balances old t = old t
 
-module _ (w : Planet) (c d : State) (moving : Moving) (little : MovesLess moving moves_in_month) (early : c.month < last_month) (well : LeavesWell IsSwept moving w c d) where
+module _ (w : WorldValue) (c d : CampaignValue) (moving : Moving) (little : MovesLess moving moves_in_month) (early : c.month < last_month) (well : LeavesWell IsSwept moving w c d) where
   abbrev same : IsSameMonth c d
   same = well.same_month
 
@@ -68,7 +68,7 @@ module _ (w : Planet) (c d : State) (moving : Moving) (little : MovesLess moving
 
 -- ---- what a month leaves of the books and of the factions
 
-module _ {leaves : Condition} (w : Planet) (c d : State) (well : LeavesWell leaves phases_moving w c d) where
+module _ {leaves : Condition} (w : WorldValue) (c d : CampaignValue) (well : LeavesWell leaves phases_moving w c d) where
   pub books_near : BooksAreNear month_moves c d
   books_near e t = near_more (phases_moving e t) (month_moves e t) (amount_in c.books e t) (amount_in d.books e t) (month_within e t) (well.near e t)
 
@@ -76,11 +76,11 @@ module _ {leaves : Condition} (w : Planet) (c d : State) (well : LeavesWell leav
   factions_stay = has_all_back c.factions d.factions well.same_month.count well.same_month.factions
 
 -- a sound campaign has room for the phases of a month
-pub phases_room : (w : Planet) (c : State) → IsSound w c → HaveRoom phases_moving c
+pub phases_room : (w : WorldValue) (c : CampaignValue) → IsSound w c → HaveRoom phases_moving c
 phases_room w c sound = room_when_sound w c phases_moving (λ e t. omega (arith, phases_little e t)) sound
 
 -- every unit of a sound campaign has men, so that those with a flag guard
-pub sound_early : (w : Planet) (c : State) → IsSound w c → IsEarly w c
+pub sound_early : (w : WorldValue) (c : CampaignValue) → IsSound w c → IsEarly w c
 sound_early w c sound = record {
   steady = sound.steady;
   flags = λ n u here m v there flag other. sound.steady.guarded n u here m v there (on_guard u.holding.guard u.holding.men flag (sound.men n u here)) (on_guard v.holding.guard v.holding.men other (sound.men m v there));
@@ -94,11 +94,11 @@ sound_early w c sound = record {
     on_guard false men is some = is
 
 -- what comes of some phases over a month that has begun, and the events of it
-told_of : (phases : Meaning) (w : Planet) (c d : State) (m n : Course) (begin : Course) (events : List Event) → (d, n) ≡ phases w c m → m ≡ begin → events ≡ n.events
-    → ◌≡◌ {A = State × List Event} (d, events) ((phases w c begin).0, (phases w c begin).1.events)
-told_of phases w c d m n begin events meaning begins told = ap (λ (es : List Event). (d, es)) told ∙ ap (λ (p : State × Course). (p.0, p.1.events)) (meaning ∙ ap (phases w c) begins)
+told_of : (phases : Meaning) (w : WorldValue) (c d : CampaignValue) (m n : MonthValue) (begin : MonthValue) (events : List Event) → (d, n) ≡ phases w c m → m ≡ begin → events ≡ n.events
+    → ◌≡◌ {A = CampaignValue × List Event} (d, events) ((phases w c begin).0, (phases w c begin).1.events)
+told_of phases w c d m n begin events meaning begins told = ap (λ (es : List Event). (d, es)) told ∙ ap (λ (p : CampaignValue × MonthValue). (p.0, p.1.events)) (meaning ∙ ap (phases w c) begins)
 
-pub month_is : (w : Planet) (c d : State) (m n : Course) (readings : FinMap nat_cmp Reading) (words : List ℕ) (events : List Event)
+pub month_is : (w : WorldValue) (c d : CampaignValue) (m n : MonthValue) (readings : FinMap nat_cmp Reading) (words : List ℕ) (events : List Event)
     → (d, n) ≡ month_meaning w c m → m ≡ begun readings words → events ≡ n.events → (d, events) ≡ month_of w c readings words
 unfolding month_of
 month_is w c d m n readings words events meaning begins told = told_of month_meaning w c d m n (begun readings words) events meaning begins told

@@ -8,7 +8,7 @@ use Rattle.std.specs.declared.cmp.Ordering.TheVariants.{Less, Equal, Greater}
 use Rattle.std.specs.Ordering.{nat_cmp, is_eq}
 use Rattle.std.specs.Cmp.{ranked}
 use Rattle.std.specs.FinMap.{FinMap, get, insert, nat_cmp-IsAntisymmetric}
-use Rattle.atl_tables.specs.Planet.{Planet}
+use Rattle.atl_tables.specs.Worlds.{WorldValue}
 use Rattle.atl_state.specs.Books.{amount_in, booked, thing_place}
 use Rattle.atl_state.specs.declared.books.Entry.{Entry}
 use Rattle.atl_state.specs.declared.books.Entry.TheVariants.{Lost}
@@ -21,7 +21,7 @@ use Rattle.atl_state.specs.Good.{Every, IsSteady}
 use Rattle.atl_state.specs.Held.{Held, amount_of, with_amount_of}
 use Rattle.atl_state.specs.Lending.{with_held}
 use Rattle.atl_state.specs.Limits.{holding_limit}
-use Rattle.atl_state.specs.State.{State}
+use Rattle.atl_state.specs.Campaign.{CampaignValue}
 use Rattle.atl_state.specs.Totals.{held, total}
 use Rattle.atl_state.proofs.BookLaws.{booked-with_booked}
 use Rattle.atl_state.proofs.EveryLaws.{every-insert, get-insert_other}
@@ -39,7 +39,7 @@ use Rattle.atl_month.specs.Sweep.{IsKept, item_to, money_to, passed_item, passed
 -- ---- more than is booked
 
 -- there is so much more of a thing than is booked
-abbrev pub Owes : State → Thing → ℕ → Type 0
+abbrev pub Owes : CampaignValue → Thing → ℕ → Type 0
 Owes c s more = pos (total c s) ≡ booked c.books s +ℤ pos more
 
 -- ---- a unit that keeps all
@@ -63,7 +63,7 @@ kept-with u money items more all = record {
 
 -- What a campaign was, and what it is once something of a unit was passed on: there is so much more of each thing than
 -- is booked, so far were the amounts of the books moved, and each unit keeps all.
-pub record PassesOn (w : Planet) (n : ℕ) (owing : Thing → ℕ) (moving : Moving) (c d : State) : Type 0 where
+pub record PassesOn (w : WorldValue) (n : ℕ) (owing : Thing → ℕ) (moving : Moving) (c d : CampaignValue) : Type 0 where
   pub steady : IsSteady w d
   pub owes : (s : Thing) (x : ℕ) → Owes c s x → Owes d s (x + owing s)
   pub near : (e : Entry) (s : Thing) → IsNear (moving e s) (amount_in c.books e s) (amount_in d.books e s)
@@ -72,7 +72,7 @@ pub record PassesOn (w : Planet) (n : ℕ) (owing : Thing → ℕ) (moving : Mov
   pub forth : Every (λ m u. (v : Unit) × (get d.units m ≡ Some v) × IsKept u v) c.units
   pub back : Every (λ m v. (u : Unit) × (get c.units m ≡ Some u) × IsKept u v) d.units
 
-pub passes-refl : (w : Planet) (n : ℕ) (c : State) → IsSteady w c → PassesOn w n (λ s. 0) (λ e s. 0) c c
+pub passes-refl : (w : WorldValue) (n : ℕ) (c : CampaignValue) → IsSteady w c → PassesOn w n (λ s. 0) (λ e s. 0) c c
 passes-refl w n c steady = record {
   steady = steady;
   owes = λ s x h. subst (Owes c s) (plain x) h;
@@ -86,7 +86,7 @@ passes-refl w n c steady = record {
     plain : (x : ℕ) → x ≡ x + 0
     plain x = omega arith
 
-pub passes-trans : {o p : Thing → ℕ} {i j : Moving} (w : Planet) (n : ℕ) (a b c : State) → PassesOn w n o i a b → PassesOn w n p j b c
+pub passes-trans : {o p : Thing → ℕ} {i j : Moving} (w : WorldValue) (n : ℕ) (a b c : CampaignValue) → PassesOn w n o i a b → PassesOn w n p j b c
     → PassesOn w n (λ s. o s + p s) (both_move i j) a c
 passes-trans {o} {p} {i} {j} w n a b c one two = record {
   steady = two.steady;
@@ -116,7 +116,7 @@ owed_all : (b : Bool) (lost x all : ℕ) (books : ℤ) → pos all ≡ books +�
 owed_all true lost x all books h = omega (arith, ints, h)
 owed_all false lost x all books h = omega (arith, ints, h)
 
-module _ (w : Planet) (c : State) (n : ℕ) (t : Thing) (inside : thing_place t < things_of w) (steady : IsSteady w c) where
+module _ (w : WorldValue) (c : CampaignValue) (n : ℕ) (t : Thing) (inside : thing_place t < things_of w) (steady : IsSteady w c) where
   -- an amount that nobody takes
   pub all_lost : (amount : ℕ) → PassesOn w n (λ s. part_of s t amount) (moves_only amount Lost t) c (with_lost c t amount)
   all_lost amount = record {
@@ -137,7 +137,7 @@ module _ (w : Planet) (c : State) (n : ℕ) (t : Thing) (inside : thing_place t 
   module _ (k : ℕ) (v : Unit) (h : Held) (is : get c.units k ≡ Some v) (apart : n ≢ k) (may : MayHold w v h)
       (kept : IsKept v (record v { holding = h })) (taken lost : ℕ)
       (more : (s : Thing) → held s h ≡ held s v.holding + part_of s t taken) where
-    abbrev given : State
+    abbrev given : CampaignValue
     given = with_held c k h (Some v)
 
     grown : (s : Thing) → total given s ≡ total c s + part_of s t taken
@@ -225,8 +225,8 @@ fits amount have l = omega (arith, least amount (holding_limit - have))
     least : (a b : ℕ) → min a b ≤ b
     least a b = omega arith
 
-module _ (w : Planet) (c : State) (n k : ℕ) (apart : n ≢ k) (steady : IsSteady w c) where
-  abbrev Passed : Thing → ℕ → State → Type 0
+module _ (w : WorldValue) (c : CampaignValue) (n k : ℕ) (apart : n ≢ k) (steady : IsSteady w c) where
+  abbrev Passed : Thing → ℕ → CampaignValue → Type 0
   Passed t amount d = PassesOn w n (λ s. part_of s t amount) (moves_only amount Lost t) c d
 
   more_money : (h : Held) (n : ℕ) (s : Thing) → held s (record h { money = h.money + n }) ≡ held s h + part_of s Money n
@@ -295,7 +295,7 @@ module _ (w : Planet) (c : State) (n k : ℕ) (apart : n ≢ k) (steady : IsStea
 
 -- ---- all that a unit has
 
-pub pass_items : (w : Planet) (c : State) (n k : ℕ) → n ≢ k → (es : List (ℕ × ℕ)) → EachOf (λ i a. i < length w.items) es → IsSteady w c
+pub pass_items : (w : WorldValue) (c : CampaignValue) (n k : ℕ) → n ≢ k → (es : List (ℕ × ℕ)) → EachOf (λ i a. i < length w.items) es → IsSteady w c
     → PassesOn w n (owing_items es) (moving_items es) c (fold (passed_item k) c es)
 pass_items w c n k apart [] known steady = passes-refl w n c steady
 pass_items w c n k apart ((i, a) ∷ es) known steady =

@@ -6,14 +6,14 @@ use Rattle.std.proofs.lemmas.Bool.{and_parts, cases_eq}
 use Rattle.std.specs.Ordering.{nat_cmp}
 use Rattle.std.specs.FinMap.{FinMap, empty, entries, get, get-empty, insert, is_sorted}
 use Rattle.std.specs.FinMap.Entries.{below_all}
-use Rattle.atl_tables.specs.Planet.{Planet}
+use Rattle.atl_tables.specs.Worlds.{WorldValue}
 use Rattle.atl_tables.specs.Sums.{numbers_among, numbers_where}
 use Rattle.atl_tables.proofs.SumLaws.{chosen-cons}
 use Rattle.atl_tables.specs.Groups.{group_of}
 use Rattle.atl_state.specs.declared.records.Unit.{Unit}
 use Rattle.atl_state.specs.Good.{Every, IsSteady}
 use Rattle.atl_state.specs.Owners.{first_or_zero}
-use Rattle.atl_state.specs.State.{State}
+use Rattle.atl_state.specs.Campaign.{CampaignValue}
 use Rattle.atl_state.proofs.EveryLaws.{get-insert_other, sorted}
 use Rattle.atl_state.proofs.ListLaws.{other_number, same_number}
 use Rattle.atl_state.proofs.OrderedLaws.{below}
@@ -81,7 +81,7 @@ module _ {V : Type 0} (p : V → Bool) where
 
 -- ---- while units are swept
 
-module _ (w : Planet) (c : State) (n : ℕ) (steady : IsSteady w c) where
+module _ (w : WorldValue) (c : CampaignValue) (n : ℕ) (steady : IsSteady w c) where
   passes_still : (region faction : ℕ) (u v : Unit) → IsKept u v → receives region faction u ≡ receives region faction v
   passes_still region faction u v kept =
       ap (λ r. (r == region) && ((u.faction == faction) && nat_lt 0 u.holding.men)) (sym kept.no_worse.region)
@@ -210,13 +210,13 @@ module _ (m : ReceiverMap) (n : ℕ) (u : Unit) (es : List (ℕ × Unit)) (low :
         | inr apart ↦ others r f (inl apart)
       ]
 
-pub nothing_noted : (c : State) (m : ReceiverMap) → m ≡ empty → (r f : ℕ) → or_if_zero (receiver_in m r f) (first_or_zero (numbers_among (receives r f) (entries c.units))) ≡ receiver c r f
+pub nothing_noted : (c : CampaignValue) (m : ReceiverMap) → m ≡ empty → (r f : ℕ) → or_if_zero (receiver_in m r f) (first_or_zero (numbers_among (receives r f) (entries c.units))) ≡ receiver c r f
 nothing_noted c m none r f =
     ap (λ k. or_if_zero (receiver_under f (get k r)) (first_or_zero (numbers_among (receives r f) (entries c.units)))) none
     ∙ ap (λ o. or_if_zero (receiver_under f o) (first_or_zero (numbers_among (receives r f) (entries c.units)))) (get-empty nat_cmp r)
     ∙ ap (λ o. or_if_zero (unwrap_or o 0) (first_or_zero (numbers_among (receives r f) (entries c.units)))) (get-empty nat_cmp f)
 
-pub all_noted : (c : State) (m : ReceiverMap) → ((r f : ℕ) → or_if_zero (receiver_in m r f) (first_or_zero (numbers_among (receives r f) [])) ≡ receiver c r f) → AreReceivers c m
+pub all_noted : (c : CampaignValue) (m : ReceiverMap) → ((r f : ℕ) → or_if_zero (receiver_in m r f) (first_or_zero (numbers_among (receives r f) [])) ≡ receiver c r f) → AreReceivers c m
 all_noted c m h r f = plain (receiver_in m r f) ∙ h r f
   where
     plain : (x : ℕ) → x ≡ or_if_zero x 0

@@ -6,7 +6,7 @@ use Rattle.std.specs.FinMap.{entries, get, len-entries}
 use Rattle.std.proofs.lemmas.List.{length-map}
 use Rattle.std.proofs.lemmas.Int.{ints}
 use Rattle.std.proofs.lemmas.Bool.Decides.{nat_tests}
-use Rattle.atl_tables.specs.Planet.{Planet, IsWorld}
+use Rattle.atl_tables.specs.Worlds.{WorldValue, IsWorld}
 use Rattle.atl_tables.specs.Limits.{most_amount, most_regions}
 use Rattle.atl_tables.specs.declared.world.Terrain.{Terrain}
 use Rattle.atl_tables.specs.declared.world.RegionPlan.{RegionPlan}
@@ -22,7 +22,7 @@ use Rattle.atl_state.specs.Good.{IsSteady}
 use Rattle.atl_state.specs.Covers.{MarksChanges}
 use Rattle.atl_state.specs.Marking.{mark_amount, mark_region}
 use Rattle.atl_state.specs.Marks.{amount_number}
-use Rattle.atl_state.specs.State.{Marked, State, with_amount, with_peasants, with_region_money}
+use Rattle.atl_state.specs.Campaign.{MarkedCampaign, CampaignValue, with_amount, with_peasants, with_region_money}
 use Rattle.atl_state.specs.Totals.{Balances, kept, total}
 use Rattle.atl_state.proofs.BookLaws.{IsGrid-with_booked, booked-with_booked, share_of}
 use Rattle.atl_state.proofs.CoverLaws.{marks-amount, marks-region, marks-trans}
@@ -47,14 +47,14 @@ income_fits per_peasant limit peasants money l m = omega (arith, least (peasants
 
 -- ---- the books of a region's season
 
-module _ (w : Planet) (c : State) (n : ℕ) (r : Region) (born earned : ℕ) (is : get c.regions n ≡ Some r) where
-  abbrev peopled : State
+module _ (w : WorldValue) (c : CampaignValue) (n : ℕ) (r : Region) (born earned : ℕ) (is : get c.regions n ≡ Some r) where
+  abbrev peopled : CampaignValue
   peopled = with_peasants c n (r.peasants + born)
 
-  abbrev paid : State
+  abbrev paid : CampaignValue
   paid = with_region_money peopled n (r.money + earned)
 
-  abbrev counted : State
+  abbrev counted : CampaignValue
   counted = with_amount paid Births People (pos born)
 
   abbrev more_people : Region → Region
@@ -127,23 +127,23 @@ module _ (w : Planet) (c : State) (n : ℕ) (r : Region) (born earned : ℕ) (is
   }
 
 -- there is room for the births first as well
-pub births_first : (c : State) → HaveRoom (grows_by most_amount) c → HaveRoom (both_move (moves_only most_amount Births People) (moves_only most_amount Income Money)) c
+pub births_first : (c : CampaignValue) → HaveRoom (grows_by most_amount) c → HaveRoom (both_move (moves_only most_amount Births People) (moves_only most_amount Income Money)) c
 births_first c room = room_less (both_move (moves_only most_amount Births People) (moves_only most_amount Income Money)) (grows_by most_amount) c (λ e t. omega arith) room
 
 -- ---- what the growth of a region marks
 
-pub growth_marks : (things : ℕ) (c d e f g : Marked) (n peasants money born earned : ℕ)
-    → d.what ≡ with_peasants c.what n peasants → d.marks ≡ mark_region c n
-    → e.what ≡ with_region_money d.what n money → e.marks ≡ mark_region d n
-    → f.what ≡ with_amount e.what Births People (pos born) → f.marks ≡ mark_amount e Births People
-    → g.what ≡ with_amount f.what Income Money (pos earned) → g.marks ≡ mark_amount f Income Money
-    → IsGrid things c.what.books → 2 ≤ things → MarksChanges c g
+pub growth_marks : (things : ℕ) (c d e f g : MarkedCampaign) (n peasants money born earned : ℕ)
+    → d.value ≡ with_peasants c.value n peasants → d.marks ≡ mark_region c n
+    → e.value ≡ with_region_money d.value n money → e.marks ≡ mark_region d n
+    → f.value ≡ with_amount e.value Births People (pos born) → f.marks ≡ mark_amount e Births People
+    → g.value ≡ with_amount f.value Income Money (pos earned) → g.marks ≡ mark_amount f Income Money
+    → IsGrid things c.value.books → 2 ≤ things → MarksChanges c g
 growth_marks things c d e f g n peasants money born earned d_is d_marks e_is e_marks f_is f_marks g_is g_marks grid two =
-    let d_books : d.what.books ≡ c.what.books = ap (λ (s : State). s.books) d_is in
-    let e_books : e.what.books ≡ c.what.books = ap (λ (s : State). s.books) e_is ∙ d_books in
-    let f_books : f.what.books ≡ with_booked e.what.books Births People (pos born) = ap (λ (s : State). s.books) f_is in
-    let e_grid : IsGrid things e.what.books = rw e_books grid in
-    let f_grid : IsGrid things f.what.books = rw f_books (IsGrid-with_booked things e.what.books Births People (pos born) e_grid) in
+    let d_books : d.value.books ≡ c.value.books = ap (λ (s : CampaignValue). s.books) d_is in
+    let e_books : e.value.books ≡ c.value.books = ap (λ (s : CampaignValue). s.books) e_is ∙ d_books in
+    let f_books : f.value.books ≡ with_booked e.value.books Births People (pos born) = ap (λ (s : CampaignValue). s.books) f_is in
+    let e_grid : IsGrid things e.value.books = rw e_books grid in
+    let f_grid : IsGrid things f.value.books = rw f_books (IsGrid-with_booked things e.value.books Births People (pos born) e_grid) in
     marks-trans c d g (marks_by c d _ d_is d_marks (marks-region (λ r. record r { peasants = peasants }) c n))
     (marks-trans d e g (marks_by d e _ e_is e_marks (marks-region (λ r. record r { money = money }) d n))
     (marks-trans e f g (marks_by e f _ f_is f_marks (marks-amount things e Births People (pos born) e_grid (omega arith)))
@@ -151,16 +151,16 @@ growth_marks things c d e f g n peasants money born earned d_is d_marks e_is e_m
 
 -- ---- the terrains of a world
 
-terrain_in : (w : Planet) (o : Option RegionPlan) (t : Terrain) → IsWorld w → option_and_then (λ (p : RegionPlan). slice_get w.terrains p.terrain) o ≡ Some t → (t.peasant_limit ≤ most_amount) × (t.money_limit ≤ most_amount)
+terrain_in : (w : WorldValue) (o : Option RegionPlan) (t : Terrain) → IsWorld w → option_and_then (λ (p : RegionPlan). slice_get w.terrains p.terrain) o ≡ Some t → (t.peasant_limit ≤ most_amount) × (t.money_limit ≤ most_amount)
 terrain_in w None t world is = none_some t is
 terrain_in w (Some p) t world is = let terrain = world.terrains p.terrain t is in (terrain.peasant_limit, terrain.money_limit)
 
-pub limits_fit : (w : Planet) (n : ℕ) (t : Terrain) → IsWorld w → terrain_of w n ≡ Some t → (t.peasant_limit ≤ most_amount) × (t.money_limit ≤ most_amount)
+pub limits_fit : (w : WorldValue) (n : ℕ) (t : Terrain) → IsWorld w → terrain_of w n ≡ Some t → (t.peasant_limit ≤ most_amount) × (t.money_limit ≤ most_amount)
 limits_fit w n t world is = terrain_in w (get w.regions n) t world is
 
 -- ---- the season of a region, and of all
 
-pub season_at_leaves_well : (w : Planet) → IsWorld w → (c : State) (x : ℕ × ℕ) → IsSteady w c → LeavesWell IsSteady (grows_by most_amount) w c (season_at w c x)
+pub season_at_leaves_well : (w : WorldValue) → IsWorld w → (c : CampaignValue) (x : ℕ × ℕ) → IsSteady w c → LeavesWell IsSteady (grows_by most_amount) w c (season_at w c x)
 unfolding season_at
 season_at_leaves_well w world c (n, word) steady = by_terrain (terrain_of w n) refl
   where
@@ -195,7 +195,7 @@ grows_little k few e t = scaled (amount_number e t == amount_number Income Money
     scaled false true = omega (arith, few)
     scaled false false = omega (arith, few)
 
-pub season_leaves_well : (w : Planet) → IsWorld w → (c : State) (words : List ℕ) → IsSteady w c → LeavesWell IsSteady (grows_by most_moved) w c (season w c words)
+pub season_leaves_well : (w : WorldValue) → IsWorld w → (c : CampaignValue) (words : List ℕ) → IsSteady w c → LeavesWell IsSteady (grows_by most_moved) w c (season w c words)
 season_leaves_well w world c words steady =
     let numbers = map (λ (e : ℕ × RegionPlan). e.0) (entries w.regions) in
     let pairs = zip numbers words in
@@ -204,25 +204,25 @@ season_leaves_well w world c words steady =
     (fold_leaves_well (grows_by most_amount) w (season_at w) (season_at_leaves_well w world) c pairs steady)
 
 -- the season changes no unit
-season_in_keeps : (w : Planet) (c : State) (n word : ℕ) (o : Option Terrain) (p : Option Region) → (season_in w c n word o p).units ≡ c.units
+season_in_keeps : (w : WorldValue) (c : CampaignValue) (n word : ℕ) (o : Option Terrain) (p : Option Region) → (season_in w c n word o p).units ≡ c.units
 season_in_keeps w c n word (Some t) (Some r) = refl
 season_in_keeps w c n word (Some t) None = refl
 season_in_keeps w c n word None p = refl
 
-pub season_at_keeps : (w : Planet) (c : State) (x : ℕ × ℕ) → (season_at w c x).units ≡ c.units
+pub season_at_keeps : (w : WorldValue) (c : CampaignValue) (x : ℕ × ℕ) → (season_at w c x).units ≡ c.units
 unfolding season_at
 season_at_keeps w c (n, word) = season_in_keeps w c n word (terrain_of w n) (get c.regions n)
 
-each_keeps : (w : Planet) (c : State) (xs : List (ℕ × ℕ)) → (fold (season_at w) c xs).units ≡ c.units
+each_keeps : (w : WorldValue) (c : CampaignValue) (xs : List (ℕ × ℕ)) → (fold (season_at w) c xs).units ≡ c.units
 each_keeps w c [] = refl
 each_keeps w c (x ∷ xs) = each_keeps w (season_at w c x) xs ∙ season_at_keeps w c x
 
-pub season_keeps_units : (w : Planet) (c : State) (words : List ℕ) → (season w c words).units ≡ c.units
+pub season_keeps_units : (w : WorldValue) (c : CampaignValue) (words : List ℕ) → (season w c words).units ≡ c.units
 season_keeps_units w c words = each_keeps w c (zip (map (λ (e : ℕ × RegionPlan). e.0) (entries w.regions)) words)
 
 -- ---- the loop over the regions
 
-pub season_goes_on : (w : Planet) (c d all : State) (regions rest : List (ℕ × RegionPlan)) (words tail : List ℕ) (n word : ℕ) (plan : RegionPlan)
+pub season_goes_on : (w : WorldValue) (c d all : CampaignValue) (regions rest : List (ℕ × RegionPlan)) (words tail : List ℕ) (n word : ℕ) (plan : RegionPlan)
     → regions ≡ (n, plan) ∷ rest → words ≡ word ∷ tail → d ≡ season_at w c (n, word)
     → fold (season_at w) c (zip (map (λ e. e.0) regions) words) ≡ all → fold (season_at w) d (zip (map (λ e. e.0) rest) tail) ≡ all
 season_goes_on w c d all regions rest words tail n word plan listed given is whole =
@@ -230,12 +230,12 @@ season_goes_on w c d all regions rest words tail n word plan listed given is who
     ∙ sym (ap (λ l. fold (season_at w) c (zip (map (λ (e : ℕ × RegionPlan). e.0) l) words)) listed ∙ ap (λ ws. fold (season_at w) c (zip (n ∷ map (λ (e : ℕ × RegionPlan). e.0) rest) ws)) given)
     ∙ whole
 
-pub room_goes_on : (w : Planet) → IsWorld w → (c d : State) (regions rest : List (ℕ × RegionPlan)) (n word : ℕ) (plan : RegionPlan)
+pub room_goes_on : (w : WorldValue) → IsWorld w → (c d : CampaignValue) (regions rest : List (ℕ × RegionPlan)) (n word : ℕ) (plan : RegionPlan)
     → regions ≡ (n, plan) ∷ rest → d ≡ season_at w c (n, word) → IsSteady w c → HaveRoom (moved_times (length regions) (grows_by most_amount)) c → HaveRoom (moved_times (length rest) (grows_by most_amount)) d
 room_goes_on w world c d regions rest n word plan listed is steady room =
     rw is (room_behind_one (grows_by most_amount) w (season_at w) (season_at_leaves_well w world) c (n, word) (n, plan) rest steady (subst (λ (l : List (ℕ × RegionPlan)). HaveRoom (moved_times (length l) (grows_by most_amount)) c) listed room))
 
-pub room_now : (w : Planet) → IsWorld w → (c : State) (regions rest : List (ℕ × RegionPlan)) (n : ℕ) (plan : RegionPlan)
+pub room_now : (w : WorldValue) → IsWorld w → (c : CampaignValue) (regions rest : List (ℕ × RegionPlan)) (n : ℕ) (plan : RegionPlan)
     → regions ≡ (n, plan) ∷ rest → HaveRoom (moved_times (length regions) (grows_by most_amount)) c → HaveRoom (grows_by most_amount) c
 room_now w world c regions rest n plan listed room =
     room_for_one (grows_by most_amount) w (season_at w) (season_at_leaves_well w world) c (n, plan) rest (subst (λ (l : List (ℕ × RegionPlan)). HaveRoom (moved_times (length l) (grows_by most_amount)) c) listed room)

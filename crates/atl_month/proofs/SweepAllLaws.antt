@@ -6,7 +6,7 @@ use Rattle.std.proofs.lemmas.Bool.{cases_eq}
 use Rattle.std.proofs.lemmas.Option.{same_Some}
 use Rattle.std.specs.Ordering.{nat_cmp}
 use Rattle.std.specs.FinMap.{FinMap, entries, get, len-entries}
-use Rattle.atl_tables.specs.Planet.{Planet}
+use Rattle.atl_tables.specs.Worlds.{WorldValue}
 use Rattle.atl_tables.specs.Limits.{most_amount}
 use Rattle.atl_tables.proofs.SumLaws.{chosen-cons}
 use Rattle.atl_tables.proofs.GeneralLaws.{is_equal, is_unequal}
@@ -19,7 +19,7 @@ use Rattle.atl_state.specs.declared.records.Faction.{Faction}
 use Rattle.atl_state.specs.declared.records.Unit.{Unit}
 use Rattle.atl_state.specs.Good.{Every, HaveMen, IsSteady, NoneAreGone}
 use Rattle.atl_state.specs.Owners.{without_unit}
-use Rattle.atl_state.specs.State.{State, active, numbers_of, with_gone}
+use Rattle.atl_state.specs.Campaign.{CampaignValue, active, numbers_of, with_gone}
 use Rattle.atl_state.proofs.EveryLaws.{none_some}
 use Rattle.atl_instant.specs.Meaning.{LeavesWell, Moving, both_move, moved_times, most_moved}
 use Rattle.atl_instant.proofs.MeaningLaws.{both_leave_well, fold_leaves_well, near_same, well_unchanged, well_within}
@@ -33,7 +33,7 @@ use Rattle.atl_state.specs.Limits.{most_units}
 
 -- ---- one unit
 
-module _ (w : Planet) (c : State) (n : ℕ) (steady : IsSteady w c) where
+module _ (w : WorldValue) (c : CampaignValue) (n : ℕ) (steady : IsSteady w c) where
   pub swept_at_leaves_well : LeavesWell IsSteady (loses_by most_amount) w c (swept_at c n)
   unfolding swept_at
   swept_at_leaves_well = by_unit (get c.units n) refl
@@ -47,7 +47,7 @@ module _ (w : Planet) (c : State) (n : ℕ) (steady : IsSteady w c) where
       by_unit None is = well_unchanged (loses_by most_amount) w c steady
       by_unit (Some u) is = by_men u is (u.holding.men == 0) refl
 
-  abbrev Kept : State → Type 0
+  abbrev Kept : CampaignValue → Type 0
   Kept d = Every (λ m x. 1 ≤ x.holding.men → (v : Unit) × (get d.units m ≡ Some v) × IsKept x v) c.units
 
   -- a unit with men keeps all
@@ -73,7 +73,7 @@ module _ (w : Planet) (c : State) (n : ℕ) (steady : IsSteady w c) where
       by_unit None is = same
       by_unit (Some u) is = by_men u is (u.holding.men == 0) refl
 
-  abbrev Were : State → Type 0
+  abbrev Were : CampaignValue → Type 0
   Were d = Every (λ m v. (v.holding.men ≡ 0 → m ≢ n) × ((x : Unit) × (get c.units m ≡ Some x) × IsKept x v)) d.units
 
   -- each unit that is left was there, and it isn't this one, unless that has men
@@ -101,7 +101,7 @@ module _ (w : Planet) (c : State) (n : ℕ) (steady : IsSteady w c) where
 -- ---- all units
 
 -- each unit without men is listed
-abbrev AreListed : List ℕ → State → Type 0
+abbrev AreListed : List ℕ → CampaignValue → Type 0
 AreListed ns c = Every (λ m v. v.holding.men ≡ 0 → IsListed m ns) c.units
 
 behind_it : (m n : ℕ) (ns : List ℕ) → m ≢ n → IsListed m (n ∷ ns) → IsListed m ns
@@ -115,15 +115,15 @@ at_least_one n some = by_test (n == 0) refl
     by_test true t = absurd (some (is_equal n 0 t))
     by_test false t = let one = is_unequal n 0 t in grind (arith, nat_tests)
 
-module _ (w : Planet) where
-  pub all_have_men : (ns : List ℕ) (c : State) → IsSteady w c → AreListed ns c → HaveMen (fold swept_at c ns)
+module _ (w : WorldValue) where
+  pub all_have_men : (ns : List ℕ) (c : CampaignValue) → IsSteady w c → AreListed ns c → HaveMen (fold swept_at c ns)
   all_have_men [] c steady listed = λ m v there. at_least_one v.holding.men (listed m v there)
   all_have_men (n ∷ ns) c steady listed =
       all_have_men ns (swept_at c n) (swept_at_leaves_well w c n steady).leaves_it (λ m v there none.
       let (apart, (x, was, kept)) = swept_at_were w c n steady m v there in
       behind_it m n ns (apart none) (listed m x was (sym kept.men ∙ none)))
 
-  pub all_keep : (ns : List ℕ) (c : State) → IsSteady w c → Every (λ m x. 1 ≤ x.holding.men → (v : Unit) × (get (fold swept_at c ns).units m ≡ Some v) × IsKept x v) c.units
+  pub all_keep : (ns : List ℕ) (c : CampaignValue) → IsSteady w c → Every (λ m x. 1 ≤ x.holding.men → (v : Unit) × (get (fold swept_at c ns).units m ≡ Some v) × IsKept x v) c.units
   all_keep [] c steady m x there some = (x, there, kept-refl x)
   all_keep (n ∷ ns) c steady m x there some =
       let (v, here, kept) = swept_at_keeps w c n steady m x there some in
@@ -144,7 +144,7 @@ some_at (n ∷ ns) e h = cc
 abbrev pub nothing_moves : Moving
 nothing_moves e t = 0
 
-module _ (c : State) (n : ℕ) where
+module _ (c : CampaignValue) (n : ℕ) where
   pub gone_at_units : (faction_swept c n).units ≡ c.units
   gone_at_units = by_test (is_empty (numbers_of n c.units))
     where
@@ -152,7 +152,7 @@ module _ (c : State) (n : ℕ) where
       by_test true = refl
       by_test false = refl
 
-  pub gone_at_leaves_well : (w : Planet) → IsSteady w c → LeavesWell IsSteady nothing_moves w c (faction_swept c n)
+  pub gone_at_leaves_well : (w : WorldValue) → IsSteady w c → LeavesWell IsSteady nothing_moves w c (faction_swept c n)
   gone_at_leaves_well w steady = by_test (is_empty (numbers_of n c.units)) refl
     where
       by_faction : numbers_of n c.units ≡ [] → (o : Option Faction) → get c.factions n ≡ o → LeavesWell IsSteady nothing_moves w c (with_gone c n)
@@ -168,7 +168,7 @@ module _ (c : State) (n : ℕ) where
       by_test true t = by_faction (none_at (numbers_of n c.units) t) (get c.factions n) refl
       by_test false t = well_unchanged nothing_moves w c steady
 
-  abbrev Remains : State → Type 0
+  abbrev Remains : CampaignValue → Type 0
   Remains d = Every (λ m f. numbers_of m c.units ≡ [] → f.gone ≡ false → (m ≢ n) × (get c.factions m ≡ Some f)) d.factions
 
   pub gone_at_remains : Remains (faction_swept c n)
@@ -197,14 +197,14 @@ module _ (c : State) (n : ℕ) where
       by_test false t = λ m f there none stays. (λ own. some_at (numbers_of n c.units) (ap (λ k. numbers_of k c.units) (sym own) ∙ none) t, there)
 
 -- each faction that has no unit, and is not gone, is listed
-abbrev AreToGo : List ℕ → State → Type 0
+abbrev AreToGo : List ℕ → CampaignValue → Type 0
 AreToGo ns c = Every (λ m f. numbers_of m c.units ≡ [] → f.gone ≡ false → IsListed m ns) c.factions
 
 not_false : (b : Bool) → (b ≡ false → ⊥) → b ≡ true
 not_false true h = refl
 not_false false h = absurd (h refl)
 
-all_are_gone : (ns : List ℕ) (c : State) → AreToGo ns c → NoneAreGone (fold faction_swept c ns)
+all_are_gone : (ns : List ℕ) (c : CampaignValue) → AreToGo ns c → NoneAreGone (fold faction_swept c ns)
 all_are_gone [] c listed = λ m f there none. not_false f.gone (listed m f there none)
 all_are_gone (n ∷ ns) c listed =
     all_are_gone ns (faction_swept c n) (λ m f there none stays.
@@ -212,7 +212,7 @@ all_are_gone (n ∷ ns) c listed =
     let (apart, was) = gone_at_remains c n m f there here stays in
     behind_it m n ns apart (listed m f was here stays))
 
-units_stay : (ns : List ℕ) (c : State) → (fold faction_swept c ns).units ≡ c.units
+units_stay : (ns : List ℕ) (c : CampaignValue) → (fold faction_swept c ns).units ≡ c.units
 units_stay [] c = refl
 units_stay (n ∷ ns) c = units_stay ns (faction_swept c n) ∙ gone_at_units c n
 
@@ -233,14 +233,14 @@ loses_little k few e t = scaled ((entry_place e == entry_place Lost) && not (thi
     scaled true = omega (arith, few)
     scaled false = omega (arith, few)
 
-pub few_menless : (w : Planet) (c : State) → IsSteady w c → length (menless c) ≤ most_units
+pub few_menless : (w : WorldValue) (c : CampaignValue) → IsSteady w c → length (menless c) ≤ most_units
 few_menless w c steady = omega (arith, length-numbers (λ (u : Unit). u.holding.men == 0) (entries c.units), len-entries c.units, steady.numbers.few_units)
 
 moves_none : (k : ℕ) (e : Entry) (t : Thing) → moved_times k nothing_moves e t ≤ nothing_moves e t
 moves_none k e t = omega arith
 
-module _ (w : Planet) (c : State) (steady : IsSteady w c) where
-  abbrev units_swept : State
+module _ (w : WorldValue) (c : CampaignValue) (steady : IsSteady w c) where
+  abbrev units_swept : CampaignValue
   units_swept = fold swept_at c (menless c)
 
   units_well : LeavesWell IsSteady (loses_by most_moved) w c units_swept

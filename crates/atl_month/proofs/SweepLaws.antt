@@ -7,7 +7,7 @@ use Rattle.std.proofs.lemmas.Bool.{and_parts}
 use Rattle.std.proofs.lemmas.Option.{same_Some}
 use Rattle.std.specs.Ordering.{nat_cmp}
 use Rattle.std.specs.FinMap.{FinMap, entries, get, get-entries, len}
-use Rattle.atl_tables.specs.Planet.{Planet}
+use Rattle.atl_tables.specs.Worlds.{WorldValue}
 use Rattle.atl_tables.specs.Limits.{most_amount}
 use Rattle.atl_tables.specs.Sums.{numbers_where}
 use Rattle.atl_state.specs.Books.{amount_in, booked, entry_place, thing_place}
@@ -23,7 +23,7 @@ use Rattle.atl_state.specs.Held.{Held, amount_of}
 use Rattle.atl_state.specs.Limits.{entry_count, holding_limit}
 use Rattle.atl_state.specs.Marks.{amount_number}
 use Rattle.atl_state.specs.Owners.{first_or_zero, without_unit}
-use Rattle.atl_state.specs.State.{State}
+use Rattle.atl_state.specs.Campaign.{CampaignValue}
 use Rattle.atl_state.specs.Totals.{Balances, held, total}
 use Rattle.atl_state.proofs.EveryEntryLaws.{entry_small}
 use Rattle.atl_state.proofs.EveryLaws.{each-from_every, sorted}
@@ -131,7 +131,7 @@ pub first_listed : (ns : List ℕ) → first_or_zero ns ≢ 0 → IsListed (firs
 first_listed [] some = absurd (some refl)
 first_listed (n ∷ ns) some = inl refl
 
-module _ (w : Planet) (c : State) (n : ℕ) (u : Unit) (is : get c.units n ≡ Some u) (none : u.holding.men ≡ 0) (steady : IsSteady w c) where
+module _ (w : WorldValue) (c : CampaignValue) (n : ℕ) (u : Unit) (is : get c.units n ≡ Some u) (none : u.holding.men ≡ 0) (steady : IsSteady w c) where
   not_received : (region faction : ℕ) (v : Unit) → get c.units n ≡ Some v → receives region faction v ≡ true → ⊥
   not_received region faction v there t =
       let both = and_parts (v.region == region) ((v.faction == faction) && nat_lt 0 v.holding.men) t in
@@ -156,7 +156,7 @@ module _ (w : Planet) (c : State) (n : ℕ) (u : Unit) (is : get c.units n ≡ S
   known : EachOf (λ i a. i < length w.items) (entries u.holding.items)
   known = each-from_every (λ i a. i < length w.items) u.holding.items (steady.known.units n u is).items
 
-  abbrev passed : State
+  abbrev passed : CampaignValue
   passed = passed_on c to u
 
   passing : PassesOn w n (owing_all u.holding) (moving_all u.holding) c passed
@@ -169,7 +169,7 @@ module _ (w : Planet) (c : State) (n : ℕ) (u : Unit) (is : get c.units n ≡ S
   there_still : get passed.units n ≡ Some u
   there_still = passing.unit ∙ is
 
-  abbrev swept : State
+  abbrev swept : CampaignValue
   swept = without_unit passed n
 
   balanced : Balances c → Balances swept

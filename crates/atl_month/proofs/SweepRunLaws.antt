@@ -2,7 +2,7 @@
 use Rattle.std.proofs.Common.{◌≡◌, ◌≢◌, ℕ, suc, ◌+◌, ◌≤◌, ◌<◌, List, ◌∷◌, length, Some, refl, sym, ap, subst, arith}
 use Rattle.std.specs.Prelude.{pos, neg_ℤ}
 use Rattle.std.specs.FinMap.{entries, get}
-use Rattle.atl_tables.specs.Planet.{Planet}
+use Rattle.atl_tables.specs.Worlds.{WorldValue}
 use Rattle.atl_tables.specs.Limits.{most_amount}
 use Rattle.atl_state.specs.Books.{IsGrid, amount_in, thing_place}
 use Rattle.atl_state.specs.Covers.{MarksChanges}
@@ -15,7 +15,7 @@ use Rattle.atl_state.specs.Good.{IsSteady}
 use Rattle.atl_state.specs.Held.{Held}
 use Rattle.atl_state.specs.Lending.{lent}
 use Rattle.atl_state.specs.Marking.{mark_amount, mark_faction, mark_unit_row}
-use Rattle.atl_state.specs.State.{Marked, State, with_gone, with_money}
+use Rattle.atl_state.specs.Campaign.{MarkedCampaign, CampaignValue, with_gone, with_money}
 use Rattle.atl_state.proofs.CoverLaws.{marks-amount, marks-trans}
 use Rattle.atl_state.proofs.HoldingLaws.{marks-lent, marks-unit_row}
 use Rattle.atl_instant.specs.Meaning.{HaveRoom, IsNear, Moving, both_move, moves_only}
@@ -30,49 +30,49 @@ use Rattle.atl_month.proofs.SweepLaws.{moves_little, moving_all}
 
 -- ---- marks
 
-pub lost_marks : (things amount : ℕ) (c d : Marked) (t : Thing) → IsGrid things c.what.books → thing_place t < things
-    → d.what ≡ with_lost c.what t amount → d.marks ≡ mark_amount c Lost t → MarksChanges c d
+pub lost_marks : (things amount : ℕ) (c d : MarkedCampaign) (t : Thing) → IsGrid things c.value.books → thing_place t < things
+    → d.value ≡ with_lost c.value t amount → d.marks ≡ mark_amount c Lost t → MarksChanges c d
 lost_marks things amount c d t grid inside what marks =
-    marks_by c d (record { what = with_lost c.what t amount; marks = mark_amount c Lost t }) what marks
+    marks_by c d (record { value = with_lost c.value t amount; marks = mark_amount c Lost t }) what marks
     (marks-amount things c Lost t (neg_ℤ (pos amount)) grid inside)
 
-pub money_marks : (things money lost to : ℕ) (c d e : Marked) → d.what ≡ with_money c.what to money → d.marks ≡ mark_unit_row c to
-    → e.what ≡ with_lost d.what Money lost → e.marks ≡ mark_amount d Lost Money
-    → IsGrid things c.what.books → 2 ≤ things → MarksChanges c e
+pub money_marks : (things money lost to : ℕ) (c d e : MarkedCampaign) → d.value ≡ with_money c.value to money → d.marks ≡ mark_unit_row c to
+    → e.value ≡ with_lost d.value Money lost → e.marks ≡ mark_amount d Lost Money
+    → IsGrid things c.value.books → 2 ≤ things → MarksChanges c e
 money_marks things money lost to c d e d_is d_marks e_is e_marks grid two =
-    let books : d.what.books ≡ c.what.books = ap (λ (s : State). s.books) d_is in
+    let books : d.value.books ≡ c.value.books = ap (λ (s : CampaignValue). s.books) d_is in
     marks-trans c d e
-    (marks_by c d (record { what = with_money c.what to money; marks = mark_unit_row c to }) d_is d_marks
+    (marks_by c d (record { value = with_money c.value to money; marks = mark_unit_row c to }) d_is d_marks
     (marks-unit_row (λ u. record u { holding = record u.holding { money = money } }) (λ u. refl) c to))
     (lost_marks things lost d e Money (rw books grid) (omega (arith, two)) e_is e_marks)
 
-pub item_marks : (things lost to item : ℕ) (c d e : Marked) (h : Held) → d ≡ lent c to h → d.what.books ≡ c.what.books
-    → e.what ≡ with_lost d.what (Item item) lost → e.marks ≡ mark_amount d Lost (Item item)
-    → IsGrid things c.what.books → 2 + item < things → MarksChanges c e
+pub item_marks : (things lost to item : ℕ) (c d e : MarkedCampaign) (h : Held) → d ≡ lent c to h → d.value.books ≡ c.value.books
+    → e.value ≡ with_lost d.value (Item item) lost → e.marks ≡ mark_amount d Lost (Item item)
+    → IsGrid things c.value.books → 2 + item < things → MarksChanges c e
 item_marks things lost to item c d e h d_is books e_is e_marks grid inside =
     marks-trans c d e (subst (MarksChanges c) (sym d_is) (marks-lent c to h))
     (lost_marks things lost d e (Item item) (rw books grid) inside e_is e_marks)
 
-pub gone_marks : (c d : Marked) (n : ℕ) → d.what ≡ with_gone c.what n → d.marks ≡ mark_faction c n → MarksChanges c d
-gone_marks c d n what marks = marks_by c d (record { what = with_gone c.what n; marks = mark_faction c n }) what marks (marks-gone_faction c n)
+pub gone_marks : (c d : MarkedCampaign) (n : ℕ) → d.value ≡ with_gone c.value n → d.marks ≡ mark_faction c n → MarksChanges c d
+gone_marks c d n what marks = marks_by c d (record { value = with_gone c.value n; marks = mark_faction c n }) what marks (marks-gone_faction c n)
 
 -- ---- an item that is passed on
 
-pub passed_item_is : (c : State) (to item amount : ℕ) (v : Unit) → get c.units to ≡ Some v
+pub passed_item_is : (c : CampaignValue) (to item amount : ℕ) (v : Unit) → get c.units to ≡ Some v
     → item_to c to item amount (Some v) ≡ passed_item to c (item, amount)
 unfolding passed_item
 passed_item_is c to item amount v is = sym (ap (item_to c to item amount) is)
 
 -- ---- room
 
-pub near_leaves_room : (j k : Moving) (c d : State) → ((e : Entry) (t : Thing) → IsNear (j e t) (amount_in c.books e t) (amount_in d.books e t))
+pub near_leaves_room : (j k : Moving) (c d : CampaignValue) → ((e : Entry) (t : Thing) → IsNear (j e t) (amount_in c.books e t) (amount_in d.books e t))
     → HaveRoom (both_move j k) c → HaveRoom k d
 near_leaves_room j k c d near room e t = near_room (j e t) (k e t) (amount_in c.books e t) (amount_in d.books e t) (near e t) (room e t)
 
 another : (n : ℕ) → suc n ≢ n
 another n same = omega (arith, same)
 
-module _ (w : Planet) (c : State) (steady : IsSteady w c) where
+module _ (w : WorldValue) (c : CampaignValue) (steady : IsSteady w c) where
   pub item_passes : (to i amount : ℕ) → i < length w.items
       → PassesOn w (suc to) (λ s. part_of s (Item i) amount) (moves_only amount Lost (Item i)) c (passed_item to c (i, amount))
   item_passes to i amount known = pass_item w c (suc to) to (another to) steady i amount known

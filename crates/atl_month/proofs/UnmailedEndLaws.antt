@@ -5,16 +5,16 @@ use Rattle.std.specs.Ordering.{nat_cmp}
 use Rattle.std.specs.FinMap.{FinMap, get}
 use Rattle.std.proofs.lemmas.Bool.{cases_eq}
 use Rattle.std.proofs.lemmas.List.Sums.{sum_by-append, sum_by-cons}
-use Rattle.atl_tables.specs.Planet.{Planet}
+use Rattle.atl_tables.specs.Worlds.{WorldValue}
 use Rattle.atl_tables.proofs.GeneralLaws.{is_equal}
 use Rattle.atl_state.specs.declared.event.Event.{Event}
 use Rattle.atl_state.specs.declared.records.Unit.{Unit}
 use Rattle.atl_state.specs.Held.{Held}
-use Rattle.atl_state.specs.State.{State}
+use Rattle.atl_state.specs.Campaign.{CampaignValue}
 use Rattle.atl_state.proofs.EveryLaws.{get-insert_other}
 use Rattle.atl_state.proofs.RegionLaws.{get-insert_same}
 use Rattle.atl_state.proofs.ListLaws.{other_number}
-use Rattle.atl_instant.specs.Course.{Course}
+use Rattle.atl_instant.specs.Month.{MonthValue}
 use Rattle.atl_instant.specs.Steps.{IsSpared}
 use Rattle.atl_instant.specs.Unmailed.{IsLessBy, starved_in, starved_told}
 use Rattle.atl_instant.proofs.StructureLaws.{equal}
@@ -61,7 +61,7 @@ fewer_by s u = by_test (men_left s u == u.holding.men) refl
 abbrev among : ℕ → Settled → ℕ
 among n s = if s.unit == n then s.starved else 0
 
-supplied_at : (c : State) (s : Settled) (n : ℕ) (u : Unit) → get c.units n ≡ Some u → IsSpared (IsLessBy (among n s)) (upkeep_at c s) n u
+supplied_at : (c : CampaignValue) (s : Settled) (n : ℕ) (u : Unit) → get c.units n ≡ Some u → IsSpared (IsLessBy (among n s)) (upkeep_at c s) n u
 unfolding upkeep_at
 supplied_at c s n u there = elim (cases_eq n s.unit) [
   | inl own ↦
@@ -76,7 +76,7 @@ supplied_at c s n u there = elim (cases_eq n s.unit) [
     by_unit apart None = refl
     by_unit apart (Some v) = get-insert_other c.units s.unit n (supplied_unit s v) apart
 
-all_supplied : (c : State) (ss : List Settled) (n : ℕ) (u : Unit) → get c.units n ≡ Some u → IsSpared (IsLessBy (sum_by (among n) ss)) (fold upkeep_at c ss) n u
+all_supplied : (c : CampaignValue) (ss : List Settled) (n : ℕ) (u : Unit) → get c.units n ≡ Some u → IsSpared (IsLessBy (sum_by (among n) ss)) (fold upkeep_at c ss) n u
 all_supplied c [] n u there = record { unit = u; there = there; spared = nobody_less u }
 all_supplied c (s ∷ ss) n u there =
     let one = supplied_at c s n u there in
@@ -111,10 +111,10 @@ upkeep_leaves = record {
       record { unit = one.unit; there = one.there; spared = subst (λ k. IsLessBy k u one.unit) (less (starved_in m.events n) (all w c n) _ (sums w c m n)) one.spared };
 }
   where
-    all : (w : Planet) (c : State) (n : ℕ) → ℕ
+    all : (w : WorldValue) (c : CampaignValue) (n : ℕ) → ℕ
     all w c n = sum_by (among n) (settlements w c)
 
-    sums : (w : Planet) (c : State) (m : Course) (n : ℕ) → starved_in (upkeep_meaning w c m).1.events n ≡ starved_in m.events n + all w c n
+    sums : (w : WorldValue) (c : CampaignValue) (m : MonthValue) (n : ℕ) → starved_in (upkeep_meaning w c m).1.events n ≡ starved_in m.events n + all w c n
     sums w c m n = sum_by-append (by_event n) m.events (map starved_event (filter starves (settlements w c))) ∙ ap (λ x. starved_in m.events n + x) (starved_told_of (settlements w c) n)
 
     more : (x y z : ℕ) → z ≡ x + y → x ≤ z

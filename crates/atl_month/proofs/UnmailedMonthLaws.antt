@@ -6,13 +6,13 @@ use Rattle.std.specs.Cmp.{nat_cmp_total}
 use Rattle.std.specs.declared.cmp.Ordering.TheVariants.{Less, Equal, Greater}
 use Rattle.std.specs.FinMap.{find, get, get-from_entries, nat_cmp-IsAntisymmetric}
 use Rattle.std.proofs.lemmas.List.Elements.{recursion_from_All}
-use Rattle.atl_tables.specs.Planet.{Planet}
+use Rattle.atl_tables.specs.Worlds.{WorldValue}
 use Rattle.atl_orders.specs.Mailing.{reading_of}
 use Rattle.atl_orders.specs.declared.mailing.Mailing.{Mailing}
 use Rattle.atl_state.specs.declared.event.Event.{Event}
 use Rattle.atl_state.specs.Good.{Every}
-use Rattle.atl_state.specs.State.{State}
-use Rattle.atl_instant.specs.Course.{Course, by_faction}
+use Rattle.atl_state.specs.Campaign.{CampaignValue}
+use Rattle.atl_instant.specs.Month.{MonthValue, by_faction}
 use Rattle.atl_instant.specs.Meaning.{Keeping, Meaning}
 use Rattle.atl_instant.specs.Steps.{IsSpared}
 use Rattle.atl_instant.specs.Unmailed.{IsLeft, IsLessBy, starved_in}
@@ -43,17 +43,17 @@ none_read f ms none = get-from_entries nat_cmp_total (map (λ r. (r.faction, r))
         ] refl
 
 -- what closes over a month that has begun
-left_behind : (phases : Meaning) (keeps : Keeping) → ClosesUnmailed phases keeps → (w : Planet) (c d : State) (m : Course) (events : List Event) → m.events ≡ [] → ◌≡◌ {A = State × List Event} (d, events) ((phases w c m).0, (phases w c m).1.events) → keeps w m c d
+left_behind : (phases : Meaning) (keeps : Keeping) → ClosesUnmailed phases keeps → (w : WorldValue) (c d : CampaignValue) (m : MonthValue) (events : List Event) → m.events ≡ [] → ◌≡◌ {A = CampaignValue × List Event} (d, events) ((phases w c m).0, (phases w c m).1.events) → keeps w m c d
     → Every (λ n u. get m.readings u.faction ≡ None → IsLeft (starved_in events n) d n u) c.units
 left_behind phases keeps closes w c d m events begins is kept n u there none some =
-    let state : d ≡ (phases w c m).0 = ap (λ (p : State × List Event). p.0) is in
-    let told : events ≡ (phases w c m).1.events = ap (λ (p : State × List Event). p.1) is in
+    let state : d ≡ (phases w c m).0 = ap (λ (p : CampaignValue × List Event). p.0) is in
+    let told : events ≡ (phases w c m).1.events = ap (λ (p : CampaignValue × List Event). p.1) is in
     let from_none : starved_in m.events n ≡ 0 = ap (λ es. starved_in es n) begins in
     let so_many : starved_in (phases w c m).1.events n - starved_in m.events n ≡ starved_in events n = omega (arith, from_none, ap (λ es. starved_in es n) told) in
     subst (λ k. IsSpared (IsLessBy k) d n u) so_many (subst (λ s. IsSpared (IsLessBy (starved_in (phases w c m).1.events n - starved_in m.events n)) s n u) (sym state)
     (closes.left w c m (subst (keeps w m c) state kept) n u there none (subst (λ k. k < u.holding.men) (sym so_many) some)))
 
-pub unmailed_left : (w : Planet) (c d : State) (ms : List Mailing) (words : List ℕ) (events : List Event) → (d, events) ≡ month_of w c (by_faction (map reading_of ms)) words
+pub unmailed_left : (w : WorldValue) (c d : CampaignValue) (ms : List Mailing) (words : List ℕ) (events : List Event) → (d, events) ≡ month_of w c (by_faction (map reading_of ms)) words
     → month_keeps w (begun (by_faction (map reading_of ms)) words) c d → UnmailedAreLeft ms events c d
 unfolding month_of
 unmailed_left w c d ms words events is kept n u there none =

@@ -8,7 +8,7 @@ use Rattle.std.proofs.Math.Nat.{div-le_of_le-mul, mul-le-mul_right}
 use Rattle.std.proofs.lemmas.List.{length-map}
 use Rattle.std.proofs.lemmas.Int.{ints}
 use Rattle.std.proofs.lemmas.Bool.Decides.{nat_tests}
-use Rattle.atl_tables.specs.Planet.{Planet}
+use Rattle.atl_tables.specs.Worlds.{WorldValue}
 use Rattle.atl_tables.specs.Limits.{most_amount}
 use Rattle.atl_tables.specs.Names.{name_ok}
 use Rattle.atl_tables.specs.Sums.{changed_at}
@@ -28,7 +28,7 @@ use Rattle.atl_state.specs.Lending.{with_held}
 use Rattle.atl_state.specs.Limits.{most_days, most_units}
 use Rattle.atl_state.specs.Marking.{mark_amount}
 use Rattle.atl_state.specs.Marks.{amount_number}
-use Rattle.atl_state.specs.State.{Marked, State, with_amount, with_money}
+use Rattle.atl_state.specs.Campaign.{MarkedCampaign, CampaignValue, with_amount, with_money}
 use Rattle.atl_state.specs.Totals.{Balances, held, total}
 use Rattle.atl_state.proofs.BackLaws.{Rise, entries_rise}
 use Rattle.atl_state.proofs.BookLaws.{IsGrid-with_booked, booked-with_booked, share_of}
@@ -53,10 +53,10 @@ use Rattle.atl_month.proofs.SettlingLaws.{can_spare}
 -- ---- what a unit may hold behind it
 
 -- so many days of a skill of the world over so many men
-abbrev IsStudied : Planet → (men skill days : ℕ) → Type 0
+abbrev IsStudied : WorldValue → (men skill days : ℕ) → Type 0
 IsStudied w men skill days = (skill < length w.skills) × (1 ≤ days) × (days ≤ most_days * men)
 
-module _ (w : Planet) (left men : ℕ) (fewer : left ≤ men) where
+module _ (w : WorldValue) (left men : ℕ) (fewer : left ≤ men) where
   part : (days : ℕ) → days ≤ most_days * men → days * left / men ≤ most_days * left
   part days most = div-le_of_le-mul men (scaled days most)
     where
@@ -77,7 +77,7 @@ module _ (w : Planet) (left men : ℕ) (fewer : left ≤ men) where
       days_kept es (with_amount_of kept skill stay) (every_amount (IsStudied w left) kept skill stay (λ enough. (known, enough, part days most)) old) each
 
 -- with fewer men it has their part of the days, and all else as it was
-module _ (w : Planet) (h : Held) (left : ℕ) (fewer : left ≤ h.men) (days : Every (IsStudied w h.men) h.days) where
+module _ (w : WorldValue) (h : Held) (left : ℕ) (fewer : left ≤ h.men) (days : Every (IsStudied w h.men) h.days) where
   abbrev IsWithMen : Held → Type 0
   IsWithMen k = (k.men ≡ left) × Every (IsStudied w left) k.days × (k.name ≡ h.name) × (k.guard ≡ h.guard) × (k.items ≡ h.items)
 
@@ -94,7 +94,7 @@ module _ (w : Planet) (h : Held) (left : ℕ) (fewer : left ≤ h.men) (days : E
 
 -- ---- the upkeep of a unit that is there
 
-module _ (w : Planet) (c : State) (s : Settled) (u : Unit) (is : get c.units s.unit ≡ Some u) (spare : CanSpare s u.holding.men u.holding.money)
+module _ (w : WorldValue) (c : CampaignValue) (s : Settled) (u : Unit) (is : get c.units s.unit ≡ Some u) (spare : CanSpare s u.holding.men u.holding.money)
     (steady : IsSteady w c) where
   abbrev old : Held
   old = u.holding
@@ -138,13 +138,13 @@ module _ (w : Planet) (c : State) (s : Settled) (u : Unit) (is : get c.units s.u
         guard = guard_kept;
       }
 
-  abbrev held_back : State
+  abbrev held_back : CampaignValue
   held_back = with_held c s.unit now (Some u)
 
-  abbrev paid_off : State
+  abbrev paid_off : CampaignValue
   paid_off = with_amount held_back Upkeep Money (neg_ℤ (pos s.paid))
 
-  abbrev after : State
+  abbrev after : CampaignValue
   after = upkeep_in c s (Some u)
 
   after_steady : IsSteady w after
@@ -225,15 +225,15 @@ module _ (w : Planet) (c : State) (s : Settled) (u : Unit) (is : get c.units s.u
 
 -- ---- the upkeep of all
 
-pub upkeep_at_is : (c : State) (s : Settled) (u : Unit) → get c.units s.unit ≡ Some u → upkeep_at c s ≡ upkeep_in c s (Some u)
+pub upkeep_at_is : (c : CampaignValue) (s : Settled) (u : Unit) → get c.units s.unit ≡ Some u → upkeep_at c s ≡ upkeep_in c s (Some u)
 unfolding upkeep_at
 upkeep_at_is c s u is = ap (upkeep_in c s) is
 
-pub upkeep_at_leaves_well : (w : Planet) (c : State) (s : Settled) → CanSettle w c s
+pub upkeep_at_leaves_well : (w : WorldValue) (c : CampaignValue) (s : Settled) → CanSettle w c s
     → LeavesWell IsSteady (takes_up_to most_amount) w c (upkeep_at c s)
 upkeep_at_leaves_well w c s can = rw (upkeep_at_is c s can.unit can.there) (unit_leaves_well w c s can.unit can.there can.spare can.steady)
 
-pub other_unit : (c : State) (s : Settled) (n : ℕ) → n ≢ s.unit → get (upkeep_at c s).units n ≡ get c.units n
+pub other_unit : (c : CampaignValue) (s : Settled) (n : ℕ) → n ≢ s.unit → get (upkeep_at c s).units n ≡ get c.units n
 unfolding upkeep_at
 other_unit c s n apart = by_unit (get c.units s.unit)
   where
@@ -242,19 +242,19 @@ other_unit c s n apart = by_unit (get c.units s.unit)
     by_unit (Some u) = get-insert_other c.units s.unit n (record u { holding = supplied s u.holding }) apart
 
 -- a unit whose turn is still to come is as it was
-pub each_still : (c : State) (s : Settled) (es : List (ℕ × Unit)) → AllByRecursion (λ e. s.unit < e.0) es
+pub each_still : (c : CampaignValue) (s : Settled) (es : List (ℕ × Unit)) → AllByRecursion (λ e. s.unit < e.0) es
     → EachOf (λ n u. get c.units n ≡ Some u) es → EachOf (λ n u. get (upkeep_at c s).units n ≡ Some u) es
 each_still c s [] above there = tt
 each_still c s (e ∷ es) above there = (other_unit c s e.0 (λ same. omega (arith, above.0, same)) ∙ there.0, each_still c s es above.1 there.1)
 
-module _ (w : Planet) (some : 1 ≤ w.rules.maintenance) (all : List Purse) where
+module _ (w : WorldValue) (some : 1 ≤ w.rules.maintenance) (all : List Purse) where
   abbrev step_moves : Moving
   step_moves = takes_up_to most_amount
 
   abbrev behind : List Purse → List (ℕ × Unit) → List Settled
   behind before es = settled_behind w.rules.maintenance all before (map purse_of es)
 
-  settled_in_turn : (before : List Purse) (es : List (ℕ × Unit)) (c : State) → Rise es → EachOf (λ n u. get c.units n ≡ Some u) es
+  settled_in_turn : (before : List Purse) (es : List (ℕ × Unit)) (c : CampaignValue) → Rise es → EachOf (λ n u. get c.units n ≡ Some u) es
       → IsSteady w c → HaveRoom (moved_times (length (behind before es)) step_moves) c → CanInTurn (CanSettle w) upkeep_at c (behind before es)
   settled_in_turn before [] c rise there steady room = tt
   settled_in_turn before ((n, u) ∷ es) c rise there steady room =
@@ -277,7 +277,7 @@ length-settled : (m : ℕ) (all before rest : List Purse) → length (settled_be
 length-settled m all before [] = refl
 length-settled m all before (p ∷ rest) = ap suc (length-settled m all (before ++ p ∷ []) rest)
 
-module _ (w : Planet) (c : State) (some : 1 ≤ w.rules.maintenance) (steady : IsSteady w c) (room : HaveRoom (takes_up_to most_moved) c) where
+module _ (w : WorldValue) (c : CampaignValue) (some : 1 ≤ w.rules.maintenance) (steady : IsSteady w c) (room : HaveRoom (takes_up_to most_moved) c) where
   abbrev list : List Settled
   list = settlements w c
 
@@ -321,13 +321,13 @@ men_stay h left is = by_men (left == h.men) refl
 pub paid_alone : (s : Settled) (h : Held) → s.starved ≡ 0 → supplied s h ≡ record h { money = h.money - s.paid }
 paid_alone s h fed = ap (λ (k : Held). record k { money = h.money - s.paid }) (men_stay h (h.men - s.starved) (omega (arith, fed)))
 
-pub pays : (c : State) (s : Settled) (u : Unit) → get c.units s.unit ≡ Some u → s.starved ≡ 0
+pub pays : (c : CampaignValue) (s : Settled) (u : Unit) → get c.units s.unit ≡ Some u → s.starved ≡ 0
     → with_money c s.unit (u.holding.money - s.paid) ≡ with_held c s.unit (supplied s u.holding) (Some u)
 pays c s u is fed =
     ap (λ o. record c { units = changed_at (λ (v : Unit). record v { holding = record v.holding { money = u.holding.money - s.paid } }) c.units s.unit o }) is
     ∙ ap (λ h. with_held c s.unit h (Some u)) (sym (paid_alone s u.holding fed))
 
-pub pays_nothing : (c : State) (s : Settled) (u : Unit) → get c.units s.unit ≡ Some u → s.starved ≡ 0 → s.paid ≡ 0
+pub pays_nothing : (c : CampaignValue) (s : Settled) (u : Unit) → get c.units s.unit ≡ Some u → s.starved ≡ 0 → s.paid ≡ 0
     → c ≡ with_held c s.unit (supplied s u.holding) (Some u)
 pays_nothing c s u is fed none =
     let same : supplied s u.holding ≡ u.holding = paid_alone s u.holding fed ∙ ap (λ m. record u.holding { money = m }) (omega (arith, none)) in
@@ -335,13 +335,13 @@ pays_nothing c s u is fed none =
 
 -- ---- what is marked
 
-pub upkeep_marks : (things : ℕ) (c d e f : Marked) (s : Settled) (x y : ℤ)
-    → MarksChanges c d → e.what ≡ with_amount d.what Upkeep Money x → e.marks ≡ mark_amount d Upkeep Money
-    → f.what ≡ with_amount e.what Starved People y → f.marks ≡ mark_amount e Starved People
-    → IsGrid things d.what.books → 2 ≤ things → MarksChanges c f
+pub upkeep_marks : (things : ℕ) (c d e f : MarkedCampaign) (s : Settled) (x y : ℤ)
+    → MarksChanges c d → e.value ≡ with_amount d.value Upkeep Money x → e.marks ≡ mark_amount d Upkeep Money
+    → f.value ≡ with_amount e.value Starved People y → f.marks ≡ mark_amount e Starved People
+    → IsGrid things d.value.books → 2 ≤ things → MarksChanges c f
 upkeep_marks things c d e f s x y d_marks e_is e_marks f_is f_marks grid two =
-    let e_books : e.what.books ≡ with_booked d.what.books Upkeep Money x = ap (λ (s : State). s.books) e_is in
-    let e_grid : IsGrid things e.what.books = rw e_books (IsGrid-with_booked things d.what.books Upkeep Money x grid) in
+    let e_books : e.value.books ≡ with_booked d.value.books Upkeep Money x = ap (λ (s : CampaignValue). s.books) e_is in
+    let e_grid : IsGrid things e.value.books = rw e_books (IsGrid-with_booked things d.value.books Upkeep Money x grid) in
     marks-trans c d f d_marks
     (marks-trans d e f (marks_by d e _ e_is e_marks (marks-amount things d Upkeep Money x grid (omega arith)))
     (marks_by e f _ f_is f_marks (marks-amount things e Starved People y e_grid (omega arith))))

@@ -3,15 +3,15 @@ use Rattle.std.specs.Prelude.{◌≡◌, ◌≤◌, ℕ, ◌+◌, ◌*◌, List,
 use Rattle.std.specs.Ordering.{nat_cmp}
 use Rattle.std.specs.List.Sorted.{IsPermutation}
 use Rattle.std.specs.FinMap.{FinMap, empty}
-use Rattle.atl_tables.specs.Planet.{Planet}
+use Rattle.atl_tables.specs.Worlds.{WorldValue}
 use Rattle.atl_orders.specs.Mailing.{Reading, reading_of}
 use Rattle.atl_orders.specs.declared.mailing.Mailing.{Mailing}
 use Rattle.atl_state.specs.declared.books.Entry.{Entry}
 use Rattle.atl_state.specs.declared.books.Thing.{Thing}
 use Rattle.atl_state.specs.declared.event.Event.{Event}
 use Rattle.atl_state.specs.Books.{amount_in}
-use Rattle.atl_state.specs.State.{State, with_month, without_mail}
-use Rattle.atl_instant.specs.Course.{Course, HaveOwnFactions, by_faction}
+use Rattle.atl_state.specs.Campaign.{CampaignValue, with_month, without_mail}
+use Rattle.atl_instant.specs.Month.{MonthValue, HaveOwnFactions, by_faction}
 use Rattle.atl_instant.specs.Meaning.{IsNear, Keeping, Meaning, Moving, both_keep, both_move, most_moved, then_also}
 use Rattle.atl_instant.specs.Terms.{EachPhase, MovesItsOwn, PhaseTerms, keeps_of, meaning_of, moving_of, moving_phases_of}
 use Rattle.atl_instant.specs.Form.{form_terms}
@@ -34,7 +34,7 @@ use Rattle.atl_month.specs.Sweep.{sweep_terms}
 use Rattle.atl_month.specs.Upkeep.{upkeep_terms}
 
 -- the month before its first phase
-abbrev pub begun : FinMap nat_cmp Reading → List ℕ → Course
+abbrev pub begun : FinMap nat_cmp Reading → List ℕ → MonthValue
 begun readings words = record { readings = readings; aliases = empty; words = words; events = [] }
 
 -- ---- the phases
@@ -65,7 +65,7 @@ abbrev pub month_keeps : Keeping
 month_keeps = both_keep orders_meaning orders_keep (keeps_of closing_phases)
 
 -- the campaign behind the phases of a month, and what came of the orders
-unfoldable pub month_of : Planet → State → FinMap nat_cmp Reading → List ℕ → State × List Event
+unfoldable pub month_of : WorldValue → CampaignValue → FinMap nat_cmp Reading → List ℕ → CampaignValue × List Event
 month_of w c readings words = let behind = month_meaning w c (begun readings words) in (behind.0, behind.1.events)
 
 -- ---- the books
@@ -94,7 +94,7 @@ abbrev pub month_moves : Moving
 month_moves e t = moving_phases e t * most_moved
 
 -- each amount of the books is moved by so much at most
-abbrev pub BooksAreNear : Moving → (before after : State) → Type 0
+abbrev pub BooksAreNear : Moving → (before after : CampaignValue) → Type 0
 BooksAreNear moving before after = (e : Entry) (t : Thing) → IsNear (moving e t) (amount_in before.books e t) (amount_in after.books e t)
 
 -- ---- the mailings
@@ -102,9 +102,9 @@ BooksAreNear moving before after = (e : Entry) (t : Thing) → IsNear (moving e 
 -- the mailings of a month in another order make the same month
 abbrev pub MonthHasNoOrder : Type 0
 MonthHasNoOrder =
-    (w : Planet) (c : State) (words : List ℕ) (mailings others : List Mailing) → HaveOwnFactions mailings → IsPermutation mailings others →
+    (w : WorldValue) (c : CampaignValue) (words : List ℕ) (mailings others : List Mailing) → HaveOwnFactions mailings → IsPermutation mailings others →
     month_of w c (by_faction (map reading_of mailings)) words ≡ month_of w c (by_faction (map reading_of others)) words
 
 -- a campaign whose month is counted, and whose mail is taken away
-abbrev pub finished : State → State
+abbrev pub finished : CampaignValue → CampaignValue
 finished c = without_mail (with_month c (c.month + 1))

@@ -3,7 +3,7 @@ use Rattle.std.specs.Prelude.{◌≡◌, ◌==◌, ◌&&◌, ℕ, nat_lt, unwrap
 use Rattle.std.specs.Ordering.{nat_cmp}
 use Rattle.std.specs.FinMap.{FinMap, get, insert}
 use Rattle.atl_state.specs.declared.records.Unit.{Unit}
-use Rattle.atl_state.specs.State.{State}
+use Rattle.atl_state.specs.Campaign.{CampaignValue}
 use Rattle.atl_month.specs.Sweep.{receiver}
 use Rattle.atl_tables.specs.Groups.{group_of}
 
@@ -23,7 +23,7 @@ abbrev pub receiver_noted : ReceiverMap → ℕ → Unit → ReceiverMap
 receiver_noted m n u = if nat_lt 0 u.holding.men && (receiver_in m u.region u.faction == 0) then with_receiver m u.region u.faction n else m
 
 -- the receivers of a campaign
-abbrev pub AreReceivers : State → ReceiverMap → Type 0
+abbrev pub AreReceivers : CampaignValue → ReceiverMap → Type 0
 AreReceivers c m = (region faction : ℕ) → receiver_in m region faction ≡ receiver c region faction
 
 -- a number, or another where it is 0

@@ -1,14 +1,14 @@
 -- The season of a month: what each region has of births and of income. See docs/RULES.md, "Season".
 use Rattle.std.specs.Prelude.{◌≡◌, ℕ, pos, ◌+◌, ◌-◌, ◌*◌, ◌/◌, ◌%◌, min, List, map, fold, zip, Option, Some, None}
 use Rattle.std.specs.FinMap.{entries, get}
-use Rattle.atl_tables.specs.Planet.{Planet}
+use Rattle.atl_tables.specs.Worlds.{WorldValue}
 use Rattle.atl_tables.specs.declared.world.Terrain.{Terrain}
 use Rattle.atl_tables.specs.ByNumber.{terrain_of}
 use Rattle.atl_state.specs.declared.books.Entry.TheVariants.{Births, Income}
 use Rattle.atl_state.specs.declared.books.Thing.TheVariants.{Money, People}
 use Rattle.atl_state.specs.declared.records.Region.{Region}
-use Rattle.atl_state.specs.State.{State, with_amount, with_peasants, with_region_money}
-use Rattle.atl_instant.specs.Course.{Course}
+use Rattle.atl_state.specs.Campaign.{CampaignValue, with_amount, with_peasants, with_region_money}
+use Rattle.atl_instant.specs.Month.{MonthValue}
 use Rattle.atl_instant.specs.Meaning.{Keeping, Moving, both_move, moves_only}
 use Rattle.atl_month.specs.Limits.{per_hundred}
 use Rattle.atl_instant.specs.Terms.{PhaseTerms, books_money_and_people}
@@ -22,13 +22,13 @@ abbrev pub income : (per_peasant limit peasants money : ℕ) → ℕ
 income per_peasant limit peasants money = min (peasants * per_peasant) (limit - money)
 
 -- a region of so many peasants and so much money with births and income, which are booked
-abbrev pub with_growth : State → ℕ → (peasants money born earned : ℕ) → State
+abbrev pub with_growth : CampaignValue → ℕ → (peasants money born earned : ℕ) → CampaignValue
 with_growth c n peasants money born earned =
     let grown = with_region_money (with_peasants c n (peasants + born)) n (money + earned) in
     with_amount (with_amount grown Births People (pos born)) Income Money (pos earned)
 
 -- The births come first, and those who are born bring income as well.
-abbrev pub season_in : Planet → State → (n word : ℕ) → Option Terrain → Option Region → State
+abbrev pub season_in : WorldValue → CampaignValue → (n word : ℕ) → Option Terrain → Option Region → CampaignValue
 season_in w c n word (Some t) (Some r) =
     let born = births w.rules.growth t.peasant_limit word r.peasants in
     with_growth c n r.peasants r.money born (income w.rules.income t.money_limit (r.peasants + born) r.money)
@@ -36,15 +36,15 @@ season_in w c n word (Some t) None = c
 season_in w c n word None r = c
 
 -- the season of a region, by its number, with its word
-unfoldable pub season_at : Planet → State → ℕ × ℕ → State
+unfoldable pub season_at : WorldValue → CampaignValue → ℕ × ℕ → CampaignValue
 season_at w c (n, word) = season_in w c n word (terrain_of w n) (get c.regions n)
 
 -- The season of all regions, in the order of their numbers, each with its word.
-abbrev pub season : Planet → State → List ℕ → State
+abbrev pub season : WorldValue → CampaignValue → List ℕ → CampaignValue
 season w c words = fold (season_at w) c (zip (map (λ e. e.0) (entries w.regions)) words)
 
 -- what the season makes of a campaign; it brings no event
-abbrev pub season_meaning : Planet → State → Course → State × Course
+abbrev pub season_meaning : WorldValue → CampaignValue → MonthValue → CampaignValue × MonthValue
 season_meaning w c m = (season w c m.words, m)
 
 -- income is of money, births are of people, each by so much at most

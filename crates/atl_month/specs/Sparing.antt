@@ -2,18 +2,18 @@
 use Rattle.std.specs.Prelude.{◌≡◌, Some}
 use Rattle.std.specs.FinMap.{get}
 use Rattle.atl_tables.specs.Limits.{most_amount}
-use Rattle.atl_tables.specs.Planet.{Planet}
+use Rattle.atl_tables.specs.Worlds.{WorldValue}
 use Rattle.atl_state.specs.declared.records.Unit.{Unit}
 use Rattle.atl_state.specs.Good.{IsSteady}
 use Rattle.atl_state.specs.Lending.{with_held}
-use Rattle.atl_state.specs.State.{State}
+use Rattle.atl_state.specs.Campaign.{CampaignValue}
 use Rattle.atl_instant.specs.Meaning.{HaveRoom}
 use Rattle.atl_month.specs.declared.settling.Settled.{Settled}
 use Rattle.atl_month.specs.Settling.{CanSpare}
 use Rattle.atl_month.specs.Upkeep.{supplied, takes_up_to}
 
 -- the unit is there and can spare it, and the books have room
-pub record CanSettle (w : Planet) (c : State) (s : Settled) : Type 0 where
+pub record CanSettle (w : WorldValue) (c : CampaignValue) (s : Settled) : Type 0 where
   pub unit : Unit
   pub there : get c.units s.unit ≡ Some unit
   pub spare : CanSpare s unit.holding.men unit.holding.money
@@ -21,5 +21,5 @@ pub record CanSettle (w : Planet) (c : State) (s : Settled) : Type 0 where
   pub room : HaveRoom (takes_up_to most_amount) c
 
 -- the unit, where it is there, holds what its upkeep leaves it, and nothing else is changed
-abbrev pub IsSupplied : State → Settled → State → Type 0
+abbrev pub IsSupplied : CampaignValue → Settled → CampaignValue → Type 0
 IsSupplied before s after = (u : Unit) → get before.units s.unit ≡ Some u → after ≡ with_held before s.unit (supplied s u.holding) (Some u)

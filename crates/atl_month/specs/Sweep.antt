@@ -1,7 +1,7 @@
 -- The sweep of a month: units without men go, and factions without units. See docs/RULES.md, "Sweep".
 use Rattle.std.specs.Prelude.{◌≡◌, ◌≤◌, ◌+◌, ◌-◌, ◌==◌, ◌&&◌, not, min, ℕ, pos, neg_ℤ, nat_lt, Bool, true, false, List, [], ◌∷◌, fold, Option, Some, None, if◌then◌else◌}
 use Rattle.std.specs.FinMap.{entries, get}
-use Rattle.atl_tables.specs.Planet.{Planet}
+use Rattle.atl_tables.specs.Worlds.{WorldValue}
 use Rattle.atl_tables.specs.Sums.{numbers_where}
 use Rattle.atl_state.specs.Books.{entry_place, thing_place}
 use Rattle.atl_state.specs.declared.books.Entry.TheVariants.{Lost}
@@ -13,8 +13,8 @@ use Rattle.atl_state.specs.Held.{amount_of, with_amount_of}
 use Rattle.atl_state.specs.Lending.{with_held}
 use Rattle.atl_state.specs.Limits.{holding_limit}
 use Rattle.atl_state.specs.Owners.{first_or_zero, without_unit}
-use Rattle.atl_state.specs.State.{State, active, numbers_of, with_amount, with_gone, with_money}
-use Rattle.atl_instant.specs.Course.{Course}
+use Rattle.atl_state.specs.Campaign.{CampaignValue, active, numbers_of, with_amount, with_gone, with_money}
+use Rattle.atl_instant.specs.Month.{MonthValue}
 use Rattle.atl_instant.specs.Meaning.{Keeping, Moving, most_moved}
 use Rattle.atl_instant.specs.Staying.{IsNoWorse}
 use Rattle.atl_instant.specs.Terms.{PhaseTerms}
@@ -26,29 +26,29 @@ abbrev pub receives : (region faction : ℕ) → Unit → Bool
 receives region faction v = (v.region == region) && ((v.faction == faction) && nat_lt 0 v.holding.men)
 
 -- the lowest-numbered one; 0 where there is none
-abbrev pub receiver : State → (region faction : ℕ) → ℕ
+abbrev pub receiver : CampaignValue → (region faction : ℕ) → ℕ
 receiver c region faction = first_or_zero (numbers_where (receives region faction) c.units)
 
 -- ---- what it gets, up to its room
 
-abbrev pub with_lost : State → Thing → ℕ → State
+abbrev pub with_lost : CampaignValue → Thing → ℕ → CampaignValue
 with_lost c t amount = with_amount c Lost t (neg_ℤ (pos amount))
 
 -- how much of an amount goes to a unit that has so much already
 abbrev pub taken_of : (amount have : ℕ) → ℕ
 taken_of amount have = min amount (holding_limit - have)
 
-abbrev pub money_to : State → (to amount : ℕ) → Option Unit → State
+abbrev pub money_to : CampaignValue → (to amount : ℕ) → Option Unit → CampaignValue
 money_to c to amount None = with_lost c Money amount
 money_to c to amount (Some v) =
     let taken = taken_of amount v.holding.money in
     with_lost (with_money c to (v.holding.money + taken)) Money (amount - taken)
 
 -- money that goes to a unit, where it is there; the rest is lost
-unfoldable pub passed_money : State → (to amount : ℕ) → State
+unfoldable pub passed_money : CampaignValue → (to amount : ℕ) → CampaignValue
 passed_money c to amount = money_to c to amount (get c.units to)
 
-abbrev pub item_to : State → (to item amount : ℕ) → Option Unit → State
+abbrev pub item_to : CampaignValue → (to item amount : ℕ) → Option Unit → CampaignValue
 item_to c to item amount None = with_lost c (Item item) amount
 item_to c to item amount (Some v) =
     let have = amount_of v.holding.items item in
@@ -56,24 +56,24 @@ item_to c to item amount (Some v) =
     with_lost (with_held c to (record v.holding { items = with_amount_of v.holding.items item (have + taken) }) (Some v)) (Item item) (amount - taken)
 
 -- so much of an item
-unfoldable pub passed_item : ℕ → State → ℕ × ℕ → State
+unfoldable pub passed_item : ℕ → CampaignValue → ℕ × ℕ → CampaignValue
 passed_item to c (item, amount) = item_to c to item amount (get c.units to)
 
 -- ---- units without men
 
-abbrev pub passed_on : State → ℕ → Unit → State
+abbrev pub passed_on : CampaignValue → ℕ → Unit → CampaignValue
 passed_on c to u = fold (passed_item to) (passed_money c to u.holding.money) (entries u.holding.items)
 
 -- A unit without men gives its money and each item to the lowest-numbered unit with men of its faction in its region, and is removed.
-abbrev pub swept_in : State → ℕ → Option Unit → State
+abbrev pub swept_in : CampaignValue → ℕ → Option Unit → CampaignValue
 swept_in c n None = c
 swept_in c n (Some u) = if u.holding.men == 0 then without_unit (passed_on c (receiver c u.region u.faction) u) n else c
 
-unfoldable pub swept_at : State → ℕ → State
+unfoldable pub swept_at : CampaignValue → ℕ → CampaignValue
 swept_at c n = swept_in c n (get c.units n)
 
 -- the units without men, in the order of their numbers
-abbrev pub menless : State → List ℕ
+abbrev pub menless : CampaignValue → List ℕ
 menless c = numbers_where (λ u. u.holding.men == 0) c.units
 
 -- ---- factions without units
@@ -83,19 +83,19 @@ is_empty [] = true
 is_empty (n ∷ ns) = false
 
 -- a faction that has no unit is gone
-abbrev pub faction_swept : State → ℕ → State
+abbrev pub faction_swept : CampaignValue → ℕ → CampaignValue
 faction_swept c n = if is_empty (numbers_of n c.units) then with_gone c n else c
 
 -- ---- the phase
 
 -- the units first, and then the factions
-abbrev pub sweep : State → State
+abbrev pub sweep : CampaignValue → CampaignValue
 sweep c =
     let swept = fold swept_at c (menless c) in
     fold faction_swept swept (active swept)
 
 -- it brings no event
-abbrev pub sweep_meaning : Planet → State → Course → State × Course
+abbrev pub sweep_meaning : WorldValue → CampaignValue → MonthValue → CampaignValue × MonthValue
 sweep_meaning w c m = (sweep c, m)
 
 -- money and items may be lost, so much of each at most

@@ -4,7 +4,7 @@ use Rattle.std.specs.List.{All}
 use Rattle.atl_orders.specs.declared.mailing.Mailing.{Mailing}
 use Rattle.atl_state.specs.declared.event.Event.{Event}
 use Rattle.atl_state.specs.Good.{Every}
-use Rattle.atl_state.specs.State.{State}
+use Rattle.atl_state.specs.Campaign.{CampaignValue}
 use Rattle.atl_instant.specs.Unmailed.{IsLeft, starved_in}
 
 -- no mailing is the faction's
@@ -13,5 +13,5 @@ SentNone mailings faction = All (λ m. m.faction ≢ faction) mailings
 
 -- Each unit of such a faction, of whom not all men starved, is there: with its name, exactly its men but for those who starved, and no
 -- less of any item.
-abbrev pub UnmailedAreLeft : List Mailing → List Event → (before after : State) → Type 0
+abbrev pub UnmailedAreLeft : List Mailing → List Event → (before after : CampaignValue) → Type 0
 UnmailedAreLeft mailings events before after = Every (λ n u. SentNone mailings u.faction → IsLeft (starved_in events n) after n u) before.units

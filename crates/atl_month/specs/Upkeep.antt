@@ -2,7 +2,7 @@
 use Rattle.std.specs.Prelude.{◌≡◌, ℕ, nat_lt, pos, neg_ℤ, ◌-◌, ◌*◌, ◌/◌, ◌==◌, not, ◌++◌, Bool, List, map, filter, fold, Option, Some, None, if◌then◌else◌}
 use Rattle.std.specs.Ordering.{nat_cmp}
 use Rattle.std.specs.FinMap.{FinMap, empty, entries, get}
-use Rattle.atl_tables.specs.Planet.{Planet}
+use Rattle.atl_tables.specs.Worlds.{WorldValue}
 use Rattle.atl_state.specs.declared.books.Entry.TheVariants.{Starved, Upkeep}
 use Rattle.atl_state.specs.declared.books.Thing.TheVariants.{Money, People}
 use Rattle.atl_state.specs.declared.event.Event.{Event}
@@ -12,8 +12,8 @@ use Rattle.atl_state.specs.declared.records.Unit.{Unit}
 use Rattle.atl_state.specs.Good.{Every}
 use Rattle.atl_state.specs.Held.{Held, with_amount_of}
 use Rattle.atl_state.specs.Lending.{with_held}
-use Rattle.atl_state.specs.State.{State, with_amount}
-use Rattle.atl_instant.specs.Course.{Course}
+use Rattle.atl_state.specs.Campaign.{CampaignValue, with_amount}
+use Rattle.atl_instant.specs.Month.{MonthValue}
 use Rattle.atl_instant.specs.Meaning.{Keeping, Moving, both_move, moves_only}
 use Rattle.atl_month.specs.declared.settling.Purse.{Purse}
 use Rattle.atl_month.specs.declared.settling.Settled.{Settled}
@@ -35,14 +35,14 @@ abbrev pub supplied : Settled → Held → Held
 supplied s h = record (with_men_left (h.men - s.starved) h) { money = h.money - s.paid }
 
 -- the campaign behind the upkeep of a unit, which is booked
-abbrev pub upkeep_in : State → Settled → Option Unit → State
+abbrev pub upkeep_in : CampaignValue → Settled → Option Unit → CampaignValue
 upkeep_in c s None = c
 upkeep_in c s (Some u) =
     let held = with_held c s.unit (supplied s u.holding) (Some u) in
     let paid = with_amount held Upkeep Money (neg_ℤ (pos s.paid)) in
     with_amount paid Starved People (neg_ℤ (pos s.starved))
 
-unfoldable pub upkeep_at : State → Settled → State
+unfoldable pub upkeep_at : CampaignValue → Settled → CampaignValue
 upkeep_at c s = upkeep_in c s (get c.units s.unit)
 
 -- ---- all units
@@ -51,13 +51,13 @@ abbrev pub purse_of : ℕ × Unit → Purse
 purse_of (n, u) = record { unit = n; region = u.region; faction = u.faction; men = u.holding.men; money = u.holding.money }
 
 -- what each unit has before it, in the order of their numbers
-abbrev pub purses_of : State → List Purse
+abbrev pub purses_of : CampaignValue → List Purse
 purses_of c = map purse_of (entries c.units)
 
-abbrev pub settlements : Planet → State → List Settled
+abbrev pub settlements : WorldValue → CampaignValue → List Settled
 settlements w c = settled_of w.rules.maintenance (purses_of c)
 
-abbrev pub upkeep : State → List Settled → State
+abbrev pub upkeep : CampaignValue → List Settled → CampaignValue
 upkeep c list = fold upkeep_at c list
 
 -- a unit's report of those who starved
@@ -67,7 +67,7 @@ starves s = not (s.starved == 0)
 abbrev pub starved_event : Settled → Event
 starved_event s = record { faction = s.faction; unit = s.unit; line = 0; verb = verb.Upkeep; outcome = outcome.Starved s.starved }
 
-abbrev pub upkeep_meaning : Planet → State → Course → State × Course
+abbrev pub upkeep_meaning : WorldValue → CampaignValue → MonthValue → CampaignValue × MonthValue
 upkeep_meaning w c m = (upkeep c (settlements w c), record m { events = m.events ++ map starved_event (filter starves (settlements w c)) })
 
 -- ---- what it moves, and what it keeps
@@ -77,11 +77,11 @@ abbrev pub takes_up_to : ℕ → Moving
 takes_up_to most = both_move (moves_only most Upkeep Money) (moves_only most Starved People)
 
 -- the units of a unit's faction in its region
-abbrev pub peers_of : State → Unit → List Purse
+abbrev pub peers_of : CampaignValue → Unit → List Purse
 peers_of c u = filter (is_purse_of u.region u.faction) (purses_of c)
 
 -- what upkeep takes from a unit, as they alone tell
-abbrev pub settled_alone : Planet → State → ℕ → Unit → Settled
+abbrev pub settled_alone : WorldValue → CampaignValue → ℕ → Unit → Settled
 settled_alone w c n u = settled_one w.rules.maintenance (peers_of c u) (filter (λ p. nat_lt p.unit n) (peers_of c u)) (purse_of (n, u))
 
 -- It takes from each unit what follows from the units of its faction in its region alone.

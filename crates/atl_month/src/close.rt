@@ -5,7 +5,7 @@ ghost use Rattle.atl_orders.specs.Mailing.{IsReadWith, reading_of};
 ghost use Rattle.atl_state.specs.Covers.{MarksChanges};
 ghost use Rattle.atl_state.specs.Good.{IsGood, IsSound, IsThere};
 ghost use Rattle.atl_state.specs.Limits.{last_month};
-ghost use Rattle.atl_instant.specs.Course.{HaveOwnFactions, by_faction};
+ghost use Rattle.atl_instant.specs.Month.{HaveOwnFactions, by_faction};
 ghost use Rattle.atl_instant.specs.Fit.{AreFit};
 ghost use Rattle.atl_instant.specs.Meaning.{IsSameMonth, LeavesWell};
 ghost use Rattle.atl_month.specs.Month.{BooksAreNear, MonthHasNoOrder, PhasesMoveLittle, TwoMoveAtMost, begun, finished, month_keeps, month_meaning, month_moves, month_of, phases_moving};
@@ -30,11 +30,11 @@ fn run_phases(
     campaign: Campaign,
     month: Month,
 ) -> Result<(Campaign, Month), AllocError>
-    requires sound { IsSound world.now campaign.what }
+    requires sound { IsSound world.now campaign.value }
     requires read { AreFit world.now month.readings }
-    ensures meaning { IfOk result (λ r. (r.0.what, r.1) ≡ month_meaning world.now campaign.what month) }
-    ensures leaves { IfOk result (λ r. LeavesWell IsSwept phases_moving world.now campaign.what r.0.what) }
-    ensures keeps { IfOk result (λ r. month_keeps world.now month campaign.what r.0.what) }
+    ensures meaning { IfOk result (λ r. (r.0.value, r.1) ≡ month_meaning world.now campaign.value month) }
+    ensures leaves { IfOk result (λ r. LeavesWell IsSwept phases_moving world.now campaign.value r.0.value) }
+    ensures keeps { IfOk result (λ r. month_keeps world.now month campaign.value r.0.value) }
     ensures marks { IfOk result (λ r. MarksChanges campaign r.0) }
 {
     let closing = (WorkPhase, (UpkeepPhase, (SeasonPhase, SweepPhase)));
@@ -56,18 +56,18 @@ pub fn close_month(
     mailings: Vec<Mailing>,
     words: &[u32],
 ) -> Result<(Campaign, Vec<Event>), AllocError>
-    requires good { IsGood world.now campaign.what }
-    requires month { campaign.what.month < last_month }
+    requires good { IsGood world.now campaign.value }
+    requires month { campaign.value.month < last_month }
     requires read { All (IsReadWith world.now) mailings.items }
     requires own { HaveOwnFactions mailings.items }
     requires words { length words.now ≡ len world.now.regions }
-    ensures definition { IfOk result (λ r. (r.0.what, r.1.items) ≡ month_of world.now campaign.what (by_faction (map reading_of mailings.items)) words.now) }
-    ensures good { IfOk result (λ r. IsGood world.now (finished r.0.what)) }
-    ensures same { IfOk result (λ r. IsSameMonth campaign.what r.0.what) }
-    ensures factions { IfOk result (λ r. (n : ℕ) → IsThere campaign.what.factions n → IsThere r.0.what.factions n) }
-    ensures books { IfOk result (λ r. BooksAreNear month_moves campaign.what r.0.what) }
-    ensures keeps { IfOk result (λ r. month_keeps world.now (begun (by_faction (map reading_of mailings.items)) words.now) campaign.what r.0.what) }
-    ensures unmailed { IfOk result (λ r. UnmailedAreLeft mailings.items r.1.items campaign.what r.0.what) }
+    ensures definition { IfOk result (λ r. (r.0.value, r.1.items) ≡ month_of world.now campaign.value (by_faction (map reading_of mailings.items)) words.now) }
+    ensures good { IfOk result (λ r. IsGood world.now (finished r.0.value)) }
+    ensures same { IfOk result (λ r. IsSameMonth campaign.value r.0.value) }
+    ensures factions { IfOk result (λ r. (n : ℕ) → IsThere campaign.value.factions n → IsThere r.0.value.factions n) }
+    ensures books { IfOk result (λ r. BooksAreNear month_moves campaign.value r.0.value) }
+    ensures keeps { IfOk result (λ r. month_keeps world.now (begun (by_faction (map reading_of mailings.items)) words.now) campaign.value r.0.value) }
+    ensures unmailed { IfOk result (λ r. UnmailedAreLeft mailings.items r.1.items campaign.value r.0.value) }
     ensures marks { IfOk result (λ r. MarksChanges campaign r.0) }
 {
     let month = Month::new(alloc, mailings, words.to_vec(alloc)?);

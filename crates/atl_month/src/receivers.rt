@@ -34,8 +34,8 @@ fn note(
 
 /// The receivers of a campaign, from one pass over its units.
 pub(crate) fn receivers_of(alloc: Global, campaign: &Campaign) -> Result<Receivers, AllocError>
-    requires { Every (λ n u. 1 ≤ n) campaign.now.what.units }
-    ensures { IfOk result (AreReceivers campaign.now.what) }
+    requires { Every (λ n u. 1 ≤ n) campaign.now.value.units }
+    ensures { IfOk result (AreReceivers campaign.now.value) }
 {
     let mut receivers = Numbered::new(alloc);
     for (number, unit) in campaign.units() {

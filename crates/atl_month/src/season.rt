@@ -1,6 +1,6 @@
 //! The season of a month.
 ghost use Rattle.std.specs.Prelude.{ℕ, ◌≡◌, ◌≤◌, ◌<◌, ◌+◌};
-ghost use Rattle.atl_tables.specs.Planet.{IsWorld};
+ghost use Rattle.atl_tables.specs.Worlds.{IsWorld};
 ghost use Rattle.atl_tables.specs.Limits.{most_amount, most_growth};
 ghost use Rattle.atl_state.specs.Books.{IsGrid};
 ghost use Rattle.atl_state.specs.Covers.{MarksChanges};
@@ -39,11 +39,11 @@ fn income(per_peasant: u32, limit: u32, peasants: u32, money: u32) -> u32
 
 /// A region with so many peasants and so much money grows by births and income, which are booked.
 fn grow(campaign: &mut Campaign, number: u32, peasants: u32, money: u32, born: u32, earned: u32)
-    requires grid { (things : ℕ) × (2 ≤ things) × IsGrid things campaign.old.what.books }
-    requires room { HaveRoom (grows_by most_amount) campaign.old.what }
+    requires grid { (things : ℕ) × (2 ≤ things) × IsGrid things campaign.old.value.books }
+    requires room { HaveRoom (grows_by most_amount) campaign.old.value }
     requires peasants { peasants + born ≤ most_amount }
     requires money { money + earned ≤ most_amount }
-    ensures what { campaign.new.what ≡ with_growth campaign.old.what number peasants money born earned }
+    ensures what { campaign.new.value ≡ with_growth campaign.old.value number peasants money born earned }
     ensures marks { MarksChanges campaign.old campaign.new }
 {
     campaign.set_peasants(number, peasants + born);
@@ -55,9 +55,9 @@ fn grow(campaign: &mut Campaign, number: u32, peasants: u32, money: u32, born: u
 /// The season of a region.
 #[tactic(auto, unfolding(crate::specs::Season::season_at))]
 fn turn_region(world: &World, campaign: &mut Campaign, number: u32, word: u32)
-    requires steady { IsSteady world.now campaign.old.what }
-    requires room { HaveRoom (grows_by most_amount) campaign.old.what }
-    ensures what { campaign.new.what ≡ season_at world.now campaign.old.what (number, word) }
+    requires steady { IsSteady world.now campaign.old.value }
+    requires room { HaveRoom (grows_by most_amount) campaign.old.value }
+    ensures what { campaign.new.value ≡ season_at world.now campaign.old.value (number, word) }
     ensures marks { MarksChanges campaign.old campaign.new }
 {
     let terrain = match world.terrain_of(number) {
@@ -76,9 +76,9 @@ fn turn_region(world: &World, campaign: &mut Campaign, number: u32, word: u32)
 
 /// The season of the regions, as far as there are words.
 fn turn_regions(world: &World, campaign: &mut Campaign, words: &[u32])
-    requires steady { IsSteady world.now campaign.old.what }
-    requires room { HaveRoom (grows_by most_moved) campaign.old.what }
-    ensures what { campaign.new.what ≡ season world.now campaign.old.what words.now }
+    requires steady { IsSteady world.now campaign.old.value }
+    requires room { HaveRoom (grows_by most_moved) campaign.old.value }
+    ensures what { campaign.new.value ≡ season world.now campaign.old.value words.now }
     ensures marks { MarksChanges campaign.old campaign.new }
     ensures world { IsWorld world.now }
 {

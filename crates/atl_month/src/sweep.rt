@@ -36,9 +36,9 @@ fn taken_of(amount: u32, have: u32) -> u32
 
 /// An amount is lost.
 fn lose(campaign: &mut Campaign, thing: Thing, amount: u32)
-    requires there { thing_place thing < length campaign.old.what.books }
-    requires room { HasRoom amount (amount_in campaign.old.what.books Lost thing) }
-    ensures what { campaign.new.what ≡ with_lost campaign.old.what thing amount }
+    requires there { thing_place thing < length campaign.old.value.books }
+    requires room { HasRoom amount (amount_in campaign.old.value.books Lost thing) }
+    ensures what { campaign.new.value ≡ with_lost campaign.old.value thing amount }
     ensures marks { campaign.new.marks ≡ mark_amount campaign.old Lost thing }
 {
     book_taken(campaign, Entry::Lost, thing, amount);
@@ -47,9 +47,9 @@ fn lose(campaign: &mut Campaign, thing: Thing, amount: u32)
 /// Money goes to a unit, up to its room, and the rest is lost.
 #[tactic(auto, unfolding(crate::specs::Sweep::passed_money))]
 fn pass_money(campaign: &mut Campaign, to: u32, amount: u32)
-    requires grid { (things : ℕ) × (2 ≤ things) × IsGrid things campaign.old.what.books }
-    requires room { HasRoom amount (amount_in campaign.old.what.books Lost Money) }
-    ensures what { campaign.new.what ≡ passed_money campaign.old.what to amount }
+    requires grid { (things : ℕ) × (2 ≤ things) × IsGrid things campaign.old.value.books }
+    requires room { HasRoom amount (amount_in campaign.old.value.books Lost Money) }
+    ensures what { campaign.new.value ≡ passed_money campaign.old.value to amount }
     ensures marks { MarksChanges campaign.old campaign.new }
 {
     match campaign.unit(to) {
@@ -88,10 +88,10 @@ fn pass_item(
     item: u16,
     amount: u32,
 ) -> Result<(), AllocError>
-    requires steady { IsSteady world.now campaign.old.what }
+    requires steady { IsSteady world.now campaign.old.value }
     requires known { item < length world.now.items }
-    requires room { HasRoom amount (amount_in campaign.old.what.books Lost (Item item)) }
-    ensures what { OnOk result (campaign.new.what ≡ passed_item to campaign.old.what (item, amount)) }
+    requires room { HasRoom amount (amount_in campaign.old.value.books Lost (Item item)) }
+    ensures what { OnOk result (campaign.new.value ≡ passed_item to campaign.old.value (item, amount)) }
     ensures marks { OnOk result (MarksChanges campaign.old campaign.new) }
 {
     let number = u32::from(item);
@@ -114,10 +114,10 @@ fn pass_items(
     to: u32,
     items: &[(u16, u32)],
 ) -> Result<(), AllocError>
-    requires steady { IsSteady world.now campaign.old.what }
+    requires steady { IsSteady world.now campaign.old.value }
     requires known { EachOf (λ i amount. i < length world.now.items) items.now }
-    requires room { HaveRoom (moving_items items.now) campaign.old.what }
-    ensures what { OnOk result (campaign.new.what ≡ fold (passed_item to) campaign.old.what items.now) }
+    requires room { HaveRoom (moving_items items.now) campaign.old.value }
+    ensures what { OnOk result (campaign.new.value ≡ fold (passed_item to) campaign.old.value items.now) }
     ensures marks { OnOk result (MarksChanges campaign.old campaign.new) }
 {
     for (item, amount) in items.iter() {
@@ -135,10 +135,10 @@ fn sweep_unit(
     campaign: &mut Campaign,
     number: u32,
 ) -> Result<(), AllocError>
-    requires steady { IsSteady world.now campaign.old.what }
-    requires receivers { AreReceivers campaign.old.what receivers.now }
-    requires room { HaveRoom (loses_by most_amount) campaign.old.what }
-    ensures what { OnOk result (campaign.new.what ≡ swept_at campaign.old.what number) }
+    requires steady { IsSteady world.now campaign.old.value }
+    requires receivers { AreReceivers campaign.old.value receivers.now }
+    requires room { HaveRoom (loses_by most_amount) campaign.old.value }
+    ensures what { OnOk result (campaign.new.value ≡ swept_at campaign.old.value number) }
     ensures marks { OnOk result (MarksChanges campaign.old campaign.new) }
 {
     let Some(unit) = campaign.unit(number) else {
@@ -158,7 +158,7 @@ fn sweep_unit(
 
 /// The numbers of the units without men.
 fn menless(alloc: Global, campaign: &Campaign) -> Result<Vec<u32>, AllocError>
-    ensures { IfOk result (λ list. list.items ≡ menless campaign.now.what) }
+    ensures { IfOk result (λ list. list.items ≡ menless campaign.now.value) }
 {
     let mut list = Vec::new(alloc);
     for (number, unit) in campaign.units() {
@@ -177,10 +177,10 @@ fn sweep_units(
     campaign: &mut Campaign,
     numbers: &[u32],
 ) -> Result<(), AllocError>
-    requires steady { IsSteady world.now campaign.old.what }
-    requires receivers { AreReceivers campaign.old.what receivers.now }
-    requires room { HaveRoom (moved_times (length numbers.now) (loses_by most_amount)) campaign.old.what }
-    ensures what { OnOk result (campaign.new.what ≡ fold swept_at campaign.old.what numbers.now) }
+    requires steady { IsSteady world.now campaign.old.value }
+    requires receivers { AreReceivers campaign.old.value receivers.now }
+    requires room { HaveRoom (moved_times (length numbers.now) (loses_by most_amount)) campaign.old.value }
+    ensures what { OnOk result (campaign.new.value ≡ fold swept_at campaign.old.value numbers.now) }
     ensures marks { OnOk result (MarksChanges campaign.old campaign.new) }
 {
     for number in numbers.iter() {
@@ -191,7 +191,7 @@ fn sweep_units(
 
 /// A faction without units is gone.
 fn sweep_faction(campaign: &mut Campaign, number: u32)
-    ensures what { campaign.new.what ≡ faction_swept campaign.old.what number }
+    ensures what { campaign.new.value ≡ faction_swept campaign.old.value number }
     ensures marks { MarksChanges campaign.old campaign.new }
 {
     if campaign.of_faction(number).is_empty() {
@@ -201,7 +201,7 @@ fn sweep_faction(campaign: &mut Campaign, number: u32)
 
 /// Factions without units are gone.
 fn sweep_factions(campaign: &mut Campaign, numbers: &[u32])
-    ensures what { campaign.new.what ≡ fold faction_swept campaign.old.what numbers.now }
+    ensures what { campaign.new.value ≡ fold faction_swept campaign.old.value numbers.now }
     ensures marks { MarksChanges campaign.old campaign.new }
 {
     for number in numbers.iter() {

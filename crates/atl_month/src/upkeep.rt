@@ -1,6 +1,6 @@
 //! The upkeep of a month.
 ghost use Rattle.std.specs.Prelude.{◌≡◌, ◌≤◌, ◌++◌, All, IfOk, OnOk, Some, filter, map};
-ghost use Rattle.atl_tables.specs.Planet.{Planet};
+ghost use Rattle.atl_tables.specs.Worlds.{WorldValue};
 ghost use Rattle.atl_state.specs.Covers.{MarksChanges};
 ghost use Rattle.atl_instant.specs.Meaning.{most_moved};
 ghost use Rattle.atl_market.specs.PotPhase.{CanInTurn};
@@ -21,7 +21,7 @@ pub struct UpkeepPhase;
 
 /// What each unit has before its upkeep.
 fn purses_of(alloc: Global, campaign: &Campaign) -> Result<Vec<Purse>, AllocError>
-    ensures list { IfOk result (λ list. list.items ≡ purses_of campaign.now.what) }
+    ensures list { IfOk result (λ list. list.items ≡ purses_of campaign.now.value) }
     ensures each { IfOk result (λ list. All IsPurse list.items) }
 {
     let mut purses = Vec::new(alloc);
@@ -75,9 +75,9 @@ fn supply(alloc: Global, settled: &Settled, holding: &mut Holding) -> Result<(),
 
 /// Takes from a unit what it pays, where nobody of it starves. Its goods stay unmarked, and its row too where it pays nothing.
 fn pay(campaign: &mut Campaign, settled: &Settled)
-    requires can { (w : Planet) × CanSettle w campaign.old.what settled.now }
+    requires can { (w : WorldValue) × CanSettle w campaign.old.value settled.now }
     requires fed { settled.now.starved ≡ 0 }
-    ensures what { IsSupplied campaign.old.what settled.now campaign.new.what }
+    ensures what { IsSupplied campaign.old.value settled.now campaign.new.value }
     ensures marks { MarksChanges campaign.old campaign.new }
     ensures goods { campaign.new.marks.goods ≡ campaign.old.marks.goods }
 {
@@ -92,8 +92,8 @@ fn pay(campaign: &mut Campaign, settled: &Settled)
 
 /// Takes from a unit what it pays and whom it can't keep, with their days.
 fn starve(alloc: Global, campaign: &mut Campaign, settled: &Settled) -> Result<(), AllocError>
-    requires { (w : Planet) × CanSettle w campaign.old.what settled.now }
-    ensures what { OnOk result (IsSupplied campaign.old.what settled.now campaign.new.what) }
+    requires { (w : WorldValue) × CanSettle w campaign.old.value settled.now }
+    ensures what { OnOk result (IsSupplied campaign.old.value settled.now campaign.new.value) }
     ensures marks { OnOk result (MarksChanges campaign.old campaign.new) }
 {
     match campaign.unit_mut(settled.unit) {
@@ -104,8 +104,8 @@ fn starve(alloc: Global, campaign: &mut Campaign, settled: &Settled) -> Result<(
 
 /// Takes from a unit what upkeep takes from it. Its goods are marked only where somebody starves.
 fn supply_unit(alloc: Global, campaign: &mut Campaign, settled: &Settled) -> Result<(), AllocError>
-    requires { (w : Planet) × CanSettle w campaign.old.what settled.now }
-    ensures what { OnOk result (IsSupplied campaign.old.what settled.now campaign.new.what) }
+    requires { (w : WorldValue) × CanSettle w campaign.old.value settled.now }
+    ensures what { OnOk result (IsSupplied campaign.old.value settled.now campaign.new.value) }
     ensures marks { OnOk result (MarksChanges campaign.old campaign.new) }
     ensures goods { OnOk result (settled.now.starved ≡ 0 → campaign.new.marks.goods ≡ campaign.old.marks.goods) }
 {
@@ -118,8 +118,8 @@ fn supply_unit(alloc: Global, campaign: &mut Campaign, settled: &Settled) -> Res
 
 /// The upkeep of a unit, which is booked. Its goods are marked only where somebody starves.
 fn upkeep_of(alloc: Global, campaign: &mut Campaign, settled: &Settled) -> Result<(), AllocError>
-    requires { (w : Planet) × CanSettle w campaign.old.what settled.now }
-    ensures what { OnOk result (campaign.new.what ≡ upkeep_at campaign.old.what settled.now) }
+    requires { (w : WorldValue) × CanSettle w campaign.old.value settled.now }
+    ensures what { OnOk result (campaign.new.value ≡ upkeep_at campaign.old.value settled.now) }
     ensures marks { OnOk result (MarksChanges campaign.old campaign.new) }
     ensures goods { OnOk result (settled.now.starved ≡ 0 → campaign.new.marks.goods ≡ campaign.old.marks.goods) }
 {
@@ -131,8 +131,8 @@ fn upkeep_of(alloc: Global, campaign: &mut Campaign, settled: &Settled) -> Resul
 
 /// The upkeep of units.
 fn upkeep_of_all(alloc: Global, campaign: &mut Campaign, list: &[Settled]) -> Result<(), AllocError>
-    requires { (w : Planet) × CanInTurn (CanSettle w) upkeep_at campaign.old.what list.now }
-    ensures what { OnOk result (campaign.new.what ≡ upkeep campaign.old.what list.now) }
+    requires { (w : WorldValue) × CanInTurn (CanSettle w) upkeep_at campaign.old.value list.now }
+    ensures what { OnOk result (campaign.new.value ≡ upkeep campaign.old.value list.now) }
     ensures marks { OnOk result (MarksChanges campaign.old campaign.new) }
 {
     for settled in list {

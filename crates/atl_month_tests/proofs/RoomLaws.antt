@@ -1,9 +1,9 @@
 -- Good campaigns have room for the phases that share pots, and for upkeep.
 use Rattle.std.proofs.Common.{◌≤◌, ℕ, Bool, true, false, arith}
 use Rattle.std.specs.Prelude.{if◌then◌else◌}
-use Rattle.atl_tables.specs.Planet.{Planet}
+use Rattle.atl_tables.specs.Worlds.{WorldValue}
 use Rattle.atl_state.specs.Good.{IsGood}
-use Rattle.atl_state.specs.State.{State}
+use Rattle.atl_state.specs.Campaign.{CampaignValue}
 use Rattle.atl_instant.specs.Meaning.{HaveRoom, most_moved}
 use Rattle.atl_instant.specs.Terms.{MovesItsOwn, PhaseTerms, may_move}
 use Rattle.atl_instant.proofs.MeaningLaws.{room_when_sound}
@@ -18,20 +18,20 @@ little : (b : Bool) (moved : ℕ) → moved ≤ (if b then most_moved else 0) �
 little true moved l = omega (arith, l)
 little false moved l = omega (arith, l)
 
-room_of : (phase : PhaseTerms) → MovesItsOwn phase → (w : Planet) (c : State) → IsGood w c → HaveRoom phase.moving c
+room_of : (phase : PhaseTerms) → MovesItsOwn phase → (w : WorldValue) (c : CampaignValue) → IsGood w c → HaveRoom phase.moving c
 room_of phase own w c good = room_when_sound w c phase.moving (λ e t. little (may_move phase.moved e t) (phase.moving e t) (own e t)) good.sound
 
-pub room_for_tax : (w : Planet) (c : State) → IsGood w c → HaveRoom tax_terms.moving c
+pub room_for_tax : (w : WorldValue) (c : CampaignValue) → IsGood w c → HaveRoom tax_terms.moving c
 room_for_tax = room_of tax_terms early_are.1.1.1.1.1.0.moves
 
-pub room_for_recruiting : (w : Planet) (c : State) → IsGood w c → HaveRoom recruit_terms.moving c
+pub room_for_recruiting : (w : WorldValue) (c : CampaignValue) → IsGood w c → HaveRoom recruit_terms.moving c
 room_for_recruiting = room_of recruit_terms early_are.1.1.1.1.1.1.0.moves
 
-pub room_for_producing : (w : Planet) (c : State) → IsGood w c → HaveRoom produce_terms.moving c
+pub room_for_producing : (w : WorldValue) (c : CampaignValue) → IsGood w c → HaveRoom produce_terms.moving c
 room_for_producing = room_of produce_terms later_are.1.1.1.1.1.1.0.moves
 
-pub room_for_work : (w : Planet) (c : State) → IsGood w c → HaveRoom work_terms.moving c
+pub room_for_work : (w : WorldValue) (c : CampaignValue) → IsGood w c → HaveRoom work_terms.moving c
 room_for_work = room_of work_terms work_alone
 
-pub room_for_upkeep : (w : Planet) (c : State) → IsGood w c → HaveRoom upkeep_terms.moving c
+pub room_for_upkeep : (w : WorldValue) (c : CampaignValue) → IsGood w c → HaveRoom upkeep_terms.moving c
 room_for_upkeep = room_of upkeep_terms upkeep_alone

@@ -3,7 +3,7 @@ use Rattle.std.proofs.Common.{◌≡◌, ℕ, ◌+◌, ◌<◌, Bool, true, fals
 use Rattle.std.specs.List.{All, list_all, flat_map}
 use Rattle.std.proofs.lemmas.List.Elements.{All-nil, All-cons, All-append}
 use Rattle.atl_orders.specs.Limits.{most_bytes, most_number, last_alias, last_faction}
-use Rattle.atl_tables.specs.Planet.{Planet}
+use Rattle.atl_tables.specs.Worlds.{WorldValue}
 use Rattle.atl_orders.specs.declared.order.UnitRef.{UnitRef}
 use Rattle.atl_orders.specs.declared.order.UnitRef.TheVariants.{Number, Alias}
 use Rattle.atl_orders.specs.declared.fault.LineFault.{LineFault}
@@ -34,15 +34,15 @@ IsPlace (Forming parent alias) = IsNumber parent × IsAlias alias
 IsPlace (Skipping None) = Unit {0}
 IsPlace (Skipping (Some n)) = IsNumber n
 
-abbrev IsEffect : Planet → Effect → Type 0
+abbrev IsEffect : WorldValue → Effect → Type 0
 IsEffect world nothing = Unit {0}
 IsEffect world (faulty fault) = Unit {0}
 IsEffect world (says unit said) = IsUnitRef unit × IsOrderOf world said
 
-abbrev IsStep : Planet → Step → Type 0
+abbrev IsStep : WorldValue → Step → Type 0
 IsStep world s = IsEffect world s.effect × IsPlace s.place
 
-module _ (world : Planet) (given : ℕ → Bool) where
+module _ (world : WorldValue) (given : ℕ → Bool) where
   unit_sound : (r : Result Counted LineFault) → Holds (λ (x : Counted). IsNumber x.0) r → IsStep world (unit_step given r)
   unfolding unit_step
   unit_sound (Ok n) h = (tt, h)
@@ -105,7 +105,7 @@ module _ (world : Planet) (given : ℕ → Bool) where
 
 -- ---- the whole
 
-module _ (world : Planet) where
+module _ (world : WorldValue) where
   entry_sound : (n : ℕ) (effect : Effect) → IsEffect world effect → All (IsEntry world) (entry_of (n, effect))
   entry_sound n nothing h = All-nil (IsEntry world)
   entry_sound n (faulty fault) h = All-nil (IsEntry world)
@@ -123,16 +123,16 @@ module _ (world : Planet) where
       let sound = line_sound world given place line h in
       one_more (begins (codes "#END") (words line)) n s.effect (effects world (n + 1) s.place s.given rest) sound.0 (body_sound rest (n + 1) s.place s.given sound.1)
 
-rise_step : (world : Planet) (n m : ℕ) (effect : Effect) (rest : List EntrySaid) → m < n → ((k : ℕ) → k < n + 1 → LinesRise k rest) → LinesRise m (entry_of (n, effect) ++ rest)
+rise_step : (world : WorldValue) (n m : ℕ) (effect : Effect) (rest : List EntrySaid) → m < n → ((k : ℕ) → k < n + 1 → LinesRise k rest) → LinesRise m (entry_of (n, effect) ++ rest)
 rise_step world n m nothing rest h k = k m (omega arith)
 rise_step world n m (faulty fault) rest h k = k m (omega arith)
 rise_step world n m (says unit said) rest h k = (h, k n (omega arith))
 
-rise_test : (world : Planet) (t : Bool) (n m : ℕ) (effect : Effect) (more : List (ℕ × Effect)) → m < n → ((k : ℕ) → k < n + 1 → LinesRise k (flat_map entry_of more)) → LinesRise m (flat_map entry_of (cond t [] ((n, effect) ∷ more)))
+rise_test : (world : WorldValue) (t : Bool) (n m : ℕ) (effect : Effect) (more : List (ℕ × Effect)) → m < n → ((k : ℕ) → k < n + 1 → LinesRise k (flat_map entry_of more)) → LinesRise m (flat_map entry_of (cond t [] ((n, effect) ∷ more)))
 rise_test world true n m effect more h k = tt
 rise_test world false n m effect more h k = rise_step world n m effect (flat_map entry_of more) h k
 
-body_rises : (world : Planet) (lines : List (List ℕ)) (n m : ℕ) (place : Place) (given : ℕ → Bool) → m < n → LinesRise m (flat_map entry_of (effects world n place given lines))
+body_rises : (world : WorldValue) (lines : List (List ℕ)) (n m : ℕ) (place : Place) (given : ℕ → Bool) → m < n → LinesRise m (flat_map entry_of (effects world n place given lines))
 unfolding effects
 body_rises world [] n m place given h = tt
 body_rises world (line ∷ rest) n m place given h =
@@ -164,15 +164,15 @@ unfolding header_from
 header_sound [] n = tt
 header_sound (line ∷ rest) n = test_headed (begins (codes "#ATLANTIS") (words line)) _ _ (line_headed n rest (faction_of (words line)) (faction_within (words line))) (header_sound rest (n + 1))
 
-behind_sound : (world : Planet) (r : Result Headed MailFault) → HoldsOf IsHeaded r → HoldsOf (IsReading world) (behind_header world r)
+behind_sound : (world : WorldValue) (r : Result Headed MailFault) → HoldsOf IsHeaded r → HoldsOf (IsReading world) (behind_header world r)
 behind_sound world (Err fault) h = tt
 behind_sound world (Ok head) h = record { faction = h.0; entries = body_sound world head.rest head.next Nowhere no_alias tt; lines = body_rises world head.rest head.next 0 Nowhere no_alias h.1 }
 
-test_sound : (world : Planet) (t : Bool) (r : Result Reading MailFault) → HoldsOf (IsReading world) r → HoldsOf (IsReading world) (cond t (Err TooLong) r)
+test_sound : (world : WorldValue) (t : Bool) (r : Result Reading MailFault) → HoldsOf (IsReading world) r → HoldsOf (IsReading world) (cond t (Err TooLong) r)
 test_sound world true r h = tt
 test_sound world false r h = h
 
-reading_sound : (world : Planet) (text : List ℕ) → HoldsOf (IsReading world) (reading world text)
+reading_sound : (world : WorldValue) (text : List ℕ) → HoldsOf (IsReading world) (reading world text)
 unfolding reading
 reading_sound world text = test_sound world (nat_lt most_bytes (length text)) _ (behind_sound world (header_from 1 (lines text)) (header_sound (lines text) 1))
 

@@ -9,7 +9,7 @@ use Rattle.std.proofs.lemmas.List.Elements.{All-nil, All-cons}
 use Rattle.std.proofs.lemmas.List.Quantifiers.{position-Some}
 use Rattle.atl_orders.specs.Limits.{last_alias, most_number}
 use Rattle.atl_tables.specs.Names.{name_ok}
-use Rattle.atl_tables.specs.Planet.{Planet}
+use Rattle.atl_tables.specs.Worlds.{WorldValue}
 use Rattle.atl_tables.specs.Lookup.{name_of, place_named}
 use Rattle.atl_orders.specs.declared.order.UnitRef.{UnitRef}
 use Rattle.atl_orders.specs.declared.order.NameKind.{NameKind}
@@ -113,27 +113,27 @@ place_within : {A : Type 0} (title : A → List ℕ) (things : List A) (word : L
 place_within title [] word quoted i h = cc
 place_within title (x ∷ xs) word quoted i h = (position-Some (λ thing. str_eq_ignore_ascii_case (title thing) (name_of word quoted)) (x ∷ xs) i x h).0
 
-item_holds : (world : Planet) (ws : List WordText) → Holds (λ i. i < length world.items) (item_at world ws)
+item_holds : (world : WorldValue) (ws : List WordText) → Holds (λ i. i < length world.items) (item_at world ws)
 unfolding item_at
 item_holds world [] = tt
 item_holds world (w ∷ ws) = found _ UnknownThing _ (λ i h. place_within _ world.items w.bytes w.quoted i h)
 
-skill_holds : (world : Planet) (ws : List WordText) → Holds (λ i. i < length world.skills) (skill_at world ws)
+skill_holds : (world : WorldValue) (ws : List WordText) → Holds (λ i. i < length world.skills) (skill_at world ws)
 unfolding skill_at
 skill_holds world [] = tt
 skill_holds world (w ∷ ws) = found _ UnknownThing _ (λ i h. place_within _ world.skills w.bytes w.quoted i h)
 
-kind_holds : (world : Planet) (ws : List WordText) → Holds (λ i. i < length world.kinds) (kind_at world ws)
+kind_holds : (world : WorldValue) (ws : List WordText) → Holds (λ i. i < length world.kinds) (kind_at world ws)
 unfolding kind_at
 kind_holds world [] = tt
 kind_holds world (w ∷ ws) = found _ UnknownThing _ (λ i h. place_within _ world.kinds w.bytes w.quoted i h)
 
 -- ---- orders
 
-abbrev pub Sound : Planet → Result Said LineFault → Type 0
+abbrev pub Sound : WorldValue → Result Said LineFault → Type 0
 Sound world r = Holds (IsOrderOf world) r
 
-module _ (world : Planet) where
+module _ (world : WorldValue) where
   form_sound : (ws : List WordText) → Sound world (form_at ws)
   unfolding form_at
   form_sound ws = after _ (IsOrderOf world) (alias_at ws) _ (count_holds last_alias BadAlias ws) (λ n h. h)

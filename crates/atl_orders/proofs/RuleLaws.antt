@@ -1,7 +1,7 @@
 -- The rules and the function of a line are one, and so for all lines.
 use Rattle.std.proofs.Common.{◌≡◌, ℕ, ◌+◌, ◌++◌, Bool, true, false, cond, List, [], ◌∷◌, codes, Option, Some, None, Result, Ok, Err, refl, ap, ◌∙◌}
 use Rattle.std.specs.List.{list_all, flat_map}
-use Rattle.atl_tables.specs.Planet.{Planet}
+use Rattle.atl_tables.specs.Worlds.{WorldValue}
 use Rattle.atl_orders.specs.declared.order.UnitRef.{UnitRef}
 use Rattle.atl_orders.specs.declared.fault.FaultyLine.{FaultyLine}
 use Rattle.atl_orders.specs.declared.fault.LineFault.{LineFault}
@@ -23,7 +23,7 @@ Counted = Result (ℕ × List WordText) LineFault
 
 -- ---- what the function gives fits the rules
 
-module _ (world : Planet) (given : ℕ → Bool) (w : WordText) (ws : List WordText) where
+module _ (world : WorldValue) (given : ℕ → Bool) (w : WordText) (ws : List WordText) where
   unit_fits : (place : Place) (r : Counted) → keyword_of w ≡ Some keywords.Unit → number_at ws ≡ r → WordsSay world place given w ws (unit_step given r)
   unfolding unit_step
   unit_fits place (Ok n) k h = unit_named k n.0 n.1 h refl
@@ -66,13 +66,13 @@ module _ (world : Planet) (given : ℕ → Bool) (w : WordText) (ws : List WordT
   words_fit place (Some keywords.Form) h = form_fits place h
   words_fit place (Some (keywords.Order verb)) h = order_fits place verb (target place) (said_by world verb ws) h refl refl
 
-tested_fits : (t : Bool) (l : List WordText) (world : Planet) (place : Place) (given : ℕ → Bool) (line : List ℕ) → list_all is_plain line ≡ t → words line ≡ l → LineSays world place given line (cond t (words_step world place given l) (step (faulty BadByte) place given))
+tested_fits : (t : Bool) (l : List WordText) (world : WorldValue) (place : Place) (given : ℕ → Bool) (line : List ℕ) → list_all is_plain line ≡ t → words line ≡ l → LineSays world place given line (cond t (words_step world place given l) (step (faulty BadByte) place given))
 unfolding words_step
 tested_fits false l world place given line a b = bad_byte a refl
 tested_fits true [] world place given line a b = no_word a b refl
 tested_fits true (w ∷ ws) world place given line a b = some_words a w ws b (words_fit world given w ws place (keyword_of w) refl)
 
-pub line_fits : (world : Planet) (place : Place) (given : ℕ → Bool) (line : List ℕ) → LineSays world place given line (line_step world place given line)
+pub line_fits : (world : WorldValue) (place : Place) (given : ℕ → Bool) (line : List ℕ) → LineSays world place given line (line_step world place given line)
 unfolding line_step
 line_fits world place given line = tested_fits (list_all is_plain line) (words line) world place given line refl refl
 
@@ -100,7 +100,7 @@ module _ (given : ℕ → Bool) where
   nested (Forming parent alias) out ws h = refl
   nested (Skipping parent) out ws h = refl
 
-words_only : (world : Planet) (place : Place) (given : ℕ → Bool) (w : WordText) (ws : List WordText) (s : Step) → WordsSay world place given w ws s → s ≡ keyword_step world place given (keyword_of w) ws
+words_only : (world : WorldValue) (place : Place) (given : ℕ → Bool) (w : WordText) (ws : List WordText) (s : Step) → WordsSay world place given w ws s → s ≡ keyword_step world place given (keyword_of w) ws
 unfolding keyword_step unit_step form_step block_step
 words_only world place given w ws s (unit_named k n rest h e) = rw (k, h) e
 words_only world place given w ws s (unit_faulty k fault h e) = rw (k, h) e
@@ -116,7 +116,7 @@ words_only world place given w ws s (order_faulty verb k unit t fault h e) = rw 
 words_only world place given w ws s (order_said verb k unit t said h e) = rw (k, t, h) e
 words_only world place given w ws s (unknown k e) = rw k e
 
-pub line_only : (world : Planet) (place : Place) (given : ℕ → Bool) (line : List ℕ) (s : Step) → LineSays world place given line s → s ≡ line_step world place given line
+pub line_only : (world : WorldValue) (place : Place) (given : ℕ → Bool) (line : List ℕ) (s : Step) → LineSays world place given line s → s ≡ line_step world place given line
 unfolding line_step words_step
 line_only world place given line s (bad_byte a e) = rw a e
 line_only world place given line s (no_word a b e) = rw (a, b) e
@@ -124,20 +124,20 @@ line_only world place given line s (some_words a w ws b r) = rw (a, b) (words_on
 
 -- ---- all lines
 
-body_test : (t : Bool) (world : Planet) (n : ℕ) (place : Place) (given : ℕ → Bool) (line : List ℕ) (rest : List (List ℕ)) (s : Step) (more : List (ℕ × Effect)) → begins (codes "#END") (words line) ≡ t → LineSays world place given line s
+body_test : (t : Bool) (world : WorldValue) (n : ℕ) (place : Place) (given : ℕ → Bool) (line : List ℕ) (rest : List (List ℕ)) (s : Step) (more : List (ℕ × Effect)) → begins (codes "#END") (words line) ≡ t → LineSays world place given line s
     → BodySays world (n + 1) s.place s.given rest (flat_map entry_of more) (flat_map fault_of more)
     → BodySays world n place given (line ∷ rest) (flat_map entry_of (cond t [] ((n, s.effect) ∷ more))) (flat_map fault_of (cond t [] ((n, s.effect) ∷ more)))
 body_test true world n place given line rest s more h r b = orders_ended n place given line rest h
 body_test false world n place given line rest s more h r b = one_line n place given line rest h s r _ _ b
 
-pub body_fits : (world : Planet) (n : ℕ) (place : Place) (given : ℕ → Bool) (lines : List (List ℕ)) → BodySays world n place given lines (entries_from world n place given lines) (faults_from world n place given lines)
+pub body_fits : (world : WorldValue) (n : ℕ) (place : Place) (given : ℕ → Bool) (lines : List (List ℕ)) → BodySays world n place given lines (entries_from world n place given lines) (faults_from world n place given lines)
 unfolding effects
 body_fits world n place given [] = text_ended n place given
 body_fits world n place given (line ∷ rest) =
     let s = line_step world place given line in
     body_test (begins (codes "#END") (words line)) world n place given line rest s _ refl (line_fits world place given line) (body_fits world (n + 1) s.place s.given rest)
 
-only_body : (world : Planet) {n : ℕ} {place : Place} {given : ℕ → Bool} {lines : List (List ℕ)} {entries : List EntrySaid} {faults : List FaultyLine} → BodySays world n place given lines entries faults → (entries ≡ entries_from world n place given lines) × (faults ≡ faults_from world n place given lines)
+only_body : (world : WorldValue) {n : ℕ} {place : Place} {given : ℕ → Bool} {lines : List (List ℕ)} {entries : List EntrySaid} {faults : List FaultyLine} → BodySays world n place given lines entries faults → (entries ≡ entries_from world n place given lines) × (faults ≡ faults_from world n place given lines)
 unfolding effects
 only_body world (text_ended n place given) = (refl, refl)
 only_body world (orders_ended n place given line rest h) = rw h (refl, refl)
@@ -146,5 +146,5 @@ only_body world (one_line n place given line rest h s r entries faults b) =
     let more = only_body world b in
     rw (h, ← e) (ap (λ l. entry_of (n, s.effect) ++ l) more.0, ap (λ l. fault_of (n, s.effect) ++ l) more.1)
 
-pub body_only : (world : Planet) (n : ℕ) (place : Place) (given : ℕ → Bool) (lines : List (List ℕ)) (entries : List EntrySaid) (faults : List FaultyLine) → BodySays world n place given lines entries faults → (entries ≡ entries_from world n place given lines) × (faults ≡ faults_from world n place given lines)
+pub body_only : (world : WorldValue) (n : ℕ) (place : Place) (given : ℕ → Bool) (lines : List (List ℕ)) (entries : List EntrySaid) (faults : List FaultyLine) → BodySays world n place given lines entries faults → (entries ≡ entries_from world n place given lines) × (faults ≡ faults_from world n place given lines)
 body_only world n place given lines entries faults b = only_body world b

@@ -2,7 +2,7 @@
 use Rattle.std.proofs.Common.{◌≡◌, ℕ, suc, ◌+◌, ◌<◌, ◌≤◌, ◌++◌, Bool, true, false, cond, List, [], ◌∷◌, length, Option, Some, None, Result, Err, nat_lt, refl, sym, ap, ◌∙◌, arith}
 use Rattle.std.proofs.lemmas.Bool.Decides.{nat_tests}
 use Rattle.std.proofs.lemmas.List.Elements.{All-nil, All-cons, All-head, All-tail}
-use Rattle.atl_tables.specs.Planet.{Planet}
+use Rattle.atl_tables.specs.Worlds.{WorldValue}
 use Rattle.atl_orders.specs.declared.fault.MailFault.{MailFault}
 use Rattle.atl_orders.specs.declared.fault.MailFault.TheVariants.{TooLong, NoHeader}
 use Rattle.atl_orders.specs.declared.reading.Place.TheVariants.{Nowhere}
@@ -62,7 +62,7 @@ first_one n (line ∷ before) header behind a h = rw (All-head IsOutside line be
 numbered : (k : ℕ) → k + 1 + 1 ≡ k + 2
 numbered k = omega arith
 
-module _ (world : Planet) (text : List ℕ) where
+module _ (world : WorldValue) (text : List ℕ) where
   headed_fits : (o : Option ℕ) → length text ≤ most_bytes → (before : List (List ℕ)) (header : List ℕ) (behind : List (List ℕ)) → HaveHeader (lines text) before header behind → faction_of (words header) ≡ o → TextSays world text (behind_header world (header_line (length before + 1) behind o))
   headed_fits None s before header behind is f = bad_header s before header behind is f refl
   headed_fits (Some faction) s before header behind is f =

@@ -3,7 +3,7 @@ use Rattle.std.specs.Prelude.{◌≡◌, ◌≤◌, ◌<◌, ℕ, true, List, []
 use Rattle.std.specs.List.{All}
 use Rattle.atl_orders.specs.Limits.{most_number, last_alias, last_faction}
 use Rattle.atl_tables.specs.Names.{name_ok}
-use Rattle.atl_tables.specs.Planet.{Planet}
+use Rattle.atl_tables.specs.Worlds.{WorldValue}
 use Rattle.atl_orders.specs.declared.order.UnitRef.{UnitRef}
 use Rattle.atl_orders.specs.declared.order.UnitRef.TheVariants.{Number, Alias}
 use Rattle.atl_orders.specs.declared.order.Order.TheVariants as orders
@@ -24,7 +24,7 @@ abbrev pub IsUnitRef : UnitRef → Type 0
 IsUnitRef (Number n) = IsNumber n
 IsUnitRef (Alias alias) = IsAlias alias
 
-abbrev pub IsOrderOf : Planet → Said → Type 0
+abbrev pub IsOrderOf : WorldValue → Said → Type 0
 IsOrderOf world (orders.Form alias) = IsAlias alias
 IsOrderOf world (orders.Name what bytes) = name_ok bytes ≡ true
 IsOrderOf world (orders.Guard flag) = Unit {0}
@@ -46,7 +46,7 @@ IsOrderOf world (orders.Study skill) = skill < length world.skills
 IsOrderOf world (orders.Produce item) = item < length world.items
 IsOrderOf world orders.Work = Unit {0}
 
-pub record IsEntry (world : Planet) (e : EntrySaid) : Type 0 where
+pub record IsEntry (world : WorldValue) (e : EntrySaid) : Type 0 where
   pub target : IsUnitRef e.target
   pub order : IsOrderOf world e.said
 
@@ -55,10 +55,10 @@ abbrev pub LinesRise : ℕ → List EntrySaid → Type 0
 LinesRise n [] = Unit {0}
 LinesRise n (e ∷ es) = (n < e.line) × LinesRise e.line es
 
-pub record IsReading (world : Planet) (r : Reading) : Type 0 where
+pub record IsReading (world : WorldValue) (r : Reading) : Type 0 where
   pub faction : IsWithin last_faction r.faction
   pub entries : All (IsEntry world) r.entries
   pub lines : LinesRise 0 r.entries
 
 abbrev pub ReadingsKeepBounds : Type 0
-ReadingsKeepBounds = (world : Planet) (text : List ℕ) (r : Reading) → reading world text ≡ Ok r → IsReading world r
+ReadingsKeepBounds = (world : WorldValue) (text : List ℕ) (r : Reading) → reading world text ≡ Ok r → IsReading world r

@@ -2,7 +2,7 @@
 use Rattle.std.specs.Prelude.{◌≡◌, ◌≤◌, ℕ, ◌+◌, Bool, List, [], ◌∷◌, length, map, codes, Option, Some, None, Result, Ok, Err, nat_lt, if◌then◌else◌}
 use Rattle.std.specs.List.{flat_map}
 use Rattle.atl_orders.specs.Limits.{last_faction, most_bytes}
-use Rattle.atl_tables.specs.Planet.{Planet}
+use Rattle.atl_tables.specs.Worlds.{WorldValue}
 use Rattle.atl_orders.specs.declared.order.UnitRef.{UnitRef}
 use Rattle.atl_orders.specs.declared.reading.Place.{Place}
 use Rattle.atl_orders.specs.declared.reading.Place.TheVariants.{Nowhere}
@@ -25,7 +25,7 @@ pub record EntrySaid : Type 0 where
   pub said : Said
 
 -- what each line up to `#END` does, with its number
-unfoldable pub effects : Planet → ℕ → Place → (ℕ → Bool) → List (List ℕ) → List (ℕ × Effect)
+unfoldable pub effects : WorldValue → ℕ → Place → (ℕ → Bool) → List (List ℕ) → List (ℕ × Effect)
 effects world n place given [] = []
 effects world n place given (line ∷ rest) =
     if begins (codes "#END") (words line) then []
@@ -72,7 +72,7 @@ pub record Reading : Type 0 where
   pub entries : List EntrySaid
   pub faults : List FaultyLine
 
-abbrev pub behind_header : Planet → Result Headed MailFault → Result Reading MailFault
+abbrev pub behind_header : WorldValue → Result Headed MailFault → Result Reading MailFault
 behind_header world (Err fault) = Err fault
 behind_header world (Ok h) = Ok (record {
   faction = h.faction;
@@ -81,7 +81,7 @@ behind_header world (Ok h) = Ok (record {
 })
 
 -- the reading of a text
-unfoldable pub reading : Planet → List ℕ → Result Reading MailFault
+unfoldable pub reading : WorldValue → List ℕ → Result Reading MailFault
 reading world text =
     if nat_lt most_bytes (length text) then Err TooLong
     else behind_header world (header_from 1 (lines text))
@@ -100,7 +100,7 @@ abbrev pub reading_of : Mailing → Reading
 reading_of m = record { faction = m.faction; entries = map (entry_said m.text) m.entries; faults = m.faults }
 
 -- the mailing was read with this world
-abbrev pub IsReadWith : Planet → Mailing → Type 0
+abbrev pub IsReadWith : WorldValue → Mailing → Type 0
 IsReadWith world m = reading world m.text ≡ Ok (reading_of m)
 
 -- What was answered is what reading gives, unless memory ran out.

@@ -1,7 +1,7 @@
 -- What the words behind a keyword are read as.
 use Rattle.std.specs.Prelude.{ℕ, List, [], ◌∷◌, codes, Option, Some, None, Result, Ok, Err, ◌==◌, if◌then◌else◌}
 use Rattle.atl_orders.specs.Limits.{last_alias, most_number}
-use Rattle.atl_tables.specs.Planet.{Planet}
+use Rattle.atl_tables.specs.Worlds.{WorldValue}
 use Rattle.atl_tables.specs.Steps.{◌>>=◌}
 use Rattle.atl_tables.specs.Lookup.{item_named, skill_named, kind_named}
 use Rattle.atl_orders.specs.declared.order.UnitRef.{UnitRef}
@@ -49,17 +49,17 @@ unit_at ws = do
       else (number_at ws >>= λ n. Ok (Number n.0, n.1))
 
 -- an item, a skill or a kind of the world by its name
-unfoldable pub item_at : Planet → List WordText → Result ℕ LineFault
+unfoldable pub item_at : WorldValue → List WordText → Result ℕ LineFault
 item_at world ws = do
   w ← word_at ws
   or_fault UnknownThing (item_named world w.0.bytes w.0.quoted)
 
-unfoldable pub skill_at : Planet → List WordText → Result ℕ LineFault
+unfoldable pub skill_at : WorldValue → List WordText → Result ℕ LineFault
 skill_at world ws = do
   w ← word_at ws
   or_fault UnknownThing (skill_named world w.0.bytes w.0.quoted)
 
-unfoldable pub kind_at : Planet → List WordText → Result ℕ LineFault
+unfoldable pub kind_at : WorldValue → List WordText → Result ℕ LineFault
 kind_at world ws = do
   w ← word_at ws
   or_fault UnknownThing (kind_named world w.0.bytes w.0.quoted)

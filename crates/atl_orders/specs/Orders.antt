@@ -2,7 +2,7 @@
 use Rattle.std.specs.Prelude.{ℕ, List, [], ◌∷◌, codes, Option, Some, None, Result, Ok, Err, ◌==◌, if◌then◌else◌}
 use Rattle.std.specs.List.{slice_range}
 use Rattle.atl_tables.specs.Names.{name_ok}
-use Rattle.atl_tables.specs.Planet.{Planet}
+use Rattle.atl_tables.specs.Worlds.{WorldValue}
 use Rattle.atl_tables.specs.Lookup.{name_of}
 use Rattle.atl_orders.specs.declared.order.NameKind.{NameKind}
 use Rattle.atl_orders.specs.declared.order.NameKind.TheVariants as kinds
@@ -62,7 +62,7 @@ promote_at ws = do
   unit ← unit_at ws
   Ok (orders.Promote unit.0)
 
-unfoldable pub give_at : Planet → List WordText → Result Said LineFault
+unfoldable pub give_at : WorldValue → List WordText → Result Said LineFault
 give_at world ws = do
   to ← unit_at ws
   amount ← number_at to.1
@@ -101,7 +101,7 @@ sail_at ws = do
   d ← direction_at ws
   Ok (orders.Sail d)
 
-unfoldable pub build_at : Planet → List WordText → Result Said LineFault
+unfoldable pub build_at : WorldValue → List WordText → Result Said LineFault
 build_at world [] = Ok (orders.Build None)
 build_at world (w ∷ ws) = do
   kind ← kind_at world (w ∷ ws)
@@ -112,18 +112,18 @@ teach_at ws = do
   units ← some_units_at ws
   Ok (orders.Teach units)
 
-unfoldable pub study_at : Planet → List WordText → Result Said LineFault
+unfoldable pub study_at : WorldValue → List WordText → Result Said LineFault
 study_at world ws = do
   skill ← skill_at world ws
   Ok (orders.Study skill)
 
-unfoldable pub produce_at : Planet → List WordText → Result Said LineFault
+unfoldable pub produce_at : WorldValue → List WordText → Result Said LineFault
 produce_at world ws = do
   item ← item_at world ws
   Ok (orders.Produce item)
 
 -- what an order says by the words behind its verb
-abbrev pub said_by : Planet → Verb → List WordText → Result Said LineFault
+abbrev pub said_by : WorldValue → Verb → List WordText → Result Said LineFault
 said_by world verbs.Form ws = form_at ws
 said_by world verbs.Name ws = name_at ws
 said_by world verbs.Guard ws = guard_at ws

@@ -3,7 +3,7 @@ use Rattle.std.specs.Prelude.{ℕ, Bool, ◌&&◌, ◌||◌, List, [], ◌∷◌
 use Rattle.std.specs.List.{list_all}
 use Rattle.std.specs.Option.{option_map}
 use Rattle.atl_tables.specs.Letters.{space, tilde}
-use Rattle.atl_tables.specs.Planet.{Planet}
+use Rattle.atl_tables.specs.Worlds.{WorldValue}
 use Rattle.atl_orders.specs.Letters.{tab}
 use Rattle.atl_orders.specs.declared.order.UnitRef.{UnitRef}
 use Rattle.atl_orders.specs.declared.order.UnitRef.TheVariants.{Number, Alias}
@@ -88,19 +88,19 @@ abbrev pub order_effect : Option UnitRef → Result Said LineFault → Effect
 order_effect None said = faulty NoUnit
 order_effect (Some unit) said = said_for unit said
 
-unfoldable pub keyword_step : Planet → Place → (ℕ → Bool) → Option Keyword → List WordText → Step
+unfoldable pub keyword_step : WorldValue → Place → (ℕ → Bool) → Option Keyword → List WordText → Step
 keyword_step world place given None ws = record { effect = faulty UnknownOrder; place = place; given = given }
 keyword_step world place given (Some keywords.Unit) ws = unit_step given (number_at ws)
 keyword_step world place given (Some keywords.End) ws = end_step place given
 keyword_step world place given (Some keywords.Form) ws = form_step place given ws
 keyword_step world place given (Some (keywords.Order verb)) ws = record { effect = order_effect (target place) (said_by world verb ws); place = place; given = given }
 
-unfoldable pub words_step : Planet → Place → (ℕ → Bool) → List WordText → Step
+unfoldable pub words_step : WorldValue → Place → (ℕ → Bool) → List WordText → Step
 words_step world place given [] = record { effect = nothing; place = place; given = given }
 words_step world place given (w ∷ ws) = keyword_step world place given (keyword_of w) ws
 
 -- one line
-unfoldable pub line_step : Planet → Place → (ℕ → Bool) → List ℕ → Step
+unfoldable pub line_step : WorldValue → Place → (ℕ → Bool) → List ℕ → Step
 line_step world place given line =
     if list_all is_plain line then words_step world place given (words line)
     else record { effect = faulty BadByte; place = place; given = given }

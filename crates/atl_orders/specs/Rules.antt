@@ -1,7 +1,7 @@
 -- The rules of reading a mailing: which line is its header, and of each line behind that the first rule that fits says what it does.
 use Rattle.std.specs.Prelude.{◌≡◌, ℕ, ◌+◌, ◌<◌, ◌≤◌, ◌++◌, Bool, true, false, List, [], ◌∷◌, length, codes, Option, Some, None, Result, Ok, Err}
 use Rattle.std.specs.List.{All, list_all, flat_map}
-use Rattle.atl_tables.specs.Planet.{Planet}
+use Rattle.atl_tables.specs.Worlds.{WorldValue}
 use Rattle.atl_orders.specs.declared.order.UnitRef.{UnitRef}
 use Rattle.atl_orders.specs.declared.order.UnitRef.TheVariants.{Number}
 use Rattle.atl_orders.specs.declared.fault.FaultyLine.{FaultyLine}
@@ -40,7 +40,7 @@ abbrev pub Leads : WordText → Keyword → Type 0
 Leads w k = keyword_of w ≡ Some k
 
 -- a line with words, by its first word
-pub data WordsSay (world : Planet) (place : Place) (given : ℕ → Bool) (w : WordText) (ws : List WordText) (s : Step) : Type 0 where
+pub data WordsSay (world : WorldValue) (place : Place) (given : ℕ → Bool) (w : WordText) (ws : List WordText) (s : Step) : Type 0 where
   -- UNIT: the unit is named, and a block ends; on a fault no unit is
   unit_named : Leads w keywords.Unit → (n : ℕ) (rest : List WordText) → number_at ws ≡ Ok (n, rest)
       → s ≡ step nothing (At n) given → WordsSay world place given w ws s
@@ -78,7 +78,7 @@ pub data WordsSay (world : Planet) (place : Place) (given : ℕ → Bool) (w : W
       → s ≡ step (faulty UnknownOrder) place given → WordsSay world place given w ws s
 
 -- a line
-pub data LineSays (world : Planet) (place : Place) (given : ℕ → Bool) (line : List ℕ) (s : Step) : Type 0 where
+pub data LineSays (world : WorldValue) (place : Place) (given : ℕ → Bool) (line : List ℕ) (s : Step) : Type 0 where
   bad_byte : list_all is_plain line ≡ false
       → s ≡ step (faulty BadByte) place given → LineSays world place given line s
   no_word : list_all is_plain line ≡ true → words line ≡ []
@@ -87,7 +87,7 @@ pub data LineSays (world : Planet) (place : Place) (given : ℕ → Bool) (line 
       → WordsSay world place given w ws s → LineSays world place given line s
 
 -- the lines behind the header, from the one of this number on: their orders and their faults
-pub data BodySays (world : Planet) : ℕ → Place → (ℕ → Bool) → List (List ℕ) → List EntrySaid → List FaultyLine → Type 0 where
+pub data BodySays (world : WorldValue) : ℕ → Place → (ℕ → Bool) → List (List ℕ) → List EntrySaid → List FaultyLine → Type 0 where
   text_ended : (n : ℕ) (place : Place) (given : ℕ → Bool) → BodySays world n place given [] [] []
   orders_ended : (n : ℕ) (place : Place) (given : ℕ → Bool) (line : List ℕ) (rest : List (List ℕ))
       → begins (codes "#END") (words line) ≡ true → BodySays world n place given (line ∷ rest) [] []
@@ -111,7 +111,7 @@ pub record HaveHeader (lines before : List (List ℕ)) (header : List ℕ) (behi
   pub first : HaveNoHeader before
 
 -- a text: its header names the faction, and the lines behind it give the orders and the faults
-pub data TextSays (world : Planet) (text : List ℕ) (read : Result Reading MailFault) : Type 0 where
+pub data TextSays (world : WorldValue) (text : List ℕ) (read : Result Reading MailFault) : Type 0 where
   too_long : most_bytes < length text
       → read ≡ Err TooLong → TextSays world text read
   no_header : length text ≤ most_bytes → HaveNoHeader (lines text)
@@ -129,28 +129,28 @@ pub data TextSays (world : Planet) (text : List ℕ) (read : Result Reading Mail
 -- what the function gives for a line fits the rules, and nothing else does
 abbrev pub LineRules : Type 0
 LineRules =
-    ((world : Planet) (place : Place) (given : ℕ → Bool) (line : List ℕ)
+    ((world : WorldValue) (place : Place) (given : ℕ → Bool) (line : List ℕ)
     → LineSays world place given line (line_step world place given line))
-    × ((world : Planet) (place : Place) (given : ℕ → Bool) (line : List ℕ) (s : Step)
+    × ((world : WorldValue) (place : Place) (given : ℕ → Bool) (line : List ℕ) (s : Step)
     → LineSays world place given line s → s ≡ line_step world place given line)
 
-abbrev pub entries_from : Planet → ℕ → Place → (ℕ → Bool) → List (List ℕ) → List EntrySaid
+abbrev pub entries_from : WorldValue → ℕ → Place → (ℕ → Bool) → List (List ℕ) → List EntrySaid
 entries_from world n place given lines = flat_map entry_of (effects world n place given lines)
 
-abbrev pub faults_from : Planet → ℕ → Place → (ℕ → Bool) → List (List ℕ) → List FaultyLine
+abbrev pub faults_from : WorldValue → ℕ → Place → (ℕ → Bool) → List (List ℕ) → List FaultyLine
 faults_from world n place given lines = flat_map fault_of (effects world n place given lines)
 
 -- and so for all lines
 abbrev pub BodyRules : Type 0
 BodyRules =
-    ((world : Planet) (n : ℕ) (place : Place) (given : ℕ → Bool) (lines : List (List ℕ))
+    ((world : WorldValue) (n : ℕ) (place : Place) (given : ℕ → Bool) (lines : List (List ℕ))
     → BodySays world n place given lines (entries_from world n place given lines) (faults_from world n place given lines))
-    × ((world : Planet) (n : ℕ) (place : Place) (given : ℕ → Bool) (lines : List (List ℕ)) (entries : List EntrySaid) (faults : List FaultyLine)
+    × ((world : WorldValue) (n : ℕ) (place : Place) (given : ℕ → Bool) (lines : List (List ℕ)) (entries : List EntrySaid) (faults : List FaultyLine)
     → BodySays world n place given lines entries faults
     → (entries ≡ entries_from world n place given lines) × (faults ≡ faults_from world n place given lines))
 
 -- and so for a whole text
 abbrev pub TextRules : Type 0
 TextRules =
-    ((world : Planet) (text : List ℕ) → TextSays world text (reading world text))
-    × ((world : Planet) (text : List ℕ) (read : Result Reading MailFault) → TextSays world text read → read ≡ reading world text)
+    ((world : WorldValue) (text : List ℕ) → TextSays world text (reading world text))
+    × ((world : WorldValue) (text : List ℕ) (read : Result Reading MailFault) → TextSays world text read → read ≡ reading world text)

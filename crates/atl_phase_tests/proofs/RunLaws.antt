@@ -1,12 +1,12 @@
 -- What the phases of the cases need.
 use Rattle.std.proofs.Common.{◌≡◌, ◌≤◌, ℕ, Bool, true, false, sym, subst, arith}
 use Rattle.std.specs.Prelude.{if◌then◌else◌}
-use Rattle.atl_tables.specs.Planet.{Planet}
+use Rattle.atl_tables.specs.Worlds.{WorldValue}
 use Rattle.atl_state.specs.declared.books.Entry.{Entry}
 use Rattle.atl_state.specs.declared.books.Thing.{Thing}
 use Rattle.atl_state.specs.Books.{amount_in}
 use Rattle.atl_state.specs.Good.{IsGood}
-use Rattle.atl_state.specs.State.{State}
+use Rattle.atl_state.specs.Campaign.{CampaignValue}
 use Rattle.atl_instant.specs.Meaning.{HasRoom, HaveRoom, Moving, both_move, most_moved}
 use Rattle.atl_instant.specs.Terms.{MovesItsOwn, PhaseTerms, may_move}
 use Rattle.atl_instant.proofs.MeaningLaws.{room_less, room_when_sound}
@@ -20,14 +20,14 @@ use Rattle.atl_month.proofs.PhaseLaws.{season_alone, sweep_alone, upkeep_alone, 
 use Rattle.atl_phase_tests.specs.Roomy.{IsRoomy, much}
 
 -- a good campaign is roomy, and so is one with the same books
-pub roomy_when_good : (w : Planet) (c d : State) → IsGood w c → d.books ≡ c.books → IsRoomy d
+pub roomy_when_good : (w : WorldValue) (c d : CampaignValue) → IsGood w c → d.books ≡ c.books → IsRoomy d
 roomy_when_good w c d good books e t = subst (λ b. HasRoom much (amount_in b e t)) (sym books) (room_when_sound w c (λ f u. much) (λ f u. omega arith) good.sound e t)
 
 -- there is room for what moves less
-pub room_for : (c : State) (moving : Moving) → ((e : Entry) (t : Thing) → moving e t ≤ much) → IsRoomy c → HaveRoom moving c
+pub room_for : (c : CampaignValue) (moving : Moving) → ((e : Entry) (t : Thing) → moving e t ≤ much) → IsRoomy c → HaveRoom moving c
 room_for c moving little room = room_less moving (λ e t. much) c little room
 
-pub room_for_orders : (c : State) → IsRoomy c → HaveRoom orders_moving c
+pub room_for_orders : (c : CampaignValue) → IsRoomy c → HaveRoom orders_moving c
 room_for_orders c = room_for c orders_moving (λ e t. omega (arith, phases_little e t))
 
 -- a phase moves less, and so do two
@@ -38,20 +38,20 @@ cut false moved l = omega (arith, l)
 moves_little : (phase : PhaseTerms) → MovesItsOwn phase → (e : Entry) (t : Thing) → phase.moving e t ≤ most_moved
 moves_little phase own e t = cut (may_move phase.moved e t) (phase.moving e t) (own e t)
 
-room_of : (phase : PhaseTerms) → MovesItsOwn phase → (c : State) → IsRoomy c → HaveRoom phase.moving c
+room_of : (phase : PhaseTerms) → MovesItsOwn phase → (c : CampaignValue) → IsRoomy c → HaveRoom phase.moving c
 room_of phase own c = room_for c phase.moving (λ e t. omega (arith, moves_little phase own e t))
 
-pub room_for_work : (c : State) → IsRoomy c → HaveRoom work_terms.moving c
+pub room_for_work : (c : CampaignValue) → IsRoomy c → HaveRoom work_terms.moving c
 room_for_work = room_of work_terms work_alone
 
-pub room_for_upkeep : (c : State) → IsRoomy c → HaveRoom upkeep_terms.moving c
+pub room_for_upkeep : (c : CampaignValue) → IsRoomy c → HaveRoom upkeep_terms.moving c
 room_for_upkeep = room_of upkeep_terms upkeep_alone
 
-pub room_for_season : (c : State) → IsRoomy c → HaveRoom season_terms.moving c
+pub room_for_season : (c : CampaignValue) → IsRoomy c → HaveRoom season_terms.moving c
 room_for_season = room_of season_terms season_alone
 
-pub room_for_seasons : (c : State) → IsRoomy c → HaveRoom (both_move season_terms.moving season_terms.moving) c
+pub room_for_seasons : (c : CampaignValue) → IsRoomy c → HaveRoom (both_move season_terms.moving season_terms.moving) c
 room_for_seasons c = room_for c (both_move season_terms.moving season_terms.moving) (λ e t. omega (arith, moves_little season_terms season_alone e t))
 
-pub room_for_sweep : (c : State) → IsRoomy c → HaveRoom sweep_terms.moving c
+pub room_for_sweep : (c : CampaignValue) → IsRoomy c → HaveRoom sweep_terms.moving c
 room_for_sweep = room_of sweep_terms sweep_alone

@@ -1,11 +1,11 @@
 -- Room in the books for any phases.
 use Rattle.std.specs.Prelude.{ℕ}
-use Rattle.atl_state.specs.State.{State}
+use Rattle.atl_state.specs.Campaign.{CampaignValue}
 use Rattle.atl_instant.specs.Meaning.{HaveRoom}
 
 -- far more than a month moves
 abbrev pub much : ℕ
 much = 5000000000000000000
 
-abbrev pub IsRoomy : State → Type 0
+abbrev pub IsRoomy : CampaignValue → Type 0
 IsRoomy c = HaveRoom (λ e t. much) c

@@ -2,7 +2,7 @@
 ghost use Rattle.std.specs.Prelude.{All};
 ghost use Rattle.atl_orders.specs.Mailing.{IsReadWith};
 ghost use Rattle.atl_state.specs.Good.{IsEarly};
-ghost use Rattle.atl_instant.specs.Course.{HaveOwnFactions};
+ghost use Rattle.atl_instant.specs.Month.{HaveOwnFactions};
 ghost use Rattle.atl_instant.specs.Fit.{AreFit};
 ghost use Rattle.atl_phase_tests.specs.Roomy.{IsRoomy};
 
@@ -59,8 +59,8 @@ fn carry_out(
     campaign: Campaign,
     month: Month,
 ) -> Result<(Campaign, Month), AllocError>
-    requires early { IsEarly world.now campaign.what }
-    requires room { IsRoomy campaign.what }
+    requires early { IsEarly world.now campaign.value }
+    requires room { IsRoomy campaign.value }
     requires read { AreFit world.now month.readings }
 {
     OrderPhases.run(alloc, world, campaign, month)
@@ -72,8 +72,8 @@ fn work(
     campaign: Campaign,
     month: Month,
 ) -> Result<(Campaign, Month), AllocError>
-    requires early { IsEarly world.now campaign.what }
-    requires room { IsRoomy campaign.what }
+    requires early { IsEarly world.now campaign.value }
+    requires room { IsRoomy campaign.value }
     requires read { AreFit world.now month.readings }
 {
     WorkPhase.run(alloc, world, campaign, month)
@@ -85,8 +85,8 @@ fn pay_upkeep(
     campaign: Campaign,
     month: Month,
 ) -> Result<(Campaign, Month), AllocError>
-    requires early { IsEarly world.now campaign.what }
-    requires room { IsRoomy campaign.what }
+    requires early { IsEarly world.now campaign.value }
+    requires room { IsRoomy campaign.value }
     requires read { AreFit world.now month.readings }
 {
     UpkeepPhase.run(alloc, world, campaign, month)
@@ -98,8 +98,8 @@ fn grow(
     campaign: Campaign,
     month: Month,
 ) -> Result<(Campaign, Month), AllocError>
-    requires early { IsEarly world.now campaign.what }
-    requires room { IsRoomy campaign.what }
+    requires early { IsEarly world.now campaign.value }
+    requires room { IsRoomy campaign.value }
     requires read { AreFit world.now month.readings }
 {
     SeasonPhase.run(alloc, world, campaign, month)
@@ -111,8 +111,8 @@ fn grow_twice(
     campaign: Campaign,
     month: Month,
 ) -> Result<(Campaign, Month), AllocError>
-    requires early { IsEarly world.now campaign.what }
-    requires room { IsRoomy campaign.what }
+    requires early { IsEarly world.now campaign.value }
+    requires room { IsRoomy campaign.value }
     requires read { AreFit world.now month.readings }
 {
     (SeasonPhase, SeasonPhase).run(alloc, world, campaign, month)
@@ -124,8 +124,8 @@ fn sweep(
     campaign: Campaign,
     month: Month,
 ) -> Result<(Campaign, Month), AllocError>
-    requires early { IsEarly world.now campaign.what }
-    requires room { IsRoomy campaign.what }
+    requires early { IsEarly world.now campaign.value }
+    requires room { IsRoomy campaign.value }
     requires read { AreFit world.now month.readings }
 {
     SweepPhase.run(alloc, world, campaign, month)
@@ -139,8 +139,8 @@ fn run_on(
     campaign: Campaign,
     month: Month,
 ) -> Result<(Campaign, Month), AllocError>
-    requires early { IsEarly world.now campaign.what }
-    requires room { IsRoomy campaign.what }
+    requires early { IsEarly world.now campaign.value }
+    requires room { IsRoomy campaign.value }
     requires read { AreFit world.now month.readings }
 {
     match run {

@@ -273,7 +273,7 @@ fn rows_of(alloc: Global, world: &World, setting: &Setting) -> Result<Parts, All
 
 /// The campaign of a setting before units lose their men.
 pub(crate) fn good_campaign(alloc: Global, world: &World, setting: &Setting) -> Result<Campaign>
-    ensures { IfOk result (λ c. IsGood world.now c.what) }
+    ensures { IfOk result (λ c. IsGood world.now c.value) }
 {
     let rows = rows_of(alloc, world, setting)?;
     match check(alloc, world, rows) {
@@ -284,9 +284,9 @@ pub(crate) fn good_campaign(alloc: Global, world: &World, setting: &Setting) -> 
 
 /// A unit loses its men and what they studied.
 fn loses_men(alloc: Global, world: &World, campaign: &mut Campaign, number: u32)
-    requires early { IsEarly world.now campaign.old.what }
-    ensures early { IsEarly world.now campaign.new.what }
-    ensures books { campaign.new.what.books ≡ campaign.old.what.books }
+    requires early { IsEarly world.now campaign.old.value }
+    ensures early { IsEarly world.now campaign.new.value }
+    ensures books { campaign.new.value.books ≡ campaign.old.value.books }
 {
     if let Some(holding) = campaign.unit_mut(number) {
         holding.set_men(0);
@@ -296,9 +296,9 @@ fn loses_men(alloc: Global, world: &World, campaign: &mut Campaign, number: u32)
 
 /// Units lose their men.
 fn lose_men(alloc: Global, world: &World, campaign: &mut Campaign, units: &[u32])
-    requires early { IsEarly world.now campaign.old.what }
-    ensures early { IsEarly world.now campaign.new.what }
-    ensures books { campaign.new.what.books ≡ campaign.old.what.books }
+    requires early { IsEarly world.now campaign.old.value }
+    ensures early { IsEarly world.now campaign.new.value }
+    ensures books { campaign.new.value.books ≡ campaign.old.value.books }
 {
     for number in units {
         loses_men(alloc, world, campaign, *number);
@@ -307,8 +307,8 @@ fn lose_men(alloc: Global, world: &World, campaign: &mut Campaign, units: &[u32]
 
 /// The campaign of a setting.
 pub(crate) fn campaign_of(alloc: Global, world: &World, setting: &Setting) -> Result<Campaign>
-    ensures early { IfOk result (λ c. IsEarly world.now c.what) }
-    ensures room { IfOk result (λ c. IsRoomy c.what) }
+    ensures early { IfOk result (λ c. IsEarly world.now c.value) }
+    ensures room { IfOk result (λ c. IsRoomy c.value) }
 {
     let mut campaign = good_campaign(alloc, world, setting)?;
     lose_men(alloc, world, &mut campaign, &setting.menless);

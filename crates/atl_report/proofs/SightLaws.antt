@@ -16,7 +16,7 @@ use Rattle.atl_tables.proofs.GeneralLaws.{key_turned}
 use Rattle.atl_state.specs.declared.records.Region.{Region}
 use Rattle.atl_state.specs.declared.records.Unit.{Unit}
 use Rattle.atl_state.specs.Deciding.{EachOf}
-use Rattle.atl_state.specs.State.{State, numbers_of}
+use Rattle.atl_state.specs.Campaign.{CampaignValue, numbers_of}
 use Rattle.atl_state.proofs.EveryLaws.{each-from_every}
 use Rattle.atl_report.specs.Watching.{is_watching, sees_region}
 use Rattle.atl_report.specs.Gathering.{with_region, with_watched, gathered}
@@ -77,7 +77,7 @@ regrouped false m e true h = refl
 regrouped false m e false h = refl
 
 -- a region is seen where one of the faction's units watches in it
-seen_by : (c : State) (f q : ℕ) → list_any (λ n. watches_in f q (get c.units n)) (numbers_of f c.units) ≡ sees_region c f q
+seen_by : (c : CampaignValue) (f q : ℕ) → list_any (λ n. watches_in f q (get c.units n)) (numbers_of f c.units) ≡ sees_region c f q
 seen_by c f q =
     some_where (λ (u : Unit). u.faction == f) (watches_in f q) c.units
     ∙ ap (λ (t : ℕ × Unit → Bool). list_any t (entries c.units)) (λ i e. regrouped (e.1.faction == f) (nat_lt 0 e.1.holding.men) (eq_by_cmp nat_cmp q e.1.region) (e.1.region == q) (key_turned q e.1.region) i)
@@ -112,7 +112,7 @@ module _ {V : Type 0} where
   alone_chosen true o = refl
   alone_chosen false o = refl
 
-module _ (c : State) (f q : ℕ) where
+module _ (c : CampaignValue) (f q : ℕ) where
   -- whether a region is there
   abbrev there : ℕ → Option (Prim.Unit {0})
   there k = option_map nothing_of (get c.regions k)
@@ -164,7 +164,7 @@ module _ (c : State) (f q : ℕ) where
       ∙ ap (λ t. cond t (there q) None) (or_none (list_any (λ n. watches_in f q (get c.units n)) (numbers_of f c.units)) ∙ seen_by c f q)
 
 -- the numbers gathered from the faction's units are those of the regions that it sees
-pub entries-gathered : (c : State) (f : ℕ) → entries (gathered c f (numbers_of f c.units) empty) ≡ map (λ e. (e.0, tt)) (filter (λ e. sees_region c f e.0) (entries c.regions))
+pub entries-gathered : (c : CampaignValue) (f : ℕ) → entries (gathered c f (numbers_of f c.units) empty) ≡ map (λ e. (e.0, tt)) (filter (λ e. sees_region c f e.0) (entries c.regions))
 entries-gathered c f =
     let seen = where_key nat_cmp (sees_region c f) (entries c.regions) in
     let numbers : List (ℕ × Prim.Unit {0}) = map number_alone seen in

@@ -4,14 +4,14 @@ use Rattle.std.specs.Fmt.{decimal, signed_decimal}
 use Rattle.std.specs.List.{slice_get}
 use Rattle.std.specs.Ordering.{int_eq}
 use Rattle.atl_tables.specs.Texts.{◌▸◌}
-use Rattle.atl_tables.specs.Planet.{Planet}
+use Rattle.atl_tables.specs.Worlds.{WorldValue}
 use Rattle.atl_tables.specs.declared.world.Item.{Item as ItemPlan}
 use Rattle.atl_state.specs.declared.books.Entry.{Entry}
 use Rattle.atl_state.specs.declared.books.Entry.TheVariants.{Founding, Joining, Income, Wages, Recruiting, Study, Upkeep, Lost, Births, Starved, Left, Made, Used}
 use Rattle.atl_state.specs.declared.books.Thing.{Thing}
 use Rattle.atl_state.specs.declared.books.Thing.TheVariants.{Money, People, Item}
 use Rattle.atl_state.specs.Books.{all_entries, amount_in, thing_place}
-use Rattle.atl_state.specs.State.{State}
+use Rattle.atl_state.specs.Campaign.{CampaignValue}
 use Rattle.atl_state.specs.Totals.{total}
 
 abbrev pub entry_name : Entry → List ℕ
@@ -33,7 +33,7 @@ abbrev pub item_name : Option ItemPlan → List ℕ
 item_name None = []
 item_name (Some item) = codes "item \"" ▸ item.name ▸ codes "\""
 
-abbrev pub thing_name : Planet → Thing → List ℕ
+abbrev pub thing_name : WorldValue → Thing → List ℕ
 thing_name w Money = codes "money"
 thing_name w People = codes "people"
 thing_name w (Item i) = item_name (slice_get w.items i)
@@ -44,30 +44,30 @@ abbrev pub amount_text : Entry → ℤ → List ℕ
 amount_text e amount = codes " " ▸ entry_name e ▸ codes " " ▸ signed_decimal amount ▸ codes "\n"
 
 -- the line of an entry; where nothing is booked there is none
-unfoldable pub amount_line : Planet → Thing → Entry → ℤ → List ℕ
+unfoldable pub amount_line : WorldValue → Thing → Entry → ℤ → List ℕ
 amount_line w t e amount = if int_eq amount (pos 0) then [] else thing_name w t ▸ amount_text e amount
 
-abbrev pub amount_lines : Planet → List (List ℤ) → Thing → List Entry → List ℕ
+abbrev pub amount_lines : WorldValue → List (List ℤ) → Thing → List Entry → List ℕ
 amount_lines w books t [] = []
 amount_lines w books t (e ∷ es) = amount_line w t e (amount_in books e t) ▸ amount_lines w books t es
 
 -- the line of how much all units and regions hold
-unfoldable pub total_line : Planet → State → Thing → List ℕ
+unfoldable pub total_line : WorldValue → CampaignValue → Thing → List ℕ
 total_line w c t = thing_name w t ▸ codes " total " ▸ decimal (total c t) ▸ codes "\n"
 
-unfoldable pub thing_part : Planet → State → Thing → List ℕ
+unfoldable pub thing_part : WorldValue → CampaignValue → Thing → List ℕ
 thing_part w c t = amount_lines w c.books t all_entries ▸ total_line w c t
 
 -- ---- the whole
 
 -- the parts of so many items, in the order of the world
-abbrev pub item_parts : Planet → State → ℕ → List ℕ
+abbrev pub item_parts : WorldValue → CampaignValue → ℕ → List ℕ
 item_parts w c zero = []
 item_parts w c (suc n) = item_parts w c n ▸ thing_part w c (Item n)
 
-unfoldable pub books_of : Planet → State → List ℕ
+unfoldable pub books_of : WorldValue → CampaignValue → List ℕ
 books_of w c = thing_part w c Money ▸ thing_part w c People ▸ item_parts w c (length w.items)
 
 -- a thing of which there are books
-abbrev pub IsThing : State → Thing → Type 0
+abbrev pub IsThing : CampaignValue → Thing → Type 0
 IsThing c t = thing_place t < length c.books

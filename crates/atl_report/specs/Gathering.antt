@@ -4,7 +4,7 @@ use Rattle.std.specs.Ordering.{nat_cmp}
 use Rattle.std.specs.FinMap.{FinMap, get, insert}
 use Rattle.atl_state.specs.declared.records.Region.{Region}
 use Rattle.atl_state.specs.declared.records.Unit.{Unit}
-use Rattle.atl_state.specs.State.{State}
+use Rattle.atl_state.specs.Campaign.{CampaignValue}
 use Rattle.atl_report.specs.Watching.{is_watching}
 
 -- the numbers of regions with one more, where that region is there
@@ -13,11 +13,11 @@ with_region seen n None = seen
 with_region seen n (Some r) = insert seen n tt
 
 -- the numbers with that of a unit's region, where the unit watches
-abbrev pub with_watched : State → ℕ → FinMap nat_cmp (Prim.Unit {0}) → Option Unit → FinMap nat_cmp (Prim.Unit {0})
+abbrev pub with_watched : CampaignValue → ℕ → FinMap nat_cmp (Prim.Unit {0}) → Option Unit → FinMap nat_cmp (Prim.Unit {0})
 with_watched c f seen None = seen
 with_watched c f seen (Some u) = if is_watching f (Some u) then with_region seen u.region (get c.regions u.region) else seen
 
 -- the numbers with those of the regions of some units
-abbrev pub gathered : State → ℕ → List ℕ → FinMap nat_cmp (Prim.Unit {0}) → FinMap nat_cmp (Prim.Unit {0})
+abbrev pub gathered : CampaignValue → ℕ → List ℕ → FinMap nat_cmp (Prim.Unit {0}) → FinMap nat_cmp (Prim.Unit {0})
 gathered c f [] seen = seen
 gathered c f (n ∷ ns) seen = gathered c f ns (with_watched c f seen (get c.units n))

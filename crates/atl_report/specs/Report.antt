@@ -4,7 +4,7 @@ use Rattle.std.specs.Fmt.{decimal}
 use Rattle.std.specs.FinMap.{get}
 use Rattle.std.specs.List.{slice_get}
 use Rattle.atl_tables.specs.Texts.{◌▸◌}
-use Rattle.atl_tables.specs.Planet.{Planet}
+use Rattle.atl_tables.specs.Worlds.{WorldValue}
 use Rattle.atl_tables.specs.declared.world.RegionPlan.{RegionPlan}
 use Rattle.atl_tables.specs.declared.world.Terrain.{Terrain}
 use Rattle.atl_tables.specs.declared.world.Item.{Item}
@@ -12,7 +12,7 @@ use Rattle.atl_tables.specs.declared.world.Skill.{Skill}
 use Rattle.atl_tables.specs.declared.world.Kind.{Kind}
 use Rattle.atl_orders.specs.declared.fault.FaultyLine.{FaultyLine}
 use Rattle.atl_state.specs.declared.event.Event.{Event}
-use Rattle.atl_state.specs.State.{State}
+use Rattle.atl_state.specs.Campaign.{CampaignValue}
 use Rattle.atl_report.specs.Events.{own_events, orders_part}
 use Rattle.atl_report.specs.Sight.{view_of}
 use Rattle.atl_report.specs.declared.views.View.{View}
@@ -45,10 +45,10 @@ abbrev pub item_named : ItemView → Option Item → List ℕ
 item_named e None = []
 item_named e (Some item) = codes ", " ▸ decimal e.amount ▸ codes " " ▸ item.name
 
-unfoldable pub item_text : Planet → ItemView → List ℕ
+unfoldable pub item_text : WorldValue → ItemView → List ℕ
 item_text w e = item_named e (slice_get w.items e.item)
 
-abbrev pub item_texts : Planet → List ItemView → List ℕ
+abbrev pub item_texts : WorldValue → List ItemView → List ℕ
 item_texts w [] = []
 item_texts w (e ∷ es) = item_text w e ▸ item_texts w es
 
@@ -57,22 +57,22 @@ abbrev pub skill_named : SkillView → Option Skill → List ℕ
 skill_named e None = []
 skill_named e (Some skill) = codes ", " ▸ skill.name ▸ codes " " ▸ decimal e.level ▸ codes " (" ▸ decimal e.days ▸ codes ")"
 
-unfoldable pub skill_text : Planet → SkillView → List ℕ
+unfoldable pub skill_text : WorldValue → SkillView → List ℕ
 skill_text w e = skill_named e (slice_get w.skills e.skill)
 
-abbrev pub skill_texts : Planet → List SkillView → List ℕ
+abbrev pub skill_texts : WorldValue → List SkillView → List ℕ
 skill_texts w [] = []
 skill_texts w (e ∷ es) = skill_text w e ▸ skill_texts w es
 
 -- what an own unit has and knows
-abbrev pub goods_text : Planet → Side → List ℕ
+abbrev pub goods_text : WorldValue → Side → List ℕ
 goods_text w (Own money items skills) = item_texts w items ▸ skill_texts w skills
 goods_text w (Other faction name) = []
 
-unfoldable pub unit_line : Planet → UnitView → List ℕ
+unfoldable pub unit_line : WorldValue → UnitView → List ℕ
 unit_line w u = unit_head u u.side ▸ guard_text u.guard ▸ inside_text u.structure ▸ goods_text w u.side ▸ codes ".\n"
 
-abbrev pub unit_lines : Planet → List UnitView → List ℕ
+abbrev pub unit_lines : WorldValue → List UnitView → List ℕ
 unit_lines w [] = []
 unit_lines w (u ∷ us) = unit_line w u ▸ unit_lines w us
 
@@ -84,10 +84,10 @@ structure_text s None = []
 structure_text s (Some kind) =
     codes "Structure " ▸ decimal s.number ▸ codes " \"" ▸ s.name ▸ codes "\", " ▸ kind.name ▸ codes ", " ▸ decimal s.done ▸ codes " of " ▸ decimal kind.size ▸ codes ", owner " ▸ decimal s.owner ▸ codes ".\n"
 
-unfoldable pub structure_line : Planet → StructureView → List ℕ
+unfoldable pub structure_line : WorldValue → StructureView → List ℕ
 structure_line w s = structure_text s (slice_get w.kinds s.kind)
 
-abbrev pub structure_lines : Planet → List StructureView → List ℕ
+abbrev pub structure_lines : WorldValue → List StructureView → List ℕ
 structure_lines w [] = []
 structure_lines w (s ∷ ss) = structure_line w s ▸ structure_lines w ss
 
@@ -97,13 +97,13 @@ abbrev pub terrain_name : Option Terrain → List ℕ
 terrain_name None = []
 terrain_name (Some t) = t.name
 
-abbrev pub region_text : Planet → RegionView → Option RegionPlan → List ℕ
+abbrev pub region_text : WorldValue → RegionView → Option RegionPlan → List ℕ
 region_text w r None = []
 region_text w r (Some plan) =
     codes "Region " ▸ decimal r.number ▸ codes " \"" ▸ plan.name ▸ codes "\", " ▸ terrain_name (slice_get w.terrains plan.terrain) ▸ codes ": " ▸ decimal r.peasants ▸ codes " peasants, " ▸ decimal r.money ▸ codes " money.\n"
 
 -- a region by the name and the terrain that the world gives it
-unfoldable pub region_line : Planet → RegionView → List ℕ
+unfoldable pub region_line : WorldValue → RegionView → List ℕ
 region_line w r = region_text w r (get w.regions r.number)
 
 -- an exit that is there; behind another one a comma comes first
@@ -126,33 +126,33 @@ abbrev pub exits_text : Option RegionPlan → List ℕ
 exits_text None = []
 exits_text (Some p) = codes "Exits:" ▸ (if has_no_exit p then codes " none" else directions p) ▸ codes ".\n"
 
-unfoldable pub exits_line : Planet → RegionView → List ℕ
+unfoldable pub exits_line : WorldValue → RegionView → List ℕ
 exits_line w r = exits_text (get w.regions r.number)
 
-unfoldable pub region_part : Planet → RegionView → List ℕ
+unfoldable pub region_part : WorldValue → RegionView → List ℕ
 region_part w r = region_line w r ▸ exits_line w r ▸ structure_lines w r.structures ▸ unit_lines w r.units
 
-abbrev pub region_parts : Planet → List RegionView → List ℕ
+abbrev pub region_parts : WorldValue → List RegionView → List ℕ
 region_parts w [] = []
 region_parts w (r ∷ rs) = region_part w r ▸ region_parts w rs
 
 -- ---- the whole
 
 -- the faction's events alone are told
-unfoldable pub report_of : Planet → View → List FaultyLine → List Event → List ℕ
+unfoldable pub report_of : WorldValue → View → List FaultyLine → List Event → List ℕ
 report_of w v faults events = header_line v ▸ orders_part v.faction faults events ▸ region_parts w v.regions
 
 -- events with the same ones of the faction give one report
 abbrev pub OthersEventsAreNotTold : Type 0
 OthersEventsAreNotTold =
-    (w : Planet) (v : View) (faults : List FaultyLine) (events others : List Event)
+    (w : WorldValue) (v : View) (faults : List FaultyLine) (events others : List Event)
     → own_events v.faction events ≡ own_events v.faction others
     → report_of w v faults events ≡ report_of w v faults others
 
 -- two campaigns of one world of which a faction sees the same give it one report, where its faulty lines and its events are the same
 abbrev pub OnlyWhatIsSeenIsTold : Type 0
 OnlyWhatIsSeenIsTold =
-    (w : Planet) (c d : State) (faction : ℕ) (faults : List FaultyLine) (events others : List Event)
+    (w : WorldValue) (c d : CampaignValue) (faction : ℕ) (faults : List FaultyLine) (events others : List Event)
     → view_of w c faction ≡ view_of w d faction
     → own_events faction events ≡ own_events faction others
     → report_of w (view_of w c faction) faults events ≡ report_of w (view_of w d faction) faults others

@@ -3,7 +3,7 @@ use Rattle.std.specs.Prelude.{◌==◌, ℕ, List, [], map, filter, if◌then◌
 use Rattle.std.specs.List.{filter_map}
 use Rattle.std.specs.Ordering.{nat_cmp}
 use Rattle.std.specs.FinMap.{FinMap, get, entries}
-use Rattle.atl_tables.specs.Planet.{Planet}
+use Rattle.atl_tables.specs.Worlds.{WorldValue}
 use Rattle.atl_tables.specs.Sums.{numbers_where}
 use Rattle.atl_state.specs.declared.records.Faction.{Faction}
 use Rattle.atl_state.specs.declared.records.Region.{Region}
@@ -12,7 +12,7 @@ use Rattle.atl_state.specs.declared.records.Unit.{Unit}
 use Rattle.atl_state.specs.Good.{guards}
 use Rattle.atl_state.specs.Held.{Held}
 use Rattle.atl_state.specs.Levels.{level_of}
-use Rattle.atl_state.specs.State.{State, numbers_in}
+use Rattle.atl_state.specs.Campaign.{CampaignValue, numbers_in}
 use Rattle.atl_report.specs.declared.views.View.{View}
 use Rattle.atl_report.specs.declared.views.RegionView.{RegionView}
 use Rattle.atl_report.specs.declared.views.StructureView.{StructureView}
@@ -46,20 +46,20 @@ abbrev pub skill_views : Held → List SkillView
 skill_views h = map (skill_view h.men) (entries h.days)
 
 -- of an own unit its money, items and skills; of another faction's that faction
-abbrev pub side_of : State → ℕ → Unit → Side
+abbrev pub side_of : CampaignValue → ℕ → Unit → Side
 side_of c faction u =
     if u.faction == faction then Own u.holding.money (item_views u.holding) (skill_views u.holding)
     else Other u.faction (shown_name (get c.factions u.faction))
 
-abbrev pub unit_view : State → ℕ → ℕ → Unit → UnitView
+abbrev pub unit_view : CampaignValue → ℕ → ℕ → Unit → UnitView
 unit_view c faction number u = record { number = number; name = u.holding.name; men = u.holding.men; guard = guards u; structure = u.structure; side = side_of c faction u }
 
-abbrev pub seen_unit : Planet → State → Watch → ℕ → Option Unit → Option UnitView
+abbrev pub seen_unit : WorldValue → CampaignValue → Watch → ℕ → Option Unit → Option UnitView
 seen_unit w c watch number None = None
 seen_unit w c watch number (Some u) = if is_seen w watch u then Some (unit_view c watch.faction number u) else None
 
 -- the units of the region that are seen, by number
-abbrev pub unit_views : Planet → State → Watch → List UnitView
+abbrev pub unit_views : WorldValue → CampaignValue → Watch → List UnitView
 unit_views w c watch = filter_map (λ n. seen_unit w c watch n (get c.units n)) (numbers_in watch.region c.units)
 
 -- ---- structures
@@ -69,24 +69,24 @@ abbrev pub structures_in : ℕ → FinMap nat_cmp Structure → List ℕ
 structures_in region structures = numbers_where (λ s. s.region == region) structures
 
 -- the owner's number, or 0 where the owner isn't seen
-abbrev pub shown_owner : Planet → State → Watch → Structure → ℕ
+abbrev pub shown_owner : WorldValue → CampaignValue → Watch → Structure → ℕ
 shown_owner w c watch s = if is_seen_there w watch (get c.units s.owner) then s.owner else 0
 
-abbrev pub structure_view : Planet → State → Watch → ℕ → Structure → StructureView
+abbrev pub structure_view : WorldValue → CampaignValue → Watch → ℕ → Structure → StructureView
 structure_view w c watch number s = record { number = number; kind = s.kind; name = s.name; done = s.done; owner = shown_owner w c watch s }
 
 -- all structures of the region, by number
-abbrev pub structure_views : Planet → State → Watch → List StructureView
+abbrev pub structure_views : WorldValue → CampaignValue → Watch → List StructureView
 structure_views w c watch = filter_map (λ n. option_map (structure_view w c watch n) (get c.structures n)) (structures_in watch.region c.structures)
 
 -- ---- the whole
 
-abbrev pub region_view : Planet → State → Watch → Region → RegionView
+abbrev pub region_view : WorldValue → CampaignValue → Watch → Region → RegionView
 region_view w c watch r = record { number = watch.region; peasants = r.peasants; money = r.money; structures = structure_views w c watch; units = unit_views w c watch }
 
 -- the regions that the faction sees, by number
-abbrev pub region_views : Planet → State → ℕ → List RegionView
+abbrev pub region_views : WorldValue → CampaignValue → ℕ → List RegionView
 region_views w c faction = map (λ e. region_view w c (watch_over w c faction e.0) e.1) (filter (λ e. sees_region c faction e.0) (entries c.regions))
 
-unfoldable pub view_of : Planet → State → ℕ → View
+unfoldable pub view_of : WorldValue → CampaignValue → ℕ → View
 view_of w c faction = record { month = c.month; faction = faction; name = shown_name (get c.factions faction); regions = region_views w c faction }

@@ -2,11 +2,11 @@
 use Rattle.std.specs.Prelude.{◌==◌, ◌&&◌, ◌||◌, ℕ, Bool, false, nat_lt, nat_le, max, List, [], ◌∷◌, map, if◌then◌else◌, Option, Some, None}
 use Rattle.std.specs.List.{list_any}
 use Rattle.std.specs.FinMap.{get}
-use Rattle.atl_tables.specs.Planet.{Planet}
+use Rattle.atl_tables.specs.Worlds.{WorldValue}
 use Rattle.atl_state.specs.declared.records.Unit.{Unit}
 use Rattle.atl_state.specs.Good.{guards}
 use Rattle.atl_state.specs.Levels.{level_in_any}
-use Rattle.atl_state.specs.State.{State, numbers_in}
+use Rattle.atl_state.specs.Campaign.{CampaignValue, numbers_in}
 use Rattle.atl_report.specs.declared.watch.Watch.{Watch}
 
 -- ---- regions
@@ -17,13 +17,13 @@ is_watching faction None = false
 is_watching faction (Some u) = u.faction == faction && nat_lt 0 u.holding.men
 
 -- the faction has a unit with men in the region
-abbrev pub sees_region : State → ℕ → ℕ → Bool
+abbrev pub sees_region : CampaignValue → ℕ → ℕ → Bool
 sees_region c faction region = list_any (λ n. is_watching faction (get c.units n)) (numbers_in region c.units)
 
 -- ---- units
 
 -- how well a unit observes, where it is the faction's own
-abbrev pub observation_of : Planet → ℕ → Option Unit → ℕ
+abbrev pub observation_of : WorldValue → ℕ → Option Unit → ℕ
 observation_of w faction None = 0
 observation_of w faction (Some u) = if u.faction == faction then level_in_any u.holding w.rules.observation else 0
 
@@ -32,17 +32,17 @@ greatest [] = 0
 greatest (n ∷ ns) = max n (greatest ns)
 
 -- the best observation level of the faction's units in a region
-abbrev pub observation_in : Planet → State → ℕ → ℕ → ℕ
+abbrev pub observation_in : WorldValue → CampaignValue → ℕ → ℕ → ℕ
 observation_in w c faction region = greatest (map (λ n. observation_of w faction (get c.units n)) (numbers_in region c.units))
 
-abbrev pub watch_over : Planet → State → ℕ → ℕ → Watch
+abbrev pub watch_over : WorldValue → CampaignValue → ℕ → ℕ → Watch
 watch_over w c faction region = record { faction = faction; region = region; observation = observation_in w c faction region }
 
 -- a unit that is the faction's own, guards, or has a stealth level at most that observation level
-abbrev pub is_seen : Planet → Watch → Unit → Bool
+abbrev pub is_seen : WorldValue → Watch → Unit → Bool
 is_seen w watch u = u.faction == watch.faction || (guards u || nat_le (level_in_any u.holding w.rules.stealth) watch.observation)
 
 -- a unit that is seen, and stands in the region
-abbrev pub is_seen_there : Planet → Watch → Option Unit → Bool
+abbrev pub is_seen_there : WorldValue → Watch → Option Unit → Bool
 is_seen_there w watch None = false
 is_seen_there w watch (Some u) = u.region == watch.region && is_seen w watch u

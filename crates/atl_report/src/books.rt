@@ -88,8 +88,8 @@ fn write_entries(
     thing: Thing,
     entries: &[Entry],
 ) -> Result<(), AllocError>
-    requires { IsThing campaign.now.what thing }
-    ensures { OnOk result (string_bytes out.new ≡ string_bytes out.old ++ amount_lines world.now campaign.now.what.books thing entries.now) }
+    requires { IsThing campaign.now.value thing }
+    ensures { OnOk result (string_bytes out.new ≡ string_bytes out.old ++ amount_lines world.now campaign.now.value.books thing entries.now) }
 {
     for entry in entries {
         let amount = campaign.booked(*entry, thing);
@@ -106,8 +106,8 @@ fn write_total(
     campaign: &Campaign,
     thing: Thing,
 ) -> Result<(), AllocError>
-    requires { IsCountable campaign.now.what }
-    ensures { OnOk result (string_bytes out.new ≡ string_bytes out.old ++ total_line world.now campaign.now.what thing) }
+    requires { IsCountable campaign.now.value }
+    ensures { OnOk result (string_bytes out.new ≡ string_bytes out.old ++ total_line world.now campaign.now.value thing) }
 {
     let amount = campaign.total(thing);
     write_thing(out, world, thing)?;
@@ -123,9 +123,9 @@ fn write_part(
     campaign: &Campaign,
     thing: Thing,
 ) -> Result<(), AllocError>
-    requires countable { IsCountable campaign.now.what }
-    requires thing { IsThing campaign.now.what thing }
-    ensures { OnOk result (string_bytes out.new ≡ string_bytes out.old ++ thing_part world.now campaign.now.what thing) }
+    requires countable { IsCountable campaign.now.value }
+    requires thing { IsThing campaign.now.value thing }
+    ensures { OnOk result (string_bytes out.new ≡ string_bytes out.old ++ thing_part world.now campaign.now.value thing) }
 {
     write_entries(out, world, campaign, thing, &Entry::ALL)?;
     write_total(out, world, campaign, thing)?;
@@ -134,9 +134,9 @@ fn write_part(
 
 /// The parts of the items, in the order of the world.
 fn write_items(out: &mut String, world: &World, campaign: &Campaign) -> Result<(), AllocError>
-    requires things { length campaign.now.what.books ≡ things_of world.now }
-    requires countable { IsCountable campaign.now.what }
-    ensures { OnOk result (string_bytes out.new ≡ string_bytes out.old ++ item_parts world.now campaign.now.what (length world.now.items)) }
+    requires things { length campaign.now.value.books ≡ things_of world.now }
+    requires countable { IsCountable campaign.now.value }
+    ensures { OnOk result (string_bytes out.new ≡ string_bytes out.old ++ item_parts world.now campaign.now.value (length world.now.items)) }
 {
     for item in 0..world.items().len() {
         write_part(out, world, campaign, Thing::Item(item as u16))?;
@@ -149,9 +149,9 @@ fn write_items(out: &mut String, world: &World, campaign: &Campaign) -> Result<(
 /// memory. See docs/FORMATS.md, "Books".
 #[tactic(auto, unfolding(crate::specs::Books::books_of))]
 pub fn books_text(alloc: Global, world: &World, campaign: &Campaign) -> Result<String, AllocError>
-    requires things { length campaign.now.what.books ≡ things_of world.now }
-    requires countable { IsCountable campaign.now.what }
-    ensures definition { IfOk result (λ text. string_bytes text ≡ books_of world.now campaign.now.what) }
+    requires things { length campaign.now.value.books ≡ things_of world.now }
+    requires countable { IsCountable campaign.now.value }
+    ensures definition { IfOk result (λ text. string_bytes text ≡ books_of world.now campaign.now.value) }
 {
     let mut out = String::new(alloc);
     write_part(&mut out, world, campaign, Thing::Money)?;

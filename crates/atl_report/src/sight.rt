@@ -15,7 +15,7 @@ use std::alloc::{AllocError, Global};
 
 /// A copy of the name that a faction shows.
 fn shown_name(alloc: Global, campaign: &Campaign, faction: u32) -> Result<Text, AllocError>
-    ensures { IfOk result (λ name. name ≡ shown_name (get campaign.now.what.factions faction)) }
+    ensures { IfOk result (λ name. name ≡ shown_name (get campaign.now.value.factions faction)) }
 {
     match campaign.faction(faction) {
         Some(known) => known.name.copy(alloc),
@@ -58,7 +58,7 @@ fn side_of(
     faction: u32,
     unit: &Unit,
 ) -> Result<Side, AllocError>
-    ensures { IfOk result (λ side. side ≡ side_of campaign.now.what faction unit.now) }
+    ensures { IfOk result (λ side. side ≡ side_of campaign.now.value faction unit.now) }
 {
     if unit.faction == faction {
         return Ok(Side::Own {
@@ -80,7 +80,7 @@ fn unit_view(
     number: u32,
     unit: &Unit,
 ) -> Result<UnitView, AllocError>
-    ensures { IfOk result (λ seen. seen ≡ unit_view campaign.now.what faction number unit.now) }
+    ensures { IfOk result (λ seen. seen ≡ unit_view campaign.now.value faction number unit.now) }
 {
     Ok(UnitView {
         number,
@@ -99,7 +99,7 @@ fn unit_views(
     campaign: &Campaign,
     watch: Watch,
 ) -> Result<Sequence<UnitView>, AllocError>
-    ensures { IfOk result (λ units. units ≡ unit_views world.now campaign.now.what watch) }
+    ensures { IfOk result (λ units. units ≡ unit_views world.now campaign.now.value watch) }
 {
     let mut units = Sequence::new(alloc);
     for number in campaign.in_region(watch.region) {
@@ -114,7 +114,7 @@ fn unit_views(
 
 /// The owner's number, or 0 where the owner isn't seen.
 fn shown_owner(world: &World, campaign: &Campaign, watch: Watch, structure: &Structure) -> u32
-    ensures { result ≡ shown_owner world.now campaign.now.what watch structure.now }
+    ensures { result ≡ shown_owner world.now campaign.now.value watch structure.now }
 {
     if is_seen_there(world, watch, campaign.unit(structure.owner)) {
         structure.owner
@@ -131,7 +131,7 @@ fn structure_view(
     number: u32,
     structure: &Structure,
 ) -> Result<StructureView, AllocError>
-    ensures { IfOk result (λ seen. seen ≡ structure_view world.now campaign.now.what watch number structure.now) }
+    ensures { IfOk result (λ seen. seen ≡ structure_view world.now campaign.now.value watch number structure.now) }
 {
     Ok(StructureView {
         number,
@@ -150,8 +150,8 @@ fn structure_views(
     sites: &Sites,
     watch: Watch,
 ) -> Result<Sequence<StructureView>, AllocError>
-    requires { AreSites campaign.now.what.structures sites.now }
-    ensures { IfOk result (λ structures. structures ≡ structure_views world.now campaign.now.what watch) }
+    requires { AreSites campaign.now.value.structures sites.now }
+    ensures { IfOk result (λ structures. structures ≡ structure_views world.now campaign.now.value watch) }
 {
     let mut structures = Sequence::new(alloc);
     for number in sites_in(sites, watch.region) {
@@ -170,8 +170,8 @@ fn region_view(
     watch: Watch,
     region: &Region,
 ) -> Result<RegionView, AllocError>
-    requires { AreSites campaign.now.what.structures sites.now }
-    ensures { IfOk result (λ seen. seen ≡ region_view world.now campaign.now.what watch region.now) }
+    requires { AreSites campaign.now.value.structures sites.now }
+    ensures { IfOk result (λ seen. seen ≡ region_view world.now campaign.now.value watch region.now) }
 {
     Ok(RegionView {
         number: watch.region,
@@ -184,7 +184,7 @@ fn region_view(
 
 /// Adds a region of the campaign to those that are seen.
 fn see(seen: &mut Numbered<()>, campaign: &Campaign, number: u32) -> Result<(), AllocError>
-    ensures { OnOk result (seen.new ≡ with_region seen.old number (get campaign.now.what.regions number)) }
+    ensures { OnOk result (seen.new ≡ with_region seen.old number (get campaign.now.value.regions number)) }
 {
     if campaign.region(number).is_some() {
         seen.insert(number, ())?;
@@ -198,7 +198,7 @@ fn regions_seen(
     campaign: &Campaign,
     faction: u32,
 ) -> Result<Numbered<()>, AllocError>
-    ensures { IfOk result (λ seen. entries seen ≡ map (λ e. (e.0, tt)) (filter (λ e. sees_region campaign.now.what faction e.0) (entries campaign.now.what.regions))) }
+    ensures { IfOk result (λ seen. entries seen ≡ map (λ e. (e.0, tt)) (filter (λ e. sees_region campaign.now.value faction e.0) (entries campaign.now.value.regions))) }
 {
     let mut seen = Numbered::new(alloc);
     for number in campaign.of_faction(faction) {
@@ -219,8 +219,8 @@ fn region_views(
     sites: &Sites,
     faction: u32,
 ) -> Result<Sequence<RegionView>, AllocError>
-    requires { AreSites campaign.now.what.structures sites.now }
-    ensures { IfOk result (λ regions. regions ≡ region_views world.now campaign.now.what faction) }
+    requires { AreSites campaign.now.value.structures sites.now }
+    ensures { IfOk result (λ regions. regions ≡ region_views world.now campaign.now.value faction) }
 {
     let seen = regions_seen(alloc, campaign, faction)?;
     let mut regions = Sequence::new(alloc);
@@ -244,8 +244,8 @@ pub fn view_over(
     sites: &Sites,
     faction: u32,
 ) -> Result<View, AllocError>
-    requires { AreSites campaign.now.what.structures sites.now }
-    ensures definition { IfOk result (λ seen. seen ≡ view_of world.now campaign.now.what faction) }
+    requires { AreSites campaign.now.value.structures sites.now }
+    ensures definition { IfOk result (λ seen. seen ≡ view_of world.now campaign.now.value faction) }
 {
     Ok(View {
         month: campaign.month(),
@@ -266,7 +266,7 @@ pub fn view(
     campaign: &Campaign,
     faction: u32,
 ) -> Result<View, AllocError>
-    ensures definition { IfOk result (λ seen. seen ≡ view_of world.now campaign.now.what faction) }
+    ensures definition { IfOk result (λ seen. seen ≡ view_of world.now campaign.now.value faction) }
 {
     let sites = sites_of(alloc, campaign)?;
     view_over(alloc, world, campaign, &sites, faction)

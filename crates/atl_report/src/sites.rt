@@ -28,7 +28,7 @@ fn add_site(alloc: Global, sites: &mut Sites, region: u32, number: u32) -> Resul
 /// The structures of each region, from one pass over the campaign's structures. They stay right while no structure comes or
 /// moves. AllocError without memory.
 pub fn sites_of(alloc: Global, campaign: &Campaign) -> Result<Sites, AllocError>
-    ensures { IfOk result (AreSites campaign.now.what.structures) }
+    ensures { IfOk result (AreSites campaign.now.value.structures) }
 {
     let mut sites = Numbered::new(alloc);
     for (number, structure) in campaign.structures() {

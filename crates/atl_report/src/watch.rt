@@ -43,7 +43,7 @@ fn observation_of(world: &World, faction: u32, unit: &Unit) -> u32
 
 /// The best observation level of the faction's units in a region.
 fn observation_in(world: &World, campaign: &Campaign, faction: u32, region: u32) -> u32
-    ensures { result ≡ observation_in world.now campaign.now.what faction region }
+    ensures { result ≡ observation_in world.now campaign.now.value faction region }
 {
     let mut best = 0u32;
     for number in campaign.in_region(region) {
@@ -56,7 +56,7 @@ fn observation_in(world: &World, campaign: &Campaign, faction: u32, region: u32)
 
 /// What a faction can make out in a region.
 pub(crate) fn watch_over(world: &World, campaign: &Campaign, faction: u32, region: u32) -> Watch
-    ensures { result ≡ watch_over world.now campaign.now.what faction region }
+    ensures { result ≡ watch_over world.now campaign.now.value faction region }
 {
     Watch {
         faction,

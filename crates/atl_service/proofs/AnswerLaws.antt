@@ -2,8 +2,8 @@
 use Rattle.std.proofs.Common.{◌≡◌, refl}
 use Rattle.sqlite_trees.specs.declared.store.Store.{Ghosts}
 use Rattle.sqlite.specs.Held.{Held}
-use Rattle.atl_tables.specs.Planet.{Planet}
-use Rattle.atl_state.specs.State.{State as Campaign}
+use Rattle.atl_tables.specs.Worlds.{WorldValue}
+use Rattle.atl_state.specs.Campaign.{CampaignValue}
 use Rattle.atl_state.specs.Good.{IsGood}
 use Rattle.atl_service.specs.declared.command.Command.{Command}
 use Rattle.atl_service.specs.declared.command.Answer.TheVariants.{Refused}
@@ -11,7 +11,7 @@ use Rattle.atl_service.specs.declared.command.Refusal.{Refusal}
 use Rattle.atl_service.specs.Step.{step}
 use Rattle.atl_service.specs.Answering.{Answers}
 
-pub is_refused : {S : Type 0} (g : Ghosts S) (w : Planet) (c : Campaign) (conn : Held S) (command : Command) (why : Refusal) → step w c command ≡ (c, Refused why) → IsGood w c
+pub is_refused : {S : Type 0} (g : Ghosts S) (w : WorldValue) (c : CampaignValue) (conn : Held S) (command : Command) (why : Refusal) → step w c command ≡ (c, Refused why) → IsGood w c
     → Answers g w c conn command c conn (Refused why)
 is_refused g w c conn command why is good = record {
   step_is = is;

@@ -8,7 +8,7 @@ use Rattle.std.proofs.lemmas.Map.Keys.{IsDistinct-from_sorted}
 use Rattle.std.specs.List.{AllByRecursion, IsDistinct, flat_map}
 use Rattle.std.specs.Ordering.{nat_cmp, eq_by_cmp}
 use Rattle.std.specs.FinMap.{FinMap, empty, entries, get, insert, same_entries_map}
-use Rattle.atl_tables.specs.Planet.{Planet, IsWorld}
+use Rattle.atl_tables.specs.Worlds.{WorldValue, IsWorld}
 use Rattle.atl_tables.specs.Sums.{mapped, numbers_among}
 use Rattle.atl_tables.proofs.MadeLaws.{entries-mapped, get-mapped, insert_last}
 use Rattle.atl_tables.proofs.Maps.{entries-empty}
@@ -27,13 +27,13 @@ use Rattle.atl_state.specs.Good.{IsGood, IsThere}
 use Rattle.atl_state.specs.Limits.{most_things}
 use Rattle.atl_state.specs.Marking.{mark_all_mail, mark_report, mark_row}
 use Rattle.atl_state.specs.Marks.{Marks}
-use Rattle.atl_state.specs.State.{State, Marked, active, with_month, without_mail}
+use Rattle.atl_state.specs.Campaign.{CampaignValue, MarkedCampaign, active, with_month, without_mail}
 use Rattle.atl_state.proofs.CoverLaws.{marks-trans}
 use Rattle.atl_state.proofs.EveryLaws.{each-from_every, sorted}
 use Rattle.atl_state.proofs.GoodLaws.{IsGood-with_report}
 use Rattle.atl_state.proofs.PostLaws.{marks-month, marks-no_mail, marks-report}
 use Rattle.atl_state.proofs.SlotLaws.{keys_rise}
-use Rattle.atl_instant.specs.Course.{HaveOwnFactions, by_faction}
+use Rattle.atl_instant.specs.Month.{HaveOwnFactions, by_faction}
 use Rattle.atl_month.specs.Month.{finished, month_of}
 use Rattle.atl_report.specs.Report.{report_of}
 use Rattle.atl_report.specs.Sight.{view_of}
@@ -45,7 +45,7 @@ use Rattle.atl_service.specs.Closing.{closed, faults_in, faults_of, read_of, rea
 
 -- ---- each mail can be read, and no two are of one faction
 
-module _ (w : Planet) (n : ℕ) (text : List ℕ) where
+module _ (w : WorldValue) (n : ℕ) (text : List ℕ) where
   abbrev pub Names : Result Reading MailFault → Type 0
   Names read = (r : Reading) × (read ≡ Ok r) × (r.faction ≡ n)
 
@@ -74,7 +74,7 @@ module _ (w : Planet) (n : ℕ) (text : List ℕ) where
   only_memory BadHeader sent unread = absurd (not_unread BadHeader sent unread)
   only_memory Memory sent unread = refl
 
-module _ (w : Planet) where
+module _ (w : WorldValue) where
   -- what is read of mail
   abbrev texts_read : List (ℕ × List ℕ) → List Reading
   texts_read es = flat_map (λ e. read_of (reading w e.1)) es
@@ -90,11 +90,11 @@ factions_of [] = refl
 factions_of (m ∷ ms) = ap (λ ns. m.faction ∷ ns) (factions_of ms)
 
 -- each mail of a good campaign is a mailing of its faction
-sent_by : (w : Planet) (c : State) → IsGood w c → EachOf IsMailingOf (entries c.mail)
+sent_by : (w : WorldValue) (c : CampaignValue) → IsGood w c → EachOf IsMailingOf (entries c.mail)
 sent_by w c good = each-from_every IsMailingOf c.mail (λ n text there. (good.sound.mail n text there).0)
 
 -- the mailings of a good campaign
-pub own_factions : (w : Planet) (c : State) (ms : List Mailing) → IsGood w c → map reading_of ms ≡ readings w c → HaveOwnFactions ms
+pub own_factions : (w : WorldValue) (c : CampaignValue) (ms : List Mailing) → IsGood w c → map reading_of ms ≡ readings w c → HaveOwnFactions ms
 own_factions w c ms good is =
     let numbers = map (λ e. e.0) (entries c.mail) in
     let sent = sent_by w c good in
@@ -103,7 +103,7 @@ own_factions w c ms good is =
 
 -- ---- what is wrong with each mail
 
-pub wrong_under : (w : Planet) (mail : FinMap nat_cmp (List ℕ)) (n : ℕ) → unwrap_or (get (mapped (λ text. faults_of (reading w text)) mail) n) [] ≡ faults_in w (get mail n)
+pub wrong_under : (w : WorldValue) (mail : FinMap nat_cmp (List ℕ)) (n : ℕ) → unwrap_or (get (mapped (λ text. faults_of (reading w text)) mail) n) [] ≡ faults_in w (get mail n)
 wrong_under w mail n = ap (λ o. unwrap_or o []) (get-mapped (λ text. faults_of (reading w text)) mail n) ∙ at (get mail n)
   where
     at : (o : Option (List ℕ)) → unwrap_or (option_map (λ text. faults_of (reading w text)) o) [] ≡ faults_in w o
@@ -112,13 +112,13 @@ wrong_under w mail n = ap (λ o. unwrap_or o []) (get-mapped (λ text. faults_of
 
 -- ---- the reports
 
-module _ (w : Planet) (events : List Event) where
-  pub same_reports : (f g : ℕ → List FaultyLine) → ((n : ℕ) → f n ≡ g n) → (c : State) (ns : List ℕ) → fold (reported_to w f events) c ns ≡ fold (reported_to w g events) c ns
+module _ (w : WorldValue) (events : List Event) where
+  pub same_reports : (f g : ℕ → List FaultyLine) → ((n : ℕ) → f n ≡ g n) → (c : CampaignValue) (ns : List ℕ) → fold (reported_to w f events) c ns ≡ fold (reported_to w g events) c ns
   same_reports f g same c [] = refl
   same_reports f g same c (n ∷ ns) =
       ap (λ faults. fold (reported_to w f events) (reported_with w c n faults events) ns) (same n) ∙ same_reports f g same (reported_to w g events c n) ns
 
-  pub good_reports : (faults : ℕ → List FaultyLine) (c : State) (ns : List ℕ) → AreThere c ns → IsGood w c → IsGood w (fold (reported_to w faults events) c ns)
+  pub good_reports : (faults : ℕ → List FaultyLine) (c : CampaignValue) (ns : List ℕ) → AreThere c ns → IsGood w c → IsGood w (fold (reported_to w faults events) c ns)
   good_reports faults c [] there good = good
   good_reports faults c (n ∷ ns) (here, there) good =
       good_reports faults (reported_to w faults events c n) ns there (IsGood-with_report w c n (report_of w (view_of w c n) (faults n) events) here good)
@@ -132,13 +132,13 @@ there_among P p (e ∷ es) (here, all) = at (p e.1) (there_among P p es all)
     at false rest = rest
 
 -- where the factions stay, those that weren't gone before are there
-pub active_there : (before after : State) → ((n : ℕ) → IsThere before.factions n → IsThere after.factions n) → AreThere after (active before)
+pub active_there : (before after : CampaignValue) → ((n : ℕ) → IsThere before.factions n → IsThere after.factions n) → AreThere after (active before)
 active_there before after stay = there_among (IsThere after.factions) (λ f. not f.gone) (entries before.factions) (each-from_every (λ n f. IsThere after.factions n) before.factions (λ n f is. stay n (f, is)))
 
 -- ---- the month
 
 -- the reports behind what a month makes are those of the campaign that is closed
-pub closed_is : (w : Planet) (c after : State) (events : List Event) (words : List ℕ) (faults : FinMap nat_cmp (List FaultyLine)) → (after, events) ≡ month_of w c (by_faction (readings w c)) words
+pub closed_is : (w : WorldValue) (c after : CampaignValue) (events : List Event) (words : List ℕ) (faults : FinMap nat_cmp (List FaultyLine)) → (after, events) ≡ month_of w c (by_faction (readings w c)) words
     → faults ≡ mapped (λ text. faults_of (reading w text)) c.mail → fold (reported_to w (λ n. unwrap_or (get faults n) []) events) (finished after) (active c) ≡ closed w c words
 unfolding closed
 closed_is w c after events words faults is wrong =
@@ -147,37 +147,37 @@ closed_is w c after events words faults is wrong =
 
 -- ---- marks
 
-marked_as : (c d : Marked) (what : State) (marks : Marks) → d.what ≡ what → d.marks ≡ marks → MarksChanges c (record { what = what; marks = marks }) → MarksChanges c d
-marked_as c d what marks is m h = subst (MarksChanges c) (sym (ap₂ (λ s n. record { what = s; marks = n }) is m)) h
+marked_as : (c d : MarkedCampaign) (what : CampaignValue) (marks : Marks) → d.value ≡ what → d.marks ≡ marks → MarksChanges c (record { value = what; marks = marks }) → MarksChanges c d
+marked_as c d what marks is m h = subst (MarksChanges c) (sym (ap₂ (λ s n. record { value = s; marks = n }) is m)) h
 
-pub month_marked : (c d : Marked) (n : ℕ) → d.what ≡ with_month c.what n → d.marks ≡ mark_row c → MarksChanges c d
-month_marked c d n is m = marked_as c d (with_month c.what n) (mark_row c) is m (marks-month c n)
+pub month_marked : (c d : MarkedCampaign) (n : ℕ) → d.value ≡ with_month c.value n → d.marks ≡ mark_row c → MarksChanges c d
+month_marked c d n is m = marked_as c d (with_month c.value n) (mark_row c) is m (marks-month c n)
 
-pub mail_marked : (c d : Marked) → d.what ≡ without_mail c.what → d.marks ≡ mark_all_mail c → MarksChanges c d
-mail_marked c d is m = marked_as c d (without_mail c.what) (mark_all_mail c) is m (marks-no_mail c)
+pub mail_marked : (c d : MarkedCampaign) → d.value ≡ without_mail c.value → d.marks ≡ mark_all_mail c → MarksChanges c d
+mail_marked c d is m = marked_as c d (without_mail c.value) (mark_all_mail c) is m (marks-no_mail c)
 
-pub report_marked : (w : Planet) (c d : Marked) (n : ℕ) (faults : List FaultyLine) (events : List Event) → d.what ≡ reported_with w c.what n faults events → d.marks ≡ mark_report c n → MarksChanges c d
-report_marked w c d n faults events is m = marked_as c d (reported_with w c.what n faults events) (mark_report c n) is m (marks-report c n (report_of w (view_of w c.what n) faults events))
+pub report_marked : (w : WorldValue) (c d : MarkedCampaign) (n : ℕ) (faults : List FaultyLine) (events : List Event) → d.value ≡ reported_with w c.value n faults events → d.marks ≡ mark_report c n → MarksChanges c d
+report_marked w c d n faults events is m = marked_as c d (reported_with w c.value n faults events) (mark_report c n) is m (marks-report c n (report_of w (view_of w c.value n) faults events))
 
 -- a month that was run, and is counted, with its mail taken away
-pub turned_marked : (a b c d : Marked) (n : ℕ) → MarksChanges a b → c.what ≡ with_month b.what n → c.marks ≡ mark_row b → d.what ≡ without_mail c.what → d.marks ≡ mark_all_mail c → MarksChanges a d
+pub turned_marked : (a b c d : MarkedCampaign) (n : ℕ) → MarksChanges a b → c.value ≡ with_month b.value n → c.marks ≡ mark_row b → d.value ≡ without_mail c.value → d.marks ≡ mark_all_mail c → MarksChanges a d
 turned_marked a b c d n run is m taken t = marks-trans a b d run (marks-trans b c d (month_marked b c n is m) (mail_marked c d taken t))
 
 -- a report that could be stored
-pub stored_marked : {A E : Type 0} (w : Planet) (c d : Marked) (n : ℕ) (faults : List FaultyLine) (events : List Event) (r : Result A E) → OnOk r (d.what ≡ reported_with w c.what n faults events) → OnOk r (d.marks ≡ mark_report c n)
+pub stored_marked : {A E : Type 0} (w : WorldValue) (c d : MarkedCampaign) (n : ℕ) (faults : List FaultyLine) (events : List Event) (r : Result A E) → OnOk r (d.value ≡ reported_with w c.value n faults events) → OnOk r (d.marks ≡ mark_report c n)
     → OnOk r (MarksChanges c d)
 stored_marked w c d n faults events (Ok a) is m = report_marked w c d n faults events is m
 stored_marked w c d n faults events (Err e) is m = tt
 
 -- ---- the mail that is read, mail by mail
 
-abbrev wrong_in : Planet → List (ℕ × List ℕ) → List (ℕ × List FaultyLine)
+abbrev wrong_in : WorldValue → List (ℕ × List ℕ) → List (ℕ × List FaultyLine)
 wrong_in w es = map (λ e. (e.0, faults_of (reading w e.1))) es
 
-abbrev wrong : Planet → State → FinMap nat_cmp (List FaultyLine)
+abbrev wrong : WorldValue → CampaignValue → FinMap nat_cmp (List FaultyLine)
 wrong w c = mapped (λ text. faults_of (reading w text)) c.mail
 
-pub read_begins : (w : Planet) (c : State) (ms : List Mailing) (faults : FinMap nat_cmp (List FaultyLine)) (all : List (ℕ × List ℕ)) → IsGood w c → all ≡ entries c.mail → ms ≡ [] → faults ≡ empty → ReadSoFar w c ms faults all
+pub read_begins : (w : WorldValue) (c : CampaignValue) (ms : List Mailing) (faults : FinMap nat_cmp (List FaultyLine)) (all : List (ℕ × List ℕ)) → IsGood w c → all ≡ entries c.mail → ms ≡ [] → faults ≡ empty → ReadSoFar w c ms faults all
 read_begins w c ms faults all good is none none_wrong =
     rw (is, none, none_wrong) (
       refl,
@@ -186,7 +186,7 @@ read_begins w c ms faults all good is none none_wrong =
       sent_by w c good,
     )
 
-pub read_goes_on : (w : Planet) (c : State) (ms ns : List Mailing) (faults faults' : FinMap nat_cmp (List FaultyLine)) (here rest : List (ℕ × List ℕ)) (n : ℕ) (text : List ℕ) (m : Mailing) → here ≡ (n, text) ∷ rest → ns ≡ ms ++ m ∷ [] → IsReadWith w m → m.text ≡ text
+pub read_goes_on : (w : WorldValue) (c : CampaignValue) (ms ns : List Mailing) (faults faults' : FinMap nat_cmp (List FaultyLine)) (here rest : List (ℕ × List ℕ)) (n : ℕ) (text : List ℕ) (m : Mailing) → here ≡ (n, text) ∷ rest → ns ≡ ms ++ m ∷ [] → IsReadWith w m → m.text ≡ text
     → faults' ≡ insert faults n m.faults → ReadSoFar w c ms faults here → ReadSoFar w c ns faults' rest
 read_goes_on w c ms ns faults faults' here rest n text m left one_more read kept put (mailings, all, told, sent) =
     let is : reading w text ≡ Ok (reading_of m) = ap (reading w) (sym kept) ∙ read in
@@ -202,7 +202,7 @@ read_goes_on w c ms ns faults faults' here rest n text m left one_more read kept
       (subst (EachOf IsMailingOf) left sent).1,
     )
 
-pub read_ends : (w : Planet) (c : State) (r : ReadMail) (rest : List (ℕ × List ℕ)) → rest ≡ [] → ReadSoFar w c r.mailings.items r.faults rest → HasRead w c r
+pub read_ends : (w : WorldValue) (c : CampaignValue) (r : ReadMail) (rest : List (ℕ × List ℕ)) → rest ≡ [] → ReadSoFar w c r.mailings.items r.faults rest → HasRead w c r
 read_ends w c r rest none (mailings, all, told, sent) = record {
   readings_are = sym (append-nil (map reading_of r.mailings.items)) ∙ subst (λ es. map reading_of r.mailings.items ++ texts_read w es ≡ readings w c) none mailings;
   read = all;
@@ -215,16 +215,16 @@ pub told_on : {A B : Type 0} (step : A → B → A) (old new last : A) (all : Li
 told_on step old new last all i d h is whole = ap (λ a. fold step a (drop (i + 1) all)) is ∙ subst (λ l. fold step old l ≡ last) (drop_more all i d h) whole
 
 -- a report moves no structure
-pub sites_stay : (w : Planet) (faults : ℕ → List FaultyLine) (events : List Event) (c d : State) (n : ℕ) → d ≡ reported_to w faults events c n → (sites : FinMap nat_cmp (List ℕ)) → AreSites c.structures sites → AreSites d.structures sites
+pub sites_stay : (w : WorldValue) (faults : ℕ → List FaultyLine) (events : List Event) (c d : CampaignValue) (n : ℕ) → d ≡ reported_to w faults events c n → (sites : FinMap nat_cmp (List ℕ)) → AreSites c.structures sites → AreSites d.structures sites
 sites_stay w faults events c d n is sites listed =
-    subst (λ (s : State). AreSites s.structures sites) (sym is) listed
+    subst (λ (s : CampaignValue). AreSites s.structures sites) (sym is) listed
 
 -- ---- what the store asks for, and what is written
 
-pub few_things : (w : Planet) (c : State) → IsWorld w → IsGood w c → length c.books ≤ most_things
+pub few_things : (w : WorldValue) (c : CampaignValue) → IsWorld w → IsGood w c → length c.books ≤ most_things
 few_things w c world good = omega (arith, good.sound.steady.numbers.books.rows, world.few_items)
 
 -- the campaign behind the reports of a month
-pub told_is : (w : Planet) (c turned after : State) (words : List ℕ) (told : Told) → told_to_all w turned told ≡ closed w c words → after ≡ told_to_all w turned told → AreThere turned told.factions.items → IsGood w turned → (after ≡ closed w c words) × IsGood w after
+pub told_is : (w : WorldValue) (c turned after : CampaignValue) (words : List ℕ) (told : Told) → told_to_all w turned told ≡ closed w c words → after ≡ told_to_all w turned told → AreThere turned told.factions.items → IsGood w turned → (after ≡ closed w c words) × IsGood w after
 told_is w c turned after words told whole is there good =
     (is ∙ whole, subst (IsGood w) (sym is) (good_reports w told.events.items (λ n. unwrap_or (get told.faults n) []) turned told.factions.items there good))

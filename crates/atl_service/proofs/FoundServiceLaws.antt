@@ -5,8 +5,8 @@ use Rattle.sqlite_trees.specs.declared.store.Store.{Ghosts}
 use Rattle.sqlite.specs.Held.{Held, state}
 use Rattle.atl_tables.specs.World.{old_world_of}
 use Rattle.atl_tables.specs.declared.fault.WorldFault.{WorldFault}
-use Rattle.atl_tables.specs.Planet.{Planet}
-use Rattle.atl_state.specs.State.{State as Campaign}
+use Rattle.atl_tables.specs.Worlds.{WorldValue}
+use Rattle.atl_state.specs.Campaign.{CampaignValue}
 use Rattle.atl_state.specs.Founding.{founded_of}
 use Rattle.atl_state.specs.Good.{IsGood}
 use Rattle.atl_store.specs.Making.{has_campaign}
@@ -21,7 +21,7 @@ use Rattle.atl_store.specs.Faults.{create_fault}
 use Rattle.atl_store.specs.OwnStatements.{OfFounding}
 use Rattle.atl_store.proofs.CauseLaws.{gives_among}
 use Rattle.atl_service.specs.Causes.{FoundsBy}
-use Rattle.atl_service.specs.ServiceState.{Stands}
+use Rattle.atl_service.specs.Service.{Stands}
 use Rattle.atl_service.specs.declared.command.Cause.{Cause}
 use Rattle.atl_service.specs.declared.command.Cause.TheVariants.{World as BadWorld, BadPassText}
 use Rattle.atl_service.specs.declared.command.Cause.TheVariants as none
@@ -49,7 +49,7 @@ module _ {S : Type 0} (g : Ghosts S) where
       leaves none.Memory is = (nothing_done conn text pass, inl refl)
 
   -- the service that is founded stands
-  pub founded_stands : (conn : Held S) (w : Planet) (c : Campaign) (text : List ℕ) → conn.in_transaction ≡ false → IsGood w c → old_world_of text ≡ Ok w → HoldsCampaign g conn text c → Stands g conn w c true
+  pub founded_stands : (conn : Held S) (w : WorldValue) (c : CampaignValue) (text : List ℕ) → conn.in_transaction ≡ false → IsGood w c → old_world_of text ≡ Ok w → HoldsCampaign g conn text c → Stands g conn w c true
   founded_stands conn w c text idle good is holds = record {
     idle = idle;
     good = λ up. good;
@@ -57,7 +57,7 @@ module _ {S : Type 0} (g : Ghosts S) where
     text = λ up clean. ap old_world_of (world_text_is (state g conn) text c (holds clean)) ∙ is;
   }
 
-  pub founds_on : (old conn : Held S) (w : Planet) (c : Campaign) (text pass : List ℕ) → Prepares text pass w c → Creates g text c old conn → IsLater (state g old) (state g conn) → Founds g old text pass (record { conn = conn; world = w; campaign = Some c })
+  pub founds_on : (old conn : Held S) (w : WorldValue) (c : CampaignValue) (text pass : List ℕ) → Prepares text pass w c → Creates g text c old conn → IsLater (state g old) (state g conn) → Founds g old text pass (record { conn = conn; world = w; campaign = Some c })
   founds_on old conn w c text pass made creates later = record {
     fresh = creates.fresh;
     world = made.world;
@@ -69,14 +69,14 @@ module _ {S : Type 0} (g : Ghosts S) where
   }
 
   -- the founding that the store refused
-  module _ (old new : Held S) (w : Planet) (c : Campaign) (text pass : List ℕ) (made : Prepares text pass w c) (later : IsLater (state g old) (state g new)) where
+  module _ (old new : Held S) (w : WorldValue) (c : CampaignValue) (text pass : List ℕ) (made : Prepares text pass w c) (later : IsLater (state g old) (state g new)) where
     failed : FailsToCreate g text c old new → FailsToFound g old text pass new
     failed fails = record {
       tables = fails.tables;
-      crash = λ clean v v_is. let same : w ≡ v = ok_same w v (sym made.world ∙ v_is) in subst (λ (d : Campaign). MayFound (state g old) text d (state g new)) (made.campaign ∙ ap (λ u. founded_of u pass) same) (fails.crash clean);
+      crash = λ clean v v_is. let same : w ≡ v = ok_same w v (sym made.world ∙ v_is) in subst (λ (d : CampaignValue). MayFound (state g old) text d (state g new)) (made.campaign ∙ ap (λ u. founded_of u pass) same) (fails.crash clean);
     }
       where
-        ok_same : (a b : Planet) → ◌≡◌ {A = Result Planet WorldFault} (Ok a) (Ok b) → a ≡ b
+        ok_same : (a b : WorldValue) → ◌≡◌ {A = Result WorldValue WorldFault} (Ok a) (Ok b) → a ≡ b
         ok_same a b e = cc
 
     -- the campaign is the one that the text and the pass text found
@@ -84,7 +84,7 @@ module _ {S : Type 0} (g : Ghosts S) where
     told_by_founding fault told = (
       told.0,
       told.1,
-      gives_among g (OfFounding text c) (FoundsBy text pass) (λ sql params own. (w, made.world, subst (λ (d : Campaign). OfFounding text d sql params) made.campaign own)) told.0 old new told.2,
+      gives_among g (OfFounding text c) (FoundsBy text pass) (λ sql params own. (w, made.world, subst (λ (d : CampaignValue). OfFounding text d sql params) made.campaign own)) told.0 old new told.2,
     )
 
     pub refused_by_store : (fault : CreateFault) → RefusesToCreate g text c old new fault → RefusesFounding g old text pass (of_creation fault) new

@@ -6,8 +6,8 @@ use Rattle.sqlite_disk.specs.Disk.{MoreFaults}
 use Rattle.sqlite_trees.specs.declared.store.Store.{Ghosts}
 use Rattle.sqlite.specs.Held.{state}
 use Rattle.sqlite.specs.State.{State, HasCleanDisk}
-use Rattle.atl_tables.specs.Planet.{Planet}
-use Rattle.atl_state.specs.State.{State as Campaign}
+use Rattle.atl_tables.specs.Worlds.{WorldValue}
+use Rattle.atl_state.specs.Campaign.{CampaignValue}
 use Rattle.atl_store.specs.Keeps.{HoldsCampaign, IsLater, Keeps, Stops}
 use Rattle.atl_store.proofs.WorldTextLaws.{world_text_is}
 use Rattle.atl_service.specs.declared.command.Command.{Command}
@@ -17,11 +17,11 @@ use Rattle.atl_service.specs.declared.command.Fault.{Fault as Failure}
 use Rattle.atl_service.specs.declared.command.Fault.TheVariants.{Memory, Store, Closed}
 use Rattle.atl_service.specs.Causes.{OfCommand, HasCause, IsFault}
 use Rattle.atl_service.specs.Step.{step}
-use Rattle.atl_service.specs.ServiceState.{ServiceState, text_in}
+use Rattle.atl_service.specs.Service.{ServiceValue, text_in}
 use Rattle.atl_service.specs.Runs.{Runs, RunsAt, RunsOpen, Accepts, Closes, RunsAll, Follows, FollowsAt, AreClosed, Headline, Interrupted, HeadlineAt}
 
 -- a count that began lower says the same of the disk
-stops_from : (few many : ℕ) (s : State) (text : List ℕ) (before after : Campaign) → few ≤ many → Stops many s text before after → Stops few s text before after
+stops_from : (few many : ℕ) (s : State) (text : List ℕ) (before after : CampaignValue) → few ≤ many → Stops many s text before after → Stops few s text before after
 stops_from few many s text before after h stops = record {
   still = stops.still;
   closes = elim stops.closes [ inl up ↦ inl up | inr more ↦ inr (lower few many s.faults h more) ];
@@ -33,7 +33,7 @@ stops_from few many s text before after h stops = record {
 
 module _ {S : Type 0} (g : Ghosts S) where
   -- from another text that is the same, and from a lower count
-  follows_as : (t u : List ℕ) (few many : ℕ) (w : Planet) (c : Campaign) (cs : List Command) (rs : List Answer) (new : ServiceState S) → (HasCleanDisk (state g new.conn) → t ≡ u) → few ≤ many
+  follows_as : (t u : List ℕ) (few many : ℕ) (w : WorldValue) (c : CampaignValue) (cs : List Command) (rs : List Answer) (new : ServiceValue S) → (HasCleanDisk (state g new.conn) → t ≡ u) → few ≤ many
       → Follows g t many w c cs rs new → Follows g u few w c cs rs new
   follows_as t u few many w c [] [] new same h f = (f.0, λ clean. subst (λ x. Keeps (state g new.conn) x c) (same clean) (f.1 clean))
   follows_as t u few many w c [] (a ∷ rs) new same h f = absurd f
@@ -52,13 +52,13 @@ module _ {S : Type 0} (g : Ghosts S) where
   )
 
   -- one command that was carried out, and then the rest
-  carried : (old mid new : ServiceState S) (c : Campaign) (x : Command) (a : Answer) (cs : List Command) (rs : List Answer) → (accepts : Accepts g c old x a mid) → (HasCleanDisk (state g new.conn) → HasCleanDisk (state g mid.conn))
+  carried : (old mid new : ServiceValue S) (c : CampaignValue) (x : Command) (a : Answer) (cs : List Command) (rs : List Answer) → (accepts : Accepts g c old x a mid) → (HasCleanDisk (state g new.conn) → HasCleanDisk (state g mid.conn))
       → (state g old.conn).faults ≤ (state g mid.conn).faults → FollowsAt g mid cs rs new mid.campaign
       → ((step old.world c x).1 ≡ a) × Follows g (text_in g old.conn) (state g old.conn).faults old.world (step old.world c x).0 cs rs new × (new.world ≡ old.world)
   carried old mid new c x a cs rs accepts was counts rest =
       let after = accepts.after in
-      let open_is : mid.campaign ≡ Some after = ap (λ (e : ServiceState S). e.campaign) accepts.same in
-      let world_is : mid.world ≡ old.world = ap (λ (e : ServiceState S). e.world) accepts.same in
+      let open_is : mid.campaign ≡ Some after = ap (λ (e : ServiceValue S). e.campaign) accepts.same in
+      let world_is : mid.world ≡ old.world = ap (λ (e : ServiceValue S). e.world) accepts.same in
       let on = subst (FollowsAt g mid cs rs new) open_is rest in
       let there = subst (λ w. Follows g (text_in g mid.conn) (state g mid.conn).faults w after cs rs new) world_is on.0 in
       let text_is = λ (clean : HasCleanDisk (state g new.conn)). world_text_is (state g mid.conn) (text_in g old.conn) after (accepts.tables (was clean)) in (
@@ -69,22 +69,22 @@ module _ {S : Type 0} (g : Ghosts S) where
       )
 
   -- one that closed the service
-  closed : (old mid new : ServiceState S) (c : Campaign) (x : Command) (fault : Failure) (cs : List Command) (rs : List Answer) → Closes g c old x mid → HasCause g (OfCommand old.world c x) old.conn mid.conn fault → HoldsCampaign g old.conn (text_in g old.conn) c
+  closed : (old mid new : ServiceValue S) (c : CampaignValue) (x : Command) (fault : Failure) (cs : List Command) (rs : List Answer) → Closes g c old x mid → HasCause g (OfCommand old.world c x) old.conn mid.conn fault → HoldsCampaign g old.conn (text_in g old.conn) c
       → (HasCleanDisk (state g mid.conn) → HasCleanDisk (state g old.conn)) → FollowsAt g mid cs rs new mid.campaign
       → AreClosed cs rs × (new.campaign ≡ None) × (HasCleanDisk (state g new.conn) → Stops (state g old.conn).faults (state g new.conn) (text_in g old.conn) c (step old.world c x).0) × IsFault g (text_in g old.conn) old.world c x fault new.conn
       × (new.world ≡ old.world)
   closed old mid new c x fault cs rs closes cause holds clean rest =
-      let shut : mid.campaign ≡ None = ap (λ (e : ServiceState S). e.campaign) closes.same in
+      let shut : mid.campaign ≡ None = ap (λ (e : ServiceValue S). e.campaign) closes.same in
       let on = subst (FollowsAt g mid cs rs new) shut rest in
       let told : IsFault g (text_in g old.conn) old.world c x fault mid.conn = record { old = old.conn; held = λ h. holds (clean h); cause = cause } in (
         on.0,
-        ap (λ (e : ServiceState S). e.campaign) on.1 ∙ shut,
-        subst (λ (e : ServiceState S). HasCleanDisk (state g e.conn) → Stops (state g old.conn).faults (state g e.conn) (text_in g old.conn) c (step old.world c x).0) (sym on.1) closes.tables,
-        subst (λ (e : ServiceState S). IsFault g (text_in g old.conn) old.world c x fault e.conn) (sym on.1) told,
-        ap (λ (e : ServiceState S). e.world) on.1 ∙ ap (λ (e : ServiceState S). e.world) closes.same,
+        ap (λ (e : ServiceValue S). e.campaign) on.1 ∙ shut,
+        subst (λ (e : ServiceValue S). HasCleanDisk (state g e.conn) → Stops (state g old.conn).faults (state g e.conn) (text_in g old.conn) c (step old.world c x).0) (sym on.1) closes.tables,
+        subst (λ (e : ServiceValue S). IsFault g (text_in g old.conn) old.world c x fault e.conn) (sym on.1) told,
+        ap (λ (e : ServiceValue S). e.world) on.1 ∙ ap (λ (e : ServiceValue S). e.world) closes.same,
       )
 
-  first_open : (old mid new : ServiceState S) (c : Campaign) (x : Command) (a : Answer) (cs : List Command) (rs : List Answer) → RunsOpen g c old x a mid
+  first_open : (old mid new : ServiceValue S) (c : CampaignValue) (x : Command) (a : Answer) (cs : List Command) (rs : List Answer) → RunsOpen g c old x a mid
       → (HasCleanDisk (state g new.conn) → HasCleanDisk (state g mid.conn)) → IsLater (state g old.conn) (state g mid.conn) → HoldsCampaign g old.conn (text_in g old.conn) c → old.campaign ≡ Some c → FollowsAt g mid cs rs new mid.campaign
       → FollowsAt g old (x ∷ cs) (a ∷ rs) new (Some c)
   first_open old mid new c x (Joined n m) cs rs ran was later holds up rest = let k = carried old mid new c x (Joined n m) cs rs ran was later.counts rest in ((k.0, k.1), k.2)
@@ -93,24 +93,24 @@ module _ {S : Type 0} (g : Ghosts S) where
   first_open old mid new c x (Text t) cs rs ran was later holds up rest = let k = carried old mid new c x (Text t) cs rs ran.0 was later.counts rest in ((k.0, k.1), k.2)
   first_open old mid new c x (Refused r) cs rs ran was later holds up rest =
       let same : mid ≡ old = ran.1 in
-      let on = subst (FollowsAt g old cs rs new) up (subst (λ (e : ServiceState S). FollowsAt g e cs rs new e.campaign) same rest) in
+      let on = subst (FollowsAt g old cs rs new) up (subst (λ (e : ServiceValue S). FollowsAt g e cs rs new e.campaign) same rest) in
       ((ap (λ p. p.1) ran.0, subst (λ d. Follows g (text_in g old.conn) (state g old.conn).faults old.world d cs rs new) (sym (ap (λ p. p.0) ran.0)) on.0), on.1)
   first_open old mid new c x (Fault Memory) cs rs ran was later holds up rest = let k = closed old mid new c x Memory cs rs ran.0 ran.1 holds later.clean rest in (((λ e. let d = e in cc), k.0, k.1, k.2, k.3), k.4)
   first_open old mid new c x (Fault Store) cs rs ran was later holds up rest = let k = closed old mid new c x Store cs rs ran.0 ran.1 holds later.clean rest in (((λ e. let d = e in cc), k.0, k.1, k.2, k.3), k.4)
   first_open old mid new c x (Fault Closed) cs rs ran was later holds up rest = absurd ran
 
-  first_at : (old mid new : ServiceState S) (x : Command) (a : Answer) (cs : List Command) (rs : List Answer) (o : Option Campaign) → old.campaign ≡ o → RunsAt g old x a mid o
+  first_at : (old mid new : ServiceValue S) (x : Command) (a : Answer) (cs : List Command) (rs : List Answer) (o : Option CampaignValue) → old.campaign ≡ o → RunsAt g old x a mid o
       → (HasCleanDisk (state g new.conn) → HasCleanDisk (state g mid.conn)) → IsLater (state g old.conn) (state g mid.conn) → IfSome o (λ c. HoldsCampaign g old.conn (text_in g old.conn) c) → FollowsAt g mid cs rs new mid.campaign
       → FollowsAt g old (x ∷ cs) (a ∷ rs) new o
   first_at old mid new x a cs rs (Some c) up ran was later holds rest = first_open old mid new c x a cs rs ran was later holds up rest
   first_at old mid new x a cs rs None shut ran was later holds rest =
-      let on = subst (FollowsAt g old cs rs new) shut (subst (λ (e : ServiceState S). FollowsAt g e cs rs new e.campaign) ran.1 rest) in
+      let on = subst (FollowsAt g old cs rs new) shut (subst (λ (e : ServiceValue S). FollowsAt g e cs rs new e.campaign) ran.1 rest) in
       ((ran.0, on.0), on.1)
 
   later_on : (old mid new : State) → IsLater old mid → IsLater mid new → IsLater old new
   later_on old mid new a b = record { clean = λ h. a.clean (b.clean h); counts = omega (arith, a.counts, b.counts); shield = λ s. b.shield (a.shield s) }
 
-  pub run_first : (old mid new : ServiceState S) (x : Command) (a : Answer) (cs : List Command) (rs : List Answer) → IfSome old.campaign (λ c. HoldsCampaign g old.conn (text_in g old.conn) c) → Runs g old x a mid → IsLater (state g old.conn) (state g mid.conn)
+  pub run_first : (old mid new : ServiceValue S) (x : Command) (a : Answer) (cs : List Command) (rs : List Answer) → IfSome old.campaign (λ c. HoldsCampaign g old.conn (text_in g old.conn) c) → Runs g old x a mid → IsLater (state g old.conn) (state g mid.conn)
       → RunsAll g mid cs rs new → RunsAll g old (x ∷ cs) (a ∷ rs) new
   run_first old mid new x a cs rs holds ran later rest = record {
     follows = first_at old mid new x a cs rs old.campaign refl ran rest.later.clean later holds rest.follows;
@@ -118,29 +118,29 @@ module _ {S : Type 0} (g : Ghosts S) where
   }
 
   -- nothing is left to run
-  none_left : (now : ServiceState S) (o : Option Campaign) → now.campaign ≡ o → IfSome o (λ c. HoldsCampaign g now.conn (text_in g now.conn) c) → FollowsAt g now [] [] now o
+  none_left : (now : ServiceValue S) (o : Option CampaignValue) → now.campaign ≡ o → IfSome o (λ c. HoldsCampaign g now.conn (text_in g now.conn) c) → FollowsAt g now [] [] now o
   none_left now (Some c) is holds = ((is, holds), refl)
   none_left now None is holds = (tt, refl)
 
-  pub run_none : (now : ServiceState S) → IfSome now.campaign (λ c. HoldsCampaign g now.conn (text_in g now.conn) c) → RunsAll g now [] [] now
+  pub run_none : (now : ServiceValue S) → IfSome now.campaign (λ c. HoldsCampaign g now.conn (text_in g now.conn) c) → RunsAll g now [] [] now
   run_none now holds = record { follows = none_left now now.campaign refl holds; later = record { clean = λ h. h; counts = omega arith; shield = λ s. s } }
 
   -- ---- the loop of `run_all`
 
-  pub one_more : (e mid now new : ServiceState S) (cs : List Command) (i : ℕ) (c : Command) (a : Answer) (sofar rs : List Answer) → i < length cs → c ≡ get_or cs i c
-      → ((ts : List Answer) (n : ServiceState S) → RunsAll g mid (drop i cs) ts n → RunsAll g e cs (sofar ++ ts) n) → IfSome mid.campaign (λ d. HoldsCampaign g mid.conn (text_in g mid.conn) d) → Runs g mid c a now → IsLater (state g mid.conn) (state g now.conn)
+  pub one_more : (e mid now new : ServiceValue S) (cs : List Command) (i : ℕ) (c : Command) (a : Answer) (sofar rs : List Answer) → i < length cs → c ≡ get_or cs i c
+      → ((ts : List Answer) (n : ServiceValue S) → RunsAll g mid (drop i cs) ts n → RunsAll g e cs (sofar ++ ts) n) → IfSome mid.campaign (λ d. HoldsCampaign g mid.conn (text_in g mid.conn) d) → Runs g mid c a now → IsLater (state g mid.conn) (state g now.conn)
       → RunsAll g now (drop (i + 1) cs) rs new → RunsAll g e cs ((sofar ++ a ∷ []) ++ rs) new
   one_more e mid now new cs i c a sofar rs h is whole holds ran later rest =
       let next : drop i cs ≡ c ∷ drop (i + 1) cs = drop_more cs i c h ∙ ap (λ x. x ∷ drop (i + 1) cs) (sym is) in
       subst (λ ts. RunsAll g e cs ts new) (sym (append_assoc sofar (a ∷ []) rs)) (whole (a ∷ rs) new (subst (λ ds. RunsAll g mid ds (a ∷ rs) new) (sym next) (run_first mid now new c a (drop (i + 1) cs) rs holds ran later rest)))
 
-  pub all_done : (e now : ServiceState S) (cs : List Command) (i : ℕ) (sofar : List Answer) → length cs ≤ i → ((ts : List Answer) (n : ServiceState S) → RunsAll g now (drop i cs) ts n → RunsAll g e cs (sofar ++ ts) n)
+  pub all_done : (e now : ServiceValue S) (cs : List Command) (i : ℕ) (sofar : List Answer) → length cs ≤ i → ((ts : List Answer) (n : ServiceValue S) → RunsAll g now (drop i cs) ts n → RunsAll g e cs (sofar ++ ts) n)
       → IfSome now.campaign (λ c. HoldsCampaign g now.conn (text_in g now.conn) c) → RunsAll g e cs sofar now
   all_done e now cs i sofar h whole holds = subst (λ ts. RunsAll g e cs ts now) (append-nil sofar) (whole [] now (subst (λ ds. RunsAll g now ds [] now) (sym (drop_all i cs h)) (run_none now holds)))
 
   -- ---- the headline
 
-  abbrev Ends : List ℕ → ℕ → Planet → Campaign → List Command → List Answer → ServiceState S → Type 0
+  abbrev Ends : List ℕ → ℕ → WorldValue → CampaignValue → List Command → List Answer → ServiceValue S → Type 0
   Ends text faults w c cs rs new = Headline g text w c cs rs new ⊎ Interrupted g text faults w c cs rs new
 
   all_closed : (cs : List Command) (rs : List Answer) → AreClosed cs rs → rs ≡ map (λ _. Fault Closed) cs
@@ -149,7 +149,7 @@ module _ {S : Type 0} (g : Ghosts S) where
   all_closed (x ∷ cs) [] h = absurd h
   all_closed (x ∷ cs) (a ∷ rs) h = ap₂ (λ b bs. b ∷ bs) h.0 (all_closed cs rs h.1)
 
-  further : (text : List ℕ) (faults : ℕ) (w : Planet) (c : Campaign) (x : Command) (a : Answer) (cs : List Command) (rs : List Answer) (new : ServiceState S) → (step w c x).1 ≡ a → Ends text faults w (step w c x).0 cs rs new
+  further : (text : List ℕ) (faults : ℕ) (w : WorldValue) (c : CampaignValue) (x : Command) (a : Answer) (cs : List Command) (rs : List Answer) (new : ServiceValue S) → (step w c x).1 ≡ a → Ends text faults w (step w c x).0 cs rs new
       → Ends text faults w c (x ∷ cs) (a ∷ rs) new
   further text faults w c x a cs rs new is (inl h) = inl (record { answers_are = ap₂ (λ b bs. b ∷ bs) (sym is) h.answers_are; campaign_is = h.campaign_is; tables = h.tables })
   further text faults w c x a cs rs new is (inr h) = inr (record {
@@ -165,7 +165,7 @@ module _ {S : Type 0} (g : Ghosts S) where
     tables = simp unary_clauses (simp unary_clauses at h.tables);
   })
 
-  ends : (text : List ℕ) (faults : ℕ) (w : Planet) (c : Campaign) (cs : List Command) (rs : List Answer) (new : ServiceState S) → Follows g text faults w c cs rs new → Ends text faults w c cs rs new
+  ends : (text : List ℕ) (faults : ℕ) (w : WorldValue) (c : CampaignValue) (cs : List Command) (rs : List Answer) (new : ServiceValue S) → Follows g text faults w c cs rs new → Ends text faults w c cs rs new
   ends text faults w c [] [] new f = inl (record { answers_are = refl; campaign_is = f.0; tables = f.1 })
   ends text faults w c [] (a ∷ rs) new f = absurd f
   ends text faults w c (x ∷ cs) [] new f = absurd f
@@ -187,9 +187,9 @@ module _ {S : Type 0} (g : Ghosts S) where
     tables = f.3;
   })
 
-  headline_at : (old new : ServiceState S) (cs : List Command) (rs : List Answer) (o : Option Campaign) → FollowsAt g old cs rs new o → HeadlineAt g old cs rs new o
+  headline_at : (old new : ServiceValue S) (cs : List Command) (rs : List Answer) (o : Option CampaignValue) → FollowsAt g old cs rs new o → HeadlineAt g old cs rs new o
   headline_at old new cs rs (Some c) f = ends (text_in g old.conn) (state g old.conn).faults old.world c cs rs new f.0
   headline_at old new cs rs None f = (all_closed cs rs f.0, f.1)
 
-  pub headline : (old new : ServiceState S) (cs : List Command) (rs : List Answer) → RunsAll g old cs rs new → HeadlineAt g old cs rs new old.campaign
+  pub headline : (old new : ServiceValue S) (cs : List Command) (rs : List Answer) → RunsAll g old cs rs new → HeadlineAt g old cs rs new old.campaign
   headline old new cs rs h = headline_at old new cs rs old.campaign h.follows

@@ -3,9 +3,9 @@ use Rattle.std.proofs.Common.{◌≡◌, Bool, false, true, not, Some, refl, ap,
 use Rattle.sqlite_trees.specs.declared.store.Store.{Ghosts}
 use Rattle.sqlite.specs.Effect.{Database}
 use Rattle.sqlite.specs.Held.{Held, state}
-use Rattle.atl_tables.specs.Planet.{Planet}
+use Rattle.atl_tables.specs.Worlds.{WorldValue}
 use Rattle.atl_state.specs.Good.{IsGood}
-use Rattle.atl_state.specs.State.{Marked}
+use Rattle.atl_state.specs.Campaign.{MarkedCampaign}
 use Rattle.atl_store.specs.Loading.{Loads, RefusesToLoad, LeavesAlone}
 use Rattle.atl_store.specs.declared.fault.StoreFault.{StoreFault}
 use Rattle.atl_store.specs.declared.fault.StoreFault.TheVariants.{Store}
@@ -14,7 +14,7 @@ use Rattle.atl_store.specs.WorldText.{world_text}
 use Rattle.atl_store.proofs.AlikeLaws.{holds_one, one_text}
 use Rattle.atl_store.proofs.OneWorldLaws.{holds_one_world}
 use Rattle.atl_store.proofs.StayLaws.{later, spares_itself}
-use Rattle.atl_service.specs.ServiceState.{IsService}
+use Rattle.atl_service.specs.Service.{IsService}
 use Rattle.atl_service.specs.Opened.{ComesBack, Opens, RefusesOpening, of_loading}
 use Rattle.sqlite.specs.State.{HasCleanDisk}
 
@@ -44,21 +44,21 @@ module _ {S : Type 0} (g : Ghosts S) where
     pub refused_by_load : (fault : StoreFault) → (HasCleanDisk (state g new) → RefusesToLoad g old fault) → RefusesOpening g old (of_loading fault) new
     refused_by_load fault cause = record { fault = fault; why_is = refl; cause = cause; alone = alone; later = later _ _ _ alone.survives }
 
-    module _ (w : Planet) (c : Marked) (loads : Loads g old new w c) where
-      pub opens : Opens g old (record { conn = new; world = w; campaign = Some c.what })
+    module _ (w : WorldValue) (c : MarkedCampaign) (loads : Loads g old new w c) where
+      pub opens : Opens g old (record { conn = new; world = w; campaign = Some c.value })
       opens = record { campaign = c; is_open = refl; loads = loads; alone = alone; later = later _ _ _ alone.survives }
 
       -- what was held before is what is loaded
-      pub comes_back : ComesBack g old (record { conn = new; world = w; campaign = Some c.what })
+      pub comes_back : ComesBack g old (record { conn = new; world = w; campaign = Some c.value })
       comes_back clean text v d reads good held =
           let kept = loads.tables clean in
           let were = held ((later _ _ _ alone.survives).clean clean) in
           let db = (state g old).now.trees in
           let there = world_text (state g new) in
-          let rows = subst (λ (s : Database). Holds s.trees there c.what) ((alone.spares clean).same kept.is_open).0 kept.rows in
-          let texts : there ≡ text = one_text db there text c.what d rows were.rows in
-          let worlds : w ≡ v = holds_one_world w v db there text c.what d (loads.world clean) reads rows were.rows in
-          (texts, worlds, ap Some (holds_one v db there text c.what d (subst (λ p. IsGood p c.what) worlds loads.good) good rows were.rows).1)
+          let rows = subst (λ (s : Database). Holds s.trees there c.value) ((alone.spares clean).same kept.is_open).0 kept.rows in
+          let texts : there ≡ text = one_text db there text c.value d rows were.rows in
+          let worlds : w ≡ v = holds_one_world w v db there text c.value d (loads.world clean) reads rows were.rows in
+          (texts, worlds, ap Some (holds_one v db there text c.value d (subst (λ p. IsGood p c.value) worlds loads.good) good rows were.rows).1)
 
       -- the service that is opened stands
       pub opened_stands : old.in_transaction ≡ false → IsService g new w c true

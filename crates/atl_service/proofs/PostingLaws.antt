@@ -5,12 +5,12 @@ use Rattle.std.specs.Option.{option_or}
 use Rattle.std.specs.Ordering.{nat_cmp, eq_by_cmp}
 use Rattle.std.specs.Cmp.{nat_cmp_total, unsigned_ties}
 use Rattle.std.specs.FinMap.{FinMap, get, insert, get-insert, same_map, nat_cmp-IsAntisymmetric}
-use Rattle.atl_tables.specs.Planet.{Planet}
+use Rattle.atl_tables.specs.Worlds.{WorldValue}
 use Rattle.atl_orders.specs.declared.fault.MailFault.{MailFault}
 use Rattle.atl_orders.specs.declared.fault.MailFault.TheVariants.{TooLong, NoHeader, BadHeader, Memory}
 use Rattle.atl_orders.specs.Mailing.{Reading, reading}
 use Rattle.atl_state.specs.declared.records.Faction.{Faction}
-use Rattle.atl_state.specs.State.{State, with_mail}
+use Rattle.atl_state.specs.Campaign.{CampaignValue, with_mail}
 use Rattle.atl_service.specs.declared.command.Command.{Command}
 use Rattle.atl_service.specs.declared.command.Command.TheVariants.{Join, Mail, Close, Report}
 use Rattle.atl_service.specs.declared.command.Answer.{Answer}
@@ -22,11 +22,11 @@ use Rattle.atl_service.specs.Posting.{AreMailed, IsMailed, OnlyTheLastMailCounts
 
 -- ---- one mailing that is taken is kept
 
-module _ (c : State) (faction : ℕ) (text : List ℕ) where
-  abbrev Keeps : State × Answer → Type 0
+module _ (c : CampaignValue) (faction : ℕ) (text : List ℕ) where
+  abbrev Keeps : CampaignValue × Answer → Type 0
   Keeps made = IsMailed made.1 → made.0 ≡ with_mail c faction text
 
-  kept_own : (other : Bool) (done : State × Answer) → Keeps done → Keeps (cond other (c, Refused why.WrongFaction) done)
+  kept_own : (other : Bool) (done : CampaignValue × Answer) → Keeps done → Keeps (cond other (c, Refused why.WrongFaction) done)
   kept_own true done keeps taken = absurd taken
   kept_own false done keeps taken = keeps taken
 
@@ -37,15 +37,15 @@ module _ (c : State) (faction : ℕ) (text : List ℕ) where
   kept_read (Err BadHeader) taken = absurd taken
   kept_read (Err Memory) taken = absurd taken
 
-  kept_here : (gone : Bool) (done : State × Answer) → Keeps done → Keeps (cond gone (c, Refused why.Gone) done)
+  kept_here : (gone : Bool) (done : CampaignValue × Answer) → Keeps done → Keeps (cond gone (c, Refused why.Gone) done)
   kept_here true done keeps taken = absurd taken
   kept_here false done keeps taken = keeps taken
 
-  kept_by : (w : Planet) (who : Result Faction Refusal) → Keeps (mailed_by w c faction text who)
+  kept_by : (w : WorldValue) (who : Result Faction Refusal) → Keeps (mailed_by w c faction text who)
   kept_by w (Err refusal) taken = absurd taken
   kept_by w (Ok f) taken = kept_here f.gone (mailed c faction text (reading w text)) (kept_read (reading w text)) taken
 
-  kept : (w : Planet) (pass : List ℕ) → Keeps (step w c (Mail faction pass text))
+  kept : (w : WorldValue) (pass : List ℕ) → Keeps (step w c (Mail faction pass text))
   unfolding step
   kept w pass = kept_by w (identified pass (get c.factions faction))
 
@@ -58,11 +58,11 @@ posted mail (Mail faction _ text ∷ more) = posted (insert mail faction text) m
 posted mail (Close _ _ _ ∷ more) = posted mail more
 posted mail (Report _ _ ∷ more) = posted mail more
 
-run_posts : (w : Planet) (c : State) (sent : List Command) → AreMailed w c sent → (run_of w c sent).0 ≡ record c { mail = posted c.mail sent }
+run_posts : (w : WorldValue) (c : CampaignValue) (sent : List Command) → AreMailed w c sent → (run_of w c sent).0 ≡ record c { mail = posted c.mail sent }
 run_posts w c [] all = refl
 run_posts w c (Join _ _ _ ∷ more) all = absurd all
 run_posts w c (Mail faction pass text ∷ more) all =
-    run_posts w (step w c (Mail faction pass text)).0 more all.1 ∙ ap (λ (d : State). record d { mail = posted d.mail more }) (kept c faction text w pass all.0)
+    run_posts w (step w c (Mail faction pass text)).0 more all.1 ∙ ap (λ (d : CampaignValue). record d { mail = posted d.mail more }) (kept c faction text w pass all.0)
 run_posts w c (Close _ _ _ ∷ more) all = absurd all
 run_posts w c (Report _ _ ∷ more) all = absurd all
 

@@ -4,8 +4,8 @@ use Rattle.std.proofs.lemmas.Bool.{false≢true}
 use Rattle.sqlite_trees.specs.declared.store.Store.{Ghosts}
 use Rattle.sqlite.specs.Held.{Held, state}
 use Rattle.atl_tables.specs.World.{old_world_of}
-use Rattle.atl_tables.specs.Planet.{Planet}
-use Rattle.atl_state.specs.State.{State as Campaign}
+use Rattle.atl_tables.specs.Worlds.{WorldValue}
+use Rattle.atl_state.specs.Campaign.{CampaignValue}
 use Rattle.atl_store.specs.Keeps.{Keeps}
 use Rattle.atl_store.proofs.WorldTextLaws.{world_text_is}
 use Rattle.atl_service.specs.declared.command.Command.{Command}
@@ -15,17 +15,17 @@ use Rattle.atl_service.specs.declared.command.Answer.TheVariants.{Joined, Mailed
 use Rattle.atl_store.specs.declared.fault.WriteFault.{WriteFault}
 use Rattle.atl_store.specs.declared.fault.WriteFault.TheVariants as write
 use Rattle.atl_store.specs.Keeps.{HoldsCampaign}
-use Rattle.atl_service.specs.ServiceState.{ServiceState, text_in, Stands}
+use Rattle.atl_service.specs.Service.{ServiceValue, text_in, Stands}
 use Rattle.atl_service.specs.Answering.{Answers, GivesUp, LeavesIdle, of_writing}
 use Rattle.atl_service.specs.Causes.{OfCommand, HasCause}
 use Rattle.atl_service.specs.Runs.{Runs, RunsOpen, Closes}
 
 module _ {S : Type 0} (g : Ghosts S) where
   -- what contracts see of these fields
-  abbrev pub shown : Held S → Planet → Campaign → Bool → ServiceState S
+  abbrev pub shown : Held S → WorldValue → CampaignValue → Bool → ServiceValue S
   shown conn w c is_open = record { conn = conn; world = w; campaign = cond is_open (Some c) None }
 
-  module _ (conn conn' : Held S) (w : Planet) (c c' : Campaign) (command : Command) where
+  module _ (conn conn' : Held S) (w : WorldValue) (c c' : CampaignValue) (command : Command) where
     abbrev pub Answered : Answer → Type 0
     Answered = Answers g w c conn command c' conn'
 
@@ -59,7 +59,7 @@ module _ {S : Type 0} (g : Ghosts S) where
     runs_open (Refused r) stands leaves done = (done.step_is ∙ ap (λ d. (d, Refused r)) done.same.0, ap₂ (λ h d. shown h w d true) done.same.1 done.same.0)
     runs_open (Fault f) stands leaves done = absurd done.sound
 
-    pub runs_on : (old : ServiceState S) (answer : Answer) (is_open : Bool) → shown conn w c is_open ≡ old → is_open ≡ true → Stands g conn w c is_open → LeavesIdle g conn conn' → Answered answer → Runs g old command answer (shown conn' w c' is_open)
+    pub runs_on : (old : ServiceValue S) (answer : Answer) (is_open : Bool) → shown conn w c is_open ≡ old → is_open ≡ true → Stands g conn w c is_open → LeavesIdle g conn conn' → Answered answer → Runs g old command answer (shown conn' w c' is_open)
     runs_on old answer true seen up stands leaves done = subst (λ e. Runs g e command answer (shown conn' w c' true)) seen (runs_open answer stands leaves done)
     runs_on old answer false seen up stands leaves done = absurd (false≢true up)
 
@@ -71,7 +71,7 @@ module _ {S : Type 0} (g : Ghosts S) where
     closes_open stands leaves gave_up = record { same = refl; tables = λ clean. gave_up clean (text_in g conn) (stands.tables refl (leaves.later.clean clean)) }
 
     -- what is told is the fault of the store
-    pub closes_for : (old : ServiceState S) (fault : WriteFault) (told : Failure) (is_open : Bool) → told ≡ of_writing fault → shown conn w c is_open ≡ old → is_open ≡ true → Stands g conn w c is_open → LeavesIdle g conn conn' → GaveUp → HasCause g (OfCommand w c command) conn conn' (of_writing fault)
+    pub closes_for : (old : ServiceValue S) (fault : WriteFault) (told : Failure) (is_open : Bool) → told ≡ of_writing fault → shown conn w c is_open ≡ old → is_open ≡ true → Stands g conn w c is_open → LeavesIdle g conn conn' → GaveUp → HasCause g (OfCommand w c command) conn conn' (of_writing fault)
         → Runs g old command (Fault told) (shown conn' w c' false)
     closes_for old fault told true is seen up stands leaves gave_up cause = subst (λ e. Runs g e command (Fault told) (shown conn' w c' false)) seen (subst (λ t. RunsOpen g c (shown conn w c true) command (Fault t) (shown conn' w c' false)) (sym is) (closes fault cause))
       where

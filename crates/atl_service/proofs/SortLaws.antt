@@ -6,11 +6,11 @@ use Rattle.std.specs.Cmp.{nat_cmp_total}
 use Rattle.std.specs.FinMap.{FinMap, get, get-insert, get-empty, empty}
 use Rattle.std.proofs.lemmas.Bool.Decides.{nat_tests}
 use Rattle.std.proofs.lemmas.List.{append_assoc, drop_more}
-use Rattle.atl_tables.specs.Planet.{Planet}
+use Rattle.atl_tables.specs.Worlds.{WorldValue}
 use Rattle.atl_tables.proofs.GeneralLaws.{key_turned}
 use Rattle.atl_orders.specs.declared.fault.FaultyLine.{FaultyLine}
 use Rattle.atl_state.specs.declared.event.Event.{Event}
-use Rattle.atl_state.specs.State.{State, with_report}
+use Rattle.atl_state.specs.Campaign.{CampaignValue, with_report}
 use Rattle.atl_report.specs.Events.{own_events}
 use Rattle.atl_report.proofs.EventLaws.{only_what_is_seen_is_told}
 use Rattle.atl_service.specs.Closing.{reported_with}
@@ -57,7 +57,7 @@ own_again n (e ∷ es) = by_test (e.faction == n) refl (own_again n es)
     by_test false is rest = rest
 
 -- a report of a faction's own events is the report of all of them
-pub stored_own : {A E : Type 0} (w : Planet) (c d : State) (n : ℕ) (faults lines : List FaultyLine) (events own : List Event) (r : Result A E)
+pub stored_own : {A E : Type 0} (w : WorldValue) (c d : CampaignValue) (n : ℕ) (faults lines : List FaultyLine) (events own : List Event) (r : Result A E)
     → lines ≡ faults → own ≡ own_events n events → OnOk r (d ≡ reported_with w c n lines own) → OnOk r (d ≡ reported_with w c n faults events)
 stored_own w c d n faults lines events own (Err e) wrong mine is = tt
 stored_own w c d n faults lines events own (Ok a) wrong mine is =

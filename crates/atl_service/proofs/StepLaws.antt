@@ -2,9 +2,9 @@
 use Rattle.std.proofs.Common.{◌≡◌, ◌+◌, ◌-◌, ℕ, pos, List, [], Bool, true, false, cond, not, Option, Some, is_some, IsSome, Ok, Err, refl, sym, ap, ◌∙◌, subst, arith}
 use Rattle.std.specs.FinMap.{get, insert}
 use Rattle.atl_tables.specs.Names.{name_ok, pass_ok}
-use Rattle.atl_tables.specs.Planet.{Planet}
+use Rattle.atl_tables.specs.Worlds.{WorldValue}
 use Rattle.atl_state.specs.declared.records.JoinFault.TheVariants.{NameTaken, Full}
-use Rattle.atl_state.specs.State.{State, with_report}
+use Rattle.atl_state.specs.Campaign.{CampaignValue, with_report}
 use Rattle.atl_state.specs.Good.{IsGood}
 use Rattle.atl_state.specs.Joining.{join_of, joined, name_taken, is_full, new_faction, first_unit}
 use Rattle.atl_state.specs.Founding.{things_of}
@@ -22,7 +22,7 @@ use Rattle.atl_service.specs.declared.command.Answer.TheVariants.{Joined, Refuse
 use Rattle.atl_service.specs.declared.command.Refusal.TheVariants as why
 use Rattle.atl_service.specs.Step.{step, reported}
 
-module _ (w : Planet) (c : State) (name pass : List ℕ) (word : ℕ) where
+module _ (w : WorldValue) (c : CampaignValue) (name pass : List ℕ) (word : ℕ) where
   pub bad_name : not (name_ok name) ≡ true → step w c (Join name pass word) ≡ (c, Refused why.BadName)
   unfolding step
   bad_name e = rw e refl
@@ -39,7 +39,7 @@ module _ (w : Planet) (c : State) (name pass : List ℕ) (word : ℕ) where
   unfolding step
   is_too_full a b e = rw (a, b, e) refl
 
-  pub steps_on : (d : State) (n m : ℕ) → name_ok name ≡ true → pass_ok pass ≡ true → join_of w name pass word c ≡ Ok (d, (n, m)) → step w c (Join name pass word) ≡ (reported w d n, Joined n m)
+  pub steps_on : (d : CampaignValue) (n m : ℕ) → name_ok name ≡ true → pass_ok pass ≡ true → join_of w name pass word c ≡ Ok (d, (n, m)) → step w c (Join name pass word) ≡ (reported w d n, Joined n m)
   unfolding step
   steps_on d n m a b e = rw (a, b, e) refl
 
@@ -53,7 +53,7 @@ accepted false false x y e = cc
 is_there : {V : Type 0} (o : Option V) (v : V) → o ≡ Some v → IsSome o
 is_there o v is = ap is_some is
 
-arrival : (w : Planet) (name pass : List ℕ) (word : ℕ) (c : State) → IsGood w c → HasArrival (reported w (joined w name pass word c) c.next_faction) c.next_faction
+arrival : (w : WorldValue) (name pass : List ℕ) (word : ℕ) (c : CampaignValue) → IsGood w c → HasArrival (reported w (joined w name pass word c) c.next_faction) c.next_faction
 unfolding joined
 arrival w name pass word c good =
     let member = new_faction c.next_faction name pass in
@@ -71,19 +71,19 @@ arrival w name pass word c good =
       report = is_there _ report (get_inserted c.reports c.next_faction report);
     }
 
-pub arrives : (w : Planet) (name pass : List ℕ) (word : ℕ) (c d : State) (n m : ℕ) → IsGood w c → join_of w name pass word c ≡ Ok (d, (n, m)) → HasArrival (reported w d n) n
+pub arrives : (w : WorldValue) (name pass : List ℕ) (word : ℕ) (c d : CampaignValue) (n m : ℕ) → IsGood w c → join_of w name pass word c ≡ Ok (d, (n, m)) → HasArrival (reported w d n) n
 unfolding join_of
 arrives w name pass word c d n m good e =
     let is : (joined w name pass word c, (c.next_faction, c.next_unit)) ≡ (d, (n, m)) = accepted (name_taken c name) (is_full c) _ _ e in
     let same : joined w name pass word c ≡ d = ap (λ p. p.0) is in
     let number : c.next_faction ≡ n = ap (λ p. p.1.0) is in
-    subst (λ (s : State). HasArrival (reported w s n) n) same (subst (λ k. HasArrival (reported w (joined w name pass word c) k) k) number (arrival w name pass word c good))
+    subst (λ (s : CampaignValue). HasArrival (reported w s n) n) same (subst (λ k. HasArrival (reported w (joined w name pass word c) k) k) number (arrival w name pass word c good))
 
 -- with its first report it is one that the store can write
-pub joining_is : (w : Planet) (name pass : List ℕ) (word : ℕ) (c d : State) (n m : ℕ) → IsGood w c → join_of w name pass word c ≡ Ok (d, (n, m)) → IsJoining c n (reported w d n)
+pub joining_is : (w : WorldValue) (name pass : List ℕ) (word : ℕ) (c d : CampaignValue) (n m : ℕ) → IsGood w c → join_of w name pass word c ≡ Ok (d, (n, m)) → IsJoining c n (reported w d n)
 unfolding join_of
 joining_is w name pass word c d n m good e =
     let is : (joined w name pass word c, (c.next_faction, c.next_unit)) ≡ (d, (n, m)) = accepted (name_taken c name) (is_full c) _ _ e in
     let same : joined w name pass word c ≡ d = ap (λ p. p.0) is in
     let number : c.next_faction ≡ n = ap (λ p. p.1.0) is in
-    (w, name, pass, word, report_of w (view_of w d n) [] [], good, sym number, ap (λ (s : State). with_report s n (report_of w (view_of w d n) [] [])) (sym same))
+    (w, name, pass, word, report_of w (view_of w d n) [] [], good, sym number, ap (λ (s : CampaignValue). with_report s n (report_of w (view_of w d n) [] [])) (sym same))

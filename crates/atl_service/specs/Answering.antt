@@ -3,10 +3,10 @@ use Rattle.std.specs.Prelude.{◌≡◌, ℕ, List, false, ⊤}
 use Rattle.sqlite_trees.specs.declared.store.Store.{Ghosts}
 use Rattle.sqlite.specs.Held.{Held, state}
 use Rattle.sqlite.specs.State.{HasCleanDisk}
-use Rattle.atl_tables.specs.Planet.{Planet}
+use Rattle.atl_tables.specs.Worlds.{WorldValue}
 use Rattle.atl_orders.specs.declared.fault.MailFault.{MailFault}
 use Rattle.atl_orders.specs.declared.fault.MailFault.TheVariants as mail
-use Rattle.atl_state.specs.State.{State as Campaign}
+use Rattle.atl_state.specs.Campaign.{CampaignValue}
 use Rattle.atl_state.specs.Good.{IsGood}
 use Rattle.atl_store.specs.Keeps.{Keeps, Stops, IsLater, SparesOthers}
 use Rattle.atl_store.specs.declared.fault.WriteFault.{WriteFault}
@@ -36,7 +36,7 @@ IfIdle (Refused _) P = P
 IfIdle (Fault _) P = ⊤
 
 -- The answer and the campaign are the step's. The campaign is good, and tables that held the one before hold it.
-pub record Answers {S : Type 0} (g : Ghosts S) (w : Planet) (before : Campaign) (old : Held S) (command : Command) (after : Campaign) (new : Held S) (answer : Answer) : Type 0 where
+pub record Answers {S : Type 0} (g : Ghosts S) (w : WorldValue) (before : CampaignValue) (old : Held S) (command : Command) (after : CampaignValue) (new : Held S) (answer : Answer) : Type 0 where
   pub step_is : step w before command ≡ (after, answer)
   pub sound : IsSound answer
   pub same : IfIdle answer ((after ≡ before) × (new ≡ old))
@@ -44,7 +44,7 @@ pub record Answers {S : Type 0} (g : Ghosts S) (w : Planet) (before : Campaign) 
   pub tables : HasCleanDisk (state g new) → (text : List ℕ) → Keeps (state g old) text before → Keeps (state g new) text after
 
 -- There is no answer. Tables that held the campaign before stop at it, and a crash leaves it or the step's.
-abbrev pub GivesUp : {S : Type 0} → Ghosts S → Planet → Campaign → Held S → Command → Held S → Type 0
+abbrev pub GivesUp : {S : Type 0} → Ghosts S → WorldValue → CampaignValue → Held S → Command → Held S → Type 0
 GivesUp g w before old command new = HasCleanDisk (state g new) → (text : List ℕ) → Keeps (state g old) text before → Stops (state g old).faults (state g new) text before (step w before command).0
 
 -- answered or not, the connection is in no transaction, no failure of its disk is forgotten, and other tables stay as they are
@@ -59,7 +59,7 @@ of_writing write.Memory = fault.Memory
 of_writing write.Store = fault.Store
 
 -- a mailing that is not kept is refused by the step, but for want of memory
-abbrev pub Denies : Planet → Campaign → Command → Unkept → Type 0
+abbrev pub Denies : WorldValue → CampaignValue → Command → Unkept → Type 0
 Denies w c command (unkept.Refused why) = step w c command ≡ (c, Refused why)
 Denies w c command unkept.Memory = ⊤
 

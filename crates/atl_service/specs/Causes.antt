@@ -4,10 +4,10 @@ use Rattle.sqlite_trees.specs.declared.store.Store.{Ghosts}
 use Rattle.sqlite.specs.declared.error.Error.{Error}
 use Rattle.sqlite.specs.Held.{Held, state}
 use Rattle.sqlite.specs.State.{HasCleanDisk}
-use Rattle.atl_tables.specs.Planet.{Planet}
+use Rattle.atl_tables.specs.Worlds.{WorldValue}
 use Rattle.atl_tables.specs.World.{old_world_of}
 use Rattle.atl_state.specs.Founding.{founded_of}
-use Rattle.atl_state.specs.State.{State as Campaign}
+use Rattle.atl_state.specs.Campaign.{CampaignValue}
 use Rattle.atl_store.specs.Causes.{Gives}
 use Rattle.atl_store.specs.Faults.{is_memory}
 use Rattle.atl_store.specs.Keeps.{Keeps}
@@ -21,7 +21,7 @@ use Rattle.atl_service.specs.Step.{step}
 -- ---- the statements that may be at fault
 
 -- those of a command, with the rows of the campaign after it
-abbrev pub OfCommand : Planet → Campaign → Command → Statements
+abbrev pub OfCommand : WorldValue → CampaignValue → Command → Statements
 OfCommand w c (Join name pass word) = OfJoining c.next_faction (step w c (Join name pass word)).0
 OfCommand w c (Mail faction pass text) = OfMail faction text
 OfCommand w c (Close month pass words) = OfChange (step w c (Close month pass words)).0
@@ -29,7 +29,7 @@ OfCommand w c (Report faction pass) = λ sql params. ⊥
 
 -- those of the founding of a world text
 abbrev pub FoundsBy : List ℕ → List ℕ → Statements
-FoundsBy text pass sql params = (w : Planet) × (old_world_of text ≡ Ok w) × OfFounding text (founded_of w pass) sql params
+FoundsBy text pass sql params = (w : WorldValue) × (old_world_of text ≡ Ok w) × OfFounding text (founded_of w pass) sql params
 
 -- ---- causes
 
@@ -54,7 +54,7 @@ HasCause g own old new Store = FailsToWrite g own old new
 HasCause g own old new Closed = ⊥
 
 -- A fault of a command has its cause, and the connection that the command found held the campaign.
-pub record IsFault {S : Type 0} (g : Ghosts S) (text : List ℕ) (w : Planet) (c : Campaign) (command : Command) (fault : Fault) (new : Held S) : Type 0 where
+pub record IsFault {S : Type 0} (g : Ghosts S) (text : List ℕ) (w : WorldValue) (c : CampaignValue) (command : Command) (fault : Fault) (new : Held S) : Type 0 where
   pub old : Held S
   pub held : HasCleanDisk (state g new) → Keeps (state g old) text c
   pub cause : HasCause g (OfCommand w c command) old new fault

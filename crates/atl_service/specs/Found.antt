@@ -4,11 +4,11 @@ use Rattle.sqlite_trees.specs.declared.store.Store.{Ghosts}
 use Rattle.sqlite.specs.Held.{Held, state}
 use Rattle.sqlite.specs.State.{HasCleanDisk}
 use Rattle.atl_tables.specs.Names.{pass_ok}
-use Rattle.atl_tables.specs.Planet.{Planet}
+use Rattle.atl_tables.specs.Worlds.{WorldValue}
 use Rattle.atl_tables.specs.World.{old_world_of}
 use Rattle.atl_tables.specs.declared.fault.WorldFault.{WorldFault}
 use Rattle.atl_tables.specs.declared.fault.WorldFault.TheVariants as world
-use Rattle.atl_state.specs.State.{State as Campaign}
+use Rattle.atl_state.specs.Campaign.{CampaignValue}
 use Rattle.atl_state.specs.Founding.{founded_of}
 use Rattle.atl_store.specs.Making.{has_campaign}
 use Rattle.atl_store.specs.Keeps.{HoldsCampaign, IsLater, IsReady, Spares, MayFound}
@@ -18,10 +18,10 @@ use Rattle.atl_service.specs.declared.command.Cause.{Cause}
 use Rattle.atl_service.specs.declared.command.Cause.TheVariants.{World as BadWorld, BadPassText, NotEmpty, NotACampaign, Damaged, Store, Memory}
 use Rattle.atl_store.specs.OwnStatements.{Statements}
 use Rattle.atl_service.specs.Causes.{FoundsBy, FailsToWrite, LacksMemory}
-use Rattle.atl_service.specs.ServiceState.{ServiceState, text_in}
+use Rattle.atl_service.specs.Service.{ServiceValue, text_in}
 
 -- where no table campaign was there, the service is open, with the world of the text and the founded campaign, and its tables hold the rows of both
-pub record Founds {S : Type 0} (g : Ghosts S) (old : Held S) (text pass : List ℕ) (made : ServiceState S) : Type 0 where
+pub record Founds {S : Type 0} (g : Ghosts S) (old : Held S) (text pass : List ℕ) (made : ServiceValue S) : Type 0 where
   pub fresh : has_campaign old.schema ≡ false
   pub world : old_world_of text ≡ Ok made.world
   pub pass_is_good : pass_ok pass ≡ true
@@ -32,7 +32,7 @@ pub record Founds {S : Type 0} (g : Ghosts S) (old : Held S) (text pass : List �
 
 -- the world text has no fault
 abbrev pub IsWorldText : List ℕ → Type 0
-IsWorldText text = (w : Planet) × (old_world_of text ≡ Ok w)
+IsWorldText text = (w : WorldValue) × (old_world_of text ≡ Ok w)
 
 -- the first of the checks that fails; what only an opening finds is never told
 abbrev pub IsCause : List ℕ → List ℕ → Bool → Cause → Type 0
@@ -47,7 +47,7 @@ IsCause text pass is_there Memory = ⊤
 -- The database could not be written, or there was no memory: while the connection is open its tables are as they were, and a crash leaves what it left before or the founded campaign.
 pub record FailsToFound {S : Type 0} (g : Ghosts S) (old : Held S) (text pass : List ℕ) (new : Held S) : Type 0 where
   pub tables : HasCleanDisk (state g new) → Spares (state g old) (state g new)
-  pub crash : HasCleanDisk (state g new) → (w : Planet) → old_world_of text ≡ Ok w → MayFound (state g old) text (founded_of w pass) (state g new)
+  pub crash : HasCleanDisk (state g new) → (w : WorldValue) → old_world_of text ≡ Ok w → MayFound (state g old) text (founded_of w pass) (state g new)
 
 -- The database has a table, an index or a view, or the connection is in a transaction, and nothing is changed; or neither is so, and a call of the writing gave another error than want of memory.
 abbrev pub RefusesToWrite : {S : Type 0} → Ghosts S → Statements → Held S → Held S → Type 0
@@ -70,7 +70,7 @@ pub record RefusesFounding {S : Type 0} (g : Ghosts S) (old : Held S) (text pass
   pub later : IsLater (state g old) (state g new)
 
 -- the world of the text, and the campaign that is founded in it
-pub record Prepares (text pass : List ℕ) (w : Planet) (c : Campaign) : Type 0 where
+pub record Prepares (text pass : List ℕ) (w : WorldValue) (c : CampaignValue) : Type 0 where
   pub world : old_world_of text ≡ Ok w
   pub pass_is_good : pass_ok pass ≡ true
   pub campaign : c ≡ founded_of w pass

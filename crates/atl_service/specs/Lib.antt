@@ -1,7 +1,7 @@
 pub mod Numbers
 pub mod Closing
 pub mod Step
-pub mod ServiceState
+pub mod Service
 pub mod Causes
 pub mod Answering
 pub mod Sorting

@@ -3,7 +3,7 @@ use Rattle.std.specs.Prelude.{◌≡◌, ◌<◌, ◌++◌, ℕ, List, [], All, 
 use Rattle.std.specs.List.{AllByRecursion, flat_map}
 use Rattle.std.specs.Ordering.{nat_cmp}
 use Rattle.std.specs.FinMap.{FinMap, entries, get, len}
-use Rattle.atl_tables.specs.Planet.{Planet, IsWorld}
+use Rattle.atl_tables.specs.Worlds.{WorldValue, IsWorld}
 use Rattle.atl_tables.specs.Sums.{mapped}
 use Rattle.atl_orders.specs.declared.fault.FaultyLine.{FaultyLine}
 use Rattle.atl_orders.specs.declared.mailing.Mailing.{Mailing}
@@ -11,7 +11,7 @@ use Rattle.atl_orders.specs.Mailing.{IsMailingOf, IsReadWith, reading, reading_o
 use Rattle.atl_state.specs.Deciding.{EachOf}
 use Rattle.atl_state.specs.Good.{IsThere}
 use Rattle.atl_state.specs.Limits.{last_month}
-use Rattle.atl_state.specs.State.{State}
+use Rattle.atl_state.specs.Campaign.{CampaignValue}
 use Rattle.atl_service.specs.declared.closing.ReadMail.{ReadMail}
 use Rattle.atl_service.specs.declared.reporting.Told.{Told}
 use Rattle.atl_service.specs.declared.command.Command.TheVariants.{Close}
@@ -20,7 +20,7 @@ use Rattle.atl_service.specs.Closing.{closed, faults_of, read_of, readings, repo
 use Rattle.atl_service.specs.Step.{step}
 
 -- the mailings and what is wrong with each, where this mail, of which each text is a mailing of its faction, is left to be read
-abbrev pub ReadSoFar : Planet → State → List Mailing → FinMap nat_cmp (List FaultyLine) → List (ℕ × List ℕ) → Type 0
+abbrev pub ReadSoFar : WorldValue → CampaignValue → List Mailing → FinMap nat_cmp (List FaultyLine) → List (ℕ × List ℕ) → Type 0
 ReadSoFar w c mailings faults rest =
     (map reading_of mailings ++ flat_map (λ e. read_of (reading w e.1)) rest ≡ readings w c)
     × All (IsReadWith w) mailings
@@ -28,21 +28,21 @@ ReadSoFar w c mailings faults rest =
     × EachOf IsMailingOf rest
 
 -- the mail as it is read, and what is wrong with it, under each faction's number
-pub record HasRead (w : Planet) (c : State) (r : ReadMail) : Type 0 where
+pub record HasRead (w : WorldValue) (c : CampaignValue) (r : ReadMail) : Type 0 where
   pub readings_are : map reading_of r.mailings.items ≡ readings w c
   pub read : All (IsReadWith w) r.mailings.items
   pub faults : r.faults ≡ mapped (λ text. faults_of (reading w text)) c.mail
 
 -- each of these factions is there
-abbrev pub AreThere : State → List ℕ → Type 0
+abbrev pub AreThere : CampaignValue → List ℕ → Type 0
 AreThere c factions = AllByRecursion (λ n. IsThere c.factions n) factions
 
 -- the campaign with the reports of what is told
-abbrev pub told_to_all : Planet → State → Told → State
+abbrev pub told_to_all : WorldValue → CampaignValue → Told → CampaignValue
 told_to_all w c told = fold (reported_to w (λ n. unwrap_or (get told.faults n) []) told.events.items) c told.factions.items
 
 -- nothing stands against the closing of a month
-pub record MayClose (w : Planet) (c : State) (month : ℕ) (pass words : List ℕ) : Type 0 where
+pub record MayClose (w : WorldValue) (c : CampaignValue) (month : ℕ) (pass words : List ℕ) : Type 0 where
   pub step_is : step w c (Close month pass words) ≡ (closed w c words, MonthDone month)
   pub early : c.month < last_month
   pub dice : length words ≡ len w.regions

@@ -3,30 +3,30 @@ use Rattle.std.specs.Prelude.{◌≡◌, ℕ, List, Some, Ok}
 use Rattle.sqlite_trees.specs.declared.store.Store.{Ghosts}
 use Rattle.sqlite.specs.Held.{Held, state}
 use Rattle.sqlite.specs.State.{HasCleanDisk}
-use Rattle.atl_tables.specs.Planet.{Planet}
+use Rattle.atl_tables.specs.Worlds.{WorldValue}
 use Rattle.atl_tables.specs.World.{old_world_of}
 use Rattle.atl_state.specs.Good.{IsGood}
-use Rattle.atl_state.specs.State.{State as Campaign, Marked}
+use Rattle.atl_state.specs.Campaign.{CampaignValue, MarkedCampaign}
 use Rattle.atl_store.specs.Keeps.{HoldsCampaign, IsLater}
 use Rattle.atl_store.specs.Loading.{Loads, RefusesToLoad, LeavesAlone}
 use Rattle.atl_store.specs.declared.fault.StoreFault.{StoreFault}
 use Rattle.atl_store.specs.declared.fault.StoreFault.TheVariants as load
 use Rattle.atl_service.specs.declared.command.Cause.{Cause}
 use Rattle.atl_service.specs.declared.command.Cause.TheVariants.{NotACampaign, Damaged, Store, Memory}
-use Rattle.atl_service.specs.ServiceState.{ServiceState, text_in}
+use Rattle.atl_service.specs.Service.{ServiceValue, text_in}
 
 -- The service is open, with the world and the good campaign that the tables hold, and the tables are as they were.
-pub record Opens {S : Type 0} (g : Ghosts S) (old : Held S) (made : ServiceState S) : Type 0 where
-  pub campaign : Marked
-  pub is_open : made.campaign ≡ Some campaign.what
+pub record Opens {S : Type 0} (g : Ghosts S) (old : Held S) (made : ServiceValue S) : Type 0 where
+  pub campaign : MarkedCampaign
+  pub is_open : made.campaign ≡ Some campaign.value
   pub loads : Loads g old made.conn made.world campaign
   pub alone : LeavesAlone g old made.conn
   pub later : IsLater (state g old) (state g made.conn)
 
 -- A world text and a good campaign of its world that the connection held are those of the service.
-abbrev pub ComesBack : {S : Type 0} → Ghosts S → Held S → ServiceState S → Type 0
+abbrev pub ComesBack : {S : Type 0} → Ghosts S → Held S → ServiceValue S → Type 0
 ComesBack g old made =
-    HasCleanDisk (state g made.conn) → (text : List ℕ) (w : Planet) (c : Campaign) → old_world_of text ≡ Ok w → IsGood w c → HoldsCampaign g old text c
+    HasCleanDisk (state g made.conn) → (text : List ℕ) (w : WorldValue) (c : CampaignValue) → old_world_of text ≡ Ok w → IsGood w c → HoldsCampaign g old text c
     → (text_in g made.conn ≡ text) × (made.world ≡ w) × (made.campaign ≡ Some c)
 
 -- what is told of a fault of the loading

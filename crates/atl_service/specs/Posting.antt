@@ -1,7 +1,7 @@
 -- Of a faction's mailings only the last one counts.
 use Rattle.std.specs.Prelude.{◌≡◌, ◌==◌, ◌∷◌, [], ℕ, List, ⊤, Option, Some, None, if◌then◌else◌}
-use Rattle.atl_tables.specs.Planet.{Planet}
-use Rattle.atl_state.specs.State.{State}
+use Rattle.atl_tables.specs.Worlds.{WorldValue}
+use Rattle.atl_state.specs.Campaign.{CampaignValue}
 use Rattle.atl_service.specs.declared.command.Command.{Command}
 use Rattle.atl_service.specs.declared.command.Command.TheVariants.{Join, Mail, Close, Report}
 use Rattle.atl_service.specs.declared.command.Answer.{Answer}
@@ -18,7 +18,7 @@ IsMailed (Refused _) = ⊥
 IsMailed (Fault _) = ⊥
 
 -- from a campaign on, each command is a mailing that is taken
-abbrev pub AreMailed : Planet → State → List Command → Type 0
+abbrev pub AreMailed : WorldValue → CampaignValue → List Command → Type 0
 AreMailed w c [] = ⊤
 AreMailed w c (Join _ _ _ ∷ more) = ⊥
 AreMailed w c (Mail faction pass text ∷ more) = IsMailed (step w c (Mail faction pass text)).1 × AreMailed w (step w c (Mail faction pass text)).0 more
@@ -36,7 +36,7 @@ last_text n other (Report _ _ ∷ more) = last_text n other more
 -- Two lists of mailings that are all taken, with the same last text of each faction: the same closing behind either gives one campaign and one answer.
 abbrev pub OnlyTheLastMailCounts : Type 0
 OnlyTheLastMailCounts =
-    (w : Planet) (c : State) (sent others : List Command) (month : ℕ) (pass words : List ℕ)
+    (w : WorldValue) (c : CampaignValue) (sent others : List Command) (month : ℕ) (pass words : List ℕ)
     → AreMailed w c sent
     → AreMailed w c others
     → ((n : ℕ) → last_text n None sent ≡ last_text n None others)

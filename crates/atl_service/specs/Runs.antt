@@ -3,8 +3,8 @@ use Rattle.std.specs.Prelude.{◌≡◌, ◌≢◌, ◌⊎◌, ◌<◌, ◌+◌,
 use Rattle.sqlite_trees.specs.declared.store.Store.{Ghosts}
 use Rattle.sqlite.specs.Held.{state}
 use Rattle.sqlite.specs.State.{HasCleanDisk}
-use Rattle.atl_tables.specs.Planet.{Planet}
-use Rattle.atl_state.specs.State.{State as Campaign}
+use Rattle.atl_tables.specs.Worlds.{WorldValue}
+use Rattle.atl_state.specs.Campaign.{CampaignValue}
 use Rattle.atl_store.specs.Keeps.{HoldsCampaign, IsLater, Stops}
 use Rattle.atl_service.specs.declared.command.Command.{Command}
 use Rattle.atl_service.specs.declared.command.Answer.{Answer}
@@ -14,26 +14,26 @@ use Rattle.atl_service.specs.declared.command.Fault.{Fault as Failure}
 use Rattle.atl_service.specs.declared.command.Fault.TheVariants.{Memory, Store, Closed}
 use Rattle.atl_service.specs.Causes.{OfCommand, HasCause, IsFault}
 use Rattle.atl_service.specs.Step.{step, run_of}
-use Rattle.atl_service.specs.ServiceState.{ServiceState, text_in}
+use Rattle.atl_service.specs.Service.{ServiceValue, text_in}
 
 -- the step, written into the tables
-pub record Accepts {S : Type 0} (g : Ghosts S) (c : Campaign) (old : ServiceState S) (command : Command) (answer : Answer) (new : ServiceState S) : Type 0 where
-  pub after : Campaign
+pub record Accepts {S : Type 0} (g : Ghosts S) (c : CampaignValue) (old : ServiceValue S) (command : Command) (answer : Answer) (new : ServiceValue S) : Type 0 where
+  pub after : CampaignValue
   pub step : step old.world c command ≡ (after, answer)
   pub same : new ≡ record old { conn = new.conn; campaign = Some after }
   pub tables : HoldsCampaign g new.conn (text_in g old.conn) after
 
 -- the refusal of the step, and nothing is changed
-abbrev pub Refuses : {S : Type 0} → Campaign → ServiceState S → Command → Answer → ServiceState S → Type 0
+abbrev pub Refuses : {S : Type 0} → CampaignValue → ServiceValue S → Command → Answer → ServiceValue S → Type 0
 Refuses c old command answer new = (step old.world c command ≡ (c, answer)) × (new ≡ old)
 
 -- the service is closed, and the tables stop at the campaign before
-pub record Closes {S : Type 0} (g : Ghosts S) (c : Campaign) (old : ServiceState S) (command : Command) (new : ServiceState S) : Type 0 where
+pub record Closes {S : Type 0} (g : Ghosts S) (c : CampaignValue) (old : ServiceValue S) (command : Command) (new : ServiceValue S) : Type 0 where
   pub same : new ≡ record old { conn = new.conn; campaign = None }
   pub tables : HasCleanDisk (state g new.conn) → Stops (state g old.conn).faults (state g new.conn) (text_in g old.conn) c (step old.world c command).0
 
 -- while the service is open, with this campaign
-abbrev pub RunsOpen : {S : Type 0} → Ghosts S → Campaign → ServiceState S → Command → Answer → ServiceState S → Type 0
+abbrev pub RunsOpen : {S : Type 0} → Ghosts S → CampaignValue → ServiceValue S → Command → Answer → ServiceValue S → Type 0
 RunsOpen g c old command (Joined faction unit) new = Accepts g c old command (Joined faction unit) new
 RunsOpen g c old command (Mailed orders faults) new = Accepts g c old command (Mailed orders faults) new
 RunsOpen g c old command (MonthDone month) new = Accepts g c old command (MonthDone month) new
@@ -43,12 +43,12 @@ RunsOpen g c old command (Fault Memory) new = Closes g c old command new × HasC
 RunsOpen g c old command (Fault Store) new = Closes g c old command new × HasCause g (OfCommand old.world c command) old.conn new.conn Store
 RunsOpen g c old command (Fault Closed) new = ⊥
 
-abbrev pub RunsAt : {S : Type 0} → Ghosts S → ServiceState S → Command → Answer → ServiceState S → Option Campaign → Type 0
+abbrev pub RunsAt : {S : Type 0} → Ghosts S → ServiceValue S → Command → Answer → ServiceValue S → Option CampaignValue → Type 0
 RunsAt g old command answer new (Some c) = RunsOpen g c old command answer new
 RunsAt g old command answer new None = (answer ≡ Fault Closed) × (new ≡ old)
 
 -- from old, a command may be answered so, and leave new
-abbrev pub Runs : {S : Type 0} → Ghosts S → ServiceState S → Command → Answer → ServiceState S → Type 0
+abbrev pub Runs : {S : Type 0} → Ghosts S → ServiceValue S → Command → Answer → ServiceValue S → Type 0
 Runs g old command answer new = RunsAt g old command answer new old.campaign
 
 -- ---- lists of commands
@@ -62,7 +62,7 @@ AreClosed (c ∷ cs) [] = ⊥
 
 -- The answers from a campaign on are those of the definition, as far as the first fault, and Closed behind it. Without a fault the tables end with the rows of the last campaign.
 -- With one they stop at the campaign of the commands before it, and the fault has its cause. `faults` counts what the disk had failed before.
-abbrev pub Follows : {S : Type 0} → Ghosts S → List ℕ → ℕ → Planet → Campaign → List Command → List Answer → ServiceState S → Type 0
+abbrev pub Follows : {S : Type 0} → Ghosts S → List ℕ → ℕ → WorldValue → CampaignValue → List Command → List Answer → ServiceValue S → Type 0
 Follows g text faults w c [] [] new = (new.campaign ≡ Some c) × HoldsCampaign g new.conn text c
 Follows g text faults w c (command ∷ cs) (Joined faction unit ∷ rs) new = ((step w c command).1 ≡ Joined faction unit) × Follows g text faults w (step w c command).0 cs rs new
 Follows g text faults w c (command ∷ cs) (Mailed orders faulty ∷ rs) new = ((step w c command).1 ≡ Mailed orders faulty) × Follows g text faults w (step w c command).0 cs rs new
@@ -74,23 +74,23 @@ Follows g text faults w c (command ∷ cs) (Fault fault ∷ rs) new =
 Follows g text faults w c [] (a ∷ rs) new = ⊥
 Follows g text faults w c (command ∷ cs) [] new = ⊥
 
-abbrev pub FollowsAt : {S : Type 0} → Ghosts S → ServiceState S → List Command → List Answer → ServiceState S → Option Campaign → Type 0
+abbrev pub FollowsAt : {S : Type 0} → Ghosts S → ServiceValue S → List Command → List Answer → ServiceValue S → Option CampaignValue → Type 0
 FollowsAt g old commands answers new (Some c) = Follows g (text_in g old.conn) (state g old.conn).faults old.world c commands answers new × (new.world ≡ old.world)
 FollowsAt g old commands answers new None = AreClosed commands answers × (new ≡ old)
 
 -- from old, a list of commands may be answered so, and leave new
-pub record RunsAll {S : Type 0} (g : Ghosts S) (old : ServiceState S) (commands : List Command) (answers : List Answer) (new : ServiceState S) : Type 0 where
+pub record RunsAll {S : Type 0} (g : Ghosts S) (old : ServiceValue S) (commands : List Command) (answers : List Answer) (new : ServiceValue S) : Type 0 where
   pub follows : FollowsAt g old commands answers new old.campaign
   pub later : IsLater (state g old.conn) (state g new.conn)
 
 -- The headline: the answers are the definition's, the campaign is the definition's, and the tables hold exactly its rows.
-pub record Headline {S : Type 0} (g : Ghosts S) (text : List ℕ) (w : Planet) (c : Campaign) (commands : List Command) (answers : List Answer) (new : ServiceState S) : Type 0 where
+pub record Headline {S : Type 0} (g : Ghosts S) (text : List ℕ) (w : WorldValue) (c : CampaignValue) (commands : List Command) (answers : List Answer) (new : ServiceValue S) : Type 0 where
   pub answers_are : answers ≡ (run_of w c commands).1
   pub campaign_is : new.campaign ≡ Some (run_of w c commands).0
   pub tables : HoldsCampaign g new.conn text (run_of w c commands).0
 
 -- A fault came at a command, and has its cause: the answers before it are the definition's, the tables stop at the campaign of the commands before it, and all later answers are Closed.
-pub record Interrupted {S : Type 0} (g : Ghosts S) (text : List ℕ) (faults : ℕ) (w : Planet) (c : Campaign) (commands : List Command) (answers : List Answer) (new : ServiceState S) : Type 0 where
+pub record Interrupted {S : Type 0} (g : Ghosts S) (text : List ℕ) (faults : ℕ) (w : WorldValue) (c : CampaignValue) (commands : List Command) (answers : List Answer) (new : ServiceValue S) : Type 0 where
   pub count : ℕ
   pub command : Command
   pub at : slice_get commands count ≡ Some command
@@ -102,7 +102,7 @@ pub record Interrupted {S : Type 0} (g : Ghosts S) (text : List ℕ) (faults : �
   pub cause : IsFault g text w (run_of w c (take count commands)).0 command fault new.conn
   pub tables : HasCleanDisk (state g new.conn) → Stops faults (state g new.conn) text (run_of w c (take count commands)).0 (run_of w c (take (count + 1) commands)).0
 
-abbrev pub HeadlineAt : {S : Type 0} → Ghosts S → ServiceState S → List Command → List Answer → ServiceState S → Option Campaign → Type 0
+abbrev pub HeadlineAt : {S : Type 0} → Ghosts S → ServiceValue S → List Command → List Answer → ServiceValue S → Option CampaignValue → Type 0
 HeadlineAt g old commands answers new (Some c) =
     Headline g (text_in g old.conn) old.world c commands answers new ⊎ Interrupted g (text_in g old.conn) (state g old.conn).faults old.world c commands answers new
 HeadlineAt g old commands answers new None = (answers ≡ map (λ _. Answers.Fault Closed) commands) × (new ≡ old)

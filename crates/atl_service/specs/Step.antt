@@ -3,7 +3,7 @@ use Rattle.std.specs.Prelude.{◌==◌, ◌+◌, ◌∷◌, [], ℕ, List, lengt
 use Rattle.std.specs.Cmp.Lexicographic.{pointwise}
 use Rattle.std.specs.FinMap.{get, len}
 use Rattle.atl_tables.specs.Names.{name_ok, pass_ok}
-use Rattle.atl_tables.specs.Planet.{Planet}
+use Rattle.atl_tables.specs.Worlds.{WorldValue}
 use Rattle.atl_orders.specs.declared.fault.MailFault.{MailFault}
 use Rattle.atl_orders.specs.declared.fault.MailFault.TheVariants as mail
 use Rattle.atl_orders.specs.Mailing.{Reading, reading}
@@ -11,7 +11,7 @@ use Rattle.atl_state.specs.declared.records.Faction.{Faction}
 use Rattle.atl_state.specs.declared.records.JoinFault.{JoinFault}
 use Rattle.atl_state.specs.declared.records.JoinFault.TheVariants.{NameTaken, Full, Memory}
 use Rattle.atl_state.specs.Limits.{last_month}
-use Rattle.atl_state.specs.State.{State, with_mail}
+use Rattle.atl_state.specs.Campaign.{CampaignValue, with_mail}
 use Rattle.atl_state.specs.Joining.{join_of}
 use Rattle.atl_service.specs.Closing.{closed, reported_with}
 use Rattle.atl_service.specs.declared.command.Command.{Command}
@@ -23,11 +23,11 @@ use Rattle.atl_service.specs.declared.command.Refusal.TheVariants as why
 use Rattle.atl_service.specs.declared.command.Fault.TheVariants as faults
 
 -- the campaign with a new report for a faction, of what it sees; nothing is told of orders
-abbrev pub reported : Planet → State → ℕ → State
+abbrev pub reported : WorldValue → CampaignValue → ℕ → CampaignValue
 reported w c faction = reported_with w c faction [] []
 
 -- a joining, with the first report
-abbrev pub joined_with : Planet → State → Result (State × (ℕ × ℕ)) JoinFault → State × Answer
+abbrev pub joined_with : WorldValue → CampaignValue → Result (CampaignValue × (ℕ × ℕ)) JoinFault → CampaignValue × Answer
 joined_with w c (Ok (after, (faction, unit))) = (reported w after faction, Joined faction unit)
 joined_with w c (Err NameTaken) = (c, Refused why.NameTaken)
 joined_with w c (Err Full) = (c, Refused why.Full)
@@ -39,7 +39,7 @@ identified pass None = Err why.NoFaction
 identified pass (Some f) = if not (pointwise nat_eq f.pass pass) then Err why.WrongPass else Ok f
 
 -- a mailing that is kept in the place of an older one, with the number of its orders and its faulty lines; only that of another faction is refused
-abbrev pub mailed : State → ℕ → List ℕ → Result Reading MailFault → State × Answer
+abbrev pub mailed : CampaignValue → ℕ → List ℕ → Result Reading MailFault → CampaignValue × Answer
 mailed c faction text (Ok r) =
     if not (r.faction == faction) then (c, Refused why.WrongFaction)
     else (with_mail c faction text, Mailed (length r.entries) r.faults)
@@ -49,19 +49,19 @@ mailed c faction text (Err mail.BadHeader) = (c, Refused why.BadHeader)
 mailed c faction text (Err mail.Memory) = (c, Fault faults.Memory)
 
 -- the mailing of the faction that was identified
-abbrev pub mailed_by : Planet → State → ℕ → List ℕ → Result Faction Refusal → State × Answer
+abbrev pub mailed_by : WorldValue → CampaignValue → ℕ → List ℕ → Result Faction Refusal → CampaignValue × Answer
 mailed_by w c faction text (Err refusal) = (c, Refused refusal)
 mailed_by w c faction text (Ok f) =
     if f.gone then (c, Refused why.Gone)
     else mailed c faction text (reading w text)
 
 -- the stored report of the faction that was identified
-abbrev pub told_of : State → ℕ → Result Faction Refusal → State × Answer
+abbrev pub told_of : CampaignValue → ℕ → Result Faction Refusal → CampaignValue × Answer
 told_of c faction (Err refusal) = (c, Refused refusal)
 told_of c faction (Ok f) = (c, Text (unwrap_or (get c.reports faction) []))
 
 -- the month after the one last closed, with a word of the dice for each region
-abbrev pub closed_by : Planet → State → ℕ → List ℕ → List ℕ → State × Answer
+abbrev pub closed_by : WorldValue → CampaignValue → ℕ → List ℕ → List ℕ → CampaignValue × Answer
 closed_by w c month pass words =
     if not (pointwise nat_eq c.pass pass) then (c, Refused why.WrongPass)
     else (if not (month == c.month + 1) then (c, Refused why.WrongMonth)
@@ -70,7 +70,7 @@ closed_by w c month pass words =
     else (closed w c words, MonthDone month))))
 
 -- the campaign after a command, and its answer
-unfoldable pub step : Planet → State → Command → State × Answer
+unfoldable pub step : WorldValue → CampaignValue → Command → CampaignValue × Answer
 step w c (Join name pass word) =
     if not (name_ok name) then (c, Refused why.BadName)
     else (if not (pass_ok pass) then (c, Refused why.BadPassText)
@@ -80,6 +80,6 @@ step w c (Close month pass words) = closed_by w c month pass words
 step w c (Report faction pass) = told_of c faction (identified pass (get c.factions faction))
 
 -- the campaign after a list of commands, and the list of answers
-abbrev pub run_of : Planet → State → List Command → State × List Answer
+abbrev pub run_of : WorldValue → CampaignValue → List Command → CampaignValue × List Answer
 run_of w c [] = (c, [])
 run_of w c (command ∷ more) = let one = step w c command in let rest = run_of w one.0 more in (rest.0, one.1 ∷ rest.1)

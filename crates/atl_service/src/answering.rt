@@ -4,7 +4,7 @@ ghost use Rattle.std.specs.FinMap as map;
 ghost use Rattle.atl_orders.specs.Mailing.{IsMailingOf};
 ghost use Rattle.atl_state.specs.Good.{IsGood, IsActive};
 ghost use Rattle.atl_state.specs.Marks.{no_marks};
-ghost use Rattle.atl_state.specs.State.{with_mail};
+ghost use Rattle.atl_state.specs.Campaign.{with_mail};
 ghost use Rattle.atl_service.specs.Step.{identified, step};
 ghost use Rattle.atl_service.specs.Answering.{Answers, Denies, GivesUp, IsSound, LeavesIdle, of_writing, unread};
 ghost use Rattle.atl_service.specs.Causes.{OfCommand, HasCause};
@@ -29,11 +29,11 @@ fn join<S: Alter>(
     pass: &Sequence<u8>,
     word: u32,
 ) -> Result<Answer, WriteFault>
-    requires good { IsGood world.now campaign.old.what }
+    requires good { IsGood world.now campaign.old.value }
     requires idle { conn.old.in_transaction ≡ false }
-    ensures ok { IfOk result (Answers S.Store world.now campaign.old.what conn.old (Command.Join name.now pass.now word) campaign.new.what conn.new) }
-    ensures err { OnErr result (GivesUp S.Store world.now campaign.old.what conn.old (Command.Join name.now pass.now word) conn.new) }
-    ensures cause { IfErr result (λ fault. HasCause S.Store (OfCommand world.now campaign.old.what (Command.Join name.now pass.now word)) conn.old conn.new (of_writing fault)) }
+    ensures ok { IfOk result (Answers S.Store world.now campaign.old.value conn.old (Command.Join name.now pass.now word) campaign.new.value conn.new) }
+    ensures err { OnErr result (GivesUp S.Store world.now campaign.old.value conn.old (Command.Join name.now pass.now word) conn.new) }
+    ensures cause { IfErr result (λ fault. HasCause S.Store (OfCommand world.now campaign.old.value (Command.Join name.now pass.now word)) conn.old conn.new (of_writing fault)) }
     ensures leaves { LeavesIdle S.Store conn.old conn.new }
     ensures unmarked { campaign.old.marks ≡ no_marks → OnOk result (campaign.new.marks ≡ no_marks) }
 {
@@ -61,9 +61,9 @@ fn identified<'a>(
     faction: u32,
     pass: &Sequence<u8>,
 ) -> Result<&'a Faction, Refusal>
-    ensures ok { IfOk result (λ f. identified pass.now (map.get campaign.now.what.factions faction) ≡ Ok f.now) }
-    ensures there { IfOk result (λ f. map.get campaign.now.what.factions faction ≡ Some f.now) }
-    ensures err { IfErr result (λ why. identified pass.now (map.get campaign.now.what.factions faction) ≡ Err why) }
+    ensures ok { IfOk result (λ f. identified pass.now (map.get campaign.now.value.factions faction) ≡ Ok f.now) }
+    ensures there { IfOk result (λ f. map.get campaign.now.value.factions faction ≡ Some f.now) }
+    ensures err { IfErr result (λ why. identified pass.now (map.get campaign.now.value.factions faction) ≡ Err why) }
 {
     let known = campaign.faction(faction).ok_or(Refusal::NoFaction)?;
     if known.pass.as_bytes() != pass.as_slice() {
@@ -112,11 +112,11 @@ fn received(
     pass: &Sequence<u8>,
     text: &Sequence<u8>,
 ) -> Result<Mailing, Unkept>
-    ensures step { IfOk result (λ m. step world.now campaign.now.what (Command.Mail faction pass.now text.now) ≡ (with_mail campaign.now.what faction text.now, Answer.Mailed (length m.entries) m.faults)) }
+    ensures step { IfOk result (λ m. step world.now campaign.now.value (Command.Mail faction pass.now text.now) ≡ (with_mail campaign.now.value faction text.now, Answer.Mailed (length m.entries) m.faults)) }
     ensures text { IfOk result (λ m. m.text ≡ text.now) }
     ensures own { OnOk result (IsMailingOf faction text.now) }
-    ensures active { OnOk result (IsActive campaign.now.what faction) }
-    ensures refused { IfErr result (Denies world.now campaign.now.what (Command.Mail faction pass.now text.now)) }
+    ensures active { OnOk result (IsActive campaign.now.value faction) }
+    ensures refused { IfErr result (Denies world.now campaign.now.value (Command.Mail faction pass.now text.now)) }
 {
     let known = identified(campaign, faction, pass)?;
     if known.gone {
@@ -139,11 +139,11 @@ fn mail<S: Alter>(
     pass: &Sequence<u8>,
     text: &Sequence<u8>,
 ) -> Result<Answer, WriteFault>
-    requires good { IsGood world.now campaign.old.what }
+    requires good { IsGood world.now campaign.old.value }
     requires idle { conn.old.in_transaction ≡ false }
-    ensures ok { IfOk result (Answers S.Store world.now campaign.old.what conn.old (Command.Mail faction pass.now text.now) campaign.new.what conn.new) }
-    ensures err { OnErr result (GivesUp S.Store world.now campaign.old.what conn.old (Command.Mail faction pass.now text.now) conn.new) }
-    ensures cause { IfErr result (λ fault. HasCause S.Store (OfCommand world.now campaign.old.what (Command.Mail faction pass.now text.now)) conn.old conn.new (of_writing fault)) }
+    ensures ok { IfOk result (Answers S.Store world.now campaign.old.value conn.old (Command.Mail faction pass.now text.now) campaign.new.value conn.new) }
+    ensures err { OnErr result (GivesUp S.Store world.now campaign.old.value conn.old (Command.Mail faction pass.now text.now) conn.new) }
+    ensures cause { IfErr result (λ fault. HasCause S.Store (OfCommand world.now campaign.old.value (Command.Mail faction pass.now text.now)) conn.old conn.new (of_writing fault)) }
     ensures leaves { LeavesIdle S.Store conn.old conn.new }
     ensures unmarked { campaign.old.marks ≡ no_marks → OnOk result (campaign.new.marks ≡ no_marks) }
 {
@@ -169,7 +169,7 @@ fn told(
     faction: u32,
     pass: &Sequence<u8>,
 ) -> Result<Answer, AllocError>
-    ensures step { IfOk result (λ answer. step world.now campaign.now.what (Command.Report faction pass.now) ≡ (campaign.now.what, answer)) }
+    ensures step { IfOk result (λ answer. step world.now campaign.now.value (Command.Report faction pass.now) ≡ (campaign.now.value, answer)) }
     ensures sound { IfOk result IsSound }
 {
     if let Err(refusal) = identified(campaign, faction, pass) {
@@ -190,11 +190,11 @@ pub(crate) fn answered<S: Alter>(
     conn: &mut Connection<S>,
     command: &Command,
 ) -> Result<Answer, WriteFault>
-    requires good { IsGood world.now campaign.old.what }
+    requires good { IsGood world.now campaign.old.value }
     requires idle { conn.old.in_transaction ≡ false }
-    ensures ok { IfOk result (Answers S.Store world.now campaign.old.what conn.old command.now campaign.new.what conn.new) }
-    ensures err { OnErr result (GivesUp S.Store world.now campaign.old.what conn.old command.now conn.new) }
-    ensures cause { IfErr result (λ fault. HasCause S.Store (OfCommand world.now campaign.old.what command.now) conn.old conn.new (of_writing fault)) }
+    ensures ok { IfOk result (Answers S.Store world.now campaign.old.value conn.old command.now campaign.new.value conn.new) }
+    ensures err { OnErr result (GivesUp S.Store world.now campaign.old.value conn.old command.now conn.new) }
+    ensures cause { IfErr result (λ fault. HasCause S.Store (OfCommand world.now campaign.old.value command.now) conn.old conn.new (of_writing fault)) }
     ensures leaves { LeavesIdle S.Store conn.old conn.new }
     ensures unmarked { campaign.old.marks ≡ no_marks → OnOk result (campaign.new.marks ≡ no_marks) }
 {

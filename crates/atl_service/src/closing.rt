@@ -54,8 +54,8 @@ fn read_kept(alloc: Global, world: &World, text: &[u8]) -> Result<Mailing, Alloc
 
 /// Reads the mail of a good campaign.
 fn read_mail(alloc: Global, world: &World, campaign: &Campaign) -> Result<ReadMail, AllocError>
-    requires { IsGood world.now campaign.now.what }
-    ensures { IfOk result (HasRead world.now campaign.now.what) }
+    requires { IsGood world.now campaign.now.value }
+    ensures { IfOk result (HasRead world.now campaign.now.value) }
 {
     let mut mailings = Vec::new(alloc);
     let mut faults = Numbered::new(alloc);
@@ -76,12 +76,12 @@ fn turn_month(
     campaign: &mut Campaign,
     words: &[u32],
 ) -> Result<Told, AllocError>
-    requires good { IsGood world.now campaign.old.what }
-    requires month { campaign.old.what.month < last_month }
+    requires good { IsGood world.now campaign.old.value }
+    requires month { campaign.old.value.month < last_month }
     requires words { length words.now ≡ map.len world.now.regions }
-    ensures told { IfOk result (λ told. told_to_all world.now campaign.new.what told ≡ closed world.now campaign.old.what words.now) }
-    ensures there { IfOk result (λ told. AreThere campaign.new.what told.factions.items) }
-    ensures good { OnOk result (IsGood world.now campaign.new.what) }
+    ensures told { IfOk result (λ told. told_to_all world.now campaign.new.value told ≡ closed world.now campaign.old.value words.now) }
+    ensures there { IfOk result (λ told. AreThere campaign.new.value told.factions.items) }
+    ensures good { OnOk result (IsGood world.now campaign.new.value) }
     ensures marks { OnOk result (MarksChanges campaign.old campaign.new) }
 {
     let ReadMail { mailings, faults } = read_mail(alloc, world, campaign)?;
@@ -107,9 +107,9 @@ fn allowed(
     pass: &Sequence<u8>,
     words: &Sequence<u32>,
 ) -> Result<(), Refusal>
-    requires good { IsGood world.now campaign.now.what }
-    ensures ok { OnOk result (MayClose world.now campaign.now.what month pass.now words.now) }
-    ensures err { IfErr result (λ why. step world.now campaign.now.what (command.Close month pass.now words.now) ≡ (campaign.now.what, Answer.Refused why)) }
+    requires good { IsGood world.now campaign.now.value }
+    ensures ok { OnOk result (MayClose world.now campaign.now.value month pass.now words.now) }
+    ensures err { IfErr result (λ why. step world.now campaign.now.value (command.Close month pass.now words.now) ≡ (campaign.now.value, Answer.Refused why)) }
 {
     if campaign.pass().as_bytes() != pass.as_slice() {
         return Err(Refusal::WrongPass);
@@ -136,11 +136,11 @@ pub(crate) fn close<S: Alter>(
     pass: &Sequence<u8>,
     words: &Sequence<u32>,
 ) -> Result<Answer, WriteFault>
-    requires good { IsGood world.now campaign.old.what }
+    requires good { IsGood world.now campaign.old.value }
     requires idle { conn.old.in_transaction ≡ false }
-    ensures ok { IfOk result (Answers S.Store world.now campaign.old.what conn.old (command.Close month pass.now words.now) campaign.new.what conn.new) }
-    ensures err { OnErr result (GivesUp S.Store world.now campaign.old.what conn.old (command.Close month pass.now words.now) conn.new) }
-    ensures cause { IfErr result (λ fault. HasCause S.Store (OfCommand world.now campaign.old.what (command.Close month pass.now words.now)) conn.old conn.new (of_writing fault)) }
+    ensures ok { IfOk result (Answers S.Store world.now campaign.old.value conn.old (command.Close month pass.now words.now) campaign.new.value conn.new) }
+    ensures err { OnErr result (GivesUp S.Store world.now campaign.old.value conn.old (command.Close month pass.now words.now) conn.new) }
+    ensures cause { IfErr result (λ fault. HasCause S.Store (OfCommand world.now campaign.old.value (command.Close month pass.now words.now)) conn.old conn.new (of_writing fault)) }
     ensures leaves { LeavesIdle S.Store conn.old conn.new }
     ensures unmarked { campaign.old.marks ≡ no_marks → OnOk result (campaign.new.marks ≡ no_marks) }
 {

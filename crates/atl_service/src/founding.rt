@@ -15,9 +15,9 @@ pub(crate) fn prepared(
     world_text: &str,
     pass: &[u8],
 ) -> Result<(World, Campaign), Cause>
-    ensures ok { IfOk result (λ made. Prepares world_text.now pass.now made.0 made.1.what) }
-    ensures good { IfOk result (λ made. IsGood made.0 made.1.what) }
-    ensures things { IfOk result (λ made. length made.1.what.books ≤ most_things) }
+    ensures ok { IfOk result (λ made. Prepares world_text.now pass.now made.0 made.1.value) }
+    ensures good { IfOk result (λ made. IsGood made.0 made.1.value) }
+    ensures things { IfOk result (λ made. length made.1.value.books ≤ most_things) }
     ensures err { IfErr result (λ why. (is_there : Bool) → IsCause world_text.now pass.now is_there why) }
 {
     let world = read_old_world(alloc, world_text)?;

@@ -39,8 +39,8 @@ fn store_seen(
     faults: &[FaultyLine],
     events: &[Event],
 ) -> Result<(), AllocError>
-    requires { AreSites campaign.old.what.structures sites.now }
-    ensures ok { OnOk result (campaign.new.what ≡ reported_with world.now campaign.old.what faction faults.now events.now) }
+    requires { AreSites campaign.old.value.structures sites.now }
+    ensures ok { OnOk result (campaign.new.value ≡ reported_with world.now campaign.old.value faction faults.now events.now) }
     ensures marks { OnOk result (campaign.new.marks ≡ mark_report campaign.old faction) }
     ensures err { OnErr result (campaign.new ≡ campaign.old) }
 {
@@ -57,7 +57,7 @@ pub(crate) fn store_report(
     campaign: &mut Campaign,
     faction: u32,
 ) -> Result<(), AllocError>
-    ensures ok { OnOk result (campaign.new.what ≡ reported_with world.now campaign.old.what faction [] []) }
+    ensures ok { OnOk result (campaign.new.value ≡ reported_with world.now campaign.old.value faction [] []) }
     ensures marks { OnOk result (campaign.new.marks ≡ mark_report campaign.old faction) }
     ensures err { OnErr result (campaign.new ≡ campaign.old) }
 {
@@ -75,9 +75,9 @@ fn report_to(
     told: &Told,
     sorted: &Numbered<Sequence<Event>>,
 ) -> Result<(), AllocError>
-    requires sites { AreSites campaign.old.what.structures sites.now }
+    requires sites { AreSites campaign.old.value.structures sites.now }
     requires sorted { AreSorted told.now.events.items sorted.now }
-    ensures what { OnOk result (campaign.new.what ≡ reported_to world.now (λ n. unwrap_or (map.get told.now.faults n) []) told.now.events.items campaign.old.what faction) }
+    ensures what { OnOk result (campaign.new.value ≡ reported_to world.now (λ n. unwrap_or (map.get told.now.faults n) []) told.now.events.items campaign.old.value faction) }
     ensures marks { OnOk result (MarksChanges campaign.old campaign.new) }
 {
     let faults = listed(&told.faults, faction);
@@ -94,9 +94,9 @@ fn report_to_each(
     told: &Told,
     sorted: &Numbered<Sequence<Event>>,
 ) -> Result<(), AllocError>
-    requires sites { AreSites campaign.old.what.structures sites.now }
+    requires sites { AreSites campaign.old.value.structures sites.now }
     requires sorted { AreSorted told.now.events.items sorted.now }
-    ensures what { OnOk result (campaign.new.what ≡ told_to_all world.now campaign.old.what told.now) }
+    ensures what { OnOk result (campaign.new.value ≡ told_to_all world.now campaign.old.value told.now) }
     ensures marks { OnOk result (MarksChanges campaign.old campaign.new) }
 {
     for faction in told.factions.iter() {
@@ -113,7 +113,7 @@ pub(crate) fn report_to_all(
     campaign: &mut Campaign,
     told: &Told,
 ) -> Result<(), AllocError>
-    ensures what { OnOk result (campaign.new.what ≡ told_to_all world.now campaign.old.what told.now) }
+    ensures what { OnOk result (campaign.new.value ≡ told_to_all world.now campaign.old.value told.now) }
     ensures marks { OnOk result (MarksChanges campaign.old campaign.new) }
 {
     let sites = sites_of(alloc, campaign)?;

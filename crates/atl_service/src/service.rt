@@ -38,13 +38,13 @@ impl<S: Alter + Drop> Drop for Service<S> {
 
 impl<S: Alter> Model for Service<S> {
     ghost use Rattle.std.specs.Prelude.{Some, None, cond};
-    ghost use Rattle.atl_service.specs.ServiceState.{ServiceState, service_code, IsService};
+    ghost use Rattle.atl_service.specs.Service.{ServiceValue, service_code, IsService};
 
-    ghost Value = { ServiceState S };
+    ghost Value = { ServiceValue S };
 
     ghost coded = { service_code S.code };
 
-    ghost view = { λ a. record { conn = a.conn; world = a.world; campaign = cond a.is_open (Some a.campaign.what) None } };
+    ghost view = { λ a. record { conn = a.conn; world = a.world; campaign = cond a.is_open (Some a.campaign.value) None } };
 
     ghost invariant = { λ a. IsService S.Store a.conn a.world a.campaign a.is_open };
 }
@@ -53,7 +53,7 @@ impl<S: Alter> Service<S> {
     ghost use Rattle.atl_state.specs.Good.{IsGood};
     ghost use Rattle.atl_state.specs.Marks.{no_marks};
     ghost use Rattle.atl_store.specs.Keeps.{HoldsCampaign, IsLater, SparesOthers};
-    ghost use Rattle.atl_service.specs.ServiceState.{text_in};
+    ghost use Rattle.atl_service.specs.Service.{text_in};
     ghost use Rattle.atl_service.specs.Runs.{Runs, RunsAll, HeadlineAt};
 
     /// Runs one command. A command that is refused, or answered with a report, changes nothing. Fault Store comes only where
@@ -104,7 +104,7 @@ impl<S: Alter> Service<S> {
 
     /// The campaign, while the service is open. Nothing of it is marked: all that changed has been written.
     pub fn campaign(&self) -> Option<&Campaign>
-        ensures value { option_map (λ c. c.what) (option_copied result) ≡ self.now.campaign }
+        ensures value { option_map (λ c. c.value) (option_copied result) ≡ self.now.campaign }
         ensures good { IfSome self.now.campaign (IsGood self.now.world) }
         ensures balances { IfSome self.now.campaign Balances }
         ensures unmarked { IfSome (option_copied result) (λ c. c.marks ≡ no_marks) }

@@ -6,12 +6,12 @@ use Rattle.std.proofs.lemmas.List.{get_or_past}
 use Rattle.std.proofs.lemmas.List.Sums.{sum_by-cons}
 use Rattle.std.specs.Ordering.{nat_cmp}
 use Rattle.std.specs.FinMap.{FinMap, entries}
-use Rattle.atl_tables.specs.Planet.{Planet}
+use Rattle.atl_tables.specs.Worlds.{WorldValue}
 use Rattle.atl_tables.specs.Sums.{sum_over}
 use Rattle.atl_state.specs.declared.books.Thing.TheVariants.{Money, People, Item}
 use Rattle.atl_state.specs.declared.records.Region.{Region}
 use Rattle.atl_state.specs.declared.records.Unit.{Unit}
-use Rattle.atl_state.specs.State.{State}
+use Rattle.atl_state.specs.Campaign.{CampaignValue}
 use Rattle.atl_state.specs.Held.{amount_of}
 use Rattle.atl_state.specs.Founding.{things_of}
 use Rattle.atl_state.specs.Totals.{held, kept, total, Balances}
@@ -34,7 +34,7 @@ none_kept i (e ∷ es) = (refl, none_kept i es)
 unheld : (items : FinMap nat_cmp ℕ) (count i : ℕ) → Every (λ k amount. k < count) items → count ≤ i → amount_of items i ≡ 0
 unheld items count i known l = ap (λ o. unwrap_or o 0) (free_from items i (λ there. let few = known i there.0 there.1 in omega (arith, few)))
 
-module _ (w : Planet) (c : State) (grid : IsGrid (things_of w) c.books) (known : Every (λ n u. Every (λ i amount. i < length w.items) u.holding.items) c.units) where
+module _ (w : WorldValue) (c : CampaignValue) (grid : IsGrid (things_of w) c.books) (known : Every (λ n u. Every (λ i amount. i < length w.items) u.holding.items) c.units) where
   unknown_total : (i : ℕ) → length w.items ≤ i → total c (Item i) ≡ 0
   unfolding total
   unknown_total i l =

@@ -6,7 +6,7 @@ use Rattle.std.specs.Cmp.{nat_cmp_total}
 use Rattle.std.specs.Ordering.{nat_cmp}
 use Rattle.std.specs.FinMap.{FinMap, get, insert, len, len-insert}
 use Rattle.atl_tables.specs.Names.{name_ok}
-use Rattle.atl_tables.specs.Planet.{Planet}
+use Rattle.atl_tables.specs.Worlds.{WorldValue}
 use Rattle.atl_tables.specs.ByNumber.{is_land_at, size_of}
 use Rattle.atl_state.specs.Covers.{MarksChanges}
 use Rattle.atl_state.specs.declared.books.Thing.{Thing}
@@ -14,7 +14,7 @@ use Rattle.atl_state.specs.declared.records.Structure.{Structure}
 use Rattle.atl_state.specs.Good.{AreAfloat, AreInRange, AreKnown, AreNumbered, AreOwned, Every, IsBuilt, IsOwned, IsSteady, IsThere, is_ship}
 use Rattle.atl_state.specs.Limits.{most_structures}
 use Rattle.atl_state.specs.Marking.{mark_structure_begun}
-use Rattle.atl_state.specs.State.{Marked, State, with_done, with_structure_begun}
+use Rattle.atl_state.specs.Campaign.{MarkedCampaign, CampaignValue, with_done, with_structure_begun}
 use Rattle.atl_state.specs.Totals.{total}
 use Rattle.atl_state.proofs.CoverLaws.{Row, Stays, Structures, Tells, apart_by, part_by_part, put_stays}
 use Rattle.atl_state.proofs.EveryLaws.{every-insert, get-insert_other, none_some}
@@ -23,7 +23,7 @@ use Rattle.atl_state.proofs.RegionLaws.{changed-known, get-insert_same, same_len
 -- ---- a structure more
 
 -- a structure that can be begun: on land, with a name and without an owner, and some of it is done
-pub record IsFresh (w : Planet) (c : State) (s : Structure) : Type 0 where
+pub record IsFresh (w : WorldValue) (c : CampaignValue) (s : Structure) : Type 0 where
   pub kind : s.kind < length w.kinds
   pub name : IsTrue (name_ok s.name)
   pub region : IsThere c.regions s.region
@@ -32,14 +32,14 @@ pub record IsFresh (w : Planet) (c : State) (s : Structure) : Type 0 where
   pub most : s.done ≤ size_of w s.kind
   pub ownerless : s.owner ≡ 0
 
-module _ (w : Planet) (c : State) (s : Structure) (fresh : IsFresh w c s) (room : c.next_structure ≤ most_structures) (old : IsSteady w c) where
+module _ (w : WorldValue) (c : CampaignValue) (s : Structure) (fresh : IsFresh w c s) (room : c.next_structure ≤ most_structures) (old : IsSteady w c) where
   abbrev next : ℕ
   next = c.next_structure
 
   abbrev structures : FinMap nat_cmp Structure
   structures = insert c.structures next s
 
-  abbrev pub raised : State
+  abbrev pub raised : CampaignValue
   raised = with_structure_begun c s
 
   free : get c.structures next ≡ None
@@ -139,25 +139,25 @@ module _ (w : Planet) (c : State) (s : Structure) (fresh : IsFresh w c s) (room 
   raised_there = get-insert_same c.structures next s
 
 -- what is marked
-pub marks-raised : (c : Marked) (s : Structure) → MarksChanges c (record { what = with_structure_begun c.what s; marks = mark_structure_begun c })
+pub marks-raised : (c : MarkedCampaign) (s : Structure) → MarksChanges c (record { value = with_structure_begun c.value s; marks = mark_structure_begun c })
 marks-raised c s =
-    let n = c.what.next_structure in
-    let next : Marked = record { what = with_structure_begun c.what s; marks = mark_structure_begun c } in
+    let n = c.value.next_structure in
+    let next : MarkedCampaign = record { value = with_structure_begun c.value s; marks = mark_structure_begun c } in
     part_by_part c next
     (λ p. elim p as (Stays c.marks next.marks) [ Structures ↦ put_stays c.marks.structures n | Row ↦ λ k h. refl | _ ↦ λ k h. h ])
-    (λ p. elim p as (Tells next.marks c.what next.what) [
-      | Structures ↦ λ k free. get-insert_other c.what.structures n k s (apart_by c.marks.structures n k free)
+    (λ p. elim p as (Tells next.marks c.value next.value) [
+      | Structures ↦ λ k free. get-insert_other c.value.structures n k s (apart_by c.marks.structures n k free)
       | Row ↦ λ k free. absurd (true≢false free)
       | _ ↦ λ k free. refl
     ])
 
 -- ---- more of a structure is done
 
-module _ (w : Planet) (c : State) (k : ℕ) (s : Structure) (done : ℕ) (is : get c.structures k ≡ Some s) where
+module _ (w : WorldValue) (c : CampaignValue) (k : ℕ) (s : Structure) (done : ℕ) (is : get c.structures k ≡ Some s) where
   abbrev further : Structure
   further = record s { done = done }
 
-  abbrev pub built : State
+  abbrev pub built : CampaignValue
   built = record c { structures = insert c.structures k further }
 
   pub built_is : with_done c k done ≡ built

@@ -2,7 +2,7 @@
 use Rattle.std.proofs.Common.{◌≡◌, ◌==◌, ℕ, ◌≤◌, ◌<◌, ◌+◌, ◌&&◌, length, Bool, true, false, cond, refl, sym, ap, subst, ◌∙◌, arith, inl, inr}
 use Rattle.std.specs.Bool.{Decides}
 use Rattle.std.proofs.lemmas.Bool.{and_parts, cases_eq, false≢true}
-use Rattle.atl_tables.specs.Planet.{Planet, IsWorld}
+use Rattle.atl_tables.specs.Worlds.{WorldValue, IsWorld}
 use Rattle.atl_state.specs.declared.checking.Rule.{Rule}
 use Rattle.atl_state.specs.declared.checking.Rule.TheVariants.{OneRow, Ranges, Names, Known, Next, Days, Gone, Owners, Water, Guards, Books, Mail}
 use Rattle.atl_state.specs.declared.parts.Parts.{Parts}
@@ -10,7 +10,7 @@ use Rattle.atl_state.specs.Checking.{rule_number, Keeps, KeepsBelow, IsFirstBrok
 use Rattle.std.specs.List.{list_all}
 use Rattle.atl_state.specs.Books.{IsGrid}
 use Rattle.atl_state.specs.Founding.{things_of}
-use Rattle.atl_state.specs.FromRows.{head_of, state_of}
+use Rattle.atl_state.specs.FromRows.{head_of, campaign_of}
 use Rattle.atl_state.specs.Good.{Every, IsThere, IsGood}
 use Rattle.atl_state.specs.RowRules.{head_in_range, people_in_range, structure_in_range, books_in_range, books_bound}
 use Rattle.atl_state.specs.Totals.{IsCountable}
@@ -34,7 +34,7 @@ from_one : (r : Rule) → 1 ≤ rule_number r
 from_one OneRow = omega arith
 from_one _ = omega arith
 
-module _ (w : Planet) (p : Parts) where
+module _ (w : WorldValue) (p : Parts) where
   pub below_first : KeepsBelow w p 1
   below_first r h = absurd (omega (arith, from_one r))
 
@@ -65,11 +65,11 @@ module _ (w : Planet) (p : Parts) where
   fewer k r h = k r (omega arith)
 
   -- rows that keep all rules are those of the campaign that they say, each once
-  pub checked-rows : IsWorld w → KeepsBelow w p 13 → AreRowsOf (state_of w p) p
+  pub checked-rows : IsWorld w → KeepsBelow w p 13 → AreRowsOf (campaign_of w p) p
   checked-rows world k = rows_said w p (rows_keep world (fewer k))
 
   -- and it is good
-  pub checked-good : IsWorld w → KeepsBelow w p 13 → IsGood w (state_of w p)
+  pub checked-good : IsWorld w → KeepsBelow w p 13 → IsGood w (campaign_of w p)
   checked-good world k =
       let rows = rows_keep world (fewer k) in
       let range = k Ranges (omega arith) in
@@ -97,16 +97,16 @@ module _ (w : Planet) (p : Parts) where
 
   -- ---- what judging the later rules asks
 
-  pub few-said : KeepsBelow w p 11 → IsCountable (state_of w p)
+  pub few-said : KeepsBelow w p 11 → IsCountable (campaign_of w p)
   few-said k = let range = AreInRange-said w p (k Ranges (omega arith)) in omega (arith, range.few_units, range.few_regions)
 
-  pub grid-said : KeepsBelow w p 11 → IsGrid (things_of w) (state_of w p).books
+  pub grid-said : KeepsBelow w p 11 → IsGrid (things_of w) (campaign_of w p).books
   grid-said k = (AreInRange-said w p (k Ranges (omega arith))).books
 
-  pub items-said : KeepsBelow w p 11 → Every (λ n u. Every (λ i amount. i < length w.items) u.holding.items) (state_of w p).units
+  pub items-said : KeepsBelow w p 11 → Every (λ n u. Every (λ i amount. i < length w.items) u.holding.items) (campaign_of w p).units
   items-said k n u is = ((k Known (omega arith)).0.units n u is).items
 
-  pub places-said : KeepsBelow w p 8 → Every (λ n u. IsThere (state_of w p).regions u.region) (state_of w p).units
+  pub places-said : KeepsBelow w p 8 → Every (λ n u. IsThere (campaign_of w p).regions u.region) (campaign_of w p).units
   places-said k n u is = ((k Known (omega arith)).0.units n u is).region
 
   pub people-said : KeepsBelow w p 4 → people_in_range p ≡ true

@@ -19,7 +19,7 @@ use Rattle.atl_state.specs.Books.{IsGrid, amount_in, thing_place}
 use Rattle.atl_state.specs.Covers.{Covers, StaysMarked, StayMarked, MarksChanges, bare, goods_under, own_row}
 use Rattle.atl_state.specs.Marking.{mark_amount, mark_faction, mark_region}
 use Rattle.atl_state.specs.Marks.{Marks, amount_number}
-use Rattle.atl_state.specs.State.{State, Marked, faction_changed, region_changed, with_amount}
+use Rattle.atl_state.specs.Campaign.{CampaignValue, MarkedCampaign, faction_changed, region_changed, with_amount}
 use Rattle.atl_state.proofs.EveryLaws.{get-insert_other}
 use Rattle.atl_state.proofs.RegionLaws.{amount-other}
 
@@ -45,7 +45,7 @@ stay-trans one two = record {
 }
 
 -- what the marks cover, and what marks that stay cover then, they cover together
-pub covers-trans : {m n : Marks} (a b c : State) → StayMarked m n → Covers m a b → Covers n b c → Covers n a c
+pub covers-trans : {m n : Marks} (a b c : CampaignValue) → StayMarked m n → Covers m a b → Covers n b c → Covers n a c
 covers-trans {m} {n} a b c stay one two = record {
   factions = λ k free. two.factions k free ∙ one.factions k (was_unmarked m.factions n.factions stay.factions k free);
   regions = λ k free. two.regions k free ∙ one.regions k (was_unmarked m.regions n.regions stay.regions k free);
@@ -58,8 +58,8 @@ covers-trans {m} {n} a b c stay one two = record {
   row = λ free. two.row free ∙ one.row (unmarked m.row n.row stay.row free);
 }
 
-pub marks-trans : (a b c : Marked) → MarksChanges a b → MarksChanges b c → MarksChanges a c
-marks-trans a b c one two = record { stay = stay-trans one.stay two.stay; covers = covers-trans a.what b.what c.what two.stay one.covers two.covers }
+pub marks-trans : (a b c : MarkedCampaign) → MarksChanges a b → MarksChanges b c → MarksChanges a c
+marks-trans a b c one two = record { stay = stay-trans one.stay two.stay; covers = covers-trans a.value b.value c.value two.stay one.covers two.covers }
 
 -- ---- one change at a time
 
@@ -131,7 +131,7 @@ Shown Goods = FinMap nat_cmp ℕ × FinMap nat_cmp ℕ
 Shown Books = ℤ
 Shown Row = ℕ × (List ℕ × (ℕ × (ℕ × ℕ)))
 
-abbrev pub shown : (p : Part) → State → Place p → Shown p
+abbrev pub shown : (p : Part) → CampaignValue → Place p → Shown p
 shown Factions c k = get c.factions k
 shown Regions c k = get c.regions k
 shown Structures c k = get c.structures k
@@ -146,10 +146,10 @@ shown Row c k = own_row c
 abbrev pub Stays : Marks → Marks → Part → Type 0
 Stays m n p = (k : Mark p) → is_marked p m k ≡ true → is_marked p n k ≡ true
 
-abbrev pub Tells : Marks → State → State → Part → Type 0
+abbrev pub Tells : Marks → CampaignValue → CampaignValue → Part → Type 0
 Tells m before after p = (k : Place p) → is_marked p m (mark_at p k) ≡ false → shown p after k ≡ shown p before k
 
-pub part_by_part : (a b : Marked) → ((p : Part) → Stays a.marks b.marks p) → ((p : Part) → Tells b.marks a.what b.what p) → MarksChanges a b
+pub part_by_part : (a b : MarkedCampaign) → ((p : Part) → Stays a.marks b.marks p) → ((p : Part) → Tells b.marks a.value b.value p) → MarksChanges a b
 part_by_part a b stays tells = record {
   stay = record { factions = stays Factions; regions = stays Regions; structures = stays Structures; mail = stays Mail; reports = stays Reports; units = stays Units; goods = stays Goods; books = stays Books; row = stays Row tt };
   covers = record {
@@ -165,7 +165,7 @@ part_by_part a b stays tells = record {
   };
 }
 
-pub marks-refl : (a : Marked) → MarksChanges a a
+pub marks-refl : (a : MarkedCampaign) → MarksChanges a a
 marks-refl a = part_by_part a a (λ p k h. h) (λ p k free. refl)
 
 -- what becomes of values and their marks, where the value under a number is changed and marked if it is there
@@ -178,42 +178,42 @@ changed_there {V} P f values marks n none some = by_value (get values n) refl
     by_value (Some v) is = some v is
 
 -- a faction that is changed and marked
-pub marks-faction : (f : Faction → Faction) (c : Marked) (n : ℕ) → MarksChanges c (record { what = faction_changed f c.what n; marks = mark_faction c n })
+pub marks-faction : (f : Faction → Faction) (c : MarkedCampaign) (n : ℕ) → MarksChanges c (record { value = faction_changed f c.value n; marks = mark_faction c n })
 marks-faction f c n =
-    let after : FinMap nat_cmp Faction → FinSet nat_cmp → Marked = λ m k. record { what = record c.what { factions = m }; marks = record c.marks { factions = k } } in
-    changed_there (λ m k. MarksChanges c (after m k)) f c.what.factions c.marks.factions n (marks-refl c) (λ v is.
-    let next = after (map.insert c.what.factions n (f v)) (insert c.marks.factions n) in
+    let after : FinMap nat_cmp Faction → FinSet nat_cmp → MarkedCampaign = λ m k. record { value = record c.value { factions = m }; marks = record c.marks { factions = k } } in
+    changed_there (λ m k. MarksChanges c (after m k)) f c.value.factions c.marks.factions n (marks-refl c) (λ v is.
+    let next = after (map.insert c.value.factions n (f v)) (insert c.marks.factions n) in
     part_by_part c next
     (λ p. elim p as (Stays c.marks next.marks) [ Factions ↦ put_stays c.marks.factions n | _ ↦ λ k h. h ])
-    (λ p. elim p as (Tells next.marks c.what next.what) [ Factions ↦ λ k free. get-insert_other c.what.factions n k (f v) (apart_by c.marks.factions n k free) | _ ↦ λ k free. refl ]))
+    (λ p. elim p as (Tells next.marks c.value next.value) [ Factions ↦ λ k free. get-insert_other c.value.factions n k (f v) (apart_by c.marks.factions n k free) | _ ↦ λ k free. refl ]))
 
 -- a region that is changed and marked
-pub marks-region : (f : Region → Region) (c : Marked) (n : ℕ) → MarksChanges c (record { what = region_changed f c.what n; marks = mark_region c n })
+pub marks-region : (f : Region → Region) (c : MarkedCampaign) (n : ℕ) → MarksChanges c (record { value = region_changed f c.value n; marks = mark_region c n })
 marks-region f c n =
-    let after : FinMap nat_cmp Region → FinSet nat_cmp → Marked = λ m k. record { what = record c.what { regions = m }; marks = record c.marks { regions = k } } in
-    changed_there (λ m k. MarksChanges c (after m k)) f c.what.regions c.marks.regions n (marks-refl c) (λ v is.
-    let next = after (map.insert c.what.regions n (f v)) (insert c.marks.regions n) in
+    let after : FinMap nat_cmp Region → FinSet nat_cmp → MarkedCampaign = λ m k. record { value = record c.value { regions = m }; marks = record c.marks { regions = k } } in
+    changed_there (λ m k. MarksChanges c (after m k)) f c.value.regions c.marks.regions n (marks-refl c) (λ v is.
+    let next = after (map.insert c.value.regions n (f v)) (insert c.marks.regions n) in
     part_by_part c next
     (λ p. elim p as (Stays c.marks next.marks) [ Regions ↦ put_stays c.marks.regions n | _ ↦ λ k h. h ])
-    (λ p. elim p as (Tells next.marks c.what next.what) [ Regions ↦ λ k free. get-insert_other c.what.regions n k (f v) (apart_by c.marks.regions n k free) | _ ↦ λ k free. refl ]))
+    (λ p. elim p as (Tells next.marks c.value next.value) [ Regions ↦ λ k free. get-insert_other c.value.regions n k (f v) (apart_by c.marks.regions n k free) | _ ↦ λ k free. refl ]))
 
 -- units that are as they were but for one number, which is marked with its goods
-pub marks-unit : (c : Marked) (units : FinMap nat_cmp Unit) (n : ℕ) → ((k : ℕ) → k ≢ n → get units k ≡ get c.what.units k)
-    → MarksChanges c (record { what = record c.what { units = units }; marks = record c.marks { units = insert c.marks.units n; goods = insert c.marks.goods n } })
+pub marks-unit : (c : MarkedCampaign) (units : FinMap nat_cmp Unit) (n : ℕ) → ((k : ℕ) → k ≢ n → get units k ≡ get c.value.units k)
+    → MarksChanges c (record { value = record c.value { units = units }; marks = record c.marks { units = insert c.marks.units n; goods = insert c.marks.goods n } })
 marks-unit c units n others =
-    let next : Marked = record { what = record c.what { units = units }; marks = record c.marks { units = insert c.marks.units n; goods = insert c.marks.goods n } } in
+    let next : MarkedCampaign = record { value = record c.value { units = units }; marks = record c.marks { units = insert c.marks.units n; goods = insert c.marks.goods n } } in
     part_by_part c next
     (λ p. elim p as (Stays c.marks next.marks) [ Units ↦ put_stays c.marks.units n | Goods ↦ put_stays c.marks.goods n | _ ↦ λ k h. h ])
-    (λ p. elim p as (Tells next.marks c.what next.what) [
+    (λ p. elim p as (Tells next.marks c.value next.value) [
       | Units ↦ λ k free. ap (option_map bare) (others k (apart_by c.marks.units n k free))
       | Goods ↦ λ k free. ap goods_under (others k (apart_by c.marks.goods n k free))
       | _ ↦ λ k free. refl
     ])
 
 -- an amount that is booked and marked
-pub marks-amount : (things : ℕ) (c : Marked) (f : Entry) (u : Thing) (z : ℤ) → IsGrid things c.what.books → thing_place u < things → MarksChanges c (record { what = with_amount c.what f u z; marks = mark_amount c f u })
+pub marks-amount : (things : ℕ) (c : MarkedCampaign) (f : Entry) (u : Thing) (z : ℤ) → IsGrid things c.value.books → thing_place u < things → MarksChanges c (record { value = with_amount c.value f u z; marks = mark_amount c f u })
 marks-amount things c f u z g h =
-    let next : Marked = record { what = with_amount c.what f u z; marks = mark_amount c f u } in
+    let next : MarkedCampaign = record { value = with_amount c.value f u z; marks = mark_amount c f u } in
     part_by_part c next
     (λ p. elim p as (Stays c.marks next.marks) [ Books ↦ put_stays c.marks.books (amount_number f u) | _ ↦ λ k h. h ])
-    (λ p. elim p as (Tells next.marks c.what next.what) [ Books ↦ λ k free. amount-other things c.what.books k.0 f k.1 u z g h (apart_by c.marks.books (amount_number f u) (amount_number k.0 k.1) free) | _ ↦ λ k free. refl ])
+    (λ p. elim p as (Tells next.marks c.value next.value) [ Books ↦ λ k free. amount-other things c.value.books k.0 f k.1 u z g h (apart_by c.marks.books (amount_number f u) (amount_number k.0 k.1) free) | _ ↦ λ k free. refl ])

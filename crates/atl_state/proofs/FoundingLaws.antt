@@ -8,7 +8,7 @@ use Rattle.std.proofs.lemmas.Bool.Decides.{nat_tests}
 use Rattle.std.specs.Ordering.{nat_cmp}
 use Rattle.std.specs.FinMap.{FinMap, entries, empty, get-empty, len-empty, len-entries}
 use Rattle.std.specs.FinSet as set
-use Rattle.atl_tables.specs.Planet.{Planet, IsWorld, IsRegionPlan}
+use Rattle.atl_tables.specs.Worlds.{WorldValue, IsWorld, IsRegionPlan}
 use Rattle.atl_tables.specs.Sums.{sum_over, mapped}
 use Rattle.atl_tables.proofs.MadeLaws.{entries-mapped}
 use Rattle.atl_tables.proofs.Maps.{entries-empty}
@@ -31,7 +31,7 @@ use Rattle.atl_state.specs.Limits.{entry_count, most_days}
 use Rattle.atl_state.specs.Totals.{total, Balances, held, kept}
 use Rattle.atl_state.specs.Founding.{founded_of, founded_region, things_of}
 use Rattle.atl_state.specs.Held.{IsHolding}
-use Rattle.atl_state.specs.State.{numbers_of}
+use Rattle.atl_state.specs.Campaign.{numbers_of}
 use Rattle.atl_state.specs.Good.{Every, IsThere, IsActive, IsRegion, AreInRange, AreAmountsWithin, AreNamed, IsPlaced, IsBuilt, AreKnown, IsNumbered, IsOwned, is_ship, IsAboard, guards, IsSteady, IsGood}
 use Rattle.atl_state.proofs.EveryLaws.{every-empty, every-mapped, there-mapped}
 use Rattle.atl_state.proofs.AmountMarkLaws.{none_marked}
@@ -74,7 +74,7 @@ held_people a p h = omega (arith, ints)
 held_items : (a b i m p : ℕ) → a ≡ 0 → b ≡ 0 → (2 + i == 0) ≡ false → (2 + i == 1) ≡ false → pos (a + b) ≡ cond (2 + i == 0) (pos m) (pos 0) +ℤ cond (2 + i == 1) (pos p) (pos 0)
 held_items a b i m p h g e f = ap (λ n. pos (n + b)) h ∙ ap (λ n. pos (0 + n)) g ∙ sym (ap (λ q. cond q (pos m) (pos 0) +ℤ cond (2 + i == 1) (pos p) (pos 0)) e ∙ ap (λ q. pos 0 +ℤ cond q (pos p) (pos 0)) f)
 
-pub founded-balances : (w : Planet) (pass : List ℕ) → Balances (founded_of w pass)
+pub founded-balances : (w : WorldValue) (pass : List ℕ) → Balances (founded_of w pass)
 unfolding founded_of total
 founded-balances w pass Money = held_money _ _ (nobody Money) ∙ sym (founding_booked (things_of w) _ _ (omega arith) Money)
 founded-balances w pass People = held_people _ _ (nobody People) ∙ sym (founding_booked (things_of w) _ _ (omega arith) People)
@@ -92,7 +92,7 @@ in_range p terrains items n plan = record { peasants = plan.peasants; money = pl
 numbered_none : {V : Type 0} → IsNumbered (empty {X = V} {R = nat_cmp}) 1
 numbered_none {V} = record { first = get-empty nat_cmp 0; count = ap (λ n. n + 1) (sym (len-empty nat_cmp V)); free = λ n _. get-empty nat_cmp n }
 
-module _ (w : Planet) (pass : List ℕ) (world : IsWorld w) where
+module _ (w : WorldValue) (pass : List ℕ) (world : IsWorld w) where
   abbrev regions : FinMap nat_cmp Region
   regions = mapped founded_region w.regions
 

@@ -9,7 +9,7 @@ use Rattle.std.proofs.lemmas.Bool.{cases_eq, and_parts, false≢true}
 use Rattle.std.proofs.lemmas.Bool.Decides.{nat_tests}
 use Rattle.std.proofs.lemmas.List.{get_or-set_same, get_or-set_other, length-set}
 use Rattle.atl_tables.specs.Limits.{most_amount, most_regions}
-use Rattle.atl_tables.specs.Planet.{Planet}
+use Rattle.atl_tables.specs.Worlds.{WorldValue}
 use Rattle.atl_tables.specs.ByNumber.{size_of}
 use Rattle.atl_orders.specs.Limits.{last_faction}
 use Rattle.atl_state.specs.declared.parts.Parts.{Parts}
@@ -22,7 +22,7 @@ use Rattle.atl_state.specs.declared.parts.StoredStructure.{StoredStructure}
 use Rattle.atl_state.specs.declared.parts.StoredBooks.{StoredBooks}
 use Rattle.atl_state.specs.Books.{no_amounts, IsGrid}
 use Rattle.atl_state.specs.Founding.{things_of}
-use Rattle.atl_state.specs.FromRows.{clamped, as_u32, as_u16, is_entry, put_rows, by_number, faction_of, region_of, structure_of, unit_of, with_amount, with_row, put_amounts, head_of, state_of}
+use Rattle.atl_state.specs.FromRows.{clamped, as_u32, as_u16, is_entry, put_rows, by_number, faction_of, region_of, structure_of, unit_of, with_amount, with_row, put_amounts, head_of, campaign_of}
 use Rattle.atl_state.specs.Good.{Every, IsRegion, AreInRange, HaveMen}
 use Rattle.atl_state.specs.Held.{IsHolding}
 use Rattle.atl_state.specs.Limits.{last_month, most_units, last_unit, men_limit, holding_limit, most_structures, entry_count, most_u32}
@@ -114,7 +114,7 @@ region_good r h =
     let parts = and_parts (is_from 0 most_amount r.peasants) (is_from 0 most_amount r.money) h in
     record { peasants = (in_range 0 most_amount most_u32 r.peasants (omega arith) parts.0).1; money = (in_range 0 most_amount most_u32 r.money (omega arith) parts.1).1 }
 
-structure_good : (w : Planet) (r : StoredStructure) → structure_in_range w r ≡ true → (1 ≤ (structure_of r).done) × ((structure_of r).done ≤ size_of w (structure_of r).kind)
+structure_good : (w : WorldValue) (r : StoredStructure) → structure_in_range w r ≡ true → (1 ≤ (structure_of r).done) × ((structure_of r).done ≤ size_of w (structure_of r).kind)
 structure_good w r h =
     let size = size_of w (as_u16 r.kind) in
     in_range 1 size most_u32 r.done (omega arith) (and_parts (is_from 1 most_structures r.number) (is_from 1 size r.done) h).1
@@ -146,7 +146,7 @@ unit_good has r all h =
       },
     )
 
-pub record NumberRanges (w : Planet) (p : Parts) : Type 0 where
+pub record NumberRanges (w : WorldValue) (p : Parts) : Type 0 where
   pub head : head_in_range (head_of p) ≡ true
   pub factions : list_all faction_in_range p.factions ≡ true
   pub regions : list_all region_in_range p.regions ≡ true
@@ -155,7 +155,7 @@ pub record NumberRanges (w : Planet) (p : Parts) : Type 0 where
   pub structures : list_all (structure_in_range w) p.structures ≡ true
   pub books : list_all (books_in_range (books_bound p)) p.books ≡ true
 
-pub number_ranges : (w : Planet) (p : Parts) → numbers_in_range w p ≡ true → NumberRanges w p
+pub number_ranges : (w : WorldValue) (p : Parts) → numbers_in_range w p ≡ true → NumberRanges w p
 number_ranges w p h =
     let head = head_in_range (head_of p) in
     let people = people_in_range p in
@@ -207,15 +207,15 @@ counts p h =
     let inner = and_parts factions regions middle.0 in
     record { factions = from_le _ _ inner.0; regions = from_le _ _ inner.1; units = from_le _ _ middle.1; structures = from_le _ _ outer.1 }
 
-module _ (w : Planet) (p : Parts) (h : AreRowsInRange w p) where
-  pub HaveMen-said : HaveMen (state_of w p)
-  unfolding state_of
+module _ (w : WorldValue) (p : Parts) (h : AreRowsInRange w p) where
+  pub HaveMen-said : HaveMen (campaign_of w p)
+  unfolding campaign_of
   HaveMen-said =
       let ranges = number_ranges w p h.numbers in
       by_number-every (λ r. as_u32 r.number) (unit_of p.has) (λ n u. 1 ≤ u.holding.men) unit_in_range (λ r good. (in_range 1 men_limit most_u32 r.men (omega arith) (unit_ranges r good).men).0) p.units ranges.units
 
-  pub AreInRange-said : AreInRange w (state_of w p)
-  unfolding state_of
+  pub AreInRange-said : AreInRange w (campaign_of w p)
+  unfolding campaign_of
   AreInRange-said =
       let ranges = number_ranges w p h.numbers in
       let head = head_ranges (head_of p) ranges.head in

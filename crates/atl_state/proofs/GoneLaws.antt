@@ -4,14 +4,14 @@ use Rattle.std.specs.Prelude.{IsTrue}
 use Rattle.std.specs.Ordering.{nat_cmp}
 use Rattle.std.specs.FinMap.{FinMap, get, insert, len}
 use Rattle.atl_tables.specs.Names.{name_ok, pass_ok}
-use Rattle.atl_tables.specs.Planet.{Planet}
+use Rattle.atl_tables.specs.Worlds.{WorldValue}
 use Rattle.atl_tables.specs.Sums.{changed_at}
 use Rattle.atl_state.specs.Covers.{MarksChanges}
 use Rattle.atl_state.specs.declared.books.Thing.{Thing}
 use Rattle.atl_state.specs.declared.records.Faction.{Faction}
 use Rattle.atl_state.specs.Good.{AreInRange, AreKnown, AreNamed, AreNumbered, Every, IsSteady, IsThere}
 use Rattle.atl_state.specs.Marking.{mark_faction}
-use Rattle.atl_state.specs.State.{Marked, State, numbers_of, with_gone}
+use Rattle.atl_state.specs.Campaign.{MarkedCampaign, CampaignValue, numbers_of, with_gone}
 use Rattle.atl_state.specs.Totals.{total}
 use Rattle.atl_state.proofs.CoverLaws.{marks-faction}
 use Rattle.atl_state.proofs.EveryLaws.{every-insert, get-insert_other, none_some, there-insert}
@@ -20,11 +20,11 @@ use Rattle.atl_state.proofs.RegionLaws.{changed-known, get-insert_same, same_len
 abbrev pub as_gone : Faction → Faction
 as_gone f = record f { gone = true }
 
-module _ (c : State) (n : ℕ) (x : Faction) (is : get c.factions n ≡ Some x) where
+module _ (c : CampaignValue) (n : ℕ) (x : Faction) (is : get c.factions n ≡ Some x) where
   abbrev factions : FinMap nat_cmp Faction
   factions = insert c.factions n (as_gone x)
 
-  abbrev left : State
+  abbrev left : CampaignValue
   left = record c { factions = factions }
 
   free_apart : (k : ℕ) → get c.factions k ≡ None → k ≢ n
@@ -36,7 +36,7 @@ module _ (c : State) (n : ℕ) (x : Faction) (is : get c.factions n ≡ Some x) 
   there : (k : ℕ) → IsThere c.factions k → IsThere factions k
   there k h = there-insert c.factions n k (as_gone x) h
 
-  numbers_kept : (w : Planet) → AreInRange w c → AreInRange w left
+  numbers_kept : (w : WorldValue) → AreInRange w c → AreInRange w left
   numbers_kept w old = record {
     month = old.month;
     few_factions = omega (arith, same_len c.factions n x (as_gone x) is, old.few_factions);
@@ -66,7 +66,7 @@ module _ (c : State) (n : ℕ) (x : Faction) (is : get c.factions n ≡ Some x) 
     structures = old.structures;
   }
 
-  known_kept : (w : Planet) → AreKnown w c → AreKnown w left
+  known_kept : (w : WorldValue) → AreKnown w c → AreKnown w left
   known_kept w old = record {
     regions = old.regions;
     units = λ k u here. let p = old.units k u here in record { faction = there u.faction p.faction; region = p.region; structure = p.structure; items = p.items; skills = p.skills };
@@ -82,7 +82,7 @@ module _ (c : State) (n : ℕ) (x : Faction) (is : get c.factions n ≡ Some x) 
     units = old.units;
   }
 
-  steady_gone : (w : Planet) → numbers_of n c.units ≡ [] → IsSteady w c → IsSteady w left
+  steady_gone : (w : WorldValue) → numbers_of n c.units ≡ [] → IsSteady w c → IsSteady w left
   steady_gone w none old = record {
     numbers = numbers_kept w old.numbers;
     names = names_kept old.names;
@@ -98,33 +98,33 @@ module _ (c : State) (n : ℕ) (x : Faction) (is : get c.factions n ≡ Some x) 
   gone-known : with_gone c n ≡ left
   gone-known = ap (λ m. record c { factions = m }) (changed-known as_gone c.factions n x is)
 
-  pub steady-gone : (w : Planet) → numbers_of n c.units ≡ [] → IsSteady w c → IsSteady w (with_gone c n)
+  pub steady-gone : (w : WorldValue) → numbers_of n c.units ≡ [] → IsSteady w c → IsSteady w (with_gone c n)
   steady-gone w none old = subst (IsSteady w) (sym gone-known) (steady_gone w none old)
 
   -- no faction comes, and none is removed
   pub count-gone : len (with_gone c n).factions ≡ len c.factions
-  count-gone = ap (λ (d : State). len d.factions) gone-known ∙ same_len c.factions n x (as_gone x) is
+  count-gone = ap (λ (d : CampaignValue). len d.factions) gone-known ∙ same_len c.factions n x (as_gone x) is
 
   was_there : (k : ℕ) → IsThere factions k → IsThere c.factions k
   was_there k (f, here) = every-insert (λ k f. IsThere c.factions k) c.factions n (as_gone x) (x, is) (λ k f here. (f, here)) k f here
 
   pub known-gone : (k : ℕ) → IsThere (with_gone c n).factions k → IsThere c.factions k
-  known-gone k h = was_there k (subst (λ (d : State). IsThere d.factions k) gone-known h)
+  known-gone k h = was_there k (subst (λ (d : CampaignValue). IsThere d.factions k) gone-known h)
 
   pub get-gone : get (with_gone c n).factions n ≡ Some (as_gone x)
-  get-gone = ap (λ (d : State). get d.factions n) gone-known ∙ get-insert_same c.factions n (as_gone x)
+  get-gone = ap (λ (d : CampaignValue). get d.factions n) gone-known ∙ get-insert_same c.factions n (as_gone x)
 
   pub get-gone_other : (k : ℕ) → k ≢ n → get (with_gone c n).factions k ≡ get c.factions k
-  get-gone_other k apart = ap (λ (d : State). get d.factions k) gone-known ∙ get-insert_other c.factions n k (as_gone x) apart
+  get-gone_other k apart = ap (λ (d : CampaignValue). get d.factions k) gone-known ∙ get-insert_other c.factions n k (as_gone x) apart
 
 -- where there is no such faction nothing changes
-pub none-gone : (c : State) (n : ℕ) → get c.factions n ≡ None → with_gone c n ≡ c
+pub none-gone : (c : CampaignValue) (n : ℕ) → get c.factions n ≡ None → with_gone c n ≡ c
 none-gone c n is = ap (λ o. record c { factions = changed_at as_gone c.factions n o }) is
 
-pub total-gone : (c : State) (n : ℕ) (t : Thing) → total (with_gone c n) t ≡ total c t
+pub total-gone : (c : CampaignValue) (n : ℕ) (t : Thing) → total (with_gone c n) t ≡ total c t
 unfolding total
 total-gone c n t = refl
 
 -- a faction that left, and is marked
-pub marks-gone_faction : (c : Marked) (n : ℕ) → MarksChanges c (record { what = with_gone c.what n; marks = mark_faction c n })
+pub marks-gone_faction : (c : MarkedCampaign) (n : ℕ) → MarksChanges c (record { value = with_gone c.value n; marks = mark_faction c n })
 marks-gone_faction = marks-faction as_gone

@@ -4,12 +4,12 @@ use Rattle.std.proofs.lemmas.Bool.Decides.{nat_tests}
 use Rattle.std.specs.Cmp.Derive.{both_true}
 use Rattle.std.specs.Ordering.{nat_cmp}
 use Rattle.std.specs.FinMap.{FinMap, insert}
-use Rattle.atl_tables.specs.Planet.{Planet}
+use Rattle.atl_tables.specs.Worlds.{WorldValue}
 use Rattle.atl_orders.specs.Mailing.{IsMailingOf}
 use Rattle.atl_state.specs.declared.records.JoinFault.{JoinFault}
 use Rattle.atl_state.specs.declared.records.JoinFault.TheVariants.{NameTaken, Full}
 use Rattle.atl_state.specs.Limits.{last_month}
-use Rattle.atl_state.specs.State.{State, with_mail, with_report}
+use Rattle.atl_state.specs.Campaign.{CampaignValue, with_mail, with_report}
 use Rattle.atl_state.specs.Totals.{total}
 use Rattle.atl_state.specs.Good.{Every, IsThere, IsActive, AreInRange, AreNamed, IsPlaced, IsBuilt, AreKnown, AreOwned, IsSteady, IsEarly, IsSound, IsGood}
 use Rattle.atl_state.specs.Joining.{joined, join_of, name_taken, is_full, new_faction}
@@ -17,9 +17,9 @@ use Rattle.atl_state.proofs.EveryLaws.{every-insert, there-new, there-insert}
 
 -- ---- mail and reports
 
-module _ (w : Planet) (c : State) (month : ℕ) (mail reports : FinMap nat_cmp (List ℕ)) where
+module _ (w : WorldValue) (c : CampaignValue) (month : ℕ) (mail reports : FinMap nat_cmp (List ℕ)) where
   -- the campaign in another month, with other mail and other reports
-  abbrev posted : State
+  abbrev posted : CampaignValue
   posted = record c { month = month; mail = mail; reports = reports }
 
   posted-numbers : month ≤ last_month → AreInRange w c → AreInRange w posted
@@ -68,7 +68,7 @@ module _ (w : Planet) (c : State) (month : ℕ) (mail reports : FinMap nat_cmp (
     }
 
 -- what is so of a sound campaign is so of it with other mail and other reports
-posted-sound : (w : Planet) (c : State) (mail reports : FinMap nat_cmp (List ℕ)) → Every (λ n text. IsThere c.factions n) mail → Every (λ n text. IsThere c.factions n) reports
+posted-sound : (w : WorldValue) (c : CampaignValue) (mail reports : FinMap nat_cmp (List ℕ)) → Every (λ n text. IsThere c.factions n) mail → Every (λ n text. IsThere c.factions n) reports
     → Every (λ n text. IsMailingOf n text × IsActive c n) mail → IsSound w c → IsSound w (record c { mail = mail; reports = reports })
 unfolding total
 posted-sound w c mail reports senders readers sent old = record {
@@ -81,19 +81,19 @@ posted-sound w c mail reports senders readers sent old = record {
 }
 
 -- a report of a faction that is there keeps a campaign sound
-pub IsSound-with_report : (w : Planet) (c : State) (faction : ℕ) (text : List ℕ) → IsThere c.factions faction → IsSound w c → IsSound w (with_report c faction text)
+pub IsSound-with_report : (w : WorldValue) (c : CampaignValue) (faction : ℕ) (text : List ℕ) → IsThere c.factions faction → IsSound w c → IsSound w (with_report c faction text)
 IsSound-with_report w c faction text there old =
     let known = old.steady.known in
     posted-sound w c c.mail (insert c.reports faction text) known.mail (every-insert (λ n text. IsThere c.factions n) c.reports faction text there known.reports) old.mail old
 
-pub IsGood-with_report : (w : Planet) (c : State) (faction : ℕ) (text : List ℕ) → IsThere c.factions faction → IsGood w c → IsGood w (with_report c faction text)
+pub IsGood-with_report : (w : WorldValue) (c : CampaignValue) (faction : ℕ) (text : List ℕ) → IsThere c.factions faction → IsGood w c → IsGood w (with_report c faction text)
 IsGood-with_report w c faction text there good = record {
   sound = IsSound-with_report w c faction text there good.sound;
   reported = λ n f is. there-insert c.reports faction n text (good.reported n f is);
 }
 
 -- a mailing of a faction that is not gone keeps a campaign good
-pub IsGood-with_mail : (w : Planet) (c : State) (faction : ℕ) (text : List ℕ) → IsMailingOf faction text → IsActive c faction → IsGood w c → IsGood w (with_mail c faction text)
+pub IsGood-with_mail : (w : WorldValue) (c : CampaignValue) (faction : ℕ) (text : List ℕ) → IsMailingOf faction text → IsActive c faction → IsGood w c → IsGood w (with_mail c faction text)
 IsGood-with_mail w c faction text sent active good =
     let known = good.sound.steady.known in
     let (f, there, stays) = active in
@@ -104,18 +104,18 @@ IsGood-with_mail w c faction text sent active good =
     }
 
 -- where a faction was let in, it joined
-let_in : (taken full : Bool) (x y : State × (ℕ × ℕ)) → ◌≡◌ {A = Result (State × (ℕ × ℕ)) JoinFault} (cond taken (Err NameTaken) (cond full (Err Full) (Ok x))) (Ok y) → x ≡ y
+let_in : (taken full : Bool) (x y : CampaignValue × (ℕ × ℕ)) → ◌≡◌ {A = Result (CampaignValue × (ℕ × ℕ)) JoinFault} (cond taken (Err NameTaken) (cond full (Err Full) (Ok x))) (Ok y) → x ≡ y
 let_in true full x y e = cc
 let_in false true x y e = cc
 let_in false false x y e = cc
 
 -- a good campaign that a faction joined is good once the faction has its report
-pub IsGood-joined : (w : Planet) (name pass : List ℕ) (word : ℕ) (c d : State) (faction unit : ℕ) (text : List ℕ) → join_of w name pass word c ≡ Ok (d, (faction, unit)) → IsGood w c → IsSound w d → IsGood w (with_report d faction text)
+pub IsGood-joined : (w : WorldValue) (name pass : List ℕ) (word : ℕ) (c d : CampaignValue) (faction unit : ℕ) (text : List ℕ) → join_of w name pass word c ≡ Ok (d, (faction, unit)) → IsGood w c → IsSound w d → IsGood w (with_report d faction text)
 unfolding join_of joined
 IsGood-joined w name pass word c d faction unit text is good sound =
     let same = let_in (name_taken c name) (is_full c) (joined w name pass word c, (c.next_faction, c.next_unit)) (d, (faction, unit)) is in
     let member = new_faction c.next_faction name pass in
-    let whole : IsSound w d → IsGood w (with_report d faction text) = subst (λ (p : State × (ℕ × ℕ)). IsSound w p.0 → IsGood w (with_report p.0 p.1.0 text)) same (λ new. record {
+    let whole : IsSound w d → IsGood w (with_report d faction text) = subst (λ (p : CampaignValue × (ℕ × ℕ)). IsSound w p.0 → IsGood w (with_report p.0 p.1.0 text)) same (λ new. record {
       sound = IsSound-with_report w (joined w name pass word c) c.next_faction text (there-new c.factions c.next_faction member) new;
       reported = every-insert (λ n f. IsThere (insert c.reports c.next_faction text) n) c.factions c.next_faction member (there-new c.reports c.next_faction text) (λ n f is. there-insert c.reports c.next_faction n text (good.reported n f is));
     }) in
@@ -126,7 +126,7 @@ IsGood-joined w name pass word c d faction unit text is good sound =
 set_guards : (flag : Bool) (men : ℕ) → 1 ≤ men → flag ≡ true → (flag && nat_lt 0 men) ≡ true
 set_guards flag men h set = let some : nat_lt 0 men ≡ true = grind (arith, nat_tests) in both_true set some
 
-pub IsEarly-good : (w : Planet) (c : State) → IsGood w c → IsEarly w c
+pub IsEarly-good : (w : WorldValue) (c : CampaignValue) → IsGood w c → IsEarly w c
 IsEarly-good w c good =
     let sound = good.sound in
     record {

@@ -7,7 +7,7 @@ use Rattle.std.specs.Ordering.{nat_cmp}
 use Rattle.std.specs.FinMap.{FinMap, get, entries, len}
 use Rattle.std.proofs.lemmas.List.Sorted.{length_permutation}
 use Rattle.atl_tables.specs.Limits.{most_amount, last_region}
-use Rattle.atl_tables.specs.Planet.{Planet, IsWorld}
+use Rattle.atl_tables.specs.Worlds.{WorldValue, IsWorld}
 use Rattle.atl_tables.specs.ByNumber.{size_of}
 use Rattle.atl_orders.specs.Limits.{last_faction}
 use Rattle.atl_state.specs.declared.parts.Parts.{Parts}
@@ -19,13 +19,13 @@ use Rattle.atl_state.specs.declared.records.Structure.{Structure}
 use Rattle.atl_state.specs.declared.records.Unit.{Unit}
 use Rattle.atl_state.specs.Books.{no_amounts}
 use Rattle.atl_state.specs.Founding.{things_of}
-use Rattle.atl_state.specs.FromRows.{as_u32, as_u16, is_set, faction_of, region_of, structure_of, unit_of, by_number, put_amounts, things_had, no_head, head_of, state_of}
+use Rattle.atl_state.specs.FromRows.{as_u32, as_u16, is_set, faction_of, region_of, structure_of, unit_of, by_number, put_amounts, things_had, no_head, head_of, campaign_of}
 use Rattle.atl_state.specs.Good.{Every, IsThere, IsNumbered, IsGood}
 use Rattle.atl_state.specs.Held.{AreAmounts}
 use Rattle.atl_state.specs.Limits.{last_month, last_unit, men_limit, holding_limit, most_structures, most_days, most_u16, most_u32}
 use Rattle.atl_state.specs.RowRules.{one_key, HaveKeys}
 use Rattle.atl_state.specs.Rows.{flag, rows_by, head_row, faction_row, region_row, unit_row, structure_row, mail_row, report_row, has_rows, books_rows, rows_of, AreRowsOf}
-use Rattle.atl_state.specs.State.{State}
+use Rattle.atl_state.specs.Campaign.{CampaignValue}
 use Rattle.atl_state.proofs.AssemblyLaws.{min_small}
 use Rattle.atl_state.proofs.BackLaws.{each_permuted, read_whole, written_whole, map_back, rows_so, rows_apart, entries_rise, keys_permuted, apart_numbers}
 use Rattle.atl_state.proofs.BackBooksLaws.{books_back}
@@ -135,13 +135,13 @@ only_row x rows h = single x rows (length_permutation (x ∷ []) rows h) (each_p
 unit_small_enough : (u : Unit) → u.faction ≤ last_faction → u.region ≤ last_region → u.structure ≤ most_structures → u.holding.men ≤ men_limit → u.holding.money ≤ holding_limit → UnitFits u
 unit_small_enough u f r s m y = record { faction = omega (arith, f); region = omega (arith, r); structure = omega (arith, s); men = omega (arith, m); money = omega (arith, y) }
 
-structure_small_enough : (w : Planet) → IsWorld w → (s : Structure) → s.kind < length w.kinds → s.region ≤ last_region → s.done ≤ size_of w s.kind → s.owner ≤ last_unit → StructureFits s
+structure_small_enough : (w : WorldValue) → IsWorld w → (s : Structure) → s.kind < length w.kinds → s.region ≤ last_region → s.done ≤ size_of w s.kind → s.owner ≤ last_unit → StructureFits s
 structure_small_enough w world s k r d o =
     let kinds = world.few_kinds in
     let size = small_size w world s.kind in
     record { kind = omega (arith, k, kinds); region = omega (arith, r); done = omega (arith, d, size); owner = omega (arith, o) }
 
-few_goods : (w : Planet) → IsWorld w → (u : Unit) → Every (λ i a. i < length w.items) u.holding.items → Every (λ i a. i < length w.skills) u.holding.days → AreAmounts u.holding.items → u.holding.men ≤ men_limit
+few_goods : (w : WorldValue) → IsWorld w → (u : Unit) → Every (λ i a. i < length w.items) u.holding.items → Every (λ i a. i < length w.skills) u.holding.days → AreAmounts u.holding.items → u.holding.men ≤ men_limit
     → Every (λ i a. (1 ≤ a) × (a ≤ most_days * u.holding.men)) u.holding.days → (s : ℕ) → s < 2 → Every (λ i a. (i ≤ most_u32) × (1 ≤ a) × (a ≤ most_u32)) (goods_of s u)
 few_goods w world u items skills amounts men days zero l i a is =
     let few = world.few_items in
@@ -154,7 +154,7 @@ few_goods w world u items skills amounts men days (suc s) l i a is =
     let range = days i a is in
     (omega (arith, few, at), range.0, omega (arith, range.1, men))
 
-module _ (w : Planet) (world : IsWorld w) (c : State) (good : IsGood w c) where
+module _ (w : WorldValue) (world : IsWorld w) (c : CampaignValue) (good : IsGood w c) where
   pub few_factions : Every (λ n f. (1 ≤ n) × (n ≤ last_faction)) c.factions
   few_factions = few_numbered c.factions c.next_faction last_faction good.sound.steady.next.factions good.sound.steady.numbers.few_factions
 
@@ -309,8 +309,8 @@ module _ (w : Planet) (world : IsWorld w) (c : State) (good : IsGood w c) where
     next_structure_said = ap (λ (h : StoredHead). as_u32 h.next_structure) head_said ∙ read_whole c.next_structure (omega (arith, structure_next))
 
     -- the rows say the campaign
-    pub state_back : state_of w p ≡ c
-    unfolding state_of
+    pub state_back : campaign_of w p ≡ c
+    unfolding campaign_of
     state_back =
-        same_state (state_of w p) c month_said (ap (λ (h : StoredHead). h.pass) head_said) next_faction_said next_unit_said next_structure_said
+        same_state (campaign_of w p) c month_said (ap (λ (h : StoredHead). h.pass) head_said) next_faction_said next_unit_said next_structure_said
         factions_said regions_said units_said structures_said mail_said reports_said books_said

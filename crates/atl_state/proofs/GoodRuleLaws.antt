@@ -14,7 +14,7 @@ use Rattle.std.proofs.lemmas.Map.Text.{is_eq-slice_cmp}
 use Rattle.std.proofs.lemmas.Slice.Eq.{bytes_eq-Decides}
 use Rattle.atl_tables.specs.Limits.{most_amount, most_regions}
 use Rattle.atl_tables.specs.Names.{name_ok, pass_ok}
-use Rattle.atl_tables.specs.Planet.{Planet, IsWorld}
+use Rattle.atl_tables.specs.Worlds.{WorldValue, IsWorld}
 use Rattle.atl_tables.specs.ByNumber.{size_of}
 use Rattle.atl_orders.specs.Limits.{last_faction}
 use Rattle.atl_state.specs.declared.checking.CheckFault.{CheckFault}
@@ -29,12 +29,12 @@ use Rattle.atl_state.specs.Books.{entry_place, thing_at, IsWithin}
 use Rattle.atl_state.specs.Checking.{Keeps, Checks, GivesBack}
 use Rattle.atl_state.specs.Deciding.{EachOf, Differ}
 use Rattle.atl_state.specs.Founding.{things_of}
-use Rattle.atl_state.specs.FromRows.{as_u32, faction_of, region_of, structure_of, unit_of, head_of, state_of}
+use Rattle.atl_state.specs.FromRows.{as_u32, faction_of, region_of, structure_of, unit_of, head_of, campaign_of}
 use Rattle.atl_state.specs.Good.{AreAmountsWithin, AreKnown, AreNumbered, AreDays, GoneHaveNone, NoneAreGone, AreOwned, AreAfloat, AreOfOneFaction, guards, IsMail, AreReported, amount_bound, IsGood}
 use Rattle.atl_state.specs.Limits.{entry_count, holding_limit, last_month, last_unit, men_limit, most_in_joining, most_in_month, most_structures, most_units}
 use Rattle.atl_state.specs.RowRules.{is_from, is_one_head, is_within, head_in_range, faction_in_range, region_in_range, unit_in_range, has_in_range, structure_in_range, books_in_range, books_bound, are_few, AreKeyed, AreRowsInRange, faction_named, AreRowsNamed, is_of_unit, is_booked}
 use Rattle.atl_state.specs.Rows.{flag, rows_by, faction_row, region_row, unit_row, structure_row, mail_row, report_row, has_row, has_rows, books_rows, amount_at, is_zero, AreRowsOf}
-use Rattle.atl_state.specs.State.{State, Marked}
+use Rattle.atl_state.specs.Campaign.{CampaignValue, MarkedCampaign}
 use Rattle.atl_state.specs.Totals.{Balances}
 use Rattle.atl_state.proofs.BookLaws.{place_at}
 use Rattle.atl_state.proofs.EveryEntryLaws.{entry_at}
@@ -70,7 +70,7 @@ within_true bound (negsuc n) h = let most : suc n ≤ bound = omega (arith, ints
 
 -- ---- amounts
 
-amounts_within : (c : State) → AreAmountsWithin c → (e t : ℕ) → e < entry_count → IsWithin (amount_bound c) (amount_at c.books e t)
+amounts_within : (c : CampaignValue) → AreAmountsWithin c → (e t : ℕ) → e < entry_count → IsWithin (amount_bound c) (amount_at c.books e t)
 amounts_within c within e t l =
     let entry = entry_at e l in
     subst (λ k. IsWithin (amount_bound c) (amount_at c.books k t)) entry.1 (subst (λ k. IsWithin (amount_bound c) (amount_at c.books (entry_place entry.0) k)) (place_at t) (within entry.0 (thing_at t)))
@@ -95,8 +95,8 @@ named_apart (e ∷ es) h = (others_named e.1 es h.0, named_apart es h.1)
 text_symm : (a b : List ℕ) → same_text a b ≡ same_text b a
 text_symm = (eq_by_cmp_equiv nat_list_cmp_total).symm
 
-module _ (w : Planet) (world : IsWorld w) (c : State) (good : IsGood w c) (p : Parts) (rows : AreRowsOf c p) where
-  back : state_of w p ≡ c
+module _ (w : WorldValue) (world : IsWorld w) (c : CampaignValue) (good : IsGood w c) (p : Parts) (rows : AreRowsOf c p) where
+  back : campaign_of w p ≡ c
   back = row.state_back w world c good p rows
 
   one_row : is_one_head p.campaign ≡ true
@@ -224,7 +224,7 @@ module _ (w : Planet) (world : IsWorld w) (c : State) (good : IsGood w c) (p : P
       all_pass (is_booked w) (IsBooked (things_of w)) (λ r h. and_true _ _ h.named (lt_true (as_u32 r.thing) (things_of w) h.there)) p.books
       (all_booked (things_of w) (row.few_things w world c good p rows) c.books good.sound.steady.numbers.books p.books (row.books_listed w world c good p rows))
 
-  said : (P : State → Type 0) → P c → P (state_of w p)
+  said : (P : CampaignValue → Type 0) → P c → P (campaign_of w p)
   said P h = subst P (sym back) h
 
   -- every rule is kept
@@ -243,7 +243,7 @@ module _ (w : Planet) (world : IsWorld w) (c : State) (good : IsGood w c) (p : P
   keeps Mail = (said IsMail good.sound.mail, said AreReported good.reported)
 
 -- what checking answers to the rows of a good campaign
-pub gives_back : (w : Planet) → IsWorld w → (p : Parts) (r : Result Marked CheckFault) → Checks w p r → GivesBack w p r
-gives_back w world p (Ok m) h = λ c good rows. sym (row.state_back w world m.what h.good p h.rows) ∙ row.state_back w world c good p rows
+pub gives_back : (w : WorldValue) → IsWorld w → (p : Parts) (r : Result MarkedCampaign CheckFault) → Checks w p r → GivesBack w p r
+gives_back w world p (Ok m) h = λ c good rows. sym (row.state_back w world m.value h.good p h.rows) ∙ row.state_back w world c good p rows
 gives_back w world p (Err (Damaged r)) h = λ c good rows. h.broken (keeps w world c good p rows r)
 gives_back w world p (Err Memory) h = tt

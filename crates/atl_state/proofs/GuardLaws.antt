@@ -10,7 +10,7 @@ use Rattle.std.specs.FinMap.{FinMap, get, find, entries, get-entries, nat_cmp-Is
 use Rattle.atl_tables.specs.Sums.{numbers_where}
 use Rattle.atl_tables.proofs.SumLaws.{chosen-cons}
 use Rattle.atl_state.specs.declared.records.Unit.{Unit}
-use Rattle.atl_state.specs.State.{State, numbers_in}
+use Rattle.atl_state.specs.Campaign.{CampaignValue, numbers_in}
 use Rattle.atl_state.specs.Good.{Every, IsThere, AreOfOneFaction, guards}
 use Rattle.atl_state.specs.Deciding.{agree, guard_of, one_holder}
 use Rattle.atl_state.proofs.EveryLaws.{none_some, passes-listed}
@@ -100,20 +100,20 @@ module _ (faction : ℕ → Option ℕ) where
 
 -- ---- the guards of all regions
 
-guard_is : (c : State) (n : ℕ) (u : Unit) → get c.units n ≡ Some u → guards u ≡ true → guard_of c n ≡ Some u.faction
+guard_is : (c : CampaignValue) (n : ℕ) (u : Unit) → get c.units n ≡ Some u → guards u ≡ true → guard_of c n ≡ Some u.faction
 guard_is c n u is on = ap (option_and_then (λ (v : Unit). cond (guards v) (Some v.faction) None)) is ∙ ap (λ b. cond b (Some u.faction) None) on
 
 guarding : (b : Bool) (f x : ℕ) → cond b (Some f) None ≡ Some x → (b ≡ true) × (f ≡ x)
 guarding true f x e = (refl, same_value f x e)
 guarding false f x e = none_some x e
 
-is_guard : (c : State) (n x : ℕ) (u : Unit) → get c.units n ≡ Some u → guard_of c n ≡ Some x → (guards u ≡ true) × (u.faction ≡ x)
+is_guard : (c : CampaignValue) (n x : ℕ) (u : Unit) → get c.units n ≡ Some u → guard_of c n ≡ Some x → (guards u ≡ true) × (u.faction ≡ x)
 is_guard c n x u is e = guarding (guards u) u.faction x (sym (ap (option_and_then (λ (v : Unit). cond (guards v) (Some v.faction) None)) is) ∙ e)
 
-abbrev pub IsHeldByOne : State → ℕ → Type 0
+abbrev pub IsHeldByOne : CampaignValue → ℕ → Type 0
 IsHeldByOne c r = one_holder (guard_of c) None (numbers_in r c.units) ≡ true
 
-pub of_one_faction : (c : State) → Every (λ n u. IsThere c.regions u.region) c.units → Every (λ r x. IsHeldByOne c r) c.regions → AreOfOneFaction guards c
+pub of_one_faction : (c : CampaignValue) → Every (λ n u. IsThere c.regions u.region) c.units → Every (λ r x. IsHeldByOne c r) c.regions → AreOfOneFaction guards c
 of_one_faction c placed held n u is m v there on also same =
     let r = u.region in
     let (x, known) = placed n u is in
@@ -122,7 +122,7 @@ of_one_faction c placed held n u is m v there on also same =
     alike (guard_of c) (numbers_in r c.units) (held r x known) n m u.faction v.faction (listed (λ (w : Unit). w.region == r) c.units n u is (here.1 refl)) (listed (λ (w : Unit). w.region == r) c.units m v there (beside.1 (sym same)))
     (guard_is c n u is on) (guard_is c m v there also)
 
-pub held_by_one : (c : State) → AreOfOneFaction guards c → Every (λ r x. IsHeldByOne c r) c.regions
+pub held_by_one : (c : CampaignValue) → AreOfOneFaction guards c → Every (λ r x. IsHeldByOne c r) c.regions
 held_by_one c one r x known = hold (guard_of c) None (numbers_in r c.units) alike_here (λ n y z mine is e. none_some z e)
   where
     alike_here : Alike (guard_of c) (numbers_in r c.units)

@@ -4,18 +4,18 @@ use Rattle.std.specs.Prelude.{IsTrue, nat_lt}
 use Rattle.std.proofs.lemmas.Bool.{and_parts}
 use Rattle.std.specs.FinMap.{get, insert}
 use Rattle.atl_tables.specs.Names.{name_ok}
-use Rattle.atl_tables.specs.Planet.{Planet}
+use Rattle.atl_tables.specs.Worlds.{WorldValue}
 use Rattle.atl_tables.proofs.SumLaws.{numbers_where-insert_known}
 use Rattle.atl_state.specs.Limits.{most_days}
 use Rattle.atl_state.specs.declared.records.Unit.{Unit}
 use Rattle.atl_state.specs.Good.{AreOfOneFaction, Every, IsEarly, IsSteady, guards}
 use Rattle.atl_state.specs.Held.{Held, IsHolding}
-use Rattle.atl_state.specs.State.{State}
+use Rattle.atl_state.specs.Campaign.{CampaignValue}
 use Rattle.atl_state.proofs.EveryLaws.{every-insert}
 use Rattle.atl_state.proofs.HoldingLaws.{known_kept, next_kept, numbers_kept, of_one_faction_kept, owners_kept}
 
 -- What a unit of a campaign may hold: within the limits, and of what the world has.
-pub record MayHave (w : Planet) (h : Held) : Type 0 where
+pub record MayHave (w : WorldValue) (h : Held) : Type 0 where
   pub limits : IsHolding h
   pub name : IsTrue (name_ok h.name)
   pub items : Every (λ i amount. i < length w.items) h.items
@@ -23,16 +23,16 @@ pub record MayHave (w : Planet) (h : Held) : Type 0 where
   pub days : Every (λ s days. (1 ≤ days) × (days ≤ most_days * h.men)) h.days
 
 -- what a unit of a steady campaign holds
-pub may_have : (w : Planet) (c : State) (n : ℕ) (u : Unit) → get c.units n ≡ Some u → IsSteady w c → MayHave w u.holding
+pub may_have : (w : WorldValue) (c : CampaignValue) (n : ℕ) (u : Unit) → get c.units n ≡ Some u → IsSteady w c → MayHave w u.holding
 may_have w c n u is steady =
     let place = steady.known.units n u is in
     record { limits = (steady.numbers.units n u is).1; name = steady.names.units n u is; items = place.items; skills = place.skills; days = steady.days n u is }
 
-module _ (w : Planet) (c : State) (n : ℕ) (u : Unit) (h : Held) (is : get c.units n ≡ Some u) where
+module _ (w : WorldValue) (c : CampaignValue) (n : ℕ) (u : Unit) (h : Held) (is : get c.units n ≡ Some u) where
   abbrev new_unit : Unit
   new_unit = record u { holding = h }
 
-  abbrev supplied : State
+  abbrev supplied : CampaignValue
   supplied = record c { units = insert c.units n new_unit }
 
   -- it is steady where the guards of each region are of one faction

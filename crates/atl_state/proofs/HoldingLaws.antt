@@ -7,7 +7,7 @@ use Rattle.std.specs.declared.cmp.Ordering.TheVariants.{Less, Equal, Greater}
 use Rattle.std.specs.FinMap.{FinMap, get, insert, get-insert, nat_cmp-IsAntisymmetric}
 use Rattle.std.specs.FinSet as set
 use Rattle.atl_tables.specs.Names.{name_ok}
-use Rattle.atl_tables.specs.Planet.{Planet}
+use Rattle.atl_tables.specs.Worlds.{WorldValue}
 use Rattle.atl_tables.specs.Sums.{sum_over}
 use Rattle.atl_tables.specs.Tracking.{marked_with}
 use Rattle.atl_tables.proofs.SumLaws.{numbers_where-insert_known, sum_over-insert_known}
@@ -20,14 +20,14 @@ use Rattle.atl_state.specs.Good.{AreAfloat, AreInRange, AreKnown, AreNumbered, A
 use Rattle.atl_state.specs.Held.{Held, IsHolding}
 use Rattle.atl_state.specs.Lending.{lent, with_held}
 use Rattle.atl_state.specs.Marking.{mark_unit_row}
-use Rattle.atl_state.specs.State.{Marked, State, unit_changed}
+use Rattle.atl_state.specs.Campaign.{MarkedCampaign, CampaignValue, unit_changed}
 use Rattle.atl_state.specs.Totals.{held, kept, total}
 use Rattle.atl_state.proofs.CoverLaws.{Goods, Stays, Tells, Units, apart_by, changed_there, marks-refl, marks-unit, part_by_part, put_stays}
 use Rattle.atl_state.proofs.EveryLaws.{every-insert, get-insert_other, none_some, there-insert}
 use Rattle.atl_state.proofs.RegionLaws.{get-insert_same, same_len}
 
 -- What a unit of a steady campaign may hold in the place of what it holds: within the limits, of what the world has, and it guards only if it did.
-pub record MayHold (w : Planet) (u : Unit) (h : Held) : Type 0 where
+pub record MayHold (w : WorldValue) (u : Unit) (h : Held) : Type 0 where
   pub limits : IsHolding h
   pub name : IsTrue (name_ok h.name)
   pub items : Every (λ i amount. i < length w.items) h.items
@@ -36,7 +36,7 @@ pub record MayHold (w : Planet) (u : Unit) (h : Held) : Type 0 where
   pub guard : guards (record u { holding = h }) ≡ true → guards u ≡ true
 
 -- other money, up to the limit
-pub may_hold_money : (w : Planet) (c : State) (n money : ℕ) (u : Unit) → get c.units n ≡ Some u → money ≤ holding_limit → IsSteady w c → MayHold w u (record u.holding { money = money })
+pub may_hold_money : (w : WorldValue) (c : CampaignValue) (n money : ℕ) (u : Unit) → get c.units n ≡ Some u → money ≤ holding_limit → IsSteady w c → MayHold w u (record u.holding { money = money })
 may_hold_money w c n money u is most steady =
     let place = steady.known.units n u is in
     let holding = (steady.numbers.units n u is).1 in
@@ -54,11 +54,11 @@ abbrev pub structure_in : Option Unit → Unit → ℕ
 structure_in (Some y) z = y.structure
 structure_in None z = z.structure
 
-module _ (w : Planet) (c : State) (n : ℕ) (u : Unit) (h : Held) (is : get c.units n ≡ Some u) where
+module _ (w : WorldValue) (c : CampaignValue) (n : ℕ) (u : Unit) (h : Held) (is : get c.units n ≡ Some u) where
   abbrev new_unit : Unit
   new_unit = record u { holding = h }
 
-  abbrev supplied : State
+  abbrev supplied : CampaignValue
   supplied = record c { units = insert c.units n new_unit }
 
   -- another number than one under which there is no unit
@@ -171,32 +171,32 @@ module _ (w : Planet) (c : State) (n : ℕ) (u : Unit) (h : Held) (is : get c.un
 -- ---- what is marked
 
 -- a unit whose row is changed and marked, and whose goods stay
-pub marks-unit_row : (f : Unit → Unit) → ((u : Unit) → goods_under (Some (f u)) ≡ goods_under (Some u)) → (c : Marked) (n : ℕ) → MarksChanges c (record { what = unit_changed f c.what n; marks = mark_unit_row c n })
+pub marks-unit_row : (f : Unit → Unit) → ((u : Unit) → goods_under (Some (f u)) ≡ goods_under (Some u)) → (c : MarkedCampaign) (n : ℕ) → MarksChanges c (record { value = unit_changed f c.value n; marks = mark_unit_row c n })
 marks-unit_row f same c n =
-    let after : FinMap nat_cmp Unit → set.FinSet nat_cmp → Marked = λ m k. record { what = record c.what { units = m }; marks = record c.marks { units = k } } in
-    changed_there (λ m k. MarksChanges c (after m k)) f c.what.units c.marks.units n (marks-refl c) (λ u is.
-    let next = after (insert c.what.units n (f u)) (set.insert c.marks.units n) in
+    let after : FinMap nat_cmp Unit → set.FinSet nat_cmp → MarkedCampaign = λ m k. record { value = record c.value { units = m }; marks = record c.marks { units = k } } in
+    changed_there (λ m k. MarksChanges c (after m k)) f c.value.units c.marks.units n (marks-refl c) (λ u is.
+    let next = after (insert c.value.units n (f u)) (set.insert c.marks.units n) in
     part_by_part c next
     (λ p. elim p as (Stays c.marks next.marks) [ Units ↦ put_stays c.marks.units n | _ ↦ λ k h. h ])
-    (λ p. elim p as (Tells next.marks c.what next.what) [
-      | Units ↦ λ k free. ap (option_map bare) (get-insert_other c.what.units n k (f u) (apart_by c.marks.units n k free))
+    (λ p. elim p as (Tells next.marks c.value next.value) [
+      | Units ↦ λ k free. ap (option_map bare) (get-insert_other c.value.units n k (f u) (apart_by c.marks.units n k free))
       | Goods ↦ λ k free. goods_kept u is k
       | _ ↦ λ k free. refl
     ]))
   where
-    goods_kept : (u : Unit) → get c.what.units n ≡ Some u → (k : ℕ) → goods_under (get (insert c.what.units n (f u)) k) ≡ goods_under (get c.what.units k)
+    goods_kept : (u : Unit) → get c.value.units n ≡ Some u → (k : ℕ) → goods_under (get (insert c.value.units n (f u)) k) ≡ goods_under (get c.value.units k)
     goods_kept u is k =
-        ap goods_under (get-insert nat_cmp_total c.what.units n (f u) k)
-        ∙ elim (nat_cmp k n) as (λ o. nat_cmp k n ≡ o → goods_under (cond (is_eq o) (Some (f u)) (get c.what.units k)) ≡ goods_under (get c.what.units k)) [
+        ap goods_under (get-insert nat_cmp_total c.value.units n (f u) k)
+        ∙ elim (nat_cmp k n) as (λ o. nat_cmp k n ≡ o → goods_under (cond (is_eq o) (Some (f u)) (get c.value.units k)) ≡ goods_under (get c.value.units k)) [
           | Less ↦ λ o. refl
-          | Equal ↦ λ o. same u ∙ sym (ap goods_under (ap (get c.what.units) (nat_cmp-IsAntisymmetric k n o) ∙ is))
+          | Equal ↦ λ o. same u ∙ sym (ap goods_under (ap (get c.value.units) (nat_cmp-IsAntisymmetric k n o) ∙ is))
           | Greater ↦ λ o. refl
         ] refl
 
 -- a unit's holding that was lent
-pub marks-lent : (c : Marked) (n : ℕ) (h : Held) → MarksChanges c (lent c n h)
-marks-lent c n h = by_unit (get c.what.units n)
+pub marks-lent : (c : MarkedCampaign) (n : ℕ) (h : Held) → MarksChanges c (lent c n h)
+marks-lent c n h = by_unit (get c.value.units n)
   where
-    by_unit : (o : Option Unit) → MarksChanges c (record { what = with_held c.what n h o; marks = record c.marks { units = marked_with c.marks.units n o; goods = marked_with c.marks.goods n o } })
+    by_unit : (o : Option Unit) → MarksChanges c (record { value = with_held c.value n h o; marks = record c.marks { units = marked_with c.marks.units n o; goods = marked_with c.marks.goods n o } })
     by_unit None = marks-refl c
-    by_unit (Some u) = let v = record u { holding = h } in marks-unit c (insert c.what.units n v) n (λ k apart. get-insert_other c.what.units n k v apart)
+    by_unit (Some u) = let v = record u { holding = h } in marks-unit c (insert c.value.units n v) n (λ k apart. get-insert_other c.value.units n k v apart)

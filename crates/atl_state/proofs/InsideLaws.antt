@@ -6,7 +6,7 @@ use Rattle.atl_tables.proofs.GeneralLaws.{is_equal}
 use Rattle.atl_tables.specs.Sums.{numbers_where}
 use Rattle.atl_state.specs.declared.records.Unit.{Unit}
 use Rattle.atl_state.specs.Good.{Every, IsNumbered}
-use Rattle.atl_state.specs.State.{numbers_inside}
+use Rattle.atl_state.specs.Campaign.{numbers_inside}
 use Rattle.atl_state.proofs.EveryLaws.{none_some}
 use Rattle.atl_state.proofs.ListLaws.{other_number, same_number}
 use Rattle.atl_state.proofs.RemovedLaws.{IsListed, listed_passing, passing_listed}

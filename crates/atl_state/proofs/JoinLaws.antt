@@ -11,7 +11,7 @@ use Rattle.std.proofs.lemmas.Int.{ints}
 use Rattle.std.proofs.lemmas.Bool.Decides.{nat_tests}
 use Rattle.std.proofs.lemmas.Slice.Eq.{bytes_eq-Decides}
 use Rattle.atl_tables.specs.Names.{name_ok, pass_ok}
-use Rattle.atl_tables.specs.Planet.{Planet, IsWorld, land_of, is_land}
+use Rattle.atl_tables.specs.Worlds.{WorldValue, IsWorld, land_of, is_land}
 use Rattle.atl_tables.specs.declared.world.RegionPlan.{RegionPlan}
 use Rattle.atl_tables.proofs.SumLaws.{numbers_where-insert_other}
 use Rattle.atl_tables.specs.ByNumber.{is_land_at}
@@ -23,7 +23,7 @@ use Rattle.atl_state.specs.declared.books.Thing.TheVariants.{Money, People, Item
 use Rattle.atl_state.specs.declared.records.Faction.{Faction}
 use Rattle.atl_state.specs.declared.records.Unit.{Unit}
 use Rattle.atl_state.specs.Held.{IsHolding}
-use Rattle.atl_state.specs.State.{State, numbers_of}
+use Rattle.atl_state.specs.Campaign.{CampaignValue, numbers_of}
 use Rattle.atl_state.specs.Books.{booked, with_booked, amount_in, IsGrid, IsSmall}
 use Rattle.atl_state.specs.Totals.{held, total, Balances}
 use Rattle.atl_state.specs.Founding.{things_of}
@@ -41,17 +41,17 @@ use Rattle.atl_state.proofs.TotalLaws.{total-with_unit}
 two : (x n : ℕ) (b p q : ℤ) → pos x ≡ b → pos n ≡ p +ℤ q → pos (x + n) ≡ (b +ℤ p) +ℤ q
 two x n b p q h g = omega (arith, ints)
 
-none : (w : Planet) (word : ℕ) (c : State) (i : ℕ) → (2 + i == 0) ≡ false → (2 + i == 1) ≡ false → pos (held (Item i) (first_unit w word c).holding) ≡ share_of (Item i) Money (pos w.rules.start_money) +ℤ share_of (Item i) People (pos 1)
+none : (w : WorldValue) (word : ℕ) (c : CampaignValue) (i : ℕ) → (2 + i == 0) ≡ false → (2 + i == 1) ≡ false → pos (held (Item i) (first_unit w word c).holding) ≡ share_of (Item i) Money (pos w.rules.start_money) +ℤ share_of (Item i) People (pos 1)
 none w word c i a b =
     ap (λ o. pos (unwrap_or o 0)) (get-empty nat_cmp i) ∙ sym (ap (λ q. cond q (pos w.rules.start_money) (pos 0) +ℤ cond (2 + i == 1) (pos 1) (pos 0)) a ∙ ap (λ q. pos 0 +ℤ cond q (pos 1) (pos 0)) b)
 
 -- what the first unit holds is what is booked
-held_booked : (w : Planet) (word : ℕ) (c : State) (t : Thing) → pos (held t (first_unit w word c).holding) ≡ share_of t Money (pos w.rules.start_money) +ℤ share_of t People (pos 1)
+held_booked : (w : WorldValue) (word : ℕ) (c : CampaignValue) (t : Thing) → pos (held t (first_unit w word c).holding) ≡ share_of t Money (pos w.rules.start_money) +ℤ share_of t People (pos 1)
 held_booked w word c Money = omega (arith, ints)
 held_booked w word c People = refl
 held_booked w word c (Item i) = none w word c i (grind (arith, nat_tests)) (grind (arith, nat_tests))
 
-pub joined-balances : (w : Planet) (name pass : List ℕ) (word : ℕ) (c : State) → IsGrid (things_of w) c.books → get c.units c.next_unit ≡ None → Balances c → Balances (joined w name pass word c)
+pub joined-balances : (w : WorldValue) (name pass : List ℕ) (word : ℕ) (c : CampaignValue) → IsGrid (things_of w) c.books → get c.units c.next_unit ≡ None → Balances c → Balances (joined w name pass word c)
 unfolding joined total
 joined-balances w name pass word c grid free h t =
     let one = with_booked c.books Joining Money (pos w.rules.start_money) in
@@ -60,11 +60,11 @@ joined-balances w name pass word c grid free h t =
     ∙ ap (λ z. z +ℤ share_of t People (pos 1)) (sym (booked-with_booked (things_of w) c.books Joining Money (pos w.rules.start_money) grid (omega arith) t))
     ∙ sym (booked-with_booked (things_of w) one Joining People (pos 1) (IsGrid-with_booked (things_of w) c.books Joining Money (pos w.rules.start_money) grid) (omega arith) t)
 
-amounts_small : (w : Planet) (c : State) → AreInRange w c → amount_bound c ≤ 4000000000000000000
+amounts_small : (w : WorldValue) (c : CampaignValue) → AreInRange w c → amount_bound c ≤ 4000000000000000000
 amounts_small w c numbers = omega (arith, numbers.month, numbers.few_factions)
 
 -- there is room in the books for what a faction brings
-pub joining_small : (w : Planet) (c : State) → IsSound w c → IsSmall (amount_in c.books Joining Money) × IsSmall (amount_in c.books Joining People)
+pub joining_small : (w : WorldValue) (c : CampaignValue) → IsSound w c → IsSmall (amount_in c.books Joining Money) × IsSmall (amount_in c.books Joining People)
 joining_small w c sound =
     let small = amounts_small w c sound.steady.numbers in
     (IsSmall-within _ _ (sound.amounts Joining Money) small, IsSmall-within _ _ (sound.amounts Joining People) small)
@@ -77,7 +77,7 @@ len_new m k v h = len-insert nat_cmp_total m k v ∙ ap (λ o. cond (is_some o) 
 few : (f u n : ℕ) → ((nat_le last_faction f || nat_le most_units u) || nat_lt last_unit n) ≡ false → (f < last_faction) × (u < most_units) × (n ≤ last_unit)
 few f u n h = (grind (arith, nat_tests), grind (arith, nat_tests), grind (arith, nat_tests))
 
-pub room : (c : State) → is_full c ≡ false → (len c.factions < last_faction) × (len c.units < most_units) × (c.next_unit ≤ last_unit)
+pub room : (c : CampaignValue) → is_full c ≡ false → (len c.factions < last_faction) × (len c.units < most_units) × (c.next_unit ≤ last_unit)
 room c h = few (len c.factions) (len c.units) c.next_unit h
 
 -- no number from a bound on is free any less after an insertion below it
@@ -104,13 +104,13 @@ some_put : {P : Type 0} (n : ℕ) (xs : List ℕ) → put_number n xs ≡ [] →
 unfolding put_number
 some_put n xs e = absurd (omega (arith, ap length e, length-append (take (first_above n xs) xs) (n ∷ drop (first_above n xs) xs)))
 
-untaken : (c : State) (name : List ℕ) → name_taken c name ≡ false → Every (λ n f. f.joined_as ≢ name) c.factions
+untaken : (c : CampaignValue) (name : List ℕ) → name_taken c name ≡ false → Every (λ n f. f.joined_as ≢ name) c.factions
 untaken c name h n f is same =
     let differs = every-from_none (λ (g : Faction). pointwise nat_eq g.joined_as name) c.factions h n f is in
     let equal = (bytes_eq-Decides f.joined_as name).1 same in
     absurd (true≢false (sym equal ∙ differs))
 
-module _ (w : Planet) (name pass : List ℕ) (word : ℕ) (c : State) where
+module _ (w : WorldValue) (name pass : List ℕ) (word : ℕ) (c : CampaignValue) where
   abbrev member : Faction
   member = new_faction c.next_faction name pass
 

@@ -8,7 +8,7 @@ use Rattle.std.specs.Ordering.{nat_cmp}
 use Rattle.std.specs.Cmp.{ranked}
 use Rattle.std.specs.FinMap.{FinMap, get, insert, len, nat_cmp-IsAntisymmetric, remove}
 use Rattle.std.specs.FinSet as set
-use Rattle.atl_tables.specs.Planet.{Planet}
+use Rattle.atl_tables.specs.Worlds.{WorldValue}
 use Rattle.atl_tables.specs.Tracking.{marked_with}
 use Rattle.atl_tables.specs.ByNumber.{is_land_at, size_of}
 use Rattle.atl_state.specs.Covers.{MarksChanges}
@@ -19,7 +19,7 @@ use Rattle.atl_state.specs.declared.records.Unit.{Unit}
 use Rattle.atl_state.specs.Good.{AreAfloat, AreInRange, AreKnown, AreNumbered, AreOwned, Every, GoneHaveNone, IsBuilt, IsOwned, IsPlaced, IsSteady, is_ship}
 use Rattle.atl_state.specs.Marking.{gone_marked, gone_marked_at, handed_marked, mark_structure, taken_marked}
 use Rattle.atl_state.specs.Owners.{handed, heir, is_owned_by, without_unit, without_unit_at}
-use Rattle.atl_state.specs.State.{Marked, State, numbers_inside, structure_changed, with_owner}
+use Rattle.atl_state.specs.Campaign.{MarkedCampaign, CampaignValue, numbers_inside, structure_changed, with_owner}
 use Rattle.atl_state.specs.Totals.{held, total}
 use Rattle.atl_state.proofs.CoverLaws.{Stays, Structures, Tells, apart_by, changed_there, marks-refl, marks-trans, marks-unit, part_by_part, put_stays}
 use Rattle.atl_state.proofs.EveryLaws.{every-insert, get-insert_other, none_some}
@@ -33,11 +33,11 @@ use Rattle.atl_state.proofs.RemovedLaws.{IsListed, every-insert_other, every-rem
 abbrev pub owned_by : ℕ → Structure → Structure
 owned_by n s = record s { owner = n }
 
-module _ (w : Planet) (c : State) (n : ℕ) (u : Unit) (is : get c.units n ≡ Some u) where
+module _ (w : WorldValue) (c : CampaignValue) (n : ℕ) (u : Unit) (is : get c.units n ≡ Some u) where
   abbrev left : FinMap nat_cmp Unit
   left = remove c.units n
 
-  abbrev reduced : FinMap nat_cmp Structure → State
+  abbrev reduced : FinMap nat_cmp Structure → CampaignValue
   reduced structures = record c { units = left; structures = structures }
 
   -- the structures as they were, but for their owners, who are among the units that are left
@@ -48,7 +48,7 @@ module _ (w : Planet) (c : State) (n : ℕ) (u : Unit) (is : get c.units n ≡ S
     pub owned : Every (λ k x. IsOwned (reduced structures) k x) structures
 
   module _ (structures : FinMap nat_cmp Structure) (re : AreReowned structures) where
-    abbrev after : State
+    abbrev after : CampaignValue
     after = reduced structures
 
     -- what doesn't speak of owners is still so
@@ -248,7 +248,7 @@ module _ (w : Planet) (c : State) (n : ℕ) (u : Unit) (is : get c.units n ≡ S
 
   -- ---- the campaign without the unit
 
-  abbrev gone_from : State
+  abbrev gone_from : CampaignValue
   gone_from = record c { units = left }
 
   without-known : without_unit c n ≡ handed gone_from u.structure n (heir c u.structure n)
@@ -278,7 +278,7 @@ module _ (w : Planet) (c : State) (n : ℕ) (u : Unit) (is : get c.units n ≡ S
   pub total-without : (t : Thing) → total (without_unit c n) t + held t u.holding ≡ total c t
   unfolding total
   total-without t =
-      ap (λ (d : State). total d t + held t u.holding) without-known ∙ by_test (is_owned_by (get c.structures u.structure) n)
+      ap (λ (d : CampaignValue). total d t + held t u.holding) without-known ∙ by_test (is_owned_by (get c.structures u.structure) n)
     where
       regrouped : (a b s h : ℕ) → a + h ≡ b → (a + s) + h ≡ b + s
       regrouped a b s h e = omega arith
@@ -288,7 +288,7 @@ module _ (w : Planet) (c : State) (n : ℕ) (u : Unit) (is : get c.units n ≡ S
       by_test false = regrouped _ _ _ _ (sum_over-remove c.units n (λ (x : Unit). held t x.holding) u is)
 
   -- no other part of the campaign changes
-  pub record IsOnlyReduced (d : State) : Type 0 where
+  pub record IsOnlyReduced (d : CampaignValue) : Type 0 where
     pub units : d.units ≡ remove c.units n
     pub factions : d.factions ≡ c.factions
     pub regions : d.regions ≡ c.regions
@@ -306,39 +306,39 @@ module _ (w : Planet) (c : State) (n : ℕ) (u : Unit) (is : get c.units n ≡ S
 -- ---- what is marked
 
 -- a structure that is changed and marked
-pub marks-structure : (f : Structure → Structure) (c : Marked) (n : ℕ) → MarksChanges c (record { what = structure_changed f c.what n; marks = mark_structure c n })
+pub marks-structure : (f : Structure → Structure) (c : MarkedCampaign) (n : ℕ) → MarksChanges c (record { value = structure_changed f c.value n; marks = mark_structure c n })
 marks-structure f c n =
-    let after : FinMap nat_cmp Structure → set.FinSet nat_cmp → Marked = λ m k. record { what = record c.what { structures = m }; marks = record c.marks { structures = k } } in
-    changed_there (λ m k. MarksChanges c (after m k)) f c.what.structures c.marks.structures n (marks-refl c) (λ v is.
-    let next = after (insert c.what.structures n (f v)) (set.insert c.marks.structures n) in
+    let after : FinMap nat_cmp Structure → set.FinSet nat_cmp → MarkedCampaign = λ m k. record { value = record c.value { structures = m }; marks = record c.marks { structures = k } } in
+    changed_there (λ m k. MarksChanges c (after m k)) f c.value.structures c.marks.structures n (marks-refl c) (λ v is.
+    let next = after (insert c.value.structures n (f v)) (set.insert c.marks.structures n) in
     part_by_part c next
     (λ p. elim p as (Stays c.marks next.marks) [ Structures ↦ put_stays c.marks.structures n | _ ↦ λ k h. h ])
-    (λ p. elim p as (Tells next.marks c.what next.what) [ Structures ↦ λ k free. get-insert_other c.what.structures n k (f v) (apart_by c.marks.structures n k free) | _ ↦ λ k free. refl ]))
+    (λ p. elim p as (Tells next.marks c.value next.value) [ Structures ↦ λ k free. get-insert_other c.value.structures n k (f v) (apart_by c.marks.structures n k free) | _ ↦ λ k free. refl ]))
 
-pub marks-handed : (c : Marked) (s from to : ℕ) → MarksChanges c (handed_marked c s from to)
-marks-handed c s from to = by_test (is_owned_by (get c.what.structures s) from)
+pub marks-handed : (c : MarkedCampaign) (s from to : ℕ) → MarksChanges c (handed_marked c s from to)
+marks-handed c s from to = by_test (is_owned_by (get c.value.structures s) from)
   where
-    by_test : (b : Bool) → MarksChanges c (if b then record { what = with_owner c.what s to; marks = mark_structure c s } else c)
+    by_test : (b : Bool) → MarksChanges c (if b then record { value = with_owner c.value s to; marks = mark_structure c s } else c)
     by_test true = marks-structure (owned_by to) c s
     by_test false = marks-refl c
 
 -- a unit that is taken out
-pub marks-taken : (c : Marked) (n : ℕ) → MarksChanges c (taken_marked c n)
-marks-taken c n = by_unit (get c.what.units n) refl
+pub marks-taken : (c : MarkedCampaign) (n : ℕ) → MarksChanges c (taken_marked c n)
+marks-taken c n = by_unit (get c.value.units n) refl
   where
-    by_unit : (o : Option Unit) → get c.what.units n ≡ o → MarksChanges c (taken_marked c n)
+    by_unit : (o : Option Unit) → get c.value.units n ≡ o → MarksChanges c (taken_marked c n)
     by_unit None is = subst (MarksChanges c) (taken_none c n is) (marks-refl c)
     by_unit (Some u) is =
-        subst (λ (o : Option Unit). MarksChanges c (record { what = record c.what { units = remove c.what.units n }; marks = record c.marks { units = marked_with c.marks.units n o; goods = marked_with c.marks.goods n o } })) (sym is)
-        (marks-unit c (remove c.what.units n) n (λ k apart. get-remove_other c.what.units n k apart))
+        subst (λ (o : Option Unit). MarksChanges c (record { value = record c.value { units = remove c.value.units n }; marks = record c.marks { units = marked_with c.marks.units n o; goods = marked_with c.marks.goods n o } })) (sym is)
+        (marks-unit c (remove c.value.units n) n (λ k apart. get-remove_other c.value.units n k apart))
 
-marks_gone : (c : Marked) (n : ℕ) (o : Option Unit) → MarksChanges c (gone_marked_at c n o)
+marks_gone : (c : MarkedCampaign) (n : ℕ) (o : Option Unit) → MarksChanges c (gone_marked_at c n o)
 marks_gone c n None = marks-refl c
-marks_gone c n (Some u) = marks-trans c (taken_marked c n) (gone_marked_at c n (Some u)) (marks-taken c n) (marks-handed (taken_marked c n) u.structure n (heir c.what u.structure n))
+marks_gone c n (Some u) = marks-trans c (taken_marked c n) (gone_marked_at c n (Some u)) (marks-taken c n) (marks-handed (taken_marked c n) u.structure n (heir c.value u.structure n))
 
 -- a unit that went, and what marks that
-pub marks-without : (c d : Marked) (n : ℕ) → d.what ≡ without_unit c.what n → d.marks ≡ (gone_marked c n).marks → MarksChanges c d
+pub marks-without : (c d : MarkedCampaign) (n : ℕ) → d.value ≡ without_unit c.value n → d.marks ≡ (gone_marked c n).marks → MarksChanges c d
 unfolding gone_marked
 marks-without c d n what marks =
-    let all = marks_gone c n (get c.what.units n) in
+    let all = marks_gone c n (get c.value.units n) in
     rw (what ∙ sym (gone-what c n), marks) (record { stay = all.stay; covers = all.covers })

@@ -9,7 +9,7 @@ use Rattle.std.specs.FinMap.{FinMap, get}
 use Rattle.std.proofs.lemmas.Bool.{and_parts, cases_eq, false≢true}
 use Rattle.std.proofs.lemmas.Int.{ints}
 use Rattle.atl_tables.specs.Names.{name_ok, pass_ok}
-use Rattle.atl_tables.specs.Planet.{Planet}
+use Rattle.atl_tables.specs.Worlds.{WorldValue}
 use Rattle.atl_state.specs.Limits.{most_in_joining, most_in_month}
 use Rattle.atl_state.specs.declared.parts.Parts.{Parts}
 use Rattle.atl_state.specs.declared.parts.StoredFaction.{StoredFaction}
@@ -19,7 +19,7 @@ use Rattle.atl_state.specs.declared.parts.StoredBooks.{StoredBooks}
 use Rattle.atl_state.specs.declared.records.Faction.{Faction}
 use Rattle.atl_state.specs.Books.{no_amounts, IsGrid, IsWithin, entry_place, thing_place}
 use Rattle.atl_state.specs.Founding.{things_of}
-use Rattle.atl_state.specs.FromRows.{as_u32, faction_of, structure_of, unit_of, by_number, with_amount, put_amounts, head_of, state_of}
+use Rattle.atl_state.specs.FromRows.{as_u32, faction_of, structure_of, unit_of, by_number, with_amount, put_amounts, head_of, campaign_of}
 use Rattle.atl_state.specs.Good.{AreNamed, AreAmountsWithin, amount_bound}
 use Rattle.atl_state.specs.RowRules.{faction_named, books_in_range, books_bound, is_within, HaveJoined, AreRowsNamed}
 use Rattle.atl_state.specs.Rows.{is_zero, amount_at}
@@ -100,12 +100,12 @@ no_cells things bound f u =
     let none : amount_at (no_amounts things) f u ≡ pos 0 = nothing_in (λ row. amount_at (row ∷ []) f 0 ≡ pos 0) things u (no_row f) refl in
     subst (IsWithin bound) (sym none) (record { most = omega (arith, ints); least = omega (arith, ints) })
 
-module _ (w : Planet) (p : Parts) (k : RowsKeep w p) where
+module _ (w : WorldValue) (p : Parts) (k : RowsKeep w p) where
   factions : FinMap nat_cmp Faction
   factions = by_number (λ r. as_u32 r.number) faction_of p.factions
 
-  pub AreNamed-said : AreRowsNamed p → AreNamed (state_of w p)
-  unfolding state_of
+  pub AreNamed-said : AreRowsNamed p → AreNamed (campaign_of w p)
+  unfolding campaign_of
   AreNamed-said h =
       let pass = pass_ok (head_of p).pass in
       let people = list_all faction_named p.factions in
@@ -125,8 +125,8 @@ module _ (w : Planet) (p : Parts) (k : RowsKeep w p) where
         structures = by_number-every (λ r. as_u32 r.number) structure_of (λ n s. name_ok s.name ≡ true) (λ r. name_ok r.name) (λ r e. e) p.structures outer.1;
       }
 
-  same_bound : amount_bound (state_of w p) ≡ books_bound p
-  unfolding state_of
+  same_bound : amount_bound (campaign_of w p) ≡ books_bound p
+  unfolding campaign_of
   same_bound = ap (λ n. most_in_month * (as_u32 (head_of p).month + 1) + most_in_joining * n) (same_count (λ r. as_u32 r.number) faction_of p.factions (factions_apart w p k))
 
   cells : AreCells (books_bound p) (put_amounts p.books (no_amounts (things_of w)))
@@ -135,7 +135,7 @@ module _ (w : Planet) (p : Parts) (k : RowsKeep w p) where
       (each_passes (books_in_range (books_bound p)) (λ r. IsWithin (books_bound p) r.amount) (λ r h. is_in (books_bound p) r.amount (and_parts (not (is_zero r.amount)) (is_within (books_bound p) r.amount) h).1) p.books (ranges w p k).books)
       (no_cells (things_of w) (books_bound p))
 
-  pub AreAmountsWithin-said : AreAmountsWithin (state_of w p)
-  unfolding state_of
+  pub AreAmountsWithin-said : AreAmountsWithin (campaign_of w p)
+  unfolding campaign_of
   AreAmountsWithin-said e t =
       subst (λ bound. IsWithin bound (amount_at (put_amounts p.books (no_amounts (things_of w))) (entry_place e) (thing_place t))) (sym same_bound) (cells (entry_place e) (thing_place t))

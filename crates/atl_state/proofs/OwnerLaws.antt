@@ -8,62 +8,62 @@ use Rattle.atl_tables.proofs.TrackLaws.{remove_none}
 use Rattle.atl_state.specs.declared.records.Unit.{Unit}
 use Rattle.atl_state.specs.Marking.{mark_structure, handed_marked, put_marked, place_marked, place_marked_at, taken_marked, gone_marked, gone_marked_at}
 use Rattle.atl_state.specs.Owners.{heir, is_owned_by, handed, placed, with_place, with_place_at, without_unit, without_unit_at}
-use Rattle.atl_state.specs.State.{Marked, with_owner}
+use Rattle.atl_state.specs.Campaign.{MarkedCampaign, with_owner}
 
 -- the campaign with these units, and the marks of a unit that went, if it was there
-abbrev without : Marked → ℕ → FinMap nat_cmp Unit → Option Unit → Marked
-without c n units o = record { what = record c.what { units = units }; marks = record c.marks { units = marked_with c.marks.units n o; goods = marked_with c.marks.goods n o } }
+abbrev without : MarkedCampaign → ℕ → FinMap nat_cmp Unit → Option Unit → MarkedCampaign
+without c n units o = record { value = record c.value { units = units }; marks = record c.marks { units = marked_with c.marks.units n o; goods = marked_with c.marks.goods n o } }
 
 -- a unit that isn't there can't be taken out
-pub taken_none : (c : Marked) (n : ℕ) → get c.what.units n ≡ None → c ≡ taken_marked c n
-taken_none c n none = sym (ap (λ m. without c n m (get c.what.units n)) (remove_none c.what.units n none) ∙ ap (without c n c.what.units) none)
+pub taken_none : (c : MarkedCampaign) (n : ℕ) → get c.value.units n ≡ None → c ≡ taken_marked c n
+taken_none c n none = sym (ap (λ m. without c n m (get c.value.units n)) (remove_none c.value.units n none) ∙ ap (without c n c.value.units) none)
 
 -- ---- what becomes of the campaign, but for its marks
-by_test : (b : Bool) (c d : Marked) → (if b then d else c).what ≡ (if b then d.what else c.what)
+by_test : (b : Bool) (c d : MarkedCampaign) → (if b then d else c).value ≡ (if b then d.value else c.value)
 by_test true c d = refl
 by_test false c d = refl
 
-pub handed-what : (c : Marked) (s from to : ℕ) → (handed_marked c s from to).what ≡ handed c.what s from to
-handed-what c s from to = by_test (is_owned_by (get c.what.structures s) from) c (record { what = with_owner c.what s to; marks = mark_structure c s })
+pub handed-what : (c : MarkedCampaign) (s from to : ℕ) → (handed_marked c s from to).value ≡ handed c.value s from to
+handed-what c s from to = by_test (is_owned_by (get c.value.structures s) from) c (record { value = with_owner c.value s to; marks = mark_structure c s })
 
-twice : (c : Marked) (s n next t : ℕ) → (handed_marked (handed_marked c s n next) t 0 n).what ≡ handed (handed c.what s n next) t 0 n
+twice : (c : MarkedCampaign) (s n next t : ℕ) → (handed_marked (handed_marked c s n next) t 0 n).value ≡ handed (handed c.value s n next) t 0 n
 twice c s n next t = handed-what (handed_marked c s n next) t 0 n ∙ ap (λ d. handed d t 0 n) (handed-what c s n next)
 
-place_at : (c : Marked) (n r s : ℕ) (o : Option Unit) → (place_marked_at c n r s o).what ≡ with_place_at c.what n r s o
+place_at : (c : MarkedCampaign) (n r s : ℕ) (o : Option Unit) → (place_marked_at c n r s o).value ≡ with_place_at c.value n r s o
 place_at c n r s None = refl
 place_at c n r s (Some u) =
-    by_test (u.structure == s) (handed_marked (handed_marked (put_marked c n r s) u.structure n (heir c.what u.structure n)) s 0 n) (put_marked c n r s)
-    ∙ ap (λ d. if u.structure == s then placed c.what n r s else d) (twice (put_marked c n r s) u.structure n (heir c.what u.structure n) s)
+    by_test (u.structure == s) (handed_marked (handed_marked (put_marked c n r s) u.structure n (heir c.value u.structure n)) s 0 n) (put_marked c n r s)
+    ∙ ap (λ d. if u.structure == s then placed c.value n r s else d) (twice (put_marked c n r s) u.structure n (heir c.value u.structure n) s)
 
-pub place-what : (c : Marked) (n r s : ℕ) → (place_marked c n r s).what ≡ with_place c.what n r s
+pub place-what : (c : MarkedCampaign) (n r s : ℕ) → (place_marked c n r s).value ≡ with_place c.value n r s
 unfolding place_marked with_place
-place-what c n r s = place_at c n r s (get c.what.units n)
+place-what c n r s = place_at c n r s (get c.value.units n)
 
-gone_at : (c : Marked) (n : ℕ) (o : Option Unit) → (gone_marked_at c n o).what ≡ without_unit_at c.what n o
+gone_at : (c : MarkedCampaign) (n : ℕ) (o : Option Unit) → (gone_marked_at c n o).value ≡ without_unit_at c.value n o
 gone_at c n None = refl
-gone_at c n (Some u) = handed-what (taken_marked c n) u.structure n (heir c.what u.structure n)
+gone_at c n (Some u) = handed-what (taken_marked c n) u.structure n (heir c.value u.structure n)
 
-pub gone-what : (c : Marked) (n : ℕ) → (gone_marked c n).what ≡ without_unit c.what n
+pub gone-what : (c : MarkedCampaign) (n : ℕ) → (gone_marked c n).value ≡ without_unit c.value n
 unfolding gone_marked without_unit
-gone-what c n = gone_at c n (get c.what.units n)
+gone-what c n = gone_at c n (get c.value.units n)
 
 -- ---- where the unit is known
-pub place_none : (c : Marked) (n r s : ℕ) → get c.what.units n ≡ None → c ≡ place_marked c n r s
+pub place_none : (c : MarkedCampaign) (n r s : ℕ) → get c.value.units n ≡ None → c ≡ place_marked c n r s
 unfolding place_marked
 place_none c n r s none = sym (ap (place_marked_at c n r s) none)
 
-pub place_stays : (c : Marked) (n r s : ℕ) (u : Unit) → get c.what.units n ≡ Some u → (u.structure == s) ≡ true → put_marked c n r s ≡ place_marked c n r s
+pub place_stays : (c : MarkedCampaign) (n r s : ℕ) (u : Unit) → get c.value.units n ≡ Some u → (u.structure == s) ≡ true → put_marked c n r s ≡ place_marked c n r s
 unfolding place_marked
-place_stays c n r s u is same = sym (ap (place_marked_at c n r s) is ∙ ap (λ b. if b then put_marked c n r s else handed_marked (handed_marked (put_marked c n r s) u.structure n (heir c.what u.structure n)) s 0 n) same)
+place_stays c n r s u is same = sym (ap (place_marked_at c n r s) is ∙ ap (λ b. if b then put_marked c n r s else handed_marked (handed_marked (put_marked c n r s) u.structure n (heir c.value u.structure n)) s 0 n) same)
 
-pub place_leaves : (c : Marked) (n r s : ℕ) (u : Unit) → get c.what.units n ≡ Some u → (u.structure == s) ≡ false → handed_marked (handed_marked (put_marked c n r s) u.structure n (heir c.what u.structure n)) s 0 n ≡ place_marked c n r s
+pub place_leaves : (c : MarkedCampaign) (n r s : ℕ) (u : Unit) → get c.value.units n ≡ Some u → (u.structure == s) ≡ false → handed_marked (handed_marked (put_marked c n r s) u.structure n (heir c.value u.structure n)) s 0 n ≡ place_marked c n r s
 unfolding place_marked
-place_leaves c n r s u is same = sym (ap (place_marked_at c n r s) is ∙ ap (λ b. if b then put_marked c n r s else handed_marked (handed_marked (put_marked c n r s) u.structure n (heir c.what u.structure n)) s 0 n) same)
+place_leaves c n r s u is same = sym (ap (place_marked_at c n r s) is ∙ ap (λ b. if b then put_marked c n r s else handed_marked (handed_marked (put_marked c n r s) u.structure n (heir c.value u.structure n)) s 0 n) same)
 
-pub gone_none : (c : Marked) (n : ℕ) → get c.what.units n ≡ None → c ≡ gone_marked c n
+pub gone_none : (c : MarkedCampaign) (n : ℕ) → get c.value.units n ≡ None → c ≡ gone_marked c n
 unfolding gone_marked
 gone_none c n none = sym (ap (gone_marked_at c n) none)
 
-pub gone_some : (c : Marked) (n : ℕ) (u : Unit) → get c.what.units n ≡ Some u → handed_marked (taken_marked c n) u.structure n (heir c.what u.structure n) ≡ gone_marked c n
+pub gone_some : (c : MarkedCampaign) (n : ℕ) (u : Unit) → get c.value.units n ≡ Some u → handed_marked (taken_marked c n) u.structure n (heir c.value u.structure n) ≡ gone_marked c n
 unfolding gone_marked
 gone_some c n u is = sym (ap (gone_marked_at c n) is)

@@ -6,25 +6,25 @@ use Rattle.std.specs.FinMap.{FinMap, get, get-empty, keys, empty, contains_key, 
 use Rattle.std.specs.FinSet.{FinSet, contains, contains-union, contains-from_list, from_list, union}
 use Rattle.atl_state.specs.Covers.{MarksChanges, SameBut, StaysMarked}
 use Rattle.atl_state.specs.Marking.{mark_all_mail, mark_report, mark_row}
-use Rattle.atl_state.specs.State.{Marked, with_month, with_report, without_mail}
+use Rattle.atl_state.specs.Campaign.{MarkedCampaign, with_month, with_report, without_mail}
 use Rattle.atl_state.proofs.CoverLaws.{Mail, Reports, Row, Stays, Tells, apart_by, part_by_part, put_stays}
 use Rattle.atl_state.proofs.EveryLaws.{get-insert_other}
 
 -- the month that is counted
-pub marks-month : (c : Marked) (n : ℕ) → MarksChanges c (record { what = with_month c.what n; marks = mark_row c })
+pub marks-month : (c : MarkedCampaign) (n : ℕ) → MarksChanges c (record { value = with_month c.value n; marks = mark_row c })
 marks-month c n =
-    let next : Marked = record { what = with_month c.what n; marks = mark_row c } in
+    let next : MarkedCampaign = record { value = with_month c.value n; marks = mark_row c } in
     part_by_part c next
     (λ p. elim p as (Stays c.marks next.marks) [ Row ↦ λ k h. refl | _ ↦ λ k h. h ])
-    (λ p. elim p as (Tells next.marks c.what next.what) [ Row ↦ λ k free. absurd (true≢false free) | _ ↦ λ k free. refl ])
+    (λ p. elim p as (Tells next.marks c.value next.value) [ Row ↦ λ k free. absurd (true≢false free) | _ ↦ λ k free. refl ])
 
 -- a report that is stored
-pub marks-report : (c : Marked) (n : ℕ) (text : List ℕ) → MarksChanges c (record { what = with_report c.what n text; marks = mark_report c n })
+pub marks-report : (c : MarkedCampaign) (n : ℕ) (text : List ℕ) → MarksChanges c (record { value = with_report c.value n text; marks = mark_report c n })
 marks-report c n text =
-    let next : Marked = record { what = with_report c.what n text; marks = mark_report c n } in
+    let next : MarkedCampaign = record { value = with_report c.value n text; marks = mark_report c n } in
     part_by_part c next
     (λ p. elim p as (Stays c.marks next.marks) [ Reports ↦ put_stays c.marks.reports n | _ ↦ λ k h. h ])
-    (λ p. elim p as (Tells next.marks c.what next.what) [ Reports ↦ λ k free. get-insert_other c.what.reports n k text (apart_by c.marks.reports n k free) | _ ↦ λ k free. refl ])
+    (λ p. elim p as (Tells next.marks c.value next.value) [ Reports ↦ λ k free. get-insert_other c.value.reports n k text (apart_by c.marks.reports n k free) | _ ↦ λ k free. refl ])
 
 -- ---- the mail that is taken away
 
@@ -43,9 +43,9 @@ module _ (marks : FinSet nat_cmp) (mail : FinMap nat_cmp (List ℕ)) where
   all_gone : SameBut (union marks (from_list (keys mail))) mail empty
   all_gone k free = get-empty nat_cmp k ∙ none_there (contains marks k) (contains_key mail k) (get mail k) refl (sym (either k) ∙ free)
 
-pub marks-no_mail : (c : Marked) → MarksChanges c (record { what = without_mail c.what; marks = mark_all_mail c })
+pub marks-no_mail : (c : MarkedCampaign) → MarksChanges c (record { value = without_mail c.value; marks = mark_all_mail c })
 marks-no_mail c =
-    let next : Marked = record { what = without_mail c.what; marks = mark_all_mail c } in
+    let next : MarkedCampaign = record { value = without_mail c.value; marks = mark_all_mail c } in
     part_by_part c next
-    (λ p. elim p as (Stays c.marks next.marks) [ Mail ↦ all_stay c.marks.mail c.what.mail | _ ↦ λ k h. h ])
-    (λ p. elim p as (Tells next.marks c.what next.what) [ Mail ↦ all_gone c.marks.mail c.what.mail | _ ↦ λ k free. refl ])
+    (λ p. elim p as (Stays c.marks next.marks) [ Mail ↦ all_stay c.marks.mail c.value.mail | _ ↦ λ k h. h ])
+    (λ p. elim p as (Tells next.marks c.value next.value) [ Mail ↦ all_gone c.marks.mail c.value.mail | _ ↦ λ k free. refl ])

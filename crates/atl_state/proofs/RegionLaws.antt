@@ -7,7 +7,7 @@ use Rattle.std.specs.declared.cmp.Ordering.TheVariants.{Less, Equal, Greater}
 use Rattle.std.specs.FinMap.{FinMap, get, insert, len, get-insert, len-insert, nat_cmp-IsAntisymmetric}
 use Rattle.std.proofs.lemmas.List.{get_or-set_other, get_or-set_same}
 use Rattle.std.proofs.lemmas.Bool.{cases_eq}
-use Rattle.atl_tables.specs.Planet.{Planet}
+use Rattle.atl_tables.specs.Worlds.{WorldValue}
 use Rattle.atl_tables.specs.Limits.{most_amount}
 use Rattle.atl_tables.specs.Sums.{sum_over, changed, changed_at}
 use Rattle.atl_tables.proofs.SumLaws.{sum_over-insert_known}
@@ -20,15 +20,15 @@ use Rattle.atl_state.specs.Books.{IsGrid, amount_in, entry_place, row_of, thing_
 use Rattle.atl_state.specs.Founding.{things_of}
 use Rattle.atl_state.specs.Good.{Every, IsThere, IsRegion, AreInRange, AreKnown, IsSteady}
 use Rattle.atl_state.specs.Marks.{amount_number}
-use Rattle.atl_state.specs.State.{State, region_changed, with_amount}
+use Rattle.atl_state.specs.Campaign.{CampaignValue, region_changed, with_amount}
 use Rattle.atl_state.specs.Totals.{held, kept, total}
 use Rattle.atl_state.proofs.BookLaws.{IsGrid-with_booked}
 use Rattle.atl_state.proofs.EveryLaws.{every-insert, there-insert}
 
 -- ---- other regions, other books
 
-module _ (w : Planet) (c : State) (regions : FinMap nat_cmp Region) (books : List (List ℤ)) where
-  abbrev stocked : State
+module _ (w : WorldValue) (c : CampaignValue) (regions : FinMap nat_cmp Region) (books : List (List ℤ)) where
+  abbrev stocked : CampaignValue
   stocked = record c { regions = regions; books = books }
 
   module _ (few : len regions ≡ len c.regions) (there : (n : ℕ) → IsThere c.regions n ↔ IsThere regions n)
@@ -103,11 +103,11 @@ IsRegion-peasants r peasants few old = record { peasants = few; money = old.mone
 pub IsRegion-money : (r : Region) (money : ℕ) → money ≤ most_amount → IsRegion r → IsRegion (record r { money = money })
 IsRegion-money r money few old = record { peasants = old.peasants; money = few }
 
-module _ (f : Region → Region) (c : State) (n : ℕ) (r : Region) (is : get c.regions n ≡ Some r) where
+module _ (f : Region → Region) (c : CampaignValue) (n : ℕ) (r : Region) (is : get c.regions n ≡ Some r) where
   pub region-changed : get (region_changed f c n).regions n ≡ Some (f r)
   region-changed = ap (λ m. get m n) (changed-known f c.regions n r is) ∙ get-insert_same c.regions n (f r)
 
-  pub steady-region : (w : Planet) → IsRegion (f r) → IsSteady w c → IsSteady w (region_changed f c n)
+  pub steady-region : (w : WorldValue) → IsRegion (f r) → IsSteady w c → IsSteady w (region_changed f c n)
   steady-region w within old =
       subst (λ (m : FinMap nat_cmp Region). IsSteady w (record c { regions = m })) (sym (changed-known f c.regions n r is))
       (stocked-steady w c (insert c.regions n (f r)) c.books (same_len c.regions n r (f r) is)
@@ -127,11 +127,11 @@ module _ (f : Region → Region) (c : State) (n : ℕ) (r : Region) (is : get c.
 
 -- ---- the books
 
-pub steady-amount : (w : Planet) (c : State) (e : Entry) (t : Thing) (n : ℤ) → IsSteady w c → IsSteady w (with_amount c e t n)
+pub steady-amount : (w : WorldValue) (c : CampaignValue) (e : Entry) (t : Thing) (n : ℤ) → IsSteady w c → IsSteady w (with_amount c e t n)
 steady-amount w c e t n old =
     stocked-steady w c c.regions (with_booked c.books e t n) refl (λ k. (λ h. h, λ h. h)) old.numbers.regions (IsGrid-with_booked (things_of w) c.books e t n old.numbers.books) old
 
-pub total-amount : (c : State) (e : Entry) (u t : Thing) (n : ℤ) → total (with_amount c e u n) t ≡ total c t
+pub total-amount : (c : CampaignValue) (e : Entry) (u t : Thing) (n : ℤ) → total (with_amount c e u n) t ≡ total c t
 unfolding total
 total-amount c e u t n = refl
 

@@ -10,7 +10,7 @@ use Rattle.std.proofs.lemmas.Bool.{and_parts, false≢true, not-true}
 use Rattle.std.proofs.lemmas.Bool.Decides.{nat_tests}
 use Rattle.std.proofs.lemmas.List.Sorted.{IsPermutation-refl}
 use Rattle.atl_tables.specs.Limits.{most_amount, most_size, last_region}
-use Rattle.atl_tables.specs.Planet.{Planet, IsWorld}
+use Rattle.atl_tables.specs.Worlds.{WorldValue, IsWorld}
 use Rattle.atl_tables.specs.declared.world.Kind.{Kind}
 use Rattle.atl_tables.specs.ByNumber.{size_of}
 use Rattle.atl_orders.specs.Limits.{last_faction}
@@ -25,7 +25,7 @@ use Rattle.atl_state.specs.declared.parts.StoredBooks.{StoredBooks}
 use Rattle.atl_state.specs.declared.records.Unit.{Unit}
 use Rattle.atl_state.specs.Books.{no_amounts}
 use Rattle.atl_state.specs.Founding.{things_of}
-use Rattle.atl_state.specs.FromRows.{as_u32, as_u16, is_set, is_of, is_entry, faction_of, region_of, structure_of, unit_of, things_had, by_number, put_amounts, no_head, head_of, state_of}
+use Rattle.atl_state.specs.FromRows.{as_u32, as_u16, is_set, is_of, is_entry, faction_of, region_of, structure_of, unit_of, things_had, by_number, put_amounts, no_head, head_of, campaign_of}
 use Rattle.atl_state.specs.Good.{Every, IsThere, IsPlaced, IsBuilt, AreKnown, AreDays}
 use Rattle.atl_state.specs.Limits.{last_month, last_unit, men_limit, holding_limit, most_structures, entry_count, most_u16, most_u32}
 use Rattle.atl_state.specs.RowRules.{one_key, is_from, is_one_head, head_in_range, faction_in_range, region_in_range, unit_in_range, has_in_range, structure_in_range, books_in_range, books_bound, is_within, faction_key, region_key, unit_key, structure_key, mail_key, report_key, AreRowsInRange, is_of_unit, is_booked}
@@ -71,13 +71,13 @@ none_or_below m zero most every there = omega arith
 none_or_below m (suc n) most every there = there_below m (suc n) most every (there (λ e. absurd (omega arith)))
 
 -- ---- the rules that are needed
-pub record RowsKeep (w : Planet) (p : Parts) : Type 0 where
+pub record RowsKeep (w : WorldValue) (p : Parts) : Type 0 where
   pub world : IsWorld w
   pub one : is_one_head p.campaign ≡ true
   pub range : AreRowsInRange w p
-  pub known : AreKnown w (state_of w p)
-  pub held : list_all (is_of_unit (state_of w p)) p.has ≡ true
-  pub days : AreDays (state_of w p)
+  pub known : AreKnown w (campaign_of w p)
+  pub held : list_all (is_of_unit (campaign_of w p)) p.has ≡ true
+  pub days : AreDays (campaign_of w p)
   pub booked : list_all (is_booked w) p.books ≡ true
 
 -- ---- the campaign's own row
@@ -131,10 +131,10 @@ size_small None h = omega arith
 size_small (Some x) h = h x refl
 
 -- the size of every kind
-pub small_size : (w : Planet) → IsWorld w → (kind : ℕ) → size_of w kind ≤ most_size
+pub small_size : (w : WorldValue) → IsWorld w → (kind : ℕ) → size_of w kind ≤ most_size
 small_size w world kind = size_small (slice_get w.kinds kind) (λ x is. (world.kinds kind x is).size)
 
-module _ (w : Planet) (p : Parts) (k : RowsKeep w p) where
+module _ (w : WorldValue) (p : Parts) (k : RowsKeep w p) where
   pub ranges : NumberRanges w p
   ranges = number_ranges w p k.range.numbers
 
@@ -158,7 +158,7 @@ module _ (w : Planet) (p : Parts) (k : RowsKeep w p) where
 
   -- ---- regions
   few_regions : (n : ℕ) → IsThere (by_number (λ r. as_u32 r.number) region_of p.regions) n → n ≤ last_region
-  unfolding state_of
+  unfolding campaign_of
   few_regions n there = let known = (k.known.regions n).0 there in (k.world.regions n known.0 known.1).number_most
 
   regions_whole : AllByRecursion (λ r. IsWhole r.number) p.regions
@@ -203,8 +203,8 @@ module _ (w : Planet) (p : Parts) (k : RowsKeep w p) where
   few_structures = by_number-every (λ r. as_u32 r.number) structure_of (λ n s. n ≤ most_structures) (structure_in_range w) (λ r h. (structure_number r h).1) p.structures ranges.structures
 
   -- ---- units
-  same_unit : (r : StoredUnit) → unit_in_range r ≡ true → IsPlaced w (state_of w p) (unit_of p.has r) → unit_row (as_u32 r.number) (unit_of p.has r) ≡ r
-  unfolding state_of
+  same_unit : (r : StoredUnit) → unit_in_range r ≡ true → IsPlaced w (campaign_of w p) (unit_of p.has r) → unit_row (as_u32 r.number) (unit_of p.has r) ≡ r
+  unfolding campaign_of
   same_unit r h placed =
       let parts = unit_ranges r h in
       let faction_few = there_below (by_number (λ r. as_u32 r.number) faction_of p.factions) (as_u32 r.faction) last_faction few_factions placed.faction in
@@ -218,18 +218,18 @@ module _ (w : Planet) (p : Parts) (k : RowsKeep w p) where
       let guard = flag_whole r.guard parts.guard in
       λ i. record { number = sym (unit_number r h).0 i; faction = sym faction i; name = r.name; region = sym region i; structure = sym structure i; men = sym men i; money = sym money i; guard = guard i }
 
-  units_placed : AllByRecursion (λ r. IsPlaced w (state_of w p) (unit_of p.has r)) p.units
-  unfolding state_of
-  units_placed = each_row (λ r. as_u32 r.number) (unit_of p.has) (λ n u. IsPlaced w (state_of w p) u) p.units units_apart k.known.units
+  units_placed : AllByRecursion (λ r. IsPlaced w (campaign_of w p) (unit_of p.has r)) p.units
+  unfolding campaign_of
+  units_placed = each_row (λ r. as_u32 r.number) (unit_of p.has) (λ n u. IsPlaced w (campaign_of w p) u) p.units units_apart k.known.units
 
   units_said : IsPermutation (rows_by unit_row (entries (by_number (λ r. as_u32 r.number) (unit_of p.has) p.units))) p.units
   units_said =
       rows_order (λ r. as_u32 r.number) (unit_of p.has) unit_row p.units units_apart
-      (each_with (λ r. unit_in_range r ≡ true) (λ r. IsPlaced w (state_of w p) (unit_of p.has r)) (λ r. unit_row (as_u32 r.number) (unit_of p.has r) ≡ r) same_unit p.units (each_passes unit_in_range (λ r. unit_in_range r ≡ true) (λ r h. h) p.units ranges.units) units_placed)
+      (each_with (λ r. unit_in_range r ≡ true) (λ r. IsPlaced w (campaign_of w p) (unit_of p.has r)) (λ r. unit_row (as_u32 r.number) (unit_of p.has r) ≡ r) same_unit p.units (each_passes unit_in_range (λ r. unit_in_range r ≡ true) (λ r h. h) p.units ranges.units) units_placed)
 
   -- ---- structures
-  same_structure : (r : StoredStructure) → structure_in_range w r ≡ true → IsBuilt w (state_of w p) (structure_of r) → structure_row (as_u32 r.number) (structure_of r) ≡ r
-  unfolding state_of
+  same_structure : (r : StoredStructure) → structure_in_range w r ≡ true → IsBuilt w (campaign_of w p) (structure_of r) → structure_row (as_u32 r.number) (structure_of r) ≡ r
+  unfolding campaign_of
   same_structure r h built =
       let small = small_size w k.world (as_u16 r.kind) in
       let few_kinds = k.world.few_kinds in
@@ -242,19 +242,19 @@ module _ (w : Planet) (p : Parts) (k : RowsKeep w p) where
       let done = (from_range 1 (size_of w (as_u16 r.kind)) r.done (omega arith) (and_parts (is_from 1 most_structures r.number) (is_from 1 (size_of w (as_u16 r.kind)) r.done) h).1).0 in
       λ i. record { number = sym (structure_number r h).0 i; kind = sym kind i; name = r.name; region = sym region i; done = sym done i; owner = sym owner i }
 
-  structures_built : AllByRecursion (λ r. IsBuilt w (state_of w p) (structure_of r)) p.structures
-  unfolding state_of
-  structures_built = each_row (λ r. as_u32 r.number) structure_of (λ n s. IsBuilt w (state_of w p) s) p.structures structures_apart k.known.structures
+  structures_built : AllByRecursion (λ r. IsBuilt w (campaign_of w p) (structure_of r)) p.structures
+  unfolding campaign_of
+  structures_built = each_row (λ r. as_u32 r.number) structure_of (λ n s. IsBuilt w (campaign_of w p) s) p.structures structures_apart k.known.structures
 
   structures_said : IsPermutation (rows_by structure_row (entries (by_number (λ r. as_u32 r.number) structure_of p.structures))) p.structures
   structures_said =
       rows_order (λ r. as_u32 r.number) structure_of structure_row p.structures structures_apart
-      (each_with (λ r. structure_in_range w r ≡ true) (λ r. IsBuilt w (state_of w p) (structure_of r)) (λ r. structure_row (as_u32 r.number) (structure_of r) ≡ r) same_structure p.structures
+      (each_with (λ r. structure_in_range w r ≡ true) (λ r. IsBuilt w (campaign_of w p) (structure_of r)) (λ r. structure_row (as_u32 r.number) (structure_of r) ≡ r) same_structure p.structures
       (each_passes (structure_in_range w) (λ r. structure_in_range w r ≡ true) (λ r h. h) p.structures ranges.structures) structures_built)
 
   -- ---- mail and reports
   mail_whole : AllByRecursion (λ r. IsWhole r.faction) p.mail
-  unfolding state_of
+  unfolding campaign_of
   mail_whole =
       each_so (λ r. IsThere (by_number (λ r. as_u32 r.faction) (λ r. r.text) p.mail) (as_u32 r.faction)) (λ r. IsWhole r.faction)
       (λ r there. let few = there_below (by_number (λ r. as_u32 r.number) faction_of p.factions) (as_u32 r.faction) last_faction few_factions (k.known.mail (as_u32 r.faction) there.0 there.1) in whole_below r.faction (omega arith)) p.mail
@@ -267,7 +267,7 @@ module _ (w : Planet) (p : Parts) (k : RowsKeep w p) where
       (each_so (λ r. IsWhole r.faction) (λ r. mail_row (as_u32 r.faction) r.text ≡ r) (λ r whole. λ i. record { faction = sym whole i; text = r.text }) p.mail mail_whole)
 
   reports_whole : AllByRecursion (λ r. IsWhole r.faction) p.reports
-  unfolding state_of
+  unfolding campaign_of
   reports_whole =
       each_so (λ r. IsThere (by_number (λ r. as_u32 r.faction) (λ r. r.text) p.reports) (as_u32 r.faction)) (λ r. IsWhole r.faction)
       (λ r there. let few = there_below (by_number (λ r. as_u32 r.number) faction_of p.factions) (as_u32 r.faction) last_faction few_factions (k.known.reports (as_u32 r.faction) there.0 there.1) in whole_below r.faction (omega arith)) p.reports
@@ -314,11 +314,11 @@ module _ (w : Planet) (p : Parts) (k : RowsKeep w p) where
       unkept (is_of n sort) (ThingThere n sort) p.has (rows_there (λ h. as_u32 h.thing) (λ h. as_u32 h.amount) (filter (is_of n sort) p.has))))
 
   held_units : AllByRecursion (λ h. IsThere units (as_u32 h.unit)) p.has
-  unfolding state_of
-  held_units = each_passes (is_of_unit (state_of w p)) (λ h. IsThere units (as_u32 h.unit)) (λ h e. some_there (get units (as_u32 h.unit)) e) p.has k.held
+  unfolding campaign_of
+  held_units = each_passes (is_of_unit (campaign_of w p)) (λ h. IsThere units (as_u32 h.unit)) (λ h e. some_there (get units (as_u32 h.unit)) e) p.has k.held
 
   few_things : (n sort thing : ℕ) → IsThere units n → (sort ≡ 1) ⊎ (sort ≡ 0) → IsThere (things_had n sort p.has) thing → thing < most_u32
-  unfolding state_of
+  unfolding campaign_of
   few_things n sort thing there (inl skill) (v, is) =
       let placed = k.known.units n there.0 there.1 in
       let few = k.world.few_skills in
@@ -360,7 +360,7 @@ module _ (w : Planet) (p : Parts) (k : RowsKeep w p) where
       unkept (is_of n sort) (IsFound n sort) p.has (rows_found (λ h. as_u32 h.thing) (λ h. as_u32 h.amount) (filter (is_of n sort) p.has) (things_apart n sort p.has all_keyed k.range.keys.has))))
 
   exact_of : (h : StoredHas) → IsThere units (as_u32 h.unit) → SortOf h → ((n : ℕ) → (sort : ℕ) → is_of n sort h ≡ true → IsFound n sort h) → IsWhole h.amount × (is_zero h.amount ≡ false)
-  unfolding state_of
+  unfolding campaign_of
   exact_of h there (inl skill) found =
       let n = as_u32 h.unit in
       let men = their_men n there.0 there.1 in
@@ -420,8 +420,8 @@ module _ (w : Planet) (p : Parts) (k : RowsKeep w p) where
       books_order (things_of w) p.books all_booked k.range.keys.books
 
   -- the rows are those of the campaign, each once
-  pub rows_said : AreRowsOf (state_of w p) p
-  unfolding state_of rows_of
+  pub rows_said : AreRowsOf (campaign_of w p) p
+  unfolding campaign_of rows_of
   rows_said = record {
     campaign = subst (λ rows. IsPermutation (head_as_read (head_of p) ∷ []) rows) (one_head p.campaign k.one ranges.head) (IsPermutation-refl (head_as_read (head_of p) ∷ []));
     factions = factions_said;

@@ -6,14 +6,14 @@ use Rattle.atl_tables.proofs.SumLaws.{sum_over-insert_new}
 use Rattle.atl_state.specs.declared.books.Thing.{Thing}
 use Rattle.atl_state.specs.declared.records.Region.{Region}
 use Rattle.atl_state.specs.declared.records.Unit.{Unit}
-use Rattle.atl_state.specs.State.{State, with_unit}
+use Rattle.atl_state.specs.Campaign.{CampaignValue, with_unit}
 use Rattle.atl_state.specs.Totals.{held, kept, total}
 
 later : (a b n : ℕ) → (a + n) + b ≡ (a + b) + n
 later a b n = omega arith
 
 -- a new unit adds what it holds
-pub total-with_unit : (c : State) (n : ℕ) (u : Unit) (t : Thing) → get c.units n ≡ None → total (with_unit c n u) t ≡ total c t + held t u.holding
+pub total-with_unit : (c : CampaignValue) (n : ℕ) (u : Unit) (t : Thing) → get c.units n ≡ None → total (with_unit c n u) t ≡ total c t + held t u.holding
 unfolding total
 total-with_unit c n u t fresh =
     ap (λ k. k + sum_over (λ (r : Region). kept t r) c.regions) (sum_over-insert_new (λ (v : Unit). held t v.holding) c.units n u fresh)

@@ -2,9 +2,9 @@
 use Rattle.std.specs.Prelude.{[]}
 use Rattle.std.specs.FinMap.{empty}
 use Rattle.atl_state.specs.Marks.{no_marks}
-use Rattle.atl_state.specs.State.{State, Marked}
+use Rattle.atl_state.specs.Campaign.{CampaignValue, MarkedCampaign}
 
-abbrev pub nothing : State
+abbrev pub nothing : CampaignValue
 nothing = record {
   month = 0;
   pass = [];
@@ -20,5 +20,5 @@ nothing = record {
   books = [];
 }
 
-abbrev pub blank : Marked
-blank = record { what = nothing; marks = no_marks }
+abbrev pub blank : MarkedCampaign
+blank = record { value = nothing; marks = no_marks }

@@ -8,7 +8,7 @@ use Rattle.atl_state.specs.declared.books.Thing.{Thing}
 use Rattle.atl_state.specs.declared.records.Unit.{Unit}
 use Rattle.atl_state.specs.Books.{amount_in}
 use Rattle.atl_state.specs.Marks.{Marks, amount_number}
-use Rattle.atl_state.specs.State.{State, Marked}
+use Rattle.atl_state.specs.Campaign.{CampaignValue, MarkedCampaign}
 
 -- under a number that is not marked stands the same in both
 abbrev pub SameBut : {V : Type 0} → FinSet nat_cmp → FinMap nat_cmp V → FinMap nat_cmp V → Type 0
@@ -24,10 +24,10 @@ goods_under None = (empty, empty)
 goods_under (Some u) = (u.holding.items, u.holding.days)
 
 -- what the campaign's own row says
-abbrev pub own_row : State → ℕ × (List ℕ × (ℕ × (ℕ × ℕ)))
+abbrev pub own_row : CampaignValue → ℕ × (List ℕ × (ℕ × (ℕ × ℕ)))
 own_row c = (c.month, (c.pass, (c.next_faction, (c.next_unit, c.next_structure))))
 
-pub record Covers (m : Marks) (before after : State) : Type 0 where
+pub record Covers (m : Marks) (before after : CampaignValue) : Type 0 where
   pub factions : SameBut m.factions before.factions after.factions
   pub regions : SameBut m.regions before.regions after.regions
   pub structures : SameBut m.structures before.structures after.structures
@@ -55,6 +55,6 @@ pub record StayMarked (before after : Marks) : Type 0 where
   pub row : before.row ≡ true → after.row ≡ true
 
 -- no mark is lost, and all that changed is marked
-pub record MarksChanges (before after : Marked) : Type 0 where
+pub record MarksChanges (before after : MarkedCampaign) : Type 0 where
   pub stay : StayMarked before.marks after.marks
-  pub covers : Covers after.marks before.what after.what
+  pub covers : Covers after.marks before.value after.value

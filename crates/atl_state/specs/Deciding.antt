@@ -5,7 +5,7 @@ use Rattle.std.specs.FinMap.{get}
 use Rattle.atl_state.specs.declared.records.Faction.{Faction}
 use Rattle.atl_state.specs.declared.records.Structure.{Structure}
 use Rattle.atl_state.specs.declared.records.Unit.{Unit}
-use Rattle.atl_state.specs.State.{State}
+use Rattle.atl_state.specs.Campaign.{CampaignValue}
 use Rattle.atl_state.specs.Good.{guards}
 
 abbrev pub EachOf : {V : Type 0} → (ℕ → V → Type 0) → List (ℕ × V) → Type 0
@@ -13,11 +13,11 @@ EachOf P [] = ⊤
 EachOf P (e ∷ es) = P e.0 e.1 × EachOf P es
 
 -- a structure that a unit inside owns, or nobody
-pub record HasOwnerInside (c : State) (n : ℕ) (s : Structure) : Type 0 where
+pub record HasOwnerInside (c : CampaignValue) (n : ℕ) (s : Structure) : Type 0 where
   pub owned : s.owner ≢ 0 → (u : Unit) × (get c.units s.owner ≡ Some u) × (u.structure ≡ n)
 
 -- the faction of a unit that is there and guards
-abbrev pub guard_of : State → ℕ → Option ℕ
+abbrev pub guard_of : CampaignValue → ℕ → Option ℕ
 guard_of c n = option_and_then (λ u. if guards u then Some u.faction else None) (get c.units n)
 
 -- two factions are the same, where both are there

@@ -1,6 +1,6 @@
 -- The campaign that is founded.
 use Rattle.std.specs.Prelude.{◌+◌, List, length, ℕ, pos}
-use Rattle.atl_tables.specs.Planet.{Planet}
+use Rattle.atl_tables.specs.Worlds.{WorldValue}
 use Rattle.atl_tables.specs.Sums.{sum_over, mapped}
 use Rattle.atl_tables.specs.declared.world.RegionPlan.{RegionPlan}
 use Rattle.atl_state.specs.declared.books.Entry.TheVariants.{Founding}
@@ -8,18 +8,18 @@ use Rattle.atl_state.specs.declared.books.Thing.TheVariants.{Money, People}
 use Rattle.atl_state.specs.declared.records.Region.{Region}
 use Rattle.atl_state.specs.Blank.{nothing}
 use Rattle.atl_state.specs.Books.{with_booked, no_amounts}
-use Rattle.atl_state.specs.State.{State}
+use Rattle.atl_state.specs.Campaign.{CampaignValue}
 
 -- a region as it is founded
 abbrev pub founded_region : RegionPlan → Region
 founded_region plan = record { peasants = plan.peasants; money = plan.money }
 
 -- how many things a world books: money, people, and each item
-abbrev pub things_of : Planet → ℕ
+abbrev pub things_of : WorldValue → ℕ
 things_of w = 2 + length w.items
 
 -- month 0 has been closed; the regions hold what the world gives them, which is booked; and nobody is there
-unfoldable pub founded_of : Planet → List ℕ → State
+unfoldable pub founded_of : WorldValue → List ℕ → CampaignValue
 founded_of w pass = let regions = mapped founded_region w.regions in record nothing {
   pass = pass;
   regions = regions;

@@ -2,7 +2,7 @@
 use Rattle.std.specs.Prelude.{◌-◌, ℕ, ℤ, pos, negsuc, Bool, not, ◌==◌, ◌&&◌, nat_le, min, List, [], ◌∷◌, filter, slice_index_or, slice_set, if◌then◌else◌}
 use Rattle.std.specs.Ordering.{nat_cmp}
 use Rattle.std.specs.FinMap.{FinMap, empty, insert}
-use Rattle.atl_tables.specs.Planet.{Planet}
+use Rattle.atl_tables.specs.Worlds.{WorldValue}
 use Rattle.atl_state.specs.Limits.{entry_count, most_u16, most_u32}
 use Rattle.atl_state.specs.declared.parts.Parts.{Parts}
 use Rattle.atl_state.specs.declared.parts.StoredHead.{StoredHead}
@@ -19,7 +19,7 @@ use Rattle.atl_state.specs.declared.records.Unit.{Unit}
 use Rattle.atl_state.specs.Books.{no_amounts}
 use Rattle.atl_state.specs.Founding.{things_of}
 use Rattle.atl_state.specs.Rows.{is_zero}
-use Rattle.atl_state.specs.State.{State}
+use Rattle.atl_state.specs.Campaign.{CampaignValue}
 
 -- ---- one value
 
@@ -103,8 +103,8 @@ no_head = record { id = pos 0; format = pos 0; month = pos 0; next_faction = pos
 abbrev pub head_of : Parts → StoredHead
 head_of p = slice_index_or p.campaign 0 no_head
 
-unfoldable pub state_of : Planet → Parts → State
-state_of w p = record {
+unfoldable pub campaign_of : WorldValue → Parts → CampaignValue
+campaign_of w p = record {
   month = as_u32 (head_of p).month;
   pass = (head_of p).pass;
   next_faction = as_u32 (head_of p).next_faction;

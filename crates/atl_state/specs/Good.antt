@@ -6,7 +6,7 @@ use Rattle.atl_tables.specs.ByNumber as of_world
 use Rattle.atl_tables.specs.ByNumber.{is_land_at, size_of}
 use Rattle.atl_tables.specs.Limits.{most_amount, most_regions}
 use Rattle.atl_tables.specs.Names.{name_ok, pass_ok}
-use Rattle.atl_tables.specs.Planet.{Planet}
+use Rattle.atl_tables.specs.Worlds.{WorldValue}
 use Rattle.atl_orders.specs.Limits.{last_faction}
 use Rattle.atl_orders.specs.Mailing.{IsMailingOf}
 use Rattle.atl_state.specs.Limits.{last_month, last_unit, most_days, most_in_joining, most_in_month, most_structures, most_units}
@@ -19,7 +19,7 @@ use Rattle.atl_state.specs.declared.records.Unit.{Unit}
 use Rattle.atl_state.specs.Books.{amount_in, IsGrid, IsWithin}
 use Rattle.atl_state.specs.Founding.{things_of}
 use Rattle.atl_state.specs.Held.{IsHolding}
-use Rattle.atl_state.specs.State.{State, numbers_of}
+use Rattle.atl_state.specs.Campaign.{CampaignValue, numbers_of}
 use Rattle.atl_state.specs.Totals.{Balances}
 
 -- each value is so, under its number
@@ -31,13 +31,13 @@ abbrev pub IsThere : {V : Type 0} → FinMap nat_cmp V → ℕ → Type 0
 IsThere {V} m n = (v : V) × (get m n ≡ Some v)
 
 -- this faction is there, and not gone
-abbrev pub IsActive : State → ℕ → Type 0
+abbrev pub IsActive : CampaignValue → ℕ → Type 0
 IsActive c n = (f : Faction) × (get c.factions n ≡ Some f) × (f.gone ≡ false)
 
 -- ---- of numbers: each is in its range, and there are not too many things
 
 -- no amount of the books is greater in size
-abbrev pub amount_bound : State → ℕ
+abbrev pub amount_bound : CampaignValue → ℕ
 amount_bound c = most_in_month * (c.month + 1) + most_in_joining * len c.factions
 
 pub record IsRegion (r : Region) : Type 0 where
@@ -45,7 +45,7 @@ pub record IsRegion (r : Region) : Type 0 where
   pub money : r.money ≤ most_amount
 
 -- men from 0
-pub record AreInRange (w : Planet) (c : State) : Type 0 where
+pub record AreInRange (w : WorldValue) (c : CampaignValue) : Type 0 where
   pub month : c.month ≤ last_month
   pub few_factions : len c.factions ≤ last_faction
   pub few_regions : len c.regions ≤ most_regions
@@ -59,15 +59,15 @@ pub record AreInRange (w : Planet) (c : State) : Type 0 where
   pub structures : Every (λ n s. (1 ≤ s.done) × (s.done ≤ size_of w s.kind)) c.structures
   pub books : IsGrid (things_of w) c.books
 
-abbrev pub AreAmountsWithin : State → Type 0
+abbrev pub AreAmountsWithin : CampaignValue → Type 0
 AreAmountsWithin c = (e : Entry) (t : Thing) → IsWithin (amount_bound c) (amount_in c.books e t)
 
-abbrev pub HaveMen : State → Type 0
+abbrev pub HaveMen : CampaignValue → Type 0
 HaveMen c = Every (λ n u. 1 ≤ u.holding.men) c.units
 
 -- ---- of names
 
-pub record AreNamed (c : State) : Type 0 where
+pub record AreNamed (c : CampaignValue) : Type 0 where
   pub pass : IsTrue (pass_ok c.pass)
   pub factions : Every (λ n f. IsTrue (name_ok f.joined_as) × IsTrue (name_ok f.name) × IsTrue (pass_ok f.pass)) c.factions
   pub joined : Every (λ n f. Every (λ m g. f.joined_as ≡ g.joined_as → n ≡ m) c.factions) c.factions
@@ -77,20 +77,20 @@ pub record AreNamed (c : State) : Type 0 where
 -- ---- of what is named by its number: all of it is there
 
 -- a unit's faction and region, its structure, which stands in the region, and what it holds and studied
-pub record IsPlaced (w : Planet) (c : State) (u : Unit) : Type 0 where
+pub record IsPlaced (w : WorldValue) (c : CampaignValue) (u : Unit) : Type 0 where
   pub faction : IsThere c.factions u.faction
   pub region : IsThere c.regions u.region
   pub structure : u.structure ≢ 0 → (s : Structure) × (get c.structures u.structure ≡ Some s) × (s.region ≡ u.region)
   pub items : Every (λ i amount. i < length w.items) u.holding.items
   pub skills : Every (λ s days. s < length w.skills) u.holding.days
 
-pub record IsBuilt (w : Planet) (c : State) (s : Structure) : Type 0 where
+pub record IsBuilt (w : WorldValue) (c : CampaignValue) (s : Structure) : Type 0 where
   pub kind : s.kind < length w.kinds
   pub region : IsThere c.regions s.region
   pub owner : s.owner ≢ 0 → IsThere c.units s.owner
 
 -- and the regions are the world's
-pub record AreKnown (w : Planet) (c : State) : Type 0 where
+pub record AreKnown (w : WorldValue) (c : CampaignValue) : Type 0 where
   pub regions : (n : ℕ) → IsThere c.regions n ↔ IsThere w.regions n
   pub units : Every (λ n u. IsPlaced w c u) c.units
   pub structures : Every (λ n s. IsBuilt w c s) c.structures
@@ -105,41 +105,41 @@ pub record IsNumbered {V : Type 0} (m : FinMap nat_cmp V) (next : ℕ) : Type 0 
   pub count : next ≡ len m + 1
   pub free : (n : ℕ) → next ≤ n → get m n ≡ None
 
-pub record AreNumbered (c : State) : Type 0 where
+pub record AreNumbered (c : CampaignValue) : Type 0 where
   pub factions : IsNumbered c.factions c.next_faction
   pub structures : IsNumbered c.structures c.next_structure
   pub units : (n : ℕ) → c.next_unit ≤ n → get c.units n ≡ None
 
 -- ---- of days: 1 to 450 for each man
-abbrev pub AreDays : State → Type 0
+abbrev pub AreDays : CampaignValue → Type 0
 AreDays c = Every (λ n u. Every (λ s days. (1 ≤ days) × (days ≤ most_days * u.holding.men)) u.holding.days) c.units
 
 -- ---- of factions that are gone: they have no unit, and no other faction is without
-abbrev pub GoneHaveNone : State → Type 0
+abbrev pub GoneHaveNone : CampaignValue → Type 0
 GoneHaveNone c = Every (λ n f. f.gone ≡ true → numbers_of n c.units ≡ []) c.factions
 
-abbrev pub NoneAreGone : State → Type 0
+abbrev pub NoneAreGone : CampaignValue → Type 0
 NoneAreGone c = Every (λ n f. numbers_of n c.units ≡ [] → f.gone ≡ true) c.factions
 
 -- ---- of owners
 
 -- nobody owns a structure without units; else one of them does
-pub record IsOwned (c : State) (n : ℕ) (s : Structure) : Type 0 where
+pub record IsOwned (c : CampaignValue) (n : ℕ) (s : Structure) : Type 0 where
   pub owned : s.owner ≢ 0 → (u : Unit) × (get c.units s.owner ≡ Some u) × (u.structure ≡ n)
   pub ownerless : s.owner ≡ 0 → Every (λ m u. u.structure ≢ n) c.units
 
-abbrev pub AreOwned : State → Type 0
+abbrev pub AreOwned : CampaignValue → Type 0
 AreOwned c = Every (λ n s. IsOwned c n s) c.structures
 
 -- ---- of water: a unit is inside a ship there, and a structure is a complete ship
 
-abbrev pub is_ship : Planet → Structure → Bool
+abbrev pub is_ship : WorldValue → Structure → Bool
 is_ship w s = of_world.is_ship w s.kind
 
-abbrev pub IsAboard : Planet → State → Unit → Type 0
+abbrev pub IsAboard : WorldValue → CampaignValue → Unit → Type 0
 IsAboard w c u = (s : Structure) × (get c.structures u.structure ≡ Some s) × (is_ship w s ≡ true)
 
-pub record AreAfloat (w : Planet) (c : State) : Type 0 where
+pub record AreAfloat (w : WorldValue) (c : CampaignValue) : Type 0 where
   pub units : Every (λ n u. is_land_at w u.region ≡ false → IsAboard w c u) c.units
   pub structures : Every (λ n s. is_land_at w s.region ≡ false → (is_ship w s ≡ true) × (s.done ≡ size_of w s.kind)) c.structures
 
@@ -150,21 +150,21 @@ abbrev pub guards : Unit → Bool
 guards u = u.holding.guard && nat_lt 0 u.holding.men
 
 -- all units of a region that pass the test are of one faction
-abbrev pub AreOfOneFaction : (Unit → Bool) → State → Type 0
+abbrev pub AreOfOneFaction : (Unit → Bool) → CampaignValue → Type 0
 AreOfOneFaction test c = Every (λ n u. Every (λ m v. test u ≡ true → test v ≡ true → u.region ≡ v.region → u.faction ≡ v.faction) c.units) c.units
 
 -- ---- of mail and reports
 
-abbrev pub IsMail : State → Type 0
+abbrev pub IsMail : CampaignValue → Type 0
 IsMail c = Every (λ n text. IsMailingOf n text × IsActive c n) c.mail
 
-abbrev pub AreReported : State → Type 0
+abbrev pub AreReported : CampaignValue → Type 0
 AreReported c = Every (λ n f. IsThere c.reports n) c.factions
 
 -- ---- the campaigns
 
 -- within a month: a unit may be left without men, and a faction without units
-pub record IsSteady (w : Planet) (c : State) : Type 0 where
+pub record IsSteady (w : WorldValue) (c : CampaignValue) : Type 0 where
   pub numbers : AreInRange w c
   pub names : AreNamed c
   pub known : AreKnown w c
@@ -176,12 +176,12 @@ pub record IsSteady (w : Planet) (c : State) : Type 0 where
   pub guarded : AreOfOneFaction guards c
 
 -- and all flags that are set in a region are of one faction, men or no men
-pub record IsEarly (w : Planet) (c : State) : Type 0 where
+pub record IsEarly (w : WorldValue) (c : CampaignValue) : Type 0 where
   pub steady : IsSteady w c
   pub flags : AreOfOneFaction (λ u. u.holding.guard) c
 
 -- between commands, but for the report of a faction that has just joined
-pub record IsSound (w : Planet) (c : State) : Type 0 where
+pub record IsSound (w : WorldValue) (c : CampaignValue) : Type 0 where
   pub steady : IsSteady w c
   pub men : HaveMen c
   pub amounts : AreAmountsWithin c
@@ -190,6 +190,6 @@ pub record IsSound (w : Planet) (c : State) : Type 0 where
   pub mail : IsMail c
 
 -- between commands
-pub record IsGood (w : Planet) (c : State) : Type 0 where
+pub record IsGood (w : WorldValue) (c : CampaignValue) : Type 0 where
   pub sound : IsSound w c
   pub reported : AreReported c

@@ -4,7 +4,7 @@ use Rattle.std.specs.List.{list_any}
 use Rattle.std.specs.Fmt.{decimal}
 use Rattle.std.specs.Cmp.Lexicographic.{pointwise}
 use Rattle.std.specs.FinMap.{insert, entries, len, empty}
-use Rattle.atl_tables.specs.Planet.{Planet, land_of}
+use Rattle.atl_tables.specs.Worlds.{WorldValue, land_of}
 use Rattle.atl_orders.specs.Limits.{last_faction}
 use Rattle.atl_state.specs.Limits.{most_units, last_unit}
 use Rattle.atl_state.specs.declared.books.Entry.TheVariants.{Joining}
@@ -14,25 +14,25 @@ use Rattle.atl_state.specs.declared.records.Unit.{Unit}
 use Rattle.atl_state.specs.declared.records.JoinFault.{JoinFault}
 use Rattle.atl_state.specs.declared.records.JoinFault.TheVariants.{NameTaken, Full, Memory}
 use Rattle.atl_state.specs.Books.{with_booked}
-use Rattle.atl_state.specs.State.{State}
+use Rattle.atl_state.specs.Campaign.{CampaignValue}
 
 -- some faction ever joined under this name
-abbrev pub name_taken : State → List ℕ → Bool
+abbrev pub name_taken : CampaignValue → List ℕ → Bool
 name_taken c name = list_any (λ e. pointwise nat_eq e.1.joined_as name) (entries c.factions)
 
 -- no faction, or no unit, more can come
-abbrev pub is_full : State → Bool
+abbrev pub is_full : CampaignValue → Bool
 is_full c = (nat_le last_faction (len c.factions) || nat_le most_units (len c.units)) || nat_lt last_unit c.next_unit
 
 -- where a faction begins: the land region that the word picks, counted from 0 by number
-abbrev pub home_of : Planet → ℕ → ℕ
+abbrev pub home_of : WorldValue → ℕ → ℕ
 home_of w word = slice_index (land_of w) (word % length (land_of w))
 
 abbrev pub new_faction : ℕ → List ℕ → List ℕ → Faction
 new_faction number name pass = record { number = number; joined_as = name; name = name; pass = pass; gone = false }
 
 -- one man with the start money
-abbrev pub first_unit : Planet → ℕ → State → Unit
+abbrev pub first_unit : WorldValue → ℕ → CampaignValue → Unit
 first_unit w word c = record {
   faction = c.next_faction;
   region = home_of w word;
@@ -41,7 +41,7 @@ first_unit w word c = record {
 }
 
 -- the campaign with one faction more and its unit, and what they bring booked
-unfoldable pub joined : Planet → List ℕ → List ℕ → ℕ → State → State
+unfoldable pub joined : WorldValue → List ℕ → List ℕ → ℕ → CampaignValue → CampaignValue
 joined w name pass word c = record c {
   next_faction = c.next_faction + 1;
   next_unit = c.next_unit + 1;
@@ -51,14 +51,14 @@ joined w name pass word c = record c {
 }
 
 -- what joining makes of a campaign, and the numbers of the faction and its unit
-unfoldable pub join_of : Planet → List ℕ → List ℕ → ℕ → State → Result (State × (ℕ × ℕ)) JoinFault
+unfoldable pub join_of : WorldValue → List ℕ → List ℕ → ℕ → CampaignValue → Result (CampaignValue × (ℕ × ℕ)) JoinFault
 join_of w name pass word c =
     if name_taken c name then Err NameTaken
     else (if is_full c then Err Full
     else Ok (joined w name pass word c, (c.next_faction, c.next_unit)))
 
 -- what a call of `join` may answer and leave
-abbrev pub Joins : Planet → List ℕ → List ℕ → ℕ → State → Result (ℕ × ℕ) JoinFault → State → Type 0
+abbrev pub Joins : WorldValue → List ℕ → List ℕ → ℕ → CampaignValue → Result (ℕ × ℕ) JoinFault → CampaignValue → Type 0
 Joins w name pass word old (Ok numbers) new = join_of w name pass word old ≡ Ok (new, numbers)
 Joins w name pass word old (Err NameTaken) new = (join_of w name pass word old ≡ Err NameTaken) × (new ≡ old)
 Joins w name pass word old (Err Full) new = (join_of w name pass word old ≡ Err Full) × (new ≡ old)

@@ -8,7 +8,7 @@ use Rattle.atl_state.specs.Limits.{entry_count}
 use Rattle.atl_state.specs.Marks.{AreOfThings}
 use Rattle.atl_state.specs.declared.records.Unit.{Unit}
 use Rattle.atl_state.specs.Ordered.{put_number, take_number}
-use Rattle.atl_state.specs.State.{numbers_inside}
+use Rattle.atl_state.specs.Campaign.{numbers_inside}
 use Rattle.atl_state.specs.declared.lists.Listing.{Listing}
 use Rattle.atl_state.specs.declared.lists.UnitLists.{UnitLists}
 

@@ -4,7 +4,7 @@ use Rattle.std.specs.List.{slice_get}
 use Rattle.std.specs.Option.{option_map_or}
 use Rattle.std.specs.FinMap.{entries}
 use Rattle.atl_tables.specs.Limits.{last_level}
-use Rattle.atl_tables.specs.Planet.{Planet}
+use Rattle.atl_tables.specs.Worlds.{WorldValue}
 use Rattle.atl_state.specs.declared.levels.Measure.{Measure}
 use Rattle.atl_state.specs.declared.levels.Measure.TheVariants.{Weight, Carry}
 use Rattle.atl_state.specs.Held.{Held, amount_of}
@@ -37,32 +37,32 @@ level_in_any h (Some skill) = level_in h skill
 -- ---- loads
 
 -- what one of an item weighs, and what it carries
-abbrev pub weight_of : Planet → ℕ → ℕ
+abbrev pub weight_of : WorldValue → ℕ → ℕ
 weight_of w item = option_map_or (λ x. x.weight) (slice_get w.items item) 0
 
-abbrev pub carry_of : Planet → ℕ → ℕ
+abbrev pub carry_of : WorldValue → ℕ → ℕ
 carry_of w item = option_map_or (λ x. x.carry) (slice_get w.items item) 0
 
 -- what one of an item weighs or carries, and the sum of amount times that over the items held
-abbrev pub measure_of : Measure → Planet → ℕ → ℕ
+abbrev pub measure_of : Measure → WorldValue → ℕ → ℕ
 measure_of Weight w item = weight_of w item
 measure_of Carry w item = carry_of w item
 
-abbrev pub measured_goods : Measure → Planet → Held → ℕ
+abbrev pub measured_goods : Measure → WorldValue → Held → ℕ
 measured_goods m w h = sum_by (λ e. e.1 * measure_of m w e.0) (entries h.items)
 
 -- the sum of amount times weight over the items held
-abbrev pub goods_of : Planet → Held → ℕ
+abbrev pub goods_of : WorldValue → Held → ℕ
 goods_of w h = sum_by (λ e. e.1 * weight_of w e.0) (entries h.items)
 
 -- the sum of amount times carry over the items held
-abbrev pub carried_by_goods : Planet → Held → ℕ
+abbrev pub carried_by_goods : WorldValue → Held → ℕ
 carried_by_goods w h = sum_by (λ e. e.1 * carry_of w e.0) (entries h.items)
 
 -- what a unit weighs
-abbrev pub load_of : Planet → Held → ℕ
+abbrev pub load_of : WorldValue → Held → ℕ
 load_of w h = h.men * w.rules.man_weight + goods_of w h
 
 -- what a unit can carry
-abbrev pub carried_by : Planet → Held → ℕ
+abbrev pub carried_by : WorldValue → Held → ℕ
 carried_by w h = h.men * w.rules.man_carry + carried_by_goods w h

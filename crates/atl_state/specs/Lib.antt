@@ -21,7 +21,7 @@ pub mod Rows
 pub mod RowRules
 pub mod Owners
 pub mod Roster
-pub mod State
+pub mod Campaign
 pub mod Totals
 pub mod UnitMarks
 pub mod UnitRoom

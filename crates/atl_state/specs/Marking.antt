@@ -10,92 +10,92 @@ use Rattle.atl_state.specs.declared.books.Thing.{Thing}
 use Rattle.atl_state.specs.declared.records.Unit.{Unit}
 use Rattle.atl_state.specs.Marks.{Marks, amount_marked}
 use Rattle.atl_state.specs.Owners.{heir, is_owned_by, placed}
-use Rattle.atl_state.specs.State.{Marked, with_owner}
+use Rattle.atl_state.specs.Campaign.{MarkedCampaign, with_owner}
 
 -- a unit that was lent, with its goods, where it is there
-abbrev pub mark_unit : Marked → ℕ → Marks
-mark_unit c n = record c.marks { units = marked_with c.marks.units n (get c.what.units n); goods = marked_with c.marks.goods n (get c.what.units n) }
+abbrev pub mark_unit : MarkedCampaign → ℕ → Marks
+mark_unit c n = record c.marks { units = marked_with c.marks.units n (get c.value.units n); goods = marked_with c.marks.goods n (get c.value.units n) }
 
 -- a unit that came, with its goods
-abbrev pub mark_unit_added : Marked → ℕ → Marks
+abbrev pub mark_unit_added : MarkedCampaign → ℕ → Marks
 mark_unit_added c n = record c.marks { units = insert c.marks.units n; goods = insert c.marks.goods n }
 
 -- a unit that came under the number that comes next
-abbrev pub mark_unit_begun : Marked → Marks
-mark_unit_begun c = record (mark_unit_added c c.what.next_unit) { row = true }
+abbrev pub mark_unit_begun : MarkedCampaign → Marks
+mark_unit_begun c = record (mark_unit_added c c.value.next_unit) { row = true }
 
 -- a unit's row, and none of its goods
-abbrev pub mark_unit_row : Marked → ℕ → Marks
-mark_unit_row c n = record c.marks { units = marked_with c.marks.units n (get c.what.units n) }
+abbrev pub mark_unit_row : MarkedCampaign → ℕ → Marks
+mark_unit_row c n = record c.marks { units = marked_with c.marks.units n (get c.value.units n) }
 
-abbrev pub mark_faction : Marked → ℕ → Marks
-mark_faction c n = record c.marks { factions = marked_with c.marks.factions n (get c.what.factions n) }
+abbrev pub mark_faction : MarkedCampaign → ℕ → Marks
+mark_faction c n = record c.marks { factions = marked_with c.marks.factions n (get c.value.factions n) }
 
-abbrev pub mark_region : Marked → ℕ → Marks
-mark_region c n = record c.marks { regions = marked_with c.marks.regions n (get c.what.regions n) }
+abbrev pub mark_region : MarkedCampaign → ℕ → Marks
+mark_region c n = record c.marks { regions = marked_with c.marks.regions n (get c.value.regions n) }
 
-abbrev pub mark_structure : Marked → ℕ → Marks
-mark_structure c n = record c.marks { structures = marked_with c.marks.structures n (get c.what.structures n) }
+abbrev pub mark_structure : MarkedCampaign → ℕ → Marks
+mark_structure c n = record c.marks { structures = marked_with c.marks.structures n (get c.value.structures n) }
 
 -- the campaign's own row
-abbrev pub mark_row : Marked → Marks
+abbrev pub mark_row : MarkedCampaign → Marks
 mark_row c = record c.marks { row = true }
 
 -- a structure that was begun
-abbrev pub mark_structure_begun : Marked → Marks
-mark_structure_begun c = record c.marks { structures = insert c.marks.structures c.what.next_structure; row = true }
+abbrev pub mark_structure_begun : MarkedCampaign → Marks
+mark_structure_begun c = record c.marks { structures = insert c.marks.structures c.value.next_structure; row = true }
 
 -- an amount of the books
-abbrev pub mark_amount : Marked → Entry → Thing → Marks
+abbrev pub mark_amount : MarkedCampaign → Entry → Thing → Marks
 mark_amount c e t = record c.marks { books = amount_marked c.marks.books e t }
 
 -- all mail that was taken away
-abbrev pub mark_all_mail : Marked → Marks
-mark_all_mail c = record c.marks { mail = union c.marks.mail (from_list (keys c.what.mail)) }
+abbrev pub mark_all_mail : MarkedCampaign → Marks
+mark_all_mail c = record c.marks { mail = union c.marks.mail (from_list (keys c.value.mail)) }
 
 -- ---- places: each step with what it marks
 
-abbrev pub handed_marked : Marked → ℕ → ℕ → ℕ → Marked
-handed_marked c s from to = if is_owned_by (get c.what.structures s) from then record { what = with_owner c.what s to; marks = mark_structure c s } else c
+abbrev pub handed_marked : MarkedCampaign → ℕ → ℕ → ℕ → MarkedCampaign
+handed_marked c s from to = if is_owned_by (get c.value.structures s) from then record { value = with_owner c.value s to; marks = mark_structure c s } else c
 
-abbrev pub put_marked : Marked → ℕ → ℕ → ℕ → Marked
-put_marked c n r s = record { what = placed c.what n r s; marks = mark_unit_row c n }
+abbrev pub put_marked : MarkedCampaign → ℕ → ℕ → ℕ → MarkedCampaign
+put_marked c n r s = record { value = placed c.value n r s; marks = mark_unit_row c n }
 
-abbrev pub place_marked_at : Marked → ℕ → ℕ → ℕ → Option Unit → Marked
+abbrev pub place_marked_at : MarkedCampaign → ℕ → ℕ → ℕ → Option Unit → MarkedCampaign
 place_marked_at c n r s None = c
-place_marked_at c n r s (Some u) = if u.structure == s then put_marked c n r s else handed_marked (handed_marked (put_marked c n r s) u.structure n (heir c.what u.structure n)) s 0 n
+place_marked_at c n r s (Some u) = if u.structure == s then put_marked c n r s else handed_marked (handed_marked (put_marked c n r s) u.structure n (heir c.value u.structure n)) s 0 n
 
 -- a unit in another place: its row, and each structure that gets another owner
-unfoldable pub place_marked : Marked → ℕ → ℕ → ℕ → Marked
-place_marked c n r s = place_marked_at c n r s (get c.what.units n)
+unfoldable pub place_marked : MarkedCampaign → ℕ → ℕ → ℕ → MarkedCampaign
+place_marked c n r s = place_marked_at c n r s (get c.value.units n)
 
-abbrev pub taken_marked : Marked → ℕ → Marked
-taken_marked c n = record { what = record c.what { units = remove c.what.units n }; marks = mark_unit c n }
+abbrev pub taken_marked : MarkedCampaign → ℕ → MarkedCampaign
+taken_marked c n = record { value = record c.value { units = remove c.value.units n }; marks = mark_unit c n }
 
-abbrev pub gone_marked_at : Marked → ℕ → Option Unit → Marked
+abbrev pub gone_marked_at : MarkedCampaign → ℕ → Option Unit → MarkedCampaign
 gone_marked_at c n None = c
-gone_marked_at c n (Some u) = handed_marked (taken_marked c n) u.structure n (heir c.what u.structure n)
+gone_marked_at c n (Some u) = handed_marked (taken_marked c n) u.structure n (heir c.value u.structure n)
 
 -- a unit that went: its row, its goods, and its structure, where that gets another owner
-unfoldable pub gone_marked : Marked → ℕ → Marked
-gone_marked c n = gone_marked_at c n (get c.what.units n)
+unfoldable pub gone_marked : MarkedCampaign → ℕ → MarkedCampaign
+gone_marked c n = gone_marked_at c n (get c.value.units n)
 
 -- ---- mail, reports and joining
 
 -- a report that was set
-abbrev pub mark_report : Marked → ℕ → Marks
+abbrev pub mark_report : MarkedCampaign → ℕ → Marks
 mark_report c n = record c.marks { reports = insert c.marks.reports n }
 
 -- a mail that was set
-abbrev pub mark_mail : Marked → ℕ → Marks
+abbrev pub mark_mail : MarkedCampaign → ℕ → Marks
 mark_mail c n = record c.marks { mail = insert c.marks.mail n }
 
 -- a faction that joined, with its unit, what it booked, and the numbers that come next
-abbrev pub join_marked : Marked → Marks
+abbrev pub join_marked : MarkedCampaign → Marks
 join_marked c = record c.marks {
-  factions = insert c.marks.factions c.what.next_faction;
-  units = insert c.marks.units c.what.next_unit;
-  goods = insert c.marks.goods c.what.next_unit;
+  factions = insert c.marks.factions c.value.next_faction;
+  units = insert c.marks.units c.value.next_unit;
+  goods = insert c.marks.goods c.value.next_unit;
   books = amount_marked (amount_marked c.marks.books Joining Money) Joining People;
   row = true;
 }

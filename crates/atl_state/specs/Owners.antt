@@ -3,7 +3,7 @@ use Rattle.std.specs.Prelude.{◌==◌, ℕ, List, [], ◌∷◌, filter, not, B
 use Rattle.std.specs.FinMap.{get, remove}
 use Rattle.atl_state.specs.declared.records.Structure.{Structure}
 use Rattle.atl_state.specs.declared.records.Unit.{Unit}
-use Rattle.atl_state.specs.State.{State, numbers_inside, unit_changed, with_owner}
+use Rattle.atl_state.specs.Campaign.{CampaignValue, numbers_inside, unit_changed, with_owner}
 
 abbrev pub first_or_zero : List ℕ → ℕ
 first_or_zero [] = 0
@@ -14,15 +14,15 @@ abbrev pub first_other : List ℕ → ℕ → ℕ
 first_other ns leaving = first_or_zero (filter (λ n. not (n == leaving)) ns)
 
 -- who is next to own a structure that a unit leaves: the lowest-numbered other unit inside, or 0
-abbrev pub heir : State → ℕ → ℕ → ℕ
+abbrev pub heir : CampaignValue → ℕ → ℕ → ℕ
 heir c s leaving = first_other (numbers_inside s c.units) leaving
 
-abbrev pub owner_after_at : State → ℕ → ℕ → Option Structure → ℕ
+abbrev pub owner_after_at : CampaignValue → ℕ → ℕ → Option Structure → ℕ
 owner_after_at c s leaving None = 0
 owner_after_at c s leaving (Some x) = if x.owner == leaving then heir c s leaving else x.owner
 
 -- who owns a structure once a unit has left it
-abbrev pub owner_after : State → ℕ → ℕ → ℕ
+abbrev pub owner_after : CampaignValue → ℕ → ℕ → ℕ
 owner_after c s leaving = owner_after_at c s leaving (get c.structures s)
 
 -- whether a structure is there, and this one owns it: a unit, or nobody, where it is 0
@@ -31,25 +31,25 @@ is_owned_by None n = false
 is_owned_by (Some x) n = x.owner == n
 
 -- a structure that goes from one owner to another, where the former owns it
-abbrev pub handed : State → ℕ → ℕ → ℕ → State
+abbrev pub handed : CampaignValue → ℕ → ℕ → ℕ → CampaignValue
 handed c s from to = if is_owned_by (get c.structures s) from then with_owner c s to else c
 
 -- the unit's place alone
-abbrev pub placed : State → ℕ → ℕ → ℕ → State
+abbrev pub placed : CampaignValue → ℕ → ℕ → ℕ → CampaignValue
 placed c n r s = unit_changed (λ u. record u { region = r; structure = s }) c n
 
-abbrev pub with_place_at : State → ℕ → ℕ → ℕ → Option Unit → State
+abbrev pub with_place_at : CampaignValue → ℕ → ℕ → ℕ → Option Unit → CampaignValue
 with_place_at c n r s None = c
 with_place_at c n r s (Some u) = if u.structure == s then placed c n r s else handed (handed (placed c n r s) u.structure n (heir c u.structure n)) s 0 n
 
 -- a unit in another place. Where it leaves a structure that it owns, another owns it; where it enters one without an owner, the unit owns it
-unfoldable pub with_place : State → ℕ → ℕ → ℕ → State
+unfoldable pub with_place : CampaignValue → ℕ → ℕ → ℕ → CampaignValue
 with_place c n r s = with_place_at c n r s (get c.units n)
 
-abbrev pub without_unit_at : State → ℕ → Option Unit → State
+abbrev pub without_unit_at : CampaignValue → ℕ → Option Unit → CampaignValue
 without_unit_at c n None = c
 without_unit_at c n (Some u) = handed (record c { units = remove c.units n }) u.structure n (heir c u.structure n)
 
 -- the campaign without a unit, which leaves its structure
-unfoldable pub without_unit : State → ℕ → State
+unfoldable pub without_unit : CampaignValue → ℕ → CampaignValue
 without_unit c n = without_unit_at c n (get c.units n)

@@ -6,7 +6,7 @@ use Rattle.std.specs.Ordering.{int_cmp, eq_by_cmp, ordering_then, nat_cmp}
 use Rattle.std.specs.Cmp.Lexicographic.{slice_cmp}
 use Rattle.atl_tables.specs.Limits.{most_amount, most_regions}
 use Rattle.atl_tables.specs.Names.{name_ok, pass_ok}
-use Rattle.atl_tables.specs.Planet.{Planet}
+use Rattle.atl_tables.specs.Worlds.{WorldValue}
 use Rattle.atl_tables.specs.ByNumber.{size_of}
 use Rattle.atl_orders.specs.Limits.{last_faction}
 use Rattle.atl_state.specs.Limits.{holding_limit, last_month, last_unit, men_limit, most_in_joining, most_in_month, most_structures, most_units}
@@ -22,7 +22,7 @@ use Rattle.atl_state.specs.declared.parts.StoredReport.{StoredReport}
 use Rattle.atl_state.specs.declared.parts.StoredBooks.{StoredBooks}
 use Rattle.atl_state.specs.FromRows.{as_u32, as_u16, is_entry, head_of}
 use Rattle.atl_state.specs.Founding.{things_of}
-use Rattle.atl_state.specs.State.{State}
+use Rattle.atl_state.specs.Campaign.{CampaignValue}
 use Rattle.std.specs.FinMap.{get}
 use Rattle.atl_state.specs.Rows.{is_zero}
 
@@ -61,7 +61,7 @@ unit_in_range r = ((is_from 1 last_unit r.number && is_from 1 men_limit r.men) &
 abbrev pub has_in_range : StoredHas → Bool
 has_in_range r = is_from 1 1 r.sort || (is_from 0 0 r.sort && is_from 1 holding_limit r.amount)
 
-abbrev pub structure_in_range : Planet → StoredStructure → Bool
+abbrev pub structure_in_range : WorldValue → StoredStructure → Bool
 structure_in_range w r = is_from 1 most_structures r.number && is_from 1 (size_of w (as_u16 r.kind)) r.done
 
 -- no amount of the books is greater in size
@@ -130,10 +130,10 @@ are_few p = ((nat_le (length p.factions) last_faction && nat_le (length p.region
 abbrev pub people_in_range : Parts → Bool
 people_in_range p = ((list_all faction_in_range p.factions && list_all region_in_range p.regions) && list_all unit_in_range p.units) && list_all has_in_range p.has
 
-abbrev pub numbers_in_range : Planet → Parts → Bool
+abbrev pub numbers_in_range : WorldValue → Parts → Bool
 numbers_in_range w p = ((head_in_range (head_of p) && people_in_range p) && list_all (structure_in_range w) p.structures) && list_all (books_in_range (books_bound p)) p.books
 
-pub record AreRowsInRange (w : Planet) (p : Parts) : Type 0 where
+pub record AreRowsInRange (w : WorldValue) (p : Parts) : Type 0 where
   pub keys : AreKeyed p
   pub few : IsTrue (are_few p)
   pub numbers : IsTrue (numbers_in_range w p)
@@ -158,9 +158,9 @@ pub record AreRowsNamed (p : Parts) : Type 0 where
 -- ---- what rows say of other rows
 
 -- of a unit that is there
-abbrev pub is_of_unit : State → StoredHas → Bool
+abbrev pub is_of_unit : CampaignValue → StoredHas → Bool
 is_of_unit c r = is_some (get c.units (as_u32 r.unit))
 
 -- of an entry and a thing that are there
-abbrev pub is_booked : Planet → StoredBooks → Bool
+abbrev pub is_booked : WorldValue → StoredBooks → Bool
 is_booked w r = is_entry (as_u32 r.entry) && nat_lt (as_u32 r.thing) (things_of w)

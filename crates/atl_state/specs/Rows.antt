@@ -19,7 +19,7 @@ use Rattle.atl_state.specs.declared.records.Region.{Region}
 use Rattle.atl_state.specs.declared.records.Structure.{Structure}
 use Rattle.atl_state.specs.declared.records.Unit.{Unit}
 use Rattle.atl_state.specs.Held.{Held}
-use Rattle.atl_state.specs.State.{State}
+use Rattle.atl_state.specs.Campaign.{CampaignValue}
 
 -- 1 where a flag is set
 abbrev pub flag : Bool → ℤ
@@ -29,7 +29,7 @@ flag false = pos 0
 -- ---- one row
 
 -- the campaign's own row: its id is 1, and its format 1
-abbrev pub head_row : State → StoredHead
+abbrev pub head_row : CampaignValue → StoredHead
 head_row c = record { id = pos 1; format = pos 1; month = pos c.month; next_faction = pos c.next_faction; next_unit = pos c.next_unit; next_structure = pos c.next_structure; pass = c.pass }
 
 abbrev pub faction_row : ℕ → Faction → StoredFaction
@@ -93,7 +93,7 @@ books_rows books = flat_map (entry_rows books (length books)) (range_with_len 0 
 -- ---- all of them
 
 -- the rows of a campaign, each once
-unfoldable pub rows_of : State → Parts
+unfoldable pub rows_of : CampaignValue → Parts
 rows_of c = record {
   campaign = head_row c ∷ [];
   factions = rows_by faction_row (entries c.factions);
@@ -119,5 +119,5 @@ pub record AreSameRows (some others : Parts) : Type 0 where
   pub books : IsPermutation some.books others.books
 
 -- the rows of a campaign, each once, in any order
-abbrev pub AreRowsOf : State → Parts → Type 0
+abbrev pub AreRowsOf : CampaignValue → Parts → Type 0
 AreRowsOf c parts = AreSameRows (rows_of c) parts

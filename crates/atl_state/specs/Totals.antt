@@ -6,7 +6,7 @@ use Rattle.atl_state.specs.declared.books.Thing.{Thing}
 use Rattle.atl_state.specs.declared.books.Thing.TheVariants.{Money, People, Item}
 use Rattle.atl_state.specs.declared.records.Region.{Region}
 use Rattle.atl_state.specs.Held.{Held, amount_of}
-use Rattle.atl_state.specs.State.{State}
+use Rattle.atl_state.specs.Campaign.{CampaignValue}
 use Rattle.atl_state.specs.Books.{booked}
 
 -- how much of a thing a unit holds
@@ -22,13 +22,13 @@ kept People r = r.peasants
 kept (Item i) r = 0
 
 -- the sum over all units and regions
-unfoldable pub total : State → Thing → ℕ
+unfoldable pub total : CampaignValue → Thing → ℕ
 total c t = sum_over (λ u. held t u.holding) c.units + sum_over (λ r. kept t r) c.regions
 
 -- few enough units and regions for a total to be counted
-abbrev pub IsCountable : State → Type 0
+abbrev pub IsCountable : CampaignValue → Type 0
 IsCountable c = len c.units + len c.regions ≤ 1000000
 
 -- for each thing the total is the sum of its entries
-abbrev pub Balances : State → Type 0
+abbrev pub Balances : CampaignValue → Type 0
 Balances c = (t : Thing) → pos (total c t) ≡ booked c.books t

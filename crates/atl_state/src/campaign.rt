@@ -2,7 +2,7 @@
 ghost use Rattle.std.specs.Prelude.{◌≡◌, ◌<◌, IfOk, OnOk, OnErr, length};
 ghost use Rattle.std.specs.Option.{option_copied};
 ghost use Rattle.std.specs.FinMap as map;
-ghost use Rattle.atl_state.specs.State.{active, numbers_in, numbers_of, numbers_inside, with_mail, with_report};
+ghost use Rattle.atl_state.specs.Campaign.{active, numbers_in, numbers_of, numbers_inside, with_mail, with_report};
 ghost use Rattle.atl_state.specs.Books.{amount_in, thing_place};
 ghost use Rattle.atl_state.specs.Totals.{total, IsCountable};
 ghost use Rattle.atl_state.specs.Marking.{mark_mail, mark_report};
@@ -64,15 +64,15 @@ impl Drop for Campaign {
 }
 
 impl Model for Campaign {
-    ghost use Rattle.atl_state.specs.State.{Marked, marked_code};
+    ghost use Rattle.atl_state.specs.Campaign.{MarkedCampaign, marked_code};
     ghost use Rattle.atl_state.specs.Kept.{AreKept};
 
-    ghost Value = { Marked };
+    ghost Value = { MarkedCampaign };
 
     ghost coded = { marked_code };
 
     ghost view = { λ a. record {
-      what = record {
+      value = record {
         month = a.month;
         pass = a.pass;
         next_faction = a.next_faction;
@@ -110,56 +110,56 @@ impl Campaign {
 
     /// The month last closed, from 0 to LAST_MONTH.
     pub fn month(&self) -> u32
-        ensures { result ≡ self.now.what.month }
+        ensures { result ≡ self.now.value.month }
     {
         self.month
     }
 
     /// The moderator's pass text.
     pub fn pass(&self) -> &Text
-        ensures { result.now ≡ self.now.what.pass }
+        ensures { result.now ≡ self.now.value.pass }
     {
         &self.pass
     }
 
     /// The number of the faction that joins next, from 1; one more than atl_orders' LAST_FACTION where no more can join.
     pub fn next_faction(&self) -> u32
-        ensures { result ≡ self.now.what.next_faction }
+        ensures { result ≡ self.now.value.next_faction }
     {
         self.next_faction
     }
 
     /// The number of the unit that comes next, from 1 to one more than LAST_UNIT.
     pub fn next_unit(&self) -> u32
-        ensures { result ≡ self.now.what.next_unit }
+        ensures { result ≡ self.now.value.next_unit }
     {
         self.next_unit
     }
 
     /// The number of the structure that is begun next, from 1 to one more than MOST_STRUCTURES.
     pub fn next_structure(&self) -> u32
-        ensures { result ≡ self.now.what.next_structure }
+        ensures { result ≡ self.now.value.next_structure }
     {
         self.next_structure
     }
 
     /// The faction of this number, also one that is gone; None where none joined under it.
     pub fn faction(&self, number: u32) -> Option<&Faction>
-        ensures { option_copied result ≡ map.get self.now.what.factions number }
+        ensures { option_copied result ≡ map.get self.now.value.factions number }
     {
         self.factions.get(number)
     }
 
     /// All factions that ever joined with their numbers, in rising order.
     pub fn factions(&self) -> Entries<'_, Faction>
-        ensures { result ≡ map.entries self.now.what.factions }
+        ensures { result ≡ map.entries self.now.value.factions }
     {
         self.factions.iter()
     }
 
     /// The numbers of the factions that aren't gone, in rising order. AllocError without memory for them.
     pub fn active(&self) -> Result<Vec<u32>, AllocError>
-        ensures { IfOk result (λ numbers. numbers.items ≡ active self.now.what) }
+        ensures { IfOk result (λ numbers. numbers.items ≡ active self.now.value) }
     {
         let mut numbers = Vec::new(self.alloc);
         for (number, faction) in self.factions() {
@@ -172,105 +172,105 @@ impl Campaign {
 
     /// How many factions ever joined.
     pub fn faction_count(&self) -> usize
-        ensures { result ≡ map.len self.now.what.factions }
+        ensures { result ≡ map.len self.now.value.factions }
     {
         self.factions.len()
     }
 
     /// The region of this number; None where the world has none.
     pub fn region(&self, number: u32) -> Option<&Region>
-        ensures { option_copied result ≡ map.get self.now.what.regions number }
+        ensures { option_copied result ≡ map.get self.now.value.regions number }
     {
         self.regions.get(number)
     }
 
     /// The regions with their numbers, in rising order.
     pub fn regions(&self) -> Entries<'_, Region>
-        ensures { result ≡ map.entries self.now.what.regions }
+        ensures { result ≡ map.entries self.now.value.regions }
     {
         self.regions.iter()
     }
 
     /// How many regions there are.
     pub fn region_count(&self) -> usize
-        ensures { result ≡ map.len self.now.what.regions }
+        ensures { result ≡ map.len self.now.value.regions }
     {
         self.regions.len()
     }
 
     /// The unit of this number; None where none has it yet, or it was removed.
     pub fn unit(&self, number: u32) -> Option<&Unit>
-        ensures { option_copied result ≡ map.get self.now.what.units number }
+        ensures { option_copied result ≡ map.get self.now.value.units number }
     {
         self.units.get(number)
     }
 
     /// The units with their numbers, in rising order.
     pub fn units(&self) -> SlotEntries<'_, Unit>
-        ensures { result ≡ map.entries self.now.what.units }
+        ensures { result ≡ map.entries self.now.value.units }
     {
         self.units.iter()
     }
 
     /// How many units there are, at most MOST_UNITS.
     pub fn unit_count(&self) -> usize
-        ensures { result ≡ map.len self.now.what.units }
+        ensures { result ≡ map.len self.now.value.units }
     {
         self.units.len()
     }
 
     /// The structure of this number; None where none was begun under it.
     pub fn structure(&self, number: u32) -> Option<&Structure>
-        ensures { option_copied result ≡ map.get self.now.what.structures number }
+        ensures { option_copied result ≡ map.get self.now.value.structures number }
     {
         self.structures.get(number)
     }
 
     /// The structures with their numbers, in rising order.
     pub fn structures(&self) -> Entries<'_, Structure>
-        ensures { result ≡ map.entries self.now.what.structures }
+        ensures { result ≡ map.entries self.now.value.structures }
     {
         self.structures.iter()
     }
 
     /// How many structures were ever begun, at most MOST_STRUCTURES.
     pub fn structure_count(&self) -> usize
-        ensures { result ≡ map.len self.now.what.structures }
+        ensures { result ≡ map.len self.now.value.structures }
     {
         self.structures.len()
     }
 
     /// A faction's mail for the month to come, byte for byte as it was sent; None where it sent none.
     pub fn mail_of(&self, faction: u32) -> Option<&Sequence<u8>>
-        ensures { option_copied result ≡ map.get self.now.what.mail faction }
+        ensures { option_copied result ≡ map.get self.now.value.mail faction }
     {
         self.mail.get(faction)
     }
 
     /// The mail for the month to come with the factions' numbers, in rising order.
     pub fn mail(&self) -> Entries<'_, Sequence<u8>>
-        ensures { result ≡ map.entries self.now.what.mail }
+        ensures { result ≡ map.entries self.now.value.mail }
     {
         self.mail.iter()
     }
 
     /// The stored report of a faction; None where none is stored.
     pub fn report(&self, faction: u32) -> Option<&Text>
-        ensures { option_copied result ≡ map.get self.now.what.reports faction }
+        ensures { option_copied result ≡ map.get self.now.value.reports faction }
     {
         self.reports.get(faction)
     }
 
     /// The stored reports with the factions' numbers, in rising order.
     pub fn reports(&self) -> Entries<'_, Text>
-        ensures { result ≡ map.entries self.now.what.reports }
+        ensures { result ≡ map.entries self.now.value.reports }
     {
         self.reports.iter()
     }
 
     /// How many things are booked: money, people, and each item of the world. No amount of another thing is marked.
     pub fn things(&self) -> usize
-        ensures count { result ≡ length self.now.what.books }
+        ensures count { result ≡ length self.now.value.books }
         ensures marks { AreOfThings result self.now.marks.books }
     {
         self.books.len()
@@ -278,15 +278,15 @@ impl Campaign {
 
     /// All that is booked.
     pub(crate) fn books(&self) -> &Books
-        ensures { result.now ≡ self.now.what.books }
+        ensures { result.now ≡ self.now.value.books }
     {
         &self.books
     }
 
     /// What came in of a thing under an entry so far, less what went: money, men and peasants, or pieces of an item.
     pub fn booked(&self, entry: Entry, thing: Thing) -> i64
-        requires { thing_place thing < length self.now.what.books }
-        ensures { result ≡ amount_in self.now.what.books entry thing }
+        requires { thing_place thing < length self.now.value.books }
+        ensures { result ≡ amount_in self.now.value.books entry thing }
     {
         self.books.amount(entry, thing)
     }
@@ -297,21 +297,21 @@ impl Campaign {
 
     /// The numbers of the units that stand in a region, in rising order; none where there is no such region.
     pub fn in_region(&self, region: u32) -> &[u32]
-        ensures { result.now ≡ numbers_in region self.now.what.units }
+        ensures { result.now ≡ numbers_in region self.now.value.units }
     {
         listed(&self.lists.by_region, region)
     }
 
     /// The numbers of the units of a faction, in rising order; none where there is no such faction, or it is gone.
     pub fn of_faction(&self, faction: u32) -> &[u32]
-        ensures { result.now ≡ numbers_of faction self.now.what.units }
+        ensures { result.now ≡ numbers_of faction self.now.value.units }
     {
         listed(&self.lists.by_faction, faction)
     }
 
     /// The numbers of the units inside a structure, in rising order; none where it is 0, which is no structure.
     pub fn inside(&self, structure: u32) -> &[u32]
-        ensures { result.now ≡ numbers_inside structure self.now.what.units }
+        ensures { result.now ≡ numbers_inside structure self.now.value.units }
     {
         listed(&self.lists.by_structure, structure)
     }
@@ -320,7 +320,7 @@ impl Campaign {
     /// changes. It takes no memory.
     pub fn unit_mut(&mut self, number: u32) -> Option<&mut Holding>
         ensures* writes_back { sem 𝓛 (LendsHolding self.entry number result) }
-        ensures value { option_copied_mut result ≡ option_map (λ u. u.holding) (map.get self.old.what.units number) }
+        ensures value { option_copied_mut result ≡ option_map (λ u. u.holding) (map.get self.old.value.units number) }
     {
         match self.units.get_mut(number) {
             Some(unit) => Some(&mut unit.holding),
@@ -331,7 +331,7 @@ impl Campaign {
     /// Stores a faction's mail for the month to come in the place of an older one, and marks it. AllocError without memory,
     /// and then the campaign and its marks stay as they are.
     pub fn set_mail(&mut self, faction: u32, text: Sequence<u8>) -> Result<(), AllocError>
-        ensures ok { OnOk result (self.new.what ≡ with_mail self.old.what faction text) }
+        ensures ok { OnOk result (self.new.value ≡ with_mail self.old.value faction text) }
         ensures err { OnErr result (self.new ≡ self.old) }
         ensures marks { OnOk result (self.new.marks ≡ mark_mail self.old faction) }
     {
@@ -342,7 +342,7 @@ impl Campaign {
     /// Stores a faction's report in the place of an older one, and marks it. AllocError without memory, and then the campaign
     /// and its marks stay as they are.
     pub fn set_report(&mut self, faction: u32, report: Text) -> Result<(), AllocError>
-        ensures ok { OnOk result (self.new.what ≡ with_report self.old.what faction report) }
+        ensures ok { OnOk result (self.new.value ≡ with_report self.old.value faction report) }
         ensures err { OnErr result (self.new ≡ self.old) }
         ensures marks { OnOk result (self.new.marks ≡ mark_report self.old faction) }
     {
@@ -353,8 +353,8 @@ impl Campaign {
     /// The money, the people (peasants and men) or the pieces of an item of all units and regions. It takes no memory.
     #[tactic(auto, unfolding(crate::specs::Totals::total))]
     pub fn total(&self, thing: Thing) -> u64
-        requires { IsCountable self.now.what }
-        ensures { result ≡ total self.now.what thing }
+        requires { IsCountable self.now.value }
+        ensures { result ≡ total self.now.value thing }
     {
         units_total(&self.units, thing) + regions_total(&self.regions, thing)
     }

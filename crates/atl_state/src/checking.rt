@@ -2,10 +2,10 @@
 ghost use Rattle.std.specs.Prelude.{◌≡◌, true};
 ghost use Rattle.std.specs.Bool.{Decides};
 ghost use Rattle.std.specs.List.{list_all};
-ghost use Rattle.atl_tables.specs.Planet.{IsWorld};
+ghost use Rattle.atl_tables.specs.Worlds.{IsWorld};
 ghost use Rattle.atl_state.specs.declared.checking.Rule.TheVariants as rule;
 ghost use Rattle.atl_state.specs.Checking.{rule_number, Keeps, KeepsBelow, Passes, Checks, GivesBack};
-ghost use Rattle.atl_state.specs.FromRows.{state_of};
+ghost use Rattle.atl_state.specs.FromRows.{campaign_of};
 ghost use Rattle.atl_state.specs.RowRules.{is_of_unit, is_booked};
 
 use crate::campaign::{Campaign, assembled};
@@ -102,7 +102,7 @@ fn check_rows(alloc: Global, world: &World, parts: &Parts) -> Result<(), CheckFa
 
 /// Whether what units have is of units that are there.
 fn are_of_units(parts: &Parts, campaign: &Campaign) -> bool
-    ensures { result ≡ list_all (is_of_unit campaign.now.what) parts.now.has }
+    ensures { result ≡ list_all (is_of_unit campaign.now.value) parts.now.has }
 {
     parts
         .has
@@ -130,14 +130,14 @@ fn are_booked(world: &World, parts: &Parts) -> bool
 }
 
 fn keeps_known(world: &World, parts: &Parts, campaign: &Campaign) -> bool
-    requires { campaign.now.what ≡ state_of world.now parts.now }
+    requires { campaign.now.value ≡ campaign_of world.now parts.now }
     ensures { Decides result (Keeps world.now parts.now rule.Known) }
 {
     are_known(world, campaign) && are_of_units(parts, campaign)
 }
 
 fn keeps_books(world: &World, parts: &Parts, campaign: &Campaign) -> bool
-    requires what { campaign.now.what ≡ state_of world.now parts.now }
+    requires what { campaign.now.value ≡ campaign_of world.now parts.now }
     requires before { KeepsBelow world.now parts.now 11 }
     ensures { Decides result (Keeps world.now parts.now rule.Books) }
 {
@@ -145,7 +145,7 @@ fn keeps_books(world: &World, parts: &Parts, campaign: &Campaign) -> bool
 }
 
 fn keeps_mail(world: &World, parts: &Parts, campaign: &Campaign) -> bool
-    requires { campaign.now.what ≡ state_of world.now parts.now }
+    requires { campaign.now.value ≡ campaign_of world.now parts.now }
     ensures { Decides result (Keeps world.now parts.now rule.Mail) }
 {
     are_mailings(campaign) && are_reported(campaign)
@@ -153,7 +153,7 @@ fn keeps_mail(world: &World, parts: &Parts, campaign: &Campaign) -> bool
 
 /// What is there, and whose numbers and days are right.
 fn check_places(world: &World, parts: &Parts, campaign: &Campaign) -> Result<(), CheckFault>
-    requires what { campaign.now.what ≡ state_of world.now parts.now }
+    requires what { campaign.now.value ≡ campaign_of world.now parts.now }
     requires before { KeepsBelow world.now parts.now 4 }
     ensures { Passes world.now parts.now 8 result }
 {
@@ -174,7 +174,7 @@ fn check_places(world: &World, parts: &Parts, campaign: &Campaign) -> Result<(),
 
 /// Who owns and guards, what floats, what is booked and what is sent.
 fn check_holders(world: &World, parts: &Parts, campaign: &Campaign) -> Result<(), CheckFault>
-    requires what { campaign.now.what ≡ state_of world.now parts.now }
+    requires what { campaign.now.value ≡ campaign_of world.now parts.now }
     requires before { KeepsBelow world.now parts.now 8 }
     ensures { Passes world.now parts.now 13 result }
 {

@@ -40,7 +40,7 @@ fn flag(set: bool) -> i64
 }
 
 fn head_row(alloc: Global, campaign: &Campaign) -> Result<StoredHead, AllocError>
-    ensures { IfOk result (λ row. row ≡ head_row campaign.now.what) }
+    ensures { IfOk result (λ row. row ≡ head_row campaign.now.value) }
 {
     let pass = bytes_of(alloc, campaign.pass())?;
     Ok(StoredHead {
@@ -104,7 +104,7 @@ fn structure_row(
 }
 
 fn head_rows(alloc: Global, campaign: &Campaign) -> Result<Sequence<StoredHead>, AllocError>
-    ensures { IfOk result (λ rows. rows ≡ head_row campaign.now.what ∷ []) }
+    ensures { IfOk result (λ rows. rows ≡ head_row campaign.now.value ∷ []) }
 {
     let mut rows = Sequence::new(alloc);
     rows.push(head_row(alloc, campaign)?)?;
@@ -112,7 +112,7 @@ fn head_rows(alloc: Global, campaign: &Campaign) -> Result<Sequence<StoredHead>,
 }
 
 fn faction_rows(alloc: Global, campaign: &Campaign) -> Result<Sequence<StoredFaction>, AllocError>
-    ensures { IfOk result (λ rows. rows ≡ rows_by faction_row (map.entries campaign.now.what.factions)) }
+    ensures { IfOk result (λ rows. rows ≡ rows_by faction_row (map.entries campaign.now.value.factions)) }
 {
     let mut rows = Sequence::new(alloc);
     for (number, faction) in campaign.factions() {
@@ -122,7 +122,7 @@ fn faction_rows(alloc: Global, campaign: &Campaign) -> Result<Sequence<StoredFac
 }
 
 fn region_rows(alloc: Global, campaign: &Campaign) -> Result<Sequence<StoredRegion>, AllocError>
-    ensures { IfOk result (λ rows. rows ≡ rows_by region_row (map.entries campaign.now.what.regions)) }
+    ensures { IfOk result (λ rows. rows ≡ rows_by region_row (map.entries campaign.now.value.regions)) }
 {
     let mut rows = Sequence::new(alloc);
     for (number, region) in campaign.regions() {
@@ -136,7 +136,7 @@ fn region_rows(alloc: Global, campaign: &Campaign) -> Result<Sequence<StoredRegi
 }
 
 fn unit_rows(alloc: Global, campaign: &Campaign) -> Result<Sequence<StoredUnit>, AllocError>
-    ensures { IfOk result (λ rows. rows ≡ rows_by unit_row (map.entries campaign.now.what.units)) }
+    ensures { IfOk result (λ rows. rows ≡ rows_by unit_row (map.entries campaign.now.value.units)) }
 {
     let mut rows = Sequence::new(alloc);
     for (number, unit) in campaign.units() {
@@ -149,7 +149,7 @@ fn structure_rows(
     alloc: Global,
     campaign: &Campaign,
 ) -> Result<Sequence<StoredStructure>, AllocError>
-    ensures { IfOk result (λ rows. rows ≡ rows_by structure_row (map.entries campaign.now.what.structures)) }
+    ensures { IfOk result (λ rows. rows ≡ rows_by structure_row (map.entries campaign.now.value.structures)) }
 {
     let mut rows = Sequence::new(alloc);
     for (number, structure) in campaign.structures() {
@@ -159,7 +159,7 @@ fn structure_rows(
 }
 
 fn mail_rows(alloc: Global, campaign: &Campaign) -> Result<Sequence<StoredMail>, AllocError>
-    ensures { IfOk result (λ rows. rows ≡ rows_by mail_row (map.entries campaign.now.what.mail)) }
+    ensures { IfOk result (λ rows. rows ≡ rows_by mail_row (map.entries campaign.now.value.mail)) }
 {
     let mut rows = Sequence::new(alloc);
     for (number, mail) in campaign.mail() {
@@ -171,7 +171,7 @@ fn mail_rows(alloc: Global, campaign: &Campaign) -> Result<Sequence<StoredMail>,
 }
 
 fn report_rows(alloc: Global, campaign: &Campaign) -> Result<Sequence<StoredReport>, AllocError>
-    ensures { IfOk result (λ rows. rows ≡ rows_by report_row (map.entries campaign.now.what.reports)) }
+    ensures { IfOk result (λ rows. rows ≡ rows_by report_row (map.entries campaign.now.value.reports)) }
 {
     let mut rows = Sequence::new(alloc);
     for (number, report) in campaign.reports() {
@@ -223,7 +223,7 @@ fn add_held(
 }
 
 fn has_rows(alloc: Global, campaign: &Campaign) -> Result<Sequence<StoredHas>, AllocError>
-    ensures { IfOk result (λ rows. rows ≡ has_rows (map.entries campaign.now.what.units)) }
+    ensures { IfOk result (λ rows. rows ≡ has_rows (map.entries campaign.now.value.units)) }
 {
     let mut rows = Sequence::new(alloc);
     for (number, unit) in campaign.units() {
@@ -276,7 +276,7 @@ impl Campaign {
     /// The rows that stand for the campaign, in the order of their keys. See docs/FORMATS.md, "Tables".
     #[tactic(auto, unfolding(crate::specs::Rows::rows_of))]
     pub fn parts(&self) -> Result<Parts, AllocError>
-        ensures { IfOk result (λ parts. parts ≡ rows_of self.now.what) }
+        ensures { IfOk result (λ parts. parts ≡ rows_of self.now.value) }
     {
         let alloc = self.alloc();
         let campaign = head_rows(alloc, self)?;

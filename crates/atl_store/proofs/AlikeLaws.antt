@@ -6,11 +6,11 @@ use Rattle.std.specs.FinMap.{FinMap, get}
 use Rattle.std.proofs.lemmas.List.{ext_get_or}
 use Rattle.sqlite.specs.Order.{Row}
 use Rattle.sqlite_trees.specs.Tree.{Trees}
-use Rattle.atl_tables.specs.Planet.{Planet}
+use Rattle.atl_tables.specs.Worlds.{WorldValue}
 use Rattle.atl_state.specs.Books.{amount_in, entry_place, thing_at, thing_place, IsGrid}
 use Rattle.atl_state.specs.Founding as founding
 use Rattle.atl_state.specs.Good.{Every, IsGood}
-use Rattle.atl_state.specs.State.{State}
+use Rattle.atl_state.specs.Campaign.{CampaignValue}
 use Rattle.atl_state.specs.declared.books.Entry.{Entry}
 use Rattle.atl_state.specs.declared.books.Thing.{Thing}
 use Rattle.atl_state.specs.declared.records.Faction.{Faction}
@@ -92,7 +92,7 @@ reports_tell m k n p s t is there same = (cc, cc)
 abbrev HaveSome : FinMap nat_cmp Unit → Type 0
 HaveSome units = Every (λ n u. (sort : Sort) → Every (λ thing amount. amount ≢ 0) (things_of sort u.holding)) units
 
-have_some : (w : Planet) (c : State) → IsGood w c → HaveSome c.units
+have_some : (w : WorldValue) (c : CampaignValue) → IsGood w c → HaveSome c.units
 have_some w c good n u is Item thing amount there = let range = (good.sound.steady.numbers.units n u is).1.items thing amount there in λ none. omega (arith, range.0, none)
 have_some w c good n u is Skill thing amount there = let range = good.sound.steady.days n u is thing amount there in λ none. omega (arith, range.0, none)
 
@@ -189,7 +189,7 @@ module _ (things : ℕ) (rows : List Row) (m k : List (List ℤ)) (g : IsGrid th
 
 -- ---- the whole
 
-module _ (db : Trees) (one other : List ℕ) (c d : State) (h : Holds db one c) (j : Holds db other d) where
+module _ (db : Trees) (one other : List ℕ) (c d : CampaignValue) (h : Holds db one c) (j : Holds db other d) where
   one_row : campaign_line one c ≡ campaign_line other d
   one_row = (j.campaign (campaign_line one c)).0 ((h.campaign (campaign_line one c)).1 refl)
 

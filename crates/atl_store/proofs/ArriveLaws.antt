@@ -9,7 +9,7 @@ use Rattle.std.proofs.lemmas.Cmp.{tied_itself}
 use Rattle.sqlite.specs.Order.{Row}
 use Rattle.sqlite.specs.Effect.{Database}
 use Rattle.sqlite_rules.specs.Lists.{Has}
-use Rattle.atl_state.specs.State.{State as Campaign}
+use Rattle.atl_state.specs.Campaign.{CampaignValue}
 use Rattle.atl_state.specs.Books.{amount_in, entry_place, thing_place}
 use Rattle.atl_state.specs.declared.books.Entry.{Entry}
 use Rattle.atl_state.specs.declared.books.Thing.{Thing}
@@ -88,7 +88,7 @@ no_goods rows units n u fresh bare was r = (
 
 -- ---- one amount of the books
 
-module _ (c : Campaign) (e : Entry) (t : Thing) where
+module _ (c : CampaignValue) (e : Entry) (t : Thing) where
   abbrev row : Row
   row = books_row (entry_place e + 1) (thing_place t) (amount_in c.books e t)
 
@@ -134,19 +134,19 @@ module _ (c : Campaign) (e : Entry) (t : Thing) where
       )
 
 -- its statements are the ones of the amount
-module _ (c : Campaign) (e : Entry) (t : Thing) (n k : ℕ) (entry : n ≡ entry_place e + 1) (thing : k ≡ thing_place t) where
+module _ (c : CampaignValue) (e : Entry) (t : Thing) (n k : ℕ) (entry : n ≡ entry_place e + 1) (thing : k ≡ thing_place t) where
   pub amount_put : (z : ℤ) → z ≡ amount_in c.books e t → z ≢ pos 0 → OfAmount c e t (upsert books_table 2) (books_row n k z)
   amount_put z amount some = rw (entry, thing, amount) (puts_amount (λ zero. some (amount ∙ zero)))
 
   pub amount_taken : amount_in c.books e t ≡ pos 0 → OfAmount c e t (deletion books_table 2) (books_key n k)
   amount_taken zero = rw (entry, thing) (drops_amount zero)
 
-pub amount_changes : (c : Campaign) (e : Entry) (t : Thing) (sql : List ℕ) (params : Row) → OfAmount c e t sql params → OfChange c sql params
+pub amount_changes : (c : CampaignValue) (e : Entry) (t : Thing) (sql : List ℕ) (params : Row) → OfAmount c e t sql params → OfChange c sql params
 amount_changes c e t sql params (puts_amount some) = changes_row (puts_books (e, t, some, refl))
 amount_changes c e t sql params (drops_amount zero) = drops_books e t zero
 
 -- the row of an amount is put, or taken out where the amount is 0
-module _ (c : Campaign) (e : Entry) (t : Thing) (n k : ℕ) (entry : n ≡ entry_place e + 1) (thing : k ≡ thing_place t) (old new : Database) where
+module _ (c : CampaignValue) (e : Entry) (t : Thing) (n k : ℕ) (entry : n ≡ entry_place e + 1) (thing : k ≡ thing_place t) (old new : Database) where
   pub settles_by_put : (z : ℤ) → z ≡ amount_in c.books e t → z ≢ pos 0 → Puts books_table 2 (books_row n k z) old new → Settles c e t old new
   settles_by_put z amount some did =
       let lines : amount_lines c e t ≡ books_row n k z ∷ [] = amount_is c e t n k z entry thing amount some in

@@ -14,7 +14,7 @@ use Rattle.sqlite_value.specs.declared.value.Value.TheVariants.{Null, Int, Real,
 use Rattle.atl_state.specs.Limits.{entry_count}
 use Rattle.atl_state.specs.Books.{all_entries, amount_in, entry_place, thing_place}
 use Rattle.atl_state.specs.Marks.{amount_number, AreOfThings}
-use Rattle.atl_state.specs.State.{Marked}
+use Rattle.atl_state.specs.Campaign.{MarkedCampaign}
 use Rattle.atl_state.specs.declared.books.Entry.{Entry}
 use Rattle.atl_state.specs.declared.books.Thing.{Thing}
 use Rattle.atl_store.specs.Tables.{books_table}
@@ -145,21 +145,21 @@ module _ (marks : FinSet nat_cmp) where
 
 -- ---- one amount
 
-module _ (c : Marked) (e : Entry) (t : Thing) where
+module _ (c : MarkedCampaign) (e : Entry) (t : Thing) where
   abbrev is_here : Row → Bool
   is_here r = of_amounts c.marks.books (is_number (entry_place e)) (is_number (thing_place t)) r
 
   abbrev row : Row
-  row = books_row (entry_place e + 1) (thing_place t) (amount_in c.what.books e t)
+  row = books_row (entry_place e + 1) (thing_place t) (amount_in c.value.books e t)
 
   -- a wanted row at the same places is the row
-  same_place : (f : Entry) (u : Thing) → amount_in c.what.books f u ≢ pos 0 → entry_place f ≡ entry_place e → thing_place u ≡ thing_place t
-      → (r : Row) → r ≡ books_row (entry_place f + 1) (thing_place u) (amount_in c.what.books f u) → Has (amount_lines c.what e t) r
+  same_place : (f : Entry) (u : Thing) → amount_in c.value.books f u ≢ pos 0 → entry_place f ≡ entry_place e → thing_place u ≡ thing_place t
+      → (r : Row) → r ≡ books_row (entry_place f + 1) (thing_place u) (amount_in c.value.books f u) → Has (amount_lines c.value e t) r
   same_place f u some entries things r is =
-      let books = c.what.books in
+      let books = c.value.books in
       let same : amount_in books f u ≡ amount_in books e t = ap (λ k. get_or (get_or books k []) (entry_place f) (pos 0)) things ∙ ap (λ k. get_or (get_or books (thing_place t) []) k (pos 0)) entries in
       let row_is : r ≡ row = is ∙ ap (λ k. books_row (k + 1) (thing_place u) (amount_in books f u)) entries ∙ ap (λ k. books_row (entry_place e + 1) k (amount_in books f u)) things ∙ ap (books_row (entry_place e + 1) (thing_place t)) same in
-      subst (Has (amount_lines c.what e t)) (sym row_is) (has_optional (int_eq (amount_in books e t) (pos 0)) row (is_differing (amount_in books e t) (λ none. some (same ∙ none))))
+      subst (Has (amount_lines c.value e t)) (sym row_is) (has_optional (int_eq (amount_in books e t) (pos 0)) row (is_differing (amount_in books e t) (λ none. some (same ∙ none))))
 
   -- an amount that isn't marked chooses no row
   pub unmarked_none : contains c.marks.books (amount_number e t) ≡ false → (r : Row) → is_here r ≡ false
@@ -193,24 +193,24 @@ module _ (c : Marked) (e : Entry) (t : Thing) where
         ap (λ x. is_here (x ∷ w ∷ row)) (first ∙ ap int place) ∙ ap (λ x. is_here (int (suc (entry_place e)) ∷ x ∷ row)) second
         ∙ ap (λ b. b && (is_number (thing_place t) (thing_place t) && contains c.marks.books (amount_number e t))) (is_itself (entry_place e)) ∙ ap (λ b. b && contains c.marks.books (amount_number e t)) (is_itself (thing_place t)) ∙ marked
 
-    settle_rewrite : (old new : Database) → Settles c.what e t old new
+    settle_rewrite : (old new : Database) → Settles c.value e t old new
         → RewritesAmounts c (is_number (entry_place e)) (is_number (thing_place t)) old new
-    settle_rewrite old new did = rewrites_key is_here (λ r. take 2 r ≡ books_key (entry_place e + 1) (thing_place t)) (Has (amount_lines c.what e t)) (BooksRowsOf c.what.books) key_of of_key
-        (λ r here. let is = optional_has (int_eq (amount_in c.what.books e t) (pos 0)) row r here in (ap (take 2) is.1, (e, t, differs_zero (amount_in c.what.books e t) is.0, is.1)))
+    settle_rewrite old new did = rewrites_key is_here (λ r. take 2 r ≡ books_key (entry_place e + 1) (thing_place t)) (Has (amount_lines c.value e t)) (BooksRowsOf c.value.books) key_of of_key
+        (λ r here. let is = optional_has (int_eq (amount_in c.value.books e t) (pos 0)) row r here in (ap (take 2) is.1, (e, t, differs_zero (amount_in c.value.books e t) is.0, is.1)))
         (λ r is of.
         let keys = two_same (entry_place of.0 + 1) (thing_place of.1) (entry_place e + 1) (thing_place t) (ap (take 2) (sym of.3) ∙ key_of r is) in
         same_place of.0 of.1 of.2 (omega (arith, keys.0)) keys.1 r of.3)
         books_table old new did.rows did.others
 
-    pub settle_done : (old new : State) → Inside HasTables (Settles c.what e t) old new
+    pub settle_done : (old new : State) → Inside HasTables (Settles c.value e t) old new
         → Inside HasTables (RewritesAmounts c (is_number (entry_place e)) (is_number (thing_place t))) old new
-    settle_done old new did = inside_weaker HasTables (Settles c.what e t) (RewritesAmounts c (is_number (entry_place e)) (is_number (thing_place t))) old new (λ has settles. settle_rewrite old.now new.now settles) did
+    settle_done old new did = inside_weaker HasTables (Settles c.value e t) (RewritesAmounts c (is_number (entry_place e)) (is_number (thing_place t))) old new (λ has settles. settle_rewrite old.now new.now settles) did
 
 -- ---- one entry after another, and one thing after another
 
-module _ (c : Marked) where
+module _ (c : MarkedCampaign) where
   abbrev wanted : Row → Type 0
-  wanted r = BooksRowsOf c.what.books r
+  wanted r = BooksRowsOf c.value.books r
 
   -- with the rest of these entries rewritten too, all are
   abbrev pub NearingEntries : (ℕ → Bool) → List Entry → List Entry → Database → Database → Type 0

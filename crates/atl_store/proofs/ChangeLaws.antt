@@ -12,7 +12,7 @@ use Rattle.sqlite_rules.specs.Lists.{Has}
 use Rattle.atl_state.specs.Covers.{SameBut, Covers, bare, goods_under, own_row}
 use Rattle.atl_state.specs.Books.{amount_in, entry_place, thing_place}
 use Rattle.atl_state.specs.Marks.{amount_number}
-use Rattle.atl_state.specs.State.{State, Marked}
+use Rattle.atl_state.specs.Campaign.{CampaignValue, MarkedCampaign}
 use Rattle.atl_state.specs.declared.books.Entry.{Entry}
 use Rattle.atl_state.specs.Limits.{entry_count}
 use Rattle.atl_state.proofs.EveryEntryLaws.{entry_small}
@@ -122,14 +122,14 @@ amounts_follow one other marks r same not_marked of =
 abbrev head_in : ℕ × (List ℕ × (ℕ × (ℕ × ℕ))) → Head
 head_in row = record { month = row.0; pass = row.1.0; next_faction = row.1.1.0; next_unit = row.1.1.1.0; next_structure = row.1.1.1.1 }
 
-head_held : (b : Bool) (before after : State) → (b ≡ false → own_row after ≡ own_row before) → head_after b after (head_of before) ≡ head_of after
+head_held : (b : Bool) (before after : CampaignValue) → (b ≡ false → own_row after ≡ own_row before) → head_after b after (head_of before) ≡ head_of after
 head_held true before after same = refl
 head_held false before after same = ap head_in (sym (same refl))
 
 -- ---- the whole
 
 -- whatever stands under marked keys
-pub unmarked_held : (c : Marked) (old new : Database) → WritesChanges c old new → (text : List ℕ) → HoldsUnmarked old.trees text c → Holds new.trees text c.what
+pub unmarked_held : (c : MarkedCampaign) (old new : Database) → WritesChanges c old new → (text : List ℕ) → HoldsUnmarked old.trees text c → Holds new.trees text c.value
 unmarked_held c old new changes text rest =
     let m = c.marks in
     let did = changes rest.before text rest.campaign in
@@ -146,10 +146,10 @@ unmarked_held c old new changes text rest =
     }
 
 -- tables that hold a campaign from which only this differs
-pub covers_unmarked : (c : Marked) (db : Trees) (text : List ℕ) (before : State) → Covers c.marks before c.what → Holds db text before → HoldsUnmarked db text c
+pub covers_unmarked : (c : MarkedCampaign) (db : Trees) (text : List ℕ) (before : CampaignValue) → Covers c.marks before c.value → Holds db text before → HoldsUnmarked db text c
 covers_unmarked c db text before covers held =
     let m = c.marks in
-    let after = c.what in
+    let after = c.value in
     record {
       before = head_of before;
       campaign = held.campaign;
@@ -165,5 +165,5 @@ covers_unmarked c db text before covers held =
       books = rest_of (amount_marked m.books) (BooksRowsOf before.books) (BooksRowsOf after.books) _ (λ r is. amounts_follow before.books after.books m.books r covers.books is) (λ r is. amounts_follow after.books before.books m.books r (λ e t not_marked. sym (covers.books e t not_marked)) is) held.books;
     }
 
-pub changes_held : (c : Marked) (old new : Database) → WritesChanges c old new → (text : List ℕ) (before : State) → Covers c.marks before c.what → Holds old.trees text before → Holds new.trees text c.what
+pub changes_held : (c : MarkedCampaign) (old new : Database) → WritesChanges c old new → (text : List ℕ) (before : CampaignValue) → Covers c.marks before c.value → Holds old.trees text before → Holds new.trees text c.value
 changes_held c old new changes text before covers held = unmarked_held c old new changes text (covers_unmarked c old.trees text before covers held)

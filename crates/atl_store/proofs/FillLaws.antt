@@ -10,7 +10,7 @@ use Rattle.sqlite.specs.Effect.{Database}
 use Rattle.sqlite.specs.State.{State}
 use Rattle.sqlite_rules.specs.Lists.{Has}
 use Rattle.sqlite_rules.proofs.ListLemmas.{some_from}
-use Rattle.atl_state.specs.State.{State as Campaign}
+use Rattle.atl_state.specs.Campaign.{CampaignValue}
 use Rattle.atl_state.specs.declared.records.Unit.{Unit}
 use Rattle.atl_store.specs.Sets.{Set, Is, put, rows_in, visible}
 use Rattle.atl_store.specs.Tables.{campaign_table, faction_table, region_table, unit_table, has_table, structure_table, mail_table, report_table, books_table, all_tables}
@@ -47,7 +47,7 @@ one_row rows old row none made r = (
   λ same. (made r).1 (inl same),
 )
 
-head_fills : (c : Campaign) (text : List ℕ) (a b : Database) → PutsHead (head_of c) text a b → FillsOne campaign_table (λ r. r ≡ campaign_line text c) a b
+head_fills : (c : CampaignValue) (text : List ℕ) (a b : Database) → PutsHead (head_of c) text a b → FillsOne campaign_table (λ r. r ≡ campaign_line text c) a b
 head_fills c text a b puts none = let one = puts.first none in (one_row (rows_in campaign_table b.trees) (rows_in campaign_table a.trees) (campaign_line text c) none one.rows, one.others)
 
 -- ---- three tables, one after another
@@ -79,7 +79,7 @@ goods_of es fs a b same did = subst (λ (x : List (ℕ × Unit)). Inside HasTabl
 
 -- ---- the campaign's own row, factions and reports
 
-fills_players : (c : Campaign) (text : List ℕ) (a b d e : Database) → PutsHead (head_of c) text a b → PutsRows faction_table 1 (lines_of faction_line (entries c.factions)) b d → PutsRows report_table 1 (lines_of report_row (entries c.reports)) d e
+fills_players : (c : CampaignValue) (text : List ℕ) (a b d e : Database) → PutsHead (head_of c) text a b → PutsRows faction_table 1 (lines_of faction_line (entries c.factions)) b d → PutsRows report_table 1 (lines_of report_row (entries c.reports)) d e
     → FillsPlayers text c a e
 fills_players c text a b d e first second third none =
     let all = three_filled campaign_table faction_table report_table (inl refl) (inr (inl refl)) (inr (inr (inr (inr (inr (inr (inr (inl refl))))))))
@@ -93,7 +93,7 @@ fills_players c text a b d e first second third none =
       λ t listed free. all.3 t listed (other_tree t.tree player_trees campaign_table.tree (inl refl) free) (other_tree t.tree player_trees faction_table.tree (inr (inl refl)) free) (other_tree t.tree player_trees report_table.tree (inr (inr (inl refl))) free),
     )
 
-pub players_done : (c : Campaign) (text : List ℕ) (start one two three : State) → Inside HasTables (PutsHead (head_of c) text) start one → Inside HasTables (PutsRows faction_table 1 (lines_of faction_line (entries c.factions))) one two
+pub players_done : (c : CampaignValue) (text : List ℕ) (start one two three : State) → Inside HasTables (PutsHead (head_of c) text) start one → Inside HasTables (PutsRows faction_table 1 (lines_of faction_line (entries c.factions))) one two
     → Inside HasTables (PutsRows report_table 1 (lines_of report_row (entries c.reports))) two three → Inside HasTables (FillsPlayers text c) start three
 players_done c text start one two three first second third =
     let head = PutsHead (head_of c) text in
@@ -104,7 +104,7 @@ players_done c text start one two three first second third =
 
 -- ---- regions, structures and books
 
-fills_places : (c : Campaign) (a b d e : Database) → PutsRows region_table 1 (lines_of region_line (entries c.regions)) a b → PutsRows structure_table 1 (lines_of structure_line (entries c.structures)) b d
+fills_places : (c : CampaignValue) (a b d e : Database) → PutsRows region_table 1 (lines_of region_line (entries c.regions)) a b → PutsRows structure_table 1 (lines_of structure_line (entries c.structures)) b d
     → PutsRows books_table 2 (things_lines c (range_with_len 0 (length c.books))) d e → FillsPlaces c a e
 fills_places c a b d e first second third none =
     let all = three_filled region_table structure_table books_table (inr (inr (inl refl))) (inr (inr (inr (inr (inr (inl refl)))))) (inr (inr (inr (inr (inr (inr (inr (inr (inl refl)))))))))
@@ -118,7 +118,7 @@ fills_places c a b d e first second third none =
       λ t listed free. all.3 t listed (other_tree t.tree place_trees region_table.tree (inl refl) free) (other_tree t.tree place_trees structure_table.tree (inr (inl refl)) free) (other_tree t.tree place_trees books_table.tree (inr (inr (inl refl))) free),
     )
 
-pub places_done : (c : Campaign) (start one two three : State) → Inside HasTables (PutsRows region_table 1 (lines_of region_line (entries c.regions))) start one
+pub places_done : (c : CampaignValue) (start one two three : State) → Inside HasTables (PutsRows region_table 1 (lines_of region_line (entries c.regions))) start one
     → Inside HasTables (PutsRows structure_table 1 (lines_of structure_line (entries c.structures))) one two → Inside HasTables (PutsRows books_table 2 (things_lines c (range_with_len 0 (length c.books)))) two three
     → Inside HasTables (FillsPlaces c) start three
 places_done c start one two three first second third =
@@ -130,7 +130,7 @@ places_done c start one two three first second third =
 
 -- ---- units, what they have, and mail
 
-fills_people : (c : Campaign) (a b d e : Database) → PutsRows unit_table 1 (lines_of unit_line (entries c.units)) a b → PutsRows has_table 3 (all_goods_lines (entries c.units)) b d
+fills_people : (c : CampaignValue) (a b d e : Database) → PutsRows unit_table 1 (lines_of unit_line (entries c.units)) a b → PutsRows has_table 3 (all_goods_lines (entries c.units)) b d
     → PutsRows mail_table 1 (lines_of mail_row (entries c.mail)) d e → FillsPeople c a e
 fills_people c a b d e first second third none =
     let all = three_filled unit_table has_table mail_table (inr (inr (inr (inl refl)))) (inr (inr (inr (inr (inl refl))))) (inr (inr (inr (inr (inr (inr (inl refl)))))))
@@ -144,7 +144,7 @@ fills_people c a b d e first second third none =
       λ t listed free. all.3 t listed (other_tree t.tree people_trees unit_table.tree (inl refl) free) (other_tree t.tree people_trees has_table.tree (inr (inl refl)) free) (other_tree t.tree people_trees mail_table.tree (inr (inr (inl refl))) free),
     )
 
-pub people_done : (c : Campaign) (start one two three : State) → Inside HasTables (PutsRows unit_table 1 (lines_of unit_line (entries c.units))) start one → Inside HasTables (PutsRows has_table 3 (all_goods_lines (entries c.units))) one two
+pub people_done : (c : CampaignValue) (start one two three : State) → Inside HasTables (PutsRows unit_table 1 (lines_of unit_line (entries c.units))) start one → Inside HasTables (PutsRows has_table 3 (all_goods_lines (entries c.units))) one two
     → Inside HasTables (PutsRows mail_table 1 (lines_of mail_row (entries c.mail))) two three → Inside HasTables (FillsPeople c) start three
 people_done c start one two three first second third =
     let units = PutsRows unit_table 1 (lines_of unit_line (entries c.units)) in
@@ -155,7 +155,7 @@ people_done c start one two three first second third =
 
 -- ---- the whole
 
-holds_all : (c : Campaign) (text : List ℕ) (z a b d e : Database) → AreEmpty z a → FillsPlayers text c a b → FillsPlaces c b d → FillsPeople c d e → Holds e.trees text c
+holds_all : (c : CampaignValue) (text : List ℕ) (z a b d e : Database) → AreEmpty z a → FillsPlayers text c a b → FillsPlaces c b d → FillsPeople c d e → Holds e.trees text c
 holds_all c text z a b d e empty first second third =
     let one = first (record { campaign = empty campaign_table (inl refl); factions = empty faction_table (inr (inl refl)); reports = empty report_table (inr (inr (inr (inr (inr (inr (inr (inl refl)))))))) }) in
     let two = second (record {
@@ -180,7 +180,7 @@ holds_all c text z a b d e empty first second third =
       mail = three.0.mail;
     }
 
-pub founding_done : (c : Campaign) (text : List ℕ) (start one two three four : State) → Inside IsBlank AreEmpty start one → Inside HasTables (FillsPlayers text c) one two → Inside HasTables (FillsPlaces c) two three → Inside HasTables (FillsPeople c) three four
+pub founding_done : (c : CampaignValue) (text : List ℕ) (start one two three four : State) → Inside IsBlank AreEmpty start one → Inside HasTables (FillsPlayers text c) one two → Inside HasTables (FillsPlaces c) two three → Inside HasTables (FillsPeople c) three four
     → Inside IsBlank (WritesFounding text c) start four
 founding_done c text start one two three four first second third fourth =
     let players = FillsPlayers text c in

@@ -11,7 +11,7 @@ use Rattle.sqlite.specs.Table.{Table}
 use Rattle.sqlite.specs.Effect.{Database}
 use Rattle.sqlite.specs.State.{State}
 use Rattle.sqlite_rules.specs.Lists.{Has}
-use Rattle.atl_state.specs.State.{State as Campaign, with_mail}
+use Rattle.atl_state.specs.Campaign.{CampaignValue, with_mail}
 use Rattle.atl_state.specs.Books.{amount_in, row_of, with_booked, entry_place, thing_place, IsGrid}
 use Rattle.atl_state.specs.Founding.{things_of as count_of}
 use Rattle.atl_state.specs.Joining.{joined, new_faction, first_unit}
@@ -56,7 +56,7 @@ beside_booked things books e t n grid small f u far =
 
 -- ---- how the campaign after a joining differs
 
-record IsArrival (n : ℕ) (f : Faction) (m : ℕ) (u : Unit) (report : List ℕ) (before after : Campaign) : Type 0 where
+record IsArrival (n : ℕ) (f : Faction) (m : ℕ) (u : Unit) (report : List ℕ) (before after : CampaignValue) : Type 0 where
   factions : after.factions ≡ insert before.factions n f
   units : after.units ≡ insert before.units m u
   reports : after.reports ≡ insert before.reports n report
@@ -75,7 +75,7 @@ record IsArrival (n : ℕ) (f : Faction) (m : ℕ) (u : Unit) (report : List ℕ
 found_is : {V : Type 0} (m after : FinMap nat_cmp V) (n k : ℕ) (v w : V) → after ≡ insert m n v → k ≡ n → get after k ≡ Some w → v ≡ w
 found_is {V} m after n k v w is same got = same_Some v w (sym (get_inserted m n v) ∙ ap (λ (x : FinMap nat_cmp V). get x n) (sym is) ∙ ap (get after) (sym same) ∙ got)
 
-arrives : (n : ℕ) (f : Faction) (m : ℕ) (u : Unit) (report : List ℕ) (before after : Campaign) → IsFound after n f m u report → IsJoining before n after → IsArrival n f m u report before after
+arrives : (n : ℕ) (f : Faction) (m : ℕ) (u : Unit) (report : List ℕ) (before after : CampaignValue) → IsFound after n f m u report → IsJoining before n after → IsArrival n f m u report before after
 unfolding joined
 arrives n f m u report before after found joining =
     let w = joining.0 in
@@ -87,12 +87,12 @@ arrives n f m u report before after found joining =
     let half = with_booked before.books Joining Money start in
     let things = count_of w in
     let number : n ≡ before.next_faction = joining.6 in
-    let next : after.next_unit ≡ before.next_unit + 1 = ap (λ (c : Campaign). c.next_unit) is in
+    let next : after.next_unit ≡ before.next_unit + 1 = ap (λ (c : CampaignValue). c.next_unit) is in
     let place : m ≡ before.next_unit = omega (arith, next, found.place_is) in
-    let factions : after.factions ≡ insert before.factions before.next_faction member = ap (λ (c : Campaign). c.factions) is in
-    let units : after.units ≡ insert before.units before.next_unit band = ap (λ (c : Campaign). c.units) is in
-    let reports : after.reports ≡ insert before.reports n joining.4 = ap (λ (c : Campaign). c.reports) is in
-    let books : after.books ≡ with_booked half Joining People (pos 1) = ap (λ (c : Campaign). c.books) is in
+    let factions : after.factions ≡ insert before.factions before.next_faction member = ap (λ (c : CampaignValue). c.factions) is in
+    let units : after.units ≡ insert before.units before.next_unit band = ap (λ (c : CampaignValue). c.units) is in
+    let reports : after.reports ≡ insert before.reports n joining.4 = ap (λ (c : CampaignValue). c.reports) is in
+    let books : after.books ≡ with_booked half Joining People (pos 1) = ap (λ (c : CampaignValue). c.books) is in
     let member_is : member ≡ f = found_is before.factions after.factions before.next_faction n member f factions number found.faction_is in
     let band_is : band ≡ u = found_is before.units after.units before.next_unit m band u units place found.unit_is in
     let report_is : joining.4 ≡ report = found_is before.reports after.reports n n joining.4 report reports refl found.report_is in
@@ -101,9 +101,9 @@ arrives n f m u report before after found joining =
       factions = factions ∙ ap (λ k. insert before.factions k member) (sym number) ∙ ap (insert before.factions n) member_is;
       units = units ∙ ap (λ k. insert before.units k band) (sym place) ∙ ap (insert before.units m) band_is;
       reports = reports ∙ ap (insert before.reports n) report_is;
-      regions = ap (λ (c : Campaign). c.regions) is;
-      structures = ap (λ (c : Campaign). c.structures) is;
-      mail = ap (λ (c : Campaign). c.mail) is;
+      regions = ap (λ (c : CampaignValue). c.regions) is;
+      structures = ap (λ (c : CampaignValue). c.structures) is;
+      mail = ap (λ (c : CampaignValue). c.mail) is;
       fresh = good.sound.steady.next.units m (omega (arith, place));
       bare = λ sort. subst (λ (x : Unit). things_of sort x.holding ≡ empty) band_is (nothing sort);
       half = half;
@@ -124,23 +124,23 @@ put_head rows news text before after was made r = (
   λ same. (made r).1 (inl same),
 )
 
-abbrev Enrolls : ℕ → Faction → ℕ → Unit → Campaign → List ℕ → Database → Database → Type 0
+abbrev Enrolls : ℕ → Faction → ℕ → Unit → CampaignValue → List ℕ → Database → Database → Type 0
 Enrolls n f m u after world = Both (PutsHead (head_of after) world) (Both (Puts faction_table 1 (faction_line n f)) (Puts unit_table 1 (unit_line m u)))
 
-abbrev Reports : ℕ → List ℕ → Campaign → Database → Database → Type 0
+abbrev Reports : ℕ → List ℕ → CampaignValue → Database → Database → Type 0
 Reports n report after = Both (Puts report_table 1 (report_row n report)) (Both (Settles after Joining Money) (Settles after Joining People))
 
 -- what came of the rows of a table that the steps before and after left alone
 rows_moved : (t : Table) (F : List Row → Set) (a b c d : Database) → b.trees t.tree ≡ a.trees t.tree → d.trees t.tree ≡ c.trees t.tree → Is (rows_in t c.trees) (F (rows_in t b.trees)) → Is (rows_in t d.trees) (F (rows_in t a.trees))
 rows_moved t F a b c d first last is = subst (λ rows. Is rows (F (rows_in t a.trees))) (sym (ap (map (visible t)) last)) (subst (λ rows. Is (rows_in t c.trees) (F rows)) (ap (map (visible t)) first) is)
 
-settled_on : (c : Campaign) (e : Entry) (t : Thing) (rows news : List Row) (S : Set) → Is rows S → Is news (settled c e t (Has rows)) → Is news (settled c e t S)
+settled_on : (c : CampaignValue) (e : Entry) (t : Thing) (rows news : List Row) (S : Set) → Is rows S → Is news (settled c e t (Has rows)) → Is news (settled c e t S)
 settled_on c e t rows news S was is r = (
   λ there. elim ((is r).0 there) [ inl new ↦ inl new | inr kept ↦ inr ((was r).0 kept.0, kept.1) ],
   λ h. (is r).1 (elim h [ inl new ↦ inl new | inr kept ↦ inr ((was r).1 kept.0, kept.1) ]),
 )
 
-module _ (n : ℕ) (f : Faction) (m : ℕ) (u : Unit) (report : List ℕ) (after : Campaign) (found : IsFound after n f m u report) where
+module _ (n : ℕ) (f : Faction) (m : ℕ) (u : Unit) (report : List ℕ) (after : CampaignValue) (found : IsFound after n f m u report) where
   joins : (world : List ℕ) (a b d : Database) → Enrolls n f m u after world a b → Reports n report after b d → WritesJoin n after a d
   joins world a b d enrolls reports before text was =
       let x = enrolls.0 in
@@ -189,7 +189,7 @@ module _ (n : ℕ) (f : Faction) (m : ℕ) (u : Unit) (report : List ℕ) (after
       }
 
   -- tables that held the campaign before the joining hold the one after it
-  pub join_held : (a d : Database) → WritesJoin n after a d → (text : List ℕ) (before : Campaign) → IsJoining before n after → Holds a.trees text before → Holds d.trees text after
+  pub join_held : (a d : Database) → WritesJoin n after a d → (text : List ℕ) (before : CampaignValue) → IsJoining before n after → Holds a.trees text before → Holds d.trees text after
   join_held a d did text before joining holds =
       let arrival = arrives n f m u report before after found joining in
       let enters = did (head_of before) text holds.campaign in
@@ -207,21 +207,21 @@ module _ (n : ℕ) (f : Faction) (m : ℕ) (u : Unit) (report : List ℕ) (after
         books = λ r. (λ there. (people r).0 ((enters.books r).0 there), λ of. (enters.books r).1 ((people r).1 of));
       }
 
-pub enrolling_done : (n : ℕ) (f : Faction) (m : ℕ) (u : Unit) (after : Campaign) (world : List ℕ) (start one two three : State) → Inside HasTables (PutsHead (head_of after) world) start one → Inside HasTables (Puts faction_table 1 (faction_line n f)) one two
+pub enrolling_done : (n : ℕ) (f : Faction) (m : ℕ) (u : Unit) (after : CampaignValue) (world : List ℕ) (start one two three : State) → Inside HasTables (PutsHead (head_of after) world) start one → Inside HasTables (Puts faction_table 1 (faction_line n f)) one two
     → Inside HasTables (Puts unit_table 1 (unit_line m u)) two three → Inside HasTables (Both (PutsHead (head_of after) world) (Both (Puts faction_table 1 (faction_line n f)) (Puts unit_table 1 (unit_line m u)))) start three
 enrolling_done n f m u after world start one two three first second third =
     let factions = Puts faction_table 1 (faction_line n f) in
     let units = Puts unit_table 1 (unit_line m u) in
     inside_then HasTables (PutsHead (head_of after) world) (Both factions units) start one three first (inside_then HasTables factions units one two three second third)
 
-pub reporting_done : (n : ℕ) (report : List ℕ) (after : Campaign) (start one two three : State) → Inside HasTables (Puts report_table 1 (report_row n report)) start one → Inside HasTables (Settles after Joining Money) one two
+pub reporting_done : (n : ℕ) (report : List ℕ) (after : CampaignValue) (start one two three : State) → Inside HasTables (Puts report_table 1 (report_row n report)) start one → Inside HasTables (Settles after Joining Money) one two
     → Inside HasTables (Settles after Joining People) two three → Inside HasTables (Both (Puts report_table 1 (report_row n report)) (Both (Settles after Joining Money) (Settles after Joining People))) start three
 reporting_done n report after start one two three first second third =
     let money = Settles after Joining Money in
     let people = Settles after Joining People in
     inside_then HasTables (Puts report_table 1 (report_row n report)) (Both money people) start one three first (inside_then HasTables money people one two three second third)
 
-pub joining_done : (n : ℕ) (f : Faction) (m : ℕ) (u : Unit) (report : List ℕ) (after : Campaign) (world : List ℕ) (start one two : State) → IsFound after n f m u report
+pub joining_done : (n : ℕ) (f : Faction) (m : ℕ) (u : Unit) (report : List ℕ) (after : CampaignValue) (world : List ℕ) (start one two : State) → IsFound after n f m u report
     → Inside HasTables (Both (PutsHead (head_of after) world) (Both (Puts faction_table 1 (faction_line n f)) (Puts unit_table 1 (unit_line m u)))) start one
     → Inside HasTables (Both (Puts report_table 1 (report_row n report)) (Both (Settles after Joining Money) (Settles after Joining People))) one two → Inside HasTables (WritesJoin n after) start two
 joining_done n f m u report after world start one two found first second =
@@ -231,7 +231,7 @@ joining_done n f m u report after world start one two found first second =
 -- ---- a mail
 
 -- tables that held a campaign hold it with this mail
-pub mail_held : (faction : ℕ) (mail : List ℕ) (a b : Database) → WritesMail faction mail a b → (text : List ℕ) (before : Campaign) → Holds a.trees text before → Holds b.trees text (with_mail before faction mail)
+pub mail_held : (faction : ℕ) (mail : List ℕ) (a b : Database) → WritesMail faction mail a b → (text : List ℕ) (before : CampaignValue) → Holds a.trees text before → Holds b.trees text (with_mail before faction mail)
 mail_held faction mail a b did text before holds = record {
   campaign = stays_is campaign_table (λ r. r ≡ campaign_line text before) a b (did.others campaign_table (inl refl) (λ e. absurd (omega (arith, e)))) holds.campaign;
   factions = stays_is faction_table (RowsOf faction_line before.factions) a b (did.others faction_table (inr (inl refl)) (λ e. absurd (omega (arith, e)))) holds.factions;

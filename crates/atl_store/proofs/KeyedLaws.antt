@@ -20,7 +20,7 @@ use Rattle.sqlite_rules.specs.Lists.{Has}
 use Rattle.sqlite_rules.proofs.ListLemmas.{all_from, all_has}
 use Rattle.atl_state.specs.Rows.{rows_by, rows_of, AreRowsOf}
 use Rattle.atl_state.specs.Rows as made
-use Rattle.atl_state.specs.State.{State}
+use Rattle.atl_state.specs.Campaign.{CampaignValue}
 use Rattle.atl_state.specs.declared.parts.Parts.{Parts}
 use Rattle.atl_state.specs.declared.parts.StoredBooks.{StoredBooks}
 use Rattle.atl_state.specs.declared.parts.StoredHas.{StoredHas}
@@ -138,7 +138,7 @@ books_apart db placed same keyed = keyed_apart books_stored (λ s. s.rowid) 3 (�
 
 -- ---- all nine
 
-pub rows_keyed : (db : Trees) (text : List ℕ) (p : Parts) (c : State) → HaveRows db text p → AreRowsOf c p → IsKeyed (db has_table.tree) → IsKeyed (db books_table.tree) → (table : Table) → Has all_tables table → IsKeyed (db table.tree)
+pub rows_keyed : (db : Trees) (text : List ℕ) (p : Parts) (c : CampaignValue) → HaveRows db text p → AreRowsOf c p → IsKeyed (db has_table.tree) → IsKeyed (db books_table.tree) → (table : Table) → Has all_tables table → IsKeyed (db table.tree)
 unfolding rows_of
 rows_keyed db text p c have are has books table there =
     let campaign = keyed_numbers (own_stored text) (λ (s : StoredHead). s.id) 0 (λ s. refl) (visible campaign_table) (db 0) p.campaign (λ r. refl) have.campaign (one_apart (λ (s : StoredHead). s.id) (made.head_row c) p.campaign are.campaign) in

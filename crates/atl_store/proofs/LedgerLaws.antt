@@ -10,7 +10,7 @@ use Rattle.std.proofs.lemmas.Option.{none-some, same_Some}
 use Rattle.sqlite.specs.Order.{Row}
 use Rattle.sqlite_rules.specs.Lists.{Has}
 use Rattle.sqlite_rules.proofs.ListLemmas.{test_has}
-use Rattle.atl_state.specs.State.{State}
+use Rattle.atl_state.specs.Campaign.{CampaignValue}
 use Rattle.atl_state.specs.Books.{all_entries, amount_in, entry_place, thing_at, thing_place}
 use Rattle.atl_state.specs.declared.books.Entry.{Entry}
 use Rattle.atl_state.specs.declared.books.Thing.{Thing}
@@ -47,7 +47,7 @@ pub is_differing : (z : ℤ) → z ≢ pos 0 → int_eq z (pos 0) ≡ false
 is_differing z apart = elim (cases_Bool (int_eq z (pos 0))) [ inl same ↦ absurd (apart (grind (ints, arith))) | inr differs ↦ differs ]
 
 -- the one row of an amount that is not 0
-pub amount_is : (c : State) (entry : Entry) (thing : Thing) (e t : ℕ) (z : ℤ) → e ≡ entry_place entry + 1 → t ≡ thing_place thing → z ≡ amount_in c.books entry thing → z ≢ pos 0 → amount_lines c entry thing ≡ books_row e t z ∷ []
+pub amount_is : (c : CampaignValue) (entry : Entry) (thing : Thing) (e t : ℕ) (z : ℤ) → e ≡ entry_place entry + 1 → t ≡ thing_place thing → z ≡ amount_in c.books entry thing → z ≢ pos 0 → amount_lines c entry thing ≡ books_row e t z ∷ []
 amount_is c entry thing e t z entry_is thing_is amount some =
     let place = entry_place entry + 1 in
     let value = amount_in c.books entry thing in
@@ -80,7 +80,7 @@ within books e t some = elim (cases_lt (thing_place t) (length books)) [
 
 -- ---- the rows of all amounts
 
-module _ (c : State) where
+module _ (c : CampaignValue) where
   abbrev row_at : Entry → Thing → Row
   row_at e t = books_row (entry_place e + 1) (thing_place t) (amount_in c.books e t)
 

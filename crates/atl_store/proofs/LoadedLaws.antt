@@ -7,11 +7,11 @@ use Rattle.sqlite_trees.specs.declared.store.Store.{Ghosts}
 use Rattle.sqlite.specs.Effect.{Database}
 use Rattle.sqlite.specs.Held.{Held, state}
 use Rattle.sqlite.specs.State.{HasCleanDisk}
-use Rattle.atl_tables.specs.Planet.{Planet}
+use Rattle.atl_tables.specs.Worlds.{WorldValue}
 use Rattle.atl_tables.specs.World.{old_world_of}
 use Rattle.atl_state.specs.Checking.{Checks, IsFirstBroken}
 use Rattle.atl_state.specs.RowRules.{is_one_head}
-use Rattle.atl_state.specs.State.{Marked}
+use Rattle.atl_state.specs.Campaign.{MarkedCampaign}
 use Rattle.atl_state.specs.declared.checking.CheckFault.{CheckFault}
 use Rattle.atl_state.specs.declared.checking.CheckFault.TheVariants as check
 use Rattle.atl_state.specs.declared.checking.Rule.{Rule}
@@ -39,7 +39,7 @@ one_head : (h : StoredHead) (rows : List StoredHead) → h.id ≡ pos 1 → h.fo
 one_head h rows id format is = rw (is, id, format) refl
 
 module _ {S : Type 0} (g : Ghosts S) where
-  pub own_kept : (old : Held S) (own : StoredCampaign) (w : Planet) → OwnRead g old own w → KeepsOneRow g old
+  pub own_kept : (old : Held S) (own : StoredCampaign) (w : WorldValue) → OwnRead g old own w → KeepsOneRow g old
   own_kept old own w read = record {
     rows = read.rows;
     selects = read.selects;
@@ -50,7 +50,7 @@ module _ {S : Type 0} (g : Ghosts S) where
   }
 
   -- all rows, as they were read
-  made_rows : {Z : Type 0} (old : Held S) (own : StoredCampaign) (w : Planet) (read : OthersRead Z) (p : Parts) → OwnRead g old own w → AreOthers g old read → IsMadeOf own.head read p → HasNine old.schema → HaveRows (state g old).now.trees (string_bytes own.world) p
+  made_rows : {Z : Type 0} (old : Held S) (own : StoredCampaign) (w : WorldValue) (read : OthersRead Z) (p : Parts) → OwnRead g old own w → AreOthers g old read → IsMadeOf own.head read p → HasNine old.schema → HaveRows (state g old).now.trees (string_bytes own.world) p
   made_rows old own w read p row others made nine = subst (HaveRows (state g old).now.trees (string_bytes own.world)) (sym made.is) (record {
     campaign = row.table nine;
     factions = others.0.0.0.0 nine;
@@ -75,7 +75,7 @@ module _ {S : Type 0} (g : Ghosts S) where
     books_apart = made.books_apart;
   }
 
-  pub gathered_with : {Z : Type 0} (old : Held S) (own : StoredCampaign) (w : Planet) (read : OthersRead Z) (p : Parts) → OwnRead g old own w → Found g old other_selects (AreOthers g old) (Some read) → IsMadeOf own.head read p → Gathered g old w p
+  pub gathered_with : {Z : Type 0} (old : Held S) (own : StoredCampaign) (w : WorldValue) (read : OthersRead Z) (p : Parts) → OwnRead g old own w → Found g old other_selects (AreOthers g old) (Some read) → IsMadeOf own.head read p → Gathered g old w p
   gathered_with old own w read p row found made = record {
     one = own_kept old own w row;
     head = one_head own.head p.campaign row.row.id row.row.format (ap (λ (p : Parts). p.campaign) made.is);
@@ -89,16 +89,16 @@ module _ {S : Type 0} (g : Ghosts S) where
   -- ---- what the check of the rows refuses
 
   -- the tables are made as those of a campaign
-  are_made : (old : Held S) (w : Planet) (p : Parts) → Gathered g old w p → HasNine old.schema → AreMade g old
+  are_made : (old : Held S) (w : WorldValue) (p : Parts) → Gathered g old w p → HasNine old.schema → AreMade g old
   are_made old w p all nine =
       let places = all.places nine in
       let db = (state g old).now.trees in
       record { nine = nine; has_keyed = has_keyed db places.has_placed places.has places.has_apart; books_keyed = books_keyed db places.books_placed places.books places.books_apart }
 
-  breaks : (old : Held S) (w : Planet) (p : Parts) → Gathered g old w p → HasNine old.schema → (rule : Rule) → IsFirstBroken w p rule → BreaksRule g old rule
+  breaks : (old : Held S) (w : WorldValue) (p : Parts) → Gathered g old w p → HasNine old.schema → (rule : Rule) → IsFirstBroken w p rule → BreaksRule g old rule
   breaks old w p all nine rule first = record { made = are_made old w p all nine; world = w; text = all.text; is_world = all.world; parts = p; rows = all.rows nine; first = first }
 
-  damaged : (old : Held S) (w : Planet) (p : Parts) → Gathered g old w p → HasNine old.schema → (rule : Rule) → IsFirstBroken w p rule → IsDamaged g old rule
+  damaged : (old : Held S) (w : WorldValue) (p : Parts) → Gathered g old w p → HasNine old.schema → (rule : Rule) → IsFirstBroken w p rule → IsDamaged g old rule
   damaged old w p all nine OneRow first = absurd (first.broken all.head)
   damaged old w p all nine Ranges first = inr (breaks old w p all nine Ranges first)
   damaged old w p all nine Names first = breaks old w p all nine Names first
@@ -116,7 +116,7 @@ module _ {S : Type 0} (g : Ghosts S) where
   wants_memory : (old : Held S) → old.in_transaction ≡ false → KeepsOneRow g old → WantsMemory g old
   wants_memory old idle kept = (idle, inr (kept.rows, kept.selects))
 
-  pub judged_damaged : (old : Held S) → old.in_transaction ≡ false → (w : Planet) (p : Parts) → Gathered g old w p → HasNine old.schema → (fault : CheckFault) → Checks w p (Err fault) → RefusesToLoad g old (judged_fault fault)
+  pub judged_damaged : (old : Held S) → old.in_transaction ≡ false → (w : WorldValue) (p : Parts) → Gathered g old w p → HasNine old.schema → (fault : CheckFault) → Checks w p (Err fault) → RefusesToLoad g old (judged_fault fault)
   judged_damaged old idle w p all nine (check.Damaged rule) first = damaged old w p all nine rule first
   judged_damaged old idle w p all nine check.Memory none = wants_memory old idle all.one
 
@@ -204,10 +204,10 @@ module _ {S : Type 0} (g : Ghosts S) where
     mode = leaves.idle ∙ sym idle;
   }
 
-  module _ (old new : Held S) (w : Planet) (c : Marked) (loaded : IsLoaded g old new w c) (leaves : Leaves g old new) (settled : IsSettled (state g old))
+  module _ (old new : Held S) (w : WorldValue) (c : MarkedCampaign) (loaded : IsLoaded g old new w c) (leaves : Leaves g old new) (settled : IsSettled (state g old))
       (store : (db : Trees) → IsTrue (state g new).is_open → (state g new).may_leave db → db ≡ (state g new).committed.trees) where
-    old_holds : (clean : HasCleanDisk (state g new)) → Holds (state g old).now.trees (loaded.gathered clean).text c.what
-    old_holds clean = rows_hold (state g old).now.trees (loaded.gathered clean).text loaded.parts c.what ((loaded.gathered clean).rows (loaded.confirmed clean).nine) loaded.checked.rows
+    old_holds : (clean : HasCleanDisk (state g new)) → Holds (state g old).now.trees (loaded.gathered clean).text c.value
+    old_holds clean = rows_hold (state g old).now.trees (loaded.gathered clean).text loaded.parts c.value ((loaded.gathered clean).rows (loaded.confirmed clean).nine) loaded.checked.rows
 
     old_tables : HasCleanDisk (state g new) → HasTables (state g old).now
     old_tables clean =
@@ -218,19 +218,19 @@ module _ {S : Type 0} (g : Ghosts S) where
         record {
           nine = nine;
           sound = record {
-            keyed = rows_keyed db all.text loaded.parts c.what (all.rows nine) loaded.checked.rows (has_keyed db places.has_placed places.has places.has_apart) (books_keyed db places.books_placed places.books places.books_apart);
+            keyed = rows_keyed db all.text loaded.parts c.value (all.rows nine) loaded.checked.rows (has_keyed db places.has_placed places.has places.has_apart) (books_keyed db places.books_placed places.books places.books_apart);
             listed = (loaded.confirmed clean).sound;
           };
         }
 
-    new_keeps : (clean : HasCleanDisk (state g new)) → Keeps (state g new) (loaded.gathered clean).text c.what
+    new_keeps : (clean : HasCleanDisk (state g new)) → Keeps (state g new) (loaded.gathered clean).text c.value
     new_keeps clean =
         let up = (loaded.confirmed clean).is_open in
         let stays = leaves.stays clean in
         let same = stays.same up in
         let back = settled (omega (arith, leaves.survives.clean, clean)) (stays.was_open up) in
         let tables = subst HasTables (sym same.0) (old_tables clean) in
-        let rows = subst (λ (d : Database). Holds d.trees (loaded.gathered clean).text c.what) (sym same.0) (old_holds clean) in
+        let rows = subst (λ (d : Database). Holds d.trees (loaded.gathered clean).text c.value) (sym same.0) (old_holds clean) in
         let committed : (state g new).committed ≡ (state g new).now = same.1 ∙ sym back ∙ sym same.0 in
         record {
           idle = leaves.idle;
@@ -238,13 +238,13 @@ module _ {S : Type 0} (g : Ghosts S) where
           settled = committed;
           tables = tables;
           rows = rows;
-          crash = λ db may. subst (λ t. Stores t (loaded.gathered clean).text c.what) (sym (store db up may ∙ ap (λ (d : Database). d.trees) committed)) (record { schema = (state g new).now.schema; nine = tables.nine; sound = tables.sound; rows = rows });
+          crash = λ db may. subst (λ t. Stores t (loaded.gathered clean).text c.value) (sym (store db up may ∙ ap (λ (d : Database). d.trees) committed)) (record { schema = (state g new).now.schema; nine = tables.nine; sound = tables.sound; rows = rows });
         }
 
     pub loads : Loads g old new w c
     loads = record {
-      world = λ clean. subst (λ t. old_world_of t ≡ Ok w) (sym (world_text_is (state g new) (loaded.gathered clean).text c.what (new_keeps clean))) (loaded.gathered clean).world;
-      tables = λ clean. subst (λ t. Keeps (state g new) t c.what) (sym (world_text_is (state g new) (loaded.gathered clean).text c.what (new_keeps clean))) (new_keeps clean);
+      world = λ clean. subst (λ t. old_world_of t ≡ Ok w) (sym (world_text_is (state g new) (loaded.gathered clean).text c.value (new_keeps clean))) (loaded.gathered clean).world;
+      tables = λ clean. subst (λ t. Keeps (state g new) t c.value) (sym (world_text_is (state g new) (loaded.gathered clean).text c.value (new_keeps clean))) (new_keeps clean);
       good = loaded.checked.good;
       unmarked = loaded.checked.marks;
     }

@@ -1,12 +1,12 @@
 -- Two texts whose rows one database holds read as one world.
 use Rattle.std.proofs.Common.{◌≡◌, ◌∙◌, Result, Ok, sym, ap}
-use Rattle.atl_tables.specs.Planet.{Planet}
+use Rattle.atl_tables.specs.Worlds.{WorldValue}
 use Rattle.atl_tables.specs.World.{old_world_of}
 use Rattle.atl_tables.specs.declared.fault.WorldFault.{WorldFault}
 use Rattle.atl_store.specs.OneWorld.{HoldsOneWorld}
 use Rattle.atl_store.proofs.AlikeLaws.{one_text}
 
-pub same_world : (v w : Planet) → ◌≡◌ {A = Result Planet WorldFault} (Ok v) (Ok w) → v ≡ w
+pub same_world : (v w : WorldValue) → ◌≡◌ {A = Result WorldValue WorldFault} (Ok v) (Ok w) → v ≡ w
 same_world v w is = cc
 
 pub holds_one_world : HoldsOneWorld

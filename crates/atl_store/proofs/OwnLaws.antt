@@ -5,7 +5,7 @@ use Rattle.sqlite.specs.Held.{Held, state}
 use Rattle.sqlite.specs.Order.{Row, column}
 use Rattle.sqlite_rules.specs.Lists.{Has}
 use Rattle.sqlite_trees.specs.declared.store.Store.{Ghosts}
-use Rattle.atl_tables.specs.Planet.{Planet}
+use Rattle.atl_tables.specs.Worlds.{WorldValue}
 use Rattle.atl_tables.specs.World.{old_world_of}
 use Rattle.atl_state.specs.declared.checking.Rule.TheVariants.{OneRow, Ranges, Names, Known, Next, Days, Gone, Owners, Water, Guards, Books, Mail}
 use Rattle.atl_state.specs.declared.parts.StoredHead.{StoredHead}
@@ -46,7 +46,7 @@ module _ (own : StoredCampaign) (h : StoredHead) (text : List ℕ) (is : campaig
   same_text = let e = at 7 in cc
 
 -- a row that is as it should be is one that was read so
-pub own_read : (items : List StoredCampaign) (rows : List Row) (h : StoredHead) (text : List ℕ) (w : Planet)
+pub own_read : (items : List StoredCampaign) (rows : List Row) (h : StoredHead) (text : List ℕ) (w : WorldValue)
     → map campaign_stored items ≡ map (first_columns (length campaign_forms)) rows → AreOwnRow rows h text w
     → (own : StoredCampaign) × IsOwn items own w
 own_read items rows h text w shown own =
@@ -61,7 +61,7 @@ own_read items rows h text w shown own =
     )
 
 -- every value of it is of its column's type
-pub own_typed : (rows : List Row) (h : StoredHead) (text : List ℕ) (w : Planet) → AreOwnRow rows h text w → AreTyped campaign_forms rows
+pub own_typed : (rows : List Row) (h : StoredHead) (text : List ℕ) (w : WorldValue) → AreOwnRow rows h text w → AreTyped campaign_forms rows
 own_typed rows h text w own row there =
     let one = one_mapped (first_columns (length campaign_forms)) rows (own_stored text h) own.is in
     typed row (found row there one.0 one.1 ∙ one.2)
@@ -81,8 +81,8 @@ own_typed rows h text w own row there =
 -- ---- the rows that are shown
 
 -- what is so of each of the three answers is so of all
-judged_as : (Is : StoredCampaign × Planet → Type 0) (Nothing : Type 0) (P : Result (StoredCampaign × Planet) StoreFault → Type 0) → ((both : StoredCampaign × Planet) → Is both → P (Ok both)) → P (Err Memory) → (Nothing → P (Err (Damaged OneRow)))
-    → (r : Result (StoredCampaign × Planet) StoreFault) → Judges Is Nothing r → P r
+judged_as : (Is : StoredCampaign × WorldValue → Type 0) (Nothing : Type 0) (P : Result (StoredCampaign × WorldValue) StoreFault → Type 0) → ((both : StoredCampaign × WorldValue) → Is both → P (Ok both)) → P (Err Memory) → (Nothing → P (Err (Damaged OneRow)))
+    → (r : Result (StoredCampaign × WorldValue) StoreFault) → Judges Is Nothing r → P r
 judged_as Is Nothing P read lacks broken (Ok both) judged = read both judged
 judged_as Is Nothing P read lacks broken (Err Memory) judged = lacks
 judged_as Is Nothing P read lacks broken (Err (Damaged OneRow)) judged = broken judged
@@ -101,10 +101,10 @@ judged_as Is Nothing P read lacks broken (Err (Damaged Books)) judged = absurd j
 judged_as Is Nothing P read lacks broken (Err (Damaged Mail)) judged = absurd judged
 
 -- they were read, and what was read is judged
-pub judged_rows : (items : List StoredCampaign) (rows : List Row) (r : Result (StoredCampaign × Planet) StoreFault)
+pub judged_rows : (items : List StoredCampaign) (rows : List Row) (r : Result (StoredCampaign × WorldValue) StoreFault)
     → map campaign_stored items ≡ map (first_columns (length campaign_forms)) rows → JudgesOwn items r → JudgesRows rows r
 judged_rows items rows r shown =
-    judged_as (λ both. IsOwn items both.0 both.1) ((own : StoredCampaign) (w : Planet) → ¬ IsOwn items own w) (JudgesRows rows) (λ both own. record { is = sym shown ∙ ap (map campaign_stored) own.only; id = own.id; format = own.format; utf8 = IsUtf8-string_bytes both.0.world; world = own.world }) tt
+    judged_as (λ both. IsOwn items both.0 both.1) ((own : StoredCampaign) (w : WorldValue) → ¬ IsOwn items own w) (JudgesRows rows) (λ both own. record { is = sym shown ∙ ap (map campaign_stored) own.only; id = own.id; format = own.format; utf8 = IsUtf8-string_bytes both.0.world; world = own.world }) tt
     (λ none h text w own. let was = own_read items rows h text w shown own in none was.0 w was.1) r
 
 -- they were not, as a value is of another type or for want of memory
@@ -117,13 +117,13 @@ unread_rows rows read.Refused other which = absurd (let e = which (λ e. cc) in 
 
 module _ {S : Type 0} (g : Ghosts S) (old : Held S) where
   -- the rows are not as they should be
-  pub refuses_own : old.in_transaction ≡ false → (rows : List Row) (r : Result (StoredCampaign × Planet) StoreFault) → JudgesRows rows r → Selects g (selection campaign_table 1) old rows
+  pub refuses_own : old.in_transaction ≡ false → (rows : List Row) (r : Result (StoredCampaign × WorldValue) StoreFault) → JudgesRows rows r → Selects g (selection campaign_table 1) old rows
       → IfErr r (RefusesToLoad g old)
   refuses_own idle rows r judged told =
-      judged_as (λ both. AreOwnRow rows both.0.head (string_bytes both.0.world) both.1) ((h : StoredHead) (text : List ℕ) (w : Planet) → ¬ AreOwnRow rows h text w) (λ answer. IfErr answer (RefusesToLoad g old)) (λ both own. tt) (idle, inr (rows, told)) (λ none. record { rows = rows; selects = told; broken = none }) r judged
+      judged_as (λ both. AreOwnRow rows both.0.head (string_bytes both.0.world) both.1) ((h : StoredHead) (text : List ℕ) (w : WorldValue) → ¬ AreOwnRow rows h text w) (λ answer. IfErr answer (RefusesToLoad g old)) (λ both own. tt) (idle, inr (rows, told)) (λ none. record { rows = rows; selects = told; broken = none }) r judged
 
   -- they are the campaign's own row and its world
-  pub own_is : (rows : List Row) (r : Result (StoredCampaign × Planet) StoreFault) → JudgesRows rows r → Selects g (selection campaign_table 1) old rows
+  pub own_is : (rows : List Row) (r : Result (StoredCampaign × WorldValue) StoreFault) → JudgesRows rows r → Selects g (selection campaign_table 1) old rows
       → IfOk r (λ both. OwnRead g old both.0 both.1)
   own_is rows (Err fault) judged told = tt
   own_is rows (Ok both) judged told = record { rows = rows; selects = told; row = judged; table = λ nine. subst (IsPermutation (rows_in campaign_table (state g old).now.trees)) judged.is (reads_campaign _ _ rows told.1 nine) }

@@ -15,7 +15,7 @@ use Rattle.atl_state.specs.Held.{Held}
 use Rattle.atl_state.specs.Limits.{entry_count}
 use Rattle.atl_state.specs.Rows.{rows_by, rows_of, is_zero, amount_at, AreRowsOf}
 use Rattle.atl_state.specs.Rows as made
-use Rattle.atl_state.specs.State.{State}
+use Rattle.atl_state.specs.Campaign.{CampaignValue}
 use Rattle.atl_state.specs.declared.books.Entry.{Entry}
 use Rattle.atl_state.specs.declared.books.Thing.{Thing}
 use Rattle.atl_state.specs.declared.parts.Parts.{Parts}
@@ -77,7 +77,7 @@ unit_same n u =
 
 -- ---- the campaign's own row
 
-own_held : (text : List ℕ) (c : State) (rows : List Row) (read : List StoredHead) → IsPermutation rows (map (own_stored text) read) → IsPermutation (made.head_row c ∷ []) read → Is rows (λ r. r ≡ campaign_line text c)
+own_held : (text : List ℕ) (c : CampaignValue) (rows : List Row) (read : List StoredHead) → IsPermutation rows (map (own_stored text) read) → IsPermutation (made.head_row c ∷ []) read → Is rows (λ r. r ≡ campaign_line text c)
 own_held text c rows read in_table of_them r =
     let is = are_made (own_stored text) rows read (made.head_row c ∷ []) in_table of_them r in (
       λ there. let a = is.0 there in elim a.1 [ inl same ↦ a.2 ∙ ap (own_stored text) same | inr none ↦ absurd none ],
@@ -180,7 +180,7 @@ module _ (books : List (List ℤ)) where
 -- ---- all tables
 
 -- tables that have the rows of a campaign hold it
-pub rows_hold : (db : Trees) (text : List ℕ) (p : Parts) (c : State) → HaveRows db text p → AreRowsOf c p → Holds db text c
+pub rows_hold : (db : Trees) (text : List ℕ) (p : Parts) (c : CampaignValue) → HaveRows db text p → AreRowsOf c p → Holds db text c
 unfolding rows_of
 rows_hold db text p c have are = record {
   campaign = own_held text c (rows_in campaign_table db) p.campaign have.campaign are.campaign;

@@ -6,7 +6,7 @@ use Rattle.sqlite.specs.Order.{Row}
 use Rattle.sqlite.specs.State.{State}
 use Rattle.sqlite.specs.Table.{Table}
 use Rattle.sqlite_rules.specs.Lists.{Has}
-use Rattle.atl_state.specs.State.{Marked}
+use Rattle.atl_state.specs.Campaign.{MarkedCampaign}
 use Rattle.atl_store.specs.Sets.{Set, Is, rows_in}
 use Rattle.atl_store.specs.Tables.{campaign_table, faction_table, region_table, unit_table, has_table, structure_table, mail_table, report_table, books_table, all_tables}
 use Rattle.atl_store.specs.Shown.{head_row, mail_row, report_row}
@@ -22,28 +22,28 @@ use Rattle.atl_store.proofs.WholeLaws.{inside_then, inside_weaker}
 
 -- ---- the campaign's own row
 
-module _ (c : Marked) where
-  head_put : (b : Bool) → c.marks.row ≡ b → b ≡ true → (old new : Database) → PutsHead (head_of c.what) [] old new → RewritesHead c old new
+module _ (c : MarkedCampaign) where
+  head_put : (b : Bool) → c.marks.row ≡ b → b ≡ true → (old new : Database) → PutsHead (head_of c.value) [] old new → RewritesHead c old new
   head_put b is set old new did before text was =
       let puts = did.again before text was in
-      let row = head_row (head_of c.what) text in
-      subst (λ (k : Bool). Alters campaign_table (λ r. r ≡ head_row (head_after k c.what before) text) old new) (sym (is ∙ set)) (record {
+      let row = head_row (head_of c.value) text in
+      subst (λ (k : Bool). Alters campaign_table (λ r. r ≡ head_row (head_after k c.value before) text) old new) (sym (is ∙ set)) (record {
         rows = λ r. (λ there. only r ((puts.rows r).0 there), λ same. (puts.rows r).1 (inl same));
         others = puts.others;
       })
     where
-      only : (r : Row) → (r ≡ head_row (head_of c.what) text) ⊎ (Has (rows_in campaign_table old.trees) r × (take 1 r ≢ take 1 (head_row (head_of c.what) text))) → r ≡ head_row (head_of c.what) text
+      only : (r : Row) → (r ≡ head_row (head_of c.value) text) ⊎ (Has (rows_in campaign_table old.trees) r × (take 1 r ≢ take 1 (head_row (head_of c.value) text))) → r ≡ head_row (head_of c.value) text
       only r (inl same) = same
       only r (inr kept) = absurd (kept.1 (ap (take 1) ((was r).0 kept.0)))
 
-  pub head_done : c.marks.row ≡ true → (old new : State) → Inside HasTables (PutsHead (head_of c.what) []) old new → Inside HasTables (RewritesHead c) old new
-  head_done is old new did = inside_weaker HasTables (PutsHead (head_of c.what) []) (RewritesHead c) old new (λ has puts. head_put true is refl old.now new.now puts) did
+  pub head_done : c.marks.row ≡ true → (old new : State) → Inside HasTables (PutsHead (head_of c.value) []) old new → Inside HasTables (RewritesHead c) old new
+  head_done is old new did = inside_weaker HasTables (PutsHead (head_of c.value) []) (RewritesHead c) old new (λ has puts. head_put true is refl old.now new.now puts) did
 
   pub head_left : c.marks.row ≡ false → (s : State) → Inside HasTables (RewritesHead c) s s
   head_left is s = (
     refl,
     λ has. record {
-      does = λ before text was. subst (λ k. Alters campaign_table (λ r. r ≡ head_row (head_after k c.what before) text) s.now s.now) (sym is) (record { rows = was; others = λ t listed other. refl });
+      does = λ before text was. subst (λ k. Alters campaign_table (λ r. r ≡ head_row (head_after k c.value before) text) s.now s.now) (sym is) (record { rows = was; others = λ t listed other. refl });
       tables = has;
       carries = carries_none s.now;
     },
@@ -61,12 +61,12 @@ module _ (t u v : Table) (lt : Has all_tables t) (lu : Has all_tables u) (lv : H
     λ x listed not_t not_u not_v. third.others x listed not_v ∙ second.others x listed not_u ∙ first.others x listed not_t,
   )
 
-module _ (c : Marked) where
-  players : (a b d e : Database) → RewritesHead c a b → RewritesMarked faction_table faction_line c.what.factions c.marks.factions b d → RewritesMarked report_table report_row c.what.reports c.marks.reports d e → RewritesPlayers c a e
+module _ (c : MarkedCampaign) where
+  players : (a b d e : Database) → RewritesHead c a b → RewritesMarked faction_table faction_line c.value.factions c.marks.factions b d → RewritesMarked report_table report_row c.value.reports c.marks.reports d e → RewritesPlayers c a e
   players a b d e first second third before text was =
       let all = three_altered campaign_table faction_table report_table (inl refl) (inr (inl refl)) (inr (inr (inr (inr (inr (inr (inr (inl refl))))))))
       (λ x. absurd (omega (arith, x))) (λ x. absurd (omega (arith, x))) (λ x. absurd (omega (arith, x))) (λ x. absurd (omega (arith, x))) (λ x. absurd (omega (arith, x))) (λ x. absurd (omega (arith, x)))
-      (λ rows r. r ≡ head_row (head_after c.marks.row c.what before) text) (λ rows. rewritten (begins_marked c.marks.factions) (RowsOf faction_line c.what.factions) (Has rows)) (λ rows. rewritten (begins_marked c.marks.reports) (RowsOf report_row c.what.reports) (Has rows))
+      (λ rows r. r ≡ head_row (head_after c.marks.row c.value before) text) (λ rows. rewritten (begins_marked c.marks.factions) (RowsOf faction_line c.value.factions) (Has rows)) (λ rows. rewritten (begins_marked c.marks.reports) (RowsOf report_row c.value.reports) (Has rows))
       a b d e (first before text was) second third in (
         all.0,
         all.1,
@@ -74,11 +74,11 @@ module _ (c : Marked) where
         λ t listed free. all.3 t listed (other_tree t.tree player_trees campaign_table.tree (inl refl) free) (other_tree t.tree player_trees faction_table.tree (inr (inl refl)) free) (other_tree t.tree player_trees report_table.tree (inr (inr (inl refl))) free),
       )
 
-  places : (a b d e : Database) → RewritesMarked region_table region_line c.what.regions c.marks.regions a b → RewritesMarked structure_table structure_line c.what.structures c.marks.structures b d → RewritesBooks c d e → RewritesPlaces c a e
+  places : (a b d e : Database) → RewritesMarked region_table region_line c.value.regions c.marks.regions a b → RewritesMarked structure_table structure_line c.value.structures c.marks.structures b d → RewritesBooks c d e → RewritesPlaces c a e
   places a b d e first second third =
       let all = three_altered region_table structure_table books_table (inr (inr (inl refl))) (inr (inr (inr (inr (inr (inl refl)))))) (inr (inr (inr (inr (inr (inr (inr (inr (inl refl)))))))))
       (λ x. absurd (omega (arith, x))) (λ x. absurd (omega (arith, x))) (λ x. absurd (omega (arith, x))) (λ x. absurd (omega (arith, x))) (λ x. absurd (omega (arith, x))) (λ x. absurd (omega (arith, x)))
-      (λ rows. rewritten (begins_marked c.marks.regions) (RowsOf region_line c.what.regions) (Has rows)) (λ rows. rewritten (begins_marked c.marks.structures) (RowsOf structure_line c.what.structures) (Has rows)) (λ rows. rewritten (amount_marked c.marks.books) (BooksRowsOf c.what.books) (Has rows))
+      (λ rows. rewritten (begins_marked c.marks.regions) (RowsOf region_line c.value.regions) (Has rows)) (λ rows. rewritten (begins_marked c.marks.structures) (RowsOf structure_line c.value.structures) (Has rows)) (λ rows. rewritten (amount_marked c.marks.books) (BooksRowsOf c.value.books) (Has rows))
       a b d e first second third in (
         all.0,
         all.1,
@@ -86,11 +86,11 @@ module _ (c : Marked) where
         λ t listed free. all.3 t listed (other_tree t.tree place_trees region_table.tree (inl refl) free) (other_tree t.tree place_trees structure_table.tree (inr (inl refl)) free) (other_tree t.tree place_trees books_table.tree (inr (inr (inl refl))) free),
       )
 
-  people : (a b d e : Database) → RewritesMarked unit_table unit_line c.what.units c.marks.units a b → RewritesAllGoods c.what.units c.marks.goods b d → RewritesMarked mail_table mail_row c.what.mail c.marks.mail d e → RewritesPeople c a e
+  people : (a b d e : Database) → RewritesMarked unit_table unit_line c.value.units c.marks.units a b → RewritesAllGoods c.value.units c.marks.goods b d → RewritesMarked mail_table mail_row c.value.mail c.marks.mail d e → RewritesPeople c a e
   people a b d e first second third =
       let all = three_altered unit_table has_table mail_table (inr (inr (inr (inl refl)))) (inr (inr (inr (inr (inl refl))))) (inr (inr (inr (inr (inr (inr (inl refl)))))))
       (λ x. absurd (omega (arith, x))) (λ x. absurd (omega (arith, x))) (λ x. absurd (omega (arith, x))) (λ x. absurd (omega (arith, x))) (λ x. absurd (omega (arith, x))) (λ x. absurd (omega (arith, x)))
-      (λ rows. rewritten (begins_marked c.marks.units) (RowsOf unit_line c.what.units) (Has rows)) (λ rows. rewritten (begins_marked c.marks.goods) (HasRowsOf c.what.units) (Has rows)) (λ rows. rewritten (begins_marked c.marks.mail) (RowsOf mail_row c.what.mail) (Has rows))
+      (λ rows. rewritten (begins_marked c.marks.units) (RowsOf unit_line c.value.units) (Has rows)) (λ rows. rewritten (begins_marked c.marks.goods) (HasRowsOf c.value.units) (Has rows)) (λ rows. rewritten (begins_marked c.marks.mail) (RowsOf mail_row c.value.mail) (Has rows))
       a b d e first second third in (
         all.0,
         all.1,
@@ -105,15 +105,15 @@ module _ (c : Marked) where
     three_done start one two three first second third =
         inside_weaker HasTables (Both First (Both Second Third)) All start three (λ has did. whole start.now did.0 did.2.0 three.now did.1 did.2.1 did.2.2) (inside_then HasTables First (Both Second Third) start one three first (inside_then HasTables Second Third one two three second third))
 
-  pub players_done : (start one two three : State) → Inside HasTables (RewritesHead c) start one → Inside HasTables (RewritesMarked faction_table faction_line c.what.factions c.marks.factions) one two → Inside HasTables (RewritesMarked report_table report_row c.what.reports c.marks.reports) two three
+  pub players_done : (start one two three : State) → Inside HasTables (RewritesHead c) start one → Inside HasTables (RewritesMarked faction_table faction_line c.value.factions c.marks.factions) one two → Inside HasTables (RewritesMarked report_table report_row c.value.reports c.marks.reports) two three
       → Inside HasTables (RewritesPlayers c) start three
   players_done = three_done players
 
-  pub places_done : (start one two three : State) → Inside HasTables (RewritesMarked region_table region_line c.what.regions c.marks.regions) start one → Inside HasTables (RewritesMarked structure_table structure_line c.what.structures c.marks.structures) one two → Inside HasTables (RewritesBooks c) two three
+  pub places_done : (start one two three : State) → Inside HasTables (RewritesMarked region_table region_line c.value.regions c.marks.regions) start one → Inside HasTables (RewritesMarked structure_table structure_line c.value.structures c.marks.structures) one two → Inside HasTables (RewritesBooks c) two three
       → Inside HasTables (RewritesPlaces c) start three
   places_done = three_done places
 
-  pub people_done : (start one two three : State) → Inside HasTables (RewritesMarked unit_table unit_line c.what.units c.marks.units) start one → Inside HasTables (RewritesAllGoods c.what.units c.marks.goods) one two → Inside HasTables (RewritesMarked mail_table mail_row c.what.mail c.marks.mail) two three
+  pub people_done : (start one two three : State) → Inside HasTables (RewritesMarked unit_table unit_line c.value.units c.marks.units) start one → Inside HasTables (RewritesAllGoods c.value.units c.marks.goods) one two → Inside HasTables (RewritesMarked mail_table mail_row c.value.mail c.marks.mail) two three
       → Inside HasTables (RewritesPeople c) start three
   people_done = three_done people
 
@@ -141,15 +141,15 @@ module _ (c : Marked) where
       let mail = inr (inr (inr (inr (inr (inr (inl refl)))))) in
       let report = inr (inr (inr (inr (inr (inr (inr (inl refl))))))) in
       record {
-        campaign = stays_is campaign_table (λ r. r ≡ head_row (head_after c.marks.row c.what before) text) d e (third.3 campaign_table (inl refl) refl) (stays_is campaign_table (λ r. r ≡ head_row (head_after c.marks.row c.what before) text) b d (second.3 campaign_table (inl refl) refl) one.0);
-        factions = early faction_table (inr (inl refl)) (λ r. begins_marked c.marks.factions r) (RowsOf faction_line c.what.factions) a b d e place_trees people_trees refl refl one.1 second.3 third.3;
-        reports = early report_table report (λ r. begins_marked c.marks.reports r) (RowsOf report_row c.what.reports) a b d e place_trees people_trees refl refl one.2 second.3 third.3;
-        regions = between region_table region (λ r. begins_marked c.marks.regions r) (RowsOf region_line c.what.regions) a b d e player_trees people_trees refl refl one.3 second.0 third.3;
-        structures = between structure_table structure (λ r. begins_marked c.marks.structures r) (RowsOf structure_line c.what.structures) a b d e player_trees people_trees refl refl one.3 second.1 third.3;
-        books = between books_table books (λ r. amount_marked c.marks.books r) (BooksRowsOf c.what.books) a b d e player_trees people_trees refl refl one.3 second.2 third.3;
-        units = late unit_table unit (λ r. begins_marked c.marks.units r) (RowsOf unit_line c.what.units) a b d e player_trees place_trees refl refl one.3 second.3 third.0;
-        has = late has_table has (λ r. begins_marked c.marks.goods r) (HasRowsOf c.what.units) a b d e player_trees place_trees refl refl one.3 second.3 third.1;
-        mail = late mail_table mail (λ r. begins_marked c.marks.mail r) (RowsOf mail_row c.what.mail) a b d e player_trees place_trees refl refl one.3 second.3 third.2;
+        campaign = stays_is campaign_table (λ r. r ≡ head_row (head_after c.marks.row c.value before) text) d e (third.3 campaign_table (inl refl) refl) (stays_is campaign_table (λ r. r ≡ head_row (head_after c.marks.row c.value before) text) b d (second.3 campaign_table (inl refl) refl) one.0);
+        factions = early faction_table (inr (inl refl)) (λ r. begins_marked c.marks.factions r) (RowsOf faction_line c.value.factions) a b d e place_trees people_trees refl refl one.1 second.3 third.3;
+        reports = early report_table report (λ r. begins_marked c.marks.reports r) (RowsOf report_row c.value.reports) a b d e place_trees people_trees refl refl one.2 second.3 third.3;
+        regions = between region_table region (λ r. begins_marked c.marks.regions r) (RowsOf region_line c.value.regions) a b d e player_trees people_trees refl refl one.3 second.0 third.3;
+        structures = between structure_table structure (λ r. begins_marked c.marks.structures r) (RowsOf structure_line c.value.structures) a b d e player_trees people_trees refl refl one.3 second.1 third.3;
+        books = between books_table books (λ r. amount_marked c.marks.books r) (BooksRowsOf c.value.books) a b d e player_trees people_trees refl refl one.3 second.2 third.3;
+        units = late unit_table unit (λ r. begins_marked c.marks.units r) (RowsOf unit_line c.value.units) a b d e player_trees place_trees refl refl one.3 second.3 third.0;
+        has = late has_table has (λ r. begins_marked c.marks.goods r) (HasRowsOf c.value.units) a b d e player_trees place_trees refl refl one.3 second.3 third.1;
+        mail = late mail_table mail (λ r. begins_marked c.marks.mail r) (RowsOf mail_row c.value.mail) a b d e player_trees place_trees refl refl one.3 second.3 third.2;
       }
 
   pub changes_done : (start one two three : State) → Inside HasTables (RewritesPlayers c) start one → Inside HasTables (RewritesPlaces c) one two → Inside HasTables (RewritesPeople c) two three → Inside HasTables (WritesChanges c) start three

@@ -8,7 +8,7 @@ use Rattle.sqlite.specs.Schema.{Schema}
 use Rattle.atl_store.specs.Making.{has_campaign}
 use Rattle.sqlite.specs.Effect.{Database}
 use Rattle.sqlite.specs.State.{State, HasCleanDisk, Survives}
-use Rattle.atl_state.specs.State.{State as Campaign}
+use Rattle.atl_state.specs.Campaign.{CampaignValue}
 use Rattle.atl_store.specs.Rows.{Holds}
 use Rattle.atl_store.specs.Inside.{HasTables, Carries, Commits, LeavesOff, MayLeave}
 use Rattle.atl_store.specs.Keeps.{Stores, Keeps, IsLater, IsReady, FailsToCreate, BreaksOff, RefusesToCreate, Stops, Spares, SparesOthers, MayFound}
@@ -20,12 +20,12 @@ use Rattle.atl_store.specs.declared.fault.CreateFault.TheVariants as create
 use Rattle.atl_store.proofs.CarryLaws.{carries_none}
 
 -- a database that holds the campaign is what a file may hold
-stored : (db : Database) (text : List ℕ) (c : Campaign) → HasTables db → Holds db.trees text c → Stores db.trees text c
+stored : (db : Database) (text : List ℕ) (c : CampaignValue) → HasTables db → Holds db.trees text c → Stores db.trees text c
 stored db text c has rows = record { schema = db.schema; nine = has.nine; sound = has.sound; rows = rows }
 
 module _ (old new : State) (text : List ℕ) (settled : (db : Trees) → IsTrue new.is_open → new.may_leave db → db ≡ new.committed.trees) where
   -- committed, with these rows in the tables
-  pub commits_keeps : (Before : Database → Type 0) (Does : Database → Database → Type 0) (after : Campaign) → Commits Before Does old new → Before old.now → (Does old.now new.now → Holds new.now.trees text after) → Keeps new text after
+  pub commits_keeps : (Before : Database → Type 0) (Does : Database → Database → Type 0) (after : CampaignValue) → Commits Before Does old new → Before old.now → (Does old.now new.now → Holds new.now.trees text after) → Keeps new text after
   commits_keeps Before Does after done was holds =
       let did = done.does was in
       let rows = holds did.does in
@@ -39,7 +39,7 @@ module _ (old new : State) (text : List ℕ) (settled : (db : Trees) → IsTrue 
       }
 
   -- left off: as before, or after a crash before or after
-  pub leaves_stops : (Does : Database → Database → Type 0) (before after : Campaign) → HasCleanDisk new → LeavesOff old new → Survives old new (MayLeave HasTables Does old) → Keeps old text before
+  pub leaves_stops : (Does : Database → Database → Type 0) (before after : CampaignValue) → HasCleanDisk new → LeavesOff old new → Survives old new (MayLeave HasTables Does old) → Keeps old text before
       → ((db : Database) → Does old.now db → Holds db.trees text after) → Stops old.faults new text before after
   leaves_stops Does before after clean off survives keeps holds = record {
     still = λ up.
@@ -61,7 +61,7 @@ module _ (old new : State) (text : List ℕ) (settled : (db : Trees) → IsTrue 
   }
 
 -- what a crash leaves after a transaction that puts the campaign into tables of this sort
-pub may_found : (old new : State) (text : List ℕ) (c : Campaign) (Before : Database → Type 0) (Does : Database → Database → Type 0) → Before old.now → ((db : Database) → Does old.now db → Holds db.trees text c) → HasCleanDisk new
+pub may_found : (old new : State) (text : List ℕ) (c : CampaignValue) (Before : Database → Type 0) (Does : Database → Database → Type 0) → Before old.now → ((db : Database) → Does old.now db → Holds db.trees text c) → HasCleanDisk new
     → Survives old new (MayLeave Before Does old) → MayFound old text c new
 may_found old new text c Before Does before holds clean survives db may = elim (survives.crash clean db may) [
   | inl was ↦ inl was
@@ -79,7 +79,7 @@ leaves_spares old new Commits clean off survives idle settled = record {
 }
 
 -- the fault of a creation that an error of the database ended
-module _ {S : Type 0} (g : Ghosts S) (text : List ℕ) (c : Campaign) (old new : Held S) (ready : IsReady (state g old)) (fails : FailsToCreate g text c old new) where
+module _ {S : Type 0} (g : Ghosts S) (text : List ℕ) (c : CampaignValue) (old new : Held S) (ready : IsReady (state g old)) (fails : FailsToCreate g text c old new) where
   refused_as : (fault : CreateFault) → fault ≢ create.NotEmpty → BreaksOff g text c old new fault → RefusesToCreate g text c old new fault
   refused_as create.NotEmpty other breaks = absurd (other refl)
   refused_as create.Store other breaks = (fails, inr breaks)

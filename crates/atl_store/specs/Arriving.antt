@@ -5,7 +5,7 @@ use Rattle.sqlite.specs.Effect.{Database}
 use Rattle.sqlite.specs.Order.{Row}
 use Rattle.sqlite.specs.Table.{Table}
 use Rattle.sqlite_rules.specs.Lists.{Has}
-use Rattle.atl_state.specs.State.{State}
+use Rattle.atl_state.specs.Campaign.{CampaignValue}
 use Rattle.atl_state.specs.Books.{entry_place, thing_place}
 use Rattle.atl_state.specs.declared.books.Entry.{Entry}
 use Rattle.atl_state.specs.declared.books.Entry.TheVariants.{Joining}
@@ -21,7 +21,7 @@ use Rattle.atl_store.specs.Lines.{amount_lines}
 use Rattle.atl_store.specs.Rows.{campaign_line, faction_line, unit_line}
 
 -- a faction is there with its report, a unit came last, and the books have places for money and people
-pub record HasArrival (c : State) (number : ℕ) : Type 0 where
+pub record HasArrival (c : CampaignValue) (number : ℕ) : Type 0 where
   pub next : 1 ≤ c.next_unit
   pub things : 2 ≤ length c.books
   pub faction : IsSome (get c.factions number)
@@ -29,7 +29,7 @@ pub record HasArrival (c : State) (number : ℕ) : Type 0 where
   pub report : IsSome (get c.reports number)
 
 -- the campaign has this faction, its report, and the unit that came last
-pub record IsFound (c : State) (number : ℕ) (faction : Faction) (place : ℕ) (unit : Unit) (report : List ℕ) : Type 0 where
+pub record IsFound (c : CampaignValue) (number : ℕ) (faction : Faction) (place : ℕ) (unit : Unit) (report : List ℕ) : Type 0 where
   pub place_is : c.next_unit ≡ place + 1
   pub faction_is : get c.factions number ≡ Some faction
   pub unit_is : get c.units place ≡ Some unit
@@ -37,11 +37,11 @@ pub record IsFound (c : State) (number : ℕ) (faction : Faction) (place : ℕ) 
   pub things : 2 ≤ length c.books
 
 -- the amount of a thing under an entry has its row, or none where it is 0, and every other row of the books is as it was
-abbrev pub settled : State → Entry → Thing → Set → Set
+abbrev pub settled : CampaignValue → Entry → Thing → Set → Set
 settled c entry thing S r = Has (amount_lines c entry thing) r ⊎ (S r × (take 2 r ≢ books_key (entry_place entry + 1) (thing_place thing)))
 
 -- and so is every other table
-abbrev pub Settles : State → Entry → Thing → Database → Database → Type 0
+abbrev pub Settles : CampaignValue → Entry → Thing → Database → Database → Type 0
 Settles c entry thing old new = Alters books_table (settled c entry thing (Has (rows_in books_table old.trees))) old new
 
 -- the row stands in the place of the one that has its number, and every other row of the table is as it was
@@ -49,7 +49,7 @@ abbrev pub HasPut : Table → Row → Database → Database → Type 0
 HasPut table row old new = Is (rows_in table new.trees) (put 1 row (Has (rows_in table old.trees)))
 
 -- What a joining writes, whatever the tables hold: the campaign's own row with the world text that it had, the faction, the unit that came last, the faction's report, and what joining booked.
-pub record Enters (faction : ℕ) (after : State) (text : List ℕ) (old new : Database) : Type 0 where
+pub record Enters (faction : ℕ) (after : CampaignValue) (text : List ℕ) (old new : Database) : Type 0 where
   pub campaign : Is (rows_in campaign_table new.trees) (λ r. r ≡ campaign_line text after)
   pub member : (f : Faction) → get after.factions faction ≡ Some f → HasPut faction_table (faction_line faction f) old new
   pub unit : (place : ℕ) (u : Unit) → after.next_unit ≡ place + 1 → get after.units place ≡ Some u → HasPut unit_table (unit_line place u) old new
@@ -58,7 +58,7 @@ pub record Enters (faction : ℕ) (after : State) (text : List ℕ) (old new : D
   pub others : (t : Table) → Has (region_table ∷ has_table ∷ structure_table ∷ mail_table ∷ []) t → new.trees t.tree ≡ old.trees t.tree
 
 -- a joining is written, whatever the campaign's own row said
-abbrev pub WritesJoin : ℕ → State → Database → Database → Type 0
+abbrev pub WritesJoin : ℕ → CampaignValue → Database → Database → Type 0
 WritesJoin faction after old new = (before : Head) (text : List ℕ) → Is (rows_in campaign_table old.trees) (λ r. r ≡ head_row before text) → Enters faction after text old new
 
 -- a mail is put in the place of an older one of its faction, and every other row and table is as it was

@@ -9,7 +9,7 @@ use Rattle.sqlite_trees.specs.Tree.{Trees}
 use Rattle.sqlite.specs.Table.{Table}
 use Rattle.sqlite_rules.specs.Lists.{Has}
 use Rattle.atl_state.specs.Limits.{entry_count}
-use Rattle.atl_state.specs.State.{State, Marked}
+use Rattle.atl_state.specs.Campaign.{CampaignValue, MarkedCampaign}
 use Rattle.atl_store.specs.Sets.{Set, Is, rows_in}
 use Rattle.atl_store.specs.Tables.{campaign_table, faction_table, region_table, unit_table, has_table, structure_table, mail_table, report_table, books_table}
 use Rattle.atl_store.specs.Shown.{Head, head_row, mail_row, report_row}
@@ -48,24 +48,24 @@ abbrev pub AreRewritten : Table → (Row → Bool) → Set → Database → Data
 AreRewritten table is_marked Wanted old new = Is (rows_in table new.trees) (rewritten is_marked Wanted (Has (rows_in table old.trees)))
 
 -- what the campaign's own row says where it is marked, and where it isn't
-abbrev pub head_after : Bool → State → Head → Head
+abbrev pub head_after : Bool → CampaignValue → Head → Head
 head_after true c before = head_of c
 head_after false c before = before
 
 -- Tables whose own row of a campaign said this, with this world text, have what is marked written.
-pub record WritesMarked (c : Marked) (before : Head) (text : List ℕ) (old new : Database) : Type 0 where
-  pub campaign : Is (rows_in campaign_table new.trees) (λ r. r ≡ head_row (head_after c.marks.row c.what before) text)
-  pub factions : AreRewritten faction_table (begins_marked c.marks.factions) (RowsOf faction_line c.what.factions) old new
-  pub regions : AreRewritten region_table (begins_marked c.marks.regions) (RowsOf region_line c.what.regions) old new
-  pub units : AreRewritten unit_table (begins_marked c.marks.units) (RowsOf unit_line c.what.units) old new
-  pub has : AreRewritten has_table (begins_marked c.marks.goods) (HasRowsOf c.what.units) old new
-  pub structures : AreRewritten structure_table (begins_marked c.marks.structures) (RowsOf structure_line c.what.structures) old new
-  pub mail : AreRewritten mail_table (begins_marked c.marks.mail) (RowsOf mail_row c.what.mail) old new
-  pub reports : AreRewritten report_table (begins_marked c.marks.reports) (RowsOf report_row c.what.reports) old new
-  pub books : AreRewritten books_table (amount_marked c.marks.books) (BooksRowsOf c.what.books) old new
+pub record WritesMarked (c : MarkedCampaign) (before : Head) (text : List ℕ) (old new : Database) : Type 0 where
+  pub campaign : Is (rows_in campaign_table new.trees) (λ r. r ≡ head_row (head_after c.marks.row c.value before) text)
+  pub factions : AreRewritten faction_table (begins_marked c.marks.factions) (RowsOf faction_line c.value.factions) old new
+  pub regions : AreRewritten region_table (begins_marked c.marks.regions) (RowsOf region_line c.value.regions) old new
+  pub units : AreRewritten unit_table (begins_marked c.marks.units) (RowsOf unit_line c.value.units) old new
+  pub has : AreRewritten has_table (begins_marked c.marks.goods) (HasRowsOf c.value.units) old new
+  pub structures : AreRewritten structure_table (begins_marked c.marks.structures) (RowsOf structure_line c.value.structures) old new
+  pub mail : AreRewritten mail_table (begins_marked c.marks.mail) (RowsOf mail_row c.value.mail) old new
+  pub reports : AreRewritten report_table (begins_marked c.marks.reports) (RowsOf report_row c.value.reports) old new
+  pub books : AreRewritten books_table (amount_marked c.marks.books) (BooksRowsOf c.value.books) old new
 
 -- whatever the campaign's own row said
-abbrev pub WritesChanges : Marked → Database → Database → Type 0
+abbrev pub WritesChanges : MarkedCampaign → Database → Database → Type 0
 WritesChanges c old new = (before : Head) (text : List ℕ) → Is (rows_in campaign_table old.trees) (λ r. r ≡ head_row before text) → WritesMarked c before text old new
 
 -- ---- tables that hold what is not marked of a campaign
@@ -75,15 +75,15 @@ abbrev pub HasUnmarked : Table → (Row → Bool) → Set → Trees → Type 0
 HasUnmarked table is_marked Wanted trees = (r : Row) → is_marked r ≡ false → Has (rows_in table trees) r ↔ Wanted r
 
 -- The campaign's own row has this world text and, unless it is marked, says what the campaign's says; the rows of all that is not marked are exactly the campaign's.
-pub record HoldsUnmarked (trees : Trees) (text : List ℕ) (c : Marked) : Type 0 where
+pub record HoldsUnmarked (trees : Trees) (text : List ℕ) (c : MarkedCampaign) : Type 0 where
   pub before : Head
   pub campaign : Is (rows_in campaign_table trees) (λ r. r ≡ head_row before text)
-  pub head : head_after c.marks.row c.what before ≡ head_of c.what
-  pub factions : HasUnmarked faction_table (begins_marked c.marks.factions) (RowsOf faction_line c.what.factions) trees
-  pub regions : HasUnmarked region_table (begins_marked c.marks.regions) (RowsOf region_line c.what.regions) trees
-  pub units : HasUnmarked unit_table (begins_marked c.marks.units) (RowsOf unit_line c.what.units) trees
-  pub has : HasUnmarked has_table (begins_marked c.marks.goods) (HasRowsOf c.what.units) trees
-  pub structures : HasUnmarked structure_table (begins_marked c.marks.structures) (RowsOf structure_line c.what.structures) trees
-  pub mail : HasUnmarked mail_table (begins_marked c.marks.mail) (RowsOf mail_row c.what.mail) trees
-  pub reports : HasUnmarked report_table (begins_marked c.marks.reports) (RowsOf report_row c.what.reports) trees
-  pub books : HasUnmarked books_table (amount_marked c.marks.books) (BooksRowsOf c.what.books) trees
+  pub head : head_after c.marks.row c.value before ≡ head_of c.value
+  pub factions : HasUnmarked faction_table (begins_marked c.marks.factions) (RowsOf faction_line c.value.factions) trees
+  pub regions : HasUnmarked region_table (begins_marked c.marks.regions) (RowsOf region_line c.value.regions) trees
+  pub units : HasUnmarked unit_table (begins_marked c.marks.units) (RowsOf unit_line c.value.units) trees
+  pub has : HasUnmarked has_table (begins_marked c.marks.goods) (HasRowsOf c.value.units) trees
+  pub structures : HasUnmarked structure_table (begins_marked c.marks.structures) (RowsOf structure_line c.value.structures) trees
+  pub mail : HasUnmarked mail_table (begins_marked c.marks.mail) (RowsOf mail_row c.value.mail) trees
+  pub reports : HasUnmarked report_table (begins_marked c.marks.reports) (RowsOf report_row c.value.reports) trees
+  pub books : HasUnmarked books_table (amount_marked c.marks.books) (BooksRowsOf c.value.books) trees

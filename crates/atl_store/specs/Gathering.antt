@@ -11,11 +11,11 @@ use Rattle.sqlite_rules.specs.Lists.{Has}
 use Rattle.sqlite_catalog.specs.Listing.{IsSound}
 use Rattle.sqlite_trees.specs.Tree.{Trees}
 use Rattle.sqlite_trees.specs.declared.store.Store.{Ghosts}
-use Rattle.atl_tables.specs.Planet.{Planet}
+use Rattle.atl_tables.specs.Worlds.{WorldValue}
 use Rattle.atl_tables.specs.World.{old_world_of}
 use Rattle.atl_state.specs.Checking.{IsChecked}
 use Rattle.atl_state.specs.RowRules.{is_one_head}
-use Rattle.atl_state.specs.State.{Marked}
+use Rattle.atl_state.specs.Campaign.{MarkedCampaign}
 use Rattle.atl_state.specs.declared.checking.Rule.TheVariants.{OneRow}
 use Rattle.atl_state.specs.declared.parts.Parts.{Parts}
 use Rattle.atl_state.specs.declared.parts.StoredBooks.{StoredBooks}
@@ -81,7 +81,7 @@ only_of (own ∷ []) = Some own
 only_of (own ∷ other ∷ rows) = None
 
 -- the only row is this one, whose id and format are 1, with a text of this world
-pub record IsOwn (rows : List StoredCampaign) (own : StoredCampaign) (w : Planet) : Type 0 where
+pub record IsOwn (rows : List StoredCampaign) (own : StoredCampaign) (w : WorldValue) : Type 0 where
   pub only : rows ≡ own ∷ []
   pub id : own.head.id ≡ pos 1
   pub format : own.head.format ≡ pos 1
@@ -94,15 +94,15 @@ Judges Is Nothing (Err Memory) = ⊤
 Judges Is Nothing (Err (Damaged OneRow)) = Nothing
 Judges Is Nothing (Err fault) = ⊥
 
-abbrev pub ReadsWorld : List ℕ → Result Planet StoreFault → Type 0
-ReadsWorld text r = Judges (λ w. old_world_of text ≡ Ok w) ((w : Planet) → old_world_of text ≢ Ok w) r
+abbrev pub ReadsWorld : List ℕ → Result WorldValue StoreFault → Type 0
+ReadsWorld text r = Judges (λ w. old_world_of text ≡ Ok w) ((w : WorldValue) → old_world_of text ≢ Ok w) r
 
-abbrev pub JudgesOwn : List StoredCampaign → Result (StoredCampaign × Planet) StoreFault → Type 0
-JudgesOwn rows r = Judges (λ both. IsOwn rows both.0 both.1) ((own : StoredCampaign) (w : Planet) → ¬ IsOwn rows own w) r
+abbrev pub JudgesOwn : List StoredCampaign → Result (StoredCampaign × WorldValue) StoreFault → Type 0
+JudgesOwn rows r = Judges (λ both. IsOwn rows both.0 both.1) ((own : StoredCampaign) (w : WorldValue) → ¬ IsOwn rows own w) r
 
 -- The rows that are shown are judged: whether they are the one of a world's text.
-abbrev pub JudgesRows : List Row → Result (StoredCampaign × Planet) StoreFault → Type 0
-JudgesRows rows r = Judges (λ both. AreOwnRow rows both.0.head (string_bytes both.0.world) both.1) ((h : StoredHead) (text : List ℕ) (w : Planet) → ¬ AreOwnRow rows h text w) r
+abbrev pub JudgesRows : List Row → Result (StoredCampaign × WorldValue) StoreFault → Type 0
+JudgesRows rows r = Judges (λ both. AreOwnRow rows both.0.head (string_bytes both.0.world) both.1) ((h : StoredHead) (text : List ℕ) (w : WorldValue) → ¬ AreOwnRow rows h text w) r
 
 -- the SELECTs of the other tables, in the order in which they are asked
 abbrev pub place_selects : List (List ℕ × List Form)
@@ -120,7 +120,7 @@ OthersRead Z = (((Vec StoredFaction Z × Vec StoredRegion Z) × Vec StoredReport
 
 module _ {S : Type 0} (g : Ghosts S) (old : Held S) where
   -- one row was read, whose id and format are 1, with a text of the world
-  pub record OwnRead (own : StoredCampaign) (w : Planet) : Type 0 where
+  pub record OwnRead (own : StoredCampaign) (w : WorldValue) : Type 0 where
     pub rows : List Row
     pub selects : Selects g (selection campaign_table 1) old rows
     pub row : AreOwnRow rows own.head (string_bytes own.world) w
@@ -224,7 +224,7 @@ pub record HavePlaces (db : Trees) (p : Parts) : Type 0 where
 -- ---- all of it
 
 -- all rows were read: those of the world's text and these
-pub record Gathered {S : Type 0} (g : Ghosts S) (old : Held S) (w : Planet) (p : Parts) : Type 0 where
+pub record Gathered {S : Type 0} (g : Ghosts S) (old : Held S) (w : WorldValue) (p : Parts) : Type 0 where
   pub one : KeepsOneRow g old
   pub head : IsTrue (is_one_head p.campaign)
   pub text : List ℕ
@@ -240,7 +240,7 @@ pub record IsConfirmed (old new : State) : Type 0 where
   pub sound : IsSound old.now.schema old.now.trees
 
 -- all rows were read of these tables, which are those of a campaign, and judged
-pub record IsLoaded {S : Type 0} (g : Ghosts S) (old new : Held S) (w : Planet) (c : Marked) : Type 0 where
+pub record IsLoaded {S : Type 0} (g : Ghosts S) (old new : Held S) (w : WorldValue) (c : MarkedCampaign) : Type 0 where
   pub parts : Parts
   pub gathered : HasCleanDisk (state g new) → Gathered g old w parts
   pub confirmed : HasCleanDisk (state g new) → IsConfirmed (state g old) (state g new)

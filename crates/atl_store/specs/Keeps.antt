@@ -6,8 +6,8 @@ use Rattle.sqlite.specs.Held.{Held, state}
 use Rattle.sqlite.specs.Schema.{Schema}
 use Rattle.sqlite.specs.State.{State, HasCleanDisk}
 use Rattle.sqlite_disk.specs.Disk.{MoreFaults}
-use Rattle.atl_tables.specs.Planet.{Planet}
-use Rattle.atl_state.specs.State.{State as Campaign, with_report}
+use Rattle.atl_tables.specs.Worlds.{WorldValue}
+use Rattle.atl_state.specs.Campaign.{CampaignValue, with_report}
 use Rattle.atl_state.specs.Joining.{joined}
 use Rattle.atl_state.specs.Good.{IsGood}
 use Rattle.atl_store.specs.Tables.{HasNine, IsSoundly}
@@ -21,14 +21,14 @@ use Rattle.atl_store.specs.declared.fault.CreateFault.{CreateFault}
 use Rattle.atl_store.specs.declared.fault.CreateFault.TheVariants.{NotEmpty, Store, Memory}
 
 -- What a file holds: the nine tables, as its catalog lists them, and in them exactly the rows of the text and the campaign.
-pub record Stores (db : Trees) (text : List ℕ) (c : Campaign) : Type 0 where
+pub record Stores (db : Trees) (text : List ℕ) (c : CampaignValue) : Type 0 where
   pub schema : Schema
   pub nine : HasNine schema
   pub sound : IsSoundly schema db
   pub rows : Holds db text c
 
 -- The connection is open and in no transaction, its tables hold exactly the rows of the text and the campaign, and a crash leaves just these.
-pub record Keeps (s : State) (text : List ℕ) (c : Campaign) : Type 0 where
+pub record Keeps (s : State) (text : List ℕ) (c : CampaignValue) : Type 0 where
   pub idle : s.in_transaction ≡ false
   pub is_open : IsTrue s.is_open
   pub settled : s.committed ≡ s.now
@@ -37,12 +37,12 @@ pub record Keeps (s : State) (text : List ℕ) (c : Campaign) : Type 0 where
   pub crash : (db : Trees) → s.may_leave db → Stores db text c
 
 -- This connection holds this campaign, on a disk that is clean so far.
-abbrev pub HoldsCampaign : {S : Type 0} → Ghosts S → Held S → List ℕ → Campaign → Type 0
+abbrev pub HoldsCampaign : {S : Type 0} → Ghosts S → Held S → List ℕ → CampaignValue → Type 0
 HoldsCampaign g conn text c = HasCleanDisk (state g conn) → Keeps (state g conn) text c
 
 -- After a fault, where the disk had failed so often before: the tables hold the campaign before, while the connection is open, and only another failure of the disk shuts it.
 -- After a crash they hold the one before or the one after, never a part.
-pub record Stops (faults : ℕ) (s : State) (text : List ℕ) (before after : Campaign) : Type 0 where
+pub record Stops (faults : ℕ) (s : State) (text : List ℕ) (before after : CampaignValue) : Type 0 where
   pub still : IsTrue s.is_open → Keeps s text before
   pub closes : IsTrue s.is_open ⊎ MoreFaults faults s.faults
   pub crash : (db : Trees) → s.may_leave db → Stores db text before ⊎ Stores db text after
@@ -65,17 +65,17 @@ pub record Spares (old new : State) : Type 0 where
   pub closes : IsTrue old.is_open → IsTrue new.is_open ⊎ MoreFaults old.faults new.faults
 
 -- a crash leaves what it left before, or the campaign
-abbrev pub MayFound : State → List ℕ → Campaign → State → Type 0
+abbrev pub MayFound : State → List ℕ → CampaignValue → State → Type 0
 MayFound old text c new = (db : Trees) → new.may_leave db → old.may_leave db ⊎ Stores db text c
 
 -- Where no table campaign was there, the connection holds the campaign.
-pub record Creates {S : Type 0} (g : Ghosts S) (text : List ℕ) (c : Campaign) (old new : Held S) : Type 0 where
+pub record Creates {S : Type 0} (g : Ghosts S) (text : List ℕ) (c : CampaignValue) (old new : Held S) : Type 0 where
   pub fresh : has_campaign old.schema ≡ false
   pub idle : new.in_transaction ≡ false
   pub tables : HoldsCampaign g new text c
 
 -- The database could not be written.
-pub record FailsToCreate {S : Type 0} (g : Ghosts S) (text : List ℕ) (c : Campaign) (old new : Held S) : Type 0 where
+pub record FailsToCreate {S : Type 0} (g : Ghosts S) (text : List ℕ) (c : CampaignValue) (old new : Held S) : Type 0 where
   pub fresh : has_campaign old.schema ≡ false
   pub tables : HasCleanDisk (state g new) → Spares (state g old) (state g new)
   pub crash : HasCleanDisk (state g new) → MayFound (state g old) text c (state g new)
@@ -85,12 +85,12 @@ abbrev pub IsReady : State → Type 0
 IsReady s = IsBlank s.now × (s.in_transaction ≡ false)
 
 -- A creation was begun, and this fault tells the error of a call that ended it.
-pub record BreaksOff {S : Type 0} (g : Ghosts S) (text : List ℕ) (c : Campaign) (old new : Held S) (fault : CreateFault) : Type 0 where
+pub record BreaksOff {S : Type 0} (g : Ghosts S) (text : List ℕ) (c : CampaignValue) (old new : Held S) (fault : CreateFault) : Type 0 where
   pub ready : IsReady (state g old)
   pub told : HasCleanDisk (state g new) → IsTold g (OfFounding text c) create_fault old new fault
 
 -- Where a table campaign is there, or the connection isn't ready, nothing at all is changed.
-abbrev pub RefusesToCreate : {S : Type 0} → Ghosts S → List ℕ → Campaign → Held S → Held S → CreateFault → Type 0
+abbrev pub RefusesToCreate : {S : Type 0} → Ghosts S → List ℕ → CampaignValue → Held S → Held S → CreateFault → Type 0
 RefusesToCreate g text c old new NotEmpty = IsTrue (has_campaign old.schema) × (new ≡ old)
 RefusesToCreate g text c old new Store = FailsToCreate g text c old new × (((¬ IsReady (state g old)) × (new ≡ old)) ⊎ BreaksOff g text c old new Store)
 RefusesToCreate g text c old new Memory = FailsToCreate g text c old new × BreaksOff g text c old new Memory
@@ -98,6 +98,6 @@ RefusesToCreate g text c old new Memory = FailsToCreate g text c old new × Brea
 -- ---- writing
 
 -- a faction joined the good campaign before, and its first report was stored
-abbrev pub IsJoining : Campaign → ℕ → Campaign → Type 0
+abbrev pub IsJoining : CampaignValue → ℕ → CampaignValue → Type 0
 IsJoining before faction after =
-    (w : Planet) × (name : List ℕ) × (pass : List ℕ) × (word : ℕ) × (report : List ℕ) × IsGood w before × (faction ≡ before.next_faction) × (after ≡ with_report (joined w name pass word before) faction report)
+    (w : WorldValue) × (name : List ℕ) × (pass : List ℕ) × (word : ℕ) × (report : List ℕ) × IsGood w before × (faction ≡ before.next_faction) × (after ≡ with_report (joined w name pass word before) faction report)

@@ -4,7 +4,7 @@ use Rattle.std.specs.List.{flat_map}
 use Rattle.std.specs.Ordering.{int_eq}
 use Rattle.std.specs.FinMap.{entries}
 use Rattle.sqlite.specs.Order.{Row}
-use Rattle.atl_state.specs.State.{State}
+use Rattle.atl_state.specs.Campaign.{CampaignValue}
 use Rattle.atl_state.specs.Held.{Held}
 use Rattle.atl_state.specs.Books.{all_entries, amount_in, entry_place, thing_at, thing_place}
 use Rattle.atl_state.specs.declared.books.Entry.{Entry}
@@ -33,11 +33,11 @@ all_goods_lines units = flat_map (λ e. goods_lines e.0 e.1.holding) units
 -- ---- the books
 
 -- a row where the amount is not 0
-abbrev pub amount_lines : State → Entry → Thing → List Row
+abbrev pub amount_lines : CampaignValue → Entry → Thing → List Row
 amount_lines c entry thing = if int_eq (amount_in c.books entry thing) (pos 0) then [] else books_row (entry_place entry + 1) (thing_place thing) (amount_in c.books entry thing) ∷ []
 
-abbrev pub entries_lines : State → Thing → List Entry → List Row
+abbrev pub entries_lines : CampaignValue → Thing → List Entry → List Row
 entries_lines c thing entries = flat_map (λ entry. amount_lines c entry thing) entries
 
-abbrev pub things_lines : State → List ℕ → List Row
+abbrev pub things_lines : CampaignValue → List ℕ → List Row
 things_lines c places = flat_map (λ place. entries_lines c (thing_at place) all_entries) places

@@ -9,12 +9,12 @@ use Rattle.sqlite_disk.specs.Disk.{MoreFaults}
 use Rattle.sqlite_rules.specs.Lists.{Has}
 use Rattle.sqlite_trees.specs.Tree.{Trees}
 use Rattle.sqlite_trees.specs.declared.store.Store.{Ghosts}
-use Rattle.atl_tables.specs.Planet.{Planet}
+use Rattle.atl_tables.specs.Worlds.{WorldValue}
 use Rattle.atl_tables.specs.World.{old_world_of}
 use Rattle.atl_state.specs.Checking.{IsFirstBroken}
 use Rattle.atl_state.specs.Good.{IsGood}
 use Rattle.atl_state.specs.Marks.{no_marks}
-use Rattle.atl_state.specs.State.{Marked}
+use Rattle.atl_state.specs.Campaign.{MarkedCampaign}
 use Rattle.atl_state.specs.declared.checking.Rule.{Rule}
 use Rattle.atl_state.specs.declared.checking.Rule.TheVariants.{OneRow, Ranges, Names, Known, Next, Days, Gone, Owners, Water, Guards, Books, Mail}
 use Rattle.atl_state.specs.declared.parts.Parts.{Parts}
@@ -61,7 +61,7 @@ pub record HaveRows (db : Trees) (text : List ℕ) (p : Parts) : Type 0 where
 -- ---- the first rule
 
 -- The rows are one, whose id and format are 1, with a text of UTF-8 that reads as a world.
-pub record AreOwnRow (rows : List Row) (h : StoredHead) (text : List ℕ) (w : Planet) : Type 0 where
+pub record AreOwnRow (rows : List Row) (h : StoredHead) (text : List ℕ) (w : WorldValue) : Type 0 where
   pub is : map (first_columns (length campaign_forms)) rows ≡ own_stored text h ∷ []
   pub id : h.id ≡ pos 1
   pub format : h.format ≡ pos 1
@@ -131,7 +131,7 @@ module _ {S : Type 0} (g : Ghosts S) (old : Held S) where
   -- The tables are made so, they keep the first rule, and of the rows that they have this is the first rule that is broken.
   pub record BreaksRule (rule : Rule) : Type 0 where
     pub made : AreMade
-    pub world : Planet
+    pub world : WorldValue
     pub text : List ℕ
     pub is_world : old_world_of text ≡ Ok world
     pub parts : Parts
@@ -144,14 +144,14 @@ module _ {S : Type 0} (g : Ghosts S) (old : Held S) where
     pub selects : Selects g (selection campaign_table 1) old rows
     pub head : StoredHead
     pub text : List ℕ
-    pub world : Planet
+    pub world : WorldValue
     pub own : AreOwnRow rows head text world
 
   -- They do not.
   pub record BreaksOneRow : Type 0 where
     pub rows : List Row
     pub selects : Selects g (selection campaign_table 1) old rows
-    pub broken : (h : StoredHead) (text : List ℕ) (w : Planet) → ¬ AreOwnRow rows h text w
+    pub broken : (h : StoredHead) (text : List ℕ) (w : WorldValue) → ¬ AreOwnRow rows h text w
 
   -- the first rule that is broken
   abbrev pub IsDamaged : Rule → Type 0
@@ -208,10 +208,10 @@ module _ {S : Type 0} (g : Ghosts S) (old : Held S) where
   RefusesToLoad Memory = WantsMemory
 
   -- The connection holds the good campaign, of which nothing is marked, and a text of its world.
-  pub record Loads (new : Held S) (w : Planet) (c : Marked) : Type 0 where
+  pub record Loads (new : Held S) (w : WorldValue) (c : MarkedCampaign) : Type 0 where
     pub world : HasCleanDisk (state g new) → old_world_of (world_text (state g new)) ≡ Ok w
-    pub tables : HoldsCampaign g new (world_text (state g new)) c.what
-    pub good : IsGood w c.what
+    pub tables : HoldsCampaign g new (world_text (state g new)) c.value
+    pub good : IsGood w c.value
     pub unmarked : c.marks ≡ no_marks
 
   -- Whatever is answered, nothing is changed: while the connection is open its tables are as they were, only another failure of the disk shuts it, and a crash leaves only what it could have left before.

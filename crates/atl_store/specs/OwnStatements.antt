@@ -3,7 +3,7 @@ use Rattle.std.specs.Prelude.{◌≡◌, ◌≢◌, ◌+◌, ℕ, pos, List, [],
 use Rattle.std.specs.FinMap.{get}
 use Rattle.sqlite.specs.Order.{Row}
 use Rattle.sqlite_rules.specs.Lists.{Has}
-use Rattle.atl_state.specs.State.{State}
+use Rattle.atl_state.specs.Campaign.{CampaignValue}
 use Rattle.atl_state.specs.Books.{amount_in, entry_place, thing_place}
 use Rattle.atl_state.specs.declared.books.Entry.{Entry}
 use Rattle.atl_state.specs.declared.books.Entry.TheVariants.{Joining}
@@ -33,12 +33,12 @@ abbrev pub Creations : Statements
 Creations sql params = Has creations sql × (params ≡ [])
 
 -- the row of an amount of the books is put, or deleted where the amount is 0
-pub data OfAmount (c : State) (entry : Entry) (thing : Thing) : List ℕ → Row → Type 0 where
+pub data OfAmount (c : CampaignValue) (entry : Entry) (thing : Thing) : List ℕ → Row → Type 0 where
   puts_amount : amount_in c.books entry thing ≢ pos 0 → OfAmount c entry thing (upsert books_table 2) (books_row (entry_place entry + 1) (thing_place thing) (amount_in c.books entry thing))
   drops_amount : amount_in c.books entry thing ≡ pos 0 → OfAmount c entry thing (deletion books_table 2) (books_key (entry_place entry + 1) (thing_place thing))
 
 -- a row of the campaign is put into the table that it belongs to
-pub data OfRow (c : State) : List ℕ → Row → Type 0 where
+pub data OfRow (c : CampaignValue) : List ℕ → Row → Type 0 where
   puts_faction : {row : Row} → RowsOf faction_line c.factions row → OfRow c (upsert faction_table 1) row
   puts_region : {row : Row} → RowsOf region_line c.regions row → OfRow c (upsert region_table 1) row
   puts_unit : {row : Row} → RowsOf unit_line c.units row → OfRow c (upsert unit_table 1) row
@@ -51,13 +51,13 @@ pub data OfRow (c : State) : List ℕ → Row → Type 0 where
 -- ---- of each writing
 
 -- a founding makes the tables and puts the rows of the campaign
-pub data OfFounding (text : List ℕ) (c : State) : List ℕ → Row → Type 0 where
+pub data OfFounding (text : List ℕ) (c : CampaignValue) : List ℕ → Row → Type 0 where
   founds_tables : {sql : List ℕ} {params : Row} → Creations sql params → OfFounding text c sql params
   founds_head : OfFounding text c campaign_upsert (head_values (head_of c) text)
   founds_row : {sql : List ℕ} {params : Row} → OfRow c sql params → OfFounding text c sql params
 
 -- a change puts rows of the campaign, and deletes those of what it has no more
-pub data OfChange (c : State) : List ℕ → Row → Type 0 where
+pub data OfChange (c : CampaignValue) : List ℕ → Row → Type 0 where
   changes_head : OfChange c campaign_upsert (head_values (head_of c) [])
   changes_row : {sql : List ℕ} {params : Row} → OfRow c sql params → OfChange c sql params
   drops_faction : {n : ℕ} → get c.factions n ≡ None → OfChange c (deletion faction_table 1) (int n ∷ [])
@@ -70,7 +70,7 @@ pub data OfChange (c : State) : List ℕ → Row → Type 0 where
   drops_books : (entry : Entry) (thing : Thing) → amount_in c.books entry thing ≡ pos 0 → OfChange c (deletion books_table 2) (books_key (entry_place entry + 1) (thing_place thing))
 
 -- a joining puts the campaign's own row, the faction, the unit that came last, the faction's report, and what joining booked
-pub data OfJoining (faction : ℕ) (c : State) : List ℕ → Row → Type 0 where
+pub data OfJoining (faction : ℕ) (c : CampaignValue) : List ℕ → Row → Type 0 where
   joins_head : OfJoining faction c campaign_upsert (head_values (head_of c) [])
   joins_faction : {f : Faction} → get c.factions faction ≡ Some f → OfJoining faction c (upsert faction_table 1) (faction_line faction f)
   joins_unit : {place : ℕ} {u : Unit} → c.next_unit ≡ place + 1 → get c.units place ≡ Some u → OfJoining faction c (upsert unit_table 1) (unit_line place u)

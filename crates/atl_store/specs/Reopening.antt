@@ -3,11 +3,11 @@ use Rattle.std.specs.Prelude.{List, ℕ}
 use Rattle.sqlite_trees.specs.declared.store.Store.{Ghosts}
 use Rattle.sqlite.specs.Held.{Held, state}
 use Rattle.sqlite.specs.State.{HasCleanDisk}
-use Rattle.atl_state.specs.State.{State as Campaign}
+use Rattle.atl_state.specs.Campaign.{CampaignValue}
 use Rattle.atl_store.specs.Keeps.{Keeps, Stores}
 
 -- The tables are some that a crash might leave of the connection before, and a campaign that the file stores is kept by the new connection.
 pub record Reopens {S : Type 0} (g : Ghosts S) (old new : Held S) : Type 0 where
   pub clean : HasCleanDisk (state g new) → HasCleanDisk (state g old)
   pub found : HasCleanDisk (state g new) → (state g old).may_leave (state g new).now.trees
-  pub keeps : HasCleanDisk (state g new) → (text : List ℕ) (c : Campaign) → Stores (state g new).now.trees text c → Keeps (state g new) text c
+  pub keeps : HasCleanDisk (state g new) → (text : List ℕ) (c : CampaignValue) → Stores (state g new).now.trees text c → Keeps (state g new) text c

@@ -9,7 +9,7 @@ use Rattle.sqlite.specs.Order.{Row}
 use Rattle.sqlite.specs.Table.{Table}
 use Rattle.sqlite_rules.specs.Lists.{Has}
 use Rattle.atl_state.specs.Limits.{entry_count}
-use Rattle.atl_state.specs.State.{Marked}
+use Rattle.atl_state.specs.Campaign.{MarkedCampaign}
 use Rattle.atl_state.specs.declared.records.Unit.{Unit}
 use Rattle.atl_store.specs.Sets.{Set, Is, rows_in}
 use Rattle.atl_store.specs.Inside.{Alters}
@@ -52,33 +52,33 @@ abbrev pub RewritesAllGoods : FinMap nat_cmp Unit → FinSet nat_cmp → Databas
 RewritesAllGoods units marks old new = Rewrites has_table (begins_marked marks) (HasRowsOf units) old new
 
 -- the marked amounts of these entries and things
-abbrev pub RewritesAmounts : Marked → (ℕ → Bool) → (ℕ → Bool) → Database → Database → Type 0
-RewritesAmounts c entries things old new = Rewrites books_table (of_amounts c.marks.books entries things) (BooksRowsOf c.what.books) old new
+abbrev pub RewritesAmounts : MarkedCampaign → (ℕ → Bool) → (ℕ → Bool) → Database → Database → Type 0
+RewritesAmounts c entries things old new = Rewrites books_table (of_amounts c.marks.books entries things) (BooksRowsOf c.value.books) old new
 
-abbrev pub RewritesBooks : Marked → Database → Database → Type 0
-RewritesBooks c old new = Rewrites books_table (amount_marked c.marks.books) (BooksRowsOf c.what.books) old new
+abbrev pub RewritesBooks : MarkedCampaign → Database → Database → Type 0
+RewritesBooks c old new = Rewrites books_table (amount_marked c.marks.books) (BooksRowsOf c.value.books) old new
 
 -- the campaign's own row, which keeps its world text
-abbrev pub RewritesHead : Marked → Database → Database → Type 0
-RewritesHead c old new = (before : Head) (text : List ℕ) → Is (rows_in campaign_table old.trees) (λ r. r ≡ head_row before text) → Alters campaign_table (λ r. r ≡ head_row (head_after c.marks.row c.what before) text) old new
+abbrev pub RewritesHead : MarkedCampaign → Database → Database → Type 0
+RewritesHead c old new = (before : Head) (text : List ℕ) → Is (rows_in campaign_table old.trees) (λ r. r ≡ head_row before text) → Alters campaign_table (λ r. r ≡ head_row (head_after c.marks.row c.value before) text) old new
 
 -- ---- three tables and three
 
-abbrev pub RewritesPlayers : Marked → Database → Database → Type 0
+abbrev pub RewritesPlayers : MarkedCampaign → Database → Database → Type 0
 RewritesPlayers c old new = (before : Head) (text : List ℕ) → Is (rows_in campaign_table old.trees) (λ r. r ≡ head_row before text)
-    → Is (rows_in campaign_table new.trees) (λ r. r ≡ head_row (head_after c.marks.row c.what before) text)
-    × AreRewritten faction_table (begins_marked c.marks.factions) (RowsOf faction_line c.what.factions) old new
-    × AreRewritten report_table (begins_marked c.marks.reports) (RowsOf report_row c.what.reports) old new
+    → Is (rows_in campaign_table new.trees) (λ r. r ≡ head_row (head_after c.marks.row c.value before) text)
+    × AreRewritten faction_table (begins_marked c.marks.factions) (RowsOf faction_line c.value.factions) old new
+    × AreRewritten report_table (begins_marked c.marks.reports) (RowsOf report_row c.value.reports) old new
     × SparesAllBut player_trees old new
 
-abbrev pub RewritesPlaces : Marked → Database → Database → Type 0
-RewritesPlaces c old new = AreRewritten region_table (begins_marked c.marks.regions) (RowsOf region_line c.what.regions) old new
-    × AreRewritten structure_table (begins_marked c.marks.structures) (RowsOf structure_line c.what.structures) old new
-    × AreRewritten books_table (amount_marked c.marks.books) (BooksRowsOf c.what.books) old new
+abbrev pub RewritesPlaces : MarkedCampaign → Database → Database → Type 0
+RewritesPlaces c old new = AreRewritten region_table (begins_marked c.marks.regions) (RowsOf region_line c.value.regions) old new
+    × AreRewritten structure_table (begins_marked c.marks.structures) (RowsOf structure_line c.value.structures) old new
+    × AreRewritten books_table (amount_marked c.marks.books) (BooksRowsOf c.value.books) old new
     × SparesAllBut place_trees old new
 
-abbrev pub RewritesPeople : Marked → Database → Database → Type 0
-RewritesPeople c old new = AreRewritten unit_table (begins_marked c.marks.units) (RowsOf unit_line c.what.units) old new
-    × AreRewritten has_table (begins_marked c.marks.goods) (HasRowsOf c.what.units) old new
-    × AreRewritten mail_table (begins_marked c.marks.mail) (RowsOf mail_row c.what.mail) old new
+abbrev pub RewritesPeople : MarkedCampaign → Database → Database → Type 0
+RewritesPeople c old new = AreRewritten unit_table (begins_marked c.marks.units) (RowsOf unit_line c.value.units) old new
+    × AreRewritten has_table (begins_marked c.marks.goods) (HasRowsOf c.value.units) old new
+    × AreRewritten mail_table (begins_marked c.marks.mail) (RowsOf mail_row c.value.mail) old new
     × SparesAllBut people_trees old new

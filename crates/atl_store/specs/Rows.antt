@@ -4,7 +4,7 @@ use Rattle.std.specs.Ordering.{nat_cmp}
 use Rattle.std.specs.FinMap.{FinMap, get}
 use Rattle.sqlite.specs.Order.{Row}
 use Rattle.sqlite_trees.specs.Tree.{Trees}
-use Rattle.atl_state.specs.State.{State}
+use Rattle.atl_state.specs.Campaign.{CampaignValue}
 use Rattle.atl_state.specs.Held.{Held}
 use Rattle.atl_state.specs.Books.{amount_in, entry_place, thing_place}
 use Rattle.atl_state.specs.declared.books.Entry.{Entry}
@@ -20,10 +20,10 @@ use Rattle.atl_store.specs.Tables.{campaign_table, faction_table, region_table, 
 use Rattle.atl_store.specs.Shown.{Head, head_row, faction_row, region_row, unit_row, has_row, structure_row, mail_row, report_row, books_row}
 use Rattle.atl_store.specs.Written.{sort_number}
 
-abbrev pub head_of : State → Head
+abbrev pub head_of : CampaignValue → Head
 head_of c = record { month = c.month; next_faction = c.next_faction; next_unit = c.next_unit; next_structure = c.next_structure; pass = c.pass }
 
-abbrev pub campaign_line : List ℕ → State → Row
+abbrev pub campaign_line : List ℕ → CampaignValue → Row
 campaign_line text c = head_row (head_of c) text
 
 abbrev pub faction_line : ℕ → Faction → Row
@@ -61,7 +61,7 @@ abbrev pub BooksRowsOf : List (List ℤ) → Row → Type 0
 BooksRowsOf books r = (e : Entry) × (t : Thing) × (amount_in books e t ≢ pos 0) × (r ≡ books_row (entry_place e + 1) (thing_place t) (amount_in books e t))
 
 -- the tables have exactly the rows of the world text and the campaign
-pub record Holds (trees : Trees) (text : List ℕ) (c : State) : Type 0 where
+pub record Holds (trees : Trees) (text : List ℕ) (c : CampaignValue) : Type 0 where
   pub campaign : Is (rows_in campaign_table trees) (λ r. r ≡ campaign_line text c)
   pub factions : Is (rows_in faction_table trees) (RowsOf faction_line c.factions)
   pub regions : Is (rows_in region_table trees) (RowsOf region_line c.regions)

@@ -5,7 +5,7 @@ ghost use Rattle.sqlite.specs.State.{HasCleanDisk};
 ghost use Rattle.atl_state.specs.Covers.{Covers};
 ghost use Rattle.atl_state.specs.Limits.{most_things};
 ghost use Rattle.atl_state.specs.Marks.{no_marks};
-ghost use Rattle.atl_state.specs.State.{State};
+ghost use Rattle.atl_state.specs.Campaign.{CampaignValue};
 ghost use Rattle.atl_store.specs.Causes.{IsTold};
 ghost use Rattle.atl_store.specs.Changing.{WritesChanges, HoldsUnmarked};
 ghost use Rattle.atl_store.specs.Faults.{write_fault};
@@ -26,7 +26,7 @@ use sqlite::{Alter, Connection, Error, Transaction};
 
 /// The campaign's own row, factions and reports.
 fn rewrite_players<S: Alter>(tx: &mut Transaction<'_, S>, campaign: &Campaign) -> Result<(), Error>
-    ensures { Writes S.Store (OfChange campaign.now.what) (Inside HasTables (RewritesPlayers campaign.now)) result tx.old.conn tx.new.conn }
+    ensures { Writes S.Store (OfChange campaign.now.value) (Inside HasTables (RewritesPlayers campaign.now)) result tx.old.conn tx.new.conn }
 {
     rewrite_head(tx, campaign)?;
     rewrite_marked::<Faction, S>(tx, campaign)?;
@@ -35,8 +35,8 @@ fn rewrite_players<S: Alter>(tx: &mut Transaction<'_, S>, campaign: &Campaign) -
 
 /// Regions, structures and books.
 fn rewrite_places<S: Alter>(tx: &mut Transaction<'_, S>, campaign: &Campaign) -> Result<(), Error>
-    requires { length campaign.now.what.books ≤ most_things }
-    ensures { Writes S.Store (OfChange campaign.now.what) (Inside HasTables (RewritesPlaces campaign.now)) result tx.old.conn tx.new.conn }
+    requires { length campaign.now.value.books ≤ most_things }
+    ensures { Writes S.Store (OfChange campaign.now.value) (Inside HasTables (RewritesPlaces campaign.now)) result tx.old.conn tx.new.conn }
 {
     rewrite_marked::<Region, S>(tx, campaign)?;
     rewrite_marked::<Structure, S>(tx, campaign)?;
@@ -45,7 +45,7 @@ fn rewrite_places<S: Alter>(tx: &mut Transaction<'_, S>, campaign: &Campaign) ->
 
 /// Units, what they have, and mail.
 fn rewrite_people<S: Alter>(tx: &mut Transaction<'_, S>, campaign: &Campaign) -> Result<(), Error>
-    ensures { Writes S.Store (OfChange campaign.now.what) (Inside HasTables (RewritesPeople campaign.now)) result tx.old.conn tx.new.conn }
+    ensures { Writes S.Store (OfChange campaign.now.value) (Inside HasTables (RewritesPeople campaign.now)) result tx.old.conn tx.new.conn }
 {
     rewrite_marked::<Unit, S>(tx, campaign)?;
     rewrite_marked_goods(tx, campaign)?;
@@ -54,8 +54,8 @@ fn rewrite_people<S: Alter>(tx: &mut Transaction<'_, S>, campaign: &Campaign) ->
 
 /// All that is marked.
 fn rewrite_all<S: Alter>(tx: &mut Transaction<'_, S>, campaign: &Campaign) -> Result<(), Error>
-    requires { length campaign.now.what.books ≤ most_things }
-    ensures { Writes S.Store (OfChange campaign.now.what) (Inside HasTables (WritesChanges campaign.now)) result tx.old.conn tx.new.conn }
+    requires { length campaign.now.value.books ≤ most_things }
+    ensures { Writes S.Store (OfChange campaign.now.value) (Inside HasTables (WritesChanges campaign.now)) result tx.old.conn tx.new.conn }
 {
     rewrite_players(tx, campaign)?;
     rewrite_places(tx, campaign)?;
@@ -65,8 +65,8 @@ fn rewrite_all<S: Alter>(tx: &mut Transaction<'_, S>, campaign: &Campaign) -> Re
 /// The transaction of a change.
 fn write_marked<S: Alter>(conn: &mut Connection<S>, campaign: &Campaign) -> Result<(), Error>
     requires idle { conn.old.in_transaction ≡ false }
-    requires things { length campaign.now.what.books ≤ most_things }
-    ensures { Transacts S.Store (OfChange campaign.now.what) HasTables (WritesChanges campaign.now) result conn.old conn.new }
+    requires things { length campaign.now.value.books ≤ most_things }
+    ensures { Transacts S.Store (OfChange campaign.now.value) HasTables (WritesChanges campaign.now) result conn.old conn.new }
 {
     let mut tx = conn.transaction();
     rewrite_all(&mut tx, campaign)?;
@@ -83,14 +83,14 @@ pub fn write_changes<S: Alter>(
     campaign: &mut Campaign,
 ) -> Result<(), WriteFault>
     requires idle { conn.old.in_transaction ≡ false }
-    requires things { length campaign.old.what.books ≤ most_things }
-    ensures ok { HasCleanDisk (state S.Store conn.new) → OnOk result ((text : List ℕ) (before : State) → Keeps (state S.Store conn.old) text before → Covers campaign.old.marks before campaign.old.what → Keeps (state S.Store conn.new) text campaign.old.what) }
-    ensures err { HasCleanDisk (state S.Store conn.new) → OnErr result ((text : List ℕ) (before : State) → Keeps (state S.Store conn.old) text before → Covers campaign.old.marks before campaign.old.what → Stops (state S.Store conn.old).faults (state S.Store conn.new) text before campaign.old.what) }
+    requires things { length campaign.old.value.books ≤ most_things }
+    ensures ok { HasCleanDisk (state S.Store conn.new) → OnOk result ((text : List ℕ) (before : CampaignValue) → Keeps (state S.Store conn.old) text before → Covers campaign.old.marks before campaign.old.value → Keeps (state S.Store conn.new) text campaign.old.value) }
+    ensures err { HasCleanDisk (state S.Store conn.new) → OnErr result ((text : List ℕ) (before : CampaignValue) → Keeps (state S.Store conn.old) text before → Covers campaign.old.marks before campaign.old.value → Stops (state S.Store conn.old).faults (state S.Store conn.new) text before campaign.old.value) }
     ensures marked { HasCleanDisk (state S.Store conn.new) → OnOk result (HasTables (state S.Store conn.old).now → WritesChanges campaign.old (state S.Store conn.old).now (state S.Store conn.new).now) }
-    ensures unmarked { HasCleanDisk (state S.Store conn.new) → OnOk result ((text : List ℕ) → HasTables (state S.Store conn.old).now → HoldsUnmarked (state S.Store conn.old).now.trees text campaign.old → Keeps (state S.Store conn.new) text campaign.old.what) }
-    ensures crash { HasCleanDisk (state S.Store conn.new) → OnErr result ((text : List ℕ) → HasTables (state S.Store conn.old).now → HoldsUnmarked (state S.Store conn.old).now.trees text campaign.old → MayFound (state S.Store conn.old) text campaign.old.what (state S.Store conn.new)) }
+    ensures unmarked { HasCleanDisk (state S.Store conn.new) → OnOk result ((text : List ℕ) → HasTables (state S.Store conn.old).now → HoldsUnmarked (state S.Store conn.old).now.trees text campaign.old → Keeps (state S.Store conn.new) text campaign.old.value) }
+    ensures crash { HasCleanDisk (state S.Store conn.new) → OnErr result ((text : List ℕ) → HasTables (state S.Store conn.old).now → HoldsUnmarked (state S.Store conn.old).now.trees text campaign.old → MayFound (state S.Store conn.old) text campaign.old.value (state S.Store conn.new)) }
     ensures left { HasCleanDisk (state S.Store conn.new) → OnErr result (LeavesOff (state S.Store conn.old) (state S.Store conn.new)) }
-    ensures told { HasCleanDisk (state S.Store conn.new) → IfErr result (IsTold S.Store (OfChange campaign.old.what) write_fault conn.old conn.new) }
+    ensures told { HasCleanDisk (state S.Store conn.new) → IfErr result (IsTold S.Store (OfChange campaign.old.value) write_fault conn.old conn.new) }
     ensures done { OnOk result (campaign.new ≡ record campaign.old { marks = no_marks }) }
     ensures undone { OnErr result (campaign.new ≡ campaign.old) }
     ensures later { IsLater (state S.Store conn.old) (state S.Store conn.new) }

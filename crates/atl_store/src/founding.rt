@@ -29,7 +29,7 @@ fn put_players<S: Alter>(
     text: &str,
     campaign: &Campaign,
 ) -> Result<(), Error>
-    ensures { Writes S.Store (OfFounding text.now campaign.now.what) (Inside HasTables (FillsPlayers text.now campaign.now.what)) result tx.old.conn tx.new.conn }
+    ensures { Writes S.Store (OfFounding text.now campaign.now.value) (Inside HasTables (FillsPlayers text.now campaign.now.value)) result tx.old.conn tx.new.conn }
 {
     put_head(tx, campaign, text)?;
     put_each(tx, campaign.factions())?;
@@ -38,8 +38,8 @@ fn put_players<S: Alter>(
 
 /// Puts the regions, the structures and the books.
 fn put_places<S: Alter>(tx: &mut Transaction<'_, S>, campaign: &Campaign) -> Result<(), Error>
-    requires { length campaign.now.what.books ≤ most_things }
-    ensures { Writes S.Store (OfRow campaign.now.what) (Inside HasTables (FillsPlaces campaign.now.what)) result tx.old.conn tx.new.conn }
+    requires { length campaign.now.value.books ≤ most_things }
+    ensures { Writes S.Store (OfRow campaign.now.value) (Inside HasTables (FillsPlaces campaign.now.value)) result tx.old.conn tx.new.conn }
 {
     put_each(tx, campaign.regions())?;
     put_each(tx, campaign.structures())?;
@@ -48,7 +48,7 @@ fn put_places<S: Alter>(tx: &mut Transaction<'_, S>, campaign: &Campaign) -> Res
 
 /// Puts the units, what they have, and the mail.
 fn put_people<S: Alter>(tx: &mut Transaction<'_, S>, campaign: &Campaign) -> Result<(), Error>
-    ensures { Writes S.Store (OfRow campaign.now.what) (Inside HasTables (FillsPeople campaign.now.what)) result tx.old.conn tx.new.conn }
+    ensures { Writes S.Store (OfRow campaign.now.value) (Inside HasTables (FillsPeople campaign.now.value)) result tx.old.conn tx.new.conn }
 {
     put_units(tx, campaign.units())?;
     put_all_goods(tx, campaign.units())?;
@@ -61,8 +61,8 @@ fn put_founding<S: Alter>(
     text: &str,
     campaign: &Campaign,
 ) -> Result<(), Error>
-    requires { length campaign.now.what.books ≤ most_things }
-    ensures { Writes S.Store (OfFounding text.now campaign.now.what) (Inside IsBlank (WritesFounding text.now campaign.now.what)) result tx.old.conn tx.new.conn }
+    requires { length campaign.now.value.books ≤ most_things }
+    ensures { Writes S.Store (OfFounding text.now campaign.now.value) (Inside IsBlank (WritesFounding text.now campaign.now.value)) result tx.old.conn tx.new.conn }
 {
     create_tables(tx)?;
     put_players(tx, text, campaign)?;
@@ -77,8 +77,8 @@ fn write_founding<S: Alter>(
     campaign: &Campaign,
 ) -> Result<(), Error>
     requires idle { conn.old.in_transaction ≡ false }
-    requires things { length campaign.now.what.books ≤ most_things }
-    ensures { Transacts S.Store (OfFounding text.now campaign.now.what) IsBlank (WritesFounding text.now campaign.now.what) result conn.old conn.new }
+    requires things { length campaign.now.value.books ≤ most_things }
+    ensures { Transacts S.Store (OfFounding text.now campaign.now.value) IsBlank (WritesFounding text.now campaign.now.value) result conn.old conn.new }
 {
     let mut tx = conn.transaction();
     put_founding(&mut tx, text, campaign)?;
@@ -121,9 +121,9 @@ pub fn create<S: Alter>(
     world_text: &str,
     campaign: &mut Campaign,
 ) -> Result<(), CreateFault>
-    requires { length campaign.old.what.books ≤ most_things }
-    ensures ok { OnOk result (Creates S.Store world_text.now campaign.old.what conn.old conn.new) }
-    ensures err { IfErr result (RefusesToCreate S.Store world_text.now campaign.old.what conn.old conn.new) }
+    requires { length campaign.old.value.books ≤ most_things }
+    ensures ok { OnOk result (Creates S.Store world_text.now campaign.old.value conn.old conn.new) }
+    ensures err { IfErr result (RefusesToCreate S.Store world_text.now campaign.old.value conn.old conn.new) }
     ensures later { IsLater (state S.Store conn.old) (state S.Store conn.new) }
     ensures unmarked { OnOk result (campaign.new ≡ record campaign.old { marks = no_marks }) }
     ensures spared { OnErr result (campaign.new ≡ campaign.old) }

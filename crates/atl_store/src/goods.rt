@@ -79,7 +79,7 @@ fn rewrite_goods<S: Alter>(
     campaign: &Campaign,
     number: u32,
 ) -> Result<(), Error>
-    ensures { Writes S.Store (OfChange campaign.now.what) (Inside HasTables (RewritesGoods campaign.now.what.units number)) result tx.old.conn tx.new.conn }
+    ensures { Writes S.Store (OfChange campaign.now.value) (Inside HasTables (RewritesGoods campaign.now.value.units number)) result tx.old.conn tx.new.conn }
 {
     drop_goods(tx, number)?;
     match campaign.unit(number) {
@@ -93,7 +93,7 @@ pub(crate) fn rewrite_marked_goods<S: Alter>(
     tx: &mut Transaction<'_, S>,
     campaign: &Campaign,
 ) -> Result<(), Error>
-    ensures { Writes S.Store (OfChange campaign.now.what) (Inside HasTables (RewritesAllGoods campaign.now.what.units campaign.now.marks.goods)) result tx.old.conn tx.new.conn }
+    ensures { Writes S.Store (OfChange campaign.now.value) (Inside HasTables (RewritesAllGoods campaign.now.value.units campaign.now.marks.goods)) result tx.old.conn tx.new.conn }
 {
     for number in campaign.marked_goods() {
         rewrite_goods(tx, campaign, number)?;

@@ -18,7 +18,7 @@ pub(crate) fn put_head<S: Alter>(
     campaign: &Campaign,
     world: &str,
 ) -> Result<(), Error>
-    ensures { Writes S.Store (Only campaign_upsert (head_values (head_of campaign.now.what) world.now)) (Inside HasTables (PutsHead (head_of campaign.now.what) world.now)) result tx.old.conn tx.new.conn }
+    ensures { Writes S.Store (Only campaign_upsert (head_values (head_of campaign.now.value) world.now)) (Inside HasTables (PutsHead (head_of campaign.now.value) world.now)) result tx.old.conn tx.new.conn }
 {
     let row = CampaignRow {
         month: campaign.month(),
@@ -35,7 +35,7 @@ pub(crate) fn rewrite_head<S: Alter>(
     tx: &mut Transaction<'_, S>,
     campaign: &Campaign,
 ) -> Result<(), Error>
-    ensures { Writes S.Store (OfChange campaign.now.what) (Inside HasTables (RewritesHead campaign.now)) result tx.old.conn tx.new.conn }
+    ensures { Writes S.Store (OfChange campaign.now.value) (Inside HasTables (RewritesHead campaign.now)) result tx.old.conn tx.new.conn }
 {
     if campaign.is_row_marked() {
         return put_head(tx, campaign, "");

@@ -2,7 +2,7 @@
 ghost use Rattle.std.specs.Prelude.{◌≡◌, [], false, List, ℕ, IfErr, OnOk, OnErr};
 ghost use Rattle.sqlite.specs.Held.{state};
 ghost use Rattle.sqlite.specs.State.{HasCleanDisk};
-ghost use Rattle.atl_state.specs.State.{State};
+ghost use Rattle.atl_state.specs.Campaign.{CampaignValue};
 ghost use Rattle.atl_state.specs.declared.books.Entry.TheVariants.{Joining};
 ghost use Rattle.atl_state.specs.declared.books.Thing.TheVariants.{Money, People};
 ghost use Rattle.atl_store.specs.Tables.{faction_table, unit_table, report_table};
@@ -37,8 +37,8 @@ struct Arrival<'a> {
 
 /// The faction that joined last.
 fn arrival_of(campaign: &Campaign, number: u32) -> Arrival<'_>
-    requires { HasArrival campaign.now.what number }
-    ensures found { IsFound campaign.now.what result.number result.faction.now result.place result.unit.now result.report.now }
+    requires { HasArrival campaign.now.value number }
+    ensures found { IsFound campaign.now.value result.number result.faction.now result.place result.unit.now result.report.now }
     ensures number { result.number ≡ number }
 {
     let place = campaign.next_unit() - 1;
@@ -57,8 +57,8 @@ fn put_newcomer<S: Alter>(
     campaign: &Campaign,
     arrival: &Arrival<'_>,
 ) -> Result<(), Error>
-    requires { IsFound campaign.now.what arrival.now.number arrival.now.faction.now arrival.now.place arrival.now.unit.now arrival.now.report.now }
-    ensures { Writes S.Store (OfJoining arrival.now.number campaign.now.what) (Inside HasTables (Both (PutsHead (head_of campaign.now.what) []) (Both (Puts faction_table 1 (faction_line arrival.now.number arrival.now.faction.now)) (Puts unit_table 1 (unit_line arrival.now.place arrival.now.unit.now))))) result tx.old.conn tx.new.conn }
+    requires { IsFound campaign.now.value arrival.now.number arrival.now.faction.now arrival.now.place arrival.now.unit.now arrival.now.report.now }
+    ensures { Writes S.Store (OfJoining arrival.now.number campaign.now.value) (Inside HasTables (Both (PutsHead (head_of campaign.now.value) []) (Both (Puts faction_table 1 (faction_line arrival.now.number arrival.now.faction.now)) (Puts unit_table 1 (unit_line arrival.now.place arrival.now.unit.now))))) result tx.old.conn tx.new.conn }
 {
     put_head(tx, campaign, "")?;
     arrival.faction.put(tx, arrival.number)?;
@@ -71,8 +71,8 @@ fn put_welcome<S: Alter>(
     campaign: &Campaign,
     arrival: &Arrival<'_>,
 ) -> Result<(), Error>
-    requires { IsFound campaign.now.what arrival.now.number arrival.now.faction.now arrival.now.place arrival.now.unit.now arrival.now.report.now }
-    ensures { Writes S.Store (OfJoining arrival.now.number campaign.now.what) (Inside HasTables (Both (Puts report_table 1 (report_row arrival.now.number arrival.now.report.now)) (Both (Settles campaign.now.what Joining Money) (Settles campaign.now.what Joining People)))) result tx.old.conn tx.new.conn }
+    requires { IsFound campaign.now.value arrival.now.number arrival.now.faction.now arrival.now.place arrival.now.unit.now arrival.now.report.now }
+    ensures { Writes S.Store (OfJoining arrival.now.number campaign.now.value) (Inside HasTables (Both (Puts report_table 1 (report_row arrival.now.number arrival.now.report.now)) (Both (Settles campaign.now.value Joining Money) (Settles campaign.now.value Joining People)))) result tx.old.conn tx.new.conn }
 {
     arrival.report.put(tx, arrival.number)?;
     settle_amount(tx, campaign, Entry::Joining, Thing::Money)?;
@@ -85,8 +85,8 @@ fn put_joining<S: Alter>(
     campaign: &Campaign,
     arrival: &Arrival<'_>,
 ) -> Result<(), Error>
-    requires { IsFound campaign.now.what arrival.now.number arrival.now.faction.now arrival.now.place arrival.now.unit.now arrival.now.report.now }
-    ensures { Writes S.Store (OfJoining arrival.now.number campaign.now.what) (Inside HasTables (WritesJoin arrival.now.number campaign.now.what)) result tx.old.conn tx.new.conn }
+    requires { IsFound campaign.now.value arrival.now.number arrival.now.faction.now arrival.now.place arrival.now.unit.now arrival.now.report.now }
+    ensures { Writes S.Store (OfJoining arrival.now.number campaign.now.value) (Inside HasTables (WritesJoin arrival.now.number campaign.now.value)) result tx.old.conn tx.new.conn }
 {
     put_newcomer(tx, campaign, arrival)?;
     put_welcome(tx, campaign, arrival)
@@ -99,8 +99,8 @@ fn write_joining<S: Alter>(
     arrival: &Arrival<'_>,
 ) -> Result<(), Error>
     requires idle { conn.old.in_transaction ≡ false }
-    requires found { IsFound campaign.now.what arrival.now.number arrival.now.faction.now arrival.now.place arrival.now.unit.now arrival.now.report.now }
-    ensures { Transacts S.Store (OfJoining arrival.now.number campaign.now.what) HasTables (WritesJoin arrival.now.number campaign.now.what) result conn.old conn.new }
+    requires found { IsFound campaign.now.value arrival.now.number arrival.now.faction.now arrival.now.place arrival.now.unit.now arrival.now.report.now }
+    ensures { Transacts S.Store (OfJoining arrival.now.number campaign.now.value) HasTables (WritesJoin arrival.now.number campaign.now.value) result conn.old conn.new }
 {
     let mut tx = conn.transaction();
     put_joining(&mut tx, campaign, arrival)?;
@@ -118,12 +118,12 @@ pub fn write_join<S: Alter>(
     faction: u32,
 ) -> Result<(), WriteFault>
     requires idle { conn.old.in_transaction ≡ false }
-    requires arrived { HasArrival campaign.now.what faction }
-    ensures ok { HasCleanDisk (state S.Store conn.new) → OnOk result ((text : List ℕ) (before : State) → Keeps (state S.Store conn.old) text before → IsJoining before faction campaign.now.what → Keeps (state S.Store conn.new) text campaign.now.what) }
-    ensures err { HasCleanDisk (state S.Store conn.new) → OnErr result ((text : List ℕ) (before : State) → Keeps (state S.Store conn.old) text before → IsJoining before faction campaign.now.what → Stops (state S.Store conn.old).faults (state S.Store conn.new) text before campaign.now.what) }
-    ensures own { HasCleanDisk (state S.Store conn.new) → OnOk result (HasTables (state S.Store conn.old).now → WritesJoin faction campaign.now.what (state S.Store conn.old).now (state S.Store conn.new).now) }
+    requires arrived { HasArrival campaign.now.value faction }
+    ensures ok { HasCleanDisk (state S.Store conn.new) → OnOk result ((text : List ℕ) (before : CampaignValue) → Keeps (state S.Store conn.old) text before → IsJoining before faction campaign.now.value → Keeps (state S.Store conn.new) text campaign.now.value) }
+    ensures err { HasCleanDisk (state S.Store conn.new) → OnErr result ((text : List ℕ) (before : CampaignValue) → Keeps (state S.Store conn.old) text before → IsJoining before faction campaign.now.value → Stops (state S.Store conn.old).faults (state S.Store conn.new) text before campaign.now.value) }
+    ensures own { HasCleanDisk (state S.Store conn.new) → OnOk result (HasTables (state S.Store conn.old).now → WritesJoin faction campaign.now.value (state S.Store conn.old).now (state S.Store conn.new).now) }
     ensures left { HasCleanDisk (state S.Store conn.new) → OnErr result (LeavesOff (state S.Store conn.old) (state S.Store conn.new)) }
-    ensures told { HasCleanDisk (state S.Store conn.new) → IfErr result (IsTold S.Store (OfJoining faction campaign.now.what) write_fault conn.old conn.new) }
+    ensures told { HasCleanDisk (state S.Store conn.new) → IfErr result (IsTold S.Store (OfJoining faction campaign.now.value) write_fault conn.old conn.new) }
     ensures later { IsLater (state S.Store conn.old) (state S.Store conn.new) }
     ensures others { HasCleanDisk (state S.Store conn.new) → SparesOthers (state S.Store conn.old) (state S.Store conn.new) }
     ensures idle { conn.new.in_transaction ≡ false }

@@ -15,7 +15,7 @@ ghost use Rattle.atl_store.specs.Inside.{Inside, HasTables};
 ghost use Rattle.atl_store.specs.Rewriting.{RewritesNumber, RewritesMarked};
 ghost use Rattle.atl_tables.specs.Tracking.{Lists};
 ghost use Rattle.atl_state.specs.Marks.{Marks};
-ghost use Rattle.atl_state.specs.State.{State};
+ghost use Rattle.atl_state.specs.Campaign.{CampaignValue};
 
 use atl_state::Campaign;
 use atl_tables::{Entries, MarkedNumbers};
@@ -29,17 +29,17 @@ pub(crate) trait Kept: Sized {
 
     ghost numbered: { (n : ℕ) (v : Self) → take 1 (line n v) ≡ int n ∷ [] };
 
-    ghost values: { State → FinMap nat_cmp Self };
+    ghost values: { CampaignValue → FinMap nat_cmp Self };
 
     ghost marks: { Marks → FinSet nat_cmp };
 
-    ghost of_row: { (c : State) (n : ℕ) (v : Self) → get (values c) n ≡ Some v → OfRow c (upsert table 1) (line n v) };
+    ghost of_row: { (c : CampaignValue) (n : ℕ) (v : Self) → get (values c) n ≡ Some v → OfRow c (upsert table 1) (line n v) };
 
-    ghost of_none: { (c : State) (n : ℕ) → get (values c) n ≡ None → OfChange c (deletion table 1) (int n ∷ []) };
+    ghost of_none: { (c : CampaignValue) (n : ℕ) → get (values c) n ≡ None → OfChange c (deletion table 1) (int n ∷ []) };
 
     /// What stands under a number of a campaign.
     fn of(campaign: &Campaign, number: u32) -> Option<&Self>
-        ensures { option_copied result ≡ get (values campaign.now.what) number };
+        ensures { option_copied result ≡ get (values campaign.now.value) number };
 
     /// The numbers that are marked in a campaign, in rising order.
     fn marked(campaign: &Campaign) -> MarkedNumbers<'_>
@@ -73,7 +73,7 @@ fn rewrite<V: Kept + Drop, S: Alter>(
     campaign: &Campaign,
     number: u32,
 ) -> Result<(), Error>
-    ensures { Writes S.Store (OfChange campaign.now.what) (Inside HasTables (RewritesNumber V.Kept.table V.Kept.line (V.Kept.values campaign.now.what) number)) result tx.old.conn tx.new.conn }
+    ensures { Writes S.Store (OfChange campaign.now.value) (Inside HasTables (RewritesNumber V.Kept.table V.Kept.line (V.Kept.values campaign.now.value) number)) result tx.old.conn tx.new.conn }
 {
     match V::of(campaign, number) {
         Some(value) => value.put(tx, number),
@@ -86,7 +86,7 @@ pub(crate) fn rewrite_marked<V: Kept + Drop, S: Alter>(
     tx: &mut Transaction<'_, S>,
     campaign: &Campaign,
 ) -> Result<(), Error>
-    ensures { Writes S.Store (OfChange campaign.now.what) (Inside HasTables (RewritesMarked V.Kept.table V.Kept.line (V.Kept.values campaign.now.what) (V.Kept.marks campaign.now.marks))) result tx.old.conn tx.new.conn }
+    ensures { Writes S.Store (OfChange campaign.now.value) (Inside HasTables (RewritesMarked V.Kept.table V.Kept.line (V.Kept.values campaign.now.value) (V.Kept.marks campaign.now.marks))) result tx.old.conn tx.new.conn }
 {
     for number in V::marked(campaign) {
         rewrite::<V, S>(tx, campaign, number)?;

@@ -2,7 +2,7 @@
 ghost use Rattle.std.specs.Prelude.{◌≡◌, false, List, ℕ, IfErr, OnOk, OnErr};
 ghost use Rattle.sqlite.specs.Held.{state};
 ghost use Rattle.sqlite.specs.State.{HasCleanDisk};
-ghost use Rattle.atl_state.specs.State.{State, with_mail};
+ghost use Rattle.atl_state.specs.Campaign.{CampaignValue, with_mail};
 ghost use Rattle.atl_store.specs.Causes.{IsTold};
 ghost use Rattle.atl_store.specs.Faults.{write_fault};
 ghost use Rattle.atl_store.specs.OwnStatements.{OfMail};
@@ -35,8 +35,8 @@ pub fn write_mail<S: Alter>(
     text: &[u8],
 ) -> Result<(), WriteFault>
     requires { conn.old.in_transaction ≡ false }
-    ensures ok { HasCleanDisk (state S.Store conn.new) → OnOk result ((world : List ℕ) (before : State) → Keeps (state S.Store conn.old) world before → Keeps (state S.Store conn.new) world (with_mail before faction text.now)) }
-    ensures err { HasCleanDisk (state S.Store conn.new) → OnErr result ((world : List ℕ) (before : State) → Keeps (state S.Store conn.old) world before → Stops (state S.Store conn.old).faults (state S.Store conn.new) world before (with_mail before faction text.now)) }
+    ensures ok { HasCleanDisk (state S.Store conn.new) → OnOk result ((world : List ℕ) (before : CampaignValue) → Keeps (state S.Store conn.old) world before → Keeps (state S.Store conn.new) world (with_mail before faction text.now)) }
+    ensures err { HasCleanDisk (state S.Store conn.new) → OnErr result ((world : List ℕ) (before : CampaignValue) → Keeps (state S.Store conn.old) world before → Stops (state S.Store conn.old).faults (state S.Store conn.new) world before (with_mail before faction text.now)) }
     ensures own { HasCleanDisk (state S.Store conn.new) → OnOk result (HasTables (state S.Store conn.old).now → WritesMail faction text.now (state S.Store conn.old).now (state S.Store conn.new).now) }
     ensures left { HasCleanDisk (state S.Store conn.new) → OnErr result (LeavesOff (state S.Store conn.old) (state S.Store conn.new)) }
     ensures told { HasCleanDisk (state S.Store conn.new) → IfErr result (IsTold S.Store (OfMail faction text.now) write_fault conn.old conn.new) }

@@ -2,7 +2,7 @@
 ghost use Rattle.std.specs.Prelude.{List, ℕ, ◌⊎◌, IfOk};
 ghost use Rattle.sqlite.specs.Held.{state};
 ghost use Rattle.sqlite.specs.State.{HasCleanDisk};
-ghost use Rattle.atl_state.specs.State.{State};
+ghost use Rattle.atl_state.specs.Campaign.{CampaignValue};
 ghost use Rattle.atl_store.specs.Keeps.{HoldsCampaign, Keeps, Stops};
 ghost use Rattle.atl_store.specs.Reopening.{Reopens};
 
@@ -19,8 +19,8 @@ pub fn reopened<S: Alter + Reopen + Drop>(
     conn: Connection<S>,
 ) -> Result<Connection<S>, StoreFault>
     ensures found { IfOk result (Reopens S.Store conn) }
-    ensures kept { IfOk result (λ again. (text : List ℕ) (c : State) → HoldsCampaign S.Store conn text c → HoldsCampaign S.Store again text c) }
-    ensures stopped { IfOk result (λ again. HasCleanDisk (state S.Store again) → (faults : ℕ) (text : List ℕ) (before after : State) → Stops faults (state S.Store conn) text before after
+    ensures kept { IfOk result (λ again. (text : List ℕ) (c : CampaignValue) → HoldsCampaign S.Store conn text c → HoldsCampaign S.Store again text c) }
+    ensures stopped { IfOk result (λ again. HasCleanDisk (state S.Store again) → (faults : ℕ) (text : List ℕ) (before after : CampaignValue) → Stops faults (state S.Store conn) text before after
         → Keeps (state S.Store again) text before ⊎ Keeps (state S.Store again) text after) }
 {
     let mut store = conn.into_store();

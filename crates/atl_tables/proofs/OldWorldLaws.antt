@@ -7,10 +7,10 @@ use Rattle.toml.specs.Data.{Members}
 use Rattle.toml.specs.Parse.{parse_document}
 use Rattle.atl_tables.specs.Faults.{first_fault, unless}
 use Rattle.atl_tables.specs.Places.{EachPlace}
-use Rattle.atl_tables.specs.Planet.{Planet, without_market, without_markets}
+use Rattle.atl_tables.specs.Worlds.{WorldValue, without_market, without_markets}
 use Rattle.atl_tables.specs.RegionTable.{as_draft, region_of}
 use Rattle.atl_tables.specs.Sums.{mapped}
-use Rattle.atl_tables.specs.World.{conditions, world_by, old_world_of, planet_of, regions_in, regions_of, tables_of, world_in}
+use Rattle.atl_tables.specs.World.{conditions, world_by, old_world_of, world_of_tables, regions_in, regions_of, tables_of, world_in}
 use Rattle.atl_tables.specs.declared.fault.WorldFault.{WorldFault}
 use Rattle.atl_tables.specs.declared.format.Format.TheVariants.{First}
 use Rattle.atl_tables.specs.declared.region_table.OldRegion.{OldRegion}
@@ -34,23 +34,23 @@ module _ (all : Tables) where
   bare_plans (r ∷ rs) zero p h = let same : region_of all (as_draft r) ≡ p = cc in subst (λ (q : RegionPlan). without_market q ≡ q) same refl
   bare_plans (r ∷ rs) (suc i) p h = bare_plans rs i p h
 
-  bare : (rs : List OldRegion) → all.regions ≡ map as_draft rs → without_markets (planet_of all) ≡ planet_of all
-  unfolding planet_of regions_of
+  bare : (rs : List OldRegion) → all.regions ≡ map as_draft rs → without_markets (world_of_tables all) ≡ world_of_tables all
+  unfolding world_of_tables regions_of
   bare rs read =
       let plans = subst (λ ds. EachPlace (λ i p. without_market p ≡ p) (map (region_of all) ds)) (sym read) (bare_plans rs) in
-      ap (λ m. record (planet_of all) { regions = m }) (mapped_same without_market (regions_of all) (at_number (λ (p : RegionPlan). p.number) (λ n p. without_market p ≡ p) (map (region_of all) all.regions) plans))
+      ap (λ m. record (world_of_tables all) { regions = m }) (mapped_same without_market (regions_of all) (at_number (λ (p : RegionPlan). p.number) (λ n p. without_market p ≡ p) (map (region_of all) all.regions) plans))
 
-given : (fault : Option WorldFault) (x w : Planet) → unless fault x ≡ Ok w → x ≡ w
+given : (fault : Option WorldFault) (x w : WorldValue) → unless fault x ≡ Ok w → x ≡ w
 given None x w h = cc
 given (Some f) x w h = absurd (cc)
 
-in_document : (o : Option Members) (w : Planet) → world_in First o ≡ Ok w → without_markets w ≡ w
+in_document : (o : Option Members) (w : WorldValue) → world_in First o ≡ Ok w → without_markets w ≡ w
 unfolding tables_of regions_in
 in_document None w h = absurd (cc)
 in_document (Some doc) w h =
     let all = tables_of First doc in
-    subst (λ (x : Planet). without_markets x ≡ x) (given (first_fault (conditions First doc)) (planet_of all) w h) (bare all _ refl)
+    subst (λ (x : WorldValue). without_markets x ≡ x) (given (first_fault (conditions First doc)) (world_of_tables all) w h) (bare all _ refl)
 
-pub old_has_no_markets : (text : List ℕ) (w : Planet) → old_world_of text ≡ Ok w → without_markets w ≡ w
+pub old_has_no_markets : (text : List ℕ) (w : WorldValue) → old_world_of text ≡ Ok w → without_markets w ≡ w
 unfolding world_by
 old_has_no_markets text w h = in_document (parse_document text) w h

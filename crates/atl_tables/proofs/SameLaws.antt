@@ -2,7 +2,7 @@
 use Rattle.std.proofs.Common.{◌≡◌, ℕ, List, ◌∷◌, map, sym, ap, ◌∙◌}
 use Rattle.std.specs.FinMap.{FinMap, entries, same_entries_map}
 use Rattle.std.specs.Ordering.{nat_cmp}
-use Rattle.atl_tables.specs.Planet.{without_market}
+use Rattle.atl_tables.specs.Worlds.{without_market}
 use Rattle.atl_tables.specs.Sums.{mapped}
 use Rattle.atl_tables.specs.declared.world.RegionPlan.{RegionPlan}
 use Rattle.atl_tables.proofs.MadeLaws.{entries-mapped}

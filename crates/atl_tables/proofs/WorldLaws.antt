@@ -9,11 +9,11 @@ use Rattle.atl_tables.specs.Places.{EachPlace}
 use Rattle.atl_tables.specs.ItemTable.{item_of}
 use Rattle.atl_tables.specs.Names.{NamesDiffer}
 use Rattle.atl_tables.specs.Parts.{parts_of, ArePartsOf}
-use Rattle.atl_tables.specs.Planet.{IsTerrain, IsItem, IsSkill, IsKind, IsRegionPlan, HasNeighbours, IsWorld, land_of}
+use Rattle.atl_tables.specs.Worlds.{IsTerrain, IsItem, IsSkill, IsKind, IsRegionPlan, HasNeighbours, IsWorld, land_of}
 use Rattle.atl_tables.specs.RegionTable.{region_of}
 use Rattle.atl_tables.specs.TerrainTable.{terrain_of}
 use Rattle.atl_tables.specs.KindTable.{kind_of}
-use Rattle.atl_tables.specs.World.{planet_of, regions_of}
+use Rattle.atl_tables.specs.World.{world_of_tables, regions_of}
 use Rattle.atl_tables.specs.declared.tables.Tables.{Tables}
 use Rattle.atl_tables.specs.declared.world.RegionPlan.{RegionPlan}
 use Rattle.atl_tables.proofs.PlacedLaws.{few, at_number}
@@ -30,8 +30,8 @@ mapped_places P Q f then (x ∷ xs) all zero y h = let same : f x ≡ y = cc in 
 mapped_places P Q f then (x ∷ xs) all (suc i) y h = mapped_places P Q f then xs (All-tail P x xs all) i y h
 
 -- the world of tables that were read and whose names stand for something
-pub is_world : (all : Tables) → AreTables all → ArePartsOf all (parts_of all) → HaveNames all → All (λ d. HasNeighbours (regions_of all) d.place.number d.sides.north d.sides.south d.sides.east d.sides.west) all.regions → 0 < length (land_of (planet_of all)) → IsWorld (planet_of all)
-unfolding planet_of regions_of region_of terrain_of item_of kind_of
+pub is_world : (all : Tables) → AreTables all → ArePartsOf all (parts_of all) → HaveNames all → All (λ d. HasNeighbours (regions_of all) d.place.number d.sides.north d.sides.south d.sides.east d.sides.west) all.regions → 0 < length (land_of (world_of_tables all)) → IsWorld (world_of_tables all)
+unfolding world_of_tables regions_of region_of terrain_of item_of kind_of
 is_world all tables parts names back land =
     let regions = regions_of all in
     let item_count : length (map (item_of all) all.items) ≡ length all.items = length-map all.items (item_of all) in

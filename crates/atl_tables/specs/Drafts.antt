@@ -3,7 +3,7 @@ use Rattle.std.specs.Prelude.{◌≡◌, ◌≤◌, true, length, map}
 use Rattle.std.specs.List.{All}
 use Rattle.atl_tables.specs.Limits.{most_terrains, most_items, most_skills, most_kinds, most_regions, last_region, most_amount, most_per_head, most_price, most_fraction, most_growth, most_weight, last_level, most_raw_count, most_size}
 use Rattle.atl_tables.specs.Names.{name_ok, NamesDiffer}
-use Rattle.atl_tables.specs.Planet.{IsSkill}
+use Rattle.atl_tables.specs.Worlds.{IsSkill}
 use Rattle.atl_tables.specs.declared.item_table.ItemDraft.{ItemDraft}
 use Rattle.atl_tables.specs.declared.item_table.Making.{Making}
 use Rattle.atl_tables.specs.declared.kind_table.Building.{Building}

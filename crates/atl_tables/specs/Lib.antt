@@ -10,7 +10,7 @@ pub mod Each
 pub mod Arrays
 pub mod Titles
 pub mod Regions
-pub mod Planet
+pub mod Worlds
 pub mod RulesTable
 pub mod OutputTable
 pub mod TerrainTable

@@ -2,7 +2,7 @@
 use Rattle.std.specs.Prelude.{ℕ, Bool, List, map, position, Option, ◌==◌, if◌then◌else◌}
 use Rattle.std.specs.Str.{str_eq_ignore_ascii_case}
 use Rattle.atl_tables.specs.Letters.{space, underscore}
-use Rattle.atl_tables.specs.Planet.{Planet}
+use Rattle.atl_tables.specs.Worlds.{WorldValue}
 
 -- a byte of a name: `_` stands for a space where the word is bare
 abbrev pub letter_of : Bool → ℕ → ℕ
@@ -16,11 +16,11 @@ name_of word quoted = map (letter_of quoted) word
 abbrev pub place_named : {A : Type 0} → (A → List ℕ) → List A → List ℕ → Bool → Option ℕ
 place_named title things word quoted = position (λ thing. str_eq_ignore_ascii_case (title thing) (name_of word quoted)) things
 
-abbrev pub item_named : Planet → List ℕ → Bool → Option ℕ
+abbrev pub item_named : WorldValue → List ℕ → Bool → Option ℕ
 item_named w word quoted = place_named (λ item. item.name) w.items word quoted
 
-abbrev pub skill_named : Planet → List ℕ → Bool → Option ℕ
+abbrev pub skill_named : WorldValue → List ℕ → Bool → Option ℕ
 skill_named w word quoted = place_named (λ skill. skill.name) w.skills word quoted
 
-abbrev pub kind_named : Planet → List ℕ → Bool → Option ℕ
+abbrev pub kind_named : WorldValue → List ℕ → Bool → Option ℕ
 kind_named w word quoted = place_named (λ kind. kind.name) w.kinds word quoted

@@ -10,7 +10,7 @@ use Rattle.atl_tables.specs.declared.fault.WorldFault.{WorldFault}
 use Rattle.atl_tables.specs.declared.fault.WorldFault.TheVariants.{BadNeighbour}
 use Rattle.atl_tables.specs.declared.region_table.RegionDraft.{RegionDraft}
 use Rattle.atl_tables.specs.declared.world.RegionPlan.{RegionPlan}
-use Rattle.atl_tables.specs.Planet.{beside}
+use Rattle.atl_tables.specs.Worlds.{beside}
 
 abbrev pub is_number : ℕ → Option ℕ → Bool
 is_number n None = false

@@ -12,7 +12,7 @@ use Rattle.atl_tables.specs.Keys.{array_at, optional_array_at}
 use Rattle.atl_tables.specs.KindTable.{kind_keys, kind_from, kind_known, kind_of}
 use Rattle.atl_tables.specs.Limits.{most_terrains, most_items, most_skills, most_kinds, most_regions}
 use Rattle.atl_tables.specs.Neighbours.{neighbours_at}
-use Rattle.atl_tables.specs.Planet.{Planet, land_of}
+use Rattle.atl_tables.specs.Worlds.{WorldValue, land_of}
 use Rattle.atl_tables.specs.RegionTable.{old_region_keys, old_region_from, as_draft, region_keys, region_from, market_twins, region_known, region_of}
 use Rattle.atl_tables.specs.Regions.{twin_numbers}
 use Rattle.atl_tables.specs.RulesTable.{rules_conditions, rules_in, rules_known, rules_of}
@@ -56,8 +56,8 @@ tables_of format doc = record {
 unfoldable pub regions_of : Tables → FinMap nat_cmp RegionPlan
 regions_of all = by_number (λ p. p.number) (map (region_of all) all.regions)
 
-unfoldable pub planet_of : Tables → Planet
-planet_of all = record {
+unfoldable pub world_of_tables : Tables → WorldValue
+world_of_tables all = record {
   rules = rules_of all;
   terrains = map (terrain_of all) all.terrains;
   items = map (item_of all) all.items;
@@ -123,23 +123,23 @@ table_conditions all =
     names_differ all
     ++ (names_are_known all
     ++ (neighbours_are_mutual all
-    ++ is_some_land (land_of (planet_of all))))
+    ++ is_some_land (land_of (world_of_tables all))))
 
 -- all of them
 unfoldable pub conditions : Format → Members → Conditions
 conditions format doc = keys_are_good format doc ++ table_conditions (tables_of format doc)
 
 -- ---- the world of a text in a format, or its first fault
-abbrev pub world_in : Format → Option Members → Result Planet WorldFault
+abbrev pub world_in : Format → Option Members → Result WorldValue WorldFault
 world_in format None = Err NotToml
-world_in format (Some doc) = unless (first_fault (conditions format doc)) (planet_of (tables_of format doc))
+world_in format (Some doc) = unless (first_fault (conditions format doc)) (world_of_tables (tables_of format doc))
 
-unfoldable pub world_by : Format → List ℕ → Result Planet WorldFault
+unfoldable pub world_by : Format → List ℕ → Result WorldValue WorldFault
 world_by format text = world_in format (parse_document text)
 
 -- with markets, and as it was before there were any
-abbrev pub world_of : List ℕ → Result Planet WorldFault
+abbrev pub world_of : List ℕ → Result WorldValue WorldFault
 world_of = world_by Second
 
-abbrev pub old_world_of : List ℕ → Result Planet WorldFault
+abbrev pub old_world_of : List ℕ → Result WorldValue WorldFault
 old_world_of = world_by First

@@ -3,7 +3,7 @@ ghost use Rattle.std.specs.Prelude.{◌≡◌, ◌≤◌, IfSome, length};
 ghost use Rattle.std.specs.List.{slice_get};
 ghost use Rattle.std.specs.Option.{option_copied};
 ghost use Rattle.atl_tables.specs.ByNumber.{terrain_of, is_land_at, neighbour, market_of, is_ship, size_of, fee_of};
-ghost use Rattle.atl_tables.specs.Planet.{IsTerrain, IsMarket};
+ghost use Rattle.atl_tables.specs.Worlds.{IsTerrain, IsMarket};
 
 use crate::direction::Direction;
 use crate::limits::MOST_SIZE;

@@ -6,7 +6,7 @@ ghost use Rattle.atl_tables.specs.ItemTable.{making_at, item_keys, item_from, ot
 ghost use Rattle.atl_tables.specs.KeyByKey.{conditions_of, value_of};
 ghost use Rattle.atl_tables.specs.Keys.{path};
 ghost use Rattle.atl_tables.specs.Limits.{most_numbered};
-ghost use Rattle.atl_tables.specs.Planet.{IsItem};
+ghost use Rattle.atl_tables.specs.Worlds.{IsItem};
 ghost use Rattle.atl_tables.specs.Titles.{number_of, known_or_absent};
 
 use crate::elements::Element;

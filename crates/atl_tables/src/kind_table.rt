@@ -3,7 +3,7 @@ ghost use Rattle.std.specs.Prelude.{length};
 ghost use Rattle.atl_tables.specs.Drafts.{IsBuilding, IsPurpose, IsKindDraft};
 ghost use Rattle.atl_tables.specs.KeyByKey.{conditions_of, value_of};
 ghost use Rattle.atl_tables.specs.KindTable.{building_at, purpose_at, kind_keys, kind_from, kind_known, kind_of};
-ghost use Rattle.atl_tables.specs.Planet.{IsKind};
+ghost use Rattle.atl_tables.specs.Worlds.{IsKind};
 
 use crate::elements::Element;
 use crate::fault::WorldFault;

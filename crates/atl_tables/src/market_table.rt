@@ -6,7 +6,7 @@ ghost use Rattle.atl_tables.specs.Drafts.{IsMarketDraft};
 ghost use Rattle.atl_tables.specs.Faults.{first_fault};
 ghost use Rattle.atl_tables.specs.Given.{Gives};
 ghost use Rattle.atl_tables.specs.MarketTable.{market_keys, market_from, markets_keys, markets_from, market_known, market_of};
-ghost use Rattle.atl_tables.specs.Planet.{IsMarket};
+ghost use Rattle.atl_tables.specs.Worlds.{IsMarket};
 
 use crate::elements::{Element, optional_list};
 use crate::fault::WorldFault;

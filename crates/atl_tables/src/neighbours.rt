@@ -7,7 +7,7 @@ ghost use Rattle.atl_tables.specs.Faults.{first_fault};
 ghost use Rattle.atl_tables.specs.Given.{Gives};
 ghost use Rattle.atl_tables.specs.Keys.{path};
 ghost use Rattle.atl_tables.specs.Neighbours.{is_number, neighbour, neighbours_at};
-ghost use Rattle.atl_tables.specs.Planet.{beside, LeadsBack, HasNeighbours};
+ghost use Rattle.atl_tables.specs.Worlds.{beside, LeadsBack, HasNeighbours};
 
 use crate::direction::Direction::{self, East, North, South, West};
 use crate::fault::WorldFault;

@@ -7,9 +7,9 @@ ghost use Rattle.atl_tables.specs.Faults.{first_fault, Reads};
 ghost use Rattle.atl_tables.specs.Given.{Gives};
 ghost use Rattle.atl_tables.specs.Limits.{most_regions};
 ghost use Rattle.atl_tables.specs.Parts.{ArePartsOf, parts_of};
-ghost use Rattle.atl_tables.specs.Planet.{IsWorld, is_land, land_of};
+ghost use Rattle.atl_tables.specs.Worlds.{IsWorld, is_land, land_of};
 ghost use Rattle.atl_tables.specs.Sums.{numbers_where};
-ghost use Rattle.atl_tables.specs.World.{things_of, regions_in, tables_of, planet_of, things_are_good, regions_are_good, keys_are_good, titles_differ, names_differ, names_are_known, neighbours_are_mutual, is_some_land, table_conditions, conditions, world_by, world_of, old_world_of};
+ghost use Rattle.atl_tables.specs.World.{things_of, regions_in, tables_of, world_of_tables, things_are_good, regions_are_good, keys_are_good, titles_differ, names_differ, names_are_known, neighbours_are_mutual, is_some_land, table_conditions, conditions, world_by, world_of, old_world_of};
 
 use crate::elements::{list, optional_list};
 use crate::fault::WorldFault;
@@ -205,7 +205,7 @@ fn join(alloc: Global, all: Tables, parts: Parts) -> Result<World, WorldFault>
     requires names { HaveNames all }
     requires parts { parts ≡ parts_of all }
     requires sound { ArePartsOf all parts }
-    ensures { Gives (λ w. w) result (first_fault (neighbours_are_mutual all ++ is_some_land (land_of (planet_of all)))) (planet_of all) }
+    ensures { Gives (λ w. w) result (first_fault (neighbours_are_mutual all ++ is_some_land (land_of (world_of_tables all)))) (world_of_tables all) }
 {
     let Parts {
         rules,
@@ -223,7 +223,7 @@ fn join(alloc: Global, all: Tables, parts: Parts) -> Result<World, WorldFault>
 /// The world that tables describe, or the first fault of their names, numbers and neighbours, or NoLand.
 fn from_tables(alloc: Global, all: Tables) -> Result<World, WorldFault>
     requires { AreTables all }
-    ensures { Gives (λ w. w) result (first_fault (table_conditions all)) (planet_of all) }
+    ensures { Gives (λ w. w) result (first_fault (table_conditions all)) (world_of_tables all) }
 {
     names_differ(alloc, &all)?;
     let parts = resolve(alloc, &all)?;
@@ -232,7 +232,7 @@ fn from_tables(alloc: Global, all: Tables) -> Result<World, WorldFault>
 
 #[tactic(auto, unfolding(crate::specs::World::conditions))]
 fn from_document(alloc: Global, format: Format, document: &Table) -> Result<World, WorldFault>
-    ensures { Gives (λ w. w) result (first_fault (conditions format (table_view document.now))) (planet_of (tables_of format (table_view document.now))) }
+    ensures { Gives (λ w. w) result (first_fault (conditions format (table_view document.now))) (world_of_tables (tables_of format (table_view document.now))) }
 {
     let all = tables(alloc, format, document)?;
     from_tables(alloc, all)

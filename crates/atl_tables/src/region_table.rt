@@ -5,7 +5,7 @@ ghost use Rattle.atl_tables.specs.Drafts.{IsPlace, IsOldRegion, IsRegionDraft};
 ghost use Rattle.atl_tables.specs.Faults.{first_fault};
 ghost use Rattle.atl_tables.specs.Given.{Gives};
 ghost use Rattle.atl_tables.specs.RegionTable.{place_keys, place_from, side_keys, sides_from, old_region_keys, old_region_from, as_draft, region_keys, region_from, market_twins, region_known, region_of};
-ghost use Rattle.atl_tables.specs.Planet.{IsRegionPlan};
+ghost use Rattle.atl_tables.specs.Worlds.{IsRegionPlan};
 
 use crate::elements::Element;
 use crate::fault::WorldFault;

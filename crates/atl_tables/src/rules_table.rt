@@ -5,13 +5,11 @@ ghost use Rattle.atl_tables.specs.Drafts.{ArePrices, ArePeasantRules, AreMenRule
 ghost use Rattle.atl_tables.specs.Faults.{first_fault};
 ghost use Rattle.atl_tables.specs.Given.{Gives};
 ghost use Rattle.atl_tables.specs.KeyByKey.{conditions_of, value_of};
-ghost use Rattle.atl_tables.specs.Planet.{AreRules};
+ghost use Rattle.atl_tables.specs.Worlds.{AreRules};
 ghost use Rattle.atl_tables.specs.RulesTable.{prices_at, peasants_at, men_at, skill_names_at, rules_at, rules_conditions, rules_in, rules_known, rules_of};
 
 use crate::elements::Element;
 use crate::fault::WorldFault;
-use crate::keys;
-use crate::let_go;
 use crate::limits::{
     MOST_AMOUNT, MOST_FRACTION, MOST_GROWTH, MOST_PER_HEAD, MOST_PRICE, MOST_WEIGHT,
 };
@@ -19,6 +17,7 @@ use crate::tables::Tables;
 use crate::text::Text;
 use crate::titled::known_or_absent;
 use crate::world::Rules;
+use crate::{keys, let_go};
 use std::alloc::Global;
 use toml::Table;
 

@@ -1,7 +1,7 @@
 //! Whether two worlds are one, markets aside.
 ghost use Rattle.std.specs.Prelude.{◌≡◌};
 ghost use Rattle.std.specs.Bool.{Decides};
-ghost use Rattle.atl_tables.specs.Planet.{without_market, without_markets};
+ghost use Rattle.atl_tables.specs.Worlds.{without_market, without_markets};
 ghost use Rattle.atl_tables.specs.Sums.{mapped};
 
 use crate::numbered::Numbered;

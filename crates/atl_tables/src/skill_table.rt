@@ -1,5 +1,5 @@
 //! The tables `[[skill]]`. See docs/FORMATS.md, "The world file".
-ghost use Rattle.atl_tables.specs.Planet.{IsSkill};
+ghost use Rattle.atl_tables.specs.Worlds.{IsSkill};
 ghost use Rattle.atl_tables.specs.SkillTable.{skill_keys, skill_from};
 
 use crate::elements::Element;

@@ -2,7 +2,7 @@
 ghost use Rattle.std.specs.Prelude.{length};
 ghost use Rattle.atl_tables.specs.Drafts.{IsEconomy, IsTerrainDraft};
 ghost use Rattle.atl_tables.specs.KeyByKey.{conditions_of, value_of};
-ghost use Rattle.atl_tables.specs.Planet.{IsTerrain};
+ghost use Rattle.atl_tables.specs.Worlds.{IsTerrain};
 ghost use Rattle.atl_tables.specs.TerrainTable.{economy_at, terrain_keys, terrain_from, terrain_twins, terrain_known, terrain_of};
 
 use crate::elements::Element;

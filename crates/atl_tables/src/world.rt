@@ -161,7 +161,7 @@ impl Drop for RegionPlan {
 }
 
 impl RegionPlan {
-    ghost use Rattle.atl_tables.specs.Planet.{beside};
+    ghost use Rattle.atl_tables.specs.Worlds.{beside};
 
     /// The number of the region on a side, where there is one.
     pub fn beside(&self, direction: Direction) -> Option<u32>
@@ -199,11 +199,11 @@ impl Drop for World {
 
 impl Model for World {
     ghost use Rattle.std.specs.Prelude.{◌≡◌};
-    ghost use Rattle.atl_tables.specs.Planet.{Planet, planet_code, IsWorld, land_of};
+    ghost use Rattle.atl_tables.specs.Worlds.{WorldValue, world_code, IsWorld, land_of};
 
-    ghost Value = { Planet };
+    ghost Value = { WorldValue };
 
-    ghost coded = { planet_code };
+    ghost coded = { world_code };
 
     ghost view = { λ a. record {
       rules = a.rules;
@@ -220,7 +220,7 @@ impl Model for World {
 }
 
 impl World {
-    ghost use Rattle.atl_tables.specs.Planet.{IsWorld, land_of};
+    ghost use Rattle.atl_tables.specs.Worlds.{IsWorld, land_of};
 
     /// The world of these parts, and the numbers of its regions with land.
     pub(crate) fn from_parts(

@@ -102,7 +102,7 @@ fn run_tax(
     campaign: Campaign,
     month: Month,
 ) -> Result<(Campaign, Month), AllocError>
-    requires good { IsGood world.now campaign.what }
+    requires good { IsGood world.now campaign.value }
     requires read { AreFit world.now month.readings }
 {
     TaxPhase.run(alloc, world, campaign, month)
@@ -114,7 +114,7 @@ fn run_recruit(
     campaign: Campaign,
     month: Month,
 ) -> Result<(Campaign, Month), AllocError>
-    requires good { IsGood world.now campaign.what }
+    requires good { IsGood world.now campaign.value }
     requires read { AreFit world.now month.readings }
 {
     RecruitPhase.run(alloc, world, campaign, month)
@@ -126,7 +126,7 @@ fn run_produce(
     campaign: Campaign,
     month: Month,
 ) -> Result<(Campaign, Month), AllocError>
-    requires good { IsGood world.now campaign.what }
+    requires good { IsGood world.now campaign.value }
     requires read { AreFit world.now month.readings }
 {
     ProducePhase.run(alloc, world, campaign, month)
@@ -138,7 +138,7 @@ fn run_work(
     campaign: Campaign,
     month: Month,
 ) -> Result<(Campaign, Month), AllocError>
-    requires good { IsGood world.now campaign.what }
+    requires good { IsGood world.now campaign.value }
     requires read { AreFit world.now month.readings }
 {
     WorkPhase.run(alloc, world, campaign, month)
@@ -150,7 +150,7 @@ fn run_upkeep(
     campaign: Campaign,
     month: Month,
 ) -> Result<(Campaign, Month), AllocError>
-    requires good { IsGood world.now campaign.what }
+    requires good { IsGood world.now campaign.value }
     requires read { AreFit world.now month.readings }
 {
     UpkeepPhase.run(alloc, world, campaign, month)
@@ -164,7 +164,7 @@ fn run_on(
     campaign: Campaign,
     month: Month,
 ) -> Result<(Campaign, Month), AllocError>
-    requires good { IsGood world.now campaign.what }
+    requires good { IsGood world.now campaign.value }
     requires read { AreFit world.now month.readings }
 {
     match played {

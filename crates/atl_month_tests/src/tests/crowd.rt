@@ -364,7 +364,7 @@ fn rows(alloc: Global, world: &World) -> Result<Parts, AllocError> {
 
 /// The campaign.
 pub(crate) fn crowd(alloc: Global, world: &World) -> Result<Campaign, Fail>
-    ensures { IfOk result (λ campaign. IsGood world.now campaign.what) }
+    ensures { IfOk result (λ campaign. IsGood world.now campaign.value) }
 {
     let rows = rows(alloc, world)?;
     Ok(check(alloc, world, rows)?)

@@ -18,8 +18,8 @@ fn joined(
     mut campaign: Campaign,
     name: &str,
 ) -> Result<Campaign, Fail>
-    requires { IsGood world.now campaign.what }
-    ensures { IfOk result (λ campaign. IsGood world.now campaign.what) }
+    requires { IsGood world.now campaign.value }
+    ensures { IfOk result (λ campaign. IsGood world.now campaign.value) }
 {
     let name = name.as_bytes();
     if !name_ok(name) {
@@ -33,7 +33,7 @@ fn joined(
 
 /// Two factions with a unit each, in one region.
 fn two_factions(alloc: Global, world: &World) -> Result<Campaign, Fail>
-    ensures { IfOk result (λ campaign. IsGood world.now campaign.what) }
+    ensures { IfOk result (λ campaign. IsGood world.now campaign.value) }
 {
     let campaign = founded(alloc, world, b"gm")?;
     let campaign = joined(alloc, world, campaign, "Avalon")?;

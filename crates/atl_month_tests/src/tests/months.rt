@@ -1,7 +1,7 @@
 //! Months of mailings that are given as texts.
 ghost use Rattle.std.specs.Prelude.{◌≡◌, All, IfOk, map};
 ghost use Rattle.atl_orders.specs.Mailing.{IsReadWith};
-ghost use Rattle.atl_instant.specs.Course.{HaveOwnFactions};
+ghost use Rattle.atl_instant.specs.Month.{HaveOwnFactions};
 ghost use Rattle.atl_instant.specs.Fit.{AreFit};
 
 use atl_instant::Month;

@@ -175,7 +175,7 @@ fn tell(
     campaign: &Campaign,
     wanted: &str,
 ) -> Result<(), Fail>
-    requires { IsGood world.now campaign.now.what }
+    requires { IsGood world.now campaign.now.value }
 {
     let text = books_text(alloc, world, campaign)?;
     is_text(rt, text.as_str(), wanted);

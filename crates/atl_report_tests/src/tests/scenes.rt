@@ -279,7 +279,7 @@ fn rows_of(alloc: Global, world: &World, scene: &Scene) -> Result<Parts, Fail> {
 }
 
 pub(crate) fn campaign_of(alloc: Global, world: &World, scene: &Scene) -> Result<Campaign, Fail>
-    ensures { IfOk result (λ c. IsGood world.now c.what) }
+    ensures { IfOk result (λ c. IsGood world.now c.value) }
 {
     let rows = rows_of(alloc, world, scene)?;
     match check(alloc, world, rows) {

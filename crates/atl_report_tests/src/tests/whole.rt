@@ -44,13 +44,13 @@ Exits: none.
 ";
 
 fn founded_in(alloc: Global, world: &World) -> Result<Campaign, Fail>
-    ensures { IfOk result (λ campaign. IsGood world.now campaign.what) }
+    ensures { IfOk result (λ campaign. IsGood world.now campaign.value) }
 {
     Ok(founded(alloc, world, b"gm")?)
 }
 
 fn avalon_joins(world: &World, campaign: &mut Campaign) -> Result<(u32, u32), Fail>
-    requires { IsGood world.now campaign.old.what }
+    requires { IsGood world.now campaign.old.value }
 {
     Ok(campaign.join(world, b"Avalon", b"pw", 0)?)
 }

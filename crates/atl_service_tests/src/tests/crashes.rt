@@ -1,6 +1,5 @@
 //! A disk that stops at each of its calls, while a campaign is founded, a faction joins, mailings are kept, and months are closed. What
 //! works on the disk takes any disk that can crash.
-use atl_tables::let_go;
 use super::compare::is_text;
 use super::courses::COURSES;
 use super::files::connected;
@@ -9,6 +8,7 @@ use super::making::{begun, filled, told};
 use super::opening::rows_in;
 use super::script::{Course, commands_of};
 use atl_service::{Answer, Command, Refused, Service, found, open};
+use atl_tables::let_go;
 use sqlite::{Alter, Connection, Options};
 use sqlite_disk::{Crash, Files, Fuse, Memory};
 use std::alloc::Global;

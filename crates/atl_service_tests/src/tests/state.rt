@@ -17,13 +17,13 @@ fn small_world(alloc: Global) -> Result<World, Fail> {
 }
 
 fn small_campaign(alloc: Global, world: &World) -> Result<Campaign, Fail>
-    ensures { IfOk result (λ campaign. IsGood world.now campaign.what) }
+    ensures { IfOk result (λ campaign. IsGood world.now campaign.value) }
 {
     Ok(founded(alloc, world, b"gm")?)
 }
 
 fn avalon_joins(rt: &impl Abort, world: &World, campaign: &mut Campaign)
-    requires { IsGood world.now campaign.old.what }
+    requires { IsGood world.now campaign.old.value }
 {
     let done = campaign.join(world, b"Avalon", b"pw", 5);
     assert!(rt; done.is_ok());

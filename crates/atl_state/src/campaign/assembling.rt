@@ -1,7 +1,7 @@
 //! How a campaign is made of rows.
 ghost use Rattle.std.specs.Prelude.{◌≡◌, IfOk, true};
-ghost use Rattle.atl_tables.specs.Planet.{IsWorld};
-ghost use Rattle.atl_state.specs.FromRows.{state_of};
+ghost use Rattle.atl_tables.specs.Worlds.{IsWorld};
+ghost use Rattle.atl_state.specs.FromRows.{campaign_of};
 ghost use Rattle.atl_state.specs.Marks.{no_marks};
 ghost use Rattle.atl_state.specs.RowRules.{is_one_head, are_named, people_in_range};
 
@@ -14,12 +14,12 @@ use atl_tables::{Marks, World};
 use std::alloc::{AllocError, Global};
 
 /// The campaign that rows say, with nothing marked.
-#[tactic(auto, unfolding(crate::specs::FromRows::state_of))]
+#[tactic(auto, unfolding(crate::specs::FromRows::campaign_of))]
 pub(crate) fn assembled(alloc: Global, world: &World, parts: &Parts) -> Result<Campaign, AllocError>
     requires one { is_one_head parts.now.campaign ≡ true }
     requires named { are_named parts.now ≡ true }
     requires people { people_in_range parts.now ≡ true }
-    ensures what { IfOk result (λ c. c.what ≡ state_of world.now parts.now) }
+    ensures what { IfOk result (λ c. c.value ≡ campaign_of world.now parts.now) }
     ensures marks { IfOk result (λ c. c.marks ≡ no_marks) }
     ensures world { IsWorld world.now }
 {

@@ -3,7 +3,7 @@ ghost use Rattle.std.specs.Prelude.{◌≡◌, ◌≤◌, IfOk, OnOk, OnErr, Non
 ghost use Rattle.std.specs.FinMap as map;
 ghost use Rattle.atl_state.specs.Limits.{last_unit, most_structures};
 ghost use Rattle.atl_state.specs.Marking.{mark_unit_added, mark_unit_begun, mark_structure_begun};
-ghost use Rattle.atl_state.specs.State.{with_unit, with_unit_begun, with_structure_begun};
+ghost use Rattle.atl_state.specs.Campaign.{with_unit, with_unit_begun, with_structure_begun};
 
 use super::Campaign;
 use crate::lists::listing_of;
@@ -13,8 +13,8 @@ use std::alloc::AllocError;
 impl Campaign {
     /// Adds a unit under a number that no unit has, and marks it and its goods. Without memory for it nothing changes.
     fn add_unit(&mut self, number: u32, unit: Unit) -> Result<(), AllocError>
-        requires { map.get self.old.what.units number ≡ None }
-        ensures ok { OnOk result (self.new ≡ record { what = with_unit self.old.what number unit; marks = mark_unit_added self.old number }) }
+        requires { map.get self.old.value.units number ≡ None }
+        ensures ok { OnOk result (self.new ≡ record { value = with_unit self.old.value number unit; marks = mark_unit_added self.old number }) }
         ensures err { OnErr result (self.new ≡ self.old) }
     {
         let listing = listing_of(&unit);
@@ -32,10 +32,10 @@ impl Campaign {
     /// is its number. The unit, its goods and the campaign's row are marked. AllocError without memory, and then nothing
     /// changes. See docs/RULES.md, "Limits".
     pub fn begin_unit(&mut self, unit: Unit) -> Result<u32, AllocError>
-        requires fresh { map.get self.old.what.units self.old.what.next_unit ≡ None }
-        requires room { self.old.what.next_unit ≤ last_unit }
-        ensures ok { OnOk result (self.new.what ≡ with_unit_begun self.old.what unit) }
-        ensures number { IfOk result (λ number. number ≡ self.old.what.next_unit) }
+        requires fresh { map.get self.old.value.units self.old.value.next_unit ≡ None }
+        requires room { self.old.value.next_unit ≤ last_unit }
+        ensures ok { OnOk result (self.new.value ≡ with_unit_begun self.old.value unit) }
+        ensures number { IfOk result (λ number. number ≡ self.old.value.next_unit) }
         ensures err { OnErr result (self.new ≡ self.old) }
         ensures marks { OnOk result (self.new.marks ≡ mark_unit_begun self.old) }
     {
@@ -51,10 +51,10 @@ impl Campaign {
     /// then nothing changes.
     /// See docs/RULES.md, "Limits".
     pub fn begin_structure(&mut self, structure: Structure) -> Result<u32, AllocError>
-        requires fresh { map.get self.old.what.structures self.old.what.next_structure ≡ None }
-        requires room { self.old.what.next_structure ≤ most_structures }
-        ensures ok { OnOk result (self.new.what ≡ with_structure_begun self.old.what structure) }
-        ensures number { IfOk result (λ number. number ≡ self.old.what.next_structure) }
+        requires fresh { map.get self.old.value.structures self.old.value.next_structure ≡ None }
+        requires room { self.old.value.next_structure ≤ most_structures }
+        ensures ok { OnOk result (self.new.value ≡ with_structure_begun self.old.value structure) }
+        ensures number { IfOk result (λ number. number ≡ self.old.value.next_structure) }
         ensures err { OnErr result (self.new ≡ self.old) }
         ensures marks { OnOk result (self.new.marks ≡ mark_structure_begun self.old) }
     {

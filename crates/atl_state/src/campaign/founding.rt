@@ -64,9 +64,9 @@ fn founding_books(
 /// books say what the regions hold. Nothing is marked. See docs/RULES.md, "Founding".
 pub fn founded(alloc: Global, world: &World, pass: &[u8]) -> Result<Campaign, AllocError>
     requires pass { IsTrue (pass_ok pass.now) }
-    ensures definition { IfOk result (λ c. c.what ≡ founded_of world.now pass.now) }
-    ensures good { IfOk result (λ c. IsGood world.now c.what) }
-    ensures things { IfOk result (λ c. length c.what.books ≤ most_things) }
+    ensures definition { IfOk result (λ c. c.value ≡ founded_of world.now pass.now) }
+    ensures good { IfOk result (λ c. IsGood world.now c.value) }
+    ensures things { IfOk result (λ c. length c.value.books ≤ most_things) }
     ensures marks { IfOk result (λ c. c.marks ≡ no_marks) }
 {
     let pass = Text::from_utf8(alloc, pass)?;

@@ -6,7 +6,7 @@ ghost use Rattle.std.specs.Fmt.{decimal};
 ghost use Rattle.std.specs.List.{list_any};
 ghost use Rattle.std.specs.Str.{IsUtf8};
 ghost use Rattle.atl_tables.specs.Names.{name_ok, pass_ok};
-ghost use Rattle.atl_tables.specs.Planet.{IsWorld};
+ghost use Rattle.atl_tables.specs.Worlds.{IsWorld};
 ghost use Rattle.atl_state.specs.declared.books.Entry.TheVariants.{Joining};
 ghost use Rattle.atl_state.specs.declared.books.Thing.TheVariants.{Money, People};
 ghost use Rattle.atl_state.specs.Books.{amount_in, with_booked, IsSmall};
@@ -95,14 +95,14 @@ fn book_joining(books: &mut Books, money: u32)
 impl Campaign {
     /// Whether some faction ever joined under a name.
     fn is_name_taken(&self, name: &[u8]) -> bool
-        ensures { result ≡ name_taken self.now.what name.now }
+        ensures { result ≡ name_taken self.now.value name.now }
     {
         is_taken(&self.factions, name)
     }
 
     /// Whether no faction, or no unit, more can come.
     fn is_full(&self) -> bool
-        ensures { result ≡ is_full self.now.what }
+        ensures { result ≡ is_full self.now.value }
     {
         self.factions.len() >= LAST_FACTION as usize
             || self.units.len() >= MOST_UNITS
@@ -120,11 +120,11 @@ impl Campaign {
         pass: &[u8],
         word: u32,
     ) -> Result<(u32, u32), JoinFault>
-        requires good { IsGood world.now self.old.what }
+        requires good { IsGood world.now self.old.value }
         requires name { IsTrue (name_ok name.now) }
         requires pass { IsTrue (pass_ok pass.now) }
-        ensures definition { Joins world.now name.now pass.now word self.old.what result self.new.what }
-        ensures sound { IsSound world.now self.new.what }
+        ensures definition { Joins world.now name.now pass.now word self.old.value result self.new.value }
+        ensures sound { IsSound world.now self.new.value }
         ensures marks { OnOk result (self.new.marks ≡ join_marked self.old) }
         ensures err { OnErr result (self.new ≡ self.old) }
     {
@@ -148,12 +148,12 @@ impl Campaign {
         pass: &[u8],
         word: u32,
     ) -> Result<(u32, u32), AllocError>
-        requires sound { IsSound world.now self.old.what }
-        requires room { self.old.what.next_unit ≤ last_unit }
+        requires sound { IsSound world.now self.old.value }
+        requires room { self.old.value.next_unit ≤ last_unit }
         requires name { IsUtf8 name.now }
         requires pass { IsUtf8 pass.now }
-        ensures ok { OnOk result (self.new.what ≡ joined world.now name.now pass.now word self.old.what) }
-        ensures numbers { IfOk result (λ numbers. numbers ≡ (self.old.what.next_faction, self.old.what.next_unit)) }
+        ensures ok { OnOk result (self.new.value ≡ joined world.now name.now pass.now word self.old.value) }
+        ensures numbers { IfOk result (λ numbers. numbers ≡ (self.old.value.next_faction, self.old.value.next_unit)) }
         ensures err { OnErr result (self.new ≡ self.old) }
         ensures marks { OnOk result (self.new.marks ≡ join_marked self.old) }
         ensures world { IsWorld world.now }

@@ -73,7 +73,7 @@ impl Campaign {
 
     /// Whether an amount of the books is marked.
     pub fn is_amount_marked(&self, entry: Entry, thing: Thing) -> bool
-        requires { thing_place thing < length self.now.what.books }
+        requires { thing_place thing < length self.now.value.books }
         ensures { result ≡ set.contains self.now.marks.books (amount_number entry thing) }
     {
         self.amounts_marked.contains(amount_number(entry, thing))

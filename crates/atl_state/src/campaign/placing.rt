@@ -25,7 +25,7 @@ impl Campaign {
     /// lowest-numbered other unit inside, or 0 where there is none. It is 0 where there is no such structure. It takes no
     /// memory. See docs/RULES.md, "Owners".
     pub fn owner_after(&self, structure: u32, leaving: u32) -> u32
-        ensures { result ≡ owner_after self.now.what structure leaving }
+        ensures { result ≡ owner_after self.now.value structure leaving }
     {
         match self.structures.get(structure) {
             Some(found) if found.owner != leaving => found.owner,
@@ -36,14 +36,14 @@ impl Campaign {
 
     /// Who is next to own a structure that a unit leaves, or 0.
     fn heir(&self, structure: u32, leaving: u32) -> u32
-        ensures { result ≡ heir self.now.what structure leaving }
+        ensures { result ≡ heir self.now.value structure leaving }
     {
         first_other(self.inside(structure), leaving)
     }
 
     /// Whether a structure is there, and this unit owns it, or nobody, where it is 0.
     fn is_owned_by(&self, structure: u32, unit: u32) -> bool
-        ensures { result ≡ is_owned_by (map.get self.now.what.structures structure) unit }
+        ensures { result ≡ is_owned_by (map.get self.now.value.structures structure) unit }
     {
         match self.structures.get(structure) {
             Some(found) => found.owner == unit,
@@ -84,7 +84,7 @@ impl Campaign {
     /// marked, and each structure that got another owner. Where there is no such unit nothing changes; without memory
     /// neither. See docs/RULES.md, "Owners".
     pub fn place(&mut self, number: u32, region: u32, structure: u32) -> Result<(), AllocError>
-        ensures ok { OnOk result (self.new.what ≡ with_place self.old.what number region structure) }
+        ensures ok { OnOk result (self.new.value ≡ with_place self.old.value number region structure) }
         ensures err { OnErr result (self.new ≡ self.old) }
         ensures marks { OnOk result (self.new.marks ≡ (place_marked self.old number region structure).marks) }
     {
@@ -117,7 +117,7 @@ impl Campaign {
     /// The unit and its goods are marked, and that structure. Where there is no such unit nothing changes. It takes no
     /// memory. See docs/RULES.md, "Owners".
     pub fn remove_unit(&mut self, number: u32)
-        ensures what { self.new.what ≡ without_unit self.old.what number }
+        ensures what { self.new.value ≡ without_unit self.old.value number }
         ensures marks { self.new.marks ≡ (gone_marked self.old number).marks }
     {
         let left = match self.units.get(number) {

@@ -6,7 +6,7 @@ ghost use Rattle.std.specs.Int.RustNames.{FitsSigned};
 ghost use Rattle.atl_state.specs.Books.{amount_in, thing_place};
 ghost use Rattle.atl_state.specs.Limits.{holding_limit, men_limit};
 ghost use Rattle.atl_state.specs.Marking.{mark_row, mark_faction, mark_region, mark_structure, mark_unit_row, mark_amount, mark_all_mail};
-ghost use Rattle.atl_state.specs.State.{with_month, with_faction_name, with_gone, with_peasants, with_region_money, with_unit_name, with_men, with_money, with_guard, with_done, with_structure_name, with_structure_region, with_owner, with_amount, without_mail};
+ghost use Rattle.atl_state.specs.Campaign.{with_month, with_faction_name, with_gone, with_peasants, with_region_money, with_unit_name, with_men, with_money, with_guard, with_done, with_structure_name, with_structure_region, with_owner, with_amount, without_mail};
 
 use super::Campaign;
 use crate::books::{Entry, Thing, amount_number};
@@ -15,7 +15,7 @@ use atl_tables::Text;
 impl Campaign {
     /// Sets the month last closed, from 0 to LAST_MONTH, and marks the campaign's row.
     pub fn set_month(&mut self, month: u32)
-        ensures what { self.new.what ≡ with_month self.old.what month }
+        ensures what { self.new.value ≡ with_month self.old.value month }
         ensures marks { self.new.marks ≡ mark_row self.old }
     {
         self.month = month;
@@ -24,7 +24,7 @@ impl Campaign {
 
     /// Sets the name that a faction shows, and marks the faction.
     pub fn set_faction_name(&mut self, number: u32, name: Text)
-        ensures what { self.new.what ≡ with_faction_name self.old.what number name }
+        ensures what { self.new.value ≡ with_faction_name self.old.value number name }
         ensures marks { self.new.marks ≡ mark_faction self.old number }
     {
         if let Some(faction) = self.factions.get_mut(number) {
@@ -34,7 +34,7 @@ impl Campaign {
 
     /// A faction leaves the campaign, and is marked.
     pub fn set_gone(&mut self, number: u32)
-        ensures what { self.new.what ≡ with_gone self.old.what number }
+        ensures what { self.new.value ≡ with_gone self.old.value number }
         ensures marks { self.new.marks ≡ mark_faction self.old number }
     {
         if let Some(faction) = self.factions.get_mut(number) {
@@ -44,7 +44,7 @@ impl Campaign {
 
     /// Sets how many peasants a region has, from 0 to atl_tables' MOST_AMOUNT in a good campaign, and marks the region.
     pub fn set_peasants(&mut self, region: u32, peasants: u32)
-        ensures what { self.new.what ≡ with_peasants self.old.what region peasants }
+        ensures what { self.new.value ≡ with_peasants self.old.value region peasants }
         ensures marks { self.new.marks ≡ mark_region self.old region }
     {
         if let Some(found) = self.regions.get_mut(region) {
@@ -54,7 +54,7 @@ impl Campaign {
 
     /// Sets how much money a region has, from 0 to atl_tables' MOST_AMOUNT in a good campaign, and marks the region.
     pub fn set_region_money(&mut self, region: u32, money: u32)
-        ensures what { self.new.what ≡ with_region_money self.old.what region money }
+        ensures what { self.new.value ≡ with_region_money self.old.value region money }
         ensures marks { self.new.marks ≡ mark_region self.old region }
     {
         if let Some(found) = self.regions.get_mut(region) {
@@ -64,7 +64,7 @@ impl Campaign {
 
     /// Sets the name that a unit shows, and marks its row; its goods stay unmarked.
     pub fn set_unit_name(&mut self, unit: u32, name: Text)
-        ensures what { self.new.what ≡ with_unit_name self.old.what unit name }
+        ensures what { self.new.value ≡ with_unit_name self.old.value unit name }
         ensures marks { self.new.marks ≡ mark_unit_row self.old unit }
     {
         self.units.set_name(unit, name);
@@ -74,7 +74,7 @@ impl Campaign {
     /// stay.
     pub fn set_men(&mut self, unit: u32, men: u32)
         requires { men ≤ men_limit }
-        ensures what { self.new.what ≡ with_men self.old.what unit men }
+        ensures what { self.new.value ≡ with_men self.old.value unit men }
         ensures marks { self.new.marks ≡ mark_unit_row self.old unit }
     {
         self.units.set_men(unit, men);
@@ -83,7 +83,7 @@ impl Campaign {
     /// Sets a unit's money, at most HOLDING_LIMIT, and marks its row; its goods stay unmarked.
     pub fn set_money(&mut self, unit: u32, money: u32)
         requires { money ≤ holding_limit }
-        ensures what { self.new.what ≡ with_money self.old.what unit money }
+        ensures what { self.new.value ≡ with_money self.old.value unit money }
         ensures marks { self.new.marks ≡ mark_unit_row self.old unit }
     {
         self.units.set_money(unit, money);
@@ -91,7 +91,7 @@ impl Campaign {
 
     /// Sets or clears a unit's guard flag, and marks its row; its goods stay unmarked.
     pub fn set_guard(&mut self, unit: u32, guard: bool)
-        ensures what { self.new.what ≡ with_guard self.old.what unit guard }
+        ensures what { self.new.value ≡ with_guard self.old.value unit guard }
         ensures marks { self.new.marks ≡ mark_unit_row self.old unit }
     {
         self.units.set_guard(unit, guard);
@@ -99,7 +99,7 @@ impl Campaign {
 
     /// Sets how much of a structure is built, from 1 to the size of its kind in a good campaign, and marks the structure.
     pub fn set_done(&mut self, structure: u32, done: u32)
-        ensures what { self.new.what ≡ with_done self.old.what structure done }
+        ensures what { self.new.value ≡ with_done self.old.value structure done }
         ensures marks { self.new.marks ≡ mark_structure self.old structure }
     {
         if let Some(found) = self.structures.get_mut(structure) {
@@ -109,7 +109,7 @@ impl Campaign {
 
     /// Sets a structure's name, and marks the structure.
     pub fn set_structure_name(&mut self, structure: u32, name: Text)
-        ensures what { self.new.what ≡ with_structure_name self.old.what structure name }
+        ensures what { self.new.value ≡ with_structure_name self.old.value structure name }
         ensures marks { self.new.marks ≡ mark_structure self.old structure }
     {
         if let Some(found) = self.structures.get_mut(structure) {
@@ -119,7 +119,7 @@ impl Campaign {
 
     /// Sets the region where a structure stands, and marks the structure. The units inside stay where they are.
     pub fn set_structure_region(&mut self, structure: u32, region: u32)
-        ensures what { self.new.what ≡ with_structure_region self.old.what structure region }
+        ensures what { self.new.value ≡ with_structure_region self.old.value structure region }
         ensures marks { self.new.marks ≡ mark_structure self.old structure }
     {
         if let Some(found) = self.structures.get_mut(structure) {
@@ -129,7 +129,7 @@ impl Campaign {
 
     /// Sets a structure's owner, a unit's number or 0 for nobody, and marks the structure.
     pub fn set_owner(&mut self, structure: u32, owner: u32)
-        ensures what { self.new.what ≡ with_owner self.old.what structure owner }
+        ensures what { self.new.value ≡ with_owner self.old.value structure owner }
         ensures marks { self.new.marks ≡ mark_structure self.old structure }
     {
         if let Some(found) = self.structures.get_mut(structure) {
@@ -140,9 +140,9 @@ impl Campaign {
     /// Books so much more of a thing under an entry (money, men and peasants, or pieces of an item), or less where it is
     /// negative, and marks that amount. See docs/RULES.md, "Books".
     pub fn book(&mut self, entry: Entry, thing: Thing, amount: i64)
-        requires there { thing_place thing < length self.old.what.books }
-        requires fits { FitsSigned w64 (amount_in self.old.what.books entry thing +ℤ amount) }
-        ensures what { self.new.what ≡ with_amount self.old.what entry thing amount }
+        requires there { thing_place thing < length self.old.value.books }
+        requires fits { FitsSigned w64 (amount_in self.old.value.books entry thing +ℤ amount) }
+        ensures what { self.new.value ≡ with_amount self.old.value entry thing amount }
         ensures marks { self.new.marks ≡ mark_amount self.old entry thing }
     {
         self.books.book(entry, thing, amount);
@@ -151,7 +151,7 @@ impl Campaign {
 
     /// Takes all mail away, and marks the mail of each faction that had some.
     pub fn clear_mail(&mut self)
-        ensures what { self.new.what ≡ without_mail self.old.what }
+        ensures what { self.new.value ≡ without_mail self.old.value }
         ensures marks { self.new.marks ≡ mark_all_mail self.old }
     {
         self.mail.clear();

@@ -13,18 +13,18 @@ use atl_tables::World;
 
 /// Whether the total of a thing is the sum of its entries.
 fn is_balanced(campaign: &Campaign, thing: Thing) -> bool
-    requires few { IsCountable campaign.now.what }
-    requires there { thing_place thing < length campaign.now.what.books }
-    ensures { Decides result (pos (total campaign.now.what thing) ≡ booked campaign.now.what.books thing) }
+    requires few { IsCountable campaign.now.value }
+    requires there { thing_place thing < length campaign.now.value.books }
+    ensures { Decides result (pos (total campaign.now.value thing) ≡ booked campaign.now.value.books thing) }
 {
     i128::from(campaign.total(thing)) == campaign.books().sum(thing)
 }
 
 /// Whether the total of each item of the world is the sum of its entries.
 fn are_items_balanced(world: &World, campaign: &Campaign) -> bool
-    requires few { IsCountable campaign.now.what }
-    requires grid { IsGrid (things_of world.now) campaign.now.what.books }
-    ensures { Decides result ((i : ℕ) → i < length world.now.items → pos (total campaign.now.what (Item i)) ≡ booked campaign.now.what.books (Item i)) }
+    requires few { IsCountable campaign.now.value }
+    requires grid { IsGrid (things_of world.now) campaign.now.value.books }
+    ensures { Decides result ((i : ℕ) → i < length world.now.items → pos (total campaign.now.value (Item i)) ≡ booked campaign.now.value.books (Item i)) }
 {
     for item in 0..world.items().len() as u16 {
         if !is_balanced(campaign, Thing::Item(item)) {
@@ -36,9 +36,9 @@ fn are_items_balanced(world: &World, campaign: &Campaign) -> bool
 
 /// Whether the total of money, and that of people, is the sum of its entries.
 fn are_people_balanced(campaign: &Campaign) -> bool
-    requires few { IsCountable campaign.now.what }
-    requires there { 1 < length campaign.now.what.books }
-    ensures { Decides result ((pos (total campaign.now.what Money) ≡ booked campaign.now.what.books Money) × (pos (total campaign.now.what People) ≡ booked campaign.now.what.books People)) }
+    requires few { IsCountable campaign.now.value }
+    requires there { 1 < length campaign.now.value.books }
+    ensures { Decides result ((pos (total campaign.now.value Money) ≡ booked campaign.now.value.books Money) × (pos (total campaign.now.value People) ≡ booked campaign.now.value.books People)) }
 {
     is_balanced(campaign, Thing::Money) && is_balanced(campaign, Thing::People)
 }
@@ -46,10 +46,10 @@ fn are_people_balanced(campaign: &Campaign) -> bool
 /// Whether for each thing the total of all units and regions is the sum of its entries, where all items held are the
 /// world's. It takes no memory.
 pub(crate) fn are_balanced(world: &World, campaign: &Campaign) -> bool
-    requires few { IsCountable campaign.now.what }
-    requires grid { IsGrid (things_of world.now) campaign.now.what.books }
-    requires items { Every (λ n u. Every (λ i amount. i < length world.now.items) u.holding.items) campaign.now.what.units }
-    ensures { Decides result (Balances campaign.now.what) }
+    requires few { IsCountable campaign.now.value }
+    requires grid { IsGrid (things_of world.now) campaign.now.value.books }
+    requires items { Every (λ n u. Every (λ i amount. i < length world.now.items) u.holding.items) campaign.now.value.units }
+    ensures { Decides result (Balances campaign.now.value) }
 {
     are_people_balanced(campaign) && are_items_balanced(world, campaign)
 }

@@ -18,7 +18,7 @@ fn has_days(holding: &Holding) -> bool
 
 /// Whether each unit has 1 to MOST_DAYS days for each man in each skill that it studied. It takes no memory.
 pub(crate) fn are_days(campaign: &Campaign) -> bool
-    ensures { Decides result (AreDays campaign.now.what) }
+    ensures { Decides result (AreDays campaign.now.value) }
 {
     campaign.units().all(|(_, unit)| has_days(&unit.holding))
 }

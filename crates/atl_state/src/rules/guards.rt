@@ -3,13 +3,13 @@ ghost use Rattle.std.specs.Prelude.{◌≡◌, None};
 ghost use Rattle.std.specs.Bool.{Decides};
 ghost use Rattle.atl_state.specs.Deciding.{agree, guard_of, one_holder};
 ghost use Rattle.atl_state.specs.Good.{Every, IsThere, AreOfOneFaction, guards};
-ghost use Rattle.atl_state.specs.State.{numbers_in};
+ghost use Rattle.atl_state.specs.Campaign.{numbers_in};
 
 use crate::campaign::Campaign;
 
 /// The faction of a unit that is there and guards.
 fn guard_of(campaign: &Campaign, number: u32) -> Option<u32>
-    ensures { result ≡ guard_of campaign.now.what number }
+    ensures { result ≡ guard_of campaign.now.value number }
 {
     match campaign.unit(number) {
         Some(unit) if unit.holding.guard() && unit.holding.men() > 0 => Some(unit.faction),
@@ -29,7 +29,7 @@ fn agree(one: Option<u32>, other: Option<u32>) -> bool
 
 /// Whether all guards of a region are of one faction.
 fn has_one_holder(campaign: &Campaign, region: u32) -> bool
-    ensures { result ≡ one_holder (guard_of campaign.now.what) None (numbers_in region campaign.now.what.units) }
+    ensures { result ≡ one_holder (guard_of campaign.now.value) None (numbers_in region campaign.now.value.units) }
 {
     let mut holder = None;
     for number in campaign.in_region(region) {
@@ -44,8 +44,8 @@ fn has_one_holder(campaign: &Campaign, region: u32) -> bool
 
 /// Whether at most one faction guards each region, where the regions of all units are there. It takes no memory.
 pub(crate) fn are_guarded(campaign: &Campaign) -> bool
-    requires { Every (λ n u. IsThere campaign.now.what.regions u.region) campaign.now.what.units }
-    ensures { Decides result (AreOfOneFaction guards campaign.now.what) }
+    requires { Every (λ n u. IsThere campaign.now.value.regions u.region) campaign.now.value.units }
+    ensures { Decides result (AreOfOneFaction guards campaign.now.value) }
 {
     campaign
         .regions()

@@ -12,19 +12,19 @@ use crate::records::{Structure, Unit};
 use atl_tables::{Entries, World};
 
 fn is_faction(campaign: &Campaign, number: u32) -> bool
-    ensures { Decides result (IsThere campaign.now.what.factions number) }
+    ensures { Decides result (IsThere campaign.now.value.factions number) }
 {
     campaign.faction(number).is_some()
 }
 
 fn is_region(campaign: &Campaign, number: u32) -> bool
-    ensures { Decides result (IsThere campaign.now.what.regions number) }
+    ensures { Decides result (IsThere campaign.now.value.regions number) }
 {
     campaign.region(number).is_some()
 }
 
 fn is_unit(campaign: &Campaign, number: u32) -> bool
-    ensures { Decides result (IsThere campaign.now.what.units number) }
+    ensures { Decides result (IsThere campaign.now.value.units number) }
 {
     campaign.unit(number).is_some()
 }
@@ -37,7 +37,7 @@ fn is_of_world(world: &World, number: u32) -> bool
 
 /// Whether each region is one of the world's.
 fn are_of_world(world: &World, campaign: &Campaign) -> bool
-    ensures { Decides result (Every (λ n r. IsThere world.now.regions n) campaign.now.what.regions) }
+    ensures { Decides result (Every (λ n r. IsThere world.now.regions n) campaign.now.value.regions) }
 {
     campaign
         .regions()
@@ -46,7 +46,7 @@ fn are_of_world(world: &World, campaign: &Campaign) -> bool
 
 /// Whether each of the world's regions is there.
 fn are_all_there(world: &World, campaign: &Campaign) -> bool
-    ensures { Decides result (Every (λ n p. IsThere campaign.now.what.regions n) world.now.regions) }
+    ensures { Decides result (Every (λ n p. IsThere campaign.now.value.regions n) world.now.regions) }
 {
     world
         .regions()
@@ -56,7 +56,7 @@ fn are_all_there(world: &World, campaign: &Campaign) -> bool
 
 /// Whether the regions are exactly the world's.
 fn are_regions_known(world: &World, campaign: &Campaign) -> bool
-    ensures { Decides result ((n : ℕ) → IsThere campaign.now.what.regions n ↔ IsThere world.now.regions n) }
+    ensures { Decides result ((n : ℕ) → IsThere campaign.now.value.regions n ↔ IsThere world.now.regions n) }
 {
     are_of_world(world, campaign) && are_all_there(world, campaign)
 }
@@ -78,7 +78,7 @@ fn holds_known(world: &World, holding: &Holding) -> bool
 
 /// Whether a unit is inside nothing, or inside a structure of its region.
 fn is_inside_here(campaign: &Campaign, unit: &Unit) -> bool
-    ensures { Decides result (unit.now.structure ≢ 0 → (s : builds.Structure) × (map.get campaign.now.what.structures unit.now.structure ≡ Some s) × (s.region ≡ unit.now.region)) }
+    ensures { Decides result (unit.now.structure ≢ 0 → (s : builds.Structure) × (map.get campaign.now.value.structures unit.now.structure ≡ Some s) × (s.region ≡ unit.now.region)) }
 {
     if unit.structure == 0 {
         return true;
@@ -91,14 +91,14 @@ fn is_inside_here(campaign: &Campaign, unit: &Unit) -> bool
 
 /// Whether a unit's faction and region are there.
 fn is_somewhere(campaign: &Campaign, unit: &Unit) -> bool
-    ensures { Decides result (IsThere campaign.now.what.factions unit.now.faction × IsThere campaign.now.what.regions unit.now.region) }
+    ensures { Decides result (IsThere campaign.now.value.factions unit.now.faction × IsThere campaign.now.value.regions unit.now.region) }
 {
     is_faction(campaign, unit.faction) && is_region(campaign, unit.region)
 }
 
 /// Whether a unit's structure, and what it holds and studied, are there.
 fn is_at_home(world: &World, campaign: &Campaign, unit: &Unit) -> bool
-    ensures { Decides result ((unit.now.structure ≢ 0 → (s : builds.Structure) × (map.get campaign.now.what.structures unit.now.structure ≡ Some s) × (s.region ≡ unit.now.region))
+    ensures { Decides result ((unit.now.structure ≢ 0 → (s : builds.Structure) × (map.get campaign.now.value.structures unit.now.structure ≡ Some s) × (s.region ≡ unit.now.region))
         × (Every (λ i amount. i < length world.now.items) unit.now.holding.items × Every (λ s days. s < length world.now.skills) unit.now.holding.days)) }
 {
     is_inside_here(campaign, unit) && holds_known(world, &unit.holding)
@@ -106,14 +106,14 @@ fn is_at_home(world: &World, campaign: &Campaign, unit: &Unit) -> bool
 
 /// Whether all that a unit names is there.
 fn is_placed(world: &World, campaign: &Campaign, unit: &Unit) -> bool
-    ensures { Decides result (IsPlaced world.now campaign.now.what unit.now) }
+    ensures { Decides result (IsPlaced world.now campaign.now.value unit.now) }
 {
     is_somewhere(campaign, unit) && is_at_home(world, campaign, unit)
 }
 
 /// Whether all that the units name is there.
 fn are_placed(world: &World, campaign: &Campaign) -> bool
-    ensures { Decides result (Every (λ n u. IsPlaced world.now campaign.now.what u) campaign.now.what.units) }
+    ensures { Decides result (Every (λ n u. IsPlaced world.now campaign.now.value u) campaign.now.value.units) }
 {
     campaign
         .units()
@@ -122,28 +122,28 @@ fn are_placed(world: &World, campaign: &Campaign) -> bool
 
 /// Whether a structure's kind and region are there.
 fn is_standing(world: &World, campaign: &Campaign, structure: &Structure) -> bool
-    ensures { Decides result ((structure.now.kind < length world.now.kinds) × IsThere campaign.now.what.regions structure.now.region) }
+    ensures { Decides result ((structure.now.kind < length world.now.kinds) × IsThere campaign.now.value.regions structure.now.region) }
 {
     usize::from(structure.kind) < world.kinds().len() && is_region(campaign, structure.region)
 }
 
 /// Whether nobody owns a structure, or a unit that is there.
 fn is_owner_there(campaign: &Campaign, structure: &Structure) -> bool
-    ensures { Decides result (structure.now.owner ≢ 0 → IsThere campaign.now.what.units structure.now.owner) }
+    ensures { Decides result (structure.now.owner ≢ 0 → IsThere campaign.now.value.units structure.now.owner) }
 {
     structure.owner == 0 || is_unit(campaign, structure.owner)
 }
 
 /// Whether all that a structure names is there.
 fn is_built(world: &World, campaign: &Campaign, structure: &Structure) -> bool
-    ensures { Decides result (IsBuilt world.now campaign.now.what structure.now) }
+    ensures { Decides result (IsBuilt world.now campaign.now.value structure.now) }
 {
     is_standing(world, campaign, structure) && is_owner_there(campaign, structure)
 }
 
 /// Whether all that the structures name is there.
 fn are_built(world: &World, campaign: &Campaign) -> bool
-    ensures { Decides result (Every (λ n s. IsBuilt world.now campaign.now.what s) campaign.now.what.structures) }
+    ensures { Decides result (Every (λ n s. IsBuilt world.now campaign.now.value s) campaign.now.value.structures) }
 {
     campaign
         .structures()
@@ -152,7 +152,7 @@ fn are_built(world: &World, campaign: &Campaign) -> bool
 
 /// Whether all mail is of factions that are there.
 fn are_mail_known(campaign: &Campaign) -> bool
-    ensures { Decides result (Every (λ n text. IsThere campaign.now.what.factions n) campaign.now.what.mail) }
+    ensures { Decides result (Every (λ n text. IsThere campaign.now.value.factions n) campaign.now.value.mail) }
 {
     campaign
         .mail()
@@ -161,7 +161,7 @@ fn are_mail_known(campaign: &Campaign) -> bool
 
 /// Whether all reports are of factions that are there.
 fn are_reports_known(campaign: &Campaign) -> bool
-    ensures { Decides result (Every (λ n text. IsThere campaign.now.what.factions n) campaign.now.what.reports) }
+    ensures { Decides result (Every (λ n text. IsThere campaign.now.value.factions n) campaign.now.value.reports) }
 {
     campaign
         .reports()
@@ -170,8 +170,8 @@ fn are_reports_known(campaign: &Campaign) -> bool
 
 /// Whether the regions, and all that units and structures name, are there.
 fn are_things_known(world: &World, campaign: &Campaign) -> bool
-    ensures { Decides result (((n : ℕ) → IsThere campaign.now.what.regions n ↔ IsThere world.now.regions n)
-        × (Every (λ n u. IsPlaced world.now campaign.now.what u) campaign.now.what.units × Every (λ n s. IsBuilt world.now campaign.now.what s) campaign.now.what.structures)) }
+    ensures { Decides result (((n : ℕ) → IsThere campaign.now.value.regions n ↔ IsThere world.now.regions n)
+        × (Every (λ n u. IsPlaced world.now campaign.now.value u) campaign.now.value.units × Every (λ n s. IsBuilt world.now campaign.now.value s) campaign.now.value.structures)) }
 {
     are_regions_known(world, campaign)
         && (are_placed(world, campaign) && are_built(world, campaign))
@@ -179,7 +179,7 @@ fn are_things_known(world: &World, campaign: &Campaign) -> bool
 
 /// Whether the factions of mail and reports are there.
 fn are_posts_known(campaign: &Campaign) -> bool
-    ensures { Decides result (Every (λ n text. IsThere campaign.now.what.factions n) campaign.now.what.mail × Every (λ n text. IsThere campaign.now.what.factions n) campaign.now.what.reports) }
+    ensures { Decides result (Every (λ n text. IsThere campaign.now.value.factions n) campaign.now.value.mail × Every (λ n text. IsThere campaign.now.value.factions n) campaign.now.value.reports) }
 {
     are_mail_known(campaign) && are_reports_known(campaign)
 }
@@ -187,7 +187,7 @@ fn are_posts_known(campaign: &Campaign) -> bool
 /// Whether the regions are exactly the world's, all that is named by its number is there, and each unit's structure is in
 /// the unit's region. It takes no memory.
 pub(crate) fn are_known(world: &World, campaign: &Campaign) -> bool
-    ensures { Decides result (AreKnown world.now campaign.now.what) }
+    ensures { Decides result (AreKnown world.now campaign.now.value) }
 {
     are_things_known(world, campaign) && are_posts_known(campaign)
 }

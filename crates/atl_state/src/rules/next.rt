@@ -24,7 +24,7 @@ fn is_behind(next: u32, count: usize) -> bool
 
 /// Whether the factions are numbered from 1 without a gap, and the next number is the one behind.
 fn are_factions_numbered(campaign: &Campaign) -> bool
-    ensures { Decides result (IsNumbered campaign.now.what.factions campaign.now.what.next_faction) }
+    ensures { Decides result (IsNumbered campaign.now.value.factions campaign.now.value.next_faction) }
 {
     let next = campaign.next_faction();
     are_between(campaign.factions(), 1, next) && is_behind(next, campaign.faction_count())
@@ -32,7 +32,7 @@ fn are_factions_numbered(campaign: &Campaign) -> bool
 
 /// Whether the structures are numbered from 1 without a gap, and the next number is the one behind.
 fn are_structures_numbered(campaign: &Campaign) -> bool
-    ensures { Decides result (IsNumbered campaign.now.what.structures campaign.now.what.next_structure) }
+    ensures { Decides result (IsNumbered campaign.now.value.structures campaign.now.value.next_structure) }
 {
     let next = campaign.next_structure();
     are_between(campaign.structures(), 1, next) && is_behind(next, campaign.structure_count())
@@ -40,7 +40,7 @@ fn are_structures_numbered(campaign: &Campaign) -> bool
 
 /// Whether no unit has the number that comes next, or a later one.
 fn are_units_before(campaign: &Campaign) -> bool
-    ensures { Decides result ((n : ℕ) → campaign.now.what.next_unit ≤ n → map.get campaign.now.what.units n ≡ None) }
+    ensures { Decides result ((n : ℕ) → campaign.now.value.next_unit ≤ n → map.get campaign.now.value.units n ≡ None) }
 {
     let next = campaign.next_unit();
     campaign.units().all(|(number, _)| number < next)
@@ -49,7 +49,7 @@ fn are_units_before(campaign: &Campaign) -> bool
 /// Whether the numbers that come next are greater than all of their sort, and no faction and no structure is missing
 /// before them. It takes no memory.
 pub(crate) fn are_numbered(campaign: &Campaign) -> bool
-    ensures { Decides result (AreNumbered campaign.now.what) }
+    ensures { Decides result (AreNumbered campaign.now.value) }
 {
     are_factions_numbered(campaign)
         && are_structures_numbered(campaign)

@@ -11,7 +11,7 @@ use crate::records::{Structure, Unit};
 
 /// Whether nobody owns a structure, or a unit inside.
 fn is_owner_inside(campaign: &Campaign, number: u32, structure: &Structure) -> bool
-    ensures { Decides result (HasOwnerInside campaign.now.what number structure.now) }
+    ensures { Decides result (HasOwnerInside campaign.now.value number structure.now) }
 {
     if structure.owner == 0 {
         return true;
@@ -24,14 +24,14 @@ fn is_owner_inside(campaign: &Campaign, number: u32, structure: &Structure) -> b
 
 /// Whether each structure that has an owner has one inside.
 fn are_owners_inside(campaign: &Campaign) -> bool
-    ensures { Decides result (Every (HasOwnerInside campaign.now.what) campaign.now.what.structures) }
+    ensures { Decides result (Every (HasOwnerInside campaign.now.value) campaign.now.value.structures) }
 {
     campaign.structures().all(|(number, structure)| is_owner_inside(campaign, number, structure))
 }
 
 /// Whether the structure that a unit is inside, where it is there, has an owner.
 fn is_with_owner(campaign: &Campaign, unit: &Unit) -> bool
-    ensures { Decides result ((s : builds.Structure) → map.get campaign.now.what.structures unit.now.structure ≡ Some s → s.owner ≢ 0) }
+    ensures { Decides result ((s : builds.Structure) → map.get campaign.now.value.structures unit.now.structure ≡ Some s → s.owner ≢ 0) }
 {
     match campaign.structure(unit.structure) {
         Some(structure) => structure.owner != 0,
@@ -41,7 +41,7 @@ fn is_with_owner(campaign: &Campaign, unit: &Unit) -> bool
 
 /// Whether no unit is inside a structure without an owner.
 fn are_with_owners(campaign: &Campaign) -> bool
-    ensures { Decides result (Every (λ m u. (s : builds.Structure) → map.get campaign.now.what.structures u.structure ≡ Some s → s.owner ≢ 0) campaign.now.what.units) }
+    ensures { Decides result (Every (λ m u. (s : builds.Structure) → map.get campaign.now.value.structures u.structure ≡ Some s → s.owner ≢ 0) campaign.now.value.units) }
 {
     campaign
         .units()
@@ -50,7 +50,7 @@ fn are_with_owners(campaign: &Campaign) -> bool
 
 /// Whether each structure is owned by a unit inside, or by nobody where none is inside. It takes no memory.
 pub(crate) fn are_owned(campaign: &Campaign) -> bool
-    ensures { Decides result (AreOwned campaign.now.what) }
+    ensures { Decides result (AreOwned campaign.now.value) }
 {
     are_owners_inside(campaign) && are_with_owners(campaign)
 }

@@ -5,14 +5,14 @@ ghost use Rattle.atl_state.specs.Good.{AreReported, IsThere};
 use crate::campaign::Campaign;
 
 fn has_report(campaign: &Campaign, number: u32) -> bool
-    ensures { Decides result (IsThere campaign.now.what.reports number) }
+    ensures { Decides result (IsThere campaign.now.value.reports number) }
 {
     campaign.report(number).is_some()
 }
 
 /// Whether each faction has a report. It takes no memory.
 pub(crate) fn are_reported(campaign: &Campaign) -> bool
-    ensures { Decides result (AreReported campaign.now.what) }
+    ensures { Decides result (AreReported campaign.now.value) }
 {
     campaign
         .factions()

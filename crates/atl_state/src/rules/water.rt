@@ -10,7 +10,7 @@ use atl_tables::World;
 
 /// Whether a unit is inside a ship.
 fn is_aboard(world: &World, campaign: &Campaign, unit: &Unit) -> bool
-    ensures { Decides result (IsAboard world.now campaign.now.what unit.now) }
+    ensures { Decides result (IsAboard world.now campaign.now.value unit.now) }
 {
     match campaign.structure(unit.structure) {
         Some(structure) => world.is_ship(structure.kind),
@@ -20,7 +20,7 @@ fn is_aboard(world: &World, campaign: &Campaign, unit: &Unit) -> bool
 
 /// Whether each unit on water is inside a ship.
 fn are_units_afloat(world: &World, campaign: &Campaign) -> bool
-    ensures { Decides result (Every (λ n u. is_land_at world.now u.region ≡ false → IsAboard world.now campaign.now.what u) campaign.now.what.units) }
+    ensures { Decides result (Every (λ n u. is_land_at world.now u.region ≡ false → IsAboard world.now campaign.now.value u) campaign.now.value.units) }
 {
     campaign.units().all(|(_, unit)| world.is_land_at(unit.region)
         || is_aboard(world, campaign, unit))
@@ -35,7 +35,7 @@ fn is_complete_ship(world: &World, structure: &Structure) -> bool
 
 /// Whether each structure on water is a complete ship.
 fn are_ships_afloat(world: &World, campaign: &Campaign) -> bool
-    ensures { Decides result (Every (λ n s. is_land_at world.now s.region ≡ false → (is_ship world.now s ≡ true) × (s.done ≡ size_of world.now s.kind)) campaign.now.what.structures) }
+    ensures { Decides result (Every (λ n s. is_land_at world.now s.region ≡ false → (is_ship world.now s ≡ true) × (s.done ≡ size_of world.now s.kind)) campaign.now.value.structures) }
 {
     campaign.structures().all(|(_, structure)| world.is_land_at(structure.region)
         || is_complete_ship(world, structure))
@@ -43,7 +43,7 @@ fn are_ships_afloat(world: &World, campaign: &Campaign) -> bool
 
 /// Whether each unit on water is inside a ship, and each structure there is a complete ship. It takes no memory.
 pub(crate) fn are_afloat(world: &World, campaign: &Campaign) -> bool
-    ensures { Decides result (AreAfloat world.now campaign.now.what) }
+    ensures { Decides result (AreAfloat world.now campaign.now.value) }
 {
     are_units_afloat(world, campaign) && are_ships_afloat(world, campaign)
 }

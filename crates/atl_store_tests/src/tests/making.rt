@@ -14,7 +14,7 @@ use std::alloc::Global;
 use std::test::Fail;
 
 fn founded_in(alloc: Global, world: &World) -> Result<Campaign, Fail>
-    ensures { IfOk result (λ campaign. IsGood world.now campaign.what) }
+    ensures { IfOk result (λ campaign. IsGood world.now campaign.value) }
 {
     Ok(founded(alloc, world, b"gm")?)
 }
@@ -27,7 +27,7 @@ pub(crate) fn small(alloc: Global) -> Result<Campaign, Fail> {
 
 /// Avalon joins and gets its first report.
 fn welcome(alloc: Global, world: &World, campaign: &mut Campaign) -> Result<(), Fail>
-    requires { IsGood world.now campaign.old.what }
+    requires { IsGood world.now campaign.old.value }
 {
     campaign.join(world, b"Avalon", b"pw", 0)?;
     let report = Text::from_str(alloc, "A report.\n")?;
@@ -49,14 +49,14 @@ pub(crate) fn joined(alloc: Global) -> Result<Campaign, Fail> {
 
 /// Whether the books have no more things than a world can have, as a creation asks.
 pub(crate) fn has_few_things(campaign: &Campaign) -> bool
-    ensures { IsTrue result → length campaign.now.what.books ≤ most_things }
+    ensures { IsTrue result → length campaign.now.value.books ≤ most_things }
 {
     campaign.things() <= 202
 }
 
 /// Whether the first faction is there with its unit and its report, as the writing of a joining asks.
 pub(crate) fn has_arrived(campaign: &Campaign) -> bool
-    ensures { IsTrue result → HasArrival campaign.now.what 1 }
+    ensures { IsTrue result → HasArrival campaign.now.value 1 }
 {
     campaign.things() >= 2
         && campaign.next_unit() >= 1

@@ -10,8 +10,8 @@ use Rattle.atl_instant.specs.Carrying.{found_written}
 pub returns : goal.returns
 returns c =
     let w = c.args.world.now in
-    let f = found_written (with_learner w c.args.campaign.now.what) c.args.month.now.readings in
+    let f = found_written (with_learner w c.args.campaign.now.value) c.args.month.now.readings in
     let xs = c.deref-order-items.result.now in
     let i = c.loop-order.order-index in
     let past : drop i xs ≡ [] = drop_all i xs (omega (arith, c.loop-order-test.false)) in
-    sym (ap (fold f c.loop-order.learning) past) ∙ c.loop-order.invariant ∙ ap (fold f empty) (c.deref-order-items.ensures.value ∙ c.in_ok-orders.ensures) ∙ learners_found w c.args.campaign.now.what c.args.month.now
+    sym (ap (fold f c.loop-order.learning) past) ∙ c.loop-order.invariant ∙ ap (fold f empty) (c.deref-order-items.ensures.value ∙ c.in_ok-orders.ensures) ∙ learners_found w c.args.campaign.now.value c.args.month.now

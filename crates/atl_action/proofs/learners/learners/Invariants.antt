@@ -7,5 +7,5 @@ use Rattle.atl_instant.specs.Carrying.{found_written}
 
 abbrev pub invariant-loop-order : goal.invariant-loop-order
 invariant-loop-order l =
-    fold (found_written (with_learner l.world l.campaign.what) l.month.readings) l.learning (drop l.order-index l.order-items)
-    ≡ fold (found_written (with_learner l.world l.campaign.what) l.month.readings) empty l.order-items
+    fold (found_written (with_learner l.world l.campaign.value) l.month.readings) l.learning (drop l.order-index l.order-items)
+    ≡ fold (found_written (with_learner l.world l.campaign.value) l.month.readings) empty l.order-items

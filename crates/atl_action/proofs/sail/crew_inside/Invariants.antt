@@ -1,11 +1,11 @@
 use Rattle.std.proofs.Common.{◌≡◌, ◌≤◌, ◌+◌, ◌*◌, drop, sum_by}
 use Rattle.std.specs.FinMap.{get}
-use Rattle.atl_state.specs.State.{numbers_inside}
+use Rattle.atl_state.specs.Campaign.{numbers_inside}
 use Rattle.atl_action.specs.Sail.{crew_of, of_unit, sum_inside}
 use Rattle.atl_action.proofs.sail.crew_inside.Given as goal
 
 abbrev pub invariant-loop-number : goal.invariant-loop-number
 invariant-loop-number l = record {
-  rest : l.sum + sum_by (λ n. of_unit (crew_of l.world) (get l.campaign.what.units n)) (drop l.number-index (numbers_inside l.structure l.campaign.what.units)) ≡ sum_inside (crew_of l.world) l.campaign.what l.structure;
+  rest : l.sum + sum_by (λ n. of_unit (crew_of l.world) (get l.campaign.value.units n)) (drop l.number-index (numbers_inside l.structure l.campaign.value.units)) ≡ sum_inside (crew_of l.world) l.campaign.value l.structure;
   small : l.sum ≤ 18446744073709551615 * l.number-index;
 }

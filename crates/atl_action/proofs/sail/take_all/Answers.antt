@@ -10,7 +10,7 @@ loop-unit-preserved c =
     let one = taken_along c.args.ship c.args.to in
     let xs = c.args.units.now in
     let i = c.loop-unit.unit-index in
-    let before = c.loop-unit.campaign.what in
+    let before = c.loop-unit.campaign.value in
     record {
       rest = ap (λ d. fold one d (drop (i + 1) xs)) c.in_ok-take_along.ensures.what ∙ sym (ap (fold one before) (drop_more xs i 0 c.loop-unit-test.true)) ∙ c.loop-unit.invariant.rest;
       marks = marks-trans c.args.campaign.now c.loop-unit.campaign _ c.loop-unit.invariant.marks c.in_ok-take_along.ensures.marks;

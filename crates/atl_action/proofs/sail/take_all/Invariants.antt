@@ -6,6 +6,6 @@ use Rattle.atl_action.proofs.sail.take_all.Given as goal
 
 abbrev pub invariant-loop-unit : goal.invariant-loop-unit
 invariant-loop-unit l = record {
-  rest : fold (taken_along l.ship l.to) l.campaign.what (drop l.unit-index l.units) ≡ fold (taken_along l.ship l.to) l.fn.campaign.what l.units;
+  rest : fold (taken_along l.ship l.to) l.campaign.value (drop l.unit-index l.units) ≡ fold (taken_along l.ship l.to) l.fn.campaign.value l.units;
   marks : MarksChanges l.fn.campaign l.campaign;
 }

@@ -4,4 +4,4 @@ use Rattle.atl_action.proofs.teach.below_of.Given as goal
 
 abbrev pub invariant-loop-unit : goal.invariant-loop-unit
 invariant-loop-unit l =
-    l.list.items ++ filter (is_below l.campaign.what l.learning l.teacher) (drop l.unit-index l.pupils) ≡ below_of l.campaign.what l.learning l.teacher l.pupils
+    l.list.items ++ filter (is_below l.campaign.value l.learning l.teacher) (drop l.unit-index l.pupils) ≡ below_of l.campaign.value l.learning l.teacher l.pupils

@@ -7,8 +7,8 @@ use Rattle.atl_instant.specs.Carrying.{found_written}
 
 abbrev pub invariant-loop-order : goal.invariant-loop-order
 invariant-loop-order l = record {
-  orders : fold (found_written (teach_order l.campaign.what l.learning) l.fn.month.readings) (l.taught, l.month) (drop l.order-index l.order-items)
-      ≡ fold (found_written (teach_order l.campaign.what l.learning) l.fn.month.readings) (empty, l.fn.month) l.order-items;
+  orders : fold (found_written (teach_order l.campaign.value l.learning) l.fn.month.readings) (l.taught, l.month) (drop l.order-index l.order-items)
+      ≡ fold (found_written (teach_order l.campaign.value l.learning) l.fn.month.readings) (empty, l.fn.month) l.order-items;
   readings : l.month.readings ≡ l.fn.month.readings;
   aliases : l.month.aliases ≡ l.fn.month.aliases;
 }

@@ -4,6 +4,6 @@ use Rattle.atl_action.proofs.teach.untaught_of.Given as goal
 
 abbrev pub invariant-loop-unit : goal.invariant-loop-unit
 invariant-loop-unit l = record {
-  rest : l.sum + sum_by (untaught l.campaign.what l.taught) (drop l.unit-index l.units) ≡ sum_by (untaught l.campaign.what l.taught) l.units;
+  rest : l.sum + sum_by (untaught l.campaign.value l.taught) (drop l.unit-index l.units) ≡ sum_by (untaught l.campaign.value l.taught) l.units;
   small : l.sum ≤ 999999 * l.unit-index;
 }

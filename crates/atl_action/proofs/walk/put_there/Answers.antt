@@ -1,6 +1,6 @@
 use Rattle.std.proofs.Common.{false, refl}
 use Rattle.atl_state.specs.Marking.{mark_unit_row}
-use Rattle.atl_state.specs.State.{with_guard}
+use Rattle.atl_state.specs.Campaign.{with_guard}
 use Rattle.atl_state.proofs.CoverLaws.{marks-trans}
 use Rattle.atl_state.proofs.HoldingLaws.{marks-unit_row}
 use Rattle.atl_instant.proofs.MarkLaws.{marks-place, marks_by}
@@ -12,5 +12,5 @@ returns-clause-marks c =
     let mid = c.place.new.self in
     let set = c.set_guard in
     marks-trans old mid set.new.self (marks-place old mid c.args.unit c.args.to 0 c.in_ok-place.ensures.ok c.in_ok-place.ensures.marks)
-    (marks_by mid set.new.self (record { what = with_guard mid.what c.args.unit false; marks = mark_unit_row mid c.args.unit })
+    (marks_by mid set.new.self (record { value = with_guard mid.value c.args.unit false; marks = mark_unit_row mid c.args.unit })
     set.ensures.what set.ensures.marks (marks-unit_row (λ u. record u { holding = record u.holding { guard = false } }) (λ u. refl) mid c.args.unit))

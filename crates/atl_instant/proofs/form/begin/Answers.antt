@@ -1,5 +1,5 @@
 use Rattle.atl_state.specs.Marking.{mark_unit_begun}
-use Rattle.atl_state.specs.State.{with_unit_begun}
+use Rattle.atl_state.specs.Campaign.{with_unit_begun}
 use Rattle.atl_instant.proofs.FormingLaws.{marks-begun}
 use Rattle.atl_instant.proofs.MarkLaws.{marks_by, on_ok_both}
 use Rattle.atl_instant.proofs.form.begin.Goals as goal
@@ -9,5 +9,5 @@ returns-clause-marks c =
     let old = c.args.campaign.now in
     let unit = c.in_ok-unit.unit in
     on_ok_both c.begin_unit.result
-    (λ what marks. marks_by old c.begin_unit.new.self (record { what = with_unit_begun old.what unit; marks = mark_unit_begun old }) what marks (marks-begun old unit))
+    (λ what marks. marks_by old c.begin_unit.new.self (record { value = with_unit_begun old.value unit; marks = mark_unit_begun old }) what marks (marks-begun old unit))
     c.begin_unit.ensures.ok c.begin_unit.ensures.marks

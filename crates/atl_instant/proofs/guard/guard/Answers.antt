@@ -5,7 +5,7 @@ use Rattle.atl_instant.proofs.guard.guard.Goals as goal
 
 pub returns-clause-held : goal.returns-clause-held
 returns-clause-held c =
-    let before = c.args.campaign.now.what in
+    let before = c.args.campaign.now.value in
     let u = c.in-Some.unit.now in
     let (none, men) = can_guard before u (sym (c.in_default-guard_fault.ensures before c.requires.held)) in
     rw (c.set_guard.ensures.what, c.in_ok-set.ensures) (holders_set before c.args.holders.now c.args.order.unit u c.in-Some.ensures.there c.requires.held none men)

@@ -1,7 +1,7 @@
 use Rattle.std.proofs.Common.{rules, Some, sym, ap, ◌∙◌}
 use Rattle.std.proofs.lemmas.Fn.{always_returns_same}
 use Rattle.atl_orders.specs.Mailing.{reading_of}
-use Rattle.atl_instant.proofs.CourseLaws as laws
+use Rattle.atl_instant.proofs.MonthLaws as laws
 use Rattle.atl_instant.proofs.month.mailing_of.Goals as goal
 
 pub returns-in-Ok : goal.returns-in-Ok

@@ -1,4 +1,4 @@
-use Rattle.atl_instant.proofs.CourseLaws as laws
+use Rattle.atl_instant.proofs.MonthLaws as laws
 use Rattle.atl_instant.proofs.month.mailings_have_no_order.Goals as goal
 
 pub returns : goal.returns

@@ -1,6 +1,6 @@
 use Rattle.std.proofs.Common.{rules, sym}
 use Rattle.std.proofs.lemmas.Fn.{always_returns_same}
-use Rattle.atl_instant.proofs.CourseLaws as laws
+use Rattle.atl_instant.proofs.MonthLaws as laws
 use Rattle.atl_instant.proofs.month.sort.Goals as goal
 
 pub returns-clause-sorted : goal.returns-clause-sorted

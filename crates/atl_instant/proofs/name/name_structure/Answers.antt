@@ -1,5 +1,5 @@
 use Rattle.atl_state.specs.Marking.{mark_structure}
-use Rattle.atl_state.specs.State.{with_structure_name}
+use Rattle.atl_state.specs.Campaign.{with_structure_name}
 use Rattle.atl_state.proofs.LeavingLaws.{marks-structure}
 use Rattle.atl_instant.proofs.MarkLaws.{marks_by}
 use Rattle.atl_instant.proofs.name.name_structure.Goals as goal
@@ -8,5 +8,5 @@ pub returns-in-None-clause-marks : goal.returns-in-None-clause-marks
 returns-in-None-clause-marks c =
     let old = c.args.campaign.now in
     let set = c.set_structure_name in
-    marks_by old set.new.self (record { what = with_structure_name old.what c.args.inside c.args.name; marks = mark_structure old c.args.inside })
+    marks_by old set.new.self (record { value = with_structure_name old.value c.args.inside c.args.name; marks = mark_structure old c.args.inside })
     set.ensures.what set.ensures.marks (marks-structure (λ s. record s { name = c.args.name }) old c.args.inside)

@@ -9,7 +9,7 @@ use Rattle.atl_instant.proofs.quit.book_items.Goals as goal
 use Rattle.atl_instant.specs.LostItems.{moving_items}
 
 pub book_gone-requires-clause-room : goal.book_gone-requires-clause-room
-book_gone-requires-clause-room c = next_room c.args.items.now c.loop-item.item-index c.loop-item.campaign.what c.loop-item-test.true c.loop-item.invariant.room
+book_gone-requires-clause-room c = next_room c.args.items.now c.loop-item.item-index c.loop-item.campaign.value c.loop-item-test.true c.loop-item.invariant.room
 
 pub loop-item-preserved : goal.loop-item-preserved
 loop-item-preserved c =
@@ -17,10 +17,10 @@ loop-item-preserved c =
     let list = c.args.items.now in
     let i = c.loop-item.item-index in
     let x : ℕ × ℕ = get_or list i (0, 0) in
-    let before = c.loop-item.campaign.what in
+    let before = c.loop-item.campaign.value in
     let old = c.loop-item.invariant in
     let known = known_ahead w list i c.loop-item-test.true old.known in
-    let is : c.book_gone.new.campaign.what ≡ item_gone before x = c.book_gone.ensures.what in
+    let is : c.book_gone.new.campaign.value ≡ item_gone before x = c.book_gone.ensures.what in
     record {
       rest = fold_behind item_gone list i (0, 0) before c.loop-item-test.true is old.rest;
       grid = rw is (gone_grid (things_of w) before (Item x.0) x.1 old.grid);

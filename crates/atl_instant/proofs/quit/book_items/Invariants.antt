@@ -11,9 +11,9 @@ use Rattle.atl_instant.specs.LostItems.{moving_items}
 
 abbrev pub invariant-loop-item : goal.invariant-loop-item
 invariant-loop-item l = record {
-  rest : fold item_gone l.campaign.what (drop l.item-index l.items) ≡ fold item_gone l.initial.campaign.what l.items;
-  grid : IsGrid (things_of l.world) l.campaign.what.books;
+  rest : fold item_gone l.campaign.value (drop l.item-index l.items) ≡ fold item_gone l.initial.campaign.value l.items;
+  grid : IsGrid (things_of l.world) l.campaign.value.books;
   known : EachOf (λ i amount. i < length l.world.items) (drop l.item-index l.items);
-  room : HaveRoom (moving_items (drop l.item-index l.items)) l.campaign.what;
+  room : HaveRoom (moving_items (drop l.item-index l.items)) l.campaign.value;
   marks : MarksChanges l.initial.campaign l.campaign;
 }

@@ -11,19 +11,19 @@ use Rattle.atl_instant.specs.LostItems.{moving_items}
 
 pub book_gone-requires-clause-room : goal.book_gone-requires-clause-room
 book_gone-requires-clause-room c =
-    first_room People c.args.men (both_move (moves_only c.args.money Lost Money) (moving_items c.args.items.now)) c.args.campaign.now.what c.requires.room
+    first_room People c.args.men (both_move (moves_only c.args.money Lost Money) (moving_items c.args.items.now)) c.args.campaign.now.value c.requires.room
 
 pub book_gone-requires-2-clause-room : goal.book_gone-requires-2-clause-room
 book_gone-requires-2-clause-room c =
     let w = c.args.world.now in
-    let before = c.args.campaign.now.what in
+    let before = c.args.campaign.now.value in
     let rest = both_move (moves_only c.args.money Lost Money) (moving_items c.args.items.now) in
     rw c.book_gone.ensures.what (first_room Money c.args.money (moving_items c.args.items.now) (with_gone_amount before People c.args.men) (rest_room (things_of w) People c.args.men rest before c.requires.grid (omega arith) c.requires.room))
 
 pub book_items-requires-clause-room : goal.book_items-requires-clause-room
 book_items-requires-clause-room c =
     let w = c.args.world.now in
-    let before = c.args.campaign.now.what in
+    let before = c.args.campaign.now.value in
     let rest = both_move (moves_only c.args.money Lost Money) (moving_items c.args.items.now) in
     let between = with_gone_amount before People c.args.men in
     rw (c.book_gone-2.ensures.what, c.book_gone.ensures.what)
@@ -38,5 +38,5 @@ returns-clause-marks c =
     marks-trans c.args.campaign.now one c.book_items.new.campaign
     (gone_marks (things_of w) c.args.campaign.now one People c.args.men c.requires.grid (omega arith) c.book_gone.ensures.what c.book_gone.ensures.marks)
     (marks-trans one two c.book_items.new.campaign
-    (gone_marks (things_of w) one two Money c.args.money (rw c.book_gone.ensures.what (gone_grid (things_of w) c.args.campaign.now.what People c.args.men c.requires.grid)) (omega arith) c.book_gone-2.ensures.what c.book_gone-2.ensures.marks)
+    (gone_marks (things_of w) one two Money c.args.money (rw c.book_gone.ensures.what (gone_grid (things_of w) c.args.campaign.now.value People c.args.men c.requires.grid)) (omega arith) c.book_gone-2.ensures.what c.book_gone-2.ensures.marks)
     c.book_items.ensures.marks)

@@ -7,7 +7,7 @@ use Rattle.atl_instant.proofs.quit.leave.Goals as goal
 
 pub book_off-requires : goal.book_off-requires
 book_off-requires c =
-    let before = c.args.campaign.now.what in
+    let before = c.args.campaign.now.value in
     let u = c.in-Some.unit.now in
     let there = sym c.in-Some.ensures in
     let list : c.deref.result.now ≡ entries u.holding.items = search rules in

@@ -10,9 +10,9 @@ pub loop-number-preserved : goal.loop-number-preserved
 loop-number-preserved c =
     let w = c.args.world.now in
     let n : ℕ = get_or c.args.numbers.now c.loop-number.number-index 0 in
-    let before = c.loop-number.campaign.what in
+    let before = c.loop-number.campaign.value in
     let old = c.loop-number.invariant in
-    let is : c.leave.new.campaign.what ≡ left_at before n = c.in_ok-leave.ensures.what in
+    let is : c.leave.new.campaign.value ≡ left_at before n = c.in_ok-leave.ensures.what in
     let well = left_well w before n old.steady in
     record {
       rest = fold_behind left_at c.args.numbers.now c.loop-number.number-index 0 before c.loop-number-test.true is old.rest;

@@ -8,8 +8,8 @@ use Rattle.atl_instant.proofs.quit.leave_all.Given as goal
 
 abbrev pub invariant-loop-number : goal.invariant-loop-number
 invariant-loop-number l = record {
-  rest : fold left_at l.campaign.what (drop l.number-index l.numbers) ≡ fold left_at l.initial.campaign.what l.numbers;
-  steady : IsSteady l.world l.campaign.what;
-  room : HaveRoom (quit_reserve l.campaign.what) l.campaign.what;
+  rest : fold left_at l.campaign.value (drop l.number-index l.numbers) ≡ fold left_at l.initial.campaign.value l.numbers;
+  steady : IsSteady l.world l.campaign.value;
+  room : HaveRoom (quit_reserve l.campaign.value) l.campaign.value;
   marks : MarksChanges l.initial.campaign l.campaign;
 }

@@ -1,6 +1,6 @@
 use Rattle.std.proofs.Common.{◌≡◌, Some, rules}
 use Rattle.atl_orders.specs.Orders.{said}
-use Rattle.atl_instant.specs.Course.{order_at}
+use Rattle.atl_instant.specs.Month.{order_at}
 use Rattle.atl_instant.proofs.StepLaws.{said_fit}
 use Rattle.atl_instant.proofs.steps.carry_one.Goals as goal
 

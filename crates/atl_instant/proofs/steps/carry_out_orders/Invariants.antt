@@ -7,9 +7,9 @@ use Rattle.atl_instant.specs.Carrying.{found_written}
 
 abbrev pub invariant-loop-order : goal.invariant-loop-order
 invariant-loop-order g l = record {
-  orders : fold (found_written (one_order (g.P.OrderPhase.step l.phase) l.world) l.fn.month.readings) (l.campaign.what, l.month) (drop l.order-index l.order-items)
-      ≡ fold (found_written (one_order (g.P.OrderPhase.step l.phase) l.world) l.fn.month.readings) (l.fn.campaign.what, l.fn.month) l.order-items;
+  orders : fold (found_written (one_order (g.P.OrderPhase.step l.phase) l.world) l.fn.month.readings) (l.campaign.value, l.month) (drop l.order-index l.order-items)
+      ≡ fold (found_written (one_order (g.P.OrderPhase.step l.phase) l.world) l.fn.month.readings) (l.fn.campaign.value, l.fn.month) l.order-items;
   readings : l.month.readings ≡ l.fn.month.readings;
-  well : StepsWell g.P.OrderPhase.holds g.P.OrderPhase.reserve l.world l.fn.campaign.what l.campaign.what;
+  well : StepsWell g.P.OrderPhase.holds g.P.OrderPhase.reserve l.world l.fn.campaign.value l.campaign.value;
   marks : MarksChanges l.fn.campaign l.campaign;
 }

@@ -8,5 +8,5 @@ use Rattle.atl_market.proofs.asking.counts_found.Goals as goal
 
 pub loop-order-init : goal.loop-order-init
 loop-order-init c =
-    ap (λ m. with_each m (flat_map (found_by count_in c.args.month.now.readings c.args.campaign.now.what) c.args.orders.now)) c.new-asked.ensures
-    ∙ put_in_turn (flat_map (found_by count_in c.args.month.now.readings c.args.campaign.now.what) c.args.orders.now)
+    ap (λ m. with_each m (flat_map (found_by count_in c.args.month.now.readings c.args.campaign.now.value) c.args.orders.now)) c.new-asked.ensures
+    ∙ put_in_turn (flat_map (found_by count_in c.args.month.now.readings c.args.campaign.now.value) c.args.orders.now)

@@ -6,4 +6,4 @@ use Rattle.atl_market.specs.Puts.{with_each}
 use Rattle.atl_market.proofs.asking.items_found.Given as goal
 
 abbrev pub invariant-loop-order : goal.invariant-loop-order
-invariant-loop-order l = with_each l.asked (flat_map (found_by item_in l.month.readings l.campaign.what) (drop l.order-index l.orders)) ≡ found_of item_in l.month.readings l.campaign.what l.orders
+invariant-loop-order l = with_each l.asked (flat_map (found_by item_in l.month.readings l.campaign.value) (drop l.order-index l.orders)) ≡ found_of item_in l.month.readings l.campaign.value l.orders

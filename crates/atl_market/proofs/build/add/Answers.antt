@@ -1,5 +1,5 @@
 use Rattle.atl_state.specs.Marking.{mark_structure}
-use Rattle.atl_state.specs.State.{with_done}
+use Rattle.atl_state.specs.Campaign.{with_done}
 use Rattle.atl_state.proofs.CoverLaws.{marks-trans}
 use Rattle.atl_state.proofs.LeavingLaws.{marks-structure}
 use Rattle.atl_instant.proofs.MarkLaws.{marks_by}
@@ -11,5 +11,5 @@ returns-clause-marks c =
     let mid = c.use_item.new.campaign in
     let set = c.set_done in
     marks-trans old mid set.new.self c.in_ok-use_item.ensures.marks
-    (marks_by mid set.new.self (record { what = with_done mid.what c.args.structure c.args.done; marks = mark_structure mid c.args.structure })
+    (marks_by mid set.new.self (record { value = with_done mid.value c.args.structure c.args.done; marks = mark_structure mid c.args.structure })
     set.ensures.what set.ensures.marks (marks-structure (λ s. record s { done = c.args.done }) mid c.args.structure))

@@ -22,15 +22,15 @@ add-requires c =
     let k = c.in-Some-kind_of.kind.now in
     let kind_is : slice_get w.kinds s.kind ≡ Some k = sym c.in-Some-kind_of.ensures in
     rw c.size_added-size.ensures
-    (can_use w c.args.campaign.now.what c.args.order.unit k.material (size_added k u.holding s.done) u c.in-Some.ensures.there (size_held k u.holding s.done) (c.requires.can.kinds s.kind k kind_is).material c.requires.can c.requires.room)
+    (can_use w c.args.campaign.now.value c.args.order.unit k.material (size_added k u.holding s.done) u c.in-Some.ensures.there (size_held k u.holding s.done) (c.requires.can.kinds s.kind k kind_is).material c.requires.can c.requires.room)
 
 pub returns-clause-what : goal.returns-clause-what
 returns-clause-what c =
     let w = c.args.world.now in
-    let old = c.args.campaign.now.what in
+    let old = c.args.campaign.now.value in
     let u = c.in-Some.unit.now in
     let s = c.in-Some-structure.structure.now in
     let k = c.in-Some-kind_of.kind.now in
     let kind_is : slice_get w.kinds s.kind ≡ Some k = sym c.in-Some-kind_of.ensures in
     let none : inside_fault u s k ≡ None = sym c.in_default-inside_fault.ensures in
-    go_on_done w old c.add.new.campaign.what c.args.order.faction c.args.order.unit u s k c.size_added-size.result c.from.result (sym c.in-Some.ensures.own) (sym c.in-Some-structure.ensures) kind_is none c.in_ok-add.ensures.what c.from.ensures c.size_added-size.ensures
+    go_on_done w old c.add.new.campaign.value c.args.order.faction c.args.order.unit u s k c.size_added-size.result c.from.result (sym c.in-Some.ensures.own) (sym c.in-Some-structure.ensures) kind_is none c.in_ok-add.ensures.what c.from.ensures c.size_added-size.ensures

@@ -1,5 +1,5 @@
 use Rattle.atl_state.specs.Marking.{mark_structure_begun}
-use Rattle.atl_state.specs.State.{with_structure_begun}
+use Rattle.atl_state.specs.Campaign.{with_structure_begun}
 use Rattle.atl_state.specs.declared.records.Structure.{Structure}
 use Rattle.atl_instant.proofs.MarkLaws.{marks_by, on_ok_both}
 use Rattle.atl_state.proofs.BegunLaws.{marks-raised}
@@ -10,5 +10,5 @@ returns-clause-marks c =
     let old = c.args.campaign.now in
     let s : Structure = record { kind = c.args.number; name = c.in_ok-name.name; region = c.args.region; done = c.args.size; owner = 0 } in
     on_ok_both c.begin_structure.result
-    (λ what marks. marks_by old c.begin_structure.new.self (record { what = with_structure_begun old.what s; marks = mark_structure_begun old }) what marks (marks-raised old s))
+    (λ what marks. marks_by old c.begin_structure.new.self (record { value = with_structure_begun old.value s; marks = mark_structure_begun old }) what marks (marks-raised old s))
     c.begin_structure.ensures.ok c.begin_structure.ensures.marks

@@ -1,6 +1,6 @@
 use Rattle.std.proofs.Common.{◌≡◌, ℕ, ap, ◌∙◌}
 use Rattle.atl_state.specs.Owners.{with_place}
-use Rattle.atl_state.specs.State.{State}
+use Rattle.atl_state.specs.Campaign.{CampaignValue}
 use Rattle.atl_state.proofs.CoverLaws.{marks-trans}
 use Rattle.atl_instant.proofs.MarkLaws.{marks-place}
 use Rattle.atl_market.specs.Build.{with_new}
@@ -10,26 +10,26 @@ use Rattle.atl_market.proofs.build.start.Goals as goal
 
 pub raise-requires-clause-fresh : goal.raise-requires-clause-fresh
 raise-requires-clause-fresh c =
-    let old = c.args.campaign.now.what in
+    let old = c.args.campaign.now.value in
     let item = c.args.kind.now.material in
     rw (c.in_ok-use_item.ensures.what, same_structures old c.args.unit item c.args.size, same_next old c.args.unit item c.args.size) c.requires.fresh
 
 pub raise-requires-clause-room : goal.raise-requires-clause-room
 raise-requires-clause-room c =
-    let old = c.args.campaign.now.what in
+    let old = c.args.campaign.now.value in
     rw (c.in_ok-use_item.ensures.what, same_next old c.args.unit c.args.kind.now.material c.args.size) c.requires.room
 
 pub returns-clause-what : goal.returns-clause-what
 returns-clause-what c =
-    let old = c.args.campaign.now.what in
+    let old = c.args.campaign.now.value in
     let k = c.args.kind.now in
     let n = c.args.unit in
-    let used : State = with_used old n k.material c.args.size in
-    let new : State = with_new used c.args.number k c.args.region c.args.size in
+    let used : CampaignValue = with_used old n k.material c.args.size in
+    let new : CampaignValue = with_new used c.args.number k c.args.region c.args.size in
     let next : ℕ = c.in_ok-next.next in
-    let number : next ≡ old.next_structure = c.in_ok-next.ensures.number ∙ ap (λ (d : State). d.next_structure) c.in_ok-use_item.ensures.what ∙ same_next old n k.material c.args.size in
+    let number : next ≡ old.next_structure = c.in_ok-next.ensures.number ∙ ap (λ (d : CampaignValue). d.next_structure) c.in_ok-use_item.ensures.what ∙ same_next old n k.material c.args.size in
     c.in_ok-place.ensures.ok
-    ∙ ap (λ (d : State). with_place d n c.args.region next) (c.in_ok-next.ensures.what ∙ ap (λ (d : State). with_new d c.args.number k c.args.region c.args.size) c.in_ok-use_item.ensures.what)
+    ∙ ap (λ (d : CampaignValue). with_place d n c.args.region next) (c.in_ok-next.ensures.what ∙ ap (λ (d : CampaignValue). with_new d c.args.number k c.args.region c.args.size) c.in_ok-use_item.ensures.what)
     ∙ ap (with_place new n c.args.region) number
 
 pub returns-clause-marks : goal.returns-clause-marks

@@ -1,7 +1,7 @@
 use Rattle.std.proofs.Common.{sym, ap, ◌∙◌, ◌-◌, arith}
 use Rattle.std.specs.Prelude.{neg_ℤ, pos}
 use Rattle.atl_state.specs.Founding.{things_of}
-use Rattle.atl_state.specs.State.{with_amount}
+use Rattle.atl_state.specs.Campaign.{with_amount}
 use Rattle.atl_state.specs.declared.books.Entry.TheVariants.{Used}
 use Rattle.atl_state.specs.declared.books.Thing.TheVariants.{Item}
 use Rattle.atl_market.specs.Goods.{with_item}
@@ -25,8 +25,8 @@ returns-clause-what c =
     let can = c.requires.can in
     let z = neg_ℤ (pos c.args.amount) in
     goods_what c.args.campaign.now c.set_item.new.campaign c.book_taken.new.campaign c.args.number can.unit c.args.item (c.held_of.result - c.args.amount) Used z (things_of c.args.world.now) can.there (c.in_ok-set_item.ensures can.unit can.there) c.book_taken.ensures.what
-    ∙ ap (λ a. with_amount (with_item c.args.campaign.now.what c.args.number can.unit c.args.item (a - c.args.amount)) Used (Item c.args.item) z) (c.held_of.ensures can.unit can.there)
-    ∙ sym (used_is c.args.world.now c.args.campaign.now.what c.args.number c.args.item c.args.amount can.unit can.there)
+    ∙ ap (λ a. with_amount (with_item c.args.campaign.now.value c.args.number can.unit c.args.item (a - c.args.amount)) Used (Item c.args.item) z) (c.held_of.ensures can.unit can.there)
+    ∙ sym (used_is c.args.world.now c.args.campaign.now.value c.args.number c.args.item c.args.amount can.unit can.there)
 
 pub returns-clause-marks : goal.returns-clause-marks
 returns-clause-marks c =

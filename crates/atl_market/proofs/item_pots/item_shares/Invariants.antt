@@ -7,5 +7,5 @@ use Rattle.atl_market.proofs.item_pots.item_shares.Given as goal
 
 abbrev pub invariant-loop-region : goal.invariant-loop-region
 invariant-loop-region g l =
-    with_each l.given (flat_map (region_shares (g.P.ItemPots.item_of l.pots) (g.P.ItemPots.pot_of l.pots) l.wants l.campaign.what) (map (λ e. e.0) l.region-iterator))
-    ≡ with_each empty (flat_map (region_shares (g.P.ItemPots.item_of l.pots) (g.P.ItemPots.pot_of l.pots) l.wants l.campaign.what) (keys l.campaign.what.regions))
+    with_each l.given (flat_map (region_shares (g.P.ItemPots.item_of l.pots) (g.P.ItemPots.pot_of l.pots) l.wants l.campaign.value) (map (λ e. e.0) l.region-iterator))
+    ≡ with_each empty (flat_map (region_shares (g.P.ItemPots.item_of l.pots) (g.P.ItemPots.pot_of l.pots) l.wants l.campaign.value) (keys l.campaign.value.regions))

@@ -12,4 +12,4 @@ make_of-requires c =
 pub returns-in-Some-clause-what : goal.returns-in-Some-clause-what
 returns-in-Some-clause-what c =
     let there : slice_get c.args.world.now.items c.args.item ≡ Some c.in-Some.found.now = search rules in
-    subst (λ o. OnOk c.make_of.result (c.make_of.new.campaign.what ≡ produced_of c.args.campaign.now.what (c.args.number, c.args.made) c.args.item o)) (sym there) c.make_of.ensures.what
+    subst (λ o. OnOk c.make_of.result (c.make_of.new.campaign.value ≡ produced_of c.args.campaign.now.value (c.args.number, c.args.made) c.args.item o)) (sym there) c.make_of.ensures.what

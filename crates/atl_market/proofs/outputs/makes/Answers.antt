@@ -7,5 +7,5 @@ use Rattle.atl_market.proofs.outputs.makes.Goals as goal
 pub returns : goal.returns
 returns c =
     let none : c.loop-unit.unit-iterator ≡ [] = search rules in
-    sym (ap (λ es. with_each c.loop-unit.made (map (λ e. (e.0, made_by c.args.world.now c.args.asked.now c.args.campaign.now.what c.args.wants.now e)) es)) none)
-    ∙ c.loop-unit.invariant ∙ makes_are c.args.asked.now c.args.world.now c.args.campaign.now.what c.args.wants.now
+    sym (ap (λ es. with_each c.loop-unit.made (map (λ e. (e.0, made_by c.args.world.now c.args.asked.now c.args.campaign.now.value c.args.wants.now e)) es)) none)
+    ∙ c.loop-unit.invariant ∙ makes_are c.args.asked.now c.args.world.now c.args.campaign.now.value c.args.wants.now

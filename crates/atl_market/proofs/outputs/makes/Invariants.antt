@@ -6,5 +6,5 @@ use Rattle.atl_market.proofs.outputs.makes.Given as goal
 
 abbrev pub invariant-loop-unit : goal.invariant-loop-unit
 invariant-loop-unit l =
-    with_each l.made (map (λ e. (e.0, made_by l.world l.asked l.campaign.what l.wants e)) l.unit-iterator)
-    ≡ with_each empty (map (λ e. (e.0, made_by l.world l.asked l.campaign.what l.wants e)) (entries l.wants))
+    with_each l.made (map (λ e. (e.0, made_by l.world l.asked l.campaign.value l.wants e)) l.unit-iterator)
+    ≡ with_each empty (map (λ e. (e.0, made_by l.world l.asked l.campaign.value l.wants e)) (entries l.wants))

@@ -9,6 +9,6 @@ use Rattle.atl_market.proofs.pot_phase.wants_of.Goals as goal
 
 pub loop-order-init : goal.loop-order-init
 loop-order-init g c = record {
-  value = ap (λ m. with_each m (flat_map (want_by (g.P.PotPhase.meaning c.args.phase.now) c.args.world.now c.args.campaign.now.what) c.args.orders.now)) c.new-wants.ensures ∙ put_in_turn (flat_map (want_by (g.P.PotPhase.meaning c.args.phase.now) c.args.world.now c.args.campaign.now.what) c.args.orders.now);
+  value = ap (λ m. with_each m (flat_map (want_by (g.P.PotPhase.meaning c.args.phase.now) c.args.world.now c.args.campaign.now.value) c.args.orders.now)) c.new-wants.ensures ∙ put_in_turn (flat_map (want_by (g.P.PotPhase.meaning c.args.phase.now) c.args.world.now c.args.campaign.now.value) c.args.orders.now);
   bound = rw c.new-wants.ensures (every-empty (λ (number want : ℕ). want ≤ most_amount));
 }

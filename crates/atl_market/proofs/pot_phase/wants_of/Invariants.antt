@@ -7,6 +7,6 @@ use Rattle.atl_market.proofs.pot_phase.wants_of.Given as goal
 
 abbrev pub invariant-loop-order : goal.invariant-loop-order
 invariant-loop-order g l = record {
-  value : with_each l.wants (flat_map (want_by (g.P.PotPhase.meaning l.phase) l.world l.campaign.what) (drop l.order-index l.orders)) ≡ wants_by (g.P.PotPhase.meaning l.phase) l.world l.campaign.what l.orders;
+  value : with_each l.wants (flat_map (want_by (g.P.PotPhase.meaning l.phase) l.world l.campaign.value) (drop l.order-index l.orders)) ≡ wants_by (g.P.PotPhase.meaning l.phase) l.world l.campaign.value l.orders;
   bound : AreWants l.wants;
 }

@@ -7,5 +7,5 @@ use Rattle.atl_market.proofs.pots.pot_shares.Given as goal
 
 abbrev pub invariant-loop-region : goal.invariant-loop-region
 invariant-loop-region g l =
-    with_each l.given (flat_map (shares_in (g.P.Pots.pot_of l.pots) l.wants l.campaign.what.units) (map (λ e. e.0) l.region-iterator))
-    ≡ with_each empty (flat_map (shares_in (g.P.Pots.pot_of l.pots) l.wants l.campaign.what.units) (keys l.campaign.what.regions))
+    with_each l.given (flat_map (shares_in (g.P.Pots.pot_of l.pots) l.wants l.campaign.value.units) (map (λ e. e.0) l.region-iterator))
+    ≡ with_each empty (flat_map (shares_in (g.P.Pots.pot_of l.pots) l.wants l.campaign.value.units) (keys l.campaign.value.regions))

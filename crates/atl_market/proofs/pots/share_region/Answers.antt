@@ -15,11 +15,11 @@ empty_list (x ∷ xs) h = absurd (omega arith)
 pub returns-then-is_empty : goal.returns-then-is_empty
 returns-then-is_empty g c =
     let empty : c.in_ok-takers.takers.items ≡ [] = empty_list c.in_ok-takers.takers.items (search rules) in
-    let none : takers_in c.args.wants.now c.args.campaign.now.what.units c.args.region ≡ [] = sym (search rules) ∙ empty in
+    let none : takers_in c.args.wants.now c.args.campaign.now.value.units c.args.region ≡ [] = sym (search rules) ∙ empty in
     ap (λ takers. with_each c.args.given.now (zip takers (shares (g.P.Pots.pot_of c.args.pots.now c.args.region) (map (want_of c.args.wants.now) takers)))) (sym none)
 
 pub returns-then-is_none : goal.returns-then-is_none
 returns-then-is_none g c =
-    let free : is_some (get (regions_asked c.args.wants.now c.args.campaign.now.what) c.args.region) ≡ false = search rules in
-    let none : takers_in c.args.wants.now c.args.campaign.now.what.units c.args.region ≡ [] = none_asked c.args.wants.now c.args.campaign.now.what c.args.region free in
+    let free : is_some (get (regions_asked c.args.wants.now c.args.campaign.now.value) c.args.region) ≡ false = search rules in
+    let none : takers_in c.args.wants.now c.args.campaign.now.value.units c.args.region ≡ [] = none_asked c.args.wants.now c.args.campaign.now.value c.args.region free in
     ap (λ takers. with_each c.args.given.now (zip takers (shares (g.P.Pots.pot_of c.args.pots.now c.args.region) (map (want_of c.args.wants.now) takers)))) (sym none)

@@ -8,6 +8,6 @@ use Rattle.atl_market.proofs.produce.items_asked.Goals as goal
 
 pub returns : goal.returns
 returns c =
-    let campaign = c.args.campaign.now.what in
+    let campaign = c.args.campaign.now.value in
     let month = c.args.month.now in
     c.in_ok-asked.ensures ∙ ap (found_of item_in month.readings campaign) c.requires ∙ found_orders item_in is_produce ByUnit campaign month

@@ -9,11 +9,11 @@ use Rattle.atl_market.proofs.recruit.join_unit.Goals as goal
 
 pub returns-in-Some-clause-what : goal.returns-in-Some-clause-what
 returns-in-Some-clause-what c u is =
-    let old = c.args.campaign.now.what in
+    let old = c.args.campaign.now.value in
     let found : c.in-Some.found.now ≡ u = same_Some _ _ (c.in-Some.ensures ∙ is) in
     let there : get old.units c.args.unit ≡ Some c.in-Some.found.now = sym c.in-Some.ensures in
-    subst (λ v. c.set_money.new.self.what ≡ with_holding old c.args.unit (with_men v.holding c.args.recruits c.args.cost)) found
-    (rw (← c.men.ensures.value, ← c.money.ensures.value) (joined_is old c.set_men.new.self.what c.set_money.new.self.what c.args.unit c.in-Some.found.now _ _ there c.set_men.ensures.what c.set_money.ensures.what))
+    subst (λ v. c.set_money.new.self.value ≡ with_holding old c.args.unit (with_men v.holding c.args.recruits c.args.cost)) found
+    (rw (← c.men.ensures.value, ← c.money.ensures.value) (joined_is old c.set_men.new.self.value c.set_money.new.self.value c.args.unit c.in-Some.found.now _ _ there c.set_men.ensures.what c.set_money.ensures.what))
 
 pub returns-in-Some-clause-marks : goal.returns-in-Some-clause-marks
 returns-in-Some-clause-marks c =

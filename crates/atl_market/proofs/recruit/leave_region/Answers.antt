@@ -1,6 +1,6 @@
 use Rattle.std.proofs.Common.{ap, arith}
 use Rattle.std.specs.Prelude.{neg_ℤ, pos}
-use Rattle.atl_state.specs.State.{State}
+use Rattle.atl_state.specs.Campaign.{CampaignValue}
 use Rattle.atl_state.specs.declared.books.Entry.TheVariants.{Recruiting}
 use Rattle.atl_state.specs.declared.books.Thing.TheVariants.{Money}
 use Rattle.atl_market.proofs.RecruitLaws.{leaving_marks}
@@ -12,10 +12,10 @@ use Rattle.atl_state.specs.Books.{amount_in}
 pub book_taken-requires-clause-there : goal.book_taken-requires-clause-there
 book_taken-requires-clause-there c =
     let (things, two, grid) = c.requires.grid in
-    rw (ap (λ (s : State). s.books) c.set_peasants.ensures.what) (omega (arith, grid.rows, two))
+    rw (ap (λ (s : CampaignValue). s.books) c.set_peasants.ensures.what) (omega (arith, grid.rows, two))
 
 pub book_taken-requires-clause-room : goal.book_taken-requires-clause-room
-book_taken-requires-clause-room c = rw (ap (λ (s : State). s.books) c.set_peasants.ensures.what) (less_room c.args.cost holding_limit (amount_in c.args.campaign.now.what.books Recruiting Money) c.requires.little (c.requires.room Recruiting Money))
+book_taken-requires-clause-room c = rw (ap (λ (s : CampaignValue). s.books) c.set_peasants.ensures.what) (less_room c.args.cost holding_limit (amount_in c.args.campaign.now.value.books Recruiting Money) c.requires.little (c.requires.room Recruiting Money))
 
 pub returns-clause-marks : goal.returns-clause-marks
 returns-clause-marks c =

@@ -5,4 +5,4 @@ use Rattle.atl_market.specs.Idle.{own_unit, own_writers}
 use Rattle.atl_market.proofs.work.own_writers.Given as goal
 
 abbrev pub invariant-loop-order : goal.invariant-loop-order
-invariant-loop-order l = with_each l.writers (flat_map (own_unit l.campaign.what) (drop l.order-index l.orders)) ≡ own_writers l.campaign.what l.orders
+invariant-loop-order l = with_each l.writers (flat_map (own_unit l.campaign.value) (drop l.order-index l.orders)) ≡ own_writers l.campaign.value l.orders

@@ -12,7 +12,7 @@ pub book-requires-clause-fits : goal.book-requires-clause-fits
 book-requires-clause-fits c =
     let same : to_z w64 (of_z w64 c.from.result) ≡ c.from.result = search (rules, to_z-of_z) in
     rw (same, c.from.ensures, c.set_money.ensures.what)
-    (booking_fits (amount_in c.args.campaign.now.what.books Wages Money) (pos c.args.money) holding_limit (within-pos c.args.money holding_limit (omega (arith, c.requires.fits))) (c.requires.room Wages Money))
+    (booking_fits (amount_in c.args.campaign.now.value.books Wages Money) (pos c.args.money) holding_limit (within-pos c.args.money holding_limit (omega (arith, c.requires.fits))) (c.requires.room Wages Money))
 
 pub returns-clause-marks : goal.returns-clause-marks
 returns-clause-marks c =

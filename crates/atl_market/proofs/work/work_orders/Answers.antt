@@ -7,5 +7,5 @@ use Rattle.atl_market.proofs.work.work_orders.Goals as goal
 
 pub returns : goal.returns
 returns c =
-    let all : c.add_idle.new.list.items ≡ all_written c.args.campaign.now.what (map written (orders_by_unit is_month_long c.args.month.now)) = search rules in
-    work_sorted c.args.campaign.now.what c.args.month.now c.sort.new.list.items (subst (λ os. IsPermutation os c.sort.new.list.items) all c.sort.ensures.moved) c.sort.ensures.sorted
+    let all : c.add_idle.new.list.items ≡ all_written c.args.campaign.now.value (map written (orders_by_unit is_month_long c.args.month.now)) = search rules in
+    work_sorted c.args.campaign.now.value c.args.month.now c.sort.new.list.items (subst (λ os. IsPermutation os c.sort.new.list.items) all c.sort.ensures.moved) c.sort.ensures.sorted

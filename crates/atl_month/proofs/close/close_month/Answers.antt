@@ -2,7 +2,7 @@ use Rattle.std.proofs.Common.{rules, ◌≡◌, map, subst}
 use Rattle.std.proofs.lemmas.List.Elements.{recursion_from_All}
 use Rattle.atl_orders.specs.Mailing.{IsReadWith, reading_of}
 use Rattle.atl_instant.specs.Fit.{AreFit}
-use Rattle.atl_instant.specs.Course.{Course, by_faction}
+use Rattle.atl_instant.specs.Month.{MonthValue, by_faction}
 use Rattle.atl_month.specs.Month.{begun, month_keeps, phases_moving}
 use Rattle.atl_month.proofs.MonthLaws.{books_near, factions_stay, finished_good, month_is}
 use Rattle.atl_instant.proofs.FitLaws.{read_fit}
@@ -11,21 +11,21 @@ use Rattle.atl_month.proofs.UnmailedMonthLaws.{unmailed_left}
 use Rattle.atl_month.proofs.close.close_month.Goals as goal
 
 pub returns-clause-good : goal.returns-clause-good
-returns-clause-good c = finished_good c.args.world.now c.args.campaign.what c.in_ok-campaign.campaign.what phases_moving phases_little c.requires.month c.in_ok-campaign.ensures.leaves c.requires.good
+returns-clause-good c = finished_good c.args.world.now c.args.campaign.value c.in_ok-campaign.campaign.value phases_moving phases_little c.requires.month c.in_ok-campaign.ensures.leaves c.requires.good
 
 pub returns-clause-same : goal.returns-clause-same
 returns-clause-same c = c.in_ok-campaign.ensures.leaves.same_month
 
 pub returns-clause-factions : goal.returns-clause-factions
-returns-clause-factions c = factions_stay c.args.world.now c.args.campaign.what c.in_ok-campaign.campaign.what c.in_ok-campaign.ensures.leaves
+returns-clause-factions c = factions_stay c.args.world.now c.args.campaign.value c.in_ok-campaign.campaign.value c.in_ok-campaign.ensures.leaves
 
 pub returns-clause-books : goal.returns-clause-books
-returns-clause-books c = books_near c.args.world.now c.args.campaign.what c.in_ok-campaign.campaign.what c.in_ok-campaign.ensures.leaves
+returns-clause-books c = books_near c.args.world.now c.args.campaign.value c.in_ok-campaign.campaign.value c.in_ok-campaign.ensures.leaves
 
 pub returns-clause-keeps : goal.returns-clause-keeps
 returns-clause-keeps c =
     let is : c.new-month.result ≡ begun (by_faction (map reading_of c.args.mailings.items)) c.args.words.now = search rules in
-    subst (λ (m : Course). month_keeps c.args.world.now m c.args.campaign.what c.in_ok-campaign.campaign.what) is c.in_ok-campaign.ensures.keeps
+    subst (λ (m : MonthValue). month_keeps c.args.world.now m c.args.campaign.value c.in_ok-campaign.campaign.value) is c.in_ok-campaign.ensures.keeps
 
 pub run_phases-requires-clause-read : goal.run_phases-requires-clause-read
 run_phases-requires-clause-read c =
@@ -37,9 +37,9 @@ run_phases-requires-clause-read c =
 pub returns-clause-definition : goal.returns-clause-definition
 returns-clause-definition c =
     let is : c.new-month.result ≡ begun (by_faction (map reading_of c.args.mailings.items)) c.args.words.now = search rules in
-    month_is c.args.world.now c.args.campaign.what c.in_ok-campaign.campaign.what c.new-month.result c.in_ok-campaign.month (by_faction (map reading_of c.args.mailings.items)) c.args.words.now c.into_events.result.items
+    month_is c.args.world.now c.args.campaign.value c.in_ok-campaign.campaign.value c.new-month.result c.in_ok-campaign.month (by_faction (map reading_of c.args.mailings.items)) c.args.words.now c.into_events.result.items
     c.in_ok-campaign.ensures.meaning is c.into_events.ensures
 
 pub returns-clause-unmailed : goal.returns-clause-unmailed
 returns-clause-unmailed c =
-    unmailed_left c.args.world.now c.args.campaign.what c.in_ok-campaign.campaign.what c.args.mailings.items c.args.words.now c.into_events.result.items (returns-clause-definition c) (returns-clause-keeps c)
+    unmailed_left c.args.world.now c.args.campaign.value c.in_ok-campaign.campaign.value c.args.mailings.items c.args.words.now c.into_events.result.items (returns-clause-definition c) (returns-clause-keeps c)

@@ -2,7 +2,7 @@ use Rattle.atl_month.proofs.MonthLaws.{phases_room, sound_early}
 use Rattle.atl_month.proofs.close.run_phases.Goals as goal
 
 pub run-requires-clause-needs : goal.run-requires-clause-needs
-run-requires-clause-needs c = (sound_early c.args.world.now c.args.campaign.what c.requires.sound, λ w d h. (h, λ w d h. (h, λ w d h. (h, λ w d h. h))))
+run-requires-clause-needs c = (sound_early c.args.world.now c.args.campaign.value c.requires.sound, λ w d h. (h, λ w d h. (h, λ w d h. (h, λ w d h. h))))
 
 pub run-requires-clause-room : goal.run-requires-clause-room
-run-requires-clause-room c = phases_room c.args.world.now c.args.campaign.what c.requires.sound
+run-requires-clause-room c = phases_room c.args.world.now c.args.campaign.value c.requires.sound

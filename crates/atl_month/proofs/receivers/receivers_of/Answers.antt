@@ -12,7 +12,7 @@ use Rattle.atl_month.proofs.receivers.receivers_of.Goals as goal
 
 pub loop-number-init : goal.loop-number-init
 loop-number-init c =
-    let what = c.args.campaign.now.what in
+    let what = c.args.campaign.now.value in
     let is : c.into_iter-number-iterator.result ≡ entries what.units = search rules in (
       tt,
       tt,
@@ -39,4 +39,4 @@ pub returns : goal.returns
 returns c =
     let (_, _, rest, low) = c.loop-number.invariant in
     let none : c.loop-number.number-iterator ≡ [] = search rules in
-    all_noted c.args.campaign.now.what c.loop-number.receivers (λ r f. ap (λ (l : List (ℕ × Unit)). or_if_zero (receiver_in c.loop-number.receivers r f) (first_or_zero (numbers_among (receives r f) l))) (sym none) ∙ rest r f)
+    all_noted c.args.campaign.now.value c.loop-number.receivers (λ r f. ap (λ (l : List (ℕ × Unit)). or_if_zero (receiver_in c.loop-number.receivers r f) (first_or_zero (numbers_among (receives r f) l))) (sym none) ∙ rest r f)

@@ -10,5 +10,5 @@ abbrev pub invariant-loop-number : goal.invariant-loop-number
 invariant-loop-number l =
     (goal.iterator-loop-number).can_next l.number-iterator ×
     (goal.iterator-loop-number).is_finite l.number-iterator ×
-    ((region faction : ℕ) → or_if_zero (receiver_in l.receivers region faction) (first_or_zero (numbers_among (receives region faction) l.number-iterator)) ≡ receiver l.campaign.what region faction) ×
+    ((region faction : ℕ) → or_if_zero (receiver_in l.receivers region faction) (first_or_zero (numbers_among (receives region faction) l.number-iterator)) ≡ receiver l.campaign.value region faction) ×
     EachOf (λ n u. 1 ≤ n) l.number-iterator

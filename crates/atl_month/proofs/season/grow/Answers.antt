@@ -14,7 +14,7 @@ use Rattle.atl_month.proofs.season.grow.Goals as goal
 pub book-requires-clause-fits : goal.book-requires-clause-fits
 book-requires-clause-fits c =
     let same : to_z w64 (of_z w64 c.from.result) ≡ c.from.result = search (rules, to_z-of_z) in
-    let before = c.args.campaign.now.what in
+    let before = c.args.campaign.now.value in
     rw (same, c.from.ensures, c.set_region_money.ensures.what, c.set_peasants.ensures.what)
     (booking_fits (amount_in before.books Births People) (pos c.args.born) most_amount (within-pos c.args.born most_amount (omega (arith, c.requires.peasants))) (c.requires.room Births People))
 
@@ -22,11 +22,11 @@ pub book-requires-2-clause-fits : goal.book-requires-2-clause-fits
 book-requires-2-clause-fits c =
     let one : to_z w64 (of_z w64 c.from.result) ≡ c.from.result = search (rules, to_z-of_z) in
     let same : to_z w64 (of_z w64 c.from-2.result) ≡ c.from-2.result = search (rules, to_z-of_z) in
-    let books = c.args.campaign.now.what.books in
+    let books = c.args.campaign.now.value.books in
     let (things, two, grid) = c.requires.grid in
     rw (same, c.from-2.ensures, c.book.ensures.what, one, c.from.ensures, c.set_region_money.ensures.what, c.set_peasants.ensures.what)
     (booking_fits _ (pos c.args.earned) most_amount (within-pos c.args.earned most_amount (omega (arith, c.requires.money)))
-    (booked-room things books Births People (pos c.args.born) most_amount grid (omega arith) (within-pos c.args.born most_amount (omega (arith, c.requires.peasants))) (moves_only most_amount Income Money) (births_first c.args.campaign.now.what c.requires.room) Income Money))
+    (booked-room things books Births People (pos c.args.born) most_amount grid (omega arith) (within-pos c.args.born most_amount (omega (arith, c.requires.peasants))) (moves_only most_amount Income Money) (births_first c.args.campaign.now.value c.requires.room) Income Money))
 
 pub returns-clause-marks : goal.returns-clause-marks
 returns-clause-marks c =

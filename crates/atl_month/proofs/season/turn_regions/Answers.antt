@@ -16,9 +16,9 @@ loop-number-init c =
     let few : length c.into_iter-number-iterator.result ≤ most_regions = omega (arith, ap length listed, len-entries c.args.world.now.regions, c.regions.ensures.world.few_regions) in (
       tt,
       tt,
-      ap (λ l. fold (season_at c.args.world.now) c.args.campaign.now.what (zip (map (λ e. e.0) l) c.args.words.now)) listed,
+      ap (λ l. fold (season_at c.args.world.now) c.args.campaign.now.value (zip (map (λ e. e.0) l) c.args.words.now)) listed,
       c.requires.steady,
-      room_less (moved_times (length c.into_iter-number-iterator.result) (grows_by most_amount)) (grows_by most_moved) c.args.campaign.now.what (grows_little (length c.into_iter-number-iterator.result) few) c.requires.room,
+      room_less (moved_times (length c.into_iter-number-iterator.result) (grows_by most_amount)) (grows_by most_moved) c.args.campaign.now.value (grows_little (length c.into_iter-number-iterator.result) few) c.requires.room,
       marks-refl c.args.campaign.now,
     )
 
@@ -26,8 +26,8 @@ pub loop-number-preserved : goal.loop-number-preserved
 loop-number-preserved c =
     let w = c.args.world.now in
     let world = c.regions.ensures.world in
-    let before = c.loop-number.campaign.what in
-    let after = c.turn_region.new.campaign.what in
+    let before = c.loop-number.campaign.value in
+    let after = c.turn_region.new.campaign.value in
     let regions = c.loop-number.number-iterator in
     let n = c.in-Some.number in
     let word = c.in-Some-get.word.now in
@@ -50,4 +50,4 @@ pub turn_region-requires-clause-room : goal.turn_region-requires-clause-room
 turn_region-requires-clause-room c =
     let (_, _, whole, steady, room, marks) = c.loop-number.invariant in
     let listed : c.loop-number.number-iterator ≡ (c.in-Some.number, c.in-Some.field-0-1.now) ∷ c.next.new.self = search rules in
-    room_now c.args.world.now c.regions.ensures.world c.loop-number.campaign.what c.loop-number.number-iterator c.next.new.self c.in-Some.number c.in-Some.field-0-1.now listed room
+    room_now c.args.world.now c.regions.ensures.world c.loop-number.campaign.value c.loop-number.number-iterator c.next.new.self c.in-Some.number c.in-Some.field-0-1.now listed room

@@ -11,7 +11,7 @@ abbrev pub invariant-loop-number : goal.invariant-loop-number
 invariant-loop-number l =
     (goal.iterator-loop-number).can_next l.number-iterator ×
     (goal.iterator-loop-number).is_finite l.number-iterator ×
-    (fold (season_at l.world) l.campaign.what (zip (map (λ e. e.0) l.number-iterator) (drop l.place l.words)) ≡ season l.world l.initial.campaign.what l.words) ×
-    IsSteady l.world l.campaign.what ×
-    HaveRoom (moved_times (length l.number-iterator) (grows_by most_amount)) l.campaign.what ×
+    (fold (season_at l.world) l.campaign.value (zip (map (λ e. e.0) l.number-iterator) (drop l.place l.words)) ≡ season l.world l.initial.campaign.value l.words) ×
+    IsSteady l.world l.campaign.value ×
+    HaveRoom (moved_times (length l.number-iterator) (grows_by most_amount)) l.campaign.value ×
     MarksChanges l.initial.campaign l.campaign

@@ -7,7 +7,7 @@ use Rattle.atl_month.proofs.SweepRunLaws.{item_passes, rest_room}
 use Rattle.atl_month.proofs.sweep.pass_items.Goals as goal
 
 pub pass_item-requires-clause-room : goal.pass_item-requires-clause-room
-pass_item-requires-clause-room c = next_room c.args.items.now c.loop-item.item-index c.loop-item.campaign.what c.loop-item-test.true c.loop-item.invariant.room
+pass_item-requires-clause-room c = next_room c.args.items.now c.loop-item.item-index c.loop-item.campaign.value c.loop-item-test.true c.loop-item.invariant.room
 
 pub loop-item-preserved : goal.loop-item-preserved
 loop-item-preserved c =
@@ -16,10 +16,10 @@ loop-item-preserved c =
     let to = c.args.to in
     let i = c.loop-item.item-index in
     let x : ℕ × ℕ = get_or list i (0, 0) in
-    let before = c.loop-item.campaign.what in
+    let before = c.loop-item.campaign.value in
     let old = c.loop-item.invariant in
     let known = known_ahead w list i c.loop-item-test.true old.known in
-    let is : c.pass_item.new.campaign.what ≡ passed_item to before x = c.in_ok-pass_item.ensures.what in
+    let is : c.pass_item.new.campaign.value ≡ passed_item to before x = c.in_ok-pass_item.ensures.what in
     record {
       rest = fold_behind (passed_item to) list i (0, 0) before c.loop-item-test.true is old.rest;
       steady = rw is (item_passes w before old.steady to x.0 x.1 known.0).steady;

@@ -10,9 +10,9 @@ use Rattle.atl_month.proofs.sweep.pass_items.Given as goal
 
 abbrev pub invariant-loop-item : goal.invariant-loop-item
 invariant-loop-item l = record {
-  rest : fold (passed_item l.to) l.campaign.what (drop l.item-index l.items) ≡ fold (passed_item l.to) l.initial.campaign.what l.items;
-  steady : IsSteady l.world l.campaign.what;
+  rest : fold (passed_item l.to) l.campaign.value (drop l.item-index l.items) ≡ fold (passed_item l.to) l.initial.campaign.value l.items;
+  steady : IsSteady l.world l.campaign.value;
   known : EachOf (λ i amount. i < length l.world.items) (drop l.item-index l.items);
-  room : HaveRoom (moving_items (drop l.item-index l.items)) l.campaign.what;
+  room : HaveRoom (moving_items (drop l.item-index l.items)) l.campaign.value;
   marks : MarksChanges l.initial.campaign l.campaign;
 }

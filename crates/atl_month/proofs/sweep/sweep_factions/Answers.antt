@@ -5,6 +5,6 @@ use Rattle.atl_month.proofs.sweep.sweep_factions.Goals as goal
 
 pub loop-number-preserved : goal.loop-number-preserved
 loop-number-preserved c = record {
-  rest = fold_behind faction_swept c.args.numbers.now c.loop-number.number-index 0 c.loop-number.campaign.what c.loop-number-test.true c.sweep_faction.ensures.what c.loop-number.invariant.rest;
+  rest = fold_behind faction_swept c.args.numbers.now c.loop-number.number-index 0 c.loop-number.campaign.value c.loop-number-test.true c.sweep_faction.ensures.what c.loop-number.invariant.rest;
   marks = marks-trans c.args.campaign.now c.loop-number.campaign c.sweep_faction.new.campaign c.loop-number.invariant.marks c.sweep_faction.ensures.marks;
 }

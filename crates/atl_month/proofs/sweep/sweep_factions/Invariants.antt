@@ -6,6 +6,6 @@ use Rattle.atl_month.proofs.sweep.sweep_factions.Given as goal
 
 abbrev pub invariant-loop-number : goal.invariant-loop-number
 invariant-loop-number l = record {
-  rest : fold faction_swept l.campaign.what (drop l.number-index l.numbers) ≡ fold faction_swept l.initial.campaign.what l.numbers;
+  rest : fold faction_swept l.campaign.value (drop l.number-index l.numbers) ≡ fold faction_swept l.initial.campaign.value l.numbers;
   marks : MarksChanges l.initial.campaign l.campaign;
 }

@@ -13,13 +13,13 @@ use Rattle.atl_month.proofs.sweep.sweep_unit.Goals as goal
 
 pub pass_money-requires-clause-room : goal.pass_money-requires-clause-room
 pass_money-requires-clause-room c =
-    less_room c.money-money.result most_amount (amount_in c.args.campaign.now.what.books Lost Money)
+    less_room c.money-money.result most_amount (amount_in c.args.campaign.now.value.books Lost Money)
     (omega (arith, c.money-money.ensures.value, c.money-money.ensures.fits)) (c.requires.room Lost Money)
 
 pub pass_items-requires : goal.pass_items-requires
 pass_items-requires c =
     let w = c.args.world.now in
-    let before = c.args.campaign.now.what in
+    let before = c.args.campaign.now.value in
     let to = c.receiver_in-to.result in
     let u = c.in-Some.unit.now in
     let there = sym c.in-Some.ensures in

@@ -17,8 +17,8 @@ sweep_unit-requires-clause-room c =
     let i = c.loop-number.number-index in
     let n : ℕ = get_or list i 0 in
     let behind : drop i list ≡ n ∷ drop (i + 1) list = drop_more list i _ c.loop-number-test.true in
-    room_for_one (loses_by most_amount) w swept_at (λ d m. swept_at_leaves_well w d m) c.loop-number.campaign.what n (drop (i + 1) list)
-    (subst (λ (l : List ℕ). HaveRoom (moved_times (length l) (loses_by most_amount)) c.loop-number.campaign.what) behind c.loop-number.invariant.room)
+    room_for_one (loses_by most_amount) w swept_at (λ d m. swept_at_leaves_well w d m) c.loop-number.campaign.value n (drop (i + 1) list)
+    (subst (λ (l : List ℕ). HaveRoom (moved_times (length l) (loses_by most_amount)) c.loop-number.campaign.value) behind c.loop-number.invariant.room)
 
 pub loop-number-preserved : goal.loop-number-preserved
 loop-number-preserved c =
@@ -26,10 +26,10 @@ loop-number-preserved c =
     let list = c.args.numbers.now in
     let i = c.loop-number.number-index in
     let n : ℕ = get_or list i 0 in
-    let before = c.loop-number.campaign.what in
+    let before = c.loop-number.campaign.value in
     let old = c.loop-number.invariant in
     let behind : drop i list ≡ n ∷ drop (i + 1) list = drop_more list i _ c.loop-number-test.true in
-    let is : c.sweep_unit.new.campaign.what ≡ swept_at before n = c.in_ok-sweep_unit.ensures.what in
+    let is : c.sweep_unit.new.campaign.value ≡ swept_at before n = c.in_ok-sweep_unit.ensures.what in
     record {
       rest = fold_behind swept_at list i 0 before c.loop-number-test.true is old.rest;
       steady = rw is (swept_at_leaves_well w before n old.steady).leaves_it;

@@ -10,9 +10,9 @@ use Rattle.atl_month.proofs.sweep.sweep_units.Given as goal
 
 abbrev pub invariant-loop-number : goal.invariant-loop-number
 invariant-loop-number l = record {
-  rest : fold swept_at l.campaign.what (drop l.number-index l.numbers) ≡ fold swept_at l.initial.campaign.what l.numbers;
-  steady : IsSteady l.world l.campaign.what;
-  receivers : AreReceivers l.campaign.what l.receivers;
-  room : HaveRoom (moved_times (length (drop l.number-index l.numbers)) (loses_by most_amount)) l.campaign.what;
+  rest : fold swept_at l.campaign.value (drop l.number-index l.numbers) ≡ fold swept_at l.initial.campaign.value l.numbers;
+  steady : IsSteady l.world l.campaign.value;
+  receivers : AreReceivers l.campaign.value l.receivers;
+  room : HaveRoom (moved_times (length (drop l.number-index l.numbers)) (loses_by most_amount)) l.campaign.value;
   marks : MarksChanges l.initial.campaign l.campaign;
 }

@@ -8,5 +8,5 @@ abbrev pub invariant-loop-number : goal.invariant-loop-number
 invariant-loop-number l =
     (goal.iterator-loop-number).can_next l.number-iterator ×
     (goal.iterator-loop-number).is_finite l.number-iterator ×
-    (l.purses.items ++ map purse_of l.number-iterator ≡ purses_of l.campaign.what) ×
+    (l.purses.items ++ map purse_of l.number-iterator ≡ purses_of l.campaign.value) ×
     All IsPurse l.purses.items

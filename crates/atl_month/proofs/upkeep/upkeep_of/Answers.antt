@@ -6,7 +6,7 @@ use Rattle.atl_state.specs.Books.{amount_in, with_booked}
 use Rattle.atl_state.specs.Founding.{things_of}
 use Rattle.atl_state.specs.declared.books.Entry.TheVariants.{Starved, Upkeep}
 use Rattle.atl_state.specs.declared.books.Thing.TheVariants.{Money, People}
-use Rattle.atl_state.specs.State.{State}
+use Rattle.atl_state.specs.Campaign.{CampaignValue}
 use Rattle.atl_state.proofs.BookLaws.{IsGrid-with_booked}
 use Rattle.atl_instant.specs.Meaning.{moves_only}
 use Rattle.atl_instant.proofs.BookingLaws.{booked-room, within-neg}
@@ -18,26 +18,26 @@ pub book_taken-requires : goal.book_taken-requires
 book_taken-requires c =
     let (w, can) = c.requires in
     let s = c.args.settled.now in
-    let before = c.args.campaign.now.what in
+    let before = c.args.campaign.now.value in
     let u = can.unit in
     let what = c.in_ok-supply_unit.ensures.what u can.there in
     let few = few_paid w before s u can.there can.spare can.steady in
     record {
-      there = rw (ap (λ (s : State). s.books) what) (omega (arith, can.steady.numbers.books.rows));
-      room = rw (ap (λ (s : State). s.books) what) (less_room s.paid most_amount (amount_in before.books Upkeep Money) few (can.room Upkeep Money));
+      there = rw (ap (λ (s : CampaignValue). s.books) what) (omega (arith, can.steady.numbers.books.rows));
+      room = rw (ap (λ (s : CampaignValue). s.books) what) (less_room s.paid most_amount (amount_in before.books Upkeep Money) few (can.room Upkeep Money));
     }
 
 pub book_taken-requires-2 : goal.book_taken-requires-2
 book_taken-requires-2 c =
     let (w, can) = c.requires in
     let s = c.args.settled.now in
-    let before = c.args.campaign.now.what in
+    let before = c.args.campaign.now.value in
     let paid = few_paid w before s can.unit can.there can.spare can.steady in
     let starved = few_starved w before s can.unit can.there can.spare can.steady in
     let behind = with_booked before.books Upkeep Money (neg_ℤ (pos s.paid)) in
     let grid = IsGrid-with_booked (things_of w) before.books Upkeep Money (neg_ℤ (pos s.paid)) can.steady.numbers.books in
-    let booked = ap (λ (s : State). s.books) c.book_taken.ensures.what in
-    let fed = ap (λ (s : State). s.books) (c.in_ok-supply_unit.ensures.what can.unit can.there) in
+    let booked = ap (λ (s : CampaignValue). s.books) c.book_taken.ensures.what in
+    let fed = ap (λ (s : CampaignValue). s.books) (c.in_ok-supply_unit.ensures.what can.unit can.there) in
     record {
       there = rw (booked, fed) (omega (arith, grid.rows));
       room =
@@ -54,11 +54,11 @@ returns c =
     let before = c.args.campaign.now in
     let what = c.in_ok-supply_unit.ensures.what can.unit can.there in
     record {
-      what = rw (c.book_taken-2.ensures.what, c.book_taken.ensures.what, what) (sym (upkeep_at_is before.what s can.unit can.there));
+      what = rw (c.book_taken-2.ensures.what, c.book_taken.ensures.what, what) (sym (upkeep_at_is before.value s can.unit can.there));
       marks =
           upkeep_marks (things_of w) before c.supply_unit.new.campaign c.book_taken.new.campaign c.book_taken-2.new.campaign s
           (neg_ℤ (pos s.paid)) (neg_ℤ (pos s.starved))
           c.in_ok-supply_unit.ensures.marks c.book_taken.ensures.what c.book_taken.ensures.marks c.book_taken-2.ensures.what c.book_taken-2.ensures.marks
-          (rw (ap (λ (d : State). d.books) what) can.steady.numbers.books) (omega arith);
+          (rw (ap (λ (d : CampaignValue). d.books) what) can.steady.numbers.books) (omega arith);
       goods = first_of (search rules, grind (arith, common_steps));
     }

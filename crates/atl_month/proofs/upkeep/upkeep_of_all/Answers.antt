@@ -2,7 +2,7 @@ use Rattle.std.proofs.Common.{rules, ◌≡◌, ◌∷◌, ◌+◌, drop, get_or
 use Rattle.std.specs.Prelude.{fold}
 use Rattle.std.proofs.lemmas.List.{drop_more}
 use Rattle.atl_state.proofs.CoverLaws.{marks-trans}
-use Rattle.atl_state.specs.State.{State}
+use Rattle.atl_state.specs.Campaign.{CampaignValue}
 use Rattle.atl_market.specs.PotPhase.{CanInTurn}
 use Rattle.atl_month.specs.declared.settling.Settled.{Settled}
 use Rattle.atl_month.specs.Sparing.{CanSettle}
@@ -16,22 +16,22 @@ upkeep_of-requires c =
     let s : Settled = get_or list i (record { unit = 0; faction = 0; paid = 0; starved = 0 }) in
     let behind : drop i list ≡ s ∷ drop (i + 1) list = drop_more list i _ c.loop-settled-test.true in
     let (w, can) = c.loop-settled.invariant.can in
-    (w, (subst (CanInTurn (CanSettle w) upkeep_at c.loop-settled.campaign.what) behind can).0)
+    (w, (subst (CanInTurn (CanSettle w) upkeep_at c.loop-settled.campaign.value) behind can).0)
 
 pub loop-settled-preserved : goal.loop-settled-preserved
 loop-settled-preserved c =
     let list = c.args.list.now in
     let i = c.loop-settled.settled-index in
     let s : Settled = get_or list i (record { unit = 0; faction = 0; paid = 0; starved = 0 }) in
-    let before = c.loop-settled.campaign.what in
-    let after = c.upkeep_of.new.campaign.what in
+    let before = c.loop-settled.campaign.value in
+    let after = c.upkeep_of.new.campaign.value in
     let old = c.loop-settled.invariant in
     let behind : drop i list ≡ s ∷ drop (i + 1) list = drop_more list i _ c.loop-settled-test.true in
     let is : after ≡ upkeep_at before s = search rules in
     let marked = c.in_ok-upkeep_of.ensures.marks in
     let (w, can) = old.can in
     record {
-      rest = ap (λ (d : State). fold upkeep_at d (drop (i + 1) list)) is ∙ sym (ap (fold upkeep_at before) behind) ∙ old.rest;
+      rest = ap (λ (d : CampaignValue). fold upkeep_at d (drop (i + 1) list)) is ∙ sym (ap (fold upkeep_at before) behind) ∙ old.rest;
       can = (w, rw is (subst (CanInTurn (CanSettle w) upkeep_at before) behind can).1);
       marks = marks-trans c.args.campaign.now c.loop-settled.campaign c.upkeep_of.new.campaign old.marks marked;
     }

@@ -1,6 +1,6 @@
 use Rattle.std.proofs.Common.{◌≡◌, drop}
 use Rattle.std.specs.Prelude.{fold}
-use Rattle.atl_tables.specs.Planet.{Planet}
+use Rattle.atl_tables.specs.Worlds.{WorldValue}
 use Rattle.atl_state.specs.Covers.{MarksChanges}
 use Rattle.atl_market.specs.PotPhase.{CanInTurn}
 use Rattle.atl_month.specs.Sparing.{CanSettle}
@@ -9,7 +9,7 @@ use Rattle.atl_month.proofs.upkeep.upkeep_of_all.Given as goal
 
 abbrev pub invariant-loop-settled : goal.invariant-loop-settled
 invariant-loop-settled l = record {
-  rest : fold upkeep_at l.campaign.what (drop l.settled-index l.list) ≡ upkeep l.initial.campaign.what l.list;
-  can : (w : Planet) × CanInTurn (CanSettle w) upkeep_at l.campaign.what (drop l.settled-index l.list);
+  rest : fold upkeep_at l.campaign.value (drop l.settled-index l.list) ≡ upkeep l.initial.campaign.value l.list;
+  can : (w : WorldValue) × CanInTurn (CanSettle w) upkeep_at l.campaign.value (drop l.settled-index l.list);
   marks : MarksChanges l.initial.campaign l.campaign;
 }

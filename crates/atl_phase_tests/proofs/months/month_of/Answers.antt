@@ -1,7 +1,7 @@
 use Rattle.std.proofs.Common.{subst, sym}
 use Rattle.std.proofs.lemmas.List.Elements.{recursion_from_All}
 use Rattle.atl_orders.specs.Mailing.{IsReadWith}
-use Rattle.atl_instant.specs.Course.{Course}
+use Rattle.atl_instant.specs.Month.{MonthValue}
 use Rattle.atl_instant.specs.Fit.{AreFit}
 use Rattle.atl_instant.proofs.FitLaws.{read_fit}
 use Rattle.atl_phase_tests.proofs.months.month_of.Goals as goal
@@ -10,4 +10,4 @@ pub returns : goal.returns
 returns c =
     let w = c.args.world.now in
     let ms = c.args.mailings.items in
-    subst (λ (m : Course). AreFit w m.readings) (sym c.new.ensures) (read_fit w ms (recursion_from_All (IsReadWith w) ms c.requires.read))
+    subst (λ (m : MonthValue). AreFit w m.readings) (sym c.new.ensures) (read_fit w ms (recursion_from_All (IsReadWith w) ms c.requires.read))

@@ -5,4 +5,4 @@ pub run-requires-clause-needs : goal.run-requires-clause-needs
 run-requires-clause-needs c = c.requires.early.steady
 
 pub run-requires-clause-room : goal.run-requires-clause-room
-run-requires-clause-room c = room_for_work c.args.campaign.what c.requires.room
+run-requires-clause-room c = room_for_work c.args.campaign.value c.requires.room

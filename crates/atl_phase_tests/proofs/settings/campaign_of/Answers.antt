@@ -3,7 +3,7 @@ use Rattle.atl_phase_tests.proofs.RunLaws.{roomy_when_good}
 use Rattle.atl_phase_tests.proofs.settings.campaign_of.Goals as goal
 
 pub lose_men-requires : goal.lose_men-requires
-lose_men-requires c = record { early = IsEarly-good c.args.world.now c.in_ok-campaign.campaign.what c.in_ok-campaign.ensures }
+lose_men-requires c = record { early = IsEarly-good c.args.world.now c.in_ok-campaign.campaign.value c.in_ok-campaign.ensures }
 
 pub returns-clause-room : goal.returns-clause-room
-returns-clause-room c = roomy_when_good c.args.world.now c.in_ok-campaign.campaign.what c.lose_men.new.campaign.what c.in_ok-campaign.ensures c.lose_men.ensures.books
+returns-clause-room c = roomy_when_good c.args.world.now c.in_ok-campaign.campaign.value c.lose_men.new.campaign.value c.in_ok-campaign.ensures c.lose_men.ensures.books

@@ -4,6 +4,6 @@ use Rattle.atl_phase_tests.proofs.settings.lose_men.Given as goal
 
 abbrev pub invariant-loop-number : goal.invariant-loop-number
 invariant-loop-number l = record {
-  early : IsEarly l.world l.campaign.what;
-  books : l.campaign.what.books ≡ l.fn.campaign.what.books;
+  early : IsEarly l.world l.campaign.value;
+  books : l.campaign.value.books ≡ l.fn.campaign.value.books;
 }

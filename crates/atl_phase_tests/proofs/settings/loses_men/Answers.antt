@@ -1,12 +1,12 @@
 use Rattle.std.proofs.Common.{◌≡◌, ◌≤◌, ◌<◌, ◌*◌, ◌&&◌, ℕ, Bool, true, false, Option, Some, None, option_map, length, refl, sym, ap, subst, ◌∙◌, arith, rules}
 use Rattle.std.specs.FinMap.{empty, get}
 use Rattle.std.proofs.lemmas.Bool.{false≢true}
-use Rattle.atl_tables.specs.Planet.{Planet}
+use Rattle.atl_tables.specs.Worlds.{WorldValue}
 use Rattle.atl_state.specs.Good.{IsEarly, IsSteady}
 use Rattle.atl_state.specs.Held.{Held}
 use Rattle.atl_state.specs.Lending.{with_held, with_holding}
 use Rattle.atl_state.specs.Limits.{most_days}
-use Rattle.atl_state.specs.State.{State}
+use Rattle.atl_state.specs.Campaign.{CampaignValue}
 use Rattle.atl_state.specs.declared.records.Unit.{Unit}
 use Rattle.atl_state.proofs.EveryLaws.{every-empty}
 use Rattle.atl_state.proofs.HoldingLaws.{MayHold, of_one_faction_kept, steady-held}
@@ -19,7 +19,7 @@ never : (b : Bool) {P : Type 0} → (b && false) ≡ true → P
 never true h = absurd (false≢true h)
 never false h = absurd (false≢true h)
 
-may_lose_men : (w : Planet) (c : State) (n : ℕ) (u : Unit) → get c.units n ≡ Some u → IsSteady w c → MayHold w u (without_men u.holding)
+may_lose_men : (w : WorldValue) (c : CampaignValue) (n : ℕ) (u : Unit) → get c.units n ≡ Some u → IsSteady w c → MayHold w u (without_men u.holding)
 may_lose_men w c n u is steady =
     let place = steady.known.units n u is in
     let holding = (steady.numbers.units n u is).1 in
@@ -32,7 +32,7 @@ may_lose_men w c n u is steady =
       guard = never u.holding.guard;
     }
 
-men_lost : (w : Planet) (c : State) (n : ℕ) (before after : Held) → Some before ≡ option_map (λ (u : Unit). u.holding) (get c.units n) → after ≡ without_men before → IsEarly w c → IsEarly w (with_holding c n after)
+men_lost : (w : WorldValue) (c : CampaignValue) (n : ℕ) (before after : Held) → Some before ≡ option_map (λ (u : Unit). u.holding) (get c.units n) → after ≡ without_men before → IsEarly w c → IsEarly w (with_holding c n after)
 men_lost w c n before after was is early = by_unit (get c.units n) refl was
   where
     by_unit : (o : Option Unit) → get c.units n ≡ o → Some before ≡ option_map (λ (u : Unit). u.holding) o → IsEarly w (with_held c n after o)
@@ -48,4 +48,4 @@ men_lost w c n before after was is early = by_unit (get c.units n) refl was
 pub returns-in-Some-clause-early : goal.returns-in-Some-clause-early
 returns-in-Some-clause-early c =
     let after : c.set_all_days.new.self ≡ without_men c.in-Some.holding.now = search rules in
-    men_lost c.args.world.now c.args.campaign.now.what c.args.number c.in-Some.holding.now c.set_all_days.new.self c.in-Some.ensures.value after c.requires.early
+    men_lost c.args.world.now c.args.campaign.now.value c.args.number c.in-Some.holding.now c.set_all_days.new.self c.in-Some.ensures.value after c.requires.early

@@ -3,4 +3,4 @@ use Rattle.atl_report.specs.Books.{item_parts}
 use Rattle.atl_report.proofs.books.write_items.Given as goal
 
 abbrev pub invariant-loop-item : goal.invariant-loop-item
-invariant-loop-item l = string_bytes l.out ≡ string_bytes l.fn.out ++ item_parts l.world l.campaign.what l.item
+invariant-loop-item l = string_bytes l.out ≡ string_bytes l.fn.out ++ item_parts l.world l.campaign.value l.item

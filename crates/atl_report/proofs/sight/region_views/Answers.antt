@@ -10,7 +10,7 @@ use Rattle.atl_report.proofs.sight.region_views.Goals as goal
 pub loop-number-init : goal.loop-number-init
 loop-number-init c =
     let w = c.args.world.now in
-    let campaign = c.args.campaign.now.what in
+    let campaign = c.args.campaign.now.value in
     let faction = c.args.faction in
     let listed : c.into_iter-number-iterator.result ≡ map (λ e. (e.0, tt)) (filter (λ e. sees_region campaign faction e.0) (entries campaign.regions)) = search (rules, c.in_ok-seen.ensures) in
     let none : c.new-regions.result ≡ [] = search rules in

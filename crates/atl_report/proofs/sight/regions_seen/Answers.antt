@@ -7,6 +7,6 @@ use Rattle.atl_report.proofs.sight.regions_seen.Goals as goal
 
 pub returns : goal.returns
 returns c =
-    let campaign = c.args.campaign.now.what in
+    let campaign = c.args.campaign.now.value in
     let none : drop c.loop-number.number-index c.of_faction-number-items.result.now ≡ [] = drop_all c.loop-number.number-index c.of_faction-number-items.result.now c.loop-number-test.false in
     ap entries (ap (λ ns. gathered campaign c.args.faction ns c.loop-number.seen) (sym none) ∙ c.loop-number.invariant) ∙ entries-gathered campaign c.args.faction

@@ -5,4 +5,4 @@ use Rattle.atl_report.specs.Sight.{seen_unit, unit_views}
 use Rattle.atl_report.proofs.sight.unit_views.Given as goal
 
 abbrev pub invariant-loop-number : goal.invariant-loop-number
-invariant-loop-number l = l.units ++ filter_map (λ n. seen_unit l.world l.campaign.what l.watch n (get l.campaign.what.units n)) (drop l.number-index l.number-items) ≡ unit_views l.world l.campaign.what l.watch
+invariant-loop-number l = l.units ++ filter_map (λ n. seen_unit l.world l.campaign.value l.watch n (get l.campaign.value.units n)) (drop l.number-index l.number-items) ≡ unit_views l.world l.campaign.value l.watch

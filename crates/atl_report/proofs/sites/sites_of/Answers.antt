@@ -9,7 +9,7 @@ use Rattle.atl_report.proofs.sites.sites_of.Goals as goal
 
 pub loop-number-init : goal.loop-number-init
 loop-number-init c =
-    let what = c.args.campaign.now.what in
+    let what = c.args.campaign.now.value in
     let is : c.into_iter-number-iterator.result ≡ entries what.structures = search rules in (
       tt,
       tt,

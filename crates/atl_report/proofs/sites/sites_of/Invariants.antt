@@ -8,4 +8,4 @@ abbrev pub invariant-loop-number : goal.invariant-loop-number
 invariant-loop-number l =
     (goal.iterator-loop-number).can_next l.number-iterator ×
     (goal.iterator-loop-number).is_finite l.number-iterator ×
-    ((region : ℕ) → list_of l.sites region ++ numbers_among (λ s. s.region == region) l.number-iterator ≡ structures_in region l.campaign.what.structures)
+    ((region : ℕ) → list_of l.sites region ++ numbers_among (λ s. s.region == region) l.number-iterator ≡ structures_in region l.campaign.value.structures)

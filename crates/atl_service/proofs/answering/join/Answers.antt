@@ -1,6 +1,6 @@
 use Rattle.std.proofs.Common.{◌≡◌, ap, sym, ◌∙◌, subst}
 use Rattle.sqlite.specs.Held.{state}
-use Rattle.atl_state.specs.State.{State as Campaign, Marked}
+use Rattle.atl_state.specs.Campaign.{CampaignValue, MarkedCampaign}
 use Rattle.atl_store.specs.Causes.{IsTold}
 use Rattle.atl_store.specs.Faults.{write_fault}
 use Rattle.atl_store.specs.Keeps.{Stops}
@@ -20,72 +20,72 @@ use Rattle.atl_service.proofs.answering.join.Goals as goal
 pub returns-then-not-name_ok-clause-ok : goal.returns-then-not-name_ok-clause-ok
 returns-then-not-name_ok-clause-ok g c =
     let w = c.args.world.now in
-    let old = c.args.campaign.now.what in
+    let old = c.args.campaign.now.value in
     is_refused g.S.Store w old c.args.conn.now (Join c.args.name.now c.args.pass.now c.args.word) why.BadName (bad_name w old c.args.name.now c.args.pass.now c.args.word (cc)) c.requires.good
 
 pub returns-then-not-pass_ok-clause-ok : goal.returns-then-not-pass_ok-clause-ok
 returns-then-not-pass_ok-clause-ok g c =
     let w = c.args.world.now in
-    let old = c.args.campaign.now.what in
+    let old = c.args.campaign.now.value in
     is_refused g.S.Store w old c.args.conn.now (Join c.args.name.now c.args.pass.now c.args.word) why.BadPassText (bad_pass w old c.args.name.now c.args.pass.now c.args.word (cc) (cc)) c.requires.good
 
 pub returns-in-Err-NameTaken-clause-ok : goal.returns-in-Err-NameTaken-clause-ok
 returns-in-Err-NameTaken-clause-ok g c =
     let w = c.args.world.now in
-    let old = c.args.campaign.now.what in
+    let old = c.args.campaign.now.value in
     let refused = rw (c.as_slice-3.ensures, c.as_slice-4.ensures) at (rw c.in-Err-NameTaken.field-0-is at c.in-Err-NameTaken.ensures.definition) in
     rw refused.1 (is_refused g.S.Store w old c.args.conn.now (Join c.args.name.now c.args.pass.now c.args.word) why.NameTaken (is_taken w old c.args.name.now c.args.pass.now c.args.word (cc) (cc) refused.0) c.requires.good)
 
 pub returns-in-Err-Full-clause-ok : goal.returns-in-Err-Full-clause-ok
 returns-in-Err-Full-clause-ok g c =
     let w = c.args.world.now in
-    let old = c.args.campaign.now.what in
+    let old = c.args.campaign.now.value in
     let refused = rw (c.as_slice-3.ensures, c.as_slice-4.ensures) at (rw c.in-Err-Full.field-0-is at c.in-Err-Full.ensures.definition) in
     rw refused.1 (is_refused g.S.Store w old c.args.conn.now (Join c.args.name.now c.args.pass.now c.args.word) why.Full (is_too_full w old c.args.name.now c.args.pass.now c.args.word (cc) (cc) refused.0) c.requires.good)
 
 pub returns-clause-ok : goal.returns-clause-ok
 returns-clause-ok g c =
     let w = c.args.world.now in
-    let old = c.args.campaign.now.what in
+    let old = c.args.campaign.now.value in
     let is = rw (c.as_slice-3.ensures, c.as_slice-4.ensures) at c.in-Ok.ensures.definition in
-    let is_joining = joining_is w c.args.name.now c.args.pass.now c.args.word old c.join.new.self.what c.in-Ok.numbers.0 c.in-Ok.numbers.1 c.requires.good is in
-    let done : c.store_report.new.campaign.what ≡ reported w c.join.new.self.what c.in-Ok.numbers.0 = c.in_ok-store_report.ensures.ok in
-    let same : c.unmark.new.self.what ≡ c.store_report.new.campaign.what = ap (λ (m : Marked). m.what) c.unmark.ensures in
+    let is_joining = joining_is w c.args.name.now c.args.pass.now c.args.word old c.join.new.self.value c.in-Ok.numbers.0 c.in-Ok.numbers.1 c.requires.good is in
+    let done : c.store_report.new.campaign.value ≡ reported w c.join.new.self.value c.in-Ok.numbers.0 = c.in_ok-store_report.ensures.ok in
+    let same : c.unmark.new.self.value ≡ c.store_report.new.campaign.value = ap (λ (m : MarkedCampaign). m.value) c.unmark.ensures in
     record {
-      step_is = rw (same, done) (steps_on w old c.args.name.now c.args.pass.now c.args.word c.join.new.self.what c.in-Ok.numbers.0 c.in-Ok.numbers.1 (cc) (cc) is);
+      step_is = rw (same, done) (steps_on w old c.args.name.now c.args.pass.now c.args.word c.join.new.self.value c.in-Ok.numbers.0 c.in-Ok.numbers.1 (cc) (cc) is);
       sound = tt;
       same = tt;
-      good = rw (same, done) (IsGood-joined w c.args.name.now c.args.pass.now c.args.word old c.join.new.self.what c.in-Ok.numbers.0 c.in-Ok.numbers.1 _ is c.requires.good c.join.ensures.sound);
+      good = rw (same, done) (IsGood-joined w c.args.name.now c.args.pass.now c.args.word old c.join.new.self.value c.in-Ok.numbers.0 c.in-Ok.numbers.1 _ is c.requires.good c.join.ensures.sound);
       tables = λ clean text keeps. rw same (c.in_ok-write_join.ensures.ok clean text old keeps (rw done is_joining));
     }
 
 pub returns-in_err-write_join-clause-err : goal.returns-in_err-write_join-clause-err
-returns-in_err-write_join-clause-err g c = on_err _ (GivesUp g.S.Store c.args.world.now c.args.campaign.now.what c.args.conn.now (Join c.args.name.now c.args.pass.now c.args.word) c.write_join.new.conn) (λ clean text keeps.
+returns-in_err-write_join-clause-err g c = on_err _ (GivesUp g.S.Store c.args.world.now c.args.campaign.now.value c.args.conn.now (Join c.args.name.now c.args.pass.now c.args.word) c.write_join.new.conn) (λ clean text keeps.
     let w = c.args.world.now in
-    let old = c.args.campaign.now.what in
+    let old = c.args.campaign.now.value in
     let is = rw (c.as_slice-3.ensures, c.as_slice-4.ensures) at c.in-Ok.ensures.definition in
-    let done : c.store_report.new.campaign.what ≡ reported w c.join.new.self.what c.in-Ok.numbers.0 = c.in_ok-store_report.ensures.ok in
-    let steps = steps_on w old c.args.name.now c.args.pass.now c.args.word c.join.new.self.what c.in-Ok.numbers.0 c.in-Ok.numbers.1 (cc) (cc) is in
-    let stops = c.in_err-write_join.ensures.err clean text old keeps (rw done (joining_is w c.args.name.now c.args.pass.now c.args.word old c.join.new.self.what c.in-Ok.numbers.0 c.in-Ok.numbers.1 c.requires.good is)) in
-    subst (λ (after : Campaign). Stops (state g.S.Store c.args.conn.now).faults (state g.S.Store c.write_join.new.conn) text old after) (done ∙ sym (ap (λ p. p.0) steps)) stops)
+    let done : c.store_report.new.campaign.value ≡ reported w c.join.new.self.value c.in-Ok.numbers.0 = c.in_ok-store_report.ensures.ok in
+    let steps = steps_on w old c.args.name.now c.args.pass.now c.args.word c.join.new.self.value c.in-Ok.numbers.0 c.in-Ok.numbers.1 (cc) (cc) is in
+    let stops = c.in_err-write_join.ensures.err clean text old keeps (rw done (joining_is w c.args.name.now c.args.pass.now c.args.word old c.join.new.self.value c.in-Ok.numbers.0 c.in-Ok.numbers.1 c.requires.good is)) in
+    subst (λ (after : CampaignValue). Stops (state g.S.Store c.args.conn.now).faults (state g.S.Store c.write_join.new.conn) text old after) (done ∙ sym (ap (λ p. p.0) steps)) stops)
 
 pub write_join-requires-clause-arrived : goal.write_join-requires-clause-arrived
 write_join-requires-clause-arrived g c =
     let w = c.args.world.now in
-    let old = c.args.campaign.now.what in
+    let old = c.args.campaign.now.value in
     let is = rw (c.as_slice-3.ensures, c.as_slice-4.ensures) at c.in-Ok.ensures.definition in
-    let done : c.store_report.new.campaign.what ≡ reported w c.join.new.self.what c.in-Ok.numbers.0 = c.in_ok-store_report.ensures.ok in
-    rw done (arrives w c.args.name.now c.args.pass.now c.args.word old c.join.new.self.what c.in-Ok.numbers.0 c.in-Ok.numbers.1 c.requires.good is)
+    let done : c.store_report.new.campaign.value ≡ reported w c.join.new.self.value c.in-Ok.numbers.0 = c.in_ok-store_report.ensures.ok in
+    rw done (arrives w c.args.name.now c.args.pass.now c.args.word old c.join.new.self.value c.in-Ok.numbers.0 c.in-Ok.numbers.1 c.requires.good is)
 
 pub returns-in_err-write_join-clause-cause : goal.returns-in_err-write_join-clause-cause
 returns-in_err-write_join-clause-cause g c =
     let w = c.args.world.now in
-    let old = c.args.campaign.now.what in
+    let old = c.args.campaign.now.value in
     let command = Join c.args.name.now c.args.pass.now c.args.word in
     let is = rw (c.as_slice-3.ensures, c.as_slice-4.ensures) at c.in-Ok.ensures.definition in
-    let done : c.store_report.new.campaign.what ≡ reported w c.join.new.self.what c.in-Ok.numbers.0 = c.in_ok-store_report.ensures.ok in
-    let steps = steps_on w old c.args.name.now c.args.pass.now c.args.word c.join.new.self.what c.in-Ok.numbers.0 c.in-Ok.numbers.1 (cc) (cc) is in
-    let joining = joining_is w c.args.name.now c.args.pass.now c.args.word old c.join.new.self.what c.in-Ok.numbers.0 c.in-Ok.numbers.1 c.requires.good is in
+    let done : c.store_report.new.campaign.value ≡ reported w c.join.new.self.value c.in-Ok.numbers.0 = c.in_ok-store_report.ensures.ok in
+    let steps = steps_on w old c.args.name.now c.args.pass.now c.args.word c.join.new.self.value c.in-Ok.numbers.0 c.in-Ok.numbers.1 (cc) (cc) is in
+    let joining = joining_is w c.args.name.now c.args.pass.now c.args.word old c.join.new.self.value c.in-Ok.numbers.0 c.in-Ok.numbers.1 c.requires.good is in
     ended_by g.S.Store (OfCommand w old command) c.args.conn.now c.write_join.new.conn _ c.from_residual-in_err-write_join.result c.from_residual-in_err-write_join.ensures.1 (λ clean.
     subst (λ n. IsTold g.S.Store (OfJoining n (step w old command).0) write_fault c.args.conn.now c.write_join.new.conn c.in_err-write_join.field-0.0) joining.6
-    (subst (λ (after : Campaign). IsTold g.S.Store (OfJoining c.in-Ok.numbers.0 after) write_fault c.args.conn.now c.write_join.new.conn c.in_err-write_join.field-0.0) (done ∙ sym (ap (λ p. p.0) steps)) (c.in_err-write_join.ensures.told clean)))
+    (subst (λ (after : CampaignValue). IsTold g.S.Store (OfJoining c.in-Ok.numbers.0 after) write_fault c.args.conn.now c.write_join.new.conn c.in_err-write_join.field-0.0) (done ∙ sym (ap (λ p. p.0) steps)) (c.in_err-write_join.ensures.told clean)))

@@ -1,6 +1,6 @@
 use Rattle.std.proofs.Common.{◌≡◌, sym, ap, ◌∙◌, subst}
 use Rattle.sqlite.specs.Held.{state}
-use Rattle.atl_state.specs.State.{State as Campaign, Marked, with_mail}
+use Rattle.atl_state.specs.Campaign.{CampaignValue, MarkedCampaign, with_mail}
 use Rattle.atl_store.specs.Causes.{IsTold}
 use Rattle.atl_store.specs.Faults.{write_fault}
 use Rattle.atl_store.specs.Keeps.{Stops}
@@ -14,8 +14,8 @@ use Rattle.atl_service.proofs.answering.mail.Goals as goal
 
 pub returns-clause-ok : goal.returns-clause-ok
 returns-clause-ok g c =
-    let old = c.args.campaign.now.what in
-    let done : c.unmark.new.self.what ≡ with_mail old c.args.faction c.args.text.now = ap (λ (m : Marked). m.what) c.unmark.ensures ∙ c.in_ok-set_mail.ensures.ok ∙ ap (with_mail old c.args.faction) (c.into_parts-kept.ensures.text ∙ c.in-Ok.ensures.text) in
+    let old = c.args.campaign.now.value in
+    let done : c.unmark.new.self.value ≡ with_mail old c.args.faction c.args.text.now = ap (λ (m : MarkedCampaign). m.value) c.unmark.ensures ∙ c.in_ok-set_mail.ensures.ok ∙ ap (with_mail old c.args.faction) (c.into_parts-kept.ensures.text ∙ c.in-Ok.ensures.text) in
     record {
       step_is = rw (done, c.len-orders.ensures, c.into_parts-kept.ensures.faults) c.in-Ok.ensures.step;
       sound = tt;
@@ -25,10 +25,10 @@ returns-clause-ok g c =
     }
 
 pub returns-in_err-write_mail-clause-err : goal.returns-in_err-write_mail-clause-err
-returns-in_err-write_mail-clause-err g c = on_err _ (GivesUp g.S.Store c.args.world.now c.args.campaign.now.what c.args.conn.now (Mail c.args.faction c.args.pass.now c.args.text.now) c.write_mail.new.conn) (λ clean text keeps.
-    let old = c.args.campaign.now.what in
+returns-in_err-write_mail-clause-err g c = on_err _ (GivesUp g.S.Store c.args.world.now c.args.campaign.now.value c.args.conn.now (Mail c.args.faction c.args.pass.now c.args.text.now) c.write_mail.new.conn) (λ clean text keeps.
+    let old = c.args.campaign.now.value in
     let stops = rw c.as_slice.ensures at (c.in_err-write_mail.ensures.err clean text old keeps) in
-    subst (λ (after : Campaign). Stops (state g.S.Store c.args.conn.now).faults (state g.S.Store c.write_mail.new.conn) text old after) (sym (ap (λ p. p.0) c.in-Ok.ensures.step)) stops)
+    subst (λ (after : CampaignValue). Stops (state g.S.Store c.args.conn.now).faults (state g.S.Store c.write_mail.new.conn) text old after) (sym (ap (λ p. p.0) c.in-Ok.ensures.step)) stops)
 
 pub returns-in_err-write_mail-clause-cause : goal.returns-in_err-write_mail-clause-cause
 returns-in_err-write_mail-clause-cause g c =

@@ -2,4 +2,4 @@ use Rattle.atl_service.specs.Months.{ReadSoFar}
 use Rattle.atl_service.proofs.closing.read_mail.Given as goal
 
 abbrev pub invariant-loop-faction : goal.invariant-loop-faction
-invariant-loop-faction l = ReadSoFar l.world l.campaign.what l.mailings.items l.faults l.faction-iterator
+invariant-loop-faction l = ReadSoFar l.world l.campaign.value l.mailings.items l.faults l.faction-iterator

@@ -4,21 +4,21 @@ use Rattle.atl_service.proofs.CloseLaws.{active_there, closed_is, own_factions, 
 use Rattle.atl_service.proofs.closing.turn_month.Goals as goal
 
 pub close_month-requires-clause-own : goal.close_month-requires-clause-own
-close_month-requires-clause-own c = own_factions c.args.world.now c.args.campaign.now.what c.in_ok-mailings.field-0.mailings.items c.requires.good c.in_ok-mailings.ensures.readings_are
+close_month-requires-clause-own c = own_factions c.args.world.now c.args.campaign.now.value c.in_ok-mailings.field-0.mailings.items c.requires.good c.in_ok-mailings.ensures.readings_are
 
 pub returns-clause-told : goal.returns-clause-told
 returns-clause-told c =
-    let after = c.in_ok-after.after.what in
-    let done : c.clear_mail.new.self.what ≡ finished after = rw (c.clear_mail.ensures.what, c.set_month.ensures.what, c.month.ensures) refl in
+    let after = c.in_ok-after.after.value in
+    let done : c.clear_mail.new.self.value ≡ finished after = rw (c.clear_mail.ensures.what, c.set_month.ensures.what, c.month.ensures) refl in
     rw (done, c.in_ok-factions.ensures)
-    (closed_is c.args.world.now c.args.campaign.now.what after c.in_ok-after.events.items c.args.words.now c.in_ok-mailings.field-0.faults (rw (← c.in_ok-mailings.ensures.readings_are, ← c.replace-before.ensures.value) c.in_ok-after.ensures.definition) c.in_ok-mailings.ensures.faults)
+    (closed_is c.args.world.now c.args.campaign.now.value after c.in_ok-after.events.items c.args.words.now c.in_ok-mailings.field-0.faults (rw (← c.in_ok-mailings.ensures.readings_are, ← c.replace-before.ensures.value) c.in_ok-after.ensures.definition) c.in_ok-mailings.ensures.faults)
 
 pub returns-clause-there : goal.returns-clause-there
 returns-clause-there c =
-    let after = c.in_ok-after.after.what in
-    let done : c.clear_mail.new.self.what ≡ finished after = rw (c.clear_mail.ensures.what, c.set_month.ensures.what, c.month.ensures) refl in
+    let after = c.in_ok-after.after.value in
+    let done : c.clear_mail.new.self.value ≡ finished after = rw (c.clear_mail.ensures.what, c.set_month.ensures.what, c.month.ensures) refl in
     rw (done, c.in_ok-factions.ensures)
-    (active_there c.args.campaign.now.what after (rw (← c.replace-before.ensures.value) c.in_ok-after.ensures.factions))
+    (active_there c.args.campaign.now.value after (rw (← c.replace-before.ensures.value) c.in_ok-after.ensures.factions))
 
 pub returns-clause-marks : goal.returns-clause-marks
 returns-clause-marks c =

@@ -6,7 +6,7 @@ use Rattle.atl_service.proofs.reporting.report_to.Goals as goal
 
 pub returns-clause-what : goal.returns-clause-what
 returns-clause-what c =
-    stored_own c.args.world.now c.args.campaign.now.what c.store_seen.new.campaign.what c.args.faction (unwrap_or (get c.args.told.now.faults c.args.faction) []) c.listed-faults.result.now c.args.told.now.events.items c.listed-events.result.now
+    stored_own c.args.world.now c.args.campaign.now.value c.store_seen.new.campaign.value c.args.faction (unwrap_or (get c.args.told.now.faults c.args.faction) []) c.listed-faults.result.now c.args.told.now.events.items c.listed-events.result.now
     c.store_seen.result c.listed-faults.ensures (c.listed-events.ensures ∙ c.requires.sorted c.args.faction) c.store_seen.ensures.ok
 
 pub returns-clause-marks : goal.returns-clause-marks

@@ -10,8 +10,8 @@ pub loop-faction-preserved : goal.loop-faction-preserved
 loop-faction-preserved c =
     let (whole, marks, sites) = c.loop-faction.invariant in
     let told = c.args.told.now in (
-      told_on (reported_to c.args.world.now (λ n. unwrap_or (get told.faults n) []) told.events.items) c.loop-faction.campaign.what c.report_to.new.campaign.what (told_to_all c.args.world.now c.args.campaign.now.what told) c.deref-faction-items.result.now c.loop-faction.faction-index 0
+      told_on (reported_to c.args.world.now (λ n. unwrap_or (get told.faults n) []) told.events.items) c.loop-faction.campaign.value c.report_to.new.campaign.value (told_to_all c.args.world.now c.args.campaign.now.value told) c.deref-faction-items.result.now c.loop-faction.faction-index 0
           c.loop-faction-test.true c.in_ok-report_to.ensures.what whole,
       marks-trans c.args.campaign.now c.loop-faction.campaign c.report_to.new.campaign marks c.in_ok-report_to.ensures.marks,
-      sites_stay c.args.world.now (λ n. unwrap_or (get told.faults n) []) told.events.items c.loop-faction.campaign.what c.report_to.new.campaign.what _ c.in_ok-report_to.ensures.what _ sites,
+      sites_stay c.args.world.now (λ n. unwrap_or (get told.faults n) []) told.events.items c.loop-faction.campaign.value c.report_to.new.campaign.value _ c.in_ok-report_to.ensures.what _ sites,
     )

@@ -9,6 +9,6 @@ use Rattle.atl_service.proofs.reporting.report_to_each.Given as goal
 
 abbrev pub invariant-loop-faction : goal.invariant-loop-faction
 invariant-loop-faction l =
-    (fold (reported_to l.world (λ n. unwrap_or (get l.told.faults n) []) l.told.events.items) l.campaign.what (drop l.faction-index l.faction-items) ≡ told_to_all l.world l.initial.campaign.what l.told) ×
+    (fold (reported_to l.world (λ n. unwrap_or (get l.told.faults n) []) l.told.events.items) l.campaign.value (drop l.faction-index l.faction-items) ≡ told_to_all l.world l.initial.campaign.value l.told) ×
     MarksChanges l.initial.campaign l.campaign ×
-    AreSites l.campaign.what.structures l.sites
+    AreSites l.campaign.value.structures l.sites

@@ -1,6 +1,6 @@
 use Rattle.std.proofs.Common.{Some, true, sym, ap, subst}
-use Rattle.atl_state.specs.State.{State, Marked}
-use Rattle.atl_service.specs.ServiceState.{Stands}
+use Rattle.atl_state.specs.Campaign.{CampaignValue, MarkedCampaign}
+use Rattle.atl_service.specs.Service.{Stands}
 use Rattle.atl_service.specs.Found.{Founds}
 use Rattle.atl_service.proofs.FoundServiceLaws.{spared, founded_stands, founds_on, refused_by_store}
 use Rattle.atl_service.proofs.service.found.Goals as goal
@@ -10,15 +10,15 @@ returns-in-Err-clause-err g c = spared g.S.Store c.args.conn c.args.world_text.n
 
 pub invariant_of-result : goal.invariant_of-result
 invariant_of-result g c = record {
-  stands = subst (λ (s : State). Stands g.S.Store c.create.new.conn c.in-Ok.both.0 s true) (sym (ap (λ (m : Marked). m.what) c.in-Ok-create.ensures.unmarked)) (founded_stands g.S.Store c.create.new.conn c.in-Ok.both.0 c.in-Ok.both.1.what c.args.world_text.now c.in-Ok-create.ensures.ok.idle c.in-Ok.ensures.good c.in-Ok.ensures.ok.world c.in-Ok-create.ensures.ok.tables);
-  unmarked = λ up. ap (λ (m : Marked). m.marks) c.in-Ok-create.ensures.unmarked;
+  stands = subst (λ (s : CampaignValue). Stands g.S.Store c.create.new.conn c.in-Ok.both.0 s true) (sym (ap (λ (m : MarkedCampaign). m.value) c.in-Ok-create.ensures.unmarked)) (founded_stands g.S.Store c.create.new.conn c.in-Ok.both.0 c.in-Ok.both.1.value c.args.world_text.now c.in-Ok-create.ensures.ok.idle c.in-Ok.ensures.good c.in-Ok.ensures.ok.world c.in-Ok-create.ensures.ok.tables);
+  unmarked = λ up. ap (λ (m : MarkedCampaign). m.marks) c.in-Ok-create.ensures.unmarked;
 }
 
 pub returns-in-Ok-create-clause-ok : goal.returns-in-Ok-create-clause-ok
 returns-in-Ok-create-clause-ok g c =
-    subst (λ (s : State). Founds g.S.Store c.args.conn c.args.world_text.now c.args.pass.now (record { conn = c.create.new.conn; world = c.in-Ok.both.0; campaign = Some s })) (sym (ap (λ (m : Marked). m.what) c.in-Ok-create.ensures.unmarked))
-    (founds_on g.S.Store c.args.conn c.create.new.conn c.in-Ok.both.0 c.in-Ok.both.1.what c.args.world_text.now c.args.pass.now c.in-Ok.ensures.ok c.in-Ok-create.ensures.ok c.create.ensures.later)
+    subst (λ (s : CampaignValue). Founds g.S.Store c.args.conn c.args.world_text.now c.args.pass.now (record { conn = c.create.new.conn; world = c.in-Ok.both.0; campaign = Some s })) (sym (ap (λ (m : MarkedCampaign). m.value) c.in-Ok-create.ensures.unmarked))
+    (founds_on g.S.Store c.args.conn c.create.new.conn c.in-Ok.both.0 c.in-Ok.both.1.value c.args.world_text.now c.args.pass.now c.in-Ok.ensures.ok c.in-Ok-create.ensures.ok c.create.ensures.later)
 
 pub returns-in-Err-create-clause-err : goal.returns-in-Err-create-clause-err
 returns-in-Err-create-clause-err g c =
-    rw c.from.ensures (refused_by_store g.S.Store c.args.conn c.create.new.conn c.in-Ok.both.0 c.in-Ok.both.1.what c.args.world_text.now c.args.pass.now c.in-Ok.ensures.ok c.create.ensures.later c.in-Err-create.fault c.in-Err-create.ensures.err)
+    rw c.from.ensures (refused_by_store g.S.Store c.args.conn c.create.new.conn c.in-Ok.both.0 c.in-Ok.both.1.value c.args.world_text.now c.args.pass.now c.in-Ok.ensures.ok c.create.ensures.later c.in-Err-create.fault c.in-Err-create.ensures.err)

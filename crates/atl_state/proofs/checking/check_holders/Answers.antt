@@ -1,12 +1,12 @@
 use Rattle.std.proofs.Common.{sym, subst}
 use Rattle.atl_state.specs.Good.{Every, IsThere, AreOwned, AreAfloat, AreOfOneFaction, guards}
-use Rattle.atl_state.specs.State.{State}
+use Rattle.atl_state.specs.Campaign.{CampaignValue}
 use Rattle.atl_state.specs.declared.checking.Rule.TheVariants.{Owners, Water, Guards, Books, Mail}
 use Rattle.atl_state.proofs.CheckLaws.{below_next, places-said}
 use Rattle.atl_state.proofs.checking.check_holders.Goals as goal
 
 pub are_guarded-requires : goal.are_guarded-requires
-are_guarded-requires c = subst (λ (s : State). Every (λ n u. IsThere s.regions u.region) s.units) (sym c.requires.what) (places-said c.args.world.now c.args.parts.now c.requires.before)
+are_guarded-requires c = subst (λ (s : CampaignValue). Every (λ n u. IsThere s.regions u.region) s.units) (sym c.requires.what) (places-said c.args.world.now c.args.parts.now c.requires.before)
 
 pub returns : goal.returns
 returns c =

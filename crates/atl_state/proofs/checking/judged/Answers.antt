@@ -2,7 +2,7 @@ use Rattle.std.proofs.Common.{sym, subst, arith}
 use Rattle.atl_state.specs.Checking.{KeepsBelow}
 use Rattle.atl_state.specs.Good.{IsGood}
 use Rattle.atl_state.specs.Rows.{AreRowsOf}
-use Rattle.atl_state.specs.State.{State}
+use Rattle.atl_state.specs.Campaign.{CampaignValue}
 use Rattle.atl_state.specs.declared.checking.Rule.TheVariants.{Names}
 use Rattle.atl_state.proofs.CheckLaws.{people-said, checked-rows, checked-good}
 use Rattle.atl_state.proofs.checking.judged.Goals as goal
@@ -20,7 +20,7 @@ returns c =
     let all : KeepsBelow w p 13 = c.in_ok-check_holders.ensures in
     let what = c.in-Ok.ensures.what in
     record {
-      rows = subst (λ (s : State). AreRowsOf s p) (sym what) (checked-rows w p c.assembled.ensures.world all);
+      rows = subst (λ (s : CampaignValue). AreRowsOf s p) (sym what) (checked-rows w p c.assembled.ensures.world all);
       good = subst (IsGood w) (sym what) (checked-good w p c.assembled.ensures.world all);
       marks = c.in-Ok.ensures.marks;
     }

@@ -12,7 +12,7 @@ returns-clause-ok g c clean text before keeps covers =
     let old = state g.S.Store c.args.conn.now in
     let new = state g.S.Store c.write_marked.new.conn in
     let campaign = c.args.campaign.now in
-    commits_keeps old new text (λ db up. g.met.S.Store.settled c.write_marked.new.conn.store db up) HasTables (WritesChanges campaign) campaign.what (c.in_ok-write_marked.ensures.ok clean) keeps.tables
+    commits_keeps old new text (λ db up. g.met.S.Store.settled c.write_marked.new.conn.store db up) HasTables (WritesChanges campaign) campaign.value (c.in_ok-write_marked.ensures.ok clean) keeps.tables
     (λ did. changes_held campaign old.now new.now did text before covers keeps.rows)
 
 pub returns-in_err-write_marked-clause-err : goal.returns-in_err-write_marked-clause-err
@@ -20,7 +20,7 @@ returns-in_err-write_marked-clause-err g c clean = on_err c.from_residual.result
     let old = state g.S.Store c.args.conn.now in
     let new = state g.S.Store c.write_marked.new.conn in
     let campaign = c.args.campaign.now in
-    leaves_stops old new text (λ db up. g.met.S.Store.settled c.write_marked.new.conn.store db up) (WritesChanges campaign) before campaign.what clean (c.in_err-write_marked.ensures.err clean) c.write_marked.ensures.crash keeps
+    leaves_stops old new text (λ db up. g.met.S.Store.settled c.write_marked.new.conn.store db up) (WritesChanges campaign) before campaign.value clean (c.in_err-write_marked.ensures.err clean) c.write_marked.ensures.crash keeps
     (λ db did. changes_held campaign old.now db did text before covers keeps.rows))
 
 pub returns-clause-marked : goal.returns-clause-marked
@@ -43,11 +43,11 @@ returns-clause-unmarked g c clean text tables rest =
     let old = state g.S.Store c.args.conn.now in
     let new = state g.S.Store c.write_marked.new.conn in
     let campaign = c.args.campaign.now in
-    commits_keeps old new text (λ db up. g.met.S.Store.settled c.write_marked.new.conn.store db up) HasTables (WritesChanges campaign) campaign.what (c.in_ok-write_marked.ensures.ok clean) tables
+    commits_keeps old new text (λ db up. g.met.S.Store.settled c.write_marked.new.conn.store db up) HasTables (WritesChanges campaign) campaign.value (c.in_ok-write_marked.ensures.ok clean) tables
     (λ did. unmarked_held campaign old.now new.now did text rest)
 
 pub returns-in_err-write_marked-clause-told : goal.returns-in_err-write_marked-clause-told
-returns-in_err-write_marked-clause-told g c clean = told_by g.S.Store (OfChange c.args.campaign.now.what) write_fault c.args.conn.now c.write_marked.new.conn _ c.from_residual.result c.from_residual.ensures.1 (c.in_err-write_marked.ensures.told clean)
+returns-in_err-write_marked-clause-told g c clean = told_by g.S.Store (OfChange c.args.campaign.now.value) write_fault c.args.conn.now c.write_marked.new.conn _ c.from_residual.result c.from_residual.ensures.1 (c.in_err-write_marked.ensures.told clean)
 
 pub returns-in_err-write_marked-clause-left : goal.returns-in_err-write_marked-clause-left
 returns-in_err-write_marked-clause-left g c clean = on_err c.from_residual.result _ (c.in_err-write_marked.ensures.err clean)
@@ -56,4 +56,4 @@ pub returns-in_err-write_marked-clause-crash : goal.returns-in_err-write_marked-
 returns-in_err-write_marked-clause-crash g c clean = on_err c.from_residual.result _ (λ text tables rest.
     let old = state g.S.Store c.args.conn.now in
     let campaign = c.args.campaign.now in
-    may_found old (state g.S.Store c.write_marked.new.conn) text campaign.what HasTables (WritesChanges campaign) tables (λ db did. unmarked_held campaign old.now db did text rest) clean c.write_marked.ensures.crash)
+    may_found old (state g.S.Store c.write_marked.new.conn) text campaign.value HasTables (WritesChanges campaign) tables (λ db did. unmarked_held campaign old.now db did text rest) clean c.write_marked.ensures.crash)

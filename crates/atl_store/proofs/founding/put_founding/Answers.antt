@@ -5,7 +5,7 @@ use Rattle.atl_store.proofs.founding.put_founding.Goals as goal
 
 pub returns : goal.returns
 returns g c =
-    four_steps g.S.Store (founding_done c.args.campaign.now.what c.args.text.now) (among g.S.Store (λ _ _. founds_tables) c.in_ok-create_tables.ensures) c.in_ok-put_players.ensures
+    four_steps g.S.Store (founding_done c.args.campaign.now.value c.args.text.now) (among g.S.Store (λ _ _. founds_tables) c.in_ok-create_tables.ensures) c.in_ok-put_players.ensures
     (among g.S.Store (λ _ _. founds_row) c.in_ok-put_places.ensures) (among g.S.Store (λ _ _. founds_row) c.put_people.ensures)
 
 pub returns-in_err-create_tables : goal.returns-in_err-create_tables

@@ -9,7 +9,7 @@ use Rattle.atl_store.proofs.WriteLaws.{among_each, three_steps, stops, stops_sec
 use Rattle.atl_store.proofs.founding.put_people.Goals as goal
 
 pub returns : goal.returns
-returns g c = three_steps g.S.Store (λ old one two new units goods mail. people_done c.args.campaign.now.what old one two new
+returns g c = three_steps g.S.Store (λ old one two new units goods mail. people_done c.args.campaign.now.value old one two new
     (of_entries unit_table unit_line _ _ old one c.units.ensures units) (goods_of _ _ one two c.units-2.ensures goods) (of_entries mail_table mail_row _ _ two new c.mail.ensures mail))
     (among_each g.S.Store _ _ (λ row there. puts_unit (lines_rows unit_line _ _ c.units.ensures row there)) c.in_ok-put_units.ensures)
     (among_each g.S.Store _ _ (λ row there. puts_has (all_goods_rows _ _ c.units-2.ensures row there)) c.in_ok-put_all_goods.ensures)

@@ -8,11 +8,11 @@ use Rattle.atl_store.proofs.WriteLaws.{among_each, three_steps, stops, stops_sec
 use Rattle.atl_store.proofs.founding.put_places.Goals as goal
 
 pub returns : goal.returns
-returns g c = three_steps g.S.Store (λ old one two new regions structures books. places_done c.args.campaign.now.what old one two new
+returns g c = three_steps g.S.Store (λ old one two new regions structures books. places_done c.args.campaign.now.value old one two new
     (of_entries region_table region_line _ _ old one c.regions.ensures regions) (of_entries structure_table structure_line _ _ one two c.structures.ensures structures) books)
     (among_each g.S.Store _ _ (λ row there. puts_region (lines_rows region_line _ _ c.regions.ensures row there)) c.in_ok-put_each.ensures)
     (among_each g.S.Store _ _ (λ row there. puts_structure (lines_rows structure_line _ _ c.structures.ensures row there)) c.in_ok-put_each-2.ensures)
-    (among_each g.S.Store _ _ (λ row there. puts_books (things_rows c.args.campaign.now.what _ row there)) c.put_all_books.ensures)
+    (among_each g.S.Store _ _ (λ row there. puts_books (things_rows c.args.campaign.now.value _ row there)) c.put_all_books.ensures)
 
 pub returns-in_err-put_each : goal.returns-in_err-put_each
 returns-in_err-put_each g c = stops g.S.Store (among_each g.S.Store _ _ (λ row there. puts_region (lines_rows region_line _ _ c.regions.ensures row there)) c.in_err-put_each.ensures) c.from_residual.ensures

@@ -8,7 +8,7 @@ use Rattle.atl_store.proofs.WriteLaws.{among_only, among_each, three_steps, stop
 use Rattle.atl_store.proofs.founding.put_players.Goals as goal
 
 pub returns : goal.returns
-returns g c = three_steps g.S.Store (λ old one two new head factions reports. players_done c.args.campaign.now.what c.args.text.now old one two new head
+returns g c = three_steps g.S.Store (λ old one two new head factions reports. players_done c.args.campaign.now.value c.args.text.now old one two new head
     (of_entries faction_table faction_line _ _ one two c.factions.ensures factions) (of_entries report_table report_row _ _ two new c.reports.ensures reports))
     (among_only g.S.Store _ _ founds_head c.in_ok-put_head.ensures)
     (among_each g.S.Store _ _ (λ row there. founds_row (puts_faction (lines_rows faction_line _ _ c.factions.ensures row there))) c.in_ok-put_each.ensures)

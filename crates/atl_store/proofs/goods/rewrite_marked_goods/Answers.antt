@@ -7,11 +7,11 @@ use Rattle.atl_store.proofs.WriteLaws.{begins, goes_on, stops_second, weaker}
 use Rattle.atl_store.proofs.goods.rewrite_marked_goods.Goals as goal
 
 pub loop-number-init : goal.loop-number-init
-loop-number-init g c = begins g.S.Store (none_nearer has_table (HasRowsOf c.args.campaign.now.what.units) _ _ (λ r. refl))
+loop-number-init g c = begins g.S.Store (none_nearer has_table (HasRowsOf c.args.campaign.now.value.units) _ _ (λ r. refl))
 
 pub loop-number-preserved : goal.loop-number-preserved
 loop-number-preserved g c =
-    let wanted = HasRowsOf c.args.campaign.now.what.units in
+    let wanted = HasRowsOf c.args.campaign.now.value.units in
     goes_on g.S.Store (number_nearer has_table wanted c.in-Some.number c.loop-number.number-iterator c.next.new.self c.into_iter-number-iterator.result c.in-Some.ensures.steps) c.loop-number.invariant c.in_ok-rewrite_goods.ensures
 
 pub returns-in_err-rewrite_goods : goal.returns-in_err-rewrite_goods
@@ -19,6 +19,6 @@ returns-in_err-rewrite_goods g c = stops_second g.S.Store c.loop-number.invarian
 
 pub returns : goal.returns
 returns g c =
-    let wanted = HasRowsOf c.args.campaign.now.what.units in
+    let wanted = HasRowsOf c.args.campaign.now.value.units in
     let all = ap (λ ns. from_list ns) c.into_iter-number-iterator.ensures.into_iter_gives ∙ c.marked_goods-number-items.ensures.all in
     weaker g.S.Store (numbers_rewritten has_table wanted c.args.campaign.now.marks.goods c.loop-number.number-iterator c.into_iter-number-iterator.result c.in-None.ensures.steps.0 all) c.loop-number.invariant

@@ -7,4 +7,4 @@ use Rattle.atl_store.proofs.WriteLaws.{SoFar}
 use Rattle.atl_store.proofs.goods.rewrite_marked_goods.Given as goal
 
 abbrev pub invariant-loop-number : goal.invariant-loop-number
-invariant-loop-number g l = SoFar g.S.Store (OfChange l.fn.campaign.what) (Inside HasTables (NearingNumbers has_table (HasRowsOf l.fn.campaign.what.units) l.number-iterator l.initial.number-iterator)) l.fn.tx.conn l.tx.conn
+invariant-loop-number g l = SoFar g.S.Store (OfChange l.fn.campaign.value) (Inside HasTables (NearingNumbers has_table (HasRowsOf l.fn.campaign.value.units) l.number-iterator l.initial.number-iterator)) l.fn.tx.conn l.tx.conn

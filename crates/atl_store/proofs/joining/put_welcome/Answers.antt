@@ -4,7 +4,7 @@ use Rattle.atl_store.proofs.WriteLaws.{among, among_only, three_steps, stops, st
 use Rattle.atl_store.proofs.joining.put_welcome.Goals as goal
 
 pub returns : goal.returns
-returns g c = three_steps g.S.Store (reporting_done c.args.arrival.now.number c.args.arrival.now.report.now c.args.campaign.now.what)
+returns g c = three_steps g.S.Store (reporting_done c.args.arrival.now.number c.args.arrival.now.report.now c.args.campaign.now.value)
     (among_only g.S.Store _ _ (joins_report c.requires.report_is) c.in_ok-put.ensures) (among g.S.Store (λ _ _. joins_money) c.in_ok-settle_amount.ensures) (among g.S.Store (λ _ _. joins_people) c.settle_amount-2.ensures)
 
 pub returns-in_err-put : goal.returns-in_err-put

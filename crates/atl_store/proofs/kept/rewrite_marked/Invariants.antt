@@ -6,4 +6,4 @@ use Rattle.atl_store.proofs.WriteLaws.{SoFar}
 use Rattle.atl_store.proofs.kept.rewrite_marked.Given as goal
 
 abbrev pub invariant-loop-number : goal.invariant-loop-number
-invariant-loop-number g l = SoFar g.S.Store (OfChange l.fn.campaign.what) (Inside HasTables (NearingNumbers g.V.Kept.table (RowsOf g.V.Kept.line (g.V.Kept.values l.fn.campaign.what)) l.number-iterator l.initial.number-iterator)) l.fn.tx.conn l.tx.conn
+invariant-loop-number g l = SoFar g.S.Store (OfChange l.fn.campaign.value) (Inside HasTables (NearingNumbers g.V.Kept.table (RowsOf g.V.Kept.line (g.V.Kept.values l.fn.campaign.value)) l.number-iterator l.initial.number-iterator)) l.fn.tx.conn l.tx.conn

@@ -8,12 +8,12 @@ use Rattle.atl_store.proofs.ledger.put_all_books.Goals as goal
 
 pub loop-number-init : goal.loop-number-init
 loop-number-init g c =
-    let whole : length c.args.campaign.now.what.books - 0 ≡ length c.args.campaign.now.what.books = omega arith in
-    putting_begins g.S.Store books_table 2 _ _ (ap (λ n. things_lines c.args.campaign.now.what (range_with_len 0 n)) whole)
+    let whole : length c.args.campaign.now.value.books - 0 ≡ length c.args.campaign.now.value.books = omega arith in
+    putting_begins g.S.Store books_table 2 _ _ (ap (λ n. things_lines c.args.campaign.now.value (range_with_len 0 n)) whole)
 
 pub loop-number-preserved : goal.loop-number-preserved
 loop-number-preserved g c =
-    let campaign = c.args.campaign.now.what in
+    let campaign = c.args.campaign.now.value in
     let i = c.loop-number.number in
     let count = length campaign.books in
     let left : count - i ≡ suc (count - (i + 1)) = omega (arith, c.loop-number-test.true, c.things-number-end.ensures.count) in
@@ -22,7 +22,7 @@ loop-number-preserved g c =
 
 pub returns-in_err-put_entries : goal.returns-in_err-put_entries
 returns-in_err-put_entries g c =
-    let campaign = c.args.campaign.now.what in
+    let campaign = c.args.campaign.now.value in
     let i = c.loop-number.number in
     let count = length campaign.books in
     let left : count - i ≡ suc (count - (i + 1)) = omega (arith, c.loop-number-test.true, c.things-number-end.ensures.count) in
@@ -31,5 +31,5 @@ returns-in_err-put_entries g c =
 
 pub returns : goal.returns
 returns g c =
-    let none : length c.args.campaign.now.what.books - c.loop-number.number ≡ 0 = omega (arith, c.loop-number-test.false, c.things-number-end.ensures.count) in
-    putting_ends g.S.Store books_table 2 _ _ (ap (λ n. things_lines c.args.campaign.now.what (range_with_len c.loop-number.number n)) none) c.loop-number.invariant
+    let none : length c.args.campaign.now.value.books - c.loop-number.number ≡ 0 = omega (arith, c.loop-number-test.false, c.things-number-end.ensures.count) in
+    putting_ends g.S.Store books_table 2 _ _ (ap (λ n. things_lines c.args.campaign.now.value (range_with_len c.loop-number.number n)) none) c.loop-number.invariant

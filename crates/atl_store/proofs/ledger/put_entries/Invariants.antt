@@ -5,4 +5,4 @@ use Rattle.atl_store.proofs.PuttingLaws.{Putting}
 use Rattle.atl_store.proofs.ledger.put_entries.Given as goal
 
 abbrev pub invariant-loop-entry : goal.invariant-loop-entry
-invariant-loop-entry g l = Putting g.S.Store books_table 2 (entries_lines l.campaign.what l.thing (drop l.entry-index l.entries)) (entries_lines l.campaign.what l.thing l.entries) l.fn.tx.conn l.tx.conn
+invariant-loop-entry g l = Putting g.S.Store books_table 2 (entries_lines l.campaign.value l.thing (drop l.entry-index l.entries)) (entries_lines l.campaign.value l.thing l.entries) l.fn.tx.conn l.tx.conn

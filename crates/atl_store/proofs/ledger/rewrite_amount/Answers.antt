@@ -11,10 +11,10 @@ use Rattle.atl_store.proofs.ledger.rewrite_amount.Goals as goal
 
 pub returns-then-is_amount_marked : goal.returns-then-is_amount_marked
 returns-then-is_amount_marked g c = weaker g.S.Store (settle_done c.args.campaign.now c.args.entry c.args.thing (sym c.is_amount_marked.ensures ∙ c.if-is_amount_marked.true))
-    (among g.S.Store (amount_changes c.args.campaign.now.what c.args.entry c.args.thing) c.settle_amount.ensures)
+    (among g.S.Store (amount_changes c.args.campaign.now.value c.args.entry c.args.thing) c.settle_amount.ensures)
 
 pub returns : goal.returns
 returns g c =
     let campaign = c.args.campaign.now in
-    begins g.S.Store (none_chosen books_table (BooksRowsOf campaign.what.books) (λ r. of_amounts campaign.marks.books (is_number (entry_place c.args.entry)) (is_number (thing_place c.args.thing)) r)
+    begins g.S.Store (none_chosen books_table (BooksRowsOf campaign.value.books) (λ r. of_amounts campaign.marks.books (is_number (entry_place c.args.entry)) (is_number (thing_place c.args.thing)) r)
     (unmarked_none campaign c.args.entry c.args.thing (sym c.is_amount_marked.ensures ∙ c.if-is_amount_marked.false)))

@@ -12,7 +12,7 @@ use Rattle.atl_store.proofs.ledger.settle_amount.Goals as goal
 
 pub returns-then-amount-eq0 : goal.returns-then-amount-eq0
 returns-then-amount-eq0 g c =
-    let campaign = c.args.campaign.now.what in
+    let campaign = c.args.campaign.now.value in
     let n = c.number.result in
     let k = c.number-then-amount-eq0.result in
     let cast = to_z-of_z w64 c.booked-amount.result (search rules) in
@@ -22,7 +22,7 @@ returns-then-amount-eq0 g c =
 
 pub returns : goal.returns
 returns g c =
-    let campaign = c.args.campaign.now.what in
+    let campaign = c.args.campaign.now.value in
     let n = c.number-2.result in
     let k = c.number-3.result in
     let cast = to_z-of_z w64 c.booked-amount.result (search rules) in

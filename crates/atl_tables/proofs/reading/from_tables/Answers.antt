@@ -1,14 +1,14 @@
 use Rattle.std.proofs.Common.{◌++◌}
 use Rattle.atl_tables.specs.Faults.{Conditions}
-use Rattle.atl_tables.specs.Planet.{land_of}
-use Rattle.atl_tables.specs.World.{names_differ, names_are_known, neighbours_are_mutual, is_some_land, planet_of}
+use Rattle.atl_tables.specs.Worlds.{land_of}
+use Rattle.atl_tables.specs.World.{names_differ, names_are_known, neighbours_are_mutual, is_some_land, world_of_tables}
 use Rattle.atl_tables.specs.declared.tables.Tables.{Tables}
 use Rattle.atl_tables.proofs.FaultLaws.{exits, stops_on, stops_after, gives_after}
 use Rattle.atl_tables.proofs.TwinLaws.{have_names}
 use Rattle.atl_tables.proofs.reading.from_tables.Goals as goal
 
 abbrev last : Tables → Conditions
-last all = neighbours_are_mutual all ++ is_some_land (land_of (planet_of all))
+last all = neighbours_are_mutual all ++ is_some_land (land_of (world_of_tables all))
 
 pub returns-in_err-names_differ : goal.returns-in_err-names_differ
 returns-in_err-names_differ c =
@@ -24,8 +24,8 @@ returns-in_err-parts c =
 pub returns : goal.returns
 returns c =
     let all = c.args.all in
-    gives_after (λ w. w) c.join.result (names_differ all) (names_are_known all ++ last all) (planet_of all) c.in_ok-names_differ.ensures.0
-    (gives_after (λ w. w) c.join.result (names_are_known all) (last all) (planet_of all) c.in_ok-parts.ensures.value.0 c.join.ensures)
+    gives_after (λ w. w) c.join.result (names_differ all) (names_are_known all ++ last all) (world_of_tables all) c.in_ok-names_differ.ensures.0
+    (gives_after (λ w. w) c.join.result (names_are_known all) (last all) (world_of_tables all) c.in_ok-parts.ensures.value.0 c.join.ensures)
 
 pub join-requires-clause-names : goal.join-requires-clause-names
 join-requires-clause-names c = have_names c.args.all c.in_ok-names_differ.ensures.0

@@ -4,9 +4,9 @@ use Rattle.std.specs.Ordering.{nat_cmp}
 use Rattle.atl_tables.specs.Faults.{Conditions, first_fault}
 use Rattle.atl_tables.specs.Given.{Gives}
 use Rattle.atl_tables.specs.Parts.{parts_of, ArePartsOf}
-use Rattle.atl_tables.specs.Planet.{Planet, IsWorld, land_of}
+use Rattle.atl_tables.specs.Worlds.{WorldValue, IsWorld, land_of}
 use Rattle.atl_tables.specs.Sums.{by_number}
-use Rattle.atl_tables.specs.World.{neighbours_are_mutual, is_some_land, planet_of, regions_of}
+use Rattle.atl_tables.specs.World.{neighbours_are_mutual, is_some_land, world_of_tables, regions_of}
 use Rattle.atl_tables.specs.declared.reading.Parts.{Parts}
 use Rattle.atl_tables.specs.declared.tables.Tables.{Tables}
 use Rattle.atl_tables.specs.declared.world.RegionPlan.{RegionPlan}
@@ -15,17 +15,17 @@ use Rattle.atl_tables.proofs.WorldLaws.{is_world}
 use Rattle.atl_tables.proofs.reading.join.Goals as goal
 
 abbrev land : Tables → Conditions
-land all = is_some_land (land_of (planet_of all))
+land all = is_some_land (land_of (world_of_tables all))
 
 regions_are : (all : Tables) (p : Parts) (plans : List RegionPlan) → p ≡ parts_of all → plans ≡ p.regions → by_number (λ r. r.number) plans ≡ regions_of all
 unfolding regions_of
 regions_are all p plans e q = ap (by_number (λ r. r.number)) (q ∙ ap (λ (x : Parts). x.regions) e)
 
-abbrev made_of : Tables → Parts → FinMap nat_cmp RegionPlan → Planet
+abbrev made_of : Tables → Parts → FinMap nat_cmp RegionPlan → WorldValue
 made_of all p regions = record { rules = p.rules; terrains = p.terrains; items = p.items; skills = all.skills; kinds = p.kinds; regions = regions }
 
-planet_is : (all : Tables) (p : Parts) (regions : FinMap nat_cmp RegionPlan) → p ≡ parts_of all → regions ≡ regions_of all → made_of all p regions ≡ planet_of all
-unfolding planet_of
+planet_is : (all : Tables) (p : Parts) (regions : FinMap nat_cmp RegionPlan) → p ≡ parts_of all → regions ≡ regions_of all → made_of all p regions ≡ world_of_tables all
+unfolding world_of_tables
 planet_is all p regions e q = ap (made_of all p) q ∙ ap (λ (x : Parts). made_of all x (regions_of all)) e
 
 pub returns-in_err-mutual_neighbours : goal.returns-in_err-mutual_neighbours
@@ -41,7 +41,7 @@ with_land-requires c =
     let made = c.in_ok-regions.ensures.value ∙ regions_are all c.args.parts c.into_vec.result.items c.requires.parts c.into_vec.ensures in
     let e = planet_is all c.args.parts c.in_ok-regions.regions c.requires.parts made in
     let back = rw (c.as_slice.ensures, made) at c.in_ok-mutual_neighbours.ensures.back in
-    record { world = rw c.into_skills-skills.ensures (subst (λ (w : Planet). 0 < length (land_of w) → IsWorld w) (sym e) (is_world all c.requires.all (subst (ArePartsOf all) c.requires.parts c.requires.sound) c.requires.names back)) }
+    record { world = rw c.into_skills-skills.ensures (subst (λ (w : WorldValue). 0 < length (land_of w) → IsWorld w) (sym e) (is_world all c.requires.all (subst (ArePartsOf all) c.requires.parts c.requires.sound) c.requires.names back)) }
 
 pub returns : goal.returns
 unfolding neighbours_are_mutual
@@ -49,5 +49,5 @@ returns c =
     let all = c.args.all in
     let made = c.in_ok-regions.ensures.value ∙ regions_are all c.args.parts c.into_vec.result.items c.requires.parts c.into_vec.ensures in
     let e = planet_is all c.args.parts c.in_ok-regions.regions c.requires.parts made in
-    gives_after (λ w. w) c.with_land.result (neighbours_are_mutual all) (land all) (planet_of all) (rw (c.as_slice.ensures, made) at c.in_ok-mutual_neighbours.ensures.value.0)
-    (subst (λ (w : Planet). Gives (λ x. x) c.with_land.result (first_fault (is_some_land (land_of w))) w) e (rw c.into_skills-skills.ensures at c.with_land.ensures))
+    gives_after (λ w. w) c.with_land.result (neighbours_are_mutual all) (land all) (world_of_tables all) (rw (c.as_slice.ensures, made) at c.in_ok-mutual_neighbours.ensures.value.0)
+    (subst (λ (w : WorldValue). Gives (λ x. x) c.with_land.result (first_fault (is_some_land (land_of w))) w) e (rw c.into_skills-skills.ensures at c.with_land.ensures))

@@ -1,5 +1,5 @@
 use Rattle.std.proofs.Common.{◌≡◌, ◌++◌}
-use Rattle.atl_tables.specs.Planet.{is_land}
+use Rattle.atl_tables.specs.Worlds.{is_land}
 use Rattle.atl_tables.specs.Sums.{numbers_among, numbers_where}
 use Rattle.atl_tables.proofs.reading.land.Given as goal
 

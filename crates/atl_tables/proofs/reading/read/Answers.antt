@@ -1,6 +1,6 @@
 use Rattle.toml.specs.View.{table_view}
 use Rattle.atl_tables.specs.Faults.{first_fault}
-use Rattle.atl_tables.specs.World.{world_by, conditions, tables_of, planet_of}
+use Rattle.atl_tables.specs.World.{world_by, conditions, tables_of, world_of_tables}
 use Rattle.atl_tables.proofs.FaultLaws.{reads}
 use Rattle.atl_tables.proofs.reading.read.Goals as goal
 
@@ -9,4 +9,4 @@ unfolding world_by
 returns-in-Ok c =
     let doc = table_view c.in-Ok.document in
     let format = c.args.format in
-    rw c.in-Ok.ensures.ok (reads (λ w. w) c.from_document.result (first_fault (conditions format doc)) (planet_of (tables_of format doc)) c.from_document.ensures)
+    rw c.in-Ok.ensures.ok (reads (λ w. w) c.from_document.result (first_fault (conditions format doc)) (world_of_tables (tables_of format doc)) c.from_document.ensures)

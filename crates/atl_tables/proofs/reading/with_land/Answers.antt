@@ -1,5 +1,5 @@
 use Rattle.std.proofs.Common.{◌<◌, length, arith}
-use Rattle.atl_tables.specs.Planet.{is_land}
+use Rattle.atl_tables.specs.Worlds.{is_land}
 use Rattle.atl_tables.specs.Sums.{numbers_where}
 use Rattle.atl_tables.proofs.reading.with_land.Goals as goal
 

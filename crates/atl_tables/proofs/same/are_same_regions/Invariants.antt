@@ -1,5 +1,5 @@
 use Rattle.std.proofs.Common.{◌≡◌}
-use Rattle.atl_tables.specs.Planet.{without_market}
+use Rattle.atl_tables.specs.Worlds.{without_market}
 use Rattle.atl_tables.specs.Sums.{mapped}
 use Rattle.atl_tables.proofs.SameLaws.{bare}
 use Rattle.atl_tables.proofs.same.are_same_regions.Given as goal

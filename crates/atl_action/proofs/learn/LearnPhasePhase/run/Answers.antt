@@ -2,7 +2,7 @@ use Rattle.std.proofs.Common.{ap, subst, sym, ◌∙◌}
 use Rattle.std.specs.Ordering.{nat_cmp}
 use Rattle.std.specs.FinMap.{FinMap, get, values}
 use Rattle.atl_orders.specs.Mailing.{Reading}
-use Rattle.atl_instant.specs.Course.{Aliases}
+use Rattle.atl_instant.specs.Month.{Aliases}
 use Rattle.atl_instant.specs.PhaseOrders.{orders_of}
 use Rattle.atl_instant.specs.Steps.{AreSpared, IsOwnOrder}
 use Rattle.atl_instant.specs.declared.written.Arrangement.TheVariants.{ByUnit}
@@ -15,8 +15,8 @@ carry_out_orders-requires-clause-read c = λ f r is. c.requires.read f r (ap (λ
 
 pub returns-clause-keeps : goal.returns-clause-keeps
 returns-clause-keeps c =
-    let before = c.args.campaign.what in
-    let after = c.carry_out_orders.new.campaign.what in
+    let before = c.args.campaign.value in
+    let after = c.carry_out_orders.new.campaign.value in
     let taught = c.teach_all.new.month in
     subst (λ (r : FinMap nat_cmp Reading). AreSpared IsOwnOrder IsUnchanged (values (orders_of is_studying ByUnit c.args.month.aliases r)) before after) c.in_ok-taught.ensures.readings
     (subst (λ (a : Aliases). AreSpared IsOwnOrder IsUnchanged (values (orders_of is_studying ByUnit a taught.readings)) before after) c.in_ok-taught.ensures.aliases c.in_ok-carry_out_orders.ensures.keeps)

@@ -8,7 +8,7 @@ use Rattle.atl_action.proofs.sail.SailPhasePhase.run.Goals as goal
 pub returns-clause-keeps : goal.returns-clause-keeps
 returns-clause-keeps c =
     let w = c.args.world.now in
-    let before = c.args.campaign.what in
+    let before = c.args.campaign.value in
     let m = c.args.month in (
       all_carried w m before _ c.in_ok-carry_out_orders.ensures.keeps,
       subst (λ d. spares_others (SailsWith w before) IsUnchanged is_sailing w m before d) (sym (ap (λ p. p.0) c.in_ok-carry_out_orders.ensures.meaning))

@@ -2,9 +2,9 @@ use Rattle.std.proofs.Common.{◌≡◌, refl, ap, subst, sym, ◌∙◌, get_or
 use Rattle.std.specs.Prelude.{fold, Some}
 use Rattle.std.specs.FinMap.{get}
 use Rattle.atl_state.specs.Good.{IsEarly}
-use Rattle.atl_state.specs.State.{State}
+use Rattle.atl_state.specs.Campaign.{CampaignValue}
 use Rattle.atl_state.proofs.CoverLaws.{marks-refl, marks-trans}
-use Rattle.atl_instant.specs.Course.{Course}
+use Rattle.atl_instant.specs.Month.{MonthValue}
 use Rattle.atl_instant.specs.Steps.{StepsWell}
 use Rattle.atl_instant.specs.Unbooked.{books_nothing}
 use Rattle.atl_instant.proofs.FoldLaws.{fold_behind, fold_ended}
@@ -19,46 +19,46 @@ pub loop-order-init : goal.loop-order-init
 loop-order-init c = record {
   orders = refl;
   readings = refl;
-  well = well_same c.args._world.now c.args.campaign.what c.requires.needs;
+  well = well_same c.args._world.now c.args.campaign.value c.requires.needs;
   stays = λ n u there. there;
   marks = marks-refl c.args.campaign;
 }
 
 pub form_one-requires : goal.form_one-requires
-form_one-requires c = record { free = free_number c.args._world.now c.loop-order.campaign.what c.loop-order.invariant.well.holds_still }
+form_one-requires c = record { free = free_number c.args._world.now c.loop-order.campaign.value c.loop-order.invariant.well.holds_still }
 
 pub loop-order-preserved : goal.loop-order-preserved
 loop-order-preserved c =
     let w = c.args._world.now in
-    let old = c.args.campaign.what in
-    let now = c.loop-order.campaign.what in
-    let before : State × Course = (now, c.loop-order.month) in
+    let old = c.args.campaign.value in
+    let now = c.loop-order.campaign.value in
+    let before : CampaignValue × MonthValue = (now, c.loop-order.month) in
     let xs = c.deref-order-items.result.now in
     let i = c.loop-order.order-index in
     let o = get_or xs i no_order in
     let one = found_written form_order c.args.month.readings in
     let step = c.in_ok-form_one.ensures.step ∙ ap (λ r. found_written form_order r before o) c.loop-order.invariant.readings in
-    let what = ap (λ (p : State × Course). p.0) c.in_ok-form_one.ensures.step in
+    let what = ap (λ (p : CampaignValue × MonthValue). p.0) c.in_ok-form_one.ensures.step in
     let early = c.loop-order.invariant.well.holds_still in
     record {
       orders = fold_behind one xs i no_order before c.loop-order-test.true step c.loop-order.invariant.orders;
-      readings = ap (λ (p : State × Course). p.1.readings) step ∙ written_readings c.args.month.readings before o ∙ c.loop-order.invariant.readings;
+      readings = ap (λ (p : CampaignValue × MonthValue). p.1.readings) step ∙ written_readings c.args.month.readings before o ∙ c.loop-order.invariant.readings;
       well = well_twice w old now _ c.loop-order.invariant.well (subst (λ d. StepsWell IsEarly books_nothing w now d) (sym what) (written_well w now early c.loop-order.month o));
-      stays = λ n u there. subst (λ (d : State). get d.units n ≡ Some u) (sym what) (written_stays w now early c.loop-order.month o n u (c.loop-order.invariant.stays n u there));
+      stays = λ n u there. subst (λ (d : CampaignValue). get d.units n ≡ Some u) (sym what) (written_stays w now early c.loop-order.month o n u (c.loop-order.invariant.stays n u there));
       marks = marks-trans c.args.campaign c.loop-order.campaign _ c.loop-order.invariant.marks c.in_ok-form_one.ensures.marks;
     }
 
 pub returns-clause-meaning : goal.returns-clause-meaning
 returns-clause-meaning c =
-    let start : State × Course = (c.args.campaign.what, c.args.month) in
-    let behind : State × Course = (c.loop-order.campaign.what, c.loop-order.month) in
+    let start : CampaignValue × MonthValue = (c.args.campaign.value, c.args.month) in
+    let behind : CampaignValue × MonthValue = (c.loop-order.campaign.value, c.loop-order.month) in
     let one = found_written form_order c.args.month.readings in
     fold_ended one c.deref-order-items.result.now c.loop-order.order-index behind (omega (arith, c.loop-order-test.false)) c.loop-order.invariant.orders
     ∙ ap (fold one start) (c.deref-order-items.ensures.value ∙ c.in_ok-orders.ensures)
-    ∙ written_out c.args._world.now c.args.campaign.what c.args.month
+    ∙ written_out c.args._world.now c.args.campaign.value c.args.month
 
 pub returns-clause-leaves : goal.returns-clause-leaves
-returns-clause-leaves c = leaves_well c.args._world.now c.args.campaign.what c.loop-order.campaign.what (λ e t. omega arith) c.loop-order.invariant.well
+returns-clause-leaves c = leaves_well c.args._world.now c.args.campaign.value c.loop-order.campaign.value (λ e t. omega arith) c.loop-order.invariant.well
 
 pub returns-clause-keeps : goal.returns-clause-keeps
 returns-clause-keeps c = c.loop-order.invariant.stays

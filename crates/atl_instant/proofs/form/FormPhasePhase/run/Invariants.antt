@@ -11,9 +11,9 @@ use Rattle.atl_instant.specs.Carrying.{found_written}
 
 abbrev pub invariant-loop-order : goal.invariant-loop-order
 invariant-loop-order l = record {
-  orders : fold (found_written form_order l.fn.month.readings) (l.campaign.what, l.month) (drop l.order-index l.order-items) ≡ fold (found_written form_order l.fn.month.readings) (l.fn.campaign.what, l.fn.month) l.order-items;
+  orders : fold (found_written form_order l.fn.month.readings) (l.campaign.value, l.month) (drop l.order-index l.order-items) ≡ fold (found_written form_order l.fn.month.readings) (l.fn.campaign.value, l.fn.month) l.order-items;
   readings : l.month.readings ≡ l.fn.month.readings;
-  well : StepsWell IsEarly books_nothing l._world l.fn.campaign.what l.campaign.what;
-  stays : Every (λ n u. get l.campaign.what.units n ≡ Some u) l.fn.campaign.what.units;
+  well : StepsWell IsEarly books_nothing l._world l.fn.campaign.value l.campaign.value;
+  stays : Every (λ n u. get l.campaign.value.units n ≡ Some u) l.fn.campaign.value.units;
   marks : MarksChanges l.fn.campaign l.campaign;
 }

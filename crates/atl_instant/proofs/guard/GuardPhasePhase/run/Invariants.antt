@@ -11,10 +11,10 @@ use Rattle.atl_instant.proofs.guard.GuardPhasePhase.run.Given as goal
 
 abbrev pub invariant-loop-order : goal.invariant-loop-order
 invariant-loop-order l = record {
-  orders : fold (found_written (one_order guard_step l._world) l.fn.month.readings) (l.campaign.what, l.month) (drop l.order-index l.order-items)
-      ≡ fold (found_written (one_order guard_step l._world) l.fn.month.readings) (l.fn.campaign.what, l.fn.month) l.order-items;
+  orders : fold (found_written (one_order guard_step l._world) l.fn.month.readings) (l.campaign.value, l.month) (drop l.order-index l.order-items)
+      ≡ fold (found_written (one_order guard_step l._world) l.fn.month.readings) (l.fn.campaign.value, l.fn.month) l.order-items;
   readings : l.month.readings ≡ l.fn.month.readings;
-  well : StepsWell IsSteady books_nothing l._world l.fn.campaign.what l.campaign.what;
-  held : AreHolders l.campaign.what l.holders;
+  well : StepsWell IsSteady books_nothing l._world l.fn.campaign.value l.campaign.value;
+  held : AreHolders l.campaign.value l.holders;
   marks : MarksChanges l.fn.campaign l.campaign;
 }

@@ -8,15 +8,15 @@ use Rattle.atl_market.proofs.ProduceLaws.{can_share_out, produce_keeps_others, p
 use Rattle.atl_market.proofs.produce.ProducePhasePhase.run.Goals as goal
 
 pub share_out-requires-clause-can : goal.share_out-requires-clause-can
-share_out-requires-clause-can c = can_share_out c.in_ok-asked.asked c.args.world.now c.args.campaign.what c.world_is_sound.ensures c.requires.needs c.deref-2.result.now c.requires.room
+share_out-requires-clause-can c = can_share_out c.in_ok-asked.asked c.args.world.now c.args.campaign.value c.world_is_sound.ensures c.requires.needs c.deref-2.result.now c.requires.room
 
 pub returns-clause-leaves : goal.returns-clause-leaves
 returns-clause-leaves c =
-    subst (λ d. LeavesWell IsSteady (produce_moves most_moved) c.args.world.now c.args.campaign.what d) (sym c.in_ok-events.ensures.what)
-    (produce_leaves_well c.in_ok-asked.asked c.args.world.now c.args.campaign.what c.world_is_sound.ensures c.requires.needs c.deref-2.result.now c.requires.room)
+    subst (λ d. LeavesWell IsSteady (produce_moves most_moved) c.args.world.now c.args.campaign.value d) (sym c.in_ok-events.ensures.what)
+    (produce_leaves_well c.in_ok-asked.asked c.args.world.now c.args.campaign.value c.world_is_sound.ensures c.requires.needs c.deref-2.result.now c.requires.room)
 
 pub returns-clause-keeps : goal.returns-clause-keeps
 returns-clause-keeps c =
     let orders : c.deref-2.result.now ≡ written_by_unit is_produce c.args.month = search rules in
-    let kept = produce_keeps_others c.in_ok-asked.asked c.args.world.now c.args.campaign.what c.deref-2.result.now in
-    subst (λ os. OthersAreNoWorse os c.args.campaign.what c.share_out.new.campaign.what) orders (subst (λ d. OthersAreNoWorse c.deref-2.result.now c.args.campaign.what d) (sym c.in_ok-events.ensures.what) kept)
+    let kept = produce_keeps_others c.in_ok-asked.asked c.args.world.now c.args.campaign.value c.deref-2.result.now in
+    subst (λ os. OthersAreNoWorse os c.args.campaign.value c.share_out.new.campaign.value) orders (subst (λ d. OthersAreNoWorse c.deref-2.result.now c.args.campaign.value d) (sym c.in_ok-events.ensures.what) kept)

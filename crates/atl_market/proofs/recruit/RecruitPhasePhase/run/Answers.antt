@@ -8,15 +8,15 @@ use Rattle.atl_market.proofs.RecruitLaws.{all_recruits_leave_well, can_share_out
 use Rattle.atl_market.proofs.recruit.RecruitPhasePhase.run.Goals as goal
 
 pub share_out-requires-clause-can : goal.share_out-requires-clause-can
-share_out-requires-clause-can c = can_share_out c.args.world.now c.args.campaign.what c.requires.needs c.in_ok-asked.asked c.deref-2.result.now c.requires.room
+share_out-requires-clause-can c = can_share_out c.args.world.now c.args.campaign.value c.requires.needs c.in_ok-asked.asked c.deref-2.result.now c.requires.room
 
 pub returns-clause-leaves : goal.returns-clause-leaves
 returns-clause-leaves c =
-    subst (λ d. LeavesWell IsEarly (recruit_moves most_moved) c.args.world.now c.args.campaign.what d) (sym c.in_ok-events.ensures.what)
-    (all_recruits_leave_well c.args.world.now c.args.campaign.what c.requires.needs c.in_ok-asked.asked c.deref-2.result.now c.requires.room)
+    subst (λ d. LeavesWell IsEarly (recruit_moves most_moved) c.args.world.now c.args.campaign.value d) (sym c.in_ok-events.ensures.what)
+    (all_recruits_leave_well c.args.world.now c.args.campaign.value c.requires.needs c.in_ok-asked.asked c.deref-2.result.now c.requires.room)
 
 pub returns-clause-keeps : goal.returns-clause-keeps
 returns-clause-keeps c =
     let orders : c.deref-2.result.now ≡ written_by_unit is_recruit c.args.month = search rules in
-    let kept = recruit_keeps_others c.in_ok-asked.asked c.args.world.now c.args.campaign.what c.deref-2.result.now in
-    subst (λ os. OthersAreNoWorse os c.args.campaign.what c.share_out.new.campaign.what) orders (subst (λ d. OthersAreNoWorse c.deref-2.result.now c.args.campaign.what d) (sym c.in_ok-events.ensures.what) kept)
+    let kept = recruit_keeps_others c.in_ok-asked.asked c.args.world.now c.args.campaign.value c.deref-2.result.now in
+    subst (λ os. OthersAreNoWorse os c.args.campaign.value c.share_out.new.campaign.value) orders (subst (λ d. OthersAreNoWorse c.deref-2.result.now c.args.campaign.value d) (sym c.in_ok-events.ensures.what) kept)

@@ -7,12 +7,12 @@ use Rattle.atl_market.proofs.TaxLaws.{all_taxes_leave_well, can_share_out, tax_k
 use Rattle.atl_market.proofs.tax.TaxPhasePhase.run.Goals as goal
 
 pub share_out-requires : goal.share_out-requires
-share_out-requires c = record { needs = c.requires.needs; can = can_share_out c.args.world.now c.args.campaign.what c.requires.needs c.deref.result.now }
+share_out-requires c = record { needs = c.requires.needs; can = can_share_out c.args.world.now c.args.campaign.value c.requires.needs c.deref.result.now }
 
 pub returns-clause-leaves : goal.returns-clause-leaves
 returns-clause-leaves c =
-    subst (λ d. LeavesWell IsEarly moves_nothing c.args.world.now c.args.campaign.what d) (sym c.in_ok-events.ensures.what)
-    (all_taxes_leave_well c.args.world.now c.args.campaign.what c.requires.needs c.deref.result.now)
+    subst (λ d. LeavesWell IsEarly moves_nothing c.args.world.now c.args.campaign.value d) (sym c.in_ok-events.ensures.what)
+    (all_taxes_leave_well c.args.world.now c.args.campaign.value c.requires.needs c.deref.result.now)
 
 pub returns-clause-keeps : goal.returns-clause-keeps
-returns-clause-keeps c = subst (λ d. AreNoWorse c.args.campaign.what d) (sym c.in_ok-events.ensures.what) (tax_keeps_units c.args.world.now c.args.campaign.what c.deref.result.now)
+returns-clause-keeps c = subst (λ d. AreNoWorse c.args.campaign.value d) (sym c.in_ok-events.ensures.what) (tax_keeps_units c.args.world.now c.args.campaign.value c.deref.result.now)

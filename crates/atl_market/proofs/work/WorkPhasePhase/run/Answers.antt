@@ -7,12 +7,12 @@ use Rattle.atl_market.proofs.WorkLaws.{can_share_out, work_keeps_units, work_lea
 use Rattle.atl_market.proofs.work.WorkPhasePhase.run.Goals as goal
 
 pub share_out-requires : goal.share_out-requires
-share_out-requires c = record { needs = c.requires.needs; can = can_share_out c.args.world.now c.args.campaign.what c.requires.needs c.deref.result.now c.requires.room }
+share_out-requires c = record { needs = c.requires.needs; can = can_share_out c.args.world.now c.args.campaign.value c.requires.needs c.deref.result.now c.requires.room }
 
 pub returns-clause-leaves : goal.returns-clause-leaves
 returns-clause-leaves c =
-    subst (λ d. LeavesWell IsSteady (work_moves most_moved) c.args.world.now c.args.campaign.what d) (sym c.in_ok-events.ensures.what)
-    (work_leaves_well c.args.world.now c.args.campaign.what c.requires.needs c.deref.result.now c.requires.room)
+    subst (λ d. LeavesWell IsSteady (work_moves most_moved) c.args.world.now c.args.campaign.value d) (sym c.in_ok-events.ensures.what)
+    (work_leaves_well c.args.world.now c.args.campaign.value c.requires.needs c.deref.result.now c.requires.room)
 
 pub returns-clause-keeps : goal.returns-clause-keeps
-returns-clause-keeps c = subst (λ d. AreNoWorse c.args.campaign.what d) (sym c.in_ok-events.ensures.what) (work_keeps_units c.args.world.now c.args.campaign.what c.deref.result.now)
+returns-clause-keeps c = subst (λ d. AreNoWorse c.args.campaign.value d) (sym c.in_ok-events.ensures.what) (work_keeps_units c.args.world.now c.args.campaign.value c.deref.result.now)

@@ -14,15 +14,15 @@ receivers_of-requires c n u is = (c.requires.needs.numbers.units n u is).0
 pub sweep_units-requires-clause-room : goal.sweep_units-requires-clause-room
 sweep_units-requires-clause-room c =
     let w = c.args.world.now in
-    let before = c.args.campaign.what in
+    let before = c.args.campaign.value in
     let list : c.deref.result.now ≡ menless before = search rules in
     rw list (room_less (moved_times (length (menless before)) (loses_by most_amount)) (loses_by most_moved) before (loses_little (length (menless before)) (few_menless w before c.requires.needs)) c.requires.room)
 
 pub returns : goal.returns
 returns c =
     let w = c.args.world.now in
-    let before = c.args.campaign.what in
-    let is : c.sweep_factions.new.campaign.what ≡ sweep before = search rules in
+    let before = c.args.campaign.value in
+    let is : c.sweep_factions.new.campaign.value ≡ sweep before = search rules in
     record {
       meaning = first_of (search rules, grind (arith, common_steps));
       leaves = rw is (sweep_leaves_well w before c.requires.needs);

@@ -7,20 +7,20 @@ use Rattle.atl_month.proofs.upkeep.UpkeepPhasePhase.run.Goals as goal
 pub upkeep_of_all-requires : goal.upkeep_of_all-requires
 upkeep_of_all-requires c =
     let w = c.args.world.now in
-    let before = c.args.campaign.what in
+    let before = c.args.campaign.value in
     let list : c.deref-2.result.now ≡ settlements w before = search rules in
     (w, rw list (all_settle w before c.rules.ensures.world.rules.maintenance_least c.requires.needs c.requires.room))
 
 pub returns-clause-leaves : goal.returns-clause-leaves
 returns-clause-leaves c =
     let w = c.args.world.now in
-    let before = c.args.campaign.what in
-    let is : c.upkeep_of_all.new.campaign.what ≡ upkeep before (settlements w before) = search rules in
+    let before = c.args.campaign.value in
+    let is : c.upkeep_of_all.new.campaign.value ≡ upkeep before (settlements w before) = search rules in
     rw is (upkeep_leaves_well w before c.rules.ensures.world.rules.maintenance_least c.requires.needs c.requires.room)
 
 pub returns-clause-keeps : goal.returns-clause-keeps
 returns-clause-keeps c =
     let w = c.args.world.now in
-    let before = c.args.campaign.what in
-    let is : c.upkeep_of_all.new.campaign.what ≡ upkeep before (settlements w before) = search rules in
+    let before = c.args.campaign.value in
+    let is : c.upkeep_of_all.new.campaign.value ≡ upkeep before (settlements w before) = search rules in
     rw is (upkeep_is_of_peers w before)

@@ -5,4 +5,4 @@ pub run-requires-clause-needs : goal.run-requires-clause-needs
 run-requires-clause-needs c = c.requires.good.sound.steady
 
 pub run-requires-clause-room : goal.run-requires-clause-room
-run-requires-clause-room c = room_for_work c.args.world.now c.args.campaign.what c.requires.good
+run-requires-clause-room c = room_for_work c.args.world.now c.args.campaign.value c.requires.good

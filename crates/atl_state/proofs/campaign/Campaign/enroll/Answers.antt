@@ -7,15 +7,15 @@ use Rattle.atl_state.specs.declared.books.Thing.TheVariants.{Money, People}
 use Rattle.atl_state.specs.Marks.{amount_marked}
 use Rattle.atl_state.proofs.AmountMarkLaws.{fits_amount, more_marked}
 use Rattle.atl_state.proofs.MadeOf.{undone}
-use Rattle.atl_state.specs.State.{State, Marked}
+use Rattle.atl_state.specs.Campaign.{CampaignValue, MarkedCampaign}
 use Rattle.atl_state.specs.Joining.{joined}
 use Rattle.atl_state.proofs.JoinLaws.{joining_small}
 use Rattle.atl_state.proofs.campaign.Campaign.enroll.Goals as goal
 
 pub book_joining-requires : goal.book_joining-requires
 book_joining-requires c =
-    let books : c.self-2.inside.books ≡ c.args.self.now.what.books = ap (λ (m : Marked). m.what.books) c.self-2.view_is ∙ ap (λ (s : State). s.books) c.in-Ok.ensures.ok ∙ ap (λ (m : Marked). m.what.books) c.self.view_is in
-    let small = joining_small c.args.world.now c.args.self.now.what c.requires.sound in
+    let books : c.self-2.inside.books ≡ c.args.self.now.value.books = ap (λ (m : MarkedCampaign). m.value.books) c.self-2.view_is ∙ ap (λ (s : CampaignValue). s.books) c.in-Ok.ensures.ok ∙ ap (λ (m : MarkedCampaign). m.value.books) c.self.view_is in
+    let small = joining_small c.args.world.now c.args.self.now.value c.requires.sound in
     rw books record {
       rows = omega (arith, c.requires.sound.steady.numbers.books.rows);
       money = small.0;
@@ -24,24 +24,24 @@ book_joining-requires c =
 
 pub returns-in-Err-clause-err : goal.returns-in-Err-clause-err
 returns-in-Err-clause-err c =
-    let fresh : get c.self.inside.factions.values c.self.inside.next_faction ≡ None = rw (← c.self.view_is) at (c.requires.sound.steady.next.factions.free c.args.self.now.what.next_faction (omega arith)) in
+    let fresh : get c.self.inside.factions.values c.self.inside.next_faction ≡ None = rw (← c.self.view_is) at (c.requires.sound.steady.next.factions.free c.args.self.now.value.next_faction (omega arith)) in
     let same = c.self-2.view_is ∙ c.in-Err.ensures.err in
-    let inserted : c.self-2.inside.factions ≡ c.insert.new.self = ap (λ (m : Marked). record { values = m.what.factions; marks = m.marks.factions }) same in
+    let inserted : c.self-2.inside.factions ≡ c.insert.new.self = ap (λ (m : MarkedCampaign). record { values = m.value.factions; marks = m.marks.factions }) same in
     let back =
     undone c.self.inside.factions c.self-2.inside.factions c.take_out.new.self c.self.inside.next_faction c.in_ok-member.member c.is_marked-was_marked.result fresh c.is_marked-was_marked.ensures (inserted ∙ c.in_ok-insert.ensures.ok)
     c.take_out.ensures in
     rw back
-    (ap (λ (m : Marked). record { what = record m.what { factions = c.self.inside.factions.values }; marks = record m.marks { factions = c.self.inside.factions.marks } }) same ∙ c.self.view_is)
+    (ap (λ (m : MarkedCampaign). record { value = record m.value { factions = c.self.inside.factions.values }; marks = record m.marks { factions = c.self.inside.factions.marks } }) same ∙ c.self.view_is)
 
 pub add-requires : goal.add-requires
 add-requires c =
-    let books : c.self-2.inside.books ≡ c.args.self.now.what.books = ap (λ (m : Marked). m.what.books) c.self-2.view_is ∙ ap (λ (s : State). s.books) c.in-Ok.ensures.ok ∙ ap (λ (m : Marked). m.what.books) c.self.view_is in
+    let books : c.self-2.inside.books ≡ c.args.self.now.value.books = ap (λ (m : MarkedCampaign). m.value.books) c.self-2.view_is ∙ ap (λ (s : CampaignValue). s.books) c.in-Ok.ensures.ok ∙ ap (λ (m : MarkedCampaign). m.value.books) c.self.view_is in
     let rows = ap (λ (b : List (List ℤ)). length b) books ∙ c.requires.sound.steady.numbers.books.rows in
     rw c.amount_number.ensures (fits_amount (length c.self-2.inside.books) c.self-2.inside.amounts_marked Joining Money (omega (arith, rows)) c.self-2.invariant.amounts)
 
 pub add-requires-2 : goal.add-requires-2
 add-requires-2 c =
-    let books : c.self-2.inside.books ≡ c.args.self.now.what.books = ap (λ (m : Marked). m.what.books) c.self-2.view_is ∙ ap (λ (s : State). s.books) c.in-Ok.ensures.ok ∙ ap (λ (m : Marked). m.what.books) c.self.view_is in
+    let books : c.self-2.inside.books ≡ c.args.self.now.value.books = ap (λ (m : MarkedCampaign). m.value.books) c.self-2.view_is ∙ ap (λ (s : CampaignValue). s.books) c.in-Ok.ensures.ok ∙ ap (λ (m : MarkedCampaign). m.value.books) c.self.view_is in
     let rows = ap (λ (b : List (List ℤ)). length b) books ∙ c.requires.sound.steady.numbers.books.rows in
     let things = length c.self-2.inside.books in
     let marks = c.self-2.inside.amounts_marked in
@@ -50,7 +50,7 @@ add-requires-2 c =
 
 pub invariant_of-self-3 : goal.invariant_of-self-3
 invariant_of-self-3 c =
-    let books : c.self-2.inside.books ≡ c.args.self.now.what.books = ap (λ (m : Marked). m.what.books) c.self-2.view_is ∙ ap (λ (s : State). s.books) c.in-Ok.ensures.ok ∙ ap (λ (m : Marked). m.what.books) c.self.view_is in
+    let books : c.self-2.inside.books ≡ c.args.self.now.value.books = ap (λ (m : MarkedCampaign). m.value.books) c.self-2.view_is ∙ ap (λ (s : CampaignValue). s.books) c.in-Ok.ensures.ok ∙ ap (λ (m : MarkedCampaign). m.value.books) c.self.view_is in
     let rows = ap (λ (b : List (List ℤ)). length b) books ∙ c.requires.sound.steady.numbers.books.rows in
     let things = length c.self-2.inside.books in
     let marks = c.self-2.inside.amounts_marked in
@@ -64,6 +64,6 @@ invariant_of-self-3 c =
 pub returns-clause-ok : goal.returns-clause-ok
 unfolding joined
 returns-clause-ok c =
-    let back = ap (λ (m : Marked). m.what) c.self-2.view_is ∙ c.in-Ok.ensures.ok in
-    ap (λ (s : State). record s { next_faction = c.self.inside.next_faction + 1; books = c.book_joining.new.books }) back
-    ∙ rw (← c.self.view_is, c.book_joining.ensures, ap (λ (s : State). s.books) back, c.in_ok-insert.ensures.ok, c.in_ok-member.ensures, c.in_ok-unit.ensures, c.home-region.ensures, c.rules.ensures.value) refl
+    let back = ap (λ (m : MarkedCampaign). m.value) c.self-2.view_is ∙ c.in-Ok.ensures.ok in
+    ap (λ (s : CampaignValue). record s { next_faction = c.self.inside.next_faction + 1; books = c.book_joining.new.books }) back
+    ∙ rw (← c.self.view_is, c.book_joining.ensures, ap (λ (s : CampaignValue). s.books) back, c.in_ok-insert.ensures.ok, c.in_ok-member.ensures, c.in_ok-unit.ensures, c.home-region.ensures, c.rules.ensures.value) refl

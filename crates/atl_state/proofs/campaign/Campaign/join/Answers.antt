@@ -12,4 +12,4 @@ enroll-requires-clause-pass c = pass_ok-IsUtf8 c.args.pass.now c.requires.pass
 pub returns-in-Ok-clause-sound : goal.returns-in-Ok-clause-sound
 returns-in-Ok-clause-sound c =
     rw c.in-Ok.ensures.ok
-    (joined-sound c.args.world.now c.args.name.now c.args.pass.now c.args.word c.args.self.now.what (sym c.if-is_full.ensures) (sym c.if-is_name_taken.ensures) c.requires.name c.requires.pass c.enroll.ensures.world c.requires.good.sound)
+    (joined-sound c.args.world.now c.args.name.now c.args.pass.now c.args.word c.args.self.now.value (sym c.if-is_full.ensures) (sym c.if-is_name_taken.ensures) c.requires.name c.requires.pass c.enroll.ensures.world c.requires.good.sound)

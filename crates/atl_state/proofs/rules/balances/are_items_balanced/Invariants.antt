@@ -5,4 +5,4 @@ use Rattle.atl_state.specs.declared.books.Thing.TheVariants.{Item}
 use Rattle.atl_state.proofs.rules.balances.are_items_balanced.Given as goal
 
 abbrev pub invariant-loop-item : goal.invariant-loop-item
-invariant-loop-item l = (i : ℕ) → i < l.item → pos (total l.campaign.what (Item i)) ≡ booked l.campaign.what.books (Item i)
+invariant-loop-item l = (i : ℕ) → i < l.item → pos (total l.campaign.value (Item i)) ≡ booked l.campaign.value.books (Item i)

@@ -5,7 +5,7 @@ use Rattle.std.specs.Ordering.{nat_cmp}
 use Rattle.std.specs.FinMap.{FinMap}
 use Rattle.atl_state.specs.declared.records.Faction.{Faction}
 use Rattle.atl_state.specs.declared.records.Unit.{Unit}
-use Rattle.atl_state.specs.State.{State, numbers_of}
+use Rattle.atl_state.specs.Campaign.{CampaignValue, numbers_of}
 use Rattle.atl_state.specs.Good.{Every, GoneHaveNone, NoneAreGone}
 use Rattle.atl_state.proofs.RuleLaws.{every_by_all}
 use Rattle.atl_state.proofs.rules.gone.are_gone.Goals as goal
@@ -13,13 +13,13 @@ use Rattle.atl_state.proofs.rules.gone.are_gone.Goals as goal
 abbrev IsGoneWithout : FinMap nat_cmp Unit → ℕ → Faction → Type 0
 IsGoneWithout units n f = (f.gone ≡ true → numbers_of n units ≡ []) × (numbers_of n units ≡ [] → f.gone ≡ true)
 
-apart : (c : State) → Every (IsGoneWithout c.units) c.factions → GoneHaveNone c × NoneAreGone c
+apart : (c : CampaignValue) → Every (IsGoneWithout c.units) c.factions → GoneHaveNone c × NoneAreGone c
 apart c every = (λ n f is. (every n f is).0, λ n f is. (every n f is).1)
 
-together : (c : State) → GoneHaveNone c × NoneAreGone c → Every (IsGoneWithout c.units) c.factions
+together : (c : CampaignValue) → GoneHaveNone c × NoneAreGone c → Every (IsGoneWithout c.units) c.factions
 together c both n f is = (both.0 n f is, both.1 n f is)
 
 pub returns : goal.returns
 returns c =
-    let what = c.args.campaign.now.what in
+    let what = c.args.campaign.now.value in
     Decides-like c.all.result (apart what) (together what) (every_by_all (IsGoneWithout what.units) _ _ _ c.all.ensures.ran what.factions (search rules) (λ x q k. search (rules, tests)) (λ x q k. search (rules, tests)))

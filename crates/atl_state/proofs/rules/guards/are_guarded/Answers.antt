@@ -7,5 +7,5 @@ use Rattle.atl_state.proofs.rules.guards.are_guarded.Goals as goal
 
 pub returns : goal.returns
 returns c =
-    let what = c.args.campaign.now.what in
+    let what = c.args.campaign.now.value in
     Decides-like c.all.result (of_one_faction what c.requires) (held_by_one what) (every_by_all (λ r _. IsHeldByOne what r) _ _ _ c.all.ensures.ran what.regions (search rules) (λ x q k. search (rules, tests)) (λ x q k. search (rules, tests)))

@@ -1,7 +1,7 @@
 use Rattle.std.proofs.Common.{◌≡◌, drop, None}
 use Rattle.atl_state.specs.Deciding.{guard_of, one_holder}
-use Rattle.atl_state.specs.State.{numbers_in}
+use Rattle.atl_state.specs.Campaign.{numbers_in}
 use Rattle.atl_state.proofs.rules.guards.has_one_holder.Given as goal
 
 abbrev pub invariant-loop-number : goal.invariant-loop-number
-invariant-loop-number l = one_holder (guard_of l.campaign.what) l.holder (drop l.number-index (numbers_in l.region l.campaign.what.units)) ≡ one_holder (guard_of l.campaign.what) None (numbers_in l.region l.campaign.what.units)
+invariant-loop-number l = one_holder (guard_of l.campaign.value) l.holder (drop l.number-index (numbers_in l.region l.campaign.value.units)) ≡ one_holder (guard_of l.campaign.value) None (numbers_in l.region l.campaign.value.units)

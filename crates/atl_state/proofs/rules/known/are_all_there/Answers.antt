@@ -5,4 +5,4 @@ use Rattle.atl_state.proofs.RuleLaws.{every_by_all}
 use Rattle.atl_state.proofs.rules.known.are_all_there.Goals as goal
 
 pub returns : goal.returns
-returns c = every_by_all (λ n p. IsThere c.args.campaign.now.what.regions n) _ _ _ c.all.ensures.ran c.args.world.now.regions (search rules) (λ x q k. search (rules, tests)) (λ x q k. search (rules, tests))
+returns c = every_by_all (λ n p. IsThere c.args.campaign.now.value.regions n) _ _ _ c.all.ensures.ran c.args.world.now.regions (search rules) (λ x q k. search (rules, tests)) (λ x q k. search (rules, tests))

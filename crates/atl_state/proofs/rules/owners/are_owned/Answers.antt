@@ -2,35 +2,35 @@ use Rattle.std.proofs.Common.{◌≡◌, ◌≢◌, false, Some, sym, ap, ◌∙
 use Rattle.std.proofs.lemmas.Bool.{false≢true}
 use Rattle.std.specs.FinMap.{get}
 use Rattle.atl_state.specs.declared.records.Structure.{Structure}
-use Rattle.atl_state.specs.State.{State}
+use Rattle.atl_state.specs.Campaign.{CampaignValue}
 use Rattle.atl_state.specs.Deciding.{HasOwnerInside}
 use Rattle.atl_state.specs.Good.{Every, AreOwned}
 use Rattle.atl_state.proofs.rules.owners.are_owned.Goals as goal
 
-abbrev HaveOwners : State → Type 0
+abbrev HaveOwners : CampaignValue → Type 0
 HaveOwners c = Every (HasOwnerInside c) c.structures
 
-abbrev AreWithOwners : State → Type 0
+abbrev AreWithOwners : CampaignValue → Type 0
 AreWithOwners c = Every (λ m u. (s : Structure) → get c.structures u.structure ≡ Some s → s.owner ≢ 0) c.units
 
-together : (c : State) → HaveOwners c → AreWithOwners c → AreOwned c
+together : (c : CampaignValue) → HaveOwners c → AreWithOwners c → AreOwned c
 together c owned with n s is = record {
   owned = (owned n s is).owned;
   ownerless = λ none m u there same. with m u there s (ap (get c.structures) same ∙ is) none;
 }
 
-have_owners : (c : State) → AreOwned c → HaveOwners c
+have_owners : (c : CampaignValue) → AreOwned c → HaveOwners c
 have_owners c all n s is = record { owned = (all n s is).owned }
 
-are_with_owners : (c : State) → AreOwned c → AreWithOwners c
+are_with_owners : (c : CampaignValue) → AreOwned c → AreWithOwners c
 are_with_owners c all m u there s is none = (all u.structure s is).ownerless none m u there (λ i. u.structure)
 
 pub returns-then-are_owners_inside : goal.returns-then-are_owners_inside
 returns-then-are_owners_inside c =
-    let what = c.args.campaign.now.what in
+    let what = c.args.campaign.now.value in
     (λ r. together what (c.are_owners_inside.ensures.0 (search rules)) (c.are_with_owners.ensures.0 r), λ all. c.are_with_owners.ensures.1 (are_with_owners what all))
 
 pub returns-else-are_owners_inside : goal.returns-else-are_owners_inside
 returns-else-are_owners_inside c =
     let fails : c.are_owners_inside.result ≡ false = search rules in
-    (λ r. absurd (false≢true (sym fails ∙ r)), λ all. c.are_owners_inside.ensures.1 (have_owners c.args.campaign.now.what all))
+    (λ r. absurd (false≢true (sym fails ∙ r)), λ all. c.are_owners_inside.ensures.1 (have_owners c.args.campaign.now.value all))

@@ -5,4 +5,4 @@ use Rattle.atl_state.proofs.RuleLaws.{every_by_all}
 use Rattle.atl_state.proofs.rules.reports.are_reported.Goals as goal
 
 pub returns : goal.returns
-returns c = every_by_all (λ n f. IsThere c.args.campaign.now.what.reports n) _ _ _ c.all.ensures.ran c.args.campaign.now.what.factions (search rules) (λ x q k. search (rules, tests)) (λ x q k. search (rules, tests))
+returns c = every_by_all (λ n f. IsThere c.args.campaign.now.value.reports n) _ _ _ c.all.ensures.ran c.args.campaign.now.value.factions (search rules) (λ x q k. search (rules, tests)) (λ x q k. search (rules, tests))

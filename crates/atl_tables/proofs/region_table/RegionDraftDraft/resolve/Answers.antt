@@ -1,7 +1,7 @@
 use Rattle.std.proofs.Common.{length, refl, sym, ap, ◌∙◌}
 use Rattle.std.specs.FinMap.{FinMap, get}
 use Rattle.std.specs.Ordering.{nat_cmp}
-use Rattle.atl_tables.specs.Planet.{IsMarket}
+use Rattle.atl_tables.specs.Worlds.{IsMarket}
 use Rattle.atl_tables.specs.RegionTable.{region_known, region_of}
 use Rattle.atl_tables.specs.Sums.{by_number}
 use Rattle.atl_tables.specs.declared.world.Market.{Market}

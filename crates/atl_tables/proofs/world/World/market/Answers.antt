@@ -3,7 +3,7 @@ use Rattle.std.specs.FinMap.{FinMap, get}
 use Rattle.std.specs.Option.{option_copied}
 use Rattle.std.specs.Ordering.{nat_cmp}
 use Rattle.std.specs.Prelude.{IfSome}
-use Rattle.atl_tables.specs.Planet.{IsMarket}
+use Rattle.atl_tables.specs.Worlds.{IsMarket}
 use Rattle.atl_tables.specs.declared.world.Market.{Market}
 use Rattle.atl_tables.proofs.world.World.market.Goals as goal
 

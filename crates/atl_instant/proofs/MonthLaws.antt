@@ -17,7 +17,7 @@ use Rattle.std.specs.FinMap.{find, get, get-from_entries, nat_cmp-IsAntisymmetri
 use Rattle.std.proofs.lemmas.List.Sorted.{IsPermutation-map, searchable_from_sorted}
 use Rattle.atl_orders.specs.declared.mailing.Mailing.{Mailing}
 use Rattle.atl_orders.specs.Mailing.{Reading, reading_of}
-use Rattle.atl_instant.specs.Course.{HaveOwnFactions, HaveNoOrder, by_faction}
+use Rattle.atl_instant.specs.Month.{HaveOwnFactions, HaveNoOrder, by_faction}
 use Rattle.atl_instant.proofs.ListedLaws.{find_is, from_entries-permutation, keyed_order, strictly}
 
 abbrev pub by_its_faction : Reading → ℕ × Reading

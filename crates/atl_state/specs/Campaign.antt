@@ -18,7 +18,7 @@ use Rattle.atl_state.specs.Books.{with_booked}
 use Rattle.atl_state.specs.Marks.{Marks, marks_code}
 
 -- The month last closed, the moderator's pass text, the numbers that come next; factions, regions, units and structures by their numbers; mail and reports by the factions' numbers; and the books.
-pub record State : Type 0 where
+pub record CampaignValue : Type 0 where
   pub month : ℕ
   pub pass : List ℕ
   pub next_faction : ℕ
@@ -33,12 +33,12 @@ pub record State : Type 0 where
   pub books : List (List ℤ)
 
 -- what the campaign is, and what of it has changed since it was last written
-pub record Marked : Type 0 where
-  pub what : State
+pub record MarkedCampaign : Type 0 where
+  pub value : CampaignValue
   pub marks : Marks
 
-abbrev pub state_code : Coded State
-state_code =
+abbrev pub campaign_code : Coded CampaignValue
+campaign_code =
     code_by (ℕ × (List ℕ × (ℕ × (ℕ × (ℕ × (FinMap nat_cmp Faction × (FinMap nat_cmp Region × (FinMap nat_cmp Unit × (FinMap nat_cmp Structure × (FinMap nat_cmp (List ℕ) × (FinMap nat_cmp (List ℕ) × List (List ℤ))))))))))))
     (coded× coded_ℕ (coded× (coded_list coded_ℕ) (coded× coded_ℕ (coded× coded_ℕ (coded× coded_ℕ
     (coded× (code coded_ℕ faction.the_row.coded) (coded× (code coded_ℕ region.the_row.coded) (coded× (code coded_ℕ unit.the_row.coded) (coded× (code coded_ℕ structure.the_row.coded)
@@ -60,11 +60,11 @@ state_code =
     })
     (λ _. refl)
 
-abbrev pub marked_code : Coded Marked
-marked_code = code_by (State × Marks) (coded× state_code marks_code) (λ m. (m.what, m.marks)) (λ p. record { what = p.0; marks = p.1 }) (λ _. refl)
+abbrev pub marked_code : Coded MarkedCampaign
+marked_code = code_by (CampaignValue × Marks) (coded× campaign_code marks_code) (λ m. (m.value, m.marks)) (λ p. record { value = p.0; marks = p.1 }) (λ _. refl)
 
 -- the numbers of the factions that aren't gone, in rising order
-abbrev pub active : State → List ℕ
+abbrev pub active : CampaignValue → List ℕ
 active c = numbers_where (λ f. not f.gone) c.factions
 
 -- the numbers of the units that stand in a region, in rising order
@@ -82,84 +82,84 @@ numbers_inside s units = if s == 0 then [] else numbers_where (λ u. u.structure
 -- ---- one entry changed. Where there is none under the number nothing is
 
 -- the campaign with f at a faction, a region, a unit, a structure
-abbrev pub faction_changed : (Faction → Faction) → State → ℕ → State
+abbrev pub faction_changed : (Faction → Faction) → CampaignValue → ℕ → CampaignValue
 faction_changed f c n = record c { factions = changed f c.factions n }
 
-abbrev pub region_changed : (Region → Region) → State → ℕ → State
+abbrev pub region_changed : (Region → Region) → CampaignValue → ℕ → CampaignValue
 region_changed f c n = record c { regions = changed f c.regions n }
 
-abbrev pub unit_changed : (Unit → Unit) → State → ℕ → State
+abbrev pub unit_changed : (Unit → Unit) → CampaignValue → ℕ → CampaignValue
 unit_changed f c n = record c { units = changed f c.units n }
 
-abbrev pub structure_changed : (Structure → Structure) → State → ℕ → State
+abbrev pub structure_changed : (Structure → Structure) → CampaignValue → ℕ → CampaignValue
 structure_changed f c n = record c { structures = changed f c.structures n }
 
-abbrev pub with_faction_name : State → ℕ → List ℕ → State
+abbrev pub with_faction_name : CampaignValue → ℕ → List ℕ → CampaignValue
 with_faction_name c n name = faction_changed (λ f. record f { name = name }) c n
 
 -- a faction that has left the campaign
-abbrev pub with_gone : State → ℕ → State
+abbrev pub with_gone : CampaignValue → ℕ → CampaignValue
 with_gone c n = faction_changed (λ f. record f { gone = true }) c n
 
-abbrev pub with_peasants : State → ℕ → ℕ → State
+abbrev pub with_peasants : CampaignValue → ℕ → ℕ → CampaignValue
 with_peasants c n peasants = region_changed (λ r. record r { peasants = peasants }) c n
 
-abbrev pub with_region_money : State → ℕ → ℕ → State
+abbrev pub with_region_money : CampaignValue → ℕ → ℕ → CampaignValue
 with_region_money c n money = region_changed (λ r. record r { money = money }) c n
 
 -- a unit with another name
-abbrev pub with_unit_name : State → ℕ → List ℕ → State
+abbrev pub with_unit_name : CampaignValue → ℕ → List ℕ → CampaignValue
 with_unit_name c n name = unit_changed (λ u. record u { holding = record u.holding { name = name } }) c n
 
-abbrev pub with_men : State → ℕ → ℕ → State
+abbrev pub with_men : CampaignValue → ℕ → ℕ → CampaignValue
 with_men c n men = unit_changed (λ u. record u { holding = record u.holding { men = men } }) c n
 
-abbrev pub with_money : State → ℕ → ℕ → State
+abbrev pub with_money : CampaignValue → ℕ → ℕ → CampaignValue
 with_money c n money = unit_changed (λ u. record u { holding = record u.holding { money = money } }) c n
 
-abbrev pub with_guard : State → ℕ → Bool → State
+abbrev pub with_guard : CampaignValue → ℕ → Bool → CampaignValue
 with_guard c n guard = unit_changed (λ u. record u { holding = record u.holding { guard = guard } }) c n
 
-abbrev pub with_done : State → ℕ → ℕ → State
+abbrev pub with_done : CampaignValue → ℕ → ℕ → CampaignValue
 with_done c n done = structure_changed (λ s. record s { done = done }) c n
 
-abbrev pub with_structure_name : State → ℕ → List ℕ → State
+abbrev pub with_structure_name : CampaignValue → ℕ → List ℕ → CampaignValue
 with_structure_name c n name = structure_changed (λ s. record s { name = name }) c n
 
-abbrev pub with_structure_region : State → ℕ → ℕ → State
+abbrev pub with_structure_region : CampaignValue → ℕ → ℕ → CampaignValue
 with_structure_region c n region = structure_changed (λ s. record s { region = region }) c n
 
-abbrev pub with_owner : State → ℕ → ℕ → State
+abbrev pub with_owner : CampaignValue → ℕ → ℕ → CampaignValue
 with_owner c n owner = structure_changed (λ s. record s { owner = owner }) c n
 
 -- this month as the one last closed
-abbrev pub with_month : State → ℕ → State
+abbrev pub with_month : CampaignValue → ℕ → CampaignValue
 with_month c n = record c { month = n }
 
 -- so much more of a thing under an entry of the books
-abbrev pub with_amount : State → Entry → Thing → ℤ → State
+abbrev pub with_amount : CampaignValue → Entry → Thing → ℤ → CampaignValue
 with_amount c e t n = record c { books = with_booked c.books e t n }
 
 -- the campaign without mail
-abbrev pub without_mail : State → State
+abbrev pub without_mail : CampaignValue → CampaignValue
 without_mail c = record c { mail = empty }
 
 -- the campaign with one structure more, under the number that comes next
-abbrev pub with_structure_begun : State → Structure → State
+abbrev pub with_structure_begun : CampaignValue → Structure → CampaignValue
 with_structure_begun c s = record c { next_structure = c.next_structure + 1; structures = insert c.structures c.next_structure s }
 
 -- the campaign with one unit more
-abbrev pub with_unit : State → ℕ → Unit → State
+abbrev pub with_unit : CampaignValue → ℕ → Unit → CampaignValue
 with_unit c n u = record c { units = insert c.units n u }
 
 -- the campaign with one unit more, under the number that comes next
-abbrev pub with_unit_begun : State → Unit → State
+abbrev pub with_unit_begun : CampaignValue → Unit → CampaignValue
 with_unit_begun c u = record c { next_unit = c.next_unit + 1; units = insert c.units c.next_unit u }
 
 -- the campaign with this report for a faction
-abbrev pub with_report : State → ℕ → List ℕ → State
+abbrev pub with_report : CampaignValue → ℕ → List ℕ → CampaignValue
 with_report c n text = record c { reports = insert c.reports n text }
 
 -- the campaign with this mail of a faction
-abbrev pub with_mail : State → ℕ → List ℕ → State
+abbrev pub with_mail : CampaignValue → ℕ → List ℕ → CampaignValue
 with_mail c n text = record c { mail = insert c.mail n text }

@@ -26,7 +26,7 @@ abbrev pub Aliases : Type 0
 Aliases = FinMap nat_cmp (FinMap nat_cmp ℕ)
 
 -- What was read, by faction, the units that FORM made, the words of the dice, and the events so far.
-pub record Course : Type 0 where
+pub record MonthValue : Type 0 where
   pub readings : FinMap nat_cmp Reading
   pub aliases : Aliases
   pub words : List ℕ
@@ -52,8 +52,8 @@ reading_code =
     (λ p. record { faction = p.0; entries = p.1.0; faults = p.1.1 })
     (λ _. refl)
 
-abbrev pub course_code : Coded Course
-course_code =
+abbrev pub month_code : Coded MonthValue
+month_code =
     code_by (FinMap nat_cmp Reading × (Aliases × (List ℕ × List Event)))
     (coded× (code coded_ℕ reading_code) (coded× (code coded_ℕ (code coded_ℕ coded_ℕ)) (coded× (coded_list coded_ℕ) (coded_list event.the_row.coded))))
     (λ c. (c.readings, (c.aliases, (c.words, c.events))))

@@ -24,7 +24,7 @@ use Rattle.atl_tables.specs.Limits.{most_terrains, most_items, most_skills, most
 use Rattle.atl_tables.specs.Names.{name_ok, NamesDiffer}
 use Rattle.atl_tables.specs.Sums.{mapped, numbers_where}
 
-pub record Planet : Type 0 where
+pub record WorldValue : Type 0 where
   pub rules : Rules
   pub terrains : List Terrain
   pub items : List Item
@@ -32,8 +32,8 @@ pub record Planet : Type 0 where
   pub kinds : List Kind
   pub regions : FinMap nat_cmp RegionPlan
 
-abbrev pub planet_code : Coded Planet
-planet_code =
+abbrev pub world_code : Coded WorldValue
+world_code =
     code_by (Rules × (List Terrain × (List Item × (List Skill × (List Kind × FinMap nat_cmp RegionPlan)))))
     (coded× rules.the_row.coded (coded× (coded_list terrain.the_row.coded) (coded× (coded_list item.the_row.coded) (coded× (coded_list skill.the_row.coded) (coded× (coded_list kind.the_row.coded) (code coded_ℕ plan.the_row.coded))))))
     (λ p. (p.rules, (p.terrains, (p.items, (p.skills, (p.kinds, p.regions))))))
@@ -45,14 +45,14 @@ abbrev pub is_land : List Terrain → RegionPlan → Bool
 is_land terrains plan = option_map_or (λ t. t.land) (slice_get terrains plan.terrain) false
 
 -- the regions with land, by number
-abbrev pub land_of : Planet → List ℕ
+abbrev pub land_of : WorldValue → List ℕ
 land_of w = numbers_where (is_land w.terrains) w.regions
 
 -- a world with its regions' markets left out
 abbrev pub without_market : RegionPlan → RegionPlan
 without_market p = record p { markets = empty }
 
-abbrev pub without_markets : Planet → Planet
+abbrev pub without_markets : WorldValue → WorldValue
 without_markets w = record w { regions = mapped without_market w.regions }
 
 -- the neighbour of a region in a direction
@@ -152,7 +152,7 @@ pub record HasNeighbours (regions : FinMap nat_cmp RegionPlan) (number : ℕ) (n
   pub east : LeadsBack regions (λ q. q.west) number e
   pub west : LeadsBack regions (λ q. q.east) number w
 
-pub record IsWorld (w : Planet) : Type 0 where
+pub record IsWorld (w : WorldValue) : Type 0 where
   pub rules : AreRules (length w.skills) w.rules
   pub terrains : (i : ℕ) (t : Terrain) → slice_get w.terrains i ≡ Some t → IsTerrain (length w.items) t
   pub items : (i : ℕ) (x : Item) → slice_get w.items i ≡ Some x → IsItem (length w.items) (length w.skills) i x
