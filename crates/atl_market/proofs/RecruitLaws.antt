@@ -1,14 +1,14 @@
 -- Recruiting leaves a campaign well.
-use Rattle.std.proofs.Common.{◌≡◌, ◌≢◌, ◌==◌, ℕ, ◌+◌, ◌-◌, ◌*◌, ◌/◌, ◌≤◌, Bool, true, false, cond, Option, Some, None, List, [], ◌∷◌, length, refl, sym, ap, subst, ◌∙◌, arith}
+use Rattle.std.proofs.Common.{◌≡◌, ◌≢◌, ◌==◌, ℕ, ◌+◌, ◌-◌, ◌*◌, ◌/◌, ◌≤◌, false, cond, Option, Some, None, List, [], ◌∷◌, length, refl, sym, ap, subst, ◌∙◌, arith}
 use Rattle.std.specs.Prelude.{ℤ, fold, pos, neg_ℤ, ◌+ℤ◌, min}
-use Rattle.std.specs.Ordering.{eq_by_cmp, nat_cmp}
-use Rattle.std.specs.Cmp.{nat_cmp_total}
-use Rattle.std.specs.FinMap.{FinMap, entries, get, get-insert, insert, nat_cmp-IsAntisymmetric, same_map}
+use Rattle.std.specs.Ordering.{nat_cmp}
+use Rattle.std.specs.FinMap.{FinMap, entries, get, insert}
 use Rattle.std.proofs.lemmas.Int.{ints}
 use Rattle.std.proofs.lemmas.Bool.Decides.{nat_tests}
 use Rattle.std.proofs.Math.Nat.{div-le_self, mul-div-le, mul-le-mul_right, mul_comm}
 use Rattle.atl_tables.specs.Worlds.{WorldValue}
 use Rattle.atl_tables.specs.Sums.{changed, changed_at}
+use Rattle.atl_tables.proofs.Maps.{insert_over}
 use Rattle.atl_state.specs.declared.books.Entry.{Entry}
 use Rattle.atl_state.specs.declared.books.Entry.TheVariants.{Recruiting}
 use Rattle.atl_state.specs.declared.books.Thing.{Thing}
@@ -138,16 +138,6 @@ leaving_marks things c d e region peasants z d_is d_marks e_is e_marks grid two 
     let d_grid : IsGrid things d.value.books = rw books grid in
     marks-trans c d e (marks_by c d _ d_is d_marks (marks-region (λ r. record r { peasants = peasants }) c region))
     (marks_by d e _ e_is e_marks (marks-amount things d Recruiting Money z d_grid (omega arith)))
-
--- what comes last under a number stands there
-insert_over : {X : Type 0} (m : FinMap nat_cmp X) (n : ℕ) (x y : X) → insert (insert m n x) n y ≡ insert m n y
-insert_over {X = X} m n x y = same_map nat_cmp_total nat_cmp-IsAntisymmetric _ _ (λ q.
-    get-insert nat_cmp_total (insert m n x) n y q ∙ ap (cond (eq_by_cmp nat_cmp q n) (Some y)) (get-insert nat_cmp_total m n x q)
-    ∙ twice (eq_by_cmp nat_cmp q n) (get m q) ∙ sym (get-insert nat_cmp_total m n y q))
-  where
-    twice : (b : Bool) (o : Option X) → cond b (Some y) (cond b (Some x) o) ≡ cond b (Some y) o
-    twice true o = refl
-    twice false o = refl
 
 -- a unit that is there has another holding
 pub held_is : (c d : CampaignValue) (n : ℕ) (u : Unit) (h : Held) → get c.units n ≡ Some u → d ≡ with_holding c n h → d ≡ record c { units = insert c.units n (record u { holding = h }) }

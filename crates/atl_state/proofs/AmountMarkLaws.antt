@@ -1,13 +1,13 @@
 -- The marks of amounts: there is room for each.
-use Rattle.std.proofs.Common.{◌≡◌, ℕ, zero, suc, ◌+◌, ◌*◌, ◌-◌, ◌<◌, ◌≤◌, Bool, true, false, cond, not, ◌||◌, ◌&&◌, sym, ◌∙◌, subst, refl, arith}
+use Rattle.std.proofs.Common.{◌≡◌, ℕ, ◌*◌, ◌<◌, ◌≤◌, Bool, true, ◌||◌, sym, ◌∙◌, subst, refl, arith}
 use Rattle.std.proofs.lemmas.Bool.{false≢true}
 use Rattle.std.specs.declared.cmp.Ordering.TheVariants.{Less, Equal, Greater}
 use Rattle.std.specs.Ordering.{nat_cmp, eq_by_cmp, is_eq}
-use Rattle.std.specs.Cmp.{nat_cmp_total, ranked}
+use Rattle.std.specs.Cmp.{nat_cmp_total}
 use Rattle.std.specs.FinMap.{nat_cmp-IsAntisymmetric}
 use Rattle.std.specs.FinSet as set
 use Rattle.atl_tables.specs.Marked.{Marked}
-use Rattle.atl_tables.proofs.SetLaws.{len-within}
+use Rattle.atl_tables.proofs.SetLaws.{len-below}
 use Rattle.atl_state.specs.Books.{entry_place, thing_place}
 use Rattle.atl_state.specs.Kept.{MarksAmounts}
 use Rattle.atl_state.specs.Limits.{entry_count}
@@ -15,27 +15,6 @@ use Rattle.atl_state.specs.Marks.{AreOfThings, amount_number, amount_marked}
 use Rattle.atl_state.specs.declared.books.Entry.{Entry}
 use Rattle.atl_state.specs.declared.books.Thing.{Thing}
 use Rattle.atl_state.proofs.EveryEntryLaws.{entry_small}
-
-one_less : (b : Bool) (l r : ℕ) → r ≡ cond b (l - 1) l → l ≤ r + 1
-one_less true l r e = omega (arith, e)
-one_less false l r e = omega (arith, e)
-
-rest_below : (m k : ℕ) (there : Bool) → (not (eq_by_cmp nat_cmp k m) && there) ≡ true → (there ≡ true → k < m + 1) → k < m
-rest_below m k there h below = elim (nat_cmp k m) as (λ r. nat_cmp k m ≡ r → (not (is_eq r) && there) ≡ true → k < m) [
-  | Less ↦ λ e yes. let l = ranked k m Less (sym e) in omega (arith, l)
-  | Equal ↦ λ e no. absurd (false≢true no)
-  | Greater ↦ λ e yes. let l = ranked k m Greater (sym e) in absurd (omega (arith, l, below yes))
-] refl h
-
--- numbers that are all below another are, at most, as many as it says
-pub len-below : (most : ℕ) (s : set.FinSet nat_cmp) → ((k : ℕ) → set.contains s k ≡ true → k < most) → set.len s ≤ most
-len-below zero s below =
-    let none = len-within s set.empty (λ k there. absurd (omega (arith, below k there))) in
-    omega (arith, none, set.len-empty nat_cmp)
-len-below (suc m) s below =
-    let rest = len-below m (set.remove s m) (λ k there. rest_below m k (set.contains s k) (sym (set.contains-remove nat_cmp_total s m k) ∙ there) (λ yes. omega (arith, below k yes))) in
-    let more = one_less (set.contains s m) (set.len s) (set.len (set.remove s m)) (set.len-remove nat_cmp_total s m) in
-    omega (arith, rest, more)
 
 or_there : (n k : ℕ) (there : Bool) (P : ℕ → Type 0) → (eq_by_cmp nat_cmp k n || there) ≡ true → P n → (there ≡ true → P k) → P k
 or_there n k there P h itself others = elim (nat_cmp k n) as (λ r. nat_cmp k n ≡ r → (is_eq r || there) ≡ true → P k) [

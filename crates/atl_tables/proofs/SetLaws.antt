@@ -1,10 +1,10 @@
 -- Sets of numbers.
-use Rattle.std.proofs.Common.{◌≡◌, ℕ, zero, suc, ◌+◌, ◌-◌, ◌≤◌, Bool, true, false, cond, not, ◌&&◌, ◌||◌, List, [], ◌∷◌, length, refl, sym, ap, ◌∙◌, arith}
+use Rattle.std.proofs.Common.{◌≡◌, ℕ, zero, suc, ◌+◌, ◌-◌, ◌<◌, ◌≤◌, Bool, true, false, cond, not, ◌&&◌, ◌||◌, List, [], ◌∷◌, length, refl, sym, ap, ◌∙◌, arith}
 use Rattle.std.specs.List.{list_any}
 use Rattle.std.proofs.lemmas.Bool.{false≢true, and_parts, false_from_ne_true}
 use Rattle.std.specs.Ordering.{nat_cmp, eq_by_cmp, is_eq}
 use Rattle.std.specs.declared.cmp.Ordering.TheVariants.{Less, Equal, Greater}
-use Rattle.std.specs.Cmp.{nat_cmp_total}
+use Rattle.std.specs.Cmp.{nat_cmp_total, ranked}
 use Rattle.std.specs.FinMap.{nat_cmp-IsAntisymmetric}
 use Rattle.std.specs.FinSet as set
 use Rattle.atl_tables.proofs.GeneralLaws.{key_itself}
@@ -135,3 +135,24 @@ union-next s k ks = insert-union s (set.from_list ks) k ∙ sym (union-insert s 
 pub len-next : (s t : set.FinSet nat_cmp) (k : ℕ) (ks : List ℕ) → set.union s (set.from_list (k ∷ ks)) ≡ t → set.len (set.insert s k) ≤ set.len t
 len-next s t k ks h =
     len-within (set.insert s k) t (λ q e. ap (λ u. set.contains u q) (sym (union-next s k ks ∙ h)) ∙ set.contains-union nat_cmp_total (set.insert s k) (set.from_list ks) q ∙ first _ _ e)
+
+one_less : (b : Bool) (l r : ℕ) → r ≡ cond b (l - 1) l → l ≤ r + 1
+one_less true l r e = omega (arith, e)
+one_less false l r e = omega (arith, e)
+
+rest_below : (m k : ℕ) (there : Bool) → (not (eq_by_cmp nat_cmp k m) && there) ≡ true → (there ≡ true → k < m + 1) → k < m
+rest_below m k there h below = elim (nat_cmp k m) as (λ r. nat_cmp k m ≡ r → (not (is_eq r) && there) ≡ true → k < m) [
+  | Less ↦ λ e yes. let l = ranked k m Less (sym e) in omega (arith, l)
+  | Equal ↦ λ e no. absurd (false≢true no)
+  | Greater ↦ λ e yes. let l = ranked k m Greater (sym e) in absurd (omega (arith, l, below yes))
+] refl h
+
+-- numbers that are all below another are, at most, as many as it says
+pub len-below : (most : ℕ) (s : set.FinSet nat_cmp) → ((k : ℕ) → set.contains s k ≡ true → k < most) → set.len s ≤ most
+len-below zero s below =
+    let none = len-within s set.empty (λ k there. absurd (omega (arith, below k there))) in
+    omega (arith, none, set.len-empty nat_cmp)
+len-below (suc m) s below =
+    let rest = len-below m (set.remove s m) (λ k there. rest_below m k (set.contains s k) (sym (set.contains-remove nat_cmp_total s m k) ∙ there) (λ yes. omega (arith, below k yes))) in
+    let more = one_less (set.contains s m) (set.len s) (set.len (set.remove s m)) (set.len-remove nat_cmp_total s m) in
+    omega (arith, rest, more)
