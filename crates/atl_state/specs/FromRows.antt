@@ -44,7 +44,7 @@ abbrev pub faction_of : StoredFaction → Faction
 faction_of r = record { number = as_u32 r.number; joined_as = r.joined_as; name = r.name; pass = r.pass; gone = is_set r.gone }
 
 abbrev pub region_of : StoredRegion → Region
-region_of r = record { peasants = as_u32 r.peasants; money = as_u32 r.money }
+region_of r = record { peasants = as_u32 r.peasants; money = as_u32 r.money; stocks = empty }
 
 abbrev pub structure_of : StoredStructure → Structure
 structure_of r = record { kind = as_u16 r.kind; name = r.name; region = as_u32 r.region; done = as_u32 r.done; owner = as_u32 r.owner }

@@ -24,7 +24,7 @@ holding_limit = most_amount
 
 -- so many entries of the books
 abbrev pub entry_count : ℕ
-entry_count = 13
+entry_count = 16
 
 -- so many things in the books: money, people and the items
 abbrev pub most_things : ℕ
