@@ -11,7 +11,7 @@ use Rattle.std.specs.List.{list_all}
 use Rattle.atl_state.specs.Books.{IsGrid}
 use Rattle.atl_state.specs.Founding.{things_of}
 use Rattle.atl_state.specs.FromRows.{head_of, campaign_of}
-use Rattle.atl_state.specs.Good.{Every, IsThere, IsGood}
+use Rattle.atl_state.specs.Good.{AreOfMarkets, Every, IsThere, IsGood}
 use Rattle.atl_state.specs.RowRules.{head_in_range, people_in_range, structure_in_range, books_in_range, books_bound}
 use Rattle.atl_state.specs.Totals.{IsCountable}
 use Rattle.atl_state.specs.Rows.{AreRowsOf}
@@ -105,6 +105,9 @@ module _ (w : WorldValue) (p : Parts) where
 
   pub items-said : KeepsBelow w p 11 → Every (λ n u. Every (λ i amount. i < length w.items) u.holding.items) (campaign_of w p).units
   items-said k n u is = ((k Known (omega arith)).0.units n u is).items
+
+  pub stocks-said : KeepsBelow w p 11 → Every (λ n r. AreOfMarkets w n r.stocks) (campaign_of w p).regions
+  stocks-said k = (k Known (omega arith)).0.markets
 
   pub places-said : KeepsBelow w p 8 → Every (λ n u. IsThere (campaign_of w p).regions u.region) (campaign_of w p).units
   places-said k n u is = ((k Known (omega arith)).0.units n u is).region

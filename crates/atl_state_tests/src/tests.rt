@@ -13,4 +13,5 @@ mod owners;
 mod parts;
 mod rounds;
 mod setting;
+mod stocks;
 mod walks;
