@@ -26,7 +26,7 @@ holding_limit = most_amount
 
 -- so many entries of the books
 abbrev pub entry_count : ℕ
-entry_count = 13
+entry_count = 16
 
 -- in the first format so many: all but those of markets
 abbrev pub first_entry_count : ℕ

@@ -38,7 +38,7 @@ pub(crate) fn regions_of(
 {
     let mut regions = Numbered::new(alloc);
     for row in rows {
-        regions.insert(as_u32(row.number), region_of(row))?;
+        regions.insert(as_u32(row.number), region_of(alloc, row))?;
     }
     Ok(regions)
 }

@@ -7,7 +7,7 @@ ghost use Rattle.atl_state.specs.RowRules.{faction_named};
 use crate::parts::{StoredFaction, StoredRegion, StoredStructure};
 use crate::records::{Faction, Region, Structure};
 use crate::row_rules::{as_u16, as_u32, is_set};
-use atl_tables::{Sequence, Text};
+use atl_tables::{Numbered, Sequence, Text};
 use std::alloc::{AllocError, Global};
 
 pub(super) fn name_of(alloc: Global, bytes: &Sequence<u8>) -> Result<Text, AllocError>
@@ -41,12 +41,13 @@ pub(super) fn faction_of(alloc: Global, row: &StoredFaction) -> Result<Faction, 
     })
 }
 
-pub(super) fn region_of(row: &StoredRegion) -> Region
+pub(super) fn region_of(alloc: Global, row: &StoredRegion) -> Region
     ensures { result ≡ region_of row.now }
 {
     Region {
         peasants: as_u32(row.peasants),
         money: as_u32(row.money),
+        stocks: Numbered::new(alloc),
     }
 }
 
