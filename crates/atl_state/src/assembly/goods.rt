@@ -142,7 +142,8 @@ pub(super) fn stocks_of(
 ) -> Result<Numbered<Numbered<u32>>, AllocError>
     ensures { IfOk result (λ groups. (n : ℕ) → group_of groups n ≡ stocks_of n rows.now) }
 {
-    groups_of(alloc, ITEM_SORT, rows)
+    let groups = groups_of(alloc, ITEM_SORT, rows)?;
+    Ok(groups)
 }
 
 fn copied(alloc: Global, things: &Numbered<u32>) -> Result<Numbered<u32>, AllocError>
