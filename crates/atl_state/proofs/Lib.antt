@@ -41,6 +41,8 @@ pub mod RuleLaws
 pub mod GuardLaws
 pub mod DifferLaws
 pub mod AmountLaws
+pub mod MarketLaws
+pub mod StockLaws
 pub mod HoldingLaws
 pub mod RemovedLaws
 pub mod LeavingLaws
