@@ -24,7 +24,7 @@ use Rattle.atl_state.specs.declared.records.Unit.{Unit}
 use Rattle.atl_state.specs.Books.{IsGrid, IsWithin, amount_in}
 use Rattle.atl_state.specs.Covers.{MarksChanges}
 use Rattle.atl_state.specs.Founding.{things_of}
-use Rattle.atl_state.specs.Good.{AreOfMarkets, Every, IsEarly, IsRegion}
+use Rattle.atl_state.specs.Good.{Every, IsEarly}
 use Rattle.atl_state.specs.Held.{Held, IsHolding, amount_of, with_amount_of}
 use Rattle.atl_state.specs.Lending.{lent, with_held}
 use Rattle.atl_state.specs.Limits.{holding_limit, most_units}
@@ -40,7 +40,8 @@ use Rattle.atl_state.proofs.HavingLaws.{MayHave, early-having, may_have}
 use Rattle.atl_state.proofs.HeldLaws.{alike, amount_within, every_amount, set_amount}
 use Rattle.atl_state.proofs.HoldingLaws.{marks-lent, total-held}
 use Rattle.atl_state.proofs.ListLaws.{other_number, same_number}
-use Rattle.atl_state.proofs.RegionLaws.{steady-amount, steady-region, total-amount, total-region}
+use Rattle.atl_state.proofs.RegionLaws.{steady-amount, total-amount, total-region}
+use Rattle.atl_state.proofs.StockLaws.{restocked, steady-stock}
 use Rattle.atl_instant.specs.Meaning.{HasRoom, HaveRoom, LeavesWell, Moving, moved_times, moves_only, most_moved}
 use Rattle.atl_instant.specs.declared.written.Written.{Written}
 use Rattle.atl_instant.proofs.BookingLaws.{booked-near, within-neg, within-pos}
@@ -72,14 +73,11 @@ pub record Fits (w : WorldValue) (u : Unit) (i before : ℕ) (d : Deal) : Type 0
   pub paid : pos d.money ≡ pos u.holding.money +ℤ d.booked
   pub small : IsWithin holding_limit d.booked
 
-abbrev pub put_stock : ℕ → ℕ → Region → Region
-put_stock i stock r = record r { stocks = with_amount_of r.stocks i stock }
-
 abbrev pub supplied : CampaignValue → ℕ → Unit → ℕ → Deal → CampaignValue
 supplied c n u i d = record c { units = insert c.units n (record u { holding = with_deal u.holding i d }) }
 
 abbrev pub dealt_to : CampaignValue → ℕ → Unit → ℕ → Entry → Deal → CampaignValue
-dealt_to c n u i entry d = with_amount (region_changed (put_stock i d.stock) (supplied c n u i d) u.region) entry Money d.booked
+dealt_to c n u i entry d = with_amount (region_changed (λ r. restocked r i d.stock) (supplied c n u i d) u.region) entry Money d.booked
 
 module _ (w : WorldValue) (c : CampaignValue) (n : ℕ) (u : Unit) (q : Region) (i : ℕ) (entry : Entry) (d : Deal) (is : get c.units n ≡ Some u) (around : get c.regions u.region ≡ Some q) where
   abbrev after : CampaignValue
@@ -92,7 +90,7 @@ module _ (w : WorldValue) (c : CampaignValue) (n : ℕ) (u : Unit) (q : Region) 
   paid = supplied c n u i d
 
   abbrev left : CampaignValue
-  left = region_changed (put_stock i d.stock) paid u.region
+  left = region_changed (λ r. restocked r i d.stock) paid u.region
 
   pub deal_is : dealt c n u i entry d ≡ after
   deal_is = ap (λ o. with_amount (with_stock (with_held c n more o) u.region i d.stock) entry Money d.booked) is
@@ -109,23 +107,15 @@ module _ (w : WorldValue) (c : CampaignValue) (n : ℕ) (u : Unit) (q : Region) 
           days = old.days;
         }
 
-    stock_within : IsRegion w u.region (put_stock i d.stock q)
-    stock_within =
-        let within = early.steady.numbers.regions u.region q around in
-        record { peasants = within.peasants; money = within.money; stocks = every_amount (λ j a. (1 ≤ a) × (a ≤ stock_limit w u.region j)) q.stocks i d.stock (λ some. (some, fits.stock)) within.stocks }
-
-    stock_marketed : AreOfMarkets w u.region (put_stock i d.stock q).stocks
-    stock_marketed = every_amount (λ j a. IsSome (market_of w u.region j)) q.stocks i d.stock (λ some. market) (early.steady.known.markets u.region q around)
-
     still_early : IsEarly w after
     still_early =
         let before = early-having w c n u more is may (λ g. g) early in
         record {
-          steady = steady-amount w left entry Money d.booked (steady-region (put_stock i d.stock) paid u.region q around w stock_within stock_marketed before.steady);
+          steady = steady-amount w left entry Money d.booked (steady-stock paid u.region i d.stock q around w market fits.stock before.steady);
           flags = before.flags;
         }
 
-    total_of : (t : Thing) → total after t ≡ total left t → total left t + kept t q ≡ total paid t + kept t (put_stock i d.stock q)
+    total_of : (t : Thing) → total after t ≡ total left t → total left t + kept t q ≡ total paid t + kept t (restocked q i d.stock)
         → total paid t + held t u.holding ≡ total c t + held t more → pos (total after t) ≡ pos (total c t) +ℤ share_of t Money d.booked
     total_of Money s a b = omega (arith, ints, s, a, b, fits.paid)
     total_of People s a b = omega (arith, ints, s, a, b)
@@ -159,7 +149,7 @@ module _ (w : WorldValue) (c : CampaignValue) (n : ℕ) (u : Unit) (q : Region) 
           leaves_it = still_early;
           same_month = record { month = refl; reports = refl; count = refl; factions = λ k there. there };
           balances = λ old t.
-              total_of t (total-amount left entry Money t d.booked) (total-region (put_stock i d.stock) paid u.region q around t) (total-held w c n u more is t)
+              total_of t (total-amount left entry Money t d.booked) (total-region (λ r. restocked r i d.stock) paid u.region q around t) (total-held w c n u more is t)
               ∙ ap (λ z. z +ℤ share_of t Money d.booked) (old t) ∙ sym (booked-with_booked (things_of w) c.books entry Money d.booked grid (omega arith) t);
           near = booked-near (things_of w) c.books entry Money d.booked holding_limit grid (omega arith) fits.small;
         }
@@ -285,7 +275,7 @@ module _ (trade : Trade) (items : FinMap nat_cmp ℕ) (w : WorldValue) (c : Camp
 
     made_drains : (units : FinMap nat_cmp Unit) → get units e.0 ≡ Some can.at.unit → Drains (item_pots trade w units items) c e (traded trade items w c e)
     made_drains units there =
-        region_drains (item_pots trade w units items) c e (traded trade items w c e) can.at.unit.region can.at.region can.at.around (put_stock m.item deal.stock) (ap (λ (d : CampaignValue). d.regions) made_is)
+        region_drains (item_pots trade w units items) c e (traded trade items w c e) can.at.unit.region can.at.region can.at.around (λ r. restocked r m.item deal.stock) (ap (λ (d : CampaignValue). d.regions) made_is)
         (λ k same. here k same (eq_by_cmp nat_cmp k.1 m.item) refl)
         (λ k apart. ap (λ b. b && is_for k.1 (get items e.0)) (ap (stands_in k.0) there ∙ other_number can.at.unit.region k.0 (λ is. apart (sym is))))
       where
@@ -537,5 +527,5 @@ pub settled_marks : (c d e f : MarkedCampaign) (n : ℕ) (u : Unit) (h : Held) (
 settled_marks c d e f n u h region item stock things entry z there set put put_marks booked booked_marks grid two =
     let e_grid : IsGrid things e.value.books = rw (settled_books c d e n u h region item stock there set put) grid in
     marks-trans c e f
-    (marks-trans c d e (subst (MarksChanges c) (sym set) (marks-lent c n h)) (marks_by d e _ put put_marks (marks-region (put_stock item stock) d region)))
+    (marks-trans c d e (subst (MarksChanges c) (sym set) (marks-lent c n h)) (marks_by d e _ put put_marks (marks-region (λ r. restocked r item stock) d region)))
     (marks_by e f _ booked booked_marks (marks-amount things e entry Money z e_grid (omega arith)))
