@@ -35,7 +35,7 @@ pub struct SellPhase;
 pub struct BuyPhase;
 
 /// What a unit does with the market of its region.
-#[derive(Drop, Clone, Copy, Debug, PartialEq, Eq)]
+#[derive(Drop, Clone, Copy, Debug)]
 pub(crate) enum Trade {
     Sell,
     Buy,
@@ -184,15 +184,6 @@ fn settle(
     Ok(())
 }
 
-/// The stocks of the markets, or what is missing of them, for the units that are told to trade.
-#[derive(Drop)]
-struct Tradable<'a> {
-    trade: Trade,
-    world: &'a World,
-    campaign: &'a Campaign,
-    items: &'a Numbered<u16>,
-}
-
 /// How many of an item a region's market takes at most; where there is none, 0.
 fn limit_of(world: &World, item: u32, region: u32) -> u32
     ensures value { result ≡ limit_of world.now item region }
@@ -205,6 +196,15 @@ fn limit_of(world: &World, item: u32, region: u32) -> u32
         Some(market) => market.limit,
         None => 0,
     }
+}
+
+/// The stocks of the markets, or what is missing of them, for the units that are told to trade.
+#[derive(Drop)]
+struct Tradable<'a> {
+    trade: Trade,
+    world: &'a World,
+    campaign: &'a Campaign,
+    items: &'a Numbered<u16>,
 }
 
 impl<'a> ItemPots for Tradable<'a> {
