@@ -77,7 +77,7 @@ both_less r i booked.Used (things.Item j) = omega (arith, used_less r booked.Use
 both_less r i e t = omega (arith, used_less r e t, made_less i e t)
 
 -- room for an amount alone is room under its entry
-only_room : (e : Entry) (t : Thing) (z : ℤ) → HasRoom (moves_only holding_limit e t e t) z → HasRoom holding_limit z
+pub only_room : (e : Entry) (t : Thing) (z : ℤ) → HasRoom (moves_only holding_limit e t e t) z → HasRoom holding_limit z
 only_room e t z room = subst (λ b. HasRoom (if b then holding_limit else 0) z) (same_number (amount_number e t)) room
 
 -- ---- one step
