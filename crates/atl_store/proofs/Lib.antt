@@ -1,5 +1,6 @@
 pub mod Made
 pub mod ListLaws
+pub mod PartLaws
 pub mod EditLaws
 pub mod StatementLaws
 pub mod UpsertLaws
