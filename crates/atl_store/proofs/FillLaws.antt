@@ -1,5 +1,5 @@
 -- Empty tables are filled, one after another, until they hold the campaign.
-use Rattle.std.proofs.Common.{◌≡◌, ◌++◌, ℕ, true, List, [], ◌∷◌, take, subst, inl, inr}
+use Rattle.std.proofs.Common.{◌≡◌, ◌++◌, ℕ, suc, true, List, [], ◌∷◌, take, subst, inl, inr}
 use Rattle.std.specs.List.{list_all, range_with_len}
 use Rattle.std.specs.Ordering.{nat_cmp}
 use Rattle.std.specs.FinMap.{FinMap, entries}
@@ -9,19 +9,18 @@ use Rattle.sqlite.specs.Effect.{Database}
 use Rattle.sqlite.specs.State.{State}
 use Rattle.sqlite_rules.specs.Lists.{Has}
 use Rattle.atl_state.specs.Campaign.{CampaignValue}
-use Rattle.atl_state.specs.declared.records.Unit.{Unit}
 use Rattle.atl_store.specs.Sets.{Is, put, puts, rows_in}
-use Rattle.atl_store.specs.Tables.{Part, Own, Goods, Books, table_of, all_parts, campaign_table, has_table, books_table}
+use Rattle.atl_store.specs.Tables.{Part, Own, Books, table_of, all_parts, campaign_table, books_table}
 use Rattle.atl_store.specs.Shown.{int}
 use Rattle.atl_store.specs.Rows.{head_of, campaign_line, RowsOf, rows_for, lines_of}
-use Rattle.atl_store.specs.Lines.{all_goods_lines, things_lines}
+use Rattle.atl_store.specs.Lines.{AreGroups, groups_of, things_lines}
 use Rattle.atl_store.specs.PutsHead.{PutsHead}
 use Rattle.atl_store.specs.Making.{AreEmpty}
 use Rattle.atl_store.specs.Inside.{Inside, HasTables, IsBlank, Both, PutsRows}
 use Rattle.atl_store.specs.Filling.{Fills, FillsParts, FillsWithOwn, WritesFounding}
 use Rattle.atl_store.proofs.PartLaws.{is_among, are_apart, all_among, listed, one_changed, both_changed}
 use Rattle.atl_store.proofs.EntryLaws.{rows_filled}
-use Rattle.atl_store.proofs.GoodsLaws.{goods_filled}
+use Rattle.atl_store.proofs.GroupRowLaws.{groups_filled}
 use Rattle.atl_store.proofs.LedgerLaws.{books_filled}
 use Rattle.atl_store.proofs.WholeLaws.{inside_then, inside_weaker}
 
@@ -46,11 +45,13 @@ module _ (c : CampaignValue) where
       let now = rows_in (table_of part) new.trees in
       are own now (rows_filled line numbered now was m none (subst (λ (l : List (ℕ × V)). Is now (puts 1 (lines_of line l) (Has was))) same made)))
 
-  pub goods_fill : (es : List (ℕ × Unit)) → es ≡ entries c.units → (old new : Database) → PutsRows has_table 3 (all_goods_lines es) old new → FillsParts c (Goods ∷ []) old new
-  goods_fill es same old new did own = one_changed (Fills c own) Goods _ old new did (λ made none.
-      let was = rows_in has_table old.trees in
-      let now = rows_in has_table new.trees in
-      goods_filled now was c.units none (subst (λ (l : List (ℕ × Unit)). Is now (puts 3 (all_goods_lines l) (Has was))) same made))
+  -- of rows that belong to what has a number
+  pub groups_fill : {V : Type 0} (part : Part) (lines : ℕ → V → List Row) (more : ℕ) (m : FinMap nat_cmp V) → ((own : Row) → AreGroups lines (suc more) m (rows_for own c part)) → (es : List (ℕ × V)) → es ≡ entries m → (old new : Database)
+      → PutsRows (table_of part) (suc more) (groups_of lines es) old new → FillsParts c (part ∷ []) old new
+  groups_fill {V} part lines more m are es same old new did own = one_changed (Fills c own) part _ old new did (λ made none.
+      let was = rows_in (table_of part) old.trees in
+      let now = rows_in (table_of part) new.trees in
+      groups_filled lines more m (rows_for own c part) (are own) now was none (subst (λ (l : List (ℕ × V)). Is now (puts (suc more) (groups_of lines l) (Has was))) same made))
 
   pub books_fill : (old new : Database) → PutsRows books_table 2 (things_lines c (range_with_len 0 (length c.books))) old new → FillsParts c (Books ∷ []) old new
   books_fill old new did own = one_changed (Fills c own) Books _ old new did (λ made none. books_filled c (rows_in books_table new.trees) (rows_in books_table old.trees) none made)

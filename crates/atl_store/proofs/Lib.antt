@@ -8,7 +8,7 @@ pub mod MakeLaws
 pub mod CarryLaws
 pub mod ChangeLaws
 pub mod RewriteLaws
-pub mod GoodsRewriteLaws
+pub mod GroupRowLaws
 pub mod BooksRewriteLaws
 pub mod RewriteAllLaws
 pub mod KeepLaws

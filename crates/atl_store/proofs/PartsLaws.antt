@@ -35,8 +35,8 @@ use Rattle.atl_store.specs.StoredRows.{faction_stored, region_stored, unit_store
 use Rattle.atl_store.specs.Tables.{Part, Own, Factions, Regions, Units, Goods, Structures, Mail, Reports, Books, table_of, campaign_table, faction_table, region_table, unit_table, has_table, structure_table, mail_table, report_table, books_table}
 use Rattle.atl_store.specs.Written.{sort_number}
 use Rattle.atl_store.proofs.EditLaws.{has_permuted}
-use Rattle.atl_store.proofs.EntryLaws.{got_entry, entry_got}
-use Rattle.atl_store.proofs.GoodsLaws.{flat_has, has_flat, is_not_zero}
+use Rattle.atl_store.proofs.EntryLaws.{got_entry, entry_got, flat_has, has_flat}
+use Rattle.atl_store.proofs.GoodsLaws.{is_not_zero}
 use Rattle.atl_store.proofs.LedgerLaws.{every_entry, has_range, within}
 use Rattle.atl_store.proofs.ListLaws.{has_map, map_has}
 

@@ -10,12 +10,11 @@ use Rattle.sqlite.specs.Table.{Table}
 use Rattle.sqlite_rules.specs.Lists.{Has}
 use Rattle.atl_state.specs.Limits.{entry_count}
 use Rattle.atl_state.specs.Campaign.{MarkedCampaign}
-use Rattle.atl_state.specs.declared.records.Unit.{Unit}
 use Rattle.atl_store.specs.Sets.{Set, Is, rows_in}
 use Rattle.atl_store.specs.Inside.{Alters, Changes}
-use Rattle.atl_store.specs.Tables.{Part, campaign_table, has_table, books_table}
+use Rattle.atl_store.specs.Tables.{Part, campaign_table, books_table}
 use Rattle.atl_store.specs.Shown.{Head, head_row}
-use Rattle.atl_store.specs.Rows.{RowsOf, HasRowsOf, BooksRowsOf, rows_for}
+use Rattle.atl_store.specs.Rows.{RowsOf, BooksRowsOf, rows_for}
 use Rattle.atl_store.specs.Changing.{begins, accounts, begins_marked, amount_marked, is_marked, rewritten, own_after}
 
 -- the table's rows with a chosen key are those that are wanted, its others are as they were, and so is every other table
@@ -42,13 +41,13 @@ RewritesNumber table line values n old new = Rewrites table (begins (is_number n
 abbrev pub RewritesMarked : {V : Type 0} → Table → (ℕ → V → Row) → FinMap nat_cmp V → FinSet nat_cmp → Database → Database → Type 0
 RewritesMarked table line values marks old new = Rewrites table (begins_marked marks) (RowsOf line values) old new
 
--- the rows of what a unit has
-abbrev pub RewritesGoods : FinMap nat_cmp Unit → ℕ → Database → Database → Type 0
-RewritesGoods units n old new = Rewrites has_table (begins (is_number n)) (HasRowsOf units) old new
+-- the rows that belong to a number
+abbrev pub RewritesGroup : Table → Set → ℕ → Database → Database → Type 0
+RewritesGroup table Wanted n old new = Rewrites table (begins (is_number n)) Wanted old new
 
--- the rows of what all marked units have
-abbrev pub RewritesAllGoods : FinMap nat_cmp Unit → FinSet nat_cmp → Database → Database → Type 0
-RewritesAllGoods units marks old new = Rewrites has_table (begins_marked marks) (HasRowsOf units) old new
+-- the rows that belong to all that is marked
+abbrev pub RewritesGroups : Table → Set → FinSet nat_cmp → Database → Database → Type 0
+RewritesGroups table Wanted marks old new = Rewrites table (begins_marked marks) Wanted old new
 
 -- the marked amounts of these entries and things
 abbrev pub RewritesAmounts : MarkedCampaign → (ℕ → Bool) → (ℕ → Bool) → Database → Database → Type 0
