@@ -35,7 +35,7 @@ use Rattle.atl_store.specs.Statements.{placed_selection, selection}
 use Rattle.atl_store.specs.Sets.{rows_in}
 use Rattle.atl_store.specs.StoredRows.{campaign_stored, faction_stored, region_stored, unit_stored, structure_stored, mail_stored, report_stored, has_stored, books_stored, faction_forms, region_forms, unit_forms, structure_forms, mail_forms, report_forms, has_forms, books_forms}
 use Rattle.atl_store.specs.Stored.{Form}
-use Rattle.atl_store.specs.Tables.{campaign_table, faction_table, region_table, unit_table, has_table, structure_table, mail_table, report_table, books_table, HasNine}
+use Rattle.atl_store.specs.Tables.{campaign_table, faction_table, region_table, unit_table, has_table, structure_table, mail_table, report_table, books_table, HasAll}
 use Rattle.atl_store.specs.declared.fault.ReadFault.{ReadFault}
 use Rattle.atl_store.specs.declared.fault.ReadFault.TheVariants as read
 use Rattle.atl_store.specs.declared.fault.StoreFault.{StoreFault}
@@ -125,7 +125,7 @@ module _ {S : Type 0} (g : Ghosts S) (old : Held S) where
     pub rows : List Row
     pub selects : Selects g (selection campaign_table 1) old rows
     pub row : AreOwnRow rows own.head (string_bytes own.world) w
-    pub table : HasNine old.schema → IsPermutation (rows_in campaign_table (state g old).now.trees) (campaign_stored own ∷ [])
+    pub table : HasAll old.schema → IsPermutation (rows_in campaign_table (state g old).now.trees) (campaign_stored own ∷ [])
 
   -- ---- the other tables
 
@@ -152,7 +152,7 @@ module _ {S : Type 0} (g : Ghosts S) (old : Held S) where
 
   -- these are all rows of a table
   abbrev pub AreRows : {A : Type 0} → (Trees → List Row) → (A → Row) → List A → Type 0
-  AreRows in_table shown rows = HasNine old.schema → IsPermutation (in_table (state g old).now.trees) (map shown rows)
+  AreRows in_table shown rows = HasAll old.schema → IsPermutation (in_table (state g old).now.trees) (map shown rows)
 
   -- these are all rows of two tables, or of three
   abbrev pub AreTwo : {A B Z : Type 0} → (Trees → List Row) → (A → Row) → (Trees → List Row) → (B → Row) → Vec A Z × Vec B Z → Type 0
@@ -182,10 +182,10 @@ module _ {S : Type 0} (g : Ghosts S) (old : Held S) where
 
   -- Store where the schema is another one, else what is told of that SELECT
   abbrev pub FailsToConfirm : StoreFault → Type 0
-  FailsToConfirm Store = (¬ HasNine old.schema) ⊎ (HasNine old.schema × IsRefusedAgain false)
+  FailsToConfirm Store = (¬ HasAll old.schema) ⊎ (HasAll old.schema × IsRefusedAgain false)
   FailsToConfirm (Damaged rule) = ⊥
   FailsToConfirm NotACampaign = ⊥
-  FailsToConfirm Memory = HasNine old.schema × IsRefusedAgain true
+  FailsToConfirm Memory = HasAll old.schema × IsRefusedAgain true
 
 -- no two rows are kept at one place
 abbrev pub AreApart : {A : Type 0} → List (Placed A) → Type 0
@@ -233,12 +233,12 @@ pub record Gathered {S : Type 0} (g : Ghosts S) (old : Held S) (w : WorldValue) 
   pub text : List ℕ
   pub world : old_world_of text ≡ Ok w
   pub typed : AreToldTyped g old other_selects
-  pub rows : HasNine old.schema → HaveRows (state g old).now.trees text p
-  pub places : HasNine old.schema → HavePlaces (state g old).now.trees p
+  pub rows : HasAll old.schema → HaveRows (state g old).now.trees text p
+  pub places : HasAll old.schema → HavePlaces (state g old).now.trees p
 
 -- the schema is that of a campaign, and the connection is open
 pub record IsConfirmed (old new : State) : Type 0 where
-  pub nine : HasNine old.now.schema
+  pub begins : HasAll old.now.schema
   pub is_open : IsTrue new.is_open
   pub sound : IsSound old.now.schema old.now.trees
 

@@ -29,7 +29,7 @@ use Rattle.atl_store.specs.Statements.{placed_selection, selection}
 use Rattle.atl_store.specs.Sets.{rows_in, IsKeyed}
 use Rattle.atl_store.specs.Stored.{Form, first_columns, AreTyped}
 use Rattle.atl_store.specs.StoredRows.{head_stored, faction_stored, region_stored, unit_stored, structure_stored, mail_stored, report_stored, campaign_forms, faction_forms, region_forms, unit_forms, has_forms, structure_forms, mail_forms, report_forms, books_forms}
-use Rattle.atl_store.specs.Tables.{campaign_table, faction_table, region_table, unit_table, has_table, structure_table, mail_table, report_table, books_table, HasNine}
+use Rattle.atl_store.specs.Tables.{campaign_table, faction_table, region_table, unit_table, has_table, structure_table, mail_table, report_table, books_table, HasAll}
 use Rattle.atl_store.specs.WorldText.{world_text}
 use Rattle.atl_store.specs.declared.fault.ReadFault.{ReadFault}
 use Rattle.atl_store.specs.declared.fault.ReadFault.TheVariants as read
@@ -123,9 +123,9 @@ module _ {S : Type 0} (g : Ghosts S) (old : Held S) where
 
   -- ---- the tables, and their rows
 
-  -- They are the nine tables, and no two rows of has, or of books, are kept at one place.
+  -- They are the tables of a campaign, and no two rows of has, or of books, are kept at one place.
   pub record AreMade : Type 0 where
-    pub nine : HasNine old.schema
+    pub begins : HasAll old.schema
     pub has_keyed : IsKeyed ((state g old).now.trees has_table.tree)
     pub books_keyed : IsKeyed ((state g old).now.trees books_table.tree)
 
