@@ -26,6 +26,8 @@ pub mod KeyLaws
 pub mod FromRowLaws
 pub mod BooksRowLaws
 pub mod HasLaws
+pub mod MarketLaws
+pub mod BackMarketLaws
 pub mod NamedLaws
 pub mod OrderLaws
 pub mod RosterLaws
