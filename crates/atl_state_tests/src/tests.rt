@@ -9,6 +9,7 @@ mod holdings;
 mod levels;
 mod making;
 mod marked;
+mod markets;
 mod owners;
 mod parts;
 mod rounds;

@@ -8,11 +8,11 @@ use Rattle.atl_state.proofs.CheckLaws.{few-said, grid-said, items-said}
 use Rattle.atl_state.proofs.checking.keeps_books.Goals as goal
 
 pub are_balanced-requires-clause-few : goal.are_balanced-requires-clause-few
-are_balanced-requires-clause-few c = subst IsCountable (sym c.requires.what) (few-said c.args.world.now c.args.parts.now c.requires.before)
+are_balanced-requires-clause-few c = subst IsCountable (sym c.requires.what) (few-said c.args.format c.args.world.now c.args.parts.now c.requires.before)
 
 pub are_balanced-requires-clause-grid : goal.are_balanced-requires-clause-grid
-are_balanced-requires-clause-grid c = subst (λ (s : CampaignValue). IsGrid (things_of c.args.world.now) s.books) (sym c.requires.what) (grid-said c.args.world.now c.args.parts.now c.requires.before)
+are_balanced-requires-clause-grid c = subst (λ (s : CampaignValue). IsGrid (things_of c.args.world.now) s.books) (sym c.requires.what) (grid-said c.args.format c.args.world.now c.args.parts.now c.requires.before)
 
 pub are_balanced-requires-clause-items : goal.are_balanced-requires-clause-items
 are_balanced-requires-clause-items c =
-    subst (λ (s : CampaignValue). Every (λ n u. Every (λ i amount. i < length c.args.world.now.items) u.holding.items) s.units) (sym c.requires.what) (items-said c.args.world.now c.args.parts.now c.requires.before)
+    subst (λ (s : CampaignValue). Every (λ n u. Every (λ i amount. i < length c.args.world.now.items) u.holding.items) s.units) (sym c.requires.what) (items-said c.args.format c.args.world.now c.args.parts.now c.requires.before)
