@@ -26,7 +26,7 @@ use Rattle.atl_state.proofs.EveryLaws.{each-from_every, none_some}
 use Rattle.atl_state.proofs.ListLaws.{same_number}
 use Rattle.atl_instant.specs.Meaning.{HasRoom, HaveRoom, LeavesWell, Moving, both_move, most_moved, moved_times, moves_only}
 use Rattle.atl_instant.specs.declared.written.Written.{Written}
-use Rattle.atl_instant.proofs.AmountsLaws.{amount_within}
+use Rattle.atl_state.proofs.HeldLaws.{amount_within}
 use Rattle.atl_instant.proofs.MeaningLaws.{MovesLess, both_leave_well, less_room, room_behind, room_less, well_unchanged, well_within}
 use Rattle.atl_market.specs.Making.{CanMakeOf, CanProduce, Fits}
 use Rattle.atl_market.specs.PotPhase.{CanInTurn, given_by, shared_out}

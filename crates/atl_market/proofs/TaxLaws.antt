@@ -61,10 +61,10 @@ module _ (w : WorldValue) (c : CampaignValue) (n : ℕ) (u : Unit) (q : Region) 
         → total (richer c n u share) t + held t u.holding ≡ total c t + held t (paid c n u share) → total after t ≡ total c t
     same_total Money a b = omega (arith, a, b, enough)
     same_total People a b = omega (arith, a, b)
-    same_total (Item i) a b = same (total after (Item i)) (total (richer c n u share) (Item i)) (total c (Item i)) (amount_of u.holding.items i) a b
+    same_total (Item i) a b = same (total after (Item i)) (total (richer c n u share) (Item i)) (total c (Item i)) (amount_of q.stocks i) (amount_of u.holding.items i) a b
       where
-        same : (x y z k : ℕ) → x + 0 ≡ y + 0 → y + k ≡ z + k → x ≡ z
-        same x y z k a b = omega (arith, a, b)
+        same : (x y z j k : ℕ) → x + j ≡ y + j → y + k ≡ z + k → x ≡ z
+        same x y z j k a b = omega (arith, a, b)
 
     pub tax_leaves_well : u.holding.money + share ≤ holding_limit → IsEarly w c → LeavesWell IsEarly moves_nothing w c after
     tax_leaves_well fits early =
@@ -72,7 +72,7 @@ module _ (w : WorldValue) (c : CampaignValue) (n : ℕ) (u : Unit) (q : Region) 
         let within = steady.numbers.regions u.region q around in
         record {
           leaves_it = record {
-            steady = steady-region (drain q share) (richer c n u share) u.region q around w (IsRegion-money q (q.money - share) (omega (arith, within.money)) within)
+            steady = steady-region (drain q share) (richer c n u share) u.region q around w (IsRegion-money q (q.money - share) (omega (arith, within.money)) within) (steady.known.markets u.region q around)
                 (steady-held w c n u (paid c n u share) is (may_hold_money w c n (u.holding.money + share) u is fits steady) steady);
             flags = of_one_faction_kept w c n u (paid c n u share) is (λ v. v.holding.guard) (λ g. g) early.flags;
           };

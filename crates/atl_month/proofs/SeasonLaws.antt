@@ -19,6 +19,7 @@ use Rattle.atl_state.specs.declared.records.Region.{Region}
 use Rattle.atl_state.specs.Books.{IsGrid, amount_in, with_booked}
 use Rattle.atl_state.specs.Founding.{things_of}
 use Rattle.atl_state.specs.Good.{IsSteady}
+use Rattle.atl_state.specs.Held.{amount_of}
 use Rattle.atl_state.specs.Covers.{MarksChanges}
 use Rattle.atl_state.specs.Marking.{mark_amount, mark_region}
 use Rattle.atl_state.specs.Marks.{amount_number}
@@ -69,8 +70,9 @@ module _ (w : WorldValue) (c : CampaignValue) (n : ℕ) (r : Region) (born earne
   growth_steady : r.peasants + born ≤ most_amount → r.money + earned ≤ most_amount → IsSteady w c → IsSteady w (with_growth c n r.peasants r.money born earned)
   growth_steady p m old =
       let grown = IsRegion-peasants r (r.peasants + born) p (old.numbers.regions n r is) in
+      let stocks = old.known.markets n r is in
       steady-amount w counted Income Money (pos earned) (steady-amount w paid Births People (pos born)
-      (steady-region more_money peopled n (more_people r) peopled_there w (IsRegion-money (more_people r) (r.money + earned) m grown) (steady-region more_people c n r is w grown old)))
+      (steady-region more_money peopled n (more_people r) peopled_there w (IsRegion-money (more_people r) (r.money + earned) m grown) stocks (steady-region more_people c n r is w grown stocks old)))
 
   total_grown : (t : Thing) → pos (total (with_growth c n r.peasants r.money born earned) t) ≡ (pos (total c t) +ℤ share_of t People (pos born)) +ℤ share_of t Money (pos earned)
   total_grown t =
@@ -85,12 +87,12 @@ module _ (w : WorldValue) (c : CampaignValue) (n : ℕ) (r : Region) (born earne
       total_of (Item i) a b g h =
           let people : (2 + i == 1) ≡ false = grind (arith, nat_tests) in
           let money : (2 + i == 0) ≡ false = grind (arith, nat_tests) in
-          ap pos (same _ _ _ _ a b g h)
+          ap pos (same _ _ _ _ (amount_of r.stocks i) a b g h)
           ∙ sym (ap (λ q. (pos (total c (Item i)) +ℤ cond q (pos born) (pos 0)) +ℤ cond (2 + i == 0) (pos earned) (pos 0)) people
           ∙ ap (λ q. (pos (total c (Item i)) +ℤ pos 0) +ℤ cond q (pos earned) (pos 0)) money ∙ zeros (total c (Item i)))
         where
-          same : (x y z u : ℕ) → x ≡ y → y ≡ z → u + 0 ≡ total c (Item i) + 0 → z + 0 ≡ u + 0 → x ≡ total c (Item i)
-          same x y z u a b g h = omega arith
+          same : (x y z u k : ℕ) → x ≡ y → y ≡ z → u + k ≡ total c (Item i) + k → z + k ≡ u + k → x ≡ total c (Item i)
+          same x y z u k a b g h = omega arith
 
           zeros : (x : ℕ) → (pos x +ℤ pos 0) +ℤ pos 0 ≡ pos x
           zeros x = omega (arith, ints)

@@ -19,7 +19,7 @@ use Rattle.std.specs.List.{list_all, AllByRecursion}
 use Rattle.atl_state.specs.Books.{amount_in, entry_place, thing_place, no_amounts, IsGrid}
 use Rattle.atl_state.specs.Founding.{things_of}
 use Rattle.atl_state.specs.FromRows.{as_u32, by_number, stocks_of, region_of, put_amounts, head_of, campaign_of}
-use Rattle.atl_state.specs.Good.{Every, IsThere, HasNoStocks, IsGood}
+use Rattle.atl_state.specs.Good.{AreOfMarkets, Every, IsThere, HasNoStocks, IsGood}
 use Rattle.atl_state.specs.RowRules.{is_entry_in, is_booked, head_in_range, people_in_range, region_in_range, structure_in_range, books_in_range, books_bound, market_in_range}
 use Rattle.atl_state.specs.Totals.{IsCountable}
 use Rattle.atl_state.specs.Limits.{first_entry_count}
@@ -154,6 +154,9 @@ module _ (f : Format) (w : WorldValue) (p : Parts) where
 
   pub items-said : KeepsBelow f w p 11 → Every (λ n u. Every (λ i amount. i < length w.items) u.holding.items) (campaign_of w p).units
   items-said k n u is = ((k Known (omega arith)).0.units n u is).items
+
+  pub stocks-said : KeepsBelow f w p 11 → Every (λ n r. AreOfMarkets w n r.stocks) (campaign_of w p).regions
+  stocks-said k = (k Known (omega arith)).0.markets
 
   pub places-said : KeepsBelow f w p 8 → Every (λ n u. IsThere (campaign_of w p).regions u.region) (campaign_of w p).units
   places-said k n u is = ((k Known (omega arith)).0.units n u is).region

@@ -114,18 +114,19 @@ put-grid things (r ∷ rows) books g =
 
 -- ---- the ranges
 
+-- a stock that the market in the region of this number has room for
+abbrev InStock : WorldValue → ℕ → StoredMarket → Type 0
+InStock w n m = (1 ≤ as_u32 m.stock) × (as_u32 m.stock ≤ stock_limit w n (as_u32 m.item))
+
+has_room : (w : WorldValue) (n : ℕ) (m : StoredMarket) → market_in_range w m ≡ true → (as_u32 m.region == n) ≡ true → InStock w n m
+has_room w n m range of =
+    subst (λ k. InStock w k m) (is_same (as_u32 m.region) n of) (in_range 1 (stock_limit w (as_u32 m.region) (as_u32 m.item)) most_u32 m.stock (omega arith) range)
+
 -- what a region has in stock
 in_stock : (w : WorldValue) (n : ℕ) (markets : List StoredMarket) → list_all (market_in_range w) markets ≡ true → Every (λ i amount. (1 ≤ amount) × (amount ≤ stock_limit w n i)) (stocks_of n markets)
 in_stock w n markets all =
     every_by (λ m. as_u32 m.item) (λ m. as_u32 m.stock) (λ i amount. (1 ≤ amount) × (amount ≤ stock_limit w n i)) (filter (λ m. as_u32 m.region == n) markets)
-    (kept (λ m. as_u32 m.region == n) InStock markets (each_passes (market_in_range w) (λ m. (as_u32 m.region == n) ≡ true → InStock m) here markets all))
-  where
-    abbrev InStock : StoredMarket → Type 0
-    InStock m = (1 ≤ as_u32 m.stock) × (as_u32 m.stock ≤ stock_limit w n (as_u32 m.item))
-
-    here : (m : StoredMarket) → market_in_range w m ≡ true → (as_u32 m.region == n) ≡ true → InStock m
-    here m range of =
-        subst (λ k. (1 ≤ as_u32 m.stock) × (as_u32 m.stock ≤ stock_limit w k (as_u32 m.item))) (is_same (as_u32 m.region) n of) (in_range 1 (stock_limit w (as_u32 m.region) (as_u32 m.item)) most_u32 m.stock (omega arith) range)
+    (kept (λ m. as_u32 m.region == n) (InStock w n) markets (each_passes (market_in_range w) (λ m. (as_u32 m.region == n) ≡ true → InStock w n m) (has_room w n) markets all))
 
 region_good : (w : WorldValue) (markets : List StoredMarket) (r : StoredRegion) → list_all (market_in_range w) markets ≡ true → region_in_range r ≡ true → IsRegion w (as_u32 r.number) (region_of markets r)
 region_good w markets r all h =

@@ -34,7 +34,7 @@ use Rattle.atl_state.proofs.AssemblyLaws.{min_small}
 use Rattle.atl_state.proofs.BackLaws.{each_permuted, read_whole, written_whole, map_back, rows_so, rows_apart, entries_rise, keys_permuted, apart_numbers}
 use Rattle.atl_state.proofs.BackBooksLaws.{books_back}
 use Rattle.atl_state.proofs.BackHasLaws.{AreHad, goods_of, goods_back}
-use Rattle.atl_state.proofs.BackMarketLaws.{AreStocked, stocks_each, market_keys, stocks_back}
+use Rattle.atl_state.proofs.BackStockRowLaws.{AreStocked, stocks_each, market_keys, stocks_back}
 use Rattle.atl_state.proofs.EveryLaws.{every-from_each}
 use Rattle.atl_state.proofs.HasLaws.{IsWhole, same}
 use Rattle.atl_state.proofs.OrderLaws.{Apart-keys}

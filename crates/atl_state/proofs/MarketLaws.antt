@@ -1,85 +1,42 @@
--- The stocks of regions, as the rows say them and as the campaign lists them.
-use Rattle.std.proofs.Common.{◌≡◌, ◌≢◌, ◌==◌, ℕ, List, Bool, true, false, not, map, filter, sym, ap, ◌∙◌}
-use Rattle.std.specs.Prelude.{pos}
-use Rattle.std.specs.List.{flat_map, AllByRecursion, IsDistinct}
-use Rattle.std.specs.List.Sorted.{IsPermutation}
-use Rattle.std.specs.FinMap.{entries}
+-- Of which items the markets of a world are, and that without markets there are no stocks.
+use Rattle.std.proofs.Common.{◌≡◌, ℕ, ◌<◌, Option, Some, None, is_some, IsSome, length, true, refl, sym, ap, ◌∙◌, arith}
+use Rattle.std.specs.Prelude.{option_and_then, option_map}
 use Rattle.std.proofs.lemmas.Bool.{false≢true}
-use Rattle.std.proofs.lemmas.List.Sorted.{IsPermutation-sym, IsPermutation-trans}
-use Rattle.atl_tables.specs.declared.format.Format.TheVariants.{Second}
-use Rattle.atl_state.specs.declared.parts.StoredMarket.{StoredMarket}
-use Rattle.atl_state.specs.declared.parts.StoredRegion.{StoredRegion}
-use Rattle.atl_state.specs.declared.records.Region.{Region}
-use Rattle.atl_state.specs.FromRows.{as_u32, stocks_of, region_of, by_number}
-use Rattle.atl_state.specs.RowRules.{Key, market_key}
-use Rattle.atl_state.specs.Rows.{is_zero, market_row, stock_rows, market_rows}
-use Rattle.atl_state.proofs.AssemblyLaws.{is_same}
-use Rattle.atl_state.proofs.GroupLaws.{filter_apart, gathered, kept, lines_order}
-use Rattle.atl_state.proofs.HasLaws.{IsWhole, same, ties_itself}
-use Rattle.atl_state.proofs.KeyLaws.{IsDistinct-map, IsDistinct-of_map}
-use Rattle.atl_state.proofs.OrderLaws.{Apart, Apart-keys, HasNumber, each_so, flat_order}
+use Rattle.std.specs.Ordering.{nat_cmp}
+use Rattle.std.specs.Cmp.{nat_cmp_total}
+use Rattle.std.specs.FinMap.{FinMap, empty, get, get-empty, nat_cmp-IsAntisymmetric, same_map}
+use Rattle.atl_tables.specs.ByNumber.{market_of}
+use Rattle.atl_tables.specs.Worlds.{IsWorld, WorldValue, without_market, without_markets}
+use Rattle.atl_tables.specs.declared.world.Market.{Market}
+use Rattle.atl_tables.specs.declared.world.RegionPlan.{RegionPlan}
+use Rattle.atl_tables.proofs.MadeLaws.{get-mapped}
+use Rattle.atl_state.specs.Campaign.{CampaignValue}
+use Rattle.atl_state.specs.Good.{AreKnown, HasNoStocks}
+use Rattle.atl_state.proofs.RuleLaws.{free_from}
 
--- a key that is read as it is
-pub record IsKeyed (m : StoredMarket) : Type 0 where
-  pub region : IsWhole m.region
-  pub item : IsWhole m.item
+-- a market is of an item of the world
+pub market_known : (w : WorldValue) → IsWorld w → (n i : ℕ) → IsSome (market_of w n i) → i < length w.items
+market_known w world n i some = by_plan (get w.regions n) refl some
+  where
+    by_market : (p : RegionPlan) (o : Option Market) → get w.regions n ≡ Some p → get p.markets i ≡ o → is_some o ≡ true → i < length w.items
+    by_market p None there is e = absurd (false≢true e)
+    by_market p (Some m) there is e = let market = (world.regions n p there).markets i m is in omega (arith, market.number_is, market.item)
 
--- and a stock that is read as it is and isn't 0
-pub record IsExact (m : StoredMarket) : Type 0 where
-  pub keys : IsKeyed m
-  pub stock : IsWhole m.stock
-  pub some : is_zero m.stock ≡ false
+    by_plan : (o : Option RegionPlan) → get w.regions n ≡ o → is_some (option_and_then (λ p. get p.markets i) o) ≡ true → i < length w.items
+    by_plan None there e = absurd (false≢true e)
+    by_plan (Some p) there e = by_market p (get p.markets i) there refl e
 
-abbrev item_of : StoredMarket → ℕ
-item_of m = as_u32 m.item
+no_market : (w : WorldValue) → without_markets w ≡ w → (n i : ℕ) → market_of w n i ≡ None
+no_market w bare n i =
+    ap (λ (x : WorldValue). market_of x n i) (sym bare) ∙ ap (option_and_then (λ (p : RegionPlan). get p.markets i)) (get-mapped without_market w.regions n) ∙ by_plan (get w.regions n)
+  where
+    by_plan : (o : Option RegionPlan) → option_and_then (λ (p : RegionPlan). get p.markets i) (option_map without_market o) ≡ None
+    by_plan None = refl
+    by_plan (Some p) = get-empty nat_cmp i
 
-abbrev stock_of : StoredMarket → ℕ
-stock_of m = as_u32 m.stock
+nothing_there : {V : Type 0} (m : FinMap nat_cmp V) → ((n : ℕ) (v : V) → ¬ (get m n ≡ Some v)) → m ≡ empty
+nothing_there m none = same_map nat_cmp_total nat_cmp-IsAntisymmetric m empty (λ n. free_from m n (λ there. none n there.0 there.1) ∙ sym (get-empty nat_cmp n))
 
-abbrev pub is_in : ℕ → StoredMarket → Bool
-is_in n m = as_u32 m.region == n
-
-pub all_in : (P : StoredMarket → Type 0) (n : ℕ) (markets : List StoredMarket) → AllByRecursion P markets → AllByRecursion (λ m. P m × (is_in n m ≡ true)) (filter (is_in n) markets)
-all_in P n markets all = kept (is_in n) (λ m. P m × (is_in n m ≡ true)) markets (each_so P (λ m. is_in n m ≡ true → P m × (is_in n m ≡ true)) (λ m one of. (one, of)) markets all)
-
-abbrev IsStockIn : ℕ → StoredMarket → Type 0
-IsStockIn n m = IsKeyed m × (is_in n m ≡ true)
-
-its_region : (n : ℕ) (m : StoredMarket) → IsStockIn n m → m.region ≡ pos n
-its_region n m (keys, of) = keys.region ∙ ap pos (is_same (as_u32 m.region) n of)
-
-same_row : (n : ℕ) (m : StoredMarket) → IsStockIn n m → IsWhole m.stock → market_row n (item_of m) (stock_of m) ≡ m
-same_row n m here stock = λ i. record { region = sym (its_region n m here) i; item = sym here.0.item i; stock = sym stock i }
-
-same_key : (n : ℕ) (m k : StoredMarket) → IsStockIn n m → IsStockIn n k → item_of m ≡ item_of k → ◌≡◌ {A = Key} (market_key k) (market_key m)
-same_key n m k a b e =
-    let region = its_region n k b ∙ sym (its_region n m a) in
-    let item = b.0.item ∙ sym (ap pos e) ∙ sym a.0.item in
-    λ i. (region i, item i, pos 0)
-
-other_item : (n : ℕ) (m k : StoredMarket) → IsStockIn n m → IsStockIn n k → same (market_key k) (market_key m) ≡ false → item_of m ≢ item_of k
-other_item n m k a b d e = false≢true (sym (ap (same (market_key k)) (same_key n m k a b e) ∙ d) ∙ ties_itself (market_key k))
-
--- in one region no item stands twice
-pub items_apart : (n : ℕ) (markets : List StoredMarket) → AllByRecursion IsKeyed markets → IsDistinct same (map market_key markets) → Apart item_of (filter (is_in n) markets)
-items_apart n markets all d =
-    let keys = IsDistinct-map market_key same (filter (is_in n) markets) (filter_apart (is_in n) (λ m k. same (market_key m) (market_key k)) markets (IsDistinct-of_map market_key same markets d)) in
-    Apart-keys market_key item_of same (IsStockIn n) (λ r s mine yours. other_item n s r yours mine) (filter (is_in n) markets) (all_in IsKeyed n markets all) keys
-
-stock_order : (n : ℕ) (markets : List StoredMarket) → AllByRecursion IsExact markets → IsDistinct same (map market_key markets) → IsPermutation (stock_rows n (entries (stocks_of n markets))) (filter (is_in n) markets)
-stock_order n markets all d =
-    lines_order item_of stock_of (market_row n) (λ m. not (is_zero m.stock)) (filter (is_in n) markets) (items_apart n markets (each_so IsExact IsKeyed (λ m one. one.keys) markets all) d)
-    (each_so (λ m. IsExact m × (is_in n m ≡ true)) (λ m. (market_row n (item_of m) (stock_of m) ≡ m) × (not (is_zero m.stock) ≡ true)) (λ m here. (same_row n m (here.0.keys, here.1) here.0.stock, ap not here.0.some)) (filter (is_in n) markets) (all_in IsExact n markets all))
-
-abbrev region_lines : ℕ × Region → List StoredMarket
-region_lines e = stock_rows e.0 (entries e.1.stocks)
-
--- what the campaign lists is what the rows say
-pub market_order : (markets : List StoredMarket) (regions : List StoredRegion) → Apart (λ r. as_u32 r.number) regions → AllByRecursion (λ m. HasNumber (λ r. as_u32 r.number) regions (as_u32 m.region)) markets → AllByRecursion IsExact markets → IsDistinct same (map market_key markets)
-    → IsPermutation (market_rows Second (entries (by_number (λ r. as_u32 r.number) (region_of markets) regions))) markets
-market_order markets regions apart of all d =
-    let lines = λ (r : StoredRegion). region_lines (as_u32 r.number, region_of markets r) in
-    let said = flat_map lines regions in
-    let listed = market_rows Second (entries (by_number (λ r. as_u32 r.number) (region_of markets) regions)) in
-    IsPermutation-trans listed said markets (IsPermutation-sym said listed (flat_order (λ r. as_u32 r.number) (region_of markets) region_lines regions apart))
-    (gathered (λ m. as_u32 m.region) (λ r. as_u32 r.number) lines regions markets (λ r. stock_order (as_u32 r.number) markets all d) apart of)
+-- in a world without markets there are no stocks
+pub no_stocks : (w : WorldValue) (c : CampaignValue) → without_markets w ≡ w → AreKnown w c → HasNoStocks c
+no_stocks w c bare known n r is = nothing_there r.stocks (λ i amount there. false≢true (sym (ap is_some (no_market w bare n i)) ∙ known.markets n r is i amount there))

@@ -43,7 +43,7 @@ use Rattle.atl_state.proofs.BooksRowLaws.{IsBooked, books_order}
 use Rattle.atl_state.proofs.FromRowLaws.{in_range, from_le, by_number-every, unit_ranges, number_ranges, head_ranges, NumberRanges}
 use Rattle.atl_state.proofs.GroupLaws.{unkept}
 use Rattle.atl_state.proofs.HasLaws.{IsWhole, IsKeyed, IsExact, IsOfUnits, same, ties_itself, things_apart, has_order}
-use Rattle.atl_state.proofs.MarketLaws as market
+use Rattle.atl_state.proofs.StockRowLaws as market
 use Rattle.atl_state.proofs.OrderLaws.{Apart, HasNumber, Apart-keys, rows_order, rows_there, rows_found, each_row, row_of, each_passes, each_with, each_so}
 
 -- ---- numbers that are read as they are

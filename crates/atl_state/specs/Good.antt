@@ -41,11 +41,14 @@ IsActive c n = (f : Faction) × (get c.factions n ≡ Some f) × (f.gone ≡ fal
 abbrev pub amount_bound : CampaignValue → ℕ
 amount_bound c = most_in_month * (c.month + 1) + most_in_joining * len c.factions
 
--- the region of this number; what there is 0 of in stock is not listed
+-- an item that is listed is in stock, up to the limit of the market in the region of this number
+abbrev pub AreStocks : WorldValue → ℕ → FinMap nat_cmp ℕ → Type 0
+AreStocks w n stocks = Every (λ i amount. (1 ≤ amount) × (amount ≤ stock_limit w n i)) stocks
+
 pub record IsRegion (w : WorldValue) (n : ℕ) (r : Region) : Type 0 where
   pub peasants : r.peasants ≤ most_amount
   pub money : r.money ≤ most_amount
-  pub stocks : Every (λ i amount. (1 ≤ amount) × (amount ≤ stock_limit w n i)) r.stocks
+  pub stocks : AreStocks w n r.stocks
 
 -- men from 0
 pub record AreInRange (w : WorldValue) (c : CampaignValue) : Type 0 where
@@ -92,10 +95,14 @@ pub record IsBuilt (w : WorldValue) (c : CampaignValue) (s : Structure) : Type 0
   pub region : IsThere c.regions s.region
   pub owner : s.owner ≢ 0 → IsThere c.units s.owner
 
+-- each of these stocks is of a market that the world has in the region of this number
+abbrev pub AreOfMarkets : WorldValue → ℕ → FinMap nat_cmp ℕ → Type 0
+AreOfMarkets w n stocks = Every (λ i amount. IsSome (market_of w n i)) stocks
+
 -- and the regions are the world's, with stocks of their markets
 pub record AreKnown (w : WorldValue) (c : CampaignValue) : Type 0 where
   pub regions : (n : ℕ) → IsThere c.regions n ↔ IsThere w.regions n
-  pub markets : Every (λ n r. Every (λ i amount. IsSome (market_of w n i)) r.stocks) c.regions
+  pub markets : Every (λ n r. AreOfMarkets w n r.stocks) c.regions
   pub units : Every (λ n u. IsPlaced w c u) c.units
   pub structures : Every (λ n s. IsBuilt w c s) c.structures
   pub mail : Every (λ n text. IsThere c.factions n) c.mail

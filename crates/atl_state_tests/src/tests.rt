@@ -14,4 +14,5 @@ mod owners;
 mod parts;
 mod rounds;
 mod setting;
+mod stocks;
 mod walks;

@@ -2,7 +2,7 @@
 use Rattle.std.proofs.Common.{◌≡◌, ◌≢◌, ◌+◌, ◌<◌, ◌∙◌, ℕ, ℤ, zero, suc, pos, negsuc, Bool, true, false, List, [], get_or, length, Some, inl, inr, refl, sym, ap, arith}
 use Rattle.std.specs.Prelude.{◌⊎◌, slice_index_or}
 use Rattle.std.specs.Ordering.{nat_cmp}
-use Rattle.std.specs.FinMap.{FinMap, get}
+use Rattle.std.specs.FinMap.{FinMap, empty, get}
 use Rattle.std.proofs.lemmas.List.{ext_get_or}
 use Rattle.sqlite.specs.Order.{Row}
 use Rattle.sqlite_trees.specs.Tree.{Trees}
@@ -20,6 +20,7 @@ use Rattle.atl_state.specs.declared.records.Unit.{Unit}
 use Rattle.atl_state.proofs.BackLaws.{agree}
 use Rattle.atl_state.proofs.BookLaws.{place_at}
 use Rattle.atl_state.proofs.EveryEntryLaws.{entry_at}
+use Rattle.atl_state.proofs.MarketLaws.{no_stocks}
 use Rattle.atl_store.specs.Alike.{HoldsOne}
 use Rattle.atl_store.specs.Rows.{RowsOf, HasRowsOf, BooksRowsOf, Holds, campaign_line, faction_line, region_line, unit_line, structure_line, things_of}
 use Rattle.atl_store.specs.Sets.{Is}
@@ -65,11 +66,13 @@ factions_tell m k a b n p f g is there same =
     let gone : f.gone ≡ g.gone = same_flag f.gone g.gone (cc) in
     (at, λ i. record { number = number i; joined_as = joined i; name = name i; pass = pass i; gone = gone i })
 
-regions_tell : (m k : FinMap nat_cmp Region) → Tells region_line m k
-regions_tell m k n p r s is there same =
+-- regions with nothing in stock
+regions_tell : (m k : FinMap nat_cmp Region) → Every (λ n r. r.stocks ≡ empty) m → Every (λ n r. r.stocks ≡ empty) k → Tells region_line m k
+regions_tell m k a b n p r s is there same =
     let peasants : r.peasants ≡ s.peasants = cc in
     let money : r.money ≡ s.money = cc in
-    (cc, λ i. record { peasants = peasants i; money = money i })
+    let stocks : r.stocks ≡ s.stocks = a n r is ∙ sym (b p s there) in
+    (cc, λ i. record { peasants = peasants i; money = money i; stocks = stocks i })
 
 structures_tell : (m k : FinMap nat_cmp Structure) → Tells structure_line m k
 structures_tell m k n p s t is there same =
@@ -198,7 +201,9 @@ module _ (db : Trees) (one other : List ℕ) (c d : CampaignValue) (h : Holds db
   one_text = let own = one_row in cc
 
 pub holds_one : HoldsOne
-holds_one w db one other c d good sound h j =
+holds_one w bare db one other c d good sound h j =
+    let none = no_stocks w c bare good.sound.steady.known in
+    let nothing = no_stocks w d bare sound.sound.steady.known in
     let own : campaign_line one c ≡ campaign_line other d = one_row db one other c d h j in
     let text : one ≡ other = one_text db one other c d h j in
     let month : c.month ≡ d.month = cc in
@@ -209,7 +214,7 @@ holds_one w db one other c d good sound h j =
     let numbers = good.sound.steady.numbers in
     let others = sound.sound.steady.numbers in
     let factions = same_values faction_line _ c.factions d.factions (factions_tell _ _ numbers.factions others.factions) (factions_tell _ _ others.factions numbers.factions) h.factions j.factions in
-    let regions = same_values region_line _ c.regions d.regions (regions_tell _ _) (regions_tell _ _) h.regions j.regions in
+    let regions = same_values region_line _ c.regions d.regions (regions_tell _ _ none nothing) (regions_tell _ _ nothing none) h.regions j.regions in
     let structures = same_values structure_line _ c.structures d.structures (structures_tell _ _) (structures_tell _ _) h.structures j.structures in
     let mail = same_values mail_row _ c.mail d.mail (mails_tell _ _) (mails_tell _ _) h.mail j.mail in
     let reports = same_values report_row _ c.reports d.reports (reports_tell _ _) (reports_tell _ _) h.reports j.reports in

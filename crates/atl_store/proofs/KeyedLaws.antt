@@ -18,6 +18,7 @@ use Rattle.sqlite_trees.specs.Tree.{Trees, rowid}
 use Rattle.sqlite_trees.specs.View.{is_int}
 use Rattle.sqlite_rules.specs.Lists.{Has}
 use Rattle.sqlite_rules.proofs.ListLemmas.{all_from, all_has}
+use Rattle.atl_tables.specs.declared.format.Format.TheVariants.{First}
 use Rattle.atl_state.specs.Rows.{rows_by, rows_of, AreRowsOf}
 use Rattle.atl_state.specs.Rows as made
 use Rattle.atl_state.specs.Campaign.{CampaignValue}
@@ -138,10 +139,10 @@ books_apart db placed same keyed = keyed_apart books_stored (λ s. s.rowid) 3 (�
 
 -- ---- all nine
 
-pub rows_keyed : (db : Trees) (text : List ℕ) (p : Parts) (c : CampaignValue) → HaveRows db text p → AreRowsOf c p → IsKeyed (db has_table.tree) → IsKeyed (db books_table.tree) → (table : Table) → Has all_tables table → IsKeyed (db table.tree)
+pub rows_keyed : (db : Trees) (text : List ℕ) (p : Parts) (c : CampaignValue) → HaveRows db text p → AreRowsOf First c p → IsKeyed (db has_table.tree) → IsKeyed (db books_table.tree) → (table : Table) → Has all_tables table → IsKeyed (db table.tree)
 unfolding rows_of
 rows_keyed db text p c have are has books table there =
-    let campaign = keyed_numbers (own_stored text) (λ (s : StoredHead). s.id) 0 (λ s. refl) (visible campaign_table) (db 0) p.campaign (λ r. refl) have.campaign (one_apart (λ (s : StoredHead). s.id) (made.head_row c) p.campaign are.campaign) in
+    let campaign = keyed_numbers (own_stored text) (λ (s : StoredHead). s.id) 0 (λ s. refl) (visible campaign_table) (db 0) p.campaign (λ r. refl) have.campaign (one_apart (λ (s : StoredHead). s.id) (made.head_row First c) p.campaign are.campaign) in
     let factions = keyed_numbers faction_stored (λ (s : StoredFaction). s.number) 0 (λ s. refl) (visible faction_table) (db 1) p.factions (λ r. refl) have.factions (read_apart (λ (s : StoredFaction). s.number) made.faction_row (λ n v. refl) p.factions c.factions are.factions) in
     let regions = keyed_numbers region_stored (λ (s : StoredRegion). s.number) 0 (λ s. refl) (visible region_table) (db 3) p.regions (λ r. refl) have.regions (read_apart (λ (s : StoredRegion). s.number) made.region_row (λ n v. refl) p.regions c.regions are.regions) in
     let units = keyed_numbers unit_stored (λ (s : StoredUnit). s.number) 0 (λ s. refl) (visible unit_table) (db 4) p.units (λ r. refl) have.units (read_apart (λ (s : StoredUnit). s.number) made.unit_row (λ n v. refl) p.units c.units are.units) in

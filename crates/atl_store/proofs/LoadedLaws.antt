@@ -7,10 +7,11 @@ use Rattle.sqlite_trees.specs.declared.store.Store.{Ghosts}
 use Rattle.sqlite.specs.Effect.{Database}
 use Rattle.sqlite.specs.Held.{Held, state}
 use Rattle.sqlite.specs.State.{HasCleanDisk}
+use Rattle.atl_tables.specs.declared.format.Format.TheVariants.{First}
 use Rattle.atl_tables.specs.Worlds.{WorldValue}
 use Rattle.atl_tables.specs.World.{old_world_of}
 use Rattle.atl_state.specs.Checking.{Checks, IsFirstBroken}
-use Rattle.atl_state.specs.RowRules.{is_one_head}
+use Rattle.atl_state.specs.RowRules.{is_one_head, are_of_format}
 use Rattle.atl_state.specs.Campaign.{MarkedCampaign}
 use Rattle.atl_state.specs.declared.checking.CheckFault.{CheckFault}
 use Rattle.atl_state.specs.declared.checking.CheckFault.TheVariants as check
@@ -35,7 +36,7 @@ use Rattle.atl_store.proofs.PartsLaws.{rows_hold}
 use Rattle.atl_store.proofs.WorldTextLaws.{world_text_is}
 
 -- a row whose id and format are 1 keeps the first rule
-one_head : (h : StoredHead) (rows : List StoredHead) → h.id ≡ pos 1 → h.format ≡ pos 1 → rows ≡ h ∷ [] → IsTrue (is_one_head rows)
+one_head : (h : StoredHead) (rows : List StoredHead) → h.id ≡ pos 1 → h.format ≡ pos 1 → rows ≡ h ∷ [] → IsTrue (is_one_head First rows)
 one_head h rows id format is = rw (is, id, format) refl
 
 module _ {S : Type 0} (g : Ghosts S) where
@@ -79,6 +80,7 @@ module _ {S : Type 0} (g : Ghosts S) where
   gathered_with old own w read p row found made = record {
     one = own_kept old own w row;
     head = one_head own.head p.campaign row.row.id row.row.format (ap (λ (p : Parts). p.campaign) made.is);
+    markets = ap (λ (p : Parts). are_of_format First p.markets) made.is;
     text = string_bytes own.world;
     world = row.row.world;
     typed = found.0;
@@ -95,11 +97,11 @@ module _ {S : Type 0} (g : Ghosts S) where
       let db = (state g old).now.trees in
       record { nine = nine; has_keyed = has_keyed db places.has_placed places.has places.has_apart; books_keyed = books_keyed db places.books_placed places.books places.books_apart }
 
-  breaks : (old : Held S) (w : WorldValue) (p : Parts) → Gathered g old w p → HasNine old.schema → (rule : Rule) → IsFirstBroken w p rule → BreaksRule g old rule
+  breaks : (old : Held S) (w : WorldValue) (p : Parts) → Gathered g old w p → HasNine old.schema → (rule : Rule) → IsFirstBroken First w p rule → BreaksRule g old rule
   breaks old w p all nine rule first = record { made = are_made old w p all nine; world = w; text = all.text; is_world = all.world; parts = p; rows = all.rows nine; first = first }
 
-  damaged : (old : Held S) (w : WorldValue) (p : Parts) → Gathered g old w p → HasNine old.schema → (rule : Rule) → IsFirstBroken w p rule → IsDamaged g old rule
-  damaged old w p all nine OneRow first = absurd (first.broken all.head)
+  damaged : (old : Held S) (w : WorldValue) (p : Parts) → Gathered g old w p → HasNine old.schema → (rule : Rule) → IsFirstBroken First w p rule → IsDamaged g old rule
+  damaged old w p all nine OneRow first = absurd (first.broken (all.head, all.markets))
   damaged old w p all nine Ranges first = inr (breaks old w p all nine Ranges first)
   damaged old w p all nine Names first = breaks old w p all nine Names first
   damaged old w p all nine Known first = breaks old w p all nine Known first
@@ -116,7 +118,7 @@ module _ {S : Type 0} (g : Ghosts S) where
   wants_memory : (old : Held S) → old.in_transaction ≡ false → KeepsOneRow g old → WantsMemory g old
   wants_memory old idle kept = (idle, inr (kept.rows, kept.selects))
 
-  pub judged_damaged : (old : Held S) → old.in_transaction ≡ false → (w : WorldValue) (p : Parts) → Gathered g old w p → HasNine old.schema → (fault : CheckFault) → Checks w p (Err fault) → RefusesToLoad g old (judged_fault fault)
+  pub judged_damaged : (old : Held S) → old.in_transaction ≡ false → (w : WorldValue) (p : Parts) → Gathered g old w p → HasNine old.schema → (fault : CheckFault) → Checks First w p (Err fault) → RefusesToLoad g old (judged_fault fault)
   judged_damaged old idle w p all nine (check.Damaged rule) first = damaged old w p all nine rule first
   judged_damaged old idle w p all nine check.Memory none = wants_memory old idle all.one
 

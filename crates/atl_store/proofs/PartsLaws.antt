@@ -10,6 +10,7 @@ use Rattle.sqlite.specs.Order.{Row}
 use Rattle.sqlite_trees.specs.Tree.{Trees}
 use Rattle.sqlite_rules.specs.Lists.{Has}
 use Rattle.sqlite_rules.proofs.ListLemmas.{has_either, has_left, has_right, has_filtered, has_kept}
+use Rattle.atl_tables.specs.declared.format.Format.TheVariants.{First}
 use Rattle.atl_state.specs.Books.{all_entries, entry_place, thing_at, thing_place}
 use Rattle.atl_state.specs.Held.{Held}
 use Rattle.atl_state.specs.Limits.{entry_count}
@@ -77,11 +78,11 @@ unit_same n u =
 
 -- ---- the campaign's own row
 
-own_held : (text : List ℕ) (c : CampaignValue) (rows : List Row) (read : List StoredHead) → IsPermutation rows (map (own_stored text) read) → IsPermutation (made.head_row c ∷ []) read → Is rows (λ r. r ≡ campaign_line text c)
+own_held : (text : List ℕ) (c : CampaignValue) (rows : List Row) (read : List StoredHead) → IsPermutation rows (map (own_stored text) read) → IsPermutation (made.head_row First c ∷ []) read → Is rows (λ r. r ≡ campaign_line text c)
 own_held text c rows read in_table of_them r =
-    let is = are_made (own_stored text) rows read (made.head_row c ∷ []) in_table of_them r in (
+    let is = are_made (own_stored text) rows read (made.head_row First c ∷ []) in_table of_them r in (
       λ there. let a = is.0 there in elim a.1 [ inl same ↦ a.2 ∙ ap (own_stored text) same | inr none ↦ absurd none ],
-      λ same. is.1 (made.head_row c, inl refl, same),
+      λ same. is.1 (made.head_row First c, inl refl, same),
     )
 
 -- ---- what units have
@@ -180,7 +181,7 @@ module _ (books : List (List ℤ)) where
 -- ---- all tables
 
 -- tables that have the rows of a campaign hold it
-pub rows_hold : (db : Trees) (text : List ℕ) (p : Parts) (c : CampaignValue) → HaveRows db text p → AreRowsOf c p → Holds db text c
+pub rows_hold : (db : Trees) (text : List ℕ) (p : Parts) (c : CampaignValue) → HaveRows db text p → AreRowsOf First c p → Holds db text c
 unfolding rows_of
 rows_hold db text p c have are = record {
   campaign = own_held text c (rows_in campaign_table db) p.campaign have.campaign are.campaign;

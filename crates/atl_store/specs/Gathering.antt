@@ -12,9 +12,10 @@ use Rattle.sqlite_catalog.specs.Listing.{IsSound}
 use Rattle.sqlite_trees.specs.Tree.{Trees}
 use Rattle.sqlite_trees.specs.declared.store.Store.{Ghosts}
 use Rattle.atl_tables.specs.Worlds.{WorldValue}
+use Rattle.atl_tables.specs.declared.format.Format.TheVariants.{First}
 use Rattle.atl_tables.specs.World.{old_world_of}
 use Rattle.atl_state.specs.Checking.{IsChecked}
-use Rattle.atl_state.specs.RowRules.{is_one_head}
+use Rattle.atl_state.specs.RowRules.{is_one_head, are_of_format}
 use Rattle.atl_state.specs.Campaign.{MarkedCampaign}
 use Rattle.atl_state.specs.declared.checking.Rule.TheVariants.{OneRow}
 use Rattle.atl_state.specs.declared.parts.Parts.{Parts}
@@ -202,6 +203,7 @@ parts_with head read = record {
   mail = read.1.0.1.items;
   reports = read.0.0.1.items;
   books = map (λ s. s.row) read.1.1.items;
+  markets = [];
 }
 
 -- the rows are these, and no two of has, or of books, are kept at one place
@@ -226,7 +228,8 @@ pub record HavePlaces (db : Trees) (p : Parts) : Type 0 where
 -- all rows were read: those of the world's text and these
 pub record Gathered {S : Type 0} (g : Ghosts S) (old : Held S) (w : WorldValue) (p : Parts) : Type 0 where
   pub one : KeepsOneRow g old
-  pub head : IsTrue (is_one_head p.campaign)
+  pub head : IsTrue (is_one_head First p.campaign)
+  pub markets : IsTrue (are_of_format First p.markets)
   pub text : List ℕ
   pub world : old_world_of text ≡ Ok w
   pub typed : AreToldTyped g old other_selects
@@ -244,4 +247,4 @@ pub record IsLoaded {S : Type 0} (g : Ghosts S) (old new : Held S) (w : WorldVal
   pub parts : Parts
   pub gathered : HasCleanDisk (state g new) → Gathered g old w parts
   pub confirmed : HasCleanDisk (state g new) → IsConfirmed (state g old) (state g new)
-  pub checked : IsChecked w parts c
+  pub checked : IsChecked First w parts c

@@ -10,6 +10,7 @@ use Rattle.sqlite_rules.specs.Lists.{Has}
 use Rattle.sqlite_trees.specs.Tree.{Trees}
 use Rattle.sqlite_trees.specs.declared.store.Store.{Ghosts}
 use Rattle.atl_tables.specs.Worlds.{WorldValue}
+use Rattle.atl_tables.specs.declared.format.Format.TheVariants.{First}
 use Rattle.atl_tables.specs.World.{old_world_of}
 use Rattle.atl_state.specs.Checking.{IsFirstBroken}
 use Rattle.atl_state.specs.Good.{IsGood}
@@ -136,7 +137,7 @@ module _ {S : Type 0} (g : Ghosts S) (old : Held S) where
     pub is_world : old_world_of text ≡ Ok world
     pub parts : Parts
     pub rows : HaveRows (state g old).now.trees text parts
-    pub first : IsFirstBroken world parts rule
+    pub first : IsFirstBroken First world parts rule
 
   -- The campaign's own rows keep the first rule.
   pub record KeepsOneRow : Type 0 where

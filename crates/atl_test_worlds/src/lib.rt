@@ -86,7 +86,7 @@ fee = 10
 "#
 );
 
-/// The same with an item, and a market for it.
+/// The same with a market of its one item.
 pub const MART: &str = vale!(
     1000,
     100,

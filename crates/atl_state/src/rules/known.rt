@@ -5,7 +5,7 @@ ghost use Rattle.std.specs.FinMap as map;
 ghost use Rattle.atl_tables.specs.ByNumber.{market_of};
 ghost use Rattle.atl_state.specs.declared.records.Structure as builds;
 ghost use Rattle.atl_state.specs.Deciding.{EachOf};
-ghost use Rattle.atl_state.specs.Good.{Every, IsThere, IsPlaced, IsBuilt, AreKnown};
+ghost use Rattle.atl_state.specs.Good.{Every, IsThere, IsPlaced, IsBuilt, AreKnown, AreOfMarkets};
 
 use crate::campaign::Campaign;
 use crate::holding::Holding;
@@ -74,7 +74,7 @@ fn has_market(world: &World, region: u32, item: u32) -> bool
 
 /// Whether a region has stocks of its markets alone.
 fn is_of_markets(world: &World, number: u32, region: &Region) -> bool
-    ensures { Decides result (Every (λ i amount. IsSome (market_of world.now number i)) region.now.stocks) }
+    ensures { Decides result (AreOfMarkets world.now number region.now.stocks) }
 {
     region
         .stocks
@@ -84,7 +84,7 @@ fn is_of_markets(world: &World, number: u32, region: &Region) -> bool
 
 /// Whether all stocks are of markets of their regions.
 fn are_of_markets(world: &World, campaign: &Campaign) -> bool
-    ensures { Decides result (Every (λ n r. Every (λ i amount. IsSome (market_of world.now n i)) r.stocks) campaign.now.value.regions) }
+    ensures { Decides result (Every (λ n r. AreOfMarkets world.now n r.stocks) campaign.now.value.regions) }
 {
     campaign
         .regions()
@@ -94,7 +94,7 @@ fn are_of_markets(world: &World, campaign: &Campaign) -> bool
 /// Whether the regions are exactly the world's, and all stocks are of their markets.
 fn are_stocks_known(world: &World, campaign: &Campaign) -> bool
     ensures { Decides result (((n : ℕ) → IsThere campaign.now.value.regions n ↔ IsThere world.now.regions n)
-        × Every (λ n r. Every (λ i amount. IsSome (market_of world.now n i)) r.stocks) campaign.now.value.regions) }
+        × Every (λ n r. AreOfMarkets world.now n r.stocks) campaign.now.value.regions) }
 {
     are_regions_known(world, campaign) && are_of_markets(world, campaign)
 }
@@ -209,7 +209,7 @@ fn are_reports_known(campaign: &Campaign) -> bool
 /// Whether the regions, and all that they, units and structures name, are there.
 fn are_things_known(world: &World, campaign: &Campaign) -> bool
     ensures { Decides result ((((n : ℕ) → IsThere campaign.now.value.regions n ↔ IsThere world.now.regions n)
-        × Every (λ n r. Every (λ i amount. IsSome (market_of world.now n i)) r.stocks) campaign.now.value.regions)
+        × Every (λ n r. AreOfMarkets world.now n r.stocks) campaign.now.value.regions)
         × (Every (λ n u. IsPlaced world.now campaign.now.value u) campaign.now.value.units × Every (λ n s. IsBuilt world.now campaign.now.value s) campaign.now.value.structures)) }
 {
     are_stocks_known(world, campaign) && (are_placed(world, campaign) && are_built(world, campaign))

@@ -18,7 +18,7 @@ use Rattle.atl_state.proofs.AssemblyLaws.{is_same}
 use Rattle.atl_state.proofs.BackGroupLaws.{groups_each, each_group, lines_each, each_line, lines_apart, amounts_back}
 use Rattle.atl_state.proofs.BackLaws.{each_permuted, read_whole, written_whole, apart_keys, flat_apart, entries_rise, keys_permuted, same_size}
 use Rattle.atl_state.proofs.HasLaws.{same}
-use Rattle.atl_state.proofs.MarketLaws.{IsKeyed, is_in, items_apart}
+use Rattle.atl_state.proofs.StockRowLaws.{IsKeyed, is_in, items_apart}
 
 abbrev none : StoredMarket → Bool
 none m = is_zero m.stock
