@@ -97,9 +97,6 @@ work_alone = money_alone entries.Wages
 pub upkeep_alone : MovesItsOwn upkeep_terms
 upkeep_alone = money_and_people entries.Upkeep entries.Starved
 
-pub season_alone : MovesItsOwn season_terms
-season_alone = money_and_people entries.Income entries.Births
-
 both_hold : (a b : Bool) → (if a && b then most_moved else 0) ≤ (if a then most_moved else 0)
 both_hold true true = omega arith
 both_hold true false = omega arith
@@ -108,6 +105,11 @@ both_hold false b = omega arith
 never : (a : Bool) → (if a && false then most_moved else 0) ≤ 0
 never true = omega arith
 never false = omega arith
+
+pub season_alone : MovesItsOwn season_terms
+season_alone e Money = omega (arith, money_and_people entries.Income entries.Births e Money, never (entry_place e == entry_place entries.Stocked))
+season_alone e People = omega (arith, money_and_people entries.Income entries.Births e People, never (entry_place e == entry_place entries.Stocked))
+season_alone e (Item i) = omega (arith, money_and_people entries.Income entries.Births e (Item i), both_hold (entry_place e == entry_place entries.Stocked) true)
 
 pub sweep_alone : MovesItsOwn sweep_terms
 sweep_alone e Money = both_hold (entry_place e == entry_place entries.Lost) true
