@@ -215,7 +215,7 @@ module _ (w : WorldValue) (c : CampaignValue) where
   CanHave e = (u : Unit) × (get c.units e.0 ≡ Some u) × (u.holding.men + e.1 ≤ men_limit) × (e.1 * w.rules.recruit_price ≤ u.holding.money)
 
   abbrev AreToJoin : CampaignValue → List (ℕ × ℕ) → Type 0
-  AreToJoin = AreReady peasants_of CanHave w c
+  AreToJoin = AreReady pots CanHave w c
 
   -- there is room in the books for their price
   abbrev CanBook : CampaignValue → List (ℕ × ℕ) → Type 0
@@ -236,7 +236,7 @@ module _ (w : WorldValue) (c : CampaignValue) where
       let well = recruited_well w d e can in
       let joined = recruited w d e in (
         can,
-        all_can joined es (ready_behind peasants_of w c d e es joined ready well.leaves_it (recruited_others w d e) (recruited_drains w d e can c.units (sym ready.same.0 ∙ can.at.there)))
+        all_can joined es (ready_behind pots w c d e es joined ready well.leaves_it (recruited_others w d e) (recruited_drains w d e can c.units (sym ready.same.0 ∙ can.at.there)))
             (later_room step_moves w d joined e es well room),
       )
 

@@ -144,7 +144,7 @@ module _ (w : WorldValue) (c : CampaignValue) where
   HasRoomFor e = (u : Unit) × (get c.units e.0 ≡ Some u) × (u.holding.money + e.1 ≤ holding_limit)
 
   abbrev AreTaken : CampaignValue → List (ℕ × ℕ) → Type 0
-  AreTaken = AreReady money_of HasRoomFor w c
+  AreTaken = AreReady pots HasRoomFor w c
 
   first_can : (d : CampaignValue) (e : ℕ × ℕ) (es : List (ℕ × ℕ)) → AreTaken d (e ∷ es) → CanTax w d e
   first_can d e es ready =
@@ -160,7 +160,7 @@ module _ (w : WorldValue) (c : CampaignValue) where
       let can = first_can d e es ready in
       let early = (taxed_well w d e can).leaves_it in (
         can,
-        all_can (taxed d e) es (ready_behind money_of w c d e es (taxed d e) ready early (taxed_others w d e can) (taxed_drains w d e can c.units (sym ready.same.0 ∙ can.at.there))),
+        all_can (taxed d e) es (ready_behind pots w c d e es (taxed d e) ready early (taxed_others w d e can) (taxed_drains w d e can c.units (sym ready.same.0 ∙ can.at.there))),
       )
 
   module _ (early : IsEarly w c) (os : List Written) where

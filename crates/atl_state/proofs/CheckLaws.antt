@@ -1,5 +1,5 @@
 -- Rows that keep all rules are those of a good campaign; and the first rule that is broken.
-use Rattle.std.proofs.Common.{◌≡◌, ◌==◌, ℕ, ◌≤◌, ◌<◌, ◌+◌, ◌&&◌, List, [], length, get_or, nat_le, nat_lt, Bool, true, false, cond, refl, sym, ap, subst, ◌∙◌, arith, inl, inr}
+use Rattle.std.proofs.Common.{◌≡◌, ◌==◌, ℕ, ◌≤◌, ◌<◌, ◌+◌, ◌&&◌, List, [], ◌∷◌, length, get_or, nat_le, nat_lt, Bool, true, false, cond, refl, sym, ap, subst, ◌∙◌, arith, inl, inr}
 use Rattle.std.specs.Prelude.{ℤ, pos}
 use Rattle.std.specs.Bool.{Decides}
 use Rattle.std.proofs.lemmas.Bool.{and_parts, cases_Bool, cases_eq, cases_lt, false≢true}
@@ -14,13 +14,14 @@ use Rattle.atl_state.specs.declared.parts.Parts.{Parts}
 use Rattle.atl_state.specs.declared.books.Entry.{Entry}
 use Rattle.atl_state.specs.declared.books.Thing.{Thing}
 use Rattle.atl_state.specs.declared.parts.StoredBooks.{StoredBooks}
+use Rattle.atl_state.specs.declared.parts.StoredHead.{StoredHead}
 use Rattle.atl_state.specs.Checking.{rule_number, Keeps, KeepsBelow, IsFirstBroken, Fits}
 use Rattle.std.specs.List.{list_all, AllByRecursion}
 use Rattle.atl_state.specs.Books.{amount_in, entry_place, thing_place, no_amounts, IsGrid}
 use Rattle.atl_state.specs.Founding.{things_of}
 use Rattle.atl_state.specs.FromRows.{as_u32, by_number, stocks_of, region_of, put_amounts, head_of, campaign_of}
 use Rattle.atl_state.specs.Good.{AreOfMarkets, Every, IsThere, HasNoStocks, IsGood}
-use Rattle.atl_state.specs.RowRules.{is_entry_in, is_booked, head_in_range, people_in_range, region_in_range, structure_in_range, books_in_range, books_bound, market_in_range}
+use Rattle.atl_state.specs.RowRules.{is_one_head, is_entry_in, is_booked, head_in_range, people_in_range, region_in_range, structure_in_range, books_in_range, books_bound, market_in_range}
 use Rattle.atl_state.specs.Totals.{IsCountable}
 use Rattle.atl_state.specs.Limits.{first_entry_count}
 use Rattle.atl_state.specs.Rows.{is_zero, books_rows, AreRowsOf}
@@ -46,6 +47,11 @@ same_rule r s e = sym (its_rule r) ∙ ap rule_at e ∙ its_rule s
 from_one : (r : Rule) → 1 ≤ rule_number r
 from_one OneRow = omega arith
 from_one _ = omega arith
+
+only_one : (f : Format) (rows : List StoredHead) → is_one_head f rows ≡ true → length rows ≡ 1
+only_one f [] h = absurd (false≢true h)
+only_one f (r ∷ []) h = refl
+only_one f (r ∷ other ∷ rows) h = absurd (false≢true h)
 
 -- an entry of the first format, as it is written
 late_entry : (n : ℕ) → first_entry_count ≤ n → n < 16 → is_entry_in First (as_u32 (pos (n + 1))) ≡ true → ⊥
@@ -160,6 +166,9 @@ module _ (f : Format) (w : WorldValue) (p : Parts) where
 
   pub places-said : KeepsBelow f w p 8 → Every (λ n u. IsThere (campaign_of w p).regions u.region) (campaign_of w p).units
   places-said k n u is = ((k Known (omega arith)).0.units n u is).region
+
+  pub one-said : KeepsBelow f w p 4 → length p.campaign ≡ 1
+  one-said k = only_one f p.campaign (k OneRow (omega arith)).0
 
   pub people-said : KeepsBelow f w p 4 → people_in_range p ≡ true
   people-said k =

@@ -40,7 +40,8 @@ use Rattle.atl_state.proofs.HasLaws.{IsWhole, same}
 use Rattle.atl_state.proofs.OrderLaws.{Apart-keys}
 use Rattle.atl_state.proofs.RuleLaws.{each_numbered, every_before}
 use Rattle.atl_state.proofs.StateLaws.{same_state}
-use Rattle.atl_state.proofs.SaidLaws.{one_apart, none_or_below, small_size, small_limit, market_there}
+use Rattle.atl_state.proofs.SaidLaws.{one_apart, none_or_below, small_size, small_limit}
+use Rattle.atl_state.proofs.MarketLaws.{market_known}
 
 -- ---- numbers in a good campaign
 
@@ -215,9 +216,8 @@ module _ (w : WorldValue) (world : IsWorld w) (c : CampaignValue) (good : IsGood
   -- an item of a market
   item_small : (n i : ℕ) → is_some (market_of w n i) ≡ true → i ≤ most_u32
   item_small n i named =
-      let found = market_there w.regions i n (get w.regions n) refl named in
       let few = world.few_items in
-      let below = ((world.regions n found.0 found.2).markets i found.1 found.3).item in
+      let below = market_known w world n i named in
       omega (arith, few, below)
 
   pub stocked : AreStocked c.regions

@@ -43,6 +43,7 @@ use Rattle.atl_state.proofs.BooksRowLaws.{IsBooked, books_order}
 use Rattle.atl_state.proofs.FromRowLaws.{in_range, from_le, by_number-every, unit_ranges, number_ranges, head_ranges, NumberRanges}
 use Rattle.atl_state.proofs.GroupLaws.{unkept}
 use Rattle.atl_state.proofs.HasLaws.{IsWhole, IsKeyed, IsExact, IsOfUnits, same, ties_itself, things_apart, has_order}
+use Rattle.atl_state.proofs.MarketLaws.{market_known}
 use Rattle.atl_state.proofs.StockRowLaws as market
 use Rattle.atl_state.proofs.OrderLaws.{Apart, HasNumber, Apart-keys, rows_order, rows_there, rows_found, each_row, row_of, each_passes, each_with, each_so}
 
@@ -167,7 +168,7 @@ small_limit w world n i = limit_small (market_of w n i) (λ m is. of_market (mar
     some_same : (a b : Market) → Some a ≡ Some b → a ≡ b
     some_same a b e = cc
 
-    of_market : (q : RegionPlan) × (m : Market) × (get w.regions n ≡ Some q) × (get q.markets i ≡ Some m) → (m : Market) → market_of w n i ≡ Some m → m.limit ≤ most_amount
+    of_market : (found : (q : RegionPlan) × (m : Market) × (get w.regions n ≡ Some q) × (get q.markets i ≡ Some m)) (m : Market) → market_of w n i ≡ Some m → m.limit ≤ most_amount
     of_market found m is =
         let there = ap (option_and_then (λ (q : RegionPlan). get q.markets i)) found.2 in
         let one = some_same found.1 m (sym found.3 ∙ sym there ∙ is) in
@@ -442,9 +443,8 @@ module _ (f : Format) (w : WorldValue) (p : Parts) (k : RowsKeep f w p) where
   exact_market m named range =
       let found = market_there w.regions (as_u32 m.item) (as_u32 m.region) (get w.regions (as_u32 m.region)) refl named in
       let plan = k.world.regions (as_u32 m.region) found.0 found.2 in
-      let of = plan.markets (as_u32 m.item) found.1 found.3 in
       let region_few = plan.number_most in
-      let item_few = of.item in
+      let item_few = market_known w k.world (as_u32 m.region) (as_u32 m.item) named in
       let few = k.world.few_items in
       let limit_few = small_limit w k.world (as_u32 m.region) (as_u32 m.item) in
       let stock = from_range 1 (stock_limit w (as_u32 m.region) (as_u32 m.item)) m.stock (omega (arith, limit_few)) range in

@@ -1,10 +1,9 @@
 -- The stocks of regions, as the rows say them and as the campaign lists them.
-use Rattle.std.proofs.Common.{◌≡◌, ◌≢◌, ◌==◌, ℕ, List, Bool, true, false, not, map, filter, sym, ap, ◌∙◌}
+use Rattle.std.proofs.Common.{◌≡◌, ◌==◌, ℕ, List, Bool, true, false, not, map, filter, sym, ap, ◌∙◌}
 use Rattle.std.specs.Prelude.{pos}
 use Rattle.std.specs.List.{flat_map, AllByRecursion, IsDistinct}
 use Rattle.std.specs.List.Sorted.{IsPermutation}
 use Rattle.std.specs.FinMap.{entries}
-use Rattle.std.proofs.lemmas.Bool.{false≢true}
 use Rattle.std.proofs.lemmas.List.Sorted.{IsPermutation-sym, IsPermutation-trans}
 use Rattle.atl_tables.specs.declared.format.Format.TheVariants.{Second}
 use Rattle.atl_state.specs.declared.parts.StoredMarket.{StoredMarket}
@@ -14,10 +13,10 @@ use Rattle.atl_state.specs.FromRows.{as_u32, stocks_of, region_of, by_number}
 use Rattle.atl_state.specs.RowRules.{Key, market_key}
 use Rattle.atl_state.specs.Rows.{is_zero, market_row, stock_rows, market_rows}
 use Rattle.atl_state.proofs.AssemblyLaws.{is_same}
-use Rattle.atl_state.proofs.GroupLaws.{filter_apart, gathered, kept, lines_order}
+use Rattle.atl_state.proofs.GroupLaws as group
+use Rattle.atl_state.proofs.GroupLaws.{gathered, lines_order}
 use Rattle.atl_state.proofs.HasLaws.{IsWhole, same, ties_itself}
-use Rattle.atl_state.proofs.KeyLaws.{IsDistinct-map, IsDistinct-of_map}
-use Rattle.atl_state.proofs.OrderLaws.{Apart, Apart-keys, HasNumber, each_so, flat_order}
+use Rattle.atl_state.proofs.OrderLaws.{Apart, HasNumber, each_so, flat_order}
 
 -- a key that is read as it is
 pub record IsKeyed (m : StoredMarket) : Type 0 where
@@ -39,9 +38,6 @@ stock_of m = as_u32 m.stock
 abbrev pub is_in : ℕ → StoredMarket → Bool
 is_in n m = as_u32 m.region == n
 
-pub all_in : (P : StoredMarket → Type 0) (n : ℕ) (markets : List StoredMarket) → AllByRecursion P markets → AllByRecursion (λ m. P m × (is_in n m ≡ true)) (filter (is_in n) markets)
-all_in P n markets all = kept (is_in n) (λ m. P m × (is_in n m ≡ true)) markets (each_so P (λ m. is_in n m ≡ true → P m × (is_in n m ≡ true)) (λ m one of. (one, of)) markets all)
-
 abbrev IsStockIn : ℕ → StoredMarket → Type 0
 IsStockIn n m = IsKeyed m × (is_in n m ≡ true)
 
@@ -57,19 +53,14 @@ same_key n m k a b e =
     let item = b.0.item ∙ sym (ap pos e) ∙ sym a.0.item in
     λ i. (region i, item i, pos 0)
 
-other_item : (n : ℕ) (m k : StoredMarket) → IsStockIn n m → IsStockIn n k → same (market_key k) (market_key m) ≡ false → item_of m ≢ item_of k
-other_item n m k a b d e = false≢true (sym (ap (same (market_key k)) (same_key n m k a b e) ∙ d) ∙ ties_itself (market_key k))
-
 -- in one region no item stands twice
 pub items_apart : (n : ℕ) (markets : List StoredMarket) → AllByRecursion IsKeyed markets → IsDistinct same (map market_key markets) → Apart item_of (filter (is_in n) markets)
-items_apart n markets all d =
-    let keys = IsDistinct-map market_key same (filter (is_in n) markets) (filter_apart (is_in n) (λ m k. same (market_key m) (market_key k)) markets (IsDistinct-of_map market_key same markets d)) in
-    Apart-keys market_key item_of same (IsStockIn n) (λ r s mine yours. other_item n s r yours mine) (filter (is_in n) markets) (all_in IsKeyed n markets all) keys
+items_apart n = group.things_apart market_key same ties_itself item_of (is_in n) IsKeyed (same_key n)
 
 stock_order : (n : ℕ) (markets : List StoredMarket) → AllByRecursion IsExact markets → IsDistinct same (map market_key markets) → IsPermutation (stock_rows n (entries (stocks_of n markets))) (filter (is_in n) markets)
 stock_order n markets all d =
     lines_order item_of stock_of (market_row n) (λ m. not (is_zero m.stock)) (filter (is_in n) markets) (items_apart n markets (each_so IsExact IsKeyed (λ m one. one.keys) markets all) d)
-    (each_so (λ m. IsExact m × (is_in n m ≡ true)) (λ m. (market_row n (item_of m) (stock_of m) ≡ m) × (not (is_zero m.stock) ≡ true)) (λ m here. (same_row n m (here.0.keys, here.1) here.0.stock, ap not here.0.some)) (filter (is_in n) markets) (all_in IsExact n markets all))
+    (each_so (λ m. IsExact m × (is_in n m ≡ true)) (λ m. (market_row n (item_of m) (stock_of m) ≡ m) × (not (is_zero m.stock) ≡ true)) (λ m here. (same_row n m (here.0.keys, here.1) here.0.stock, ap not here.0.some)) (filter (is_in n) markets) (group.all_mine market_key same ties_itself item_of (is_in n) IsExact markets all))
 
 abbrev region_lines : ℕ × Region → List StoredMarket
 region_lines e = stock_rows e.0 (entries e.1.stocks)

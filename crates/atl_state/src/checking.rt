@@ -3,11 +3,11 @@ ghost use Rattle.std.specs.Prelude.{◌≡◌, IsTrue};
 ghost use Rattle.std.specs.Bool.{Decides};
 ghost use Rattle.std.specs.List.{list_all};
 ghost use Rattle.atl_tables.specs.Worlds.{IsWorld};
-ghost use Rattle.atl_tables.specs.declared.format.Format.{Format};
 ghost use Rattle.atl_tables.specs.declared.format.Format.TheVariants.{First};
 ghost use Rattle.atl_state.specs.declared.checking.Rule.TheVariants as rule;
 ghost use Rattle.atl_state.specs.Checking.{rule_number, Keeps, KeepsBelow, Passes, Checks, GivesBack};
 ghost use Rattle.atl_state.specs.FromRows.{campaign_of};
+ghost use Rattle.atl_state.specs.Good.{AreKnown, IsMail, AreReported};
 ghost use Rattle.atl_state.specs.Limits.{entries_in};
 ghost use Rattle.atl_state.specs.RowRules.{is_one_head, are_of_format, is_of_unit, is_of_market, is_booked};
 
@@ -166,7 +166,7 @@ fn are_goods_known(world: &World, parts: &Parts, campaign: &Campaign) -> bool
 
 fn keeps_known(world: &World, parts: &Parts, campaign: &Campaign) -> bool
     requires { campaign.now.value ≡ campaign_of world.now parts.now }
-    ensures { (f : Format) → Decides result (Keeps f world.now parts.now rule.Known) }
+    ensures { Decides result (AreKnown world.now (campaign_of world.now parts.now) × IsTrue (list_all (is_of_unit (campaign_of world.now parts.now)) parts.now.has) × IsTrue (list_all (is_of_market world.now) parts.now.markets)) }
 {
     are_known(world, campaign) && are_goods_known(world, parts, campaign)
 }
@@ -181,7 +181,7 @@ fn keeps_books(format: Format, world: &World, parts: &Parts, campaign: &Campaign
 
 fn keeps_mail(world: &World, parts: &Parts, campaign: &Campaign) -> bool
     requires { campaign.now.value ≡ campaign_of world.now parts.now }
-    ensures { (f : Format) → Decides result (Keeps f world.now parts.now rule.Mail) }
+    ensures { Decides result (IsMail (campaign_of world.now parts.now) × AreReported (campaign_of world.now parts.now)) }
 {
     are_mailings(campaign) && are_reported(campaign)
 }

@@ -17,4 +17,4 @@ returns c =
     let water = below_next f w p Water owners (subst (AreAfloat w) c.requires.what (c.are_afloat.ensures.0 c.if-not-are_afloat.false)) in
     let guarded = below_next f w p Guards water (subst (AreOfOneFaction guards) c.requires.what (c.are_guarded.ensures.0 c.if-not-are_guarded.false)) in
     let booked = below_next f w p Books guarded (c.keeps_books.ensures.0 c.if-not-keeps_books.false) in
-    below_next f w p Mail booked ((c.keeps_mail.ensures f).0 c.if-not-keeps_mail.false)
+    below_next f w p Mail booked (c.keeps_mail.ensures.0 c.if-not-keeps_mail.false)

@@ -4,8 +4,11 @@ use Rattle.atl_state.specs.Good.{IsGood}
 use Rattle.atl_state.specs.Rows.{AreRowsOf}
 use Rattle.atl_state.specs.Campaign.{CampaignValue}
 use Rattle.atl_state.specs.declared.checking.Rule.TheVariants.{Names}
-use Rattle.atl_state.proofs.CheckLaws.{people-said, checked-rows, checked-fits, checked-good}
+use Rattle.atl_state.proofs.CheckLaws.{one-said, people-said, checked-rows, checked-fits, checked-good}
 use Rattle.atl_state.proofs.checking.judged.Goals as goal
+
+pub assembled-requires-clause-one : goal.assembled-requires-clause-one
+assembled-requires-clause-one c = one-said c.args.format c.args.world.now c.args.parts c.in_ok-check_rows.ensures
 
 pub assembled-requires-clause-named : goal.assembled-requires-clause-named
 assembled-requires-clause-named c = let before : KeepsBelow c.args.format c.args.world.now c.args.parts 4 = c.in_ok-check_rows.ensures in (before Names (omega arith)).texts
