@@ -19,7 +19,7 @@ use Rattle.atl_state.specs.Checking.{rule_number, Keeps, KeepsBelow, IsFirstBrok
 use Rattle.std.specs.List.{list_all, AllByRecursion}
 use Rattle.atl_state.specs.Books.{amount_in, entry_place, thing_place, no_amounts, IsGrid}
 use Rattle.atl_state.specs.Founding.{things_of}
-use Rattle.atl_state.specs.FromRows.{as_u32, by_number, stocks_of, region_of, put_amounts, head_of, campaign_of}
+use Rattle.atl_state.specs.FromRows.{as_u32, stocks_of, region_of, put_amounts, head_of, campaign_of}
 use Rattle.atl_state.specs.Good.{AreOfMarkets, Every, IsThere, HasNoStocks, IsGood}
 use Rattle.atl_state.specs.RowRules.{is_one_head, is_entry_in, is_booked, head_in_range, people_in_range, region_in_range, structure_in_range, books_in_range, books_bound, market_in_range}
 use Rattle.atl_state.specs.Totals.{IsCountable}

@@ -10,7 +10,7 @@ use Rattle.atl_state.specs.Campaign.{CampaignValue, with_stock}
 use Rattle.atl_state.specs.Good.{AreOfMarkets, IsRegion, IsSteady}
 use Rattle.atl_state.specs.Held.{amount_of, with_amount_of}
 use Rattle.atl_state.specs.Stocks.{stock_limit}
-use Rattle.atl_state.specs.Totals.{kept, total}
+use Rattle.atl_state.specs.Totals.{total}
 use Rattle.atl_state.proofs.HeldLaws.{every_amount, set_other, set_same}
 use Rattle.atl_state.proofs.RegionLaws.{steady-region, total-region}
 

@@ -95,12 +95,7 @@ fn keeps_one_row(format: Format, parts: &Parts) -> bool
 }
 
 /// The rules that are judged before a campaign is made of the rows.
-fn check_rows(
-    alloc: Global,
-    world: &World,
-    parts: &Parts,
-    format: Format,
-) -> Result<(), CheckFault>
+fn check_rows(alloc: Global, world: &World, parts: &Parts, format: Format) -> Result<(), CheckFault>
     ensures { Passes format world.now parts.now 4 result }
 {
     if !keeps_one_row(format, parts) {

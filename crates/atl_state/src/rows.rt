@@ -38,11 +38,7 @@ fn flag(set: bool) -> i64
     if set { 1 } else { 0 }
 }
 
-fn head_row(
-    alloc: Global,
-    format: Format,
-    campaign: &Campaign,
-) -> Result<StoredHead, AllocError>
+fn head_row(alloc: Global, format: Format, campaign: &Campaign) -> Result<StoredHead, AllocError>
     ensures { IfOk result (λ row. row ≡ head_row format campaign.now.value) }
 {
     let pass = bytes_of(alloc, campaign.pass())?;
