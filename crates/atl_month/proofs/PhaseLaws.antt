@@ -23,13 +23,14 @@ use Rattle.atl_market.specs.Build.{build_terms}
 use Rattle.atl_market.specs.Produce.{produce_terms}
 use Rattle.atl_market.specs.Work.{work_terms}
 use Rattle.atl_market.proofs.UnmailedMakeLaws.{build_leaves, produce_leaves}
-use Rattle.atl_market.proofs.UnmailedPotLaws.{recruit_leaves, tax_leaves, work_leaves}
+use Rattle.atl_market.proofs.UnmailedPotLaws.{buy_leaves, recruit_leaves, sell_leaves, tax_leaves, work_leaves}
 use Rattle.atl_instant.specs.Form.{form_terms}
 use Rattle.atl_instant.specs.Name.{name_terms}
 use Rattle.atl_instant.specs.Place.{place_terms}
 use Rattle.atl_instant.specs.Give.{give_terms}
 use Rattle.atl_instant.specs.Transfer.{transfer_terms}
 use Rattle.atl_market.specs.Tax.{tax_terms}
+use Rattle.atl_market.specs.Trade.{buy_terms, sell_terms}
 use Rattle.atl_market.specs.Recruit.{recruit_terms}
 use Rattle.atl_instant.specs.Guard.{guard_terms}
 use Rattle.atl_action.specs.Walk.{walk_terms}
@@ -137,6 +138,8 @@ early_are =
     ▹ is_phase place_terms (nothing nothing_moved) place_leaves
     ▹ is_phase give_terms (nothing nothing_moved) give_leaves
     ▹ is_phase transfer_terms (nothing nothing_moved) transfer_leaves
+    ▹ is_phase sell_terms (money_alone entries.Sold) sell_leaves
+    ▹ is_phase buy_terms (money_alone entries.Bought) buy_leaves
     ▹ is_phase tax_terms (nothing nothing_moved) tax_leaves
     ▹ is_phase recruit_terms (money_alone entries.Recruiting) recruit_leaves
     ▹ tt
