@@ -49,7 +49,14 @@ const OLD: Rows = Rows {
 /// Rows, and the number of the rule that they break, 0 where they keep them all.
 const CASES: [(Rows, u64); 14] = [
     (GOOD, 0),
-    (Rows { bought: -7, ..GOOD }, 0),
+    (
+        Rows {
+            bought: -7,
+            money: 493,
+            ..GOOD
+        },
+        0,
+    ),
     (OLD, 0),
     (Rows { format: 1, ..GOOD }, 1),
     (Rows { format: 2, ..OLD }, 1),
