@@ -21,8 +21,9 @@ struct Rows {
     times: i64,
     /// The entry under which 20 wood are booked.
     stocked: i64,
-    /// What is booked of money as bought: so much less the region has.
+    /// What is booked of money as bought, and the region's money, which was 500.
     bought: i64,
+    money: i64,
 }
 
 const GOOD: Rows = Rows {
@@ -34,6 +35,7 @@ const GOOD: Rows = Rows {
     times: 1,
     stocked: 16,
     bought: 0,
+    money: 500,
 };
 
 /// The same campaign with nothing in stock, in the first format.
@@ -47,7 +49,14 @@ const OLD: Rows = Rows {
 /// Rows, and the number of the rule that they break, 0 where they keep them all.
 const CASES: [(Rows, u64); 14] = [
     (GOOD, 0),
-    (Rows { bought: -7, ..GOOD }, 0),
+    (
+        Rows {
+            bought: -7,
+            money: 493,
+            ..GOOD
+        },
+        0,
+    ),
     (OLD, 0),
     (Rows { format: 1, ..GOOD }, 1),
     (Rows { format: 2, ..OLD }, 1),
@@ -65,7 +74,14 @@ const CASES: [(Rows, u64); 14] = [
         },
         11,
     ),
-    (Rows { bought: -7, ..OLD }, 11),
+    (
+        Rows {
+            bought: -7,
+            money: 493,
+            ..OLD
+        },
+        11,
+    ),
 ];
 
 fn heads(alloc: Global, rows: &Rows) -> Result<Sequence<StoredHead>, Fail> {
@@ -87,7 +103,7 @@ fn regions(alloc: Global, rows: &Rows) -> Result<Sequence<StoredRegion>, Fail> {
     all.push(StoredRegion {
         number: 1,
         peasants: 1000,
-        money: 500 + rows.bought,
+        money: rows.money,
     })?;
     Ok(all)
 }
